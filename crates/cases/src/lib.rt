@@ -1,0 +1,7 @@
+//! Cases of the whole program, and of calls that cross its crates. There is nothing here but tests.
+#![tactic(auto)]
+
+#[cfg(test)]
+mod calls;
+#[cfg(test)]
+mod tests;

@@ -1,0 +1,2 @@
+pub mod ConnLemmas
+pub mod GreetLemmas

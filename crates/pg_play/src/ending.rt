@@ -1,0 +1,92 @@
+ghost use Rattle.std.specs.Prelude.{◌≡◌, IfOk, string_bytes};
+ghost use Rattle.pg_play.specs.Top.{EndingIs, TellsEnding, bad_script_text, start_status, status_of, played_of};
+
+use crate::played::Played;
+use pg_report::{Started, report};
+use pg_stream::MemoryLink;
+use pg_wire::Error;
+use std::alloc::{AllocError, Global};
+use std::fmt::Write;
+
+/// How the program ends, before its text is written.
+#[derive(Drop)]
+pub(crate) enum Ending {
+    Played(Played<MemoryLink>),
+    BadWords,
+    BadScript(u64),
+    ReadFailed,
+    NoMemory,
+}
+
+// The status behind a start-up that ended so.
+fn start_status(start: &Result<Started, Error>) -> u8
+    ensures { result ≡ start_status start.now }
+{
+    match start {
+        Ok(_) => 0,
+        Err(Error::OutOfMemory) => 5,
+        Err(_) => 1,
+    }
+}
+
+impl Ending {
+    /// What was played. A start-up without memory counts as none.
+    pub(crate) fn of(played: Played<MemoryLink>) -> Self
+        ensures { EndingIs result played }
+    {
+        match start_status(&played.start) {
+            5 => Ending::NoMemory,
+            _ => Ending::Played(played),
+        }
+    }
+
+    pub(crate) fn status(&self) -> u8
+        ensures { result ≡ status_of self.now }
+    {
+        match self {
+            Ending::Played(played) => start_status(&played.start),
+            Ending::BadWords => 2,
+            Ending::BadScript(_) => 2,
+            Ending::ReadFailed => 3,
+            Ending::NoMemory => 5,
+        }
+    }
+
+    pub(crate) fn played(self) -> Option<Played<MemoryLink>>
+        ensures { result ≡ played_of self }
+    {
+        match self {
+            Ending::Played(played) => Some(played),
+            _ => None,
+        }
+    }
+
+    /// The text to write.
+    pub(crate) fn text(&self, alloc: Global) -> Result<String, AllocError>
+        ensures { IfOk result (λ t. TellsEnding self.now (string_bytes t)) }
+    {
+        match self {
+            Ending::Played(played) => report(
+                alloc,
+                &played.start,
+                played.outcomes.as_slice(),
+                played.link.taken(),
+            ),
+            Ending::BadWords => String::from_str(alloc, "bad words\n"),
+            Ending::BadScript(line) => bad_script(alloc, *line),
+            Ending::ReadFailed => String::from_str(alloc, "read failed\n"),
+            Ending::NoMemory => String::from_str(alloc, "out of memory\n"),
+        }
+    }
+}
+
+// The first bad line of a script.
+fn bad_script(alloc: Global, line: u64) -> Result<String, AllocError>
+    ensures { IfOk result (λ t. string_bytes t ≡ bad_script_text line) }
+{
+    let mut text = String::new(alloc);
+    text.push_str("bad script: line ")?;
+    write!(text, "{line}")?;
+    text.push_str("\n")?;
+    Ok(text)
+}

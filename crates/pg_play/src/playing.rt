@@ -1,0 +1,72 @@
+ghost use Rattle.std.specs.Prelude.{◌≡◌, ◌≤◌, [], length, vec_capacity, Err};
+ghost use Rattle.pg_play.specs.Top.{HasOutcomes};
+
+use crate::played::Played;
+use crate::starting::start_up;
+use crate::stepping::play_step;
+use pg_conn::PgConnection;
+use pg_options::PgConnectOptions;
+use pg_report::{Outcome, Started};
+use pg_script::Step;
+use pg_stream::Link;
+use pg_wire::{Error, Sequence};
+use std::alloc::Global;
+
+// What came of a start-up that failed.
+fn failed<L>(alloc: Global, error: Error, link: L) -> Played<L>
+    ensures start { result.start ≡ Err error }
+    ensures outcomes { result.outcomes ≡ [] }
+{
+    Played {
+        link,
+        start: Err(error),
+        outcomes: Sequence::new(alloc),
+    }
+}
+
+// Plays the steps in order; there is room for their outcomes.
+fn play_steps<L: Link>(
+    alloc: Global,
+    mut conn: PgConnection<L>,
+    steps: &[Step],
+    mut outcomes: Vec<Outcome>,
+) -> Played<L>
+    requires none { outcomes.items ≡ [] }
+    requires room { length steps.now ≤ vec_capacity outcomes }
+    ensures { HasOutcomes (length steps.now) result.start (length result.outcomes) }
+{
+    let (sent, read) = conn.started();
+    for step in steps {
+        let outcome = play_step(alloc, &mut conn, step);
+        outcomes.push(outcome).unwrap();
+    }
+    Played {
+        link: conn.close_hard(),
+        start: Ok(Started { sent, read }),
+        outcomes: Sequence::from_vec(outcomes),
+    }
+}
+
+/// Runs a start-up, and then steps in order, over a link. Start-up is polled `start_polls` times at most, and a step's call as
+/// often as the step says; a call that has not ended by then is dropped, and the next step follows.
+///
+/// Room for all outcomes is taken before start-up. Where it is refused, start-up is `OutOfMemory`.
+pub fn play<L: Link>(
+    alloc: Global,
+    options: &PgConnectOptions,
+    nonce: &[u8],
+    start_polls: u32,
+    steps: &[Step],
+    link: L,
+) -> Played<L>
+    // Behind a start-up every step has its outcome, in order, and behind a failed one there is none.
+    ensures { HasOutcomes (length steps.now) result.start (length result.outcomes) }
+{
+    let Ok(outcomes) = Vec::with_capacity(alloc, steps.len()) else {
+        return failed(alloc, Error::OutOfMemory, link);
+    };
+    match start_up(alloc, options, nonce, start_polls, link) {
+        Ok(conn) => play_steps(alloc, conn, steps, outcomes),
+        Err((error, link)) => failed(alloc, error, link),
+    }
+}

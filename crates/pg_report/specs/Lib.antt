@@ -1,0 +1,4 @@
+pub mod Bytes
+pub mod Errors
+pub mod Steps
+pub mod Report

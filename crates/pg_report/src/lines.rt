@@ -1,0 +1,66 @@
+ghost use Rattle.std.specs.Prelude.{◌≡◌, ◌++◌, OnOk, IfOk, string_bytes};
+ghost use Rattle.pg_report.specs.Report.{start_line, steps_from, sent_line, report};
+
+use crate::bytes::{put_hex_or_dash, put_named_number, put_number};
+use crate::errors::put_error;
+use crate::outcome::{Outcome, Started};
+use crate::steps::put_step;
+use pg_wire::Error;
+use std::alloc::{AllocError, Global};
+
+#[tactic(auto, unfolding(crate::specs::Report::start_line))]
+fn put_start(out: &mut String, start: &Result<Started, Error>) -> Result<(), AllocError>
+    ensures { OnOk result (string_bytes out.new ≡ string_bytes out.old ++ start_line start.now) }
+{
+    match start {
+        Ok(started) => {
+            put_named_number(out, "start ok", started.sent)?;
+            out.push_str(" ")?;
+            put_number(out, started.read)?;
+            out.push_str("\n")
+        }
+        Err(error) => {
+            out.push_str("start error ")?;
+            put_error(out, error)?;
+            out.push_str("\n")
+        }
+    }
+}
+
+// Steps are numbered from 1.
+fn put_steps(out: &mut String, outcomes: &[Outcome]) -> Result<(), AllocError>
+    ensures { OnOk result (string_bytes out.new ≡ string_bytes out.old ++ steps_from 1 outcomes.now) }
+{
+    let mut number = 0u64;
+    for outcome in outcomes {
+        number = number.saturating_add(1);
+        put_step(out, number, outcome)?;
+    }
+    Ok(())
+}
+
+#[tactic(auto, unfolding(crate::specs::Report::sent_line))]
+fn put_sent(out: &mut String, sent: &[u8]) -> Result<(), AllocError>
+    ensures { OnOk result (string_bytes out.new ≡ string_bytes out.old ++ sent_line sent.now) }
+{
+    out.push_str("sent ")?;
+    put_hex_or_dash(out, sent)?;
+    out.push_str("\n")
+}
+
+/// The report of what was played: how start-up ended, each step with its items, and all bytes that were sent.
+#[tactic(auto, unfolding(crate::specs::Report::report))]
+pub fn report(
+    alloc: Global,
+    start: &Result<Started, Error>,
+    outcomes: &[Outcome],
+    sent: &[u8],
+) -> Result<String, AllocError>
+    ensures { IfOk result (λ t. string_bytes t ≡ report start.now outcomes.now sent.now) }
+{
+    let mut out = String::new(alloc);
+    put_start(&mut out, start)?;
+    put_steps(&mut out, outcomes)?;
+    put_sent(&mut out, sent)?;
+    Ok(out)
+}

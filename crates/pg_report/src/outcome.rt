@@ -1,0 +1,52 @@
+use pg_request::CacheStep;
+use pg_wire::{Blob, Error, Field, Oids, Sequence};
+
+/// One thing that a call showed.
+#[derive(Debug, Drop)]
+pub enum Item {
+    /// The values of a row; a null is None.
+    Row(Sequence<Option<Blob>>),
+    /// The rows that a statement progress_text.
+    Count(u64),
+    /// A piece of a copy.
+    Piece(Blob),
+}
+
+/// What a call answers where all went well.
+#[derive(Debug, Drop)]
+pub enum Answer {
+    Unit,
+    Total(u64),
+    Described {
+        parameters: Oids,
+        fields: Sequence<Field>,
+    },
+    Held(bool),
+}
+
+/// How a step ended.
+#[derive(Debug, Drop)]
+pub enum End {
+    Ok(Answer),
+    Err(Error),
+    Dropped,
+}
+
+/// What came of one step.
+#[derive(Debug, Drop)]
+pub struct Outcome {
+    pub items: Sequence<Item>,
+    pub end: End,
+    pub groups: u64,
+    pub heard: u64,
+    pub cache: CacheStep,
+    pub waits: u64,
+    pub moved: u64,
+}
+
+/// A start-up that went well: the bytes sent and read up to its end.
+#[derive(Clone, Copy, Debug, PartialEq, Eq)]
+pub struct Started {
+    pub sent: u64,
+    pub read: u64,
+}

@@ -1,0 +1,163 @@
+ghost use Rattle.std.specs.Prelude.{◌≡◌, ◌++◌, OnOk, flat_map, string_bytes};
+ghost use Rattle.pg_report.specs.Steps.{value_text, item_text, item_line, answer_words, answer_rest, answer_text, end_text, cache_word, progress_text, step_line, step_lines};
+
+use crate::bytes::{put_hex_or_dash, put_named_number, put_number, put_oids};
+use crate::errors::put_error;
+use crate::outcome::{Answer, End, Item, Outcome};
+use pg_request::CacheStep;
+use pg_wire::Blob;
+use std::alloc::AllocError;
+
+#[tactic(auto, unfolding(crate::specs::Steps::value_text))]
+fn put_value(out: &mut String, value: &Option<Blob>) -> Result<(), AllocError>
+    ensures { OnOk result (string_bytes out.new ≡ string_bytes out.old ++ value_text value.now) }
+{
+    match value {
+        None => out.push_str(" null"),
+        Some(bytes) => {
+            out.push_str(" ")?;
+            put_hex_or_dash(out, bytes.as_bytes())
+        }
+    }
+}
+
+fn put_values(out: &mut String, values: &[Option<Blob>]) -> Result<(), AllocError>
+    ensures { OnOk result (string_bytes out.new ≡ string_bytes out.old ++ flat_map value_text values.now) }
+{
+    for value in values {
+        put_value(out, value)?;
+    }
+    Ok(())
+}
+
+#[tactic(auto, unfolding(crate::specs::Steps::item_text))]
+fn put_item(out: &mut String, item: &Item) -> Result<(), AllocError>
+    ensures { OnOk result (string_bytes out.new ≡ string_bytes out.old ++ item_text item.now) }
+{
+    match item {
+        Item::Row(values) => {
+            out.push_str("row")?;
+            put_values(out, values.as_slice())
+        }
+        Item::Count(count) => {
+            out.push_str("count ")?;
+            put_number(out, *count)
+        }
+        Item::Piece(bytes) => {
+            out.push_str("piece ")?;
+            put_hex_or_dash(out, bytes.as_bytes())
+        }
+    }
+}
+
+#[tactic(auto, unfolding(crate::specs::Steps::item_line))]
+fn put_item_line(out: &mut String, step: u64, item: &Item) -> Result<(), AllocError>
+    ensures { OnOk result (string_bytes out.new ≡ string_bytes out.old ++ item_line step item.now) }
+{
+    put_named_number(out, "item", step)?;
+    out.push_str(" ")?;
+    put_item(out, item)?;
+    out.push_str("\n")
+}
+
+fn put_item_lines(out: &mut String, step: u64, items: &[Item]) -> Result<(), AllocError>
+    ensures { OnOk result (string_bytes out.new ≡ string_bytes out.old ++ flat_map (item_line step) items.now) }
+{
+    for item in items {
+        put_item_line(out, step, item)?;
+    }
+    Ok(())
+}
+
+#[tactic(auto, unfolding(crate::specs::Steps::answer_words))]
+fn put_answer_words(out: &mut String, answer: &Answer) -> Result<(), AllocError>
+    ensures { OnOk result (string_bytes out.new ≡ string_bytes out.old ++ answer_words answer.now) }
+{
+    match answer {
+        Answer::Unit => out.push_str("ok"),
+        Answer::Total(_) => out.push_str("ok total "),
+        Answer::Described { .. } => out.push_str("ok described "),
+        Answer::Held(true) => out.push_str("ok held t"),
+        Answer::Held(false) => out.push_str("ok held f"),
+    }
+}
+
+fn put_answer_rest(out: &mut String, answer: &Answer) -> Result<(), AllocError>
+    ensures { OnOk result (string_bytes out.new ≡ string_bytes out.old ++ answer_rest answer.now) }
+{
+    match answer {
+        Answer::Total(total) => put_number(out, *total),
+        Answer::Described { parameters, fields } => {
+            put_oids(out, parameters.as_slice())?;
+            out.push_str(" ")?;
+            put_number(out, fields.len() as u64)
+        }
+        Answer::Unit | Answer::Held(_) => Ok(()),
+    }
+}
+
+#[tactic(auto, unfolding(crate::specs::Steps::answer_text))]
+fn put_answer(out: &mut String, answer: &Answer) -> Result<(), AllocError>
+    ensures { OnOk result (string_bytes out.new ≡ string_bytes out.old ++ answer_text answer.now) }
+{
+    put_answer_words(out, answer)?;
+    put_answer_rest(out, answer)
+}
+
+#[tactic(auto, unfolding(crate::specs::Steps::end_text))]
+fn put_end(out: &mut String, end: &End) -> Result<(), AllocError>
+    ensures { OnOk result (string_bytes out.new ≡ string_bytes out.old ++ end_text end.now) }
+{
+    match end {
+        End::Ok(answer) => put_answer(out, answer),
+        End::Err(error) => {
+            out.push_str("error ")?;
+            put_error(out, error)
+        }
+        End::Dropped => out.push_str("dropped"),
+    }
+}
+
+#[tactic(auto, unfolding(crate::specs::Steps::cache_word))]
+fn put_cache(out: &mut String, cache: CacheStep) -> Result<(), AllocError>
+    ensures { OnOk result (string_bytes out.new ≡ string_bytes out.old ++ cache_word cache) }
+{
+    match cache {
+        CacheStep::Same => out.push_str("same"),
+        CacheStep::Hit => out.push_str("hit"),
+        CacheStep::Put => out.push_str("put"),
+        CacheStep::PutEvicting => out.push_str("putevicting"),
+    }
+}
+
+#[tactic(auto, unfolding(crate::specs::Steps::progress_text))]
+fn put_progress(out: &mut String, outcome: &Outcome) -> Result<(), AllocError>
+    ensures { OnOk result (string_bytes out.new ≡ string_bytes out.old ++ progress_text outcome.now) }
+{
+    put_named_number(out, " groups", outcome.groups)?;
+    put_named_number(out, " heard", outcome.heard)?;
+    out.push_str(" cache ")?;
+    put_cache(out, outcome.cache)?;
+    put_named_number(out, " waits", outcome.waits)?;
+    put_named_number(out, " moved", outcome.moved)
+}
+
+#[tactic(auto, unfolding(crate::specs::Steps::step_line))]
+fn put_step_line(out: &mut String, step: u64, outcome: &Outcome) -> Result<(), AllocError>
+    ensures { OnOk result (string_bytes out.new ≡ string_bytes out.old ++ step_line step outcome.now) }
+{
+    put_named_number(out, "step", step)?;
+    put_progress(out, outcome)?;
+    out.push_str(" ")?;
+    put_end(out, &outcome.end)?;
+    out.push_str("\n")
+}
+
+// The items' lines, and then the step's own.
+#[tactic(auto, unfolding(crate::specs::Steps::step_lines))]
+pub(crate) fn put_step(out: &mut String, step: u64, outcome: &Outcome) -> Result<(), AllocError>
+    ensures { OnOk result (string_bytes out.new ≡ string_bytes out.old ++ step_lines step outcome.now) }
+{
+    put_item_lines(out, step, outcome.items.as_slice())?;
+    put_step_line(out, step, outcome)
+}

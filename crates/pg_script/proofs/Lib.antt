@@ -1,0 +1,9 @@
+pub mod TextLaws
+pub mod Runs
+pub mod LineLaws
+pub mod ReadLaws
+pub mod GrammarLaws
+pub mod SpellingLaws
+pub mod LexerTakes
+pub mod LexerAgain
+pub mod ScriptLaws

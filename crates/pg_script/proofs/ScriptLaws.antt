@@ -1,0 +1,201 @@
+-- Whole scripts: what is read is in the grammar, and what is in the grammar is read.
+use Rattle.std.proofs.Common.{rules, ℕ, ◌≡◌, ◌+◌, ◌∷◌, ◌++◌, [], List, Option, Some, None, Result, Ok, Err, Bool, true, false, cond, nat_eq, nat_lt, length, refl, sym, ap, ◌∙◌, subst, arith, inl, inr}
+use Rattle.std.specs.Str.{is_utf8}
+use Rattle.std.proofs.lemmas.Bool.{eqb-true}
+use Rattle.std.proofs.lemmas.Bool.Decides.{nat_tests}
+use Rattle.pg_script.specs.declared.token.Token.{Token}
+use Rattle.pg_script.specs.declared.token.Token.TheVariants.{Word}
+use Rattle.pg_script.specs.declared.token.Keyword.{Keyword}
+use Rattle.pg_script.specs.declared.token.Keyword.TheVariants as words
+use Rattle.pg_script.specs.declared.step.Call.{Call}
+use Rattle.pg_script.specs.declared.step.Call.TheVariants as calls
+use Rattle.pg_script.specs.declared.line.Line.{Line}
+use Rattle.pg_script.specs.declared.line.Line.TheVariants as lines
+use Rattle.pg_script.specs.declared.script.Script.{Script}
+use Rattle.pg_script.specs.declared.error.ReadError.{ReadError}
+use Rattle.pg_script.specs.declared.error.ReadError.TheVariants as errors
+use Rattle.pg_script.specs.Reading.{◌>>=◌}
+use Rattle.pg_script.specs.Words.{spelling_of}
+use Rattle.pg_script.specs.Lexing.{tokens_in}
+use Rattle.pg_script.specs.Lines.{line_from, line_in}
+use Rattle.pg_script.specs.Scripts.{add, add_line, empty_script, lines_of, read_from, read_next, read_text, ReadsAs}
+use Rattle.pg_script.specs.Grammar.{tokens_of, LineFits, SpellsAll, SpellsLine, AreLines, Adds, FirstBad, IsScript, IsBadLine, Says, Reads, Refuses}
+use Rattle.pg_script.proofs.GrammarLaws.{bind_some, some_is, from_takes, from_again}
+use Rattle.pg_script.proofs.SpellingLaws.{chosen, none_some}
+use Rattle.pg_script.proofs.LexerTakes.{lexer_takes}
+use Rattle.pg_script.proofs.LexerAgain.{Apart, lexer_again}
+use Rattle.pg_script.proofs.LineLaws.{lines_are, lines_again}
+
+-- ---- one line
+
+spells : (l : Line) (a : List ℕ) → LineFits l → SpellsAll (tokens_of l) a → SpellsLine l a
+spells lines.Blank a f s = absurd f
+spells (lines.User x) a f s = (f, s)
+spells (lines.Server x) a f s = (f, s)
+spells (lines.Step p c) a f s = (f, s)
+
+tokens_take : (a : List ℕ) (l : Line) → (tokens_in a >>= line_from) ≡ Some l → SpellsLine l a
+tokens_take a l e =
+    let b = bind_some (tokens_in a) line_from l e in
+    let t = from_takes b.0 l b.2 in
+    spells l a t.1 (subst (λ (ts : List Token). SpellsAll ts a) t.0 (lexer_takes a b.0 b.1))
+
+pub line_takes : (a : List ℕ) (l : Line) → line_in a ≡ Some l → SpellsLine l a
+line_takes [] l e = subst (λ (m : Line). SpellsLine m []) (some_is lines.Blank l e) (inl refl)
+line_takes (b ∷ bs) l e = elim (chosen (nat_eq b 35) _ _ (Some l) e) [
+  | inl c ↦ elim (chosen (is_utf8 (b ∷ bs)) _ _ (Some l) c.1) [
+    | inl d ↦ subst (λ (m : Line). SpellsLine m (b ∷ bs)) (some_is lines.Blank l d.1) (inr (bs, ap (λ (n : ℕ). n ∷ bs) (eqb-true b 35 c.0), d.0))
+    | inr d ↦ absurd (none_some l d.1)
+  ]
+  | inr c ↦ tokens_take (b ∷ bs) l c.1
+]
+
+begins : (k : Keyword) (y : List ℕ) → line_in (spelling_of k ++ y) ≡ (tokens_in (spelling_of k ++ y) >>= line_from)
+begins words.User y = refl
+begins words.Server y = refl
+begins words.Step y = refl
+begins words.Execute y = refl
+begins words.Raw y = refl
+
+word_again : (l : Line) (k : Keyword) (ts : List Token) (a : List ℕ) → tokens_of l ≡ Word k ∷ ts → LineFits l → Apart (tokens_of l) → SpellsAll (tokens_of l) a → line_in a ≡ Some l
+word_again l k ts a e f p s =
+    let s' : SpellsAll (Word k ∷ ts) a = subst (λ (us : List Token). SpellsAll us a) e s in
+    let a-is : a ≡ spelling_of k ++ s'.1 = s'.4 ∙ ap (λ (x : List ℕ). x ++ s'.1) s'.2 in
+    let whole : line_in a ≡ (tokens_in a >>= line_from) = subst (λ (x : List ℕ). line_in x ≡ (tokens_in x >>= line_from)) (sym a-is) (begins k s'.1) in
+    whole ∙ ap (λ (o : Option (List Token)). o >>= line_from) (lexer_again (tokens_of l) a s p) ∙ from_again l f
+
+apart_step : (n : ℕ) (c : Call) → Apart (tokens_of (lines.Step n c))
+apart_step n (calls.Execute q) = search rules
+
+comment : (a rest : List ℕ) → a ≡ 35 ∷ rest → is_utf8 a ≡ true → line_in a ≡ Some lines.Blank
+comment a rest e u = let v : is_utf8 (35 ∷ rest) ≡ true = rw e at u in rw (e, v) refl
+
+pub line_again : (l : Line) (a : List ℕ) → SpellsLine l a → line_in a ≡ Some l
+line_again lines.Blank a (inl e) = rw e refl
+line_again lines.Blank a (inr s) = comment a s.0 s.1 s.2
+line_again (lines.User x) a s = word_again (lines.User x) _ _ a refl s.0 (search rules) s.1
+line_again (lines.Server x) a s = word_again (lines.Server x) _ _ a refl s.0 (search rules) s.1
+line_again (lines.Step n c) a s = word_again (lines.Step n c) _ _ a refl s.0 (apart_step n c) s.1
+
+-- ---- what is read
+
+added : (s u : Script) (a : List ℕ) → add_line s a ≡ Some u → (l : Line) × SpellsLine l a × (add s l ≡ Some u)
+unfolding add_line
+added s u a e = let b = bind_some (line_in a) (add s) u e in (b.0, line_takes a b.0 b.1, b.2)
+
+refused : (s : Script) (a : List ℕ) → add_line s a ≡ None → (l : Line) → SpellsLine l a → add s l ≡ None
+unfolding add_line
+refused s a e l h = let is : line_in a ≡ Some l = line_again l a h in rw is at e
+
+all_next : (n : ℕ) (s t : Script) (l : List ℕ) (ls : List (List ℕ)) (o : Option Script) → add_line s l ≡ o → read_next n o (λ u. read_from (n + 1) u ls) ≡ Ok t
+    → ((u : Script) → read_from (n + 1) u ls ≡ Ok t → Adds u ls t) → Adds s (l ∷ ls) t
+all_next n s t l ls None is e h = absurd cc
+all_next n s t l ls (Some u) is e h = let a = added s u l is in (a.0, u, a.1, a.2, h u e)
+
+push_bad : (s u : Script) (l : List ℕ) (ls : List (List ℕ)) (k : ℕ) → add_line s l ≡ Some u → FirstBad u ls k → FirstBad s (l ∷ ls) (k + 1)
+push_bad s u l ls k is b = let a = added s u l is in (l ∷ b.0, b.1, b.2, b.3, ap (λ (x : List (List ℕ)). l ∷ x) b.4, omega (arith, b.5), (a.0, u, a.1, a.2, b.6), b.7)
+
+bad_next : (n m : ℕ) (s : Script) (l : List ℕ) (ls : List (List ℕ)) (o : Option Script) → add_line s l ≡ o → read_next n o (λ u. read_from (n + 1) u ls) ≡ Err m
+    → ((u : Script) → read_from (n + 1) u ls ≡ Err m → (k : ℕ) × (m ≡ n + 1 + k) × FirstBad u ls k) → (k : ℕ) × (m ≡ n + k) × FirstBad s (l ∷ ls) k
+bad_next n m s l ls None is e h = (1, cc, ([], ls, l, s, refl, omega arith, refl, refused s l is))
+bad_next n m s l ls (Some u) is e h = let r = h u e in (r.0 + 1, omega (arith, r.1), push_bad s u l ls r.0 is r.2)
+
+reads_all : (n : ℕ) (s t : Script) (ls : List (List ℕ)) → read_from n s ls ≡ Ok t → Adds s ls t
+unfolding read_from
+reads_all n s t [] e = cc
+reads_all n s t (l ∷ ls) e = all_next n s t l ls (add_line s l) refl e (λ u h. reads_all (n + 1) u t ls h)
+
+first_bad : (n m : ℕ) (s : Script) (ls : List (List ℕ)) → read_from n s ls ≡ Err m → (k : ℕ) × (m ≡ n + k) × FirstBad s ls k
+unfolding read_from
+first_bad n m s [] e = absurd cc
+first_bad n m s (l ∷ ls) e = bad_next n m s l ls (add_line s l) refl e (λ u h. first_bad (n + 1) m u ls h)
+
+from_zero : (n k : ℕ) (s : Script) (ls : List (List ℕ)) → n ≡ 0 + k → FirstBad s ls k → FirstBad s ls n
+from_zero n k s ls e b = let e' : k ≡ n = omega (arith, e) in subst (FirstBad s ls) e' b
+
+says_read : (r : Result Script ReadError) (text : List ℕ) (long : Bool) → nat_lt 67108864 (length text) ≡ long → ReadsAs r (cond long (Err 0) (read_from 0 empty_script (lines_of text))) → Says r text
+says_read (Err errors.OutOfMemory) text long is h = tt
+says_read (Ok s) text true is h = absurd cc
+says_read (Ok s) text false is h = (grind (arith, nat_tests), (lines_of text, lines_are text, reads_all 0 empty_script s (lines_of text) h))
+says_read (Err (errors.BadLine n)) text true is h = inl (grind (arith, nat_tests), cc)
+says_read (Err (errors.BadLine n)) text false is h =
+    let b = first_bad 0 n empty_script (lines_of text) h in
+    inr (grind (arith, nat_tests), (lines_of text, lines_are text, from_zero n b.0 empty_script (lines_of text) b.1 b.2))
+
+pub says : (r : Result Script ReadError) (text : List ℕ) → ReadsAs r (read_text text) → Says r text
+says r text h = says_read r text (nat_lt 67108864 (length text)) refl h
+
+-- ---- and back
+
+abbrev the_ok : Script → Result Script ℕ
+the_ok s = Ok s
+
+abbrev the_err : ℕ → Result Script ℕ
+the_err n = Err n
+
+add_again : (s u : Script) (a : List ℕ) (l : Line) → SpellsLine l a → add s l ≡ Some u → add_line s a ≡ Some u
+unfolding add_line
+add_again s u a l h e = ap (λ (o : Option Line). o >>= add s) (line_again l a h) ∙ e
+
+never_in : (s : Script) (a : List ℕ) (o : Option Line) → line_in a ≡ o → ((l : Line) → SpellsLine l a → add s l ≡ None) → (o >>= add s) ≡ None
+never_in s a None is h = refl
+never_in s a (Some l) is h = h l (line_takes a l is)
+
+never : (s : Script) (a : List ℕ) → ((l : Line) → SpellsLine l a → add s l ≡ None) → add_line s a ≡ None
+unfolding add_line
+never s a h = never_in s a (line_in a) refl h
+
+goes_on : (n : ℕ) (s u : Script) (l : List ℕ) (ls : List (List ℕ)) → add_line s l ≡ Some u → read_from n s (l ∷ ls) ≡ read_from (n + 1) u ls
+unfolding read_from
+goes_on n s u l ls e = ap (λ (o : Option Script). read_next n o (λ t. read_from (n + 1) t ls)) e
+
+adds_again : (n : ℕ) (s t : Script) (ls : List (List ℕ)) → Adds s ls t → read_from n s ls ≡ Ok t
+unfolding read_from
+adds_again n s t [] h = ap Ok h
+adds_again n s t (l ∷ ls) h = goes_on n s h.1 l ls (add_again s h.1 l h.0 h.2 h.3) ∙ adds_again (n + 1) h.1 t ls h.4
+
+stops : (n : ℕ) (s u : Script) (bad : List ℕ) (rest : List (List ℕ)) → s ≡ u → add_line u bad ≡ None → read_from n s (bad ∷ rest) ≡ Err (n + 1)
+unfolding read_from
+stops n s u bad rest e none = ap (λ (v : Script). read_from n v (bad ∷ rest)) e ∙ ap (λ (o : Option Script). read_next n o (λ t. read_from (n + 1) t rest)) none
+
+bad_again : (n : ℕ) (s u : Script) (front : List (List ℕ)) (bad : List ℕ) (rest : List (List ℕ)) → Adds s front u → add_line u bad ≡ None → read_from n s (front ++ bad ∷ rest) ≡ Err (n + (length front + 1))
+bad_again n s u [] bad rest h none = stops n s u bad rest h none
+bad_again n s u (l ∷ front) bad rest h none =
+    let count : n + 1 + (length front + 1) ≡ n + (length (l ∷ front) + 1) = omega arith in
+    goes_on n s h.1 l (front ++ bad ∷ rest) (add_again s h.1 l h.0 h.2 h.3) ∙ bad_again (n + 1) h.1 u front bad rest h.4 none ∙ ap Err count
+
+first_again : (n : ℕ) (s : Script) (ls : List (List ℕ)) → FirstBad s ls n → read_from 0 s ls ≡ Err n
+first_again n s ls b =
+    let count : 0 + (length b.0 + 1) ≡ n = omega (arith, b.5) in
+    ap (read_from 0 s) b.4 ∙ bad_again 0 s b.3 b.0 b.2 b.1 b.6 (never b.3 b.2 b.7) ∙ ap Err count
+
+not_long : (text : List ℕ) (ls : List (List ℕ)) → nat_lt 67108864 (length text) ≡ false → AreLines ls text → read_text text ≡ read_from 0 empty_script ls
+not_long text ls short are = rw short (ap (read_from 0 empty_script) (lines_again ls text are))
+
+script_again : (s : Script) (text : List ℕ) → IsScript s text → read_text text ≡ Ok s
+script_again s text h = not_long text h.1.0 (grind (arith, nat_tests, h.0)) h.1.1 ∙ adds_again 0 empty_script s h.1.0 h.1.2
+
+bad_line_again : (n : ℕ) (text : List ℕ) → IsBadLine n text → read_text text ≡ Err n
+bad_line_again n text (inl h) =
+    let long : nat_lt 67108864 (length text) ≡ true = grind (arith, nat_tests, h.0) in
+    rw long (ap Err (sym h.1))
+bad_line_again n text (inr h) = not_long text h.1.0 (grind (arith, nat_tests, h.0)) h.1.1 ∙ first_again n empty_script h.1.0 h.1.2
+
+ok_is : (s t : Script) → the_ok s ≡ the_ok t → s ≡ t
+ok_is s t e = cc
+
+err_is : (m n : ℕ) → the_err m ≡ the_err n → m ≡ n
+err_is m n e = cc
+
+ok_err : (s : Script) (n : ℕ) → the_ok s ≡ the_err n → ⊥
+ok_err s n e = cc
+
+pub reads : (r : Result Script ReadError) (text : List ℕ) → ReadsAs r (read_text text) → Reads r text
+reads (Ok t) text e s h = let f = script_again s text h in inl (ap Ok (ok_is t s (sym e ∙ f)))
+reads (Err (errors.BadLine n)) text e s h = absurd (ok_err s n (sym (script_again s text h) ∙ e))
+reads (Err errors.OutOfMemory) text e s h = inr refl
+
+pub refuses : (r : Result Script ReadError) (text : List ℕ) → ReadsAs r (read_text text) → Refuses r text
+refuses (Ok t) text e n h = absurd (ok_err t n (sym e ∙ bad_line_again n text h))
+refuses (Err (errors.BadLine m)) text e n h = inl (ap (λ (k : ℕ). Err (errors.BadLine k)) (err_is m n (sym e ∙ bad_line_again n text h)))
+refuses (Err errors.OutOfMemory) text e n h = inr refl

@@ -1,0 +1,122 @@
+-- The grammar of a script: how its lines, and the tokens of a line, are spelled.
+use Rattle.std.specs.Prelude.{ℕ, ◌≡◌, ◌≢◌, ◌+◌, ◌/◌, ◌%◌, ◌^◌, ◌≤◌, ◌<◌, ◌∷◌, ◌++◌, ◌⊎◌, [], List, Some, None, Result, Ok, Err, nat_eq, length, IsTrue, IsFalse}
+use Rattle.std.specs.Char.{digit_char}
+use Rattle.std.specs.List.{list_any}
+use Rattle.std.specs.Str.{is_utf8}
+use Rattle.std.specs.Str.Parse.{IsNumeral, digits_value}
+use Rattle.pg_wire.specs.Bytes.{HasNoNul}
+use Rattle.pg_script.specs.declared.token.Token.{Token}
+use Rattle.pg_script.specs.declared.token.Token.TheVariants.{Space, Word, Number, Text}
+use Rattle.pg_script.specs.declared.token.Keyword.TheVariants as words
+use Rattle.pg_script.specs.declared.step.Call.{Call}
+use Rattle.pg_script.specs.declared.step.Call.TheVariants as calls
+use Rattle.pg_script.specs.declared.line.Line.{Line}
+use Rattle.pg_script.specs.declared.line.Line.TheVariants as lines
+use Rattle.pg_script.specs.declared.script.Script.{Script}
+use Rattle.pg_script.specs.Words.{spelling_of}
+use Rattle.pg_script.specs.Scripts.{add, empty_script}
+use Rattle.pg_script.specs.declared.error.ReadError.{ReadError}
+use Rattle.pg_script.specs.declared.error.ReadError.TheVariants as errors
+
+-- ---- lines as tokens: one row a line
+
+abbrev pub call_tokens : Call → List Token
+call_tokens (calls.Execute query) = Word words.Execute ∷ Space ∷ Word words.Raw ∷ Space ∷ Text query.sql ∷ []
+
+abbrev pub tokens_of : Line → List Token
+tokens_of lines.Blank = []
+tokens_of (lines.User name) = Word words.User ∷ Space ∷ Text name ∷ []
+tokens_of (lines.Server bytes) = Word words.Server ∷ Space ∷ Text bytes ∷ []
+tokens_of (lines.Step polls call) = Word words.Step ∷ Space ∷ Number polls ∷ Space ∷ call_tokens call
+
+-- ---- which values a line may have
+
+-- bytes that stand where a text is meant: UTF-8 without a zero byte
+abbrev pub IsPlain : List ℕ → Type 0
+IsPlain s = IsTrue (is_utf8 s) × HasNoNul s
+
+abbrev pub CallFits : Call → Type 0
+CallFits (calls.Execute query) = IsPlain query.sql
+
+abbrev pub LineFits : Line → Type 0
+LineFits lines.Blank = ⊥
+LineFits (lines.User name) = IsPlain name
+LineFits (lines.Server bytes) = Unit {0}
+LineFits (lines.Step polls call) = CallFits call
+
+-- ---- tokens as bytes
+
+-- printable ASCII other than a quote and a backslash
+abbrev pub IsOrdinary : ℕ → Type 0
+IsOrdinary c = (32 ≤ c) × (c ≤ 126) × (c ≢ 34) × (c ≢ 92)
+
+-- a byte of a text in one of its spellings: itself, a quote or a backslash behind a backslash, or \xHH in lower case
+abbrev pub IsCharacter : ℕ → List ℕ → Type 0
+IsCharacter c a =
+    ((a ≡ c ∷ []) × IsOrdinary c)
+    ⊎ (((a ≡ 92 ∷ c ∷ []) × ((c ≡ 34) ⊎ (c ≡ 92)))
+    ⊎ ((a ≡ 92 ∷ 120 ∷ digit_char (c / 16) ∷ digit_char (c % 16) ∷ []) × (c < 256)))
+
+abbrev pub IsText : List ℕ → List ℕ → Type 0
+IsText [] a = a ≡ []
+IsText (c ∷ cs) a = (x y : List ℕ) × IsCharacter c x × IsText cs y × (a ≡ x ++ y)
+
+-- one to ten decimal digits, at most 4294967295
+abbrev pub IsNumber : ℕ → List ℕ → Type 0
+IsNumber n a = IsNumeral 10 a × (length a ≤ 10) × (digits_value 10 a ≡ n) × (n < 2 ^ 32)
+
+abbrev pub SpellsToken : Token → List ℕ → Type 0
+SpellsToken Space a = a ≡ 32 ∷ []
+SpellsToken (Word k) a = a ≡ spelling_of k
+SpellsToken (Number n) a = IsNumber n a
+SpellsToken (Text s) a = (q : List ℕ) × IsText s q × (a ≡ 34 ∷ q ++ 34 ∷ [])
+
+abbrev pub SpellsAll : List Token → List ℕ → Type 0
+SpellsAll [] a = a ≡ []
+SpellsAll (t ∷ ts) a = (x y : List ℕ) × SpellsToken t x × SpellsAll ts y × (a ≡ x ++ y)
+
+-- a line with this value: nothing, a comment, or the tokens of its row
+abbrev pub SpellsLine : Line → List ℕ → Type 0
+SpellsLine lines.Blank a = (a ≡ []) ⊎ ((rest : List ℕ) × (a ≡ 35 ∷ rest) × IsTrue (is_utf8 a))
+SpellsLine l a = LineFits l × SpellsAll (tokens_of l) a
+
+-- ---- scripts
+
+abbrev pub HasNoLineFeed : List ℕ → Type 0
+HasNoLineFeed line = IsFalse (list_any (nat_eq 10) line)
+
+-- the lines of a text: it is these joined by line feeds, and none of them has one
+abbrev pub AreLines : List (List ℕ) → List ℕ → Type 0
+AreLines [] text = ⊥
+AreLines (l ∷ []) text = HasNoLineFeed l × (text ≡ l)
+AreLines (l ∷ k ∷ ls) text = HasNoLineFeed l × ((rest : List ℕ) × (text ≡ l ++ 10 ∷ rest) × AreLines (k ∷ ls) rest)
+
+-- the lines, all good, make one script of the other
+abbrev pub Adds : Script → List (List ℕ) → Script → Type 0
+Adds s [] t = s ≡ t
+Adds s (a ∷ rest) t = (l : Line) × (u : Script) × SpellsLine l a × (add s l ≡ Some u) × Adds u rest t
+
+-- line number n, counted from 1, is the first that is no line, or stands there once too often
+abbrev pub FirstBad : Script → List (List ℕ) → ℕ → Type 0
+FirstBad s all n = (front rest : List (List ℕ)) × (bad : List ℕ) × (u : Script) × (all ≡ front ++ bad ∷ rest) × (length front + 1 ≡ n) × Adds s front u × ((l : Line) → SpellsLine l bad → add u l ≡ None)
+
+-- the text is a spelling of this script
+abbrev pub IsScript : Script → List ℕ → Type 0
+IsScript s text = (length text ≤ 67108864) × ((ls : List (List ℕ)) × AreLines ls text × Adds empty_script ls s)
+
+-- the number of the text's first bad line, or 0 where it is too long
+abbrev pub IsBadLine : ℕ → List ℕ → Type 0
+IsBadLine n text = ((67108864 < length text) × (n ≡ 0)) ⊎ ((length text ≤ 67108864) × ((ls : List (List ℕ)) × AreLines ls text × FirstBad empty_script ls n))
+
+-- what the grammar says of a text and its answer
+abbrev pub Says : Result Script ReadError → List ℕ → Type 0
+Says (Ok s) text = IsScript s text
+Says (Err (errors.BadLine n)) text = IsBadLine n text
+Says (Err errors.OutOfMemory) text = Unit {0}
+
+-- a spelling of a script gives that script, and a text with a first bad line its number, unless memory ran out
+abbrev pub Reads : Result Script ReadError → List ℕ → Type 0
+Reads answer text = (s : Script) → IsScript s text → (answer ≡ Ok s) ⊎ (answer ≡ Err errors.OutOfMemory)
+
+abbrev pub Refuses : Result Script ReadError → List ℕ → Type 0
+Refuses answer text = (n : ℕ) → IsBadLine n text → (answer ≡ Err (errors.BadLine n)) ⊎ (answer ≡ Err errors.OutOfMemory)

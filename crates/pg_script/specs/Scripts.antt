@@ -1,0 +1,74 @@
+-- A script, read line by line.
+use Rattle.std.specs.Prelude.{◌≡◌, ◌+◌, ◌∷◌, ◌++◌, [], List, ℕ, Option, Some, None, Result, Ok, Err, nat_eq, nat_lt, length, if◌then◌else◌}
+use Rattle.pg_stream.specs.declared.events.ReadEvent.{ReadEvent}
+use Rattle.pg_stream.specs.declared.events.ReadEvent.TheVariants as events
+use Rattle.pg_script.specs.declared.step.Step.{Step}
+use Rattle.pg_script.specs.declared.line.Line.{Line}
+use Rattle.pg_script.specs.declared.line.Line.TheVariants as lines
+use Rattle.pg_script.specs.declared.script.Script.{Script}
+use Rattle.pg_script.specs.declared.error.ReadError.{ReadError}
+use Rattle.pg_script.specs.declared.error.ReadError.TheVariants as errors
+use Rattle.pg_script.specs.Reading.{◌>>=◌}
+use Rattle.pg_script.specs.Lines.{line_in}
+
+abbrev pub empty_script : Script
+empty_script = record { user = None; events = []; steps = [] }
+
+abbrev pub with_event : Script → ReadEvent → Option Script
+with_event s e = Some (record s { events = s.events ++ e ∷ [] })
+
+-- a user, where there was none
+abbrev pub with_only_user : Option (List ℕ) → Script → List ℕ → Option Script
+with_only_user None s name = Some (record s { user = Some name })
+with_only_user (Some _) s name = None
+
+-- a step, where there was none
+abbrev pub with_only_step : List Step → Script → Step → Option Script
+with_only_step [] s step = Some (record s { steps = step ∷ [] })
+with_only_step (_ ∷ _) s step = None
+
+-- one line more; a step ends after so many items only where it says so
+abbrev pub add : Script → Line → Option Script
+add s lines.Blank = Some s
+add s (lines.User name) = with_only_user s.user s name
+add s (lines.Server bytes) = with_event s (events.Piece bytes)
+add s (lines.Step polls call) = with_only_step s.steps s (record { call = call; polls = polls; most = 4294967295 })
+
+unfoldable pub add_line : Script → List ℕ → Option Script
+add_line s line = line_in line >>= add s
+
+-- the bytes between line feeds
+abbrev pub onto_first : ℕ → List (List ℕ) → List (List ℕ)
+onto_first b [] = (b ∷ []) ∷ []
+onto_first b (l ∷ ls) = (b ∷ l) ∷ ls
+
+abbrev pub lines_of : List ℕ → List (List ℕ)
+lines_of [] = [] ∷ []
+lines_of (b ∷ bs) = if nat_eq b 10 then [] ∷ lines_of bs else onto_first b (lines_of bs)
+
+-- behind the end of a line
+abbrev pub lines_behind : List ℕ → List (List ℕ)
+lines_behind [] = []
+lines_behind (b ∷ bs) = lines_of bs
+
+-- the lines one after the other, the first behind so many others; or the first bad one
+abbrev pub read_next : ℕ → Option Script → (Script → Result Script ℕ) → Result Script ℕ
+read_next n None rest = Err (n + 1)
+read_next n (Some s) rest = rest s
+
+unfoldable pub read_from : ℕ → Script → List (List ℕ) → Result Script ℕ
+read_from n s [] = Ok s
+read_from n s (l ∷ ls) = read_next n (add_line s l) (λ t. read_from (n + 1) t ls)
+
+-- the script, or 0 for a text that is too long, or its first bad line
+abbrev pub read_text : List ℕ → Result Script ℕ
+read_text text = if nat_lt 67108864 (length text) then Err 0 else read_from 0 empty_script (lines_of text)
+
+abbrev pub FailsAt : ReadError → Result Script ℕ → Type 0
+FailsAt (errors.BadLine n) read = read ≡ Err n
+FailsAt errors.OutOfMemory read = Unit {0}
+
+-- what a text gives, unless memory ran out
+abbrev pub ReadsAs : Result Script ReadError → Result Script ℕ → Type 0
+ReadsAs (Ok s) read = read ≡ Ok s
+ReadsAs (Err e) read = FailsAt e read

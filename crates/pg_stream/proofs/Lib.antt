@@ -1,0 +1,4 @@
+pub mod Known
+pub mod StreamLemmas
+pub mod EventLaws
+pub mod OutsideLaws

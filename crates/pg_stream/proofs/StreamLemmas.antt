@@ -1,0 +1,379 @@
+-- How calls of a stream follow one another.
+use Rattle.std.proofs.Common.{◌⊎◌, ◌≡◌, ℕ, ◌+◌, ◌-◌, ◌<◌, ◌≤◌, inl, inr, Bool, true, false, List, [], ◌∷◌, ◌++◌, take, drop, length, refl, sym, ap, ◌∙◌, append_assoc, arith, subst, Option, Some, None, codes, take_at, drop_at, Result, Ok, Err}
+use Rattle.std.specs.List.{AllByRecursion}
+use Rattle.std.specs.Io.KnownBytes.{Appends}
+use Rattle.std.proofs.lemmas.List.{append-nil, take-append-drop, length-append, length-take}
+use Rattle.futures.specs.declared.task.Poll.{Poll}
+use Rattle.futures.specs.declared.task.Poll.TheVariants.{Ready, Pending}
+use Rattle.pg_wire.specs.declared.error.Error.{Error}
+use Rattle.pg_wire.specs.declared.error.Error.TheVariants as errors
+use Rattle.pg_wire.specs.declared.error.IoCause.TheVariants.{Fault, End, Source}
+use Rattle.pg_wire.specs.declared.error.ProtocolFault.TheVariants as protocol
+use Rattle.pg_wire.specs.declared.error.ServerFault.TheVariants as faults
+use Rattle.pg_wire.specs.Bytes.{number32}
+use Rattle.pg_wire.specs.Frame.{Frame, bytes_of, text_of, is_known}
+use Rattle.pg_wire.specs.Parts.{is_asynchronous}
+use Rattle.pg_stream.specs.declared.stream.Front.{Front}
+use Rattle.pg_stream.specs.declared.link.LinkRead.{LinkRead}
+use Rattle.pg_stream.specs.declared.link.LinkRead.TheVariants as reads
+use Rattle.pg_stream.specs.declared.link.LinkWrite.{LinkWrite}
+use Rattle.pg_stream.specs.declared.link.LinkWrite.TheVariants as writes
+use Rattle.pg_stream.specs.Links.{LinkSeen, NoneFalls, Rose, Reads, Writes}
+use Rattle.pg_stream.specs.Streams.{GrewBy, StreamSeen, Sends, Takes, TakenFrom, Passes, AreFrames, Tallies, Moves, AllMoved, SendsOnce, ReadsOnce, HasNone, PollsFront, PollsFrame, PollsHeard, PollsAhead, IsHeardFront, framed, AheadOnce, HeardCause, IsMalformedFront, PassesAside, TakesFront, StreamOf, stream_by, AreAsynchronous, PendingCause, ErrorCause, IsFrontOf, IsFront}
+use Rattle.pg_stream.proofs.Known.{Appends-then, Appends-from_keeps, Appends-refl, NoneFalls-refl, NoneFalls-then}
+
+pub AreFrames-append : (xs ys : List Frame) → AreFrames xs → AreFrames ys → AreFrames (xs ++ ys)
+AreFrames-append [] ys p q = q
+AreFrames-append (x ∷ xs) ys p q = (p.0, AreFrames-append xs ys p.1 q)
+
+pub text_of-append : (xs ys : List Frame) → text_of (xs ++ ys) ≡ text_of xs ++ text_of ys
+text_of-append [] ys = refl
+text_of-append (x ∷ xs) ys = ap (λ (z : List ℕ). bytes_of x ++ z) (text_of-append xs ys) ∙ sym (append_assoc (bytes_of x) (text_of xs) (text_of ys))
+
+Sends-then : (a b c : StreamSeen) (x y : List ℕ) → Sends a b x → Sends b c y → Sends a c (x ++ y)
+Sends-then a b c x y p q = (
+  p.0 ++ q.0,
+  Appends-then a.link.taken b.link.taken c.link.taken p.0 q.0 p.1 q.1,
+  sym (append_assoc a.unsent x y) ∙ ap (λ (z : List ℕ). z ++ y) p.2 ∙ append_assoc p.0 b.unsent y ∙ ap (λ (z : List ℕ). p.0 ++ z) q.2 ∙ sym (append_assoc p.0 q.0 c.unsent),
+)
+
+GrewBy-then : (n m k x y z : ℕ) → GrewBy n x y → GrewBy m y z → k ≡ n + m → GrewBy k x z
+GrewBy-then n m k x y z p q e = (omega (arith, p, q), omega (arith, p, q, e), omega (arith, p, q, e))
+
+-- a number that stays
+GrewBy-none : (x : ℕ) → GrewBy 0 x x
+GrewBy-none x = (omega arith, omega arith, omega arith)
+
+Takes-then : (a b c : StreamSeen) (x y : List Frame) → Takes a b x → Takes b c y → Takes a c (x ++ y)
+Takes-then a b c x y p q = (
+  p.0 ++ q.0,
+  Appends-then a.link.given b.link.given c.link.given p.0 q.0 p.1 q.1,
+  sym (append_assoc a.held p.0 q.0) ∙ ap (λ (z : List ℕ). z ++ q.0) p.2 ∙ append_assoc (text_of x) b.held q.0 ∙ ap (λ (z : List ℕ). text_of x ++ z) q.2
+      ∙ sym (append_assoc (text_of x) (text_of y) c.held) ∙ ap (λ (z : List ℕ). z ++ c.held) (sym (text_of-append x y)),
+  AreFrames-append x y p.3 q.3,
+  GrewBy-then _ _ _ _ _ _ p.4 q.4 (ap length (text_of-append x y) ∙ length-append (text_of x) (text_of y)),
+)
+
+pub Tallies-then : (a b c : StreamSeen) → Tallies a b → Tallies b c → Tallies a c
+Tallies-then a b c p q = record {
+  write_waits = p.write_waits + q.write_waits;
+  read_waits = p.read_waits + q.read_waits;
+  moved = p.moved + q.moved;
+  waits = (omega (arith, p.waits, q.waits), omega (arith, p.waits, q.waits), omega (arith, p.waits, q.waits));
+  moves = (omega (arith, p.moves, q.moves), omega (arith, p.moves, q.moves), omega (arith, p.moves, q.moves));
+  writes = omega (arith, p.writes, q.writes);
+  reads = omega (arith, p.reads, q.reads);
+  moving = omega (arith, p.moving, q.moving);
+}
+
+-- nothing was called
+pub Tallies-none : (a b : StreamSeen) → NoneFalls a.link b.link → b.waits ≡ a.waits → b.moves ≡ a.moves → Tallies a b
+Tallies-none a b n w m = record {
+  write_waits = 0;
+  read_waits = 0;
+  moved = 0;
+  waits = (omega (arith, w), omega (arith, w), omega (arith, w));
+  moves = (omega (arith, m), omega (arith, m), omega (arith, m));
+  writes = omega (arith, n.write_waits);
+  reads = omega (arith, n.read_waits);
+  moving = omega (arith, n.moved);
+}
+
+-- one call after another
+pub Moves-then : (a b c : StreamSeen) (s t : List ℕ) (x y : List Frame) → Moves a b s x → Moves b c t y → Moves a c (s ++ t) (x ++ y)
+Moves-then a b c s t x y p q = record {
+  counts = NoneFalls-then a.link b.link c.link p.counts q.counts;
+  sent = Sends-then a b c s t p.sent q.sent;
+  read = Takes-then a b c x y p.read q.read;
+  tallies = Tallies-then a b c p.tallies q.tallies;
+  left = omega (arith, p.left, q.left);
+  fuel = omega (arith, p.fuel, q.fuel, length-append x y);
+}
+
+-- no call at all
+pub Moves-none : (a : StreamSeen) → Moves a a [] []
+Moves-none a = record {
+  counts = NoneFalls-refl a.link;
+  sent = ([], Appends-refl a.link.taken, append-nil a.unsent);
+  read = ([], Appends-refl a.link.given, append-nil a.held, tt, GrewBy-none a.taken);
+  tallies = Tallies-none a a (NoneFalls-refl a.link) refl refl;
+  left = omega arith;
+  fuel = omega arith;
+}
+
+pub AllMoved-none : (a : StreamSeen) → AllMoved a a
+AllMoved-none a = omega arith
+
+pub AllMoved-more : (a b c : StreamSeen) → AllMoved a b → b.left ≤ a.left → c.left + 1 ≡ b.left → Rose b.link.moved c.link.moved → AllMoved a c
+AllMoved-more a b c p le e r = omega (arith, p, r)
+
+pub AllMoved-then : (a b c : StreamSeen) → AllMoved a b → b.left ≤ a.left → AllMoved b c → c.left ≤ b.left → AllMoved a c
+AllMoved-then a b c p h q k = omega (arith, p, q, h, k)
+
+-- a count that rose in the last step rose over all
+pub Rose-after : (n m k : ℕ) → n ≤ m → Rose m k → Rose n k
+Rose-after n m k le r = omega (arith, le, r)
+
+pub PendingCause-after : (a b c : StreamSeen) → NoneFalls a.link b.link → AllMoved a b → b.left ≤ a.left → c.left ≤ b.left → PendingCause b c → PendingCause a c
+PendingCause-after a b c m s h k p = elim p [
+  | inl w ↦ inl (Rose-after _ _ _ m.write_waits w)
+  | inr w ↦ elim w [
+    | inl r ↦ inr (inl (Rose-after _ _ _ m.read_waits r.0, r.1, r.2))
+    | inr f ↦ inr (inr (f.0, AllMoved-then a b c s h f.1 k))
+  ]
+]
+
+pub ErrorCause-after : (a b c : StreamSeen) (e : Error) → NoneFalls a.link b.link → ErrorCause b c e → ErrorCause a c e
+ErrorCause-after a b c errors.OutOfMemory m p = tt
+ErrorCause-after a b c (errors.Io Fault) m p = Rose-after _ _ _ m.faults p
+ErrorCause-after a b c (errors.Io End) m p = (Rose-after _ _ _ m.ends p.0, p.1)
+ErrorCause-after a b c (errors.Protocol (protocol.Server f)) m p = p
+ErrorCause-after a b c _ m p = absurd p
+
+pub PollsFront-after : (a b c : StreamSeen) (r : Poll (Result Front Error)) → Moves a b [] [] → AllMoved a b → PollsFront b c r → PollsFront a c r
+PollsFront-after a b c Pending m s p = (Moves-then a b c [] [] [] [] m p.0, PendingCause-after a b c m.counts s m.left p.0.left p.1)
+PollsFront-after a b c (Ready (Ok front)) m s p = (Moves-then a b c [] [] [] [] m p.0, p.1, AllMoved-then a b c s m.left p.2 p.0.left, p.3, p.4, p.5)
+PollsFront-after a b c (Ready (Err e)) m s p = (Moves-then a b c [] [] [] [] m p.0, ErrorCause-after a b c e m.counts p.1)
+
+-- ---- one link call
+
+one_wait : (a b : StreamSeen) → NoneFalls a.link b.link → GrewBy 1 a.waits b.waits → b.moves ≡ a.moves → Rose a.link.write_waits b.link.write_waits ⊎ Rose a.link.read_waits b.link.read_waits → Tallies a b
+one_wait a b n w m r = elim r [
+  | inl p ↦ record { write_waits = 1; read_waits = 0; moved = 0; waits = w; moves = (omega (arith, m), omega (arith, m), omega (arith, m)); writes = p; reads = omega (arith, n.read_waits); moving = omega (arith, n.moved) }
+  | inr p ↦ record { write_waits = 0; read_waits = 1; moved = 0; waits = w; moves = (omega (arith, m), omega (arith, m), omega (arith, m)); writes = omega (arith, n.write_waits); reads = p; moving = omega (arith, n.moved) }
+]
+
+one_move : (a b : StreamSeen) → NoneFalls a.link b.link → GrewBy 1 a.moves b.moves → b.waits ≡ a.waits → Rose a.link.moved b.link.moved → Tallies a b
+one_move a b n m w r = record { write_waits = 0; read_waits = 0; moved = 1; waits = (omega (arith, w), omega (arith, w), omega (arith, w)); moves = m; writes = omega (arith, n.write_waits); reads = omega (arith, n.read_waits); moving = r }
+
+pub sends_moved : (a : StreamSeen) (link : LinkSeen) (n m : ℕ) → Writes a.link link (writes.Moved n) a.unsent → 0 < a.left → GrewBy 1 a.moves m
+    → SendsOnce a (record { link = link; unsent = drop n a.unsent; held = a.held; left = a.left - 1; waits = a.waits; moves = m; taken = a.taken }) (writes.Moved n)
+sends_moved a link n m w some grew =
+    let b : StreamSeen = record { link = link; unsent = drop n a.unsent; held = a.held; left = a.left - 1; waits = a.waits; moves = m; taken = a.taken } in
+    let parts : a.unsent ++ [] ≡ take n a.unsent ++ drop n a.unsent = append-nil a.unsent ∙ sym (take-append-drop n a.unsent) in
+    record {
+      moves = record { counts = w.counts; sent = (take n a.unsent, w.takes.2, parts); read = ([], Appends-from_keeps _ _ w.given, append-nil a.held, tt, GrewBy-none a.taken); tallies = one_move a b w.counts grew refl w.takes.3; left = omega arith; fuel = omega arith };
+      held = refl;
+      left = omega arith;
+      cause = w.takes.3;
+    }
+
+pub reads_moved : (a : StreamSeen) (link : LinkSeen) (into : List ℕ) (n m : ℕ) → Reads a.link link (reads.Moved n) into → length into ≤ 8192 → 0 < a.left → GrewBy 1 a.moves m
+    → ReadsOnce a (record { link = link; unsent = a.unsent; held = a.held ++ take n into; left = a.left - 1; waits = a.waits; moves = m; taken = a.taken }) (reads.Moved n)
+reads_moved a link into n m r fits some grew =
+    let b : StreamSeen = record { link = link; unsent = a.unsent; held = a.held ++ take n into; left = a.left - 1; waits = a.waits; moves = m; taken = a.taken } in
+    record {
+      moves = record { counts = r.counts; sent = ([], Appends-from_keeps _ _ r.taken, append-nil a.unsent); read = (take n into, r.gives.2, refl, tt, GrewBy-none a.taken); tallies = one_move a b r.counts grew refl r.gives.4; left = omega arith; fuel = omega (arith, length-append a.held (take n into), length-take n into) };
+      unsent = refl;
+      left = omega arith;
+      cause = r.gives.4;
+    }
+
+pub reads_waited : (a : StreamSeen) (link : LinkSeen) (into : List ℕ) (m : ℕ) → Reads a.link link reads.NotYet into → 0 < a.left → GrewBy 1 a.waits m
+    → ReadsOnce a (record { link = link; unsent = a.unsent; held = a.held; left = a.left - 1; waits = m; moves = a.moves; taken = a.taken }) reads.NotYet
+reads_waited a link into m r some grew =
+    let b : StreamSeen = record { link = link; unsent = a.unsent; held = a.held; left = a.left - 1; waits = m; moves = a.moves; taken = a.taken } in
+    record {
+      moves = record { counts = r.counts; sent = ([], Appends-from_keeps _ _ r.taken, append-nil a.unsent); read = ([], Appends-from_keeps _ _ r.gives.0, append-nil a.held, tt, GrewBy-none a.taken); tallies = one_wait a b r.counts grew refl (inr r.gives.2); left = omega arith; fuel = omega arith };
+      unsent = refl;
+      left = omega arith;
+      cause = (r.gives.2, refl);
+    }
+
+-- ---- the frame at the front
+
+-- a frame whose tag and size are known is the tag and the bytes behind the header
+pub front_frame : (held : List ℕ) (front : Front) → IsFront held front → IsFrontOf held front (record { tag = front.tag; body = take (front.total - 5) (drop 5 held) }) (drop front.total held)
+front_frame held front f =
+    let frame = f.0 in
+    let is = f.2 in
+    let size : front.total ≡ length (bytes_of frame) = omega (arith, is.total) in
+    let body : take (front.total - 5) (drop 5 held) ≡ frame.body =
+    ap (λ (b : List ℕ). take (front.total - 5) (drop 5 b)) is.parts ∙ take_at frame.body f.1 (front.total - 5) (omega (arith, is.total)) in
+    let rest : drop front.total held ≡ f.1 = ap (drop front.total) is.parts ∙ drop_at (bytes_of frame) f.1 front.total (sym size) in
+    let same : frame ≡ record { tag = front.tag; body = take (front.total - 5) (drop 5 held) } =
+    ap (λ (t : ℕ). framed t frame.body) is.tag ∙ ap (framed front.tag) (sym body) in
+    subst (λ (m : Frame). IsFrontOf held front m (drop front.total held)) same (subst (IsFrontOf held front frame) (sym rest) is)
+
+-- what follows the frame at the front
+pub front_rest : (held : List ℕ) (front : Front) (frame : Frame) (rest : List ℕ) → IsFrontOf held front frame rest → drop front.total held ≡ rest
+front_rest held front frame rest is =
+    let size : length (bytes_of frame) ≡ front.total = omega (arith, is.total) in
+    ap (drop front.total) is.parts ∙ drop_at (bytes_of frame) rest front.total size
+
+pub passes : {A : Type 0} (a : StreamOf A) (front : Front) (n : ℕ) → GrewBy front.total a.taken n → Passes front a (record a { held = drop front.total a.held; taken = n })
+passes a front n grew frame rest is = (ap (λ (h : List ℕ). record a { held = h; taken = n }) (front_rest a.held front frame rest is), grew)
+
+-- there is one frame at the front
+pub front_tag : (held : List ℕ) (front : Front) (frame : Frame) (rest : List ℕ) → IsFrontOf held front frame rest → is_asynchronous frame ≡ is_known (codes "NSA") front.tag
+front_tag held front frame rest is = ap (is_known (codes "NSA")) is.tag
+
+pub front_within : (held : List ℕ) (front : Front) → IsFront held front → (5 ≤ front.total) × (front.total ≤ length held)
+front_within held front f =
+    let is = f.2 in
+    let size : length (bytes_of f.0 ++ f.1) ≡ length f.0.body + 5 + length f.1 = omega (arith, length-append (bytes_of f.0) f.1, length-append (number32 (length f.0.body + 4)) f.0.body) in
+    (omega (arith, is.total), omega (arith, is.total, ap length is.parts, size))
+
+-- ---- reads one after another, with all sent and no whole frame held before each
+
+pub record ReadsOn (a b : StreamSeen) : Type 0 where
+  pub moves : Moves a b [] []
+  pub unsent : b.unsent ≡ []
+  pub moved : AllMoved a b
+
+pub reads_on : (a b c : StreamSeen) (n : ℕ) → ReadsOn a b → ReadsOnce b c (reads.Moved n) → ReadsOn a c
+reads_on a b c n i r = record {
+  moves = Moves-then a b c [] [] [] [] i.moves r.moves;
+  unsent = r.unsent ∙ i.unsent;
+  moved = AllMoved-more a b c i.moved i.moves.left r.left r.cause;
+}
+
+pub read_waits : (a b c : StreamSeen) → ReadsOn a b → HasNone b.held → ReadsOnce b c reads.NotYet → PollsFront a c Pending
+read_waits a b c i none r = (
+  Moves-then a b c [] [] [] [] i.moves r.moves,
+  inr (inl (Rose-after _ _ _ i.moves.counts.read_waits r.cause.0, r.unsent ∙ i.unsent, subst HasNone (sym r.cause.1) none)),
+)
+
+pub read_ends : (a b c : StreamSeen) → ReadsOn a b → ReadsOnce b c reads.End → PollsFront a c (Ready (Err (errors.Io End)))
+read_ends a b c i r = (Moves-then a b c [] [] [] [] i.moves r.moves, (Rose-after _ _ _ i.moves.counts.ends r.cause.0, r.unsent ∙ i.unsent))
+
+pub read_fails : (a b c : StreamSeen) → ReadsOn a b → ReadsOnce b c reads.Failed → PollsFront a c (Ready (Err (errors.Io Fault)))
+read_fails a b c i r = (Moves-then a b c [] [] [] [] i.moves r.moves, Rose-after _ _ _ i.moves.counts.faults r.cause.0)
+
+-- ---- frames taken aside, and the next one that isn't
+
+pub record HearsOn (a b : StreamSeen) : Type 0 where
+  pub aside : List Frame
+  pub asynchronous : AreAsynchronous aside
+  pub moves : Moves a b [] aside
+  pub moved : AllMoved a b
+
+AreAsynchronous-more : (xs : List Frame) (f : Frame) → AreAsynchronous xs → is_asynchronous f ≡ true → AreAsynchronous (xs ++ f ∷ [])
+AreAsynchronous-more [] f p e = (e, tt)
+AreAsynchronous-more (x ∷ xs) f p e = (p.0, AreAsynchronous-more xs f p.1 e)
+
+pub hears_none : (a : StreamSeen) → HearsOn a a
+hears_none a = record { aside = []; asynchronous = tt; moves = Moves-none a; moved = AllMoved-none a }
+
+-- the frame at the front is taken, with no call of the link
+pub takes_front : (a b : StreamSeen) (front : Front) (frame : Frame) (rest : List ℕ) → IsFrontOf a.held front frame rest → TakenFrom a b front rest → Moves a b [] (frame ∷ [])
+takes_front a b front frame rest f t =
+    let size : length a.held ≡ length frame.body + 5 + length rest = ap length f.parts ∙ omega (arith, length-append (bytes_of frame) rest, length-append (number32 (length frame.body + 4)) frame.body) in
+    let parts : a.held ++ [] ≡ text_of (frame ∷ []) ++ rest = append-nil a.held ∙ f.parts ∙ ap (λ (z : List ℕ). z ++ rest) (sym (append-nil (bytes_of frame))) in
+    let long : front.total ≡ length (text_of (frame ∷ [])) = omega (arith, f.total, length-append (bytes_of frame) [], length-append (number32 (length frame.body + 4)) frame.body) in
+    let counts : NoneFalls a.link a.link = NoneFalls-refl a.link in
+    let c : StreamSeen = record a { held = rest; taken = b.taken } in
+    let taken : Moves a c [] (frame ∷ []) = record {
+      counts = counts;
+      sent = ([], Appends-refl a.link.taken, append-nil a.unsent);
+      read = ([], Appends-refl a.link.given, parts, (f.whole, tt), subst (λ (n : ℕ). GrewBy n a.taken b.taken) long t.1);
+      tallies = Tallies-none a c counts refl refl;
+      left = omega arith;
+      fuel = omega (arith, size);
+    } in
+    subst (λ (s : StreamSeen). Moves a s [] (frame ∷ [])) (sym t.0) taken
+
+AllMoved-taken : (a b c : StreamSeen) (front : Front) (rest : List ℕ) → AllMoved a b → TakenFrom b c front rest → AllMoved a c
+AllMoved-taken a b c front rest m t = subst (λ (s : StreamSeen). AllMoved a s) (sym t.0) m
+
+seen_taken : {A : Type 0} (seen : A → LinkSeen) (a b : StreamOf A) (front : Front) (rest : List ℕ) → TakenFrom a b front rest → TakenFrom (stream_by seen a) (stream_by seen b) front rest
+seen_taken seen a b front rest t = (ap (stream_by seen) t.0, t.1)
+
+-- one frame aside
+pub aside_once : {A : Type 0} (seen : A → LinkSeen) (a b c : StreamOf A) (front : Front) → PollsFront (stream_by seen a) (stream_by seen b) (Ready (Ok front)) → PassesAside front b c (Ok true)
+    → AheadOnce (stream_by seen a) (stream_by seen c) None
+aside_once seen a b c front p q =
+    let taken = seen_taken seen b c front q.1 q.4 in
+    (q.0, q.3, Moves-then (stream_by seen a) (stream_by seen b) (stream_by seen c) [] [] [] (q.0 ∷ []) p.0 (takes_front (stream_by seen b) (stream_by seen c) front q.0 q.1 q.2 taken), AllMoved-taken (stream_by seen a) (stream_by seen b) (stream_by seen c) front q.1 p.2 taken)
+
+-- a frame that is no asynchronous message stays at the front
+pub ahead_once : {A : Type 0} (seen : A → LinkSeen) (a b c : StreamOf A) (front : Front) → PollsFront (stream_by seen a) (stream_by seen b) (Ready (Ok front)) → PassesAside front b c (Ok false)
+    → AheadOnce (stream_by seen a) (stream_by seen c) (Some (Ready (Ok front)))
+ahead_once {A} seen a b c front p q = subst (λ (s : StreamOf A). AheadOnce (stream_by seen a) (stream_by seen s) (Some (Ready (Ok front)))) (sym q.0) ([], tt, p.0, p.1, p.2, (p.3, p.4, p.5, q.1 p.3 p.4 p.5))
+
+-- the frame at the front is taken too, or stays for want of memory
+pub heard_then : {A : Type 0} (seen : A → LinkSeen) (a b c : StreamOf A) (front : Front) (r : Result Frame Error) → PollsAhead (stream_by seen a) (stream_by seen b) (Ready (Ok front)) → TakesFront front b c r
+    → PollsHeard (stream_by seen a) (stream_by seen c) (Ready r)
+heard_then {A} seen a b c front (Ok frame) p t =
+    let taken = seen_taken seen b c front t.0 t.2 in
+    let same : is_asynchronous frame ≡ false = front_tag b.held front frame t.0 t.1 ∙ sym (front_tag b.held front p.5.0 p.5.1 p.5.2) ∙ p.5.3 in (
+      p.0,
+      p.1,
+      Moves-then (stream_by seen a) (stream_by seen b) (stream_by seen c) [] [] p.0 (frame ∷ []) p.2 (takes_front (stream_by seen b) (stream_by seen c) front frame t.0 t.1 taken),
+      same,
+      subst (λ (s : StreamSeen). s.unsent ≡ []) (sym taken.0) p.3,
+      AllMoved-taken (stream_by seen a) (stream_by seen b) (stream_by seen c) front t.0 p.4 taken,
+    )
+heard_then {A} seen a b c front (Err e) p t =
+    (p.0, p.1, subst (λ (s : StreamOf A). Moves (stream_by seen a) (stream_by seen s) [] p.0) (sym t.0) p.2, subst (HeardCause (stream_by seen a) (stream_by seen c)) (sym t.1) tt)
+
+-- an asynchronous message that is refused
+pub refused_once : {A : Type 0} (seen : A → LinkSeen) (a b c : StreamOf A) (front : Front) (e : Error) → PollsFront (stream_by seen a) (stream_by seen b) (Ready (Ok front)) → PassesAside front b c (Err e)
+    → AheadOnce (stream_by seen a) (stream_by seen c) (Some (Ready (Err e)))
+refused_once {A} seen a b c front errors.OutOfMemory p q = ([], tt, subst (λ (s : StreamSeen). Moves (stream_by seen a) s [] []) (sym (ap (stream_by seen) q)) p.0, tt)
+refused_once {A} seen a b c front (errors.Protocol (protocol.Server (faults.Malformed tag))) p q =
+    let same : c ≡ b = q.0 in
+    ([], tt, subst (λ (s : StreamSeen). Moves (stream_by seen a) s [] []) (sym (ap (stream_by seen) same)) p.0, subst (λ (s : StreamOf A). IsMalformedFront s.held tag) (sym same) q.1)
+refused_once {A} seen a b c front _ p q = absurd q
+
+HeardCause-from : (a b : StreamSeen) (e : Error) → ErrorCause a b e → HeardCause a b e
+HeardCause-from a b (errors.Protocol (protocol.Server (faults.Malformed tag))) p = absurd p
+HeardCause-from a b e p = p
+
+-- the stream itself fails
+pub failed_once : (a b : StreamSeen) (e : Error) → PollsFront a b (Ready (Err e)) → AheadOnce a b (Some (Ready (Err e)))
+failed_once a b e p = ([], tt, p.0, HeardCause-from a b e p.1)
+
+pub waits_once : (a b : StreamSeen) → PollsFront a b Pending → AheadOnce a b (Some Pending)
+waits_once a b p = ([], tt, p.0, p.1)
+
+pub hears_on : (a b c : StreamSeen) → HearsOn a b → AheadOnce b c None → HearsOn a c
+hears_on a b c i p = record {
+  aside = i.aside ++ p.0 ∷ [];
+  asynchronous = AreAsynchronous-more i.aside p.0 i.asynchronous p.1;
+  moves = Moves-then a b c [] [] i.aside (p.0 ∷ []) i.moves p.2;
+  moved = AllMoved-then a b c i.moved i.moves.left p.3 p.2.left;
+}
+
+AreAsynchronous-append : (xs ys : List Frame) → AreAsynchronous xs → AreAsynchronous ys → AreAsynchronous (xs ++ ys)
+AreAsynchronous-append [] ys p q = q
+AreAsynchronous-append (x ∷ xs) ys p q = (p.0, AreAsynchronous-append xs ys p.1 q)
+
+HeardCause-after : (a b c : StreamSeen) (e : Error) → NoneFalls a.link b.link → HeardCause b c e → HeardCause a c e
+HeardCause-after a b c (errors.Protocol (protocol.Server (faults.Malformed tag))) m p = p
+HeardCause-after a b c e m p = ErrorCause-after a b c e m p
+
+pub hears_last : (a b c : StreamSeen) (r : Poll (Result Front Error)) → HearsOn a b → PollsAhead b c r → PollsAhead a c r
+hears_last a b c Pending i p =
+    (i.aside ++ p.0, AreAsynchronous-append i.aside p.0 i.asynchronous p.1, Moves-then a b c [] [] i.aside p.0 i.moves p.2, PendingCause-after a b c i.moves.counts i.moved i.moves.left p.2.left p.3)
+hears_last a b c (Ready (Ok front)) i p =
+    (i.aside ++ p.0, AreAsynchronous-append i.aside p.0 i.asynchronous p.1, Moves-then a b c [] [] i.aside p.0 i.moves p.2, p.3, AllMoved-then a b c i.moved i.moves.left p.4 p.2.left, p.5)
+hears_last a b c (Ready (Err e)) i p =
+    (i.aside ++ p.0, AreAsynchronous-append i.aside p.0 i.asynchronous p.1, Moves-then a b c [] [] i.aside p.0 i.moves p.2, HeardCause-after a b c e i.moves.counts p.3)
+
+-- a message at the front that was taken
+pub took_front : {A : Type 0} (seen : A → LinkSeen) (a b : StreamOf A) (front : Front) → IsFront a.held front → Passes front a b
+    → (frame : Frame) × Moves (stream_by seen a) (stream_by seen b) [] (frame ∷ []) × AllMoved (stream_by seen a) (stream_by seen b)
+took_front seen a b front f p =
+    let taken = seen_taken seen a b front f.1 (p f.0 f.1 f.2) in
+    (f.0, takes_front (stream_by seen a) (stream_by seen b) front f.0 f.1 f.2 taken, AllMoved-taken (stream_by seen a) (stream_by seen a) (stream_by seen b) front f.1 (AllMoved-none (stream_by seen a)) taken)
+
+pub IsFront-from_heard : (held : List ℕ) (front : Front) → IsHeardFront held front → IsFront held front
+IsFront-from_heard held front h = (h.0, h.1, h.2)
+
+-- what is queued is moved into what is unsent
+pub queues : {A : Type 0} (seen : A → LinkSeen) (a b : StreamOf A) (bytes : List ℕ) → b ≡ record a { unsent = a.unsent ++ bytes } → Moves (stream_by seen a) (stream_by seen b) bytes [] × AllMoved (stream_by seen a) (stream_by seen b)
+queues {A} seen a b bytes e =
+    let s : StreamSeen = stream_by seen a in
+    let t : StreamSeen = record s { unsent = a.unsent ++ bytes } in
+    let counts : NoneFalls s.link s.link = NoneFalls-refl s.link in
+    let moves : Moves s t bytes [] = record {
+      counts = counts;
+      sent = ([], Appends-refl s.link.taken, refl);
+      read = ([], Appends-refl s.link.given, append-nil s.held, tt, GrewBy-none s.taken);
+      tallies = Tallies-none s t counts refl refl;
+      left = omega arith;
+      fuel = omega arith;
+    } in
+    let all : AllMoved s t = omega arith in
+    subst (λ (u : StreamOf A). Moves s (stream_by seen u) bytes [] × AllMoved s (stream_by seen u)) (sym e) (moves, all)

@@ -1,0 +1,37 @@
+use Rattle.std.proofs.Common.{[], ◌∙◌, refl, inl}
+use Rattle.pg_stream.specs.Streams.{stream_by}
+use Rattle.pg_stream.proofs.StreamLemmas.{Moves-then, AllMoved-more, Rose-after}
+use Rattle.pg_stream.proofs.stream.PgStream.poll_send.Goals as goal
+
+pub loop-self-preserved : goal.loop-self-preserved
+loop-self-preserved g c =
+    let i = c.loop-self.invariant in
+    let s = c.send_once.ensures in
+    let seen = stream_by g.L.Link.seen in
+    record {
+      moves = Moves-then (seen c.args.self.now) (seen c.loop-self.self) (seen c.send_once.new.self) [] [] [] [] i.moves s.moves;
+      held = s.held ∙ i.held;
+      moved = AllMoved-more (seen c.args.self.now) (seen c.loop-self.self) (seen c.send_once.new.self) i.moved i.moves.left s.left c.in-Moved.ensures.cause;
+    }
+
+pub returns-in-NotYet : goal.returns-in-NotYet
+returns-in-NotYet g c =
+    let i = c.loop-self.invariant in
+    let s = c.send_once.ensures in
+    let seen = stream_by g.L.Link.seen in
+    record {
+      moves = Moves-then (seen c.args.self.now) (seen c.loop-self.self) (seen c.send_once.new.self) [] [] [] [] i.moves s.moves;
+      held = s.held ∙ i.held;
+      gives = inl (Rose-after _ _ _ i.moves.counts.write_waits c.in-NotYet.ensures.cause);
+    }
+
+pub returns-in-Failed : goal.returns-in-Failed
+returns-in-Failed g c =
+    let i = c.loop-self.invariant in
+    let s = c.send_once.ensures in
+    let seen = stream_by g.L.Link.seen in
+    record {
+      moves = Moves-then (seen c.args.self.now) (seen c.loop-self.self) (seen c.send_once.new.self) [] [] [] [] i.moves s.moves;
+      held = s.held ∙ i.held;
+      gives = (refl, Rose-after _ _ _ i.moves.counts.faults c.in-Failed.ensures.cause);
+    }

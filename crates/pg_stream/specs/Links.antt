@@ -1,0 +1,83 @@
+-- What is seen of a link: the bytes that it gave and took, where it tells them, and its counts.
+use Rattle.std.specs.Prelude.{◌≡◌, ℕ, ◌+◌, ◌-◌, ◌^◌, ◌<◌, ◌≤◌, min, List, [], ◌∷◌, take, length, Option, Some, None}
+use Rattle.std.specs.Io.KnownBytes.{Keeps, Appends}
+use Rattle.pg_stream.specs.declared.link.LinkRead.{LinkRead}
+use Rattle.pg_stream.specs.declared.link.LinkRead.TheVariants as reads
+use Rattle.pg_stream.specs.declared.link.LinkWrite.{LinkWrite}
+use Rattle.pg_stream.specs.declared.link.LinkWrite.TheVariants as writes
+use Rattle.pg_stream.specs.declared.link.LinkUpgrade.{LinkUpgrade}
+use Rattle.pg_stream.specs.declared.link.LinkUpgrade.TheVariants as upgrades
+
+pub record LinkSeen : Type 0 where
+  -- all bytes that reads gave, and that writes took
+  pub given : Option (List ℕ)
+  pub taken : Option (List ℕ)
+  -- for each read that answered NotYet, how many bytes had been given before it
+  pub wait_places : Option (List ℕ)
+  -- calls that answered Moved or Done
+  pub moved : ℕ
+  -- reads and upgrades that answered NotYet
+  pub read_waits : ℕ
+  pub write_waits : ℕ
+  pub ends : ℕ
+  -- reads and writes that answered Failed
+  pub faults : ℕ
+  pub upgrade_faults : ℕ
+
+-- a count rose by so many at least, or stands at its type's end
+abbrev pub RoseBy : ℕ → ℕ → ℕ → Type 0
+RoseBy n before now = min (before + n) (2 ^ 64 - 1) ≤ now
+
+abbrev pub Rose : ℕ → ℕ → Type 0
+Rose before now = RoseBy 1 before now
+
+-- no count falls
+pub record NoneFalls (a b : LinkSeen) : Type 0 where
+  pub moved : a.moved ≤ b.moved
+  pub read_waits : a.read_waits ≤ b.read_waits
+  pub write_waits : a.write_waits ≤ b.write_waits
+  pub ends : a.ends ≤ b.ends
+  pub faults : a.faults ≤ b.faults
+  pub upgrade_faults : a.upgrade_faults ≤ b.upgrade_faults
+
+-- one more place of a wait, which is the number of bytes given so far
+abbrev pub AddsPlace : Option (List ℕ) → Option (List ℕ) → Option (List ℕ) → Type 0
+AddsPlace None old new = Unit {0}
+AddsPlace (Some given) old new = Appends old new (length given ∷ [])
+
+-- what a read's answer says of the bytes given, and which count rose
+abbrev pub ReadGives : LinkSeen → LinkSeen → LinkRead → List ℕ → Type 0
+ReadGives a b (reads.Moved n) into = (0 < n) × (n ≤ length into) × Appends a.given b.given (take n into) × Keeps a.wait_places b.wait_places × Rose a.moved b.moved
+ReadGives a b reads.NotYet into = Keeps a.given b.given × AddsPlace a.given a.wait_places b.wait_places × Rose a.read_waits b.read_waits
+ReadGives a b reads.End into = Keeps a.given b.given × Keeps a.wait_places b.wait_places × Rose a.ends b.ends
+ReadGives a b reads.Failed into = Keeps a.given b.given × Keeps a.wait_places b.wait_places × Rose a.faults b.faults
+
+pub record Reads (a b : LinkSeen) (answer : LinkRead) (into : List ℕ) : Type 0 where
+  pub counts : NoneFalls a b
+  pub taken : Keeps a.taken b.taken
+  pub gives : ReadGives a b answer into
+
+-- what a write's answer says of the bytes taken, and which count rose
+abbrev pub WriteTakes : LinkSeen → LinkSeen → LinkWrite → List ℕ → Type 0
+WriteTakes a b (writes.Moved n) from = (0 < n) × (n ≤ length from) × Appends a.taken b.taken (take n from) × Rose a.moved b.moved
+WriteTakes a b writes.NotYet from = Keeps a.taken b.taken × Rose a.write_waits b.write_waits
+WriteTakes a b writes.Failed from = Keeps a.taken b.taken × Rose a.faults b.faults
+
+pub record Writes (a b : LinkSeen) (answer : LinkWrite) (from : List ℕ) : Type 0 where
+  pub counts : NoneFalls a b
+  pub given : Keeps a.given b.given
+  pub places : Keeps a.wait_places b.wait_places
+  pub takes : WriteTakes a b answer from
+
+abbrev pub UpgradeCause : LinkSeen → LinkSeen → LinkUpgrade → Type 0
+UpgradeCause a b upgrades.Done = Rose a.moved b.moved
+UpgradeCause a b upgrades.NotYet = Rose a.read_waits b.read_waits
+UpgradeCause a b upgrades.Failed = Rose a.upgrade_faults b.upgrade_faults
+
+-- an upgrade moves no bytes of the stream that it changes
+pub record Upgrades (a b : LinkSeen) (answer : LinkUpgrade) : Type 0 where
+  pub counts : NoneFalls a b
+  pub given : Keeps a.given b.given
+  pub taken : Keeps a.taken b.taken
+  pub places : Keeps a.wait_places b.wait_places
+  pub cause : UpgradeCause a b answer

@@ -1,0 +1,89 @@
+-- What is seen of a link in memory: all bytes, the places of its waits, and its counts.
+use Rattle.std.specs.Prelude.{◌≡◌, ℕ, ◌++◌, ◌⊎◌, min, max, drop, Bool, List, [], ◌∷◌, Option, Some, None, IfSome}
+use Rattle.pg_stream.specs.declared.events.ReadEvent.{ReadEvent}
+use Rattle.pg_stream.specs.declared.events.WriteEvent.{WriteEvent}
+use Rattle.pg_stream.specs.declared.events.WriteEvent.TheVariants.{Take, Wait, Fail}
+use Rattle.pg_stream.specs.declared.link.LinkRead.{LinkRead}
+use Rattle.pg_stream.specs.declared.link.LinkRead.TheVariants as reads
+use Rattle.pg_stream.specs.declared.link.LinkWrite.{LinkWrite}
+use Rattle.pg_stream.specs.declared.link.LinkWrite.TheVariants as writes
+use Rattle.pg_stream.specs.declared.memory.MemoryLink.{MemoryLink}
+use Rattle.pg_stream.specs.Links.{LinkSeen}
+use Rattle.pg_stream.specs.Events.{pieces_in, given_by, places_by, ahead_of, IsRead, IsFull}
+
+abbrev pub seen_of : MemoryLink → LinkSeen
+seen_of m = record {
+  given = Some (given_by m.reads);
+  taken = Some m.taken.items;
+  wait_places = Some (places_by m.reads);
+  moved = m.moved;
+  read_waits = m.read_waits;
+  write_waits = m.write_waits;
+  ends = m.ends;
+  faults = m.faults;
+  upgrade_faults = m.upgrade_faults;
+}
+
+-- what is seen of a link that was not called yet
+abbrev pub untouched : LinkSeen
+untouched = record {
+  given = Some [];
+  taken = Some [];
+  wait_places = Some [];
+  moved = 0;
+  read_waits = 0;
+  write_waits = 0;
+  ends = 0;
+  faults = 0;
+  upgrade_faults = 0;
+}
+
+-- What a link in memory was made with.
+pub record Plan : Type 0 where
+  pub reads : List ReadEvent
+  pub writes : List WriteEvent
+  pub can_upgrade : Bool
+  pub is_local : Bool
+
+abbrev pub plan_of : MemoryLink → Plan
+plan_of m = record { reads = m.reads.events; writes = m.writes; can_upgrade = m.can_upgrade; is_local = m.is_local }
+
+-- the bytes of all its pieces
+abbrev pub pieces_of : MemoryLink → List ℕ
+pieces_of m = pieces_in (plan_of m).reads
+
+-- the read events that are ahead; of the next piece only what was not given yet
+abbrev pub reads_ahead : MemoryLink → List ReadEvent
+reads_ahead m = ahead_of m.reads
+
+abbrev pub writes_ahead : MemoryLink → List WriteEvent
+writes_ahead m = drop m.writes_passed m.writes
+
+-- the bytes that are still to come
+abbrev pub left_of : MemoryLink → List ℕ
+left_of m = pieces_in (reads_ahead m)
+
+-- what a link in memory gave, and then what is still to come, are the bytes of its pieces
+abbrev pub GivesItsPieces : Type 0
+GivesItsPieces = (m : MemoryLink) → IfSome (seen_of m).given (λ given. given ++ left_of m ≡ pieces_of m)
+
+-- a read of so many bytes does what the events ahead say, unless more waits were passed than `usize` counts
+abbrev pub ReadFollows : MemoryLink → MemoryLink → LinkRead → ℕ → Type 0
+ReadFollows a b answer size = IsRead a.reads b.reads answer size ⊎ (IsFull b.reads × (answer ≡ reads.Failed))
+
+-- one write of so many bytes: its answer, and the events that are then ahead
+abbrev pub write_of : ℕ → List WriteEvent → LinkWrite × List WriteEvent
+write_of size [] = (writes.Moved size, [])
+write_of size (Take most ∷ events) = (writes.Moved (min (max most 1) size), events)
+write_of size (Wait ∷ events) = (writes.NotYet, events)
+write_of size (Fail ∷ events) = (writes.Failed, events)
+
+-- a write of so many bytes does what the events ahead say, or fails for want of memory
+pub record WriteFollows (a b : MemoryLink) (answer : LinkWrite) (size : ℕ) : Type 0 where
+  pub answers : (answer ≡ (write_of size (writes_ahead a)).0) ⊎ (answer ≡ writes.Failed)
+  pub ahead : writes_ahead b ≡ (write_of size (writes_ahead a)).1
+
+-- the first of some events is taken off
+abbrev pub TakesFirst : List WriteEvent → Option WriteEvent → List WriteEvent → Type 0
+TakesFirst events (Some event) rest = events ≡ event ∷ rest
+TakesFirst events None rest = (events ≡ []) × (rest ≡ [])

@@ -1,0 +1,31 @@
+//! A stream of frames over a link that gives and takes bytes in any pieces.
+//!
+//! It holds no socket and never waits: everything from outside comes through `Link`. Begin with `Link` and `PgStream`.
+#![tactic(auto)]
+
+mod asynchronous;
+mod copying;
+mod events;
+mod gather;
+mod laws;
+mod link;
+mod memory;
+mod memory_sink;
+mod memory_source;
+mod outside;
+mod read_list;
+mod standard;
+mod stream;
+#[cfg(test)]
+mod tests;
+
+pub use events::{ReadEvent, WriteEvent};
+pub use gather::{Gathered, read_all, send};
+pub use laws::memory_link_gives_its_pieces;
+pub use link::{Link, LinkRead, LinkUpgrade, LinkWrite, TlsWish};
+pub use memory::MemoryLink;
+pub use memory_sink::MemorySink;
+pub use memory_source::MemorySource;
+pub use outside::{Sink, SinkWrite, Source, SourceRead};
+pub use standard::{StdSink, StdSource};
+pub use stream::{CALLS_MAX, Front, LinkCalls, PgStream};

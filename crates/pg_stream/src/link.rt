@@ -1,0 +1,62 @@
+ghost use Rattle.std.specs.Prelude.{◌<◌, ◌≡◌, length};
+ghost use Rattle.pg_stream.specs.Links.{LinkSeen, Reads, Writes, Upgrades};
+
+/// What one read of a link gave.
+#[derive(Clone, Copy, Debug, PartialEq, Eq)]
+pub enum LinkRead {
+    /// So many bytes, one at least.
+    Moved(usize),
+    NotYet,
+    End,
+    Failed,
+}
+
+/// What one write of a link took.
+#[derive(Clone, Copy, Debug, PartialEq, Eq)]
+pub enum LinkWrite {
+    /// So many bytes, one at least.
+    Moved(usize),
+    NotYet,
+    Failed,
+}
+
+/// What came of a TLS handshake.
+#[derive(Clone, Copy, Debug, PartialEq, Eq)]
+pub enum LinkUpgrade {
+    Done,
+    NotYet,
+    Failed,
+}
+
+/// What a TLS handshake has to verify.
+#[derive(Clone, Copy, Debug, PartialEq, Eq)]
+pub struct TlsWish {
+    pub verify_certificate: bool,
+    pub verify_host: bool,
+}
+
+/// A two-way stream of bytes that gives and takes them in any pieces, and never waits.
+///
+/// It counts its answers in `u64`s that never fall: each answer raises its own count, and one that stands at the type's end
+/// counts as risen. A link in memory also tells the bytes themselves; one over a socket does not.
+pub trait Link {
+    /// The bytes that it gave and took, where it tells them, and its counts.
+    ghost seen: { Self → LinkSeen };
+
+    fn read(&mut self, into: &mut [u8]) -> LinkRead
+        requires { 0 < length into.old }
+        ensures { Reads (seen self.old) (seen self.new) result into.new };
+
+    fn write(&mut self, from: &[u8]) -> LinkWrite
+        requires { 0 < length from.now }
+        ensures { Writes (seen self.old) (seen self.new) result from.now };
+
+    /// Whether `upgrade` can be asked for TLS.
+    fn can_upgrade(&self) -> bool;
+
+    /// Whether both ends are on this machine, as over a Unix socket.
+    fn is_local(&self) -> bool;
+
+    fn upgrade(&mut self, wish: TlsWish) -> LinkUpgrade
+        ensures { Upgrades (seen self.old) (seen self.new) result };
+}

@@ -1,0 +1,175 @@
+ghost use Rattle.std.specs.Prelude.{◌≡◌, ◌<◌, ◌≤◌, ◌⊎◌, length, Some};
+ghost use Rattle.pg_stream.specs.Links.{Reads, Writes, Upgrades};
+ghost use Rattle.pg_stream.specs.Memory.{seen_of, untouched, plan_of, reads_ahead, writes_ahead, ReadFollows, WriteFollows, TakesFirst};
+
+use crate::read_list::ReadList;
+use crate::{Link, LinkRead, LinkUpgrade, LinkWrite, ReadEvent, TlsWish, WriteEvent};
+use pg_wire::Sequence;
+use std::alloc::Global;
+
+/// A link in memory: it gives bytes and waits by a list of events, takes bytes by another, and keeps what it took.
+///
+/// After the list of reads every read answers `NotYet` (`Failed` once they are more than `usize` can count), and after the
+/// list of writes every write takes all. An upgrade is `Done` and changes no byte. It tells all bytes and the places of its waits.
+#[derive(Debug, Drop)]
+pub struct MemoryLink {
+    reads: ReadList,
+    writes: Sequence<WriteEvent>,
+    writes_passed: usize,
+    taken: Vec<u8>,
+    can_upgrade: bool,
+    is_local: bool,
+    moved: u64,
+    read_waits: u64,
+    write_waits: u64,
+    ends: u64,
+    faults: u64,
+    upgrade_faults: u64,
+}
+
+impl MemoryLink {
+    /// A link that was not called yet. Takes no memory.
+    pub fn new(
+        alloc: Global,
+        reads: Sequence<ReadEvent>,
+        writes: Sequence<WriteEvent>,
+        can_upgrade: bool,
+        is_local: bool,
+    ) -> Self
+        ensures plan { plan_of result ≡ record { reads = reads; writes = writes; can_upgrade = can_upgrade; is_local = is_local } }
+        ensures seen { seen_of result ≡ untouched }
+        ensures reads { reads_ahead result ≡ reads }
+        ensures writes { writes_ahead result ≡ writes }
+    {
+        MemoryLink {
+            reads: ReadList::new(reads),
+            writes,
+            writes_passed: 0,
+            taken: Vec::new(alloc),
+            can_upgrade,
+            is_local,
+            moved: 0,
+            read_waits: 0,
+            write_waits: 0,
+            ends: 0,
+            faults: 0,
+            upgrade_faults: 0,
+        }
+    }
+
+    /// The bytes that it took.
+    pub fn taken(&self) -> &[u8]
+        ensures { (seen_of self.now).taken ≡ Some result.now }
+    {
+        &self.taken
+    }
+
+    // What the next write does, if the list says it.
+    fn next_write(&mut self) -> Option<WriteEvent>
+        ensures seen { seen_of self.new ≡ seen_of self.old }
+        ensures plan { plan_of self.new ≡ plan_of self.old }
+        ensures first { TakesFirst (writes_ahead self.old) result (writes_ahead self.new) }
+    {
+        match self.writes.as_slice().get(self.writes_passed) {
+            Some(event) => {
+                let event = *event;
+                self.writes_passed += 1;
+                Some(event)
+            }
+            None => None,
+        }
+    }
+
+    // Takes the front of some bytes. Want of memory is a fault.
+    fn take(&mut self, from: &[u8], count: usize) -> LinkWrite
+        requires some { 0 < count }
+        requires within { count ≤ length from.now }
+        ensures link { Writes (seen_of self.old) (seen_of self.new) result from.now }
+        ensures plan { plan_of self.new ≡ plan_of self.old }
+        ensures ahead { writes_ahead self.new ≡ writes_ahead self.old }
+        ensures answer { (result ≡ LinkWrite.Moved count) ⊎ (result ≡ LinkWrite.Failed) }
+    {
+        match self.taken.extend_from_slice(&from[..count]) {
+            Ok(()) => {
+                self.moved = self.moved.saturating_add(1);
+                LinkWrite::Moved(count)
+            }
+            Err(_) => {
+                self.faults = self.faults.saturating_add(1);
+                LinkWrite::Failed
+            }
+        }
+    }
+}
+
+impl Link for MemoryLink {
+    ghost seen = { seen_of };
+
+    /// Gives as much of the next piece as fits.
+    fn read(&mut self, into: &mut [u8]) -> LinkRead
+        requires { 0 < length into.old }
+        ensures link { Reads (seen_of self.old) (seen_of self.new) result into.new }
+        ensures plan { plan_of self.new ≡ plan_of self.old }
+        ensures follows { ReadFollows self.old self.new result (length into.new) }
+    {
+        match self.reads.read(into) {
+            LinkRead::Moved(count) => {
+                self.moved = self.moved.saturating_add(1);
+                LinkRead::Moved(count)
+            }
+            LinkRead::NotYet => {
+                self.read_waits = self.read_waits.saturating_add(1);
+                LinkRead::NotYet
+            }
+            LinkRead::End => {
+                self.ends = self.ends.saturating_add(1);
+                LinkRead::End
+            }
+            LinkRead::Failed => {
+                self.faults = self.faults.saturating_add(1);
+                LinkRead::Failed
+            }
+        }
+    }
+
+    /// Takes as much as the next event says, one byte at least. Want of memory is `Failed` and counts as a fault.
+    fn write(&mut self, from: &[u8]) -> LinkWrite
+        requires { 0 < length from.now }
+        ensures link { Writes (seen_of self.old) (seen_of self.new) result from.now }
+        ensures plan { plan_of self.new ≡ plan_of self.old }
+        ensures follows { WriteFollows self.old self.new result (length from.now) }
+    {
+        match self.next_write() {
+            None => self.take(from, from.len()),
+            Some(WriteEvent::Take(most)) => self.take(from, most.max(1).min(from.len())),
+            Some(WriteEvent::Wait) => {
+                self.write_waits = self.write_waits.saturating_add(1);
+                LinkWrite::NotYet
+            }
+            Some(WriteEvent::Fail) => {
+                self.faults = self.faults.saturating_add(1);
+                LinkWrite::Failed
+            }
+        }
+    }
+
+    fn can_upgrade(&self) -> bool
+        ensures { result ≡ (plan_of self.now).can_upgrade }
+    {
+        self.can_upgrade
+    }
+
+    fn is_local(&self) -> bool
+        ensures { result ≡ (plan_of self.now).is_local }
+    {
+        self.is_local
+    }
+
+    fn upgrade(&mut self, _wish: TlsWish) -> LinkUpgrade
+        ensures link { Upgrades (seen_of self.old) (seen_of self.new) result }
+        ensures plan { plan_of self.new ≡ plan_of self.old }
+    {
+        self.moved = self.moved.saturating_add(1);
+        LinkUpgrade::Done
+    }
+}

@@ -1,0 +1,377 @@
+ghost use Rattle.std.specs.Prelude.{◌≡◌, ◌+◌, ◌-◌, ◌<◌, ◌≤◌, ◌++◌, [], length, take, IfOk, OnOk, OnErr};
+ghost use Rattle.std.specs.Prelude.{nat_eq, List, ℕ};
+ghost use Rattle.pg_stream.specs.Streams.{stream_by, fresh_stream, SendsOnce, ReadsOnce, PollsSend, PollsFront, PollsFrame, PollsHeard, FrontIs, IsFront, IsFrontOf, TakesFront, Passes, PassesAside, PollsAhead, AheadOnce, framed};
+
+use crate::asynchronous::{check_asynchronous, is_asynchronous_tag};
+use crate::{Link, LinkRead, LinkWrite};
+use bytes::BytesMut;
+use pg_wire::{Blob, Cut, Error, Frame, IoCause, Poll, ProtocolFault, ServerFault, cut};
+use std::alloc::{AllocError, Global};
+use std::marker::Model;
+
+/// The link calls that one poll may make.
+pub const CALLS_MAX: u16 = 256;
+
+/// How many bytes one read asks for.
+const READ_SIZE: usize = 8192;
+
+/// The link's waits and moves since a call began, each up to `u64`'s greatest value.
+#[derive(Clone, Copy, Debug, PartialEq, Eq)]
+pub struct LinkCalls {
+    pub waits: u64,
+    pub moved: u64,
+}
+
+/// Frames over a link: what is queued goes out, and what comes in is cut into frames.
+#[derive(Drop)]
+pub struct PgStream<L> {
+    link: L,
+    unsent: BytesMut,
+    held: BytesMut,
+    left: u16,
+    waits: u64,
+    moves: u64,
+    taken: u64,
+}
+
+impl<L> Model for PgStream<L> {
+    ghost use Rattle.pg_stream.specs.Streams.{StreamOf};
+
+    ghost Value = { StreamOf L };
+
+    ghost view = { λ s. record { link = s.link; unsent = s.unsent.items; held = s.held.items; left = s.left; waits = s.waits; moves = s.moves; taken = s.taken } };
+}
+
+/// The whole frame at the front of what is held: its tag, and its size with the header.
+#[derive(Clone, Copy, Debug, PartialEq, Eq)]
+pub struct Front {
+    pub tag: u8,
+    pub total: usize,
+}
+
+// Adds bytes for which room was made.
+fn extend_reserved(held: &mut BytesMut, bytes: &[u8])
+    requires { length bytes.now ≤ held.old.spare }
+    ensures { held.new.items ≡ held.old.items ++ bytes.now }
+{
+    match held.extend_from_slice(bytes) {
+        Ok(()) => {}
+        Err(_) => unreachable!(),
+    }
+}
+
+// The whole frame at the front of the bytes, if there is one.
+fn front_of(bytes: &[u8]) -> Result<Option<Front>, Error>
+    ensures { FrontIs bytes.now result }
+{
+    match cut(bytes) {
+        Cut::Whole { tag, total } => Ok(Some(Front {
+            tag,
+            total: total as usize,
+        })),
+        Cut::Need { .. } => Ok(None),
+        Cut::Short { tag, length } => Err(server_fault(ServerFault::ShortLength { tag, length })),
+        Cut::Unknown { tag } => Err(server_fault(ServerFault::UnknownTag { tag })),
+    }
+}
+
+fn server_fault(fault: ServerFault) -> Error
+    ensures { result ≡ Error.Protocol (ProtocolFault.Server fault) }
+{
+    Error::Protocol(ProtocolFault::Server(fault))
+}
+
+impl<L> PgStream<L> {
+    /// A stream that has queued and read nothing, at the beginning of a call and of a poll.
+    pub fn new(alloc: Global, link: L) -> Self
+        ensures { result ≡ fresh_stream link }
+    {
+        PgStream {
+            link,
+            unsent: BytesMut::new(alloc),
+            held: BytesMut::new(alloc),
+            left: CALLS_MAX,
+            waits: 0,
+            moves: 0,
+            taken: 0,
+        }
+    }
+
+    /// The link, which only the stream's own calls read and write.
+    pub fn link(&self) -> &L
+        ensures { result.now ≡ self.now.link }
+    {
+        &self.link
+    }
+
+    /// Hands the link back, whatever is unsent or held.
+    pub fn into_link(self) -> L
+        ensures { result ≡ self.link }
+    {
+        let PgStream {
+            link,
+            unsent: _,
+            held: _,
+            left: _,
+            waits: _,
+            moves: _,
+            taken: _,
+        } = self;
+        link
+    }
+
+    /// Adds frames to what is to be sent, all or none.
+    pub fn queue(&mut self, frames: &Blob) -> Result<(), Error>
+        ensures ok { OnOk result (self.new ≡ record self.old { unsent = self.old.unsent ++ frames.now }) }
+        ensures err { OnErr result ((self.new ≡ self.old) × (result ≡ Err Error.OutOfMemory)) }
+    {
+        match self.unsent.extend_from_slice(frames.as_bytes()) {
+            Ok(()) => Ok(()),
+            Err(_) => Err(Error::OutOfMemory),
+        }
+    }
+
+    /// Begins a call: its waits and moves are counted from zero.
+    pub fn begin_call(&mut self)
+        ensures { self.new ≡ record self.old { waits = 0; moves = 0 } }
+    {
+        self.waits = 0;
+        self.moves = 0;
+    }
+
+    /// Allows 256 link calls up to the next `begin_poll`, less those that were used already.
+    pub fn begin_poll(&mut self, used: u16)
+        requires { used ≤ CALLS_MAX }
+        ensures { self.new ≡ record self.old { left = CALLS_MAX - used } }
+    {
+        self.left = CALLS_MAX - used;
+    }
+
+    /// The link calls that are still allowed.
+    pub fn left(&self) -> u16
+        ensures { result ≡ self.now.left }
+    {
+        self.left
+    }
+
+    /// The link's waits and moves since the last `begin_call`.
+    pub fn calls(&self) -> LinkCalls
+        ensures { result ≡ record { waits = self.now.waits; moved = self.now.moves } }
+    {
+        LinkCalls {
+            waits: self.waits,
+            moved: self.moves,
+        }
+    }
+
+    /// The bytes of all frames taken, up to `u64`'s greatest value.
+    pub fn taken(&self) -> u64
+        ensures { result ≡ self.now.taken }
+    {
+        self.taken
+    }
+
+    /// Whether all that was queued has been sent.
+    pub fn is_sent(&self) -> bool
+        ensures { result ≡ nat_eq (length self.now.unsent) 0 }
+    {
+        self.unsent.is_empty()
+    }
+
+    // The whole frame at the front of what is held, if there is one.
+    fn front(&self) -> Result<Option<Front>, Error>
+        ensures { FrontIs self.now.held result }
+    {
+        front_of(self.held.as_slice())
+    }
+
+    /// The body of the frame at the front.
+    pub fn body(&self, front: Front) -> &[u8]
+        requires { IsFront self.now.held front }
+        ensures { (rest : List ℕ) × IsFrontOf self.now.held front (framed front.tag result.now) rest }
+    {
+        &self.held.as_slice()[5..front.total]
+    }
+
+    /// Takes the frame at the front, of which nothing is kept.
+    pub fn pass(&mut self, front: Front)
+        requires { IsFront self.old.held front }
+        ensures { Passes front self.old self.new }
+    {
+        self.held.advance(front.total);
+        self.taken = self.taken.saturating_add(front.total as u64);
+    }
+
+    // Takes the frame at the front off what is held; without memory it stays.
+    fn take_front(&mut self, alloc: Global, front: Front) -> Result<Frame, Error>
+        requires { IsFront self.old.held front }
+        ensures { TakesFront front self.old self.new result }
+    {
+        let body = Blob::from_slice(alloc, self.body(front))?;
+        self.pass(front);
+        Ok(Frame::new(front.tag, body))
+    }
+
+    // Passes over the frame at the front where it is an asynchronous message; without memory it stays.
+    fn pass_aside(&mut self, alloc: Global, front: Front) -> Result<bool, Error>
+        requires { IsFront self.old.held front }
+        ensures { PassesAside front self.old self.new result }
+    {
+        if !is_asynchronous_tag(front.tag) {
+            return Ok(false);
+        }
+        check_asynchronous(alloc, front.tag, self.body(front))?;
+        self.pass(front);
+        Ok(true)
+    }
+}
+
+impl<L: Link> PgStream<L> {
+    // One write of what is unsent.
+    fn send_once(&mut self) -> LinkWrite
+        requires unsent { 0 < length self.old.unsent }
+        requires left { 0 < self.old.left }
+        ensures { SendsOnce (stream_by L.seen self.old) (stream_by L.seen self.new) result }
+    {
+        self.left -= 1;
+        match self.link.write(self.unsent.as_slice()) {
+            LinkWrite::Moved(count) => {
+                self.unsent.advance(count);
+                self.moves = self.moves.saturating_add(1);
+                LinkWrite::Moved(count)
+            }
+            LinkWrite::NotYet => {
+                self.waits = self.waits.saturating_add(1);
+                LinkWrite::NotYet
+            }
+            LinkWrite::Failed => LinkWrite::Failed,
+        }
+    }
+
+    // One read behind what is held. The room is made before, so that no byte that the link gave is lost.
+    fn read_once(&mut self) -> Result<LinkRead, AllocError>
+        requires { 0 < self.old.left }
+        ensures ok { IfOk result (λ answer. ReadsOnce (stream_by L.seen self.old) (stream_by L.seen self.new) answer) }
+        ensures err { OnErr result (self.new ≡ self.old) }
+    {
+        self.held.reserve(READ_SIZE)?;
+        let mut chunk = [0u8; READ_SIZE];
+        self.left -= 1;
+        match self.link.read(&mut chunk) {
+            LinkRead::Moved(count) => {
+                extend_reserved(&mut self.held, &chunk[..count]);
+                self.moves = self.moves.saturating_add(1);
+                Ok(LinkRead::Moved(count))
+            }
+            LinkRead::NotYet => {
+                self.waits = self.waits.saturating_add(1);
+                Ok(LinkRead::NotYet)
+            }
+            LinkRead::End => Ok(LinkRead::End),
+            LinkRead::Failed => Ok(LinkRead::Failed),
+        }
+    }
+
+    /// Sends what is unsent.
+    pub fn poll_send(&mut self) -> Poll<Result<(), Error>>
+        ensures { PollsSend (stream_by L.seen self.old) (stream_by L.seen self.new) result }
+    {
+        while !self.is_sent() {
+            if self.left == 0 {
+                return Poll::Pending;
+            }
+            match self.send_once() {
+                LinkWrite::Moved(_) => {}
+                LinkWrite::NotYet => return Poll::Pending,
+                LinkWrite::Failed => return Poll::Ready(Err(Error::Io(IoCause::Fault))),
+            }
+        }
+        Poll::Ready(Ok(()))
+    }
+
+    // Reads until a whole frame stands at the front of what is held.
+    fn poll_read(&mut self) -> Poll<Result<Front, Error>>
+        requires { self.old.unsent ≡ [] }
+        ensures { PollsFront (stream_by L.seen self.old) (stream_by L.seen self.new) result }
+    {
+        loop {
+            match self.front() {
+                Ok(Some(front)) => return Poll::Ready(Ok(front)),
+                Ok(None) => {}
+                Err(e) => return Poll::Ready(Err(e)),
+            }
+            if self.left == 0 {
+                return Poll::Pending;
+            }
+            match self.read_once() {
+                Ok(LinkRead::Moved(_)) => {}
+                Ok(LinkRead::NotYet) => return Poll::Pending,
+                Ok(LinkRead::End) => return Poll::Ready(Err(Error::Io(IoCause::End))),
+                Ok(LinkRead::Failed) => return Poll::Ready(Err(Error::Io(IoCause::Fault))),
+                Err(_) => return Poll::Ready(Err(Error::OutOfMemory)),
+            }
+        }
+    }
+
+    // Sends what is unsent, and then reads until a whole frame stands at the front.
+    fn poll_front(&mut self) -> Poll<Result<Front, Error>>
+        ensures { PollsFront (stream_by L.seen self.old) (stream_by L.seen self.new) result }
+    {
+        match self.poll_send() {
+            Poll::Ready(Ok(())) => self.poll_read(),
+            Poll::Ready(Err(e)) => Poll::Ready(Err(e)),
+            Poll::Pending => Poll::Pending,
+        }
+    }
+
+    /// Sends what is unsent, and takes the next frame of all the bytes that the link gives. It reads only while it holds no
+    /// whole frame. A frame for which memory is refused stays held.
+    pub fn poll_frame(&mut self, alloc: Global) -> Poll<Result<Frame, Error>>
+        ensures { PollsFrame (stream_by L.seen self.old) (stream_by L.seen self.new) result }
+    {
+        match self.poll_front() {
+            Poll::Ready(Ok(front)) => Poll::Ready(self.take_front(alloc, front)),
+            Poll::Ready(Err(e)) => Poll::Ready(Err(e)),
+            Poll::Pending => Poll::Pending,
+        }
+    }
+
+    // Takes the next frame aside, or answers.
+    fn ahead_once(&mut self, alloc: Global) -> Option<Poll<Result<Front, Error>>>
+        ensures { AheadOnce (stream_by L.seen self.old) (stream_by L.seen self.new) result }
+    {
+        match self.poll_front() {
+            Poll::Ready(Ok(front)) => match self.pass_aside(alloc, front) {
+                Ok(true) => None,
+                Ok(false) => Some(Poll::Ready(Ok(front))),
+                Err(e) => Some(Poll::Ready(Err(e))),
+            },
+            Poll::Ready(Err(e)) => Some(Poll::Ready(Err(e))),
+            Poll::Pending => Some(Poll::Pending),
+        }
+    }
+
+    /// Sends what is unsent, and waits until a frame that is no asynchronous message stands at the front, where it stays:
+    /// `body` shows it and `pass` takes it. Notices, parameter changes and notifications before it are taken aside.
+    /// (PostgreSQL manual, "Message Flow", "Asynchronous Operations".)
+    pub fn poll_ahead(&mut self, alloc: Global) -> Poll<Result<Front, Error>>
+        ensures { PollsAhead (stream_by L.seen self.old) (stream_by L.seen self.new) result }
+    {
+        loop {
+            if let Some(answer) = self.ahead_once(alloc) {
+                return answer;
+            }
+        }
+    }
+
+    /// The same, and takes that frame. A frame for which memory is refused stays held.
+    pub fn poll_heard(&mut self, alloc: Global) -> Poll<Result<Frame, Error>>
+        ensures { PollsHeard (stream_by L.seen self.old) (stream_by L.seen self.new) result }
+    {
+        match self.poll_ahead(alloc) {
+            Poll::Ready(Ok(front)) => Poll::Ready(self.take_front(alloc, front)),
+            Poll::Ready(Err(e)) => Poll::Ready(Err(e)),
+            Poll::Pending => Poll::Pending,
+        }
+    }
+}

@@ -1,0 +1,10 @@
+use Rattle.std.proofs.Common.{sym, refl, arith}
+use Rattle.pg_wire.proofs.ReaderLaws.{are_bytes}
+use Rattle.pg_wire.proofs.DetailLaws.{notice_says, notice_none}
+use Rattle.pg_wire.proofs.message.notice_response.decode_notice_response.Goals as goal
+
+pub returns-in-Some : goal.returns-in-Some
+returns-in-Some c = let given = rw c.in-Some.is at c.in_ok-fields.ensures in notice_says c.args.body.now c.in-Some.fields (are_bytes c.args.body.now (λ i. omega (arith, c.type_inv.body i))) (sym given)
+
+pub returns-in-None : goal.returns-in-None
+returns-in-None c = rw c.malformed.ensures (refl, notice_none c.args.body.now (sym (rw c.in-None.is at c.in_ok-fields.ensures)))

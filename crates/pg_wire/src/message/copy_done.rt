@@ -1,0 +1,18 @@
+ghost use Rattle.std.specs.Prelude.{◌≡◌, ◌++◌, OnOk, OnErr, IfErr};
+ghost use Rattle.pg_wire.specs.Frame.{bytes_of};
+ghost use Rattle.pg_wire.specs.Frontend.{frontend_frame, CopyDone};
+ghost use Rattle.pg_wire.specs.declared.error.Error.TheVariants.{OutOfMemory};
+
+use crate::appending::append_frame;
+use crate::{Blob, Error};
+
+/// Adds the frame that ends the data of a copy to the server, or nothing.
+/// (PostgreSQL manual, "Message Formats", CopyDone.)
+pub fn encode_copy_done(out: &mut Blob) -> Result<(), Error>
+    ensures ok { OnOk result (out.new ≡ out.old ++ bytes_of (frontend_frame CopyDone)) }
+    ensures err { OnErr result (out.new ≡ out.old) }
+    ensures cause { IfErr result (λ e. e ≡ OutOfMemory) }
+{
+    append_frame(out, b'c', 4, &[], &[])?;
+    Ok(())
+}

@@ -1,0 +1,58 @@
+ghost use Rattle.std.specs.Prelude.{◌≡◌, option_map};
+ghost use Rattle.pg_wire.specs.Reports.{first_text, severity_of, code_of, message_of};
+
+use crate::PgSeverity;
+use crate::fields::ErrorFields;
+use std::marker::Model;
+
+/// The error that a server reports in an ErrorResponse: contracts see the list of its fields.
+/// (PostgreSQL manual, "Error and Notice Message Fields".)
+#[derive(Debug, Drop)]
+pub struct PgDatabaseError {
+    fields: ErrorFields,
+}
+
+impl Model for PgDatabaseError {
+    ghost use Rattle.std.specs.Prelude.{List};
+    ghost use Rattle.pg_wire.specs.declared.fields.ErrorField as declared_field;
+
+    ghost Value = { List declared_field.ErrorField };
+
+    ghost view = { λ e. e.fields };
+}
+
+impl PgDatabaseError {
+    pub(crate) fn new(fields: ErrorFields) -> Self
+        ensures { result ≡ fields }
+    {
+        PgDatabaseError { fields }
+    }
+
+    /// The severity by field `V`, or by `S` where that one names none, or else `Log`.
+    pub fn severity(&self) -> PgSeverity
+        ensures { result ≡ severity_of self.now }
+    {
+        self.fields.severity()
+    }
+
+    /// The SQLSTATE code, field `C`.
+    pub fn code(&self) -> &str
+        ensures { result.now ≡ code_of self.now }
+    {
+        self.fields.code()
+    }
+
+    /// The primary message, field `M`.
+    pub fn message(&self) -> &str
+        ensures { result.now ≡ message_of self.now }
+    {
+        self.fields.message()
+    }
+
+    /// The bytes of the first field with this code, such as `D` for the detail and `H` for the hint.
+    pub fn field(&self, code: u8) -> Option<&[u8]>
+        ensures { option_map (λ x. x.now) result ≡ first_text code self.now }
+    {
+        self.fields.field(code)
+    }
+}
