@@ -1,0 +1,10 @@
+pub mod Hmac
+pub mod Keyed
+pub mod Hkdf
+pub mod Hi
+pub mod Md5Password
+pub mod Nonce
+pub mod Scram
+pub mod ScramAnswers
+pub mod Reading
+pub mod Tls
