@@ -1,4 +1,5 @@
-use pg_conn::{Dial, DialFailed, MemoryDial, PgConnection, Query, establish};
+use either::Either;
+use pg_conn::{Dial, DialFailed, MemoryDial, PgConnection, PgRow, Query, establish};
 use pg_options::{PgConnectOptions, PgSettings};
 use pg_stream::{MemoryLink, ReadEvent};
 use pg_wire::{Blob, Error, Poll, Sequence};
@@ -42,9 +43,9 @@ fn run_one(alloc: Global, conn: &mut PgConnection<MemoryLink>) -> Result<Option<
 }
 
 // A connection over the link, whose start-up ends with its first poll.
-fn connected(alloc: Global) -> Result<Option<PgConnection<MemoryLink>>, Error> {
+fn connected(alloc: Global, link: MemoryLink) -> Result<Option<PgConnection<MemoryLink>>, Error> {
     let options = options(alloc)?;
-    match establish(alloc, &options, b"", link(alloc)?) {
+    match establish(alloc, &options, b"", link) {
         Ok(mut start) => match start.poll() {
             Poll::Ready(Ok(conn)) => Ok(Some(conn)),
             _ => Ok(None),
@@ -56,13 +57,169 @@ fn connected(alloc: Global) -> Result<Option<PgConnection<MemoryLink>>, Error> {
 #[test]
 fn a_call_has_its_own_rows_behind_a_dropped_one(rt: HostRuntime) -> Result<(), Fail> {
     let alloc = rt.alloc();
-    match connected(alloc)? {
+    match connected(alloc, link(alloc)?)? {
         Some(mut conn) => {
             assert!(rt; drop_one(alloc, &mut conn)?);
             assert_eq!(rt; run_one(alloc, &mut conn)?, Some(7));
         }
         None => assert!(rt; false),
     }
+    Ok(())
+}
+
+// A row of one value, its count, and the end of a reply.
+const ONE_ROW: &[u8] =
+    b"T\x00\x00\x00!\x00\x01?column?\x00\x00\x00\x00\x00\x00\x00\x00\x00\x00\x17\x00\x04\xff\xff\xff\xff\x00\x00D\x00\x00\x00\x0b\x00\x01\x00\x00\x00\x011C\x00\x00\x00\x0dSELECT 1\x00Z\x00\x00\x00\x05I";
+
+fn shows_one(row: &PgRow) -> bool {
+    row.len() == 1 && row.value(0) == Some(b"1".as_slice())
+}
+
+// Each kind of call is polled once, when its whole reply is there, and dropped where it is not at its end.
+fn executes_many(alloc: Global, conn: &mut PgConnection<MemoryLink>) -> Result<bool, Error> {
+    let mut call = conn.execute_many(Query::raw(alloc, "SELECT 1")?);
+    match call.poll_next() {
+        Poll::Ready(Some(Ok(count))) => Ok(count.rows_affected() == 1),
+        _ => Ok(false),
+    }
+}
+
+fn fetches(alloc: Global, conn: &mut PgConnection<MemoryLink>) -> Result<bool, Error> {
+    let mut call = conn.fetch(Query::raw(alloc, "SELECT 1")?);
+    match call.poll_next() {
+        Poll::Ready(Some(Ok(row))) => Ok(shows_one(&row)),
+        _ => Ok(false),
+    }
+}
+
+fn fetches_many(alloc: Global, conn: &mut PgConnection<MemoryLink>) -> Result<bool, Error> {
+    let mut call = conn.fetch_many(Query::raw(alloc, "SELECT 1")?);
+    match call.poll_next() {
+        Poll::Ready(Some(Ok(Either::Right(row)))) => Ok(shows_one(&row)),
+        _ => Ok(false),
+    }
+}
+
+fn fetches_all(alloc: Global, conn: &mut PgConnection<MemoryLink>) -> Result<bool, Error> {
+    let mut call = conn.fetch_all(Query::raw(alloc, "SELECT 1")?);
+    match call.poll() {
+        Poll::Ready(Ok(rows)) => match rows.as_slice() {
+            [row] => Ok(shows_one(row)),
+            _ => Ok(false),
+        },
+        _ => Ok(false),
+    }
+}
+
+fn fetches_optional(alloc: Global, conn: &mut PgConnection<MemoryLink>) -> Result<bool, Error> {
+    let mut call = conn.fetch_optional(Query::raw(alloc, "SELECT 1")?);
+    match call.poll() {
+        Poll::Ready(Ok(Some(row))) => Ok(shows_one(&row)),
+        _ => Ok(false),
+    }
+}
+
+fn fetches_one(alloc: Global, conn: &mut PgConnection<MemoryLink>) -> Result<bool, Error> {
+    let mut call = conn.fetch_one(Query::raw(alloc, "SELECT 1")?);
+    match call.poll() {
+        Poll::Ready(Ok(row)) => Ok(shows_one(&row)),
+        _ => Ok(false),
+    }
+}
+
+fn pings(conn: &mut PgConnection<MemoryLink>) -> bool {
+    let mut call = conn.ping();
+    matches!(call.poll(), Poll::Ready(Ok(())))
+}
+
+fn flushes(conn: &mut PgConnection<MemoryLink>) -> bool {
+    let mut call = conn.flush();
+    matches!(call.poll(), Poll::Ready(Ok(())))
+}
+
+// The last bytes that a closed connection has sent.
+fn closes(conn: PgConnection<MemoryLink>) -> bool {
+    let mut call = conn.close();
+    match call.poll() {
+        Poll::Ready(Ok(link)) => link.taken().ends_with(b"X\x00\x00\x00\x04"),
+        _ => false,
+    }
+}
+
+// A link that gives a start-up, and then so many replies with one row and one without.
+fn replying_link(alloc: Global, replies: usize) -> Result<MemoryLink, AllocError> {
+    let mut reads = Sequence::new(alloc);
+    reads.push(ReadEvent::Piece(Blob::from_slice(alloc, GREETING)?))?;
+    for _ in 0..replies {
+        reads.push(ReadEvent::Piece(Blob::from_slice(alloc, ONE_ROW)?))?;
+    }
+    let ready = Blob::from_slice(alloc, b"Z\x00\x00\x00\x05I")?;
+    reads.push(ReadEvent::Piece(ready))?;
+    let writes = Sequence::new(alloc);
+    Ok(MemoryLink::new(alloc, reads, writes, false, false))
+}
+
+fn shows_as_it_comes(alloc: Global, conn: &mut PgConnection<MemoryLink>) -> Result<bool, Error> {
+    let counts = executes_many(alloc, conn)?;
+    let rows = fetches(alloc, conn)?;
+    let both = fetches_many(alloc, conn)?;
+    Ok(counts && rows && both)
+}
+
+fn shows_with_its_answer(
+    alloc: Global,
+    conn: &mut PgConnection<MemoryLink>,
+) -> Result<bool, Error> {
+    let all = fetches_all(alloc, conn)?;
+    let first = fetches_optional(alloc, conn)?;
+    let one = fetches_one(alloc, conn)?;
+    Ok(all && first && one)
+}
+
+fn ends_well(mut conn: PgConnection<MemoryLink>) -> bool {
+    let pinged = pings(&mut conn);
+    let flushed = flushes(&mut conn);
+    let closed = closes(conn);
+    pinged && flushed && closed
+}
+
+// Whether a connection over so many replies can be had, and passes.
+fn shows_items(alloc: Global) -> Result<bool, Error> {
+    match connected(alloc, replying_link(alloc, 3)?)? {
+        Some(mut conn) => shows_as_it_comes(alloc, &mut conn),
+        None => Ok(false),
+    }
+}
+
+fn shows_answers(alloc: Global) -> Result<bool, Error> {
+    match connected(alloc, replying_link(alloc, 3)?)? {
+        Some(mut conn) => shows_with_its_answer(alloc, &mut conn),
+        None => Ok(false),
+    }
+}
+
+fn closes_behind_a_ping(alloc: Global) -> Result<bool, Error> {
+    match connected(alloc, replying_link(alloc, 0)?)? {
+        Some(conn) => Ok(ends_well(conn)),
+        None => Ok(false),
+    }
+}
+
+#[test]
+fn items_come_of_a_calls_own_reply(rt: HostRuntime) -> Result<(), Fail> {
+    assert!(rt; shows_items(rt.alloc())?);
+    Ok(())
+}
+
+#[test]
+fn answers_come_of_a_calls_own_reply(rt: HostRuntime) -> Result<(), Fail> {
+    assert!(rt; shows_answers(rt.alloc())?);
+    Ok(())
+}
+
+#[test]
+fn the_last_frame_ends_the_session(rt: HostRuntime) -> Result<(), Fail> {
+    assert!(rt; closes_behind_a_ping(rt.alloc())?);
     Ok(())
 }
 

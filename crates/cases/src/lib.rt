@@ -4,4 +4,8 @@
 #[cfg(test)]
 mod calls;
 #[cfg(test)]
-mod tests;
+mod running;
+#[cfg(test)]
+mod scripts;
+#[cfg(test)]
+mod words;

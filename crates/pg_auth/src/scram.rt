@@ -3,6 +3,7 @@
 mod answer;
 mod ascii;
 mod client_first;
+pub(crate) mod keys;
 mod plain;
 mod server_final;
 mod server_first;

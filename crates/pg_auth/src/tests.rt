@@ -1,13 +1,13 @@
 ghost use Rattle.std.specs.Prelude.{◌≡◌, ℕ};
 ghost use Rattle.rand_core.specs.Steps.{stream_of, steps_u32};
 
+use crate::scram::keys;
 use crate::{
     MaybeUpgradeTls, ScramAnswer, TlsPlan, hi, hkdf8, hmac, is_nonce, make_nonce, md5_password,
     nonce_of, scram_client_first, scram_proof, scram_verifier,
 };
-use pg_options::{PgConnectOptions, PgSettings};
-use pg_stream::TlsWish;
-use pg_wire::{ConfigPart, Error, ProtocolFault, ServerFault, Text};
+use pg_options::{PgConnectOptions, PgSettings, PgSslMode};
+use pg_wire::{ConfigPart, Error, ProtocolFault, ServerFault, Text, TlsCause};
 use rand_core::utils::NextWord;
 use rand_core::{Rng, utils};
 use std::alloc::Global;
@@ -133,19 +133,32 @@ fn exchange_of_the_rfc(rt: HostRuntime) -> Result<(), Fail> {
 const SERVER_FIRST: &str =
     "r=rOprNGfwEbeRWgbNEkqO%hvYDpWUa2RaTCAfuxFIlj)hNlF$k0,s=W22ZaJ0SNY7soEsUEjb6gQ==,i=4096";
 
-// The keys and signatures of that exchange, as OpenSSL computes them from RFC 5802's formulas.
+// The keys and signatures of that exchange, as Python's hashlib and hmac compute them from RFC 5802's formulas.
 #[test]
 fn keys_of_the_exchange(rt: HostRuntime) -> Result<(), Fail> {
+    let alloc = rt.alloc();
     let salt = b"\x5b\x6d\x99\x68\x9d\x12\x35\x8e\xec\xa0\x4b\x14\x12\x36\xfa\x81";
-    let salted = hi(rt.alloc(), b"pencil", salt, 4096)?;
-    let client_key = hmac(&salted, b"Client Key");
+    let salted = hi(alloc, b"pencil", salt, 4096)?;
+    let client_key = keys::client_key(&salted);
     assert_eq!(rt;
-        hex::encode(rt.alloc(), client_key)?.as_str(),
+        hex::encode(alloc, client_key)?.as_str(),
         "a60fc923d67e8644a92d16b96eda5ef4656b0c725c484374be25535576996e8b"
     );
-    let server_key = hmac(&salted, b"Server Key");
+    let stored_key = keys::stored_key(&client_key);
     assert_eq!(rt;
-        hex::encode(rt.alloc(), server_key)?.as_str(),
+        hex::encode(alloc, stored_key)?.as_str(),
+        "586e5df283e6dceb5c3e791d8b8528ec191e664045ce971792e2e6b5bb13e2a6"
+    );
+    let message =
+        b"n=user,r=rOprNGfwEbeRWgbNEkqO,r=rOprNGfwEbeRWgbNEkqO%hvYDpWUa2RaTCAfuxFIlj)hNlF$k0,s=W22ZaJ0SNY7soEsUEjb6gQ==,i=4096,c=biws,r=rOprNGfwEbeRWgbNEkqO%hvYDpWUa2RaTCAfuxFIlj)hNlF$k0";
+    let signature = keys::client_signature(&stored_key, message);
+    assert_eq!(rt;
+        hex::encode(alloc, signature)?.as_str(),
+        "d27312467c28a40a8a7f05c73c0de33eb3cbfb4a83783b58144cf19ac6be1bdf"
+    );
+    let server_key = keys::server_key(&salted);
+    assert_eq!(rt;
+        hex::encode(alloc, server_key)?.as_str(),
         "c1f3cbc1c13a9d35a14c0990eed97629ea225863e566a4314ab99f3f00e5d9d5"
     );
     Ok(())
@@ -358,19 +371,46 @@ fn md5_of_the_salt(rt: HostRuntime) -> Result<(), Fail> {
     Ok(())
 }
 
+// Each mode, what is done over a link that can be upgraded, and over one that cannot; a local link is plain.
+fn plans() -> &'static str {
+    r"disable plain plain
+allow plain plain
+prefer ask plain
+require required refused
+verify-ca required+certificate refused
+verify-full required+certificate+host refused"
+}
+
+fn planned(options: &PgConnectOptions, can_upgrade: bool, is_local: bool) -> &'static str {
+    match MaybeUpgradeTls(options).wants(can_upgrade, is_local) {
+        Ok(TlsPlan::Plain) => "plain",
+        Ok(TlsPlan::Ask { required, wish }) => {
+            match (required, wish.verify_certificate, wish.verify_host) {
+                (false, false, false) => "ask",
+                (true, false, false) => "required",
+                (true, true, false) => "required+certificate",
+                (true, true, true) => "required+certificate+host",
+                _ => "another wish",
+            }
+        }
+        Err(Error::Tls(TlsCause::CannotUpgrade)) => "refused",
+        Err(_) => "another error",
+    }
+}
+
+// The manual's table of modes, with what is done about TLS before the startup message.
 #[test]
-fn tls_of_prefer(rt: HostRuntime) -> Result<(), Fail> {
-    let options = PgConnectOptions::new_without_pgpass(rt.alloc(), &PgSettings::empty())?;
-    let asked = TlsPlan::Ask {
-        required: false,
-        wish: TlsWish {
-            verify_certificate: false,
-            verify_host: false,
-        },
-    };
-    let tls = MaybeUpgradeTls(&options);
-    assert_eq!(rt; tls.wants(true, false)?, asked);
-    assert_eq!(rt; tls.wants(false, false)?, TlsPlan::Plain);
-    assert_eq!(rt; tls.wants(true, true)?, TlsPlan::Plain);
+fn tls_by_mode(rt: HostRuntime) -> Result<(), Fail> {
+    for row in plans().lines() {
+        let (name, plans) = row.split_once(' ').unwrap_or((row, ""));
+        let (upgradable, other) = plans.split_once(' ').unwrap_or((plans, ""));
+        let mode = PgSslMode::from_name(name).unwrap_or(PgSslMode::Prefer);
+        let options = PgConnectOptions::new(rt.alloc(), &PgSettings::empty())?.ssl_mode(mode);
+        assert_eq!(rt; options.get_ssl_mode().name(), name);
+        assert_eq!(rt; planned(&options, true, false), upgradable, "{row}");
+        assert_eq!(rt; planned(&options, false, false), other, "{row}");
+        assert_eq!(rt; planned(&options, true, true), "plain", "{row}");
+        assert_eq!(rt; planned(&options, false, true), "plain", "{row}");
+    }
     Ok(())
 }

@@ -1,13 +1,13 @@
 -- How the messages of a start-up follow one another.
-use Rattle.std.proofs.Common.{◌≡◌, ℕ, ◌+◌, ◌*◌, ◌<◌, ◌≤◌, List, [], ◌∷◌, ◌++◌, length, Bool, true, false, Option, Some, None, refl, sym, ap, subst, ◌∙◌, arith, Result, Ok, Err}
+use Rattle.std.proofs.Common.{◌≡◌, ℕ, List, [], ◌∷◌, ◌++◌, Bool, true, false, Option, Some, None, sym, ap, subst, ◌∙◌, arith, Result, Ok, Err}
 use Rattle.futures.specs.declared.task.Poll.{Poll}
 use Rattle.futures.specs.declared.task.Poll.TheVariants.{Ready, Pending}
 use Rattle.pg_wire.specs.declared.error.Error.{Error}
 use Rattle.pg_wire.specs.Frame.{Frame}
 use Rattle.pg_stream.specs.Links.{LinkSeen}
 use Rattle.pg_stream.specs.declared.stream.Front.{Front}
-use Rattle.pg_stream.specs.Streams.{StreamOf, StreamSeen, stream_by, fuel_of, Moves, AllMoved, IsFront, Passes, PollsAhead}
-use Rattle.pg_stream.proofs.StreamLemmas.{Moves-then, Moves-none, AllMoved-none, AllMoved-then, PendingCause-after, took_front, IsFront-from_heard}
+use Rattle.pg_stream.specs.Streams.{StreamOf, StreamSeen, stream_by, Moves, AllMoved, Passes, PollsAhead}
+use Rattle.pg_stream.proofs.StreamLemmas.{Moves-then, Moves-none, AllMoved-none, AllMoved-then, PendingCause-after, took_front}
 use Rattle.pg_conn.specs.Connections.{ConnOf, fresh_connection}
 use Rattle.pg_conn.specs.Establishing.{EstablishOf, GreetsOnce, PollsGreeting, PollsEstablish, begun_stream}
 
@@ -15,7 +15,7 @@ use Rattle.pg_conn.specs.Establishing.{EstablishOf, GreetsOnce, PollsGreeting, P
 pub greets_on : {A : Type 0} (seen : A → LinkSeen) (a b c : StreamOf A) (front : Front) → PollsAhead (stream_by seen a) (stream_by seen b) (Ready (Ok front)) → Passes front b c
     → GreetsOnce (stream_by seen a) (stream_by seen c) None
 greets_on seen a b c front p q =
-    let t = took_front seen b c front (IsFront-from_heard b.held front p.5) q in (
+    let t = took_front seen b c front p.5 q in (
       p.0 ++ t.0 ∷ [],
       Moves-then (stream_by seen a) (stream_by seen b) (stream_by seen c) [] [] p.0 (t.0 ∷ []) p.2 t.1,
       AllMoved-then (stream_by seen a) (stream_by seen b) (stream_by seen c) p.4 p.2.left t.2 t.1.left,
@@ -26,7 +26,7 @@ greets_on seen a b c front p q =
 pub greets_last : {A : Type 0} (seen : A → LinkSeen) (a b c : StreamOf A) (front : Front) (answer : Result (Unit {0}) Error) → PollsAhead (stream_by seen a) (stream_by seen b) (Ready (Ok front)) → Passes front b c
     → GreetsOnce (stream_by seen a) (stream_by seen c) (Some (Ready answer))
 greets_last seen a b c front answer p q =
-    let t = took_front seen b c front (IsFront-from_heard b.held front p.5) q in
+    let t = took_front seen b c front p.5 q in
     (p.0 ++ t.0 ∷ [], Moves-then (stream_by seen a) (stream_by seen b) (stream_by seen c) [] [] p.0 (t.0 ∷ []) p.2 t.1)
 
 -- message after message within a poll
@@ -46,7 +46,7 @@ greets_more a b c i t = record {
 }
 
 pub greets_end : (a b c : StreamSeen) (answer : Poll (Result (Unit {0}) Error)) → GreetsOn a b → GreetsOnce b c (Some answer) → PollsGreeting a c answer
-greets_end a b c Pending i t = (i.frames ++ t.0, Moves-then a b c [] [] i.frames t.0 i.moves t.1, PendingCause-after a b c i.moves.counts i.moved i.moves.left t.1.left t.2)
+greets_end a b c Pending i t = (i.frames ++ t.0, Moves-then a b c [] [] i.frames t.0 i.moves t.1, PendingCause-after a b c i.moves.counts i.moves.tallies.waits.0 i.moved i.moves.left t.1.left t.2)
 greets_end a b c (Ready answer) i t = (i.frames ++ t.0, Moves-then a b c [] [] i.frames t.0 i.moves t.1)
 
 -- ---- what is left of a start-up behind a poll

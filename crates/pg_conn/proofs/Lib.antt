@@ -1,2 +1,3 @@
-pub mod ConnLemmas
+pub mod TurnLaws
 pub mod GreetLemmas
+pub mod StateLaws

@@ -1,5 +1,5 @@
 -- What is seen of a dial.
-use Rattle.std.specs.Prelude.{◌≡◌, ℕ, ◌+◌, List, [], ◌∷◌, Result, Ok, Err, Bool, true, false}
+use Rattle.std.specs.Prelude.{◌≡◌, ℕ, List, [], ◌∷◌, Result, Ok, Err}
 use Rattle.pg_stream.specs.Links.{Rose}
 use Rattle.pg_stream.specs.declared.memory.MemoryLink.{MemoryLink}
 use Rattle.pg_conn.specs.declared.dial.DialFailed.{DialFailed}

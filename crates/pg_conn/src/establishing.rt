@@ -1,5 +1,6 @@
 ghost use Rattle.std.specs.Prelude.{◌≡◌, ℕ, List, IfOk, IfErr};
 ghost use Rattle.pg_conn.specs.Establishing.{beginning};
+ghost use Rattle.pg_conn.specs.Startups.{startup_of};
 
 use crate::Establish;
 use crate::parameters::startup_message;
@@ -17,6 +18,7 @@ pub fn establish<L: Link>(
     link: L,
 ) -> Result<Establish<L>, (Error, L)>
     ensures ok { IfOk result (λ e. (message : List ℕ) × (e ≡ beginning link message)) }
+    ensures message { IfOk result (λ e. e ≡ beginning link (startup_of options.now)) }
     ensures err { IfErr result (λ e. e.1 ≡ link) }
 {
     match startup_message(alloc, options) {

@@ -4,26 +4,25 @@
 //! `PgConnection`, and with its call `execute`.
 #![tactic(auto)]
 
-mod call;
 mod connection;
 mod dial;
 mod establishing;
-mod execute;
-mod format;
+pub mod laws;
 mod parameters;
+mod polling;
 mod postgres;
-mod query_result;
-mod reply;
-mod running;
 mod starting;
 mod startup;
+mod states;
 
-pub use call::{CallAnswer, Request, Turn};
 pub use connection::PgConnection;
 pub use dial::{Dial, DialFailed, MemoryDial};
 pub use establishing::establish;
-pub use execute::Execute;
+pub use pg_call::{CallAnswer, CallItem, PgQueryResult, Request, Turn};
 pub use pg_request::{CacheStep, Progress, Query};
+pub use pg_rows::PgRow;
 pub use postgres::Postgres;
-pub use query_result::PgQueryResult;
 pub use starting::Establish;
+pub use states::{
+    Close, Execute, ExecuteMany, Fetch, FetchAll, FetchMany, FetchOne, FetchOptional, Flush, Ping,
+};

@@ -1,11 +1,15 @@
-ghost use Rattle.std.specs.Prelude.{◌≡◌};
+ghost use Rattle.std.specs.Prelude.{◌≡◌, ◌++◌, OnOk, IfOk, option_map, option_copied};
+ghost use Rattle.std.specs.Fmt.{signed_decimal};
+ghost use Rattle.pg_conn.specs.Startups.{said, fixed_parameters, startup_parameters, startup_of};
 
 use pg_options::PgConnectOptions;
 use pg_wire::{Blob, ConfigPart, Error, Text, encode_startup};
 use std::alloc::{AllocError, Global};
 
 // One parameter of a session.
-fn parameter(alloc: Global, name: &str, value: &str) -> Result<(Text, Text), AllocError> {
+fn parameter(alloc: Global, name: &str, value: &str) -> Result<(Text, Text), AllocError>
+    ensures { IfOk result (λ p. p ≡ (name.now, value.now)) }
+{
     let name = Text::from_str(alloc, name)?;
     let value = Text::from_str(alloc, value)?;
     Ok((name, value))
@@ -17,7 +21,9 @@ fn push_set(
     out: &mut Vec<(Text, Text)>,
     name: &str,
     value: Option<&str>,
-) -> Result<(), AllocError> {
+) -> Result<(), AllocError>
+    ensures { OnOk result (out.new.items ≡ out.old.items ++ said name.now (option_copied value.entry)) }
+{
     match value {
         Some(value) => {
             out.push(parameter(alloc, name, value)?)?;
@@ -27,16 +33,48 @@ fn push_set(
     }
 }
 
-// The parameters that a session begins with, in order.
-fn parameters(alloc: Global, options: &PgConnectOptions) -> Result<Vec<(Text, Text)>, AllocError> {
+// Adds the digits of floats, where they are set.
+fn push_digits(
+    alloc: Global,
+    out: &mut Vec<(Text, Text)>,
+    name: &str,
+    digits: Option<i8>,
+) -> Result<(), AllocError>
+    ensures { OnOk result (out.new.items ≡ out.old.items ++ said name.now (option_map signed_decimal digits)) }
+{
+    match digits {
+        Some(digits) => {
+            let digits = format!(in alloc; "{digits}")?;
+            out.push(parameter(alloc, name, digits.as_str())?)?;
+            Ok(())
+        }
+        None => Ok(()),
+    }
+}
+
+// The parameters that every session begins with.
+fn fixed_parameters(alloc: Global) -> Result<Vec<(Text, Text)>, AllocError>
+    ensures { IfOk result (λ v. v.items ≡ fixed_parameters) }
+{
     let mut out = Vec::new(alloc);
     out.push(parameter(alloc, "DateStyle", "ISO, MDY")?)?;
     out.push(parameter(alloc, "client_encoding", "UTF8")?)?;
     out.push(parameter(alloc, "TimeZone", "UTC")?)?;
-    if let Some(digits) = options.get_extra_float_digits() {
-        let digits = format!(in alloc; "{digits}")?;
-        out.push(parameter(alloc, "extra_float_digits", digits.as_str())?)?;
-    }
+    Ok(out)
+}
+
+// The parameters that a session begins with, in order.
+#[tactic(auto, unfolding(crate::specs::Startups::startup_parameters))]
+fn parameters(alloc: Global, options: &PgConnectOptions) -> Result<Vec<(Text, Text)>, AllocError>
+    ensures { IfOk result (λ v. v.items ≡ startup_parameters options.now) }
+{
+    let mut out = fixed_parameters(alloc)?;
+    push_digits(
+        alloc,
+        &mut out,
+        "extra_float_digits",
+        options.get_extra_float_digits(),
+    )?;
     push_set(
         alloc,
         &mut out,
@@ -70,7 +108,9 @@ fn first_nul(options: &PgConnectOptions, parameters: &[(Text, Text)]) -> Option<
 
 /// The startup message of the options. A zero byte in a text is `Configuration` with part `Nul` and its place in that text.
 /// (PostgreSQL manual, "Message Formats", StartupMessage.)
-pub(crate) fn startup_message(alloc: Global, options: &PgConnectOptions) -> Result<Blob, Error> {
+pub(crate) fn startup_message(alloc: Global, options: &PgConnectOptions) -> Result<Blob, Error>
+    ensures { IfOk result (λ message. message ≡ startup_of options.now) }
+{
     let parameters = parameters(alloc, options)?;
     if let Some(place) = first_nul(options, &parameters) {
         return Err(Error::Configuration {

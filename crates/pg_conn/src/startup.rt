@@ -1,4 +1,4 @@
-use crate::format::refuse;
+use pg_call::refuse;
 use pg_wire::{
     Authentication, Error, decode_authentication, decode_backend_key_data, decode_error_response,
     decode_ready_for_query,

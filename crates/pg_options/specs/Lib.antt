@@ -1,1 +1,10 @@
+pub mod Answering
+pub mod Certificates
+pub mod Escaping
+pub mod FromUrl
+pub mod Numbers
 pub mod Options
+pub mod SslModes
+pub mod ToUrl
+pub mod UrlKeys
+pub mod UrlTexts

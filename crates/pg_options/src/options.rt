@@ -1,10 +1,19 @@
-ghost use Rattle.std.specs.Prelude.{◌≡◌, IfOk, option_map};
-ghost use Rattle.pg_options.specs.Options.{defaults};
+ghost use Rattle.std.specs.Prelude.{◌≡◌, IfOk};
+ghost use Rattle.pg_options.specs.Answering.{Makes};
 
-use crate::{CertificateInput, PgSettings, PgSslMode};
+use crate::{CertificateInput, PgSslMode};
 use pg_wire::{Error, Text};
-use std::alloc::Global;
+use std::alloc::{AllocError, Global};
 use std::marker::Model;
+
+mod building;
+mod getting;
+mod query;
+mod reading;
+mod settled;
+mod socket_file;
+mod switches;
+mod writing;
 
 /// How to connect to a server, and what to tell it at start-up.
 #[derive(Debug, Drop)]
@@ -35,82 +44,50 @@ impl Model for PgConnectOptions {
 }
 
 impl PgConnectOptions {
-    /// The options where nothing is set: the user `unknown` on `localhost`, port 5432. Only want of memory refuses them.
-    pub fn new_without_pgpass(alloc: Global, _env: &PgSettings) -> Result<Self, Error>
-        ensures { IfOk result (λ o. o ≡ defaults) }
+    /// Equal options, in memory of their own.
+    pub fn clone(&self) -> Result<Self, Error>
+        ensures { Makes result self.now }
     {
-        let host = Text::from_str(alloc, "localhost")?;
-        let username = Text::from_str(alloc, "unknown")?;
+        let alloc = self.alloc;
         Ok(PgConnectOptions {
             alloc,
-            host,
-            port: 5432,
-            socket: None,
-            username,
-            password: None,
-            database: None,
-            ssl_mode: PgSslMode::Prefer,
-            ssl_root_cert: None,
-            ssl_client_cert: None,
-            ssl_client_key: None,
-            statement_cache_capacity: 100,
-            application_name: None,
-            extra_float_digits: Some(2),
-            options: None,
+            host: self.host.to_copy(alloc)?,
+            port: self.port,
+            socket: copied(alloc, &self.socket)?,
+            username: self.username.to_copy(alloc)?,
+            password: copied(alloc, &self.password)?,
+            database: copied(alloc, &self.database)?,
+            ssl_mode: self.ssl_mode,
+            ssl_root_cert: copied_input(alloc, &self.ssl_root_cert)?,
+            ssl_client_cert: copied_input(alloc, &self.ssl_client_cert)?,
+            ssl_client_key: copied_input(alloc, &self.ssl_client_key)?,
+            statement_cache_capacity: self.statement_cache_capacity,
+            application_name: copied(alloc, &self.application_name)?,
+            extra_float_digits: self.extra_float_digits,
+            options: copied(alloc, &self.options)?,
         })
-    }
-
-    /// Sets the user.
-    pub fn username(mut self, username: &str) -> Result<Self, Error>
-        ensures { IfOk result (λ o. o ≡ record self { username = username.now }) }
-    {
-        self.username = Text::from_str(self.alloc, username)?;
-        Ok(self)
-    }
-
-    pub fn get_username(&self) -> &str
-        ensures { result.now ≡ self.now.username }
-    {
-        self.username.as_str()
-    }
-
-    pub fn get_database(&self) -> Option<&str>
-        ensures { option_map (λ t. t.now) result ≡ self.now.database }
-    {
-        shown(&self.database)
-    }
-
-    pub fn get_application_name(&self) -> Option<&str>
-        ensures { option_map (λ t. t.now) result ≡ self.now.application_name }
-    {
-        shown(&self.application_name)
-    }
-
-    pub fn get_options(&self) -> Option<&str>
-        ensures { option_map (λ t. t.now) result ≡ self.now.options }
-    {
-        shown(&self.options)
-    }
-
-    pub fn get_extra_float_digits(&self) -> Option<i8>
-        ensures { result ≡ self.now.extra_float_digits }
-    {
-        self.extra_float_digits
-    }
-
-    pub fn get_ssl_mode(&self) -> PgSslMode
-        ensures { result ≡ self.now.ssl_mode }
-    {
-        self.ssl_mode
     }
 }
 
-// A text that is set, as it is shown.
-fn shown(text: &Option<Text>) -> Option<&str>
-    ensures { option_map (λ t. t.now) result ≡ text.now }
+// A text that may be unset, in memory of its own.
+fn copied(alloc: Global, text: &Option<Text>) -> Result<Option<Text>, AllocError>
+    ensures { IfOk result (λ t. t ≡ text.now) }
 {
     match text {
-        Some(text) => Some(text.as_str()),
-        None => None,
+        Some(text) => Ok(Some(text.to_copy(alloc)?)),
+        None => Ok(None),
+    }
+}
+
+// The same of a certificate or key.
+fn copied_input(
+    alloc: Global,
+    input: &Option<CertificateInput>,
+) -> Result<Option<CertificateInput>, AllocError>
+    ensures { IfOk result (λ i. i ≡ input.now) }
+{
+    match input {
+        Some(input) => Ok(Some(input.to_copy(alloc)?)),
+        None => Ok(None),
     }
 }

@@ -1,4 +1,5 @@
-ghost use Rattle.std.specs.Prelude.{◌≡◌, None};
+ghost use Rattle.std.specs.Prelude.{◌≡◌};
+ghost use Rattle.pg_options.specs.Options.{no_settings};
 
 use pg_wire::Text;
 
@@ -39,7 +40,7 @@ pub struct PgSettings {
 impl PgSettings {
     /// Nothing is set.
     pub fn empty() -> Self
-        ensures { result ≡ record { host_addr = None; host = None; port = None; user = None; system_user = None; password = None; database = None; ssl_root_cert = None; ssl_cert = None; ssl_key = None; ssl_mode = None; app_name = None; options = None; default_host = None } }
+        ensures { result ≡ no_settings }
     {
         PgSettings {
             host_addr: None,

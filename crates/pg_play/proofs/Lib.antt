@@ -1,1 +1,14 @@
+pub mod CallLaws
+pub mod PartLaws
+pub mod StepLaws
+pub mod PlaceLaws
+pub mod ShownLaws
+pub mod ToldLaws
+pub mod CauseLaws
+pub mod LawfulLaws
+pub mod RepliesLaws
+pub mod LinkLaws
+pub mod PlayLaws
+pub mod StartLaws
 pub mod TopLaws
+pub mod RefutedLaws

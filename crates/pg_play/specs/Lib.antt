@@ -1,2 +1,11 @@
-pub mod Top
+pub mod Shown
+pub mod Calls
+pub mod Places
+pub mod Told
+pub mod Causes
+pub mod Plays
 pub mod Starts
+pub mod Top
+pub mod Refuted
+pub mod Commands
+pub mod Connecting

@@ -1,18 +1,35 @@
 ghost use Rattle.std.specs.Prelude.{◌≡◌, IfOk, string_bytes};
-ghost use Rattle.pg_play.specs.Top.{EndingIs, TellsEnding, bad_script_text, start_status, status_of, played_of};
+ghost use Rattle.pg_play.specs.Top.{EndingIs, TellsEnding, bad_script_text, refused_text, start_status, status_of, played_of};
 
 use crate::played::Played;
-use pg_report::{Started, report};
+use pg_report::{Started, put_error, report};
 use pg_stream::MemoryLink;
 use pg_wire::Error;
 use std::alloc::{AllocError, Global};
 use std::fmt::Write;
 
+/// How the program is called.
+pub(crate) const HELP: &str = "zapoteboom WORD
+script       reads a script from standard input, plays it in memory and writes the report
+options URL  writes the connect options that a URL says
+--help       writes this text
+--version    writes the name and the version
+";
+
+/// The name and the version.
+pub(crate) const VERSION: &str = "zapoteboom 0.1.0\n";
+
 /// How the program ends, before its text is written.
 #[derive(Drop)]
 pub(crate) enum Ending {
     Played(Played<MemoryLink>),
+    /// The lines of connect options.
+    Shown(String),
+    Help,
+    Version,
     BadWords,
+    /// A URL that says no options, or options that no URL says.
+    Refused(Error),
     BadScript(u64),
     ReadFailed,
     NoMemory,
@@ -45,8 +62,8 @@ impl Ending {
     {
         match self {
             Ending::Played(played) => start_status(&played.start),
-            Ending::BadWords => 2,
-            Ending::BadScript(_) => 2,
+            Ending::Shown(_) | Ending::Help | Ending::Version => 0,
+            Ending::BadWords | Ending::Refused(_) | Ending::BadScript(_) => 2,
             Ending::ReadFailed => 3,
             Ending::NoMemory => 5,
         }
@@ -72,12 +89,27 @@ impl Ending {
                 played.outcomes.as_slice(),
                 played.link.taken(),
             ),
+            Ending::Shown(lines) => String::from_str(alloc, lines.as_str()),
+            Ending::Help => String::from_str(alloc, HELP),
+            Ending::Version => String::from_str(alloc, VERSION),
             Ending::BadWords => String::from_str(alloc, "bad words\n"),
+            Ending::Refused(error) => refused(alloc, error),
             Ending::BadScript(line) => bad_script(alloc, *line),
             Ending::ReadFailed => String::from_str(alloc, "read failed\n"),
             Ending::NoMemory => String::from_str(alloc, "out of memory\n"),
         }
     }
+}
+
+// Why there are no options to show.
+fn refused(alloc: Global, error: &Error) -> Result<String, AllocError>
+    ensures { IfOk result (λ t. string_bytes t ≡ refused_text error.now) }
+{
+    let mut text = String::new(alloc);
+    text.push_str("error ")?;
+    put_error(&mut text, error)?;
+    text.push_str("\n")?;
+    Ok(text)
 }
 
 // The first bad line of a script.

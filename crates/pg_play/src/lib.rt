@@ -1,16 +1,22 @@
 //! Plays of scripts, and the top call of the program.
 //!
 //! `play` runs a start-up and then steps over any link. `top` is the whole program, but for its source, sink and dial: it
-//! reads a script, plays it over a link in memory and writes the report.
+//! reads a script, plays it over a link in memory and writes the report, or it shows the connect options that a URL says.
 #![tactic(auto)]
 
+mod asking;
 mod command;
+mod connecting;
 mod ending;
+pub mod laws;
 mod played;
 mod playing;
 mod program;
+mod showing;
+mod showing_options;
 mod starting;
 mod stepping;
+mod tally;
 
 pub use pg_report::{Answer, End, Item, Outcome, Started};
 pub use pg_script::{Call, Step};

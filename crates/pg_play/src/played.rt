@@ -15,9 +15,9 @@ pub struct Played<L> {
 pub struct Ran<L> {
     /// | Status | Where |
     /// |---|---|
-    /// | 0 | the script was played |
+    /// | 0 | the script was played, or what was asked is shown |
     /// | 1 | start-up failed |
-    /// | 2 | the words or the script are bad |
+    /// | 2 | the words, the script or the URL are bad |
     /// | 3 | the source failed |
     /// | 4 | the sink failed |
     /// | 5 | memory ran out |

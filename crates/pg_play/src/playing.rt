@@ -1,4 +1,7 @@
-ghost use Rattle.std.specs.Prelude.{◌≡◌, ◌≤◌, [], length, vec_capacity, Err};
+ghost use Rattle.std.specs.Prelude.{◌≡◌, ◌≤◌, [], length, vec_capacity, Err, IfOk};
+ghost use Rattle.pg_stream.specs.Links.{LinkSeen};
+ghost use Rattle.pg_conn.specs.Connections.{seen_by};
+ghost use Rattle.pg_play.specs.Plays.{Begins, Plays};
 ghost use Rattle.pg_play.specs.Top.{HasOutcomes};
 
 use crate::played::Played;
@@ -33,7 +36,8 @@ fn play_steps<L: Link>(
 ) -> Played<L>
     requires none { outcomes.items ≡ [] }
     requires room { length steps.now ≤ vec_capacity outcomes }
-    ensures { HasOutcomes (length steps.now) result.start (length result.outcomes) }
+    ensures outcomes { HasOutcomes (length steps.now) result.start (length result.outcomes) }
+    ensures plays { (link : LinkSeen) → Begins link (seen_by L.seen conn) → IfOk result.start (λ started. Plays link (L.seen result.link) started steps.now result.outcomes) }
 {
     let (sent, read) = conn.started();
     for step in steps {
@@ -60,7 +64,9 @@ pub fn play<L: Link>(
     link: L,
 ) -> Played<L>
     // Behind a start-up every step has its outcome, in order, and behind a failed one there is none.
-    ensures { HasOutcomes (length steps.now) result.start (length result.outcomes) }
+    ensures outcomes { HasOutcomes (length steps.now) result.start (length result.outcomes) }
+    // From there on each outcome tells what its step queued and heard, why it ended so, and what it showed.
+    ensures plays { IfOk result.start (λ started. Plays (L.seen link) (L.seen result.link) started steps.now result.outcomes) }
 {
     let Ok(outcomes) = Vec::with_capacity(alloc, steps.len()) else {
         return failed(alloc, Error::OutOfMemory, link);

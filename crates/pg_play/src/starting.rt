@@ -1,5 +1,8 @@
-ghost use Rattle.std.specs.Prelude.{◌≡◌, false, None, IsSome};
-ghost use Rattle.pg_play.specs.Starts.{IsLeft};
+ghost use Rattle.std.specs.Prelude.{◌≡◌, false, None, Ok, IsSome, IfOk};
+ghost use Rattle.pg_stream.specs.Links.{LinkSeen};
+ghost use Rattle.pg_conn.specs.Connections.{seen_by};
+ghost use Rattle.pg_play.specs.Plays.{Begins};
+ghost use Rattle.pg_play.specs.Starts.{IsLeft, IsStarting, StartsOn};
 
 use pg_conn::{Establish, PgConnection, establish};
 use pg_options::PgConnectOptions;
@@ -31,9 +34,27 @@ fn end<L>(establish: Establish<L>)
 fn poll_once<L: Link>(establish: &mut Establish<L>) -> Poll<Result<PgConnection<L>, Error>>
     requires goes { establish.old.is_finished ≡ false }
     requires some { IsSome establish.old.stream }
-    ensures { IsLeft establish.new result }
+    ensures left { IsLeft establish.new result }
+    ensures starts { (link : LinkSeen) → IsStarting L.seen link establish.old → StartsOn L.seen link establish.new result }
 {
     establish.poll()
+}
+
+// Hands the connection over, or the error and the link.
+fn hand_over<L>(
+    establish: Establish<L>,
+    answer: Result<PgConnection<L>, Error>,
+) -> Result<PgConnection<L>, (Error, L)>
+    requires { IsLeft establish (Poll.Ready answer) }
+    ensures { IfOk result (λ conn. answer ≡ Ok conn) }
+{
+    match answer {
+        Ok(conn) => {
+            end(establish);
+            Ok(conn)
+        }
+        Err(e) => Err((e, link_of(establish))),
+    }
 }
 
 // Polls a start-up until it answers, or has answered `Pending` so many times.
@@ -43,15 +64,12 @@ fn poll_start<L: Link>(
 ) -> Result<PgConnection<L>, (Error, L)>
     requires goes { establish.is_finished ≡ false }
     requires some { IsSome establish.stream }
+    ensures { (link : LinkSeen) → IsStarting L.seen link establish → IfOk result (λ conn. Begins link (seen_by L.seen conn)) }
 {
     for _ in 0..polls {
         match poll_once(&mut establish) {
             Poll::Pending => {}
-            Poll::Ready(Ok(conn)) => {
-                end(establish);
-                return Ok(conn);
-            }
-            Poll::Ready(Err(e)) => return Err((e, link_of(establish))),
+            Poll::Ready(answer) => return hand_over(establish, answer),
         }
     }
     Err((Error::StartupPending, link_of(establish)))
@@ -64,7 +82,9 @@ pub(crate) fn start_up<L: Link>(
     nonce: &[u8],
     polls: u32,
     link: L,
-) -> Result<PgConnection<L>, (Error, L)> {
+) -> Result<PgConnection<L>, (Error, L)>
+    ensures { IfOk result (λ conn. Begins (L.seen link) (seen_by L.seen conn)) }
+{
     match establish(alloc, options, nonce, link) {
         Ok(establish) => poll_start(establish, polls),
         Err(refused) => Err(refused),

@@ -1,63 +1,117 @@
-ghost use Rattle.std.specs.Prelude.{◌≡◌, []};
+ghost use Rattle.std.specs.Prelude.{◌≡◌, ◌<◌, ◌+◌, ◌-◌, ◌^◌, true, List, ℕ, None, length};
+ghost use Rattle.pg_request.specs.declared.progress.CacheStep.TheVariants as cache;
+ghost use Rattle.pg_conn.specs.Connections.{ConnSeen, seen_by, runs, started_call};
+ghost use Rattle.pg_call.specs.declared.request.Request.{Request};
+ghost use Rattle.pg_call.specs.Requests.{kind_of};
+ghost use Rattle.pg_call.specs.declared.kind.Kind.TheVariants as kinds;
+ghost use Rattle.pg_play.specs.Calls.{IsPlaying, PollGives, PlaysCall, PlaysStep, untouched};
 
-use pg_conn::{CallAnswer, PgConnection, Request, Turn};
-use pg_report::{Answer, End, Outcome};
-use pg_script::{Call, Step};
+use crate::asking::request_of;
+use crate::tally::{Limits, Tally};
+use pg_conn::{CacheStep, PgConnection, Progress, Request, Turn};
+use pg_report::{End, Item, Outcome};
+use pg_script::Step;
 use pg_stream::Link;
 use pg_wire::{Error, Poll, Sequence};
 use std::alloc::Global;
 
-// What a call asks of a connection.
-fn request_of(alloc: Global, call: &Call) -> Result<Request, Error> {
-    match call {
-        Call::Execute(query) => Ok(Request::Execute(query.to_copy(alloc)?)),
-    }
-}
-
-fn end_of(turn: Turn) -> End {
-    match turn {
-        Turn::Ok(CallAnswer::Total(total)) => End::Ok(Answer::Total(total.rows_affected())),
-        Turn::Err(e) => End::Err(e),
-    }
-}
-
-// Polls the running call until it ends, or has answered `Pending` so many times.
-fn poll_step<L: Link>(conn: &mut PgConnection<L>, polls: u32) -> End {
-    let mut left = polls;
-    while left > 0 && conn.is_running() {
-        match conn.poll_call() {
-            Poll::Pending => left -= 1,
-            Poll::Ready(turn) => return end_of(turn),
-        }
-    }
-    conn.abandon();
-    End::Dropped
-}
-
-// Begins the call of a step, polls it, and drops it where it is to be dropped.
-fn run_step<L: Link>(alloc: Global, conn: &mut PgConnection<L>, step: &Step) -> End {
-    match request_of(alloc, &step.call) {
-        Ok(request) => {
-            conn.start(request);
-            poll_step(conn, if step.most == 0 { 0 } else { step.polls })
-        }
-        Err(e) => End::Err(e),
-    }
-}
-
-/// Plays one step.
-pub(crate) fn play_step<L: Link>(alloc: Global, conn: &mut PgConnection<L>, step: &Step) -> Outcome
-    ensures { result.items ≡ [] }
+// One poll of the running call, which ends it where it has waited often enough.
+fn poll_once<L: Link>(
+    alloc: Global,
+    conn: &mut PgConnection<L>,
+    tally: &mut Tally,
+    limits: Limits,
+) -> Option<End>
+    requires runs { runs conn.old.call ≡ true }
+    requires waits { tally.old.waits < limits.polls }
+    ensures gives { (a : ConnSeen) (r : Request) → (kind_of r ≡ kinds.Close → ⊥) → IsPlaying limits.most a (seen_by L.seen conn.old) r tally.old.waits tally.old.items.items
+        → PollGives limits a (seen_by L.seen conn.new) r tally.new.waits tally.new.items.items result }
+    ensures goes { result ≡ None → tally.new.waits < limits.polls }
+    ensures falls { result ≡ None → (limits.polls - tally.new.waits) + (2 ^ 64 - length tally.new.items.items) < (limits.polls - tally.old.waits) + (2 ^ 64 - length tally.old.items.items) }
 {
-    let end = run_step(alloc, conn, step);
-    let progress = conn.progress();
+    match conn.poll_call() {
+        Poll::Pending => {
+            tally.waits += 1;
+            if tally.waits == limits.polls {
+                Some(End::Dropped)
+            } else {
+                None
+            }
+        }
+        Poll::Ready(Turn::Item(item)) => tally.add(alloc, item, limits),
+        Poll::Ready(Turn::Ok(answer)) => Some(tally.finish(alloc, answer)),
+        Poll::Ready(Turn::Err(e)) => Some(End::Err(e)),
+    }
+}
+
+// What came of a step, with the numbers of its call.
+fn outcome(items: Vec<Item>, end: End, progress: Progress) -> Outcome
+    ensures { result ≡ record { items = items.items; end = end; groups = progress.groups; heard = progress.heard; cache = progress.cache; waits = progress.waits; moved = progress.moved } }
+{
     Outcome {
-        items: Sequence::new(alloc),
+        items: Sequence::from_vec(items),
         end,
         groups: progress.groups,
         heard: progress.heard,
         cache: progress.cache,
         waits: progress.waits,
         moved: progress.moved,
+    }
+}
+
+// What came of a step that did nothing.
+fn untouched(alloc: Global, end: End) -> Outcome
+    ensures { result ≡ untouched end }
+{
+    let progress = Progress {
+        groups: 0,
+        heard: 0,
+        cache: CacheStep::Same,
+        waits: 0,
+        moved: 0,
+    };
+    outcome(Vec::new(alloc), end, progress)
+}
+
+// Polls a call until it ends, or is dropped.
+fn play_call<L: Link>(
+    alloc: Global,
+    conn: &mut PgConnection<L>,
+    request: Request,
+    limits: Limits,
+) -> Outcome
+    requires polls { 0 < limits.polls }
+    requires most { 0 < limits.most }
+    requires close { kind_of request ≡ kinds.Close → ⊥ }
+    ensures { PlaysCall limits (seen_by L.seen (started_call request conn.old)) (seen_by L.seen conn.new) request result }
+{
+    conn.start(request);
+    let mut tally = Tally::new(alloc);
+    loop {
+        match poll_once(alloc, conn, &mut tally, limits) {
+            None => {}
+            Some(end) => {
+                conn.abandon();
+                return outcome(tally.items, end, conn.progress());
+            }
+        }
+    }
+}
+
+/// Plays one step: its call is polled until it ends, or dropped after `polls` polls that answered `Pending`, or after `most`
+/// items. With none of either it is not begun.
+pub(crate) fn play_step<L: Link>(alloc: Global, conn: &mut PgConnection<L>, step: &Step) -> Outcome
+    ensures { PlaysStep (seen_by L.seen conn.old) (seen_by L.seen conn.new) step.now result }
+{
+    if step.polls == 0 || step.most == 0 {
+        return untouched(alloc, End::Dropped);
+    }
+    let limits = Limits {
+        polls: step.polls,
+        most: step.most,
+    };
+    match request_of(alloc, &step.call) {
+        Ok(request) => play_call(alloc, conn, request, limits),
+        Err(_) => untouched(alloc, End::Err(Error::OutOfMemory)),
     }
 }

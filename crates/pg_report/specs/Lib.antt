@@ -2,3 +2,4 @@ pub mod Bytes
 pub mod Errors
 pub mod Steps
 pub mod Report
+pub mod Options

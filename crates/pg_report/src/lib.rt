@@ -10,17 +10,21 @@
 //!   `ok held t`, `ok held f`, `dropped` or `error ERROR`.
 //! - `sent HEX`, all bytes that were sent, or `sent -`.
 //!
+//! The lines of connect options stand at `option_lines`.
+//!
 //! Begin with `Outcome`, what came of one step, and with `report`. The words of an ERROR stand at `put_error`.
 #![tactic(auto)]
 
 mod bytes;
 mod errors;
 mod lines;
+mod options;
 mod outcome;
 mod steps;
 
 pub use errors::put_error;
 pub use lines::report;
+pub use options::option_lines;
 pub use outcome::{Answer, End, Item, Outcome, Started};
 
 #[cfg(test)]

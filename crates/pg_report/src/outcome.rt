@@ -6,7 +6,7 @@ use pg_wire::{Blob, Error, Field, Oids, Sequence};
 pub enum Item {
     /// The values of a row; a null is None.
     Row(Sequence<Option<Blob>>),
-    /// The rows that a statement progress_text.
+    /// The rows that a statement counted.
     Count(u64),
     /// A piece of a copy.
     Piece(Blob),

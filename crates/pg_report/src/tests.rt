@@ -2,7 +2,7 @@ use crate::{Answer, End, Item, Outcome, Started, put_error, report};
 use pg_request::CacheStep;
 use pg_wire::{
     Blob, CallerFault, ConfigPart, Error, IoCause, Oid, Oids, ProtocolFault, Sequence, ServerFault,
-    Text, TlsCause, TransactionStatus,
+    Text, TlsCause, TransactionStatus, decode_error_response,
 };
 use std::alloc::{AllocError, Global};
 use std::test::Fail;
@@ -90,9 +90,14 @@ fn writes_errors(rt: HostRuntime) -> Result<(), Fail> {
     let alloc = rt.alloc();
     let name = Text::from_str(alloc, "a\"b\\c\u{e9}\n~")?;
     let types = oids(alloc, &[23, 4294967295])?;
+    let reported = decode_error_response(alloc, b"SFEHLER\0VERROR\0C42601\0Mboom\0\0")?;
     let rows = [
         (Error::StartupPending, "StartupPending"),
         (Error::Io(IoCause::Fault), "Io fault"),
+        (
+            Error::Database(reported),
+            "Database ERROR \"42601\" \"boom\"",
+        ),
         (
             Error::Protocol(ProtocolFault::Server(ServerFault::ShortLength {
                 tag: b'Z',

@@ -1,4 +1,4 @@
-ghost use Rattle.std.specs.Prelude.{◌≡◌, IfOk};
+ghost use Rattle.std.specs.Prelude.{◌≡◌, IfOk, IfErr};
 
 use pg_wire::{Error, Text};
 use std::alloc::Global;
@@ -22,7 +22,8 @@ impl Query {
     /// A simple query without arguments: the text may hold several statements. Only want of memory refuses it.
     /// (PostgreSQL manual, "Message Flow", "Simple Query".)
     pub fn raw(alloc: Global, sql: &str) -> Result<Self, Error>
-        ensures { IfOk result (λ q. q ≡ record { sql = sql.now }) }
+        ensures query { IfOk result (λ q. q ≡ record { sql = sql.now }) }
+        ensures memory { IfErr result (λ e. e ≡ Error.OutOfMemory) }
     {
         let sql = Text::from_str(alloc, sql)?;
         Ok(Query { sql })
@@ -41,9 +42,10 @@ impl Query {
         self.sql.as_str()
     }
 
-    /// An equal query.
+    /// An equal query. Only want of memory refuses it.
     pub fn to_copy(&self, alloc: Global) -> Result<Self, Error>
-        ensures { IfOk result (λ q. q ≡ self.now) }
+        ensures copy { IfOk result (λ q. q ≡ self.now) }
+        ensures memory { IfErr result (λ e. e ≡ Error.OutOfMemory) }
     {
         let sql = self.sql.to_copy(alloc)?;
         Ok(Query { sql })

@@ -1,8 +1,9 @@
 -- The lines that are read are those of the table.
-use Rattle.std.proofs.Common.{ℕ, ◌≡◌, ◌∷◌, [], List, Option, Some, None, Bool, true, false, cond, nat_eq, refl, ap, ◌∙◌, subst}
-use Rattle.std.specs.Prelude.{◌&&◌, not}
-use Rattle.std.specs.List.{list_any}
+use Rattle.std.proofs.Common.{ℕ, ◌≡◌, ◌≤◌, ◌∷◌, [], List, Option, Some, None, Bool, true, false, cond, nat_eq, nat_lt, nat_le, refl, sym, ap, ◌∙◌, subst, arith}
+use Rattle.std.specs.Prelude.{◌||◌, ℤ, pos, negsuc}
 use Rattle.std.specs.Str.{is_utf8}
+use Rattle.std.proofs.lemmas.Bool.Decides.{nat_tests}
+use Rattle.pg_request.specs.Queries.{QueryText}
 use Rattle.pg_script.specs.declared.token.Token.{Token}
 use Rattle.pg_script.specs.declared.token.Token.TheVariants.{Space, Word, Number, Text}
 use Rattle.pg_script.specs.declared.token.Keyword.{Keyword}
@@ -12,8 +13,10 @@ use Rattle.pg_script.specs.declared.step.Call.TheVariants as calls
 use Rattle.pg_script.specs.declared.line.Line.{Line}
 use Rattle.pg_script.specs.declared.line.Line.TheVariants as lines
 use Rattle.pg_script.specs.Reading.{◌>>=◌}
-use Rattle.pg_script.specs.Lines.{bytes_arg, text_in, text_arg, number_arg, raw_arg, call_with, call_arg, line_with, line_from}
-use Rattle.pg_script.specs.Grammar.{tokens_of, call_tokens, IsPlain, LineFits, CallFits}
+use Rattle.pg_script.specs.Arguments.{alone, bytes_arg, text_in, text_arg, pair_arg, number_arg, last_number, digits_arg, raw_arg}
+use Rattle.pg_script.specs.Lines.{call_with, call_arg, take_of, take_line, most_arg, step_line, line_with, line_from}
+use Rattle.pg_script.specs.Grammar.{raw_tokens, tokens_of, call_tokens, IsUnicode, QueryFits, LineFits, CallFits}
+use Rattle.pg_script.proofs.Apart.{apart}
 
 pub bind_some : {A B : Type 0} (o : Option A) (f : A → Option B) (y : B) → (o >>= f) ≡ Some y → (x : A) × (o ≡ Some x) × (f x ≡ Some y)
 bind_some (Some x) f y e = (x, refl, e)
@@ -22,22 +25,56 @@ bind_some None f y e = absurd cc
 pub some_is : {A : Type 0} (x y : A) → Some x ≡ Some y → x ≡ y
 some_is x y e = cc
 
+-- the tokens are those of the line, which may have its values
+abbrev pub IsLine : List Token → Line → Type 0
+IsLine ts l = (ts ≡ tokens_of l) × LineFits l
+
 -- ---- arguments
 
-bytes_takes : (ts : List Token) (s : List ℕ) → bytes_arg ts ≡ Some s → ts ≡ Space ∷ Text s ∷ []
-bytes_takes (Space ∷ Text s ∷ []) t e = cc
+-- the tokens that a reader takes
+abbrev Takes : {A : Type 0} → (List Token → Option A) → (A → List Token) → (A → Type 0) → Type 0
+Takes {A} read tokens Fits = (ts : List Token) (x : A) → read ts ≡ Some x → (ts ≡ tokens x) × Fits x
+
+abbrev anything : {A : Type 0} → A → Type 0
+anything x = Unit {0}
+
+abbrev text_tokens : List ℕ → List Token
+text_tokens s = Space ∷ Text s ∷ []
+
+abbrev number_tokens : ℕ → List Token
+number_tokens n = Space ∷ Number n ∷ []
+
+bytes_takes : Takes bytes_arg text_tokens anything
+bytes_takes (Space ∷ Text s ∷ []) t e = (cc, tt)
 bytes_takes _ t e = absurd cc
 
-plain_takes : (utf8 nul : Bool) (s t : List ℕ) → cond (utf8 && not nul) (Some s) None ≡ Some t → (utf8 ≡ true) × (nul ≡ false) × (s ≡ t)
-plain_takes true false s t e = (refl, refl, cc)
-plain_takes true true s t e = absurd cc
-plain_takes false nul s t e = absurd cc
+utf8_takes : (utf8 : Bool) (s t : List ℕ) → cond utf8 (Some s) None ≡ Some t → (utf8 ≡ true) × (s ≡ t)
+utf8_takes true s t e = (refl, cc)
+utf8_takes false s t e = absurd cc
 
-text_takes : (ts : List Token) (s : List ℕ) → text_arg ts ≡ Some s → (ts ≡ Space ∷ Text s ∷ []) × IsPlain s
+text_takes : Takes text_arg text_tokens IsUnicode
 text_takes ts s e =
     let b = bind_some (bytes_arg ts) text_in s e in
-    let p = plain_takes (is_utf8 b.0) (list_any (nat_eq 0) b.0) b.0 s b.2 in
-    (bytes_takes ts b.0 b.1 ∙ ap (λ (x : List ℕ). Space ∷ Text x ∷ []) p.2, subst IsPlain p.2 (p.0, p.1))
+    let u = utf8_takes (is_utf8 b.0) b.0 s b.2 in
+    ((bytes_takes ts b.0 b.1).0 ∙ ap text_tokens u.1, subst IsUnicode u.1 u.0)
+
+abbrev pair_tokens : List ℕ × List ℕ → List Token
+pair_tokens p = Space ∷ Text p.0 ∷ Space ∷ Text p.1 ∷ []
+
+abbrev ArePair : List ℕ × List ℕ → Type 0
+ArePair p = IsUnicode p.0 × IsUnicode p.1
+
+same_pair : (s t u v : List ℕ) (p : List ℕ × List ℕ) → s ≡ u → t ≡ v → (u, v) ≡ p → (s, t) ≡ p
+same_pair s t u v p e f g = ap (λ (x : List ℕ). (x, t)) e ∙ ap (λ (y : List ℕ). (u, y)) f ∙ g
+
+pair_takes : Takes pair_arg pair_tokens ArePair
+pair_takes (Space ∷ Text s ∷ Space ∷ Text t ∷ []) p e =
+    let b = bind_some (text_in s) (λ (name : List ℕ). text_in t >>= λ value. Some (name, value)) p e in
+    let d = bind_some (text_in t) (λ (value : List ℕ). Some (b.0, value)) p b.2 in
+    let u = utf8_takes (is_utf8 s) s b.0 b.1 in
+    let v = utf8_takes (is_utf8 t) t d.0 d.1 in
+    subst (λ (q : List ℕ × List ℕ). (Space ∷ Text s ∷ Space ∷ Text t ∷ [] ≡ pair_tokens q) × ArePair q) (same_pair s t b.0 d.0 p u.1 v.1 (some_is _ p d.2)) (refl, (u.0, v.0))
+pair_takes _ p e = absurd cc
 
 number_takes : (ts : List Token) (x : ℕ × List Token) → number_arg ts ≡ Some x → ts ≡ Space ∷ Number x.0 ∷ x.1
 number_takes (Space ∷ Number n ∷ rest) x e =
@@ -45,44 +82,176 @@ number_takes (Space ∷ Number n ∷ rest) x e =
     ap (λ (y : ℕ × List Token). Space ∷ Number y.0 ∷ y.1) p
 number_takes _ x e = absurd cc
 
+last_takes : Takes last_number number_tokens anything
+last_takes (Space ∷ Number n ∷ []) m e = (cc, tt)
+last_takes _ m e = absurd cc
+
+abbrev digits_tokens : Option ℤ → List Token
+digits_tokens None = Space ∷ Word words.None ∷ []
+digits_tokens (Some (pos n)) = Space ∷ Number n ∷ []
+digits_tokens (Some (negsuc n)) = []
+
+abbrev AreDigits : Option ℤ → Type 0
+AreDigits None = Unit {0}
+AreDigits (Some (pos n)) = n ≤ 3
+AreDigits (Some (negsuc n)) = ⊥
+
+number_digits : (n : ℕ) (small : Bool) (d : Option ℤ) → nat_le n 3 ≡ small → (cond small (Some (pos n)) None >>= λ digit. Some (Some digit)) ≡ Some d → (Space ∷ Number n ∷ [] ≡ digits_tokens d) × AreDigits d
+number_digits n true d is e = subst (λ (x : Option ℤ). (Space ∷ Number n ∷ [] ≡ digits_tokens x) × AreDigits x) (some_is (Some (pos n)) d e) (refl, grind (arith, nat_tests))
+number_digits n false d is e = absurd cc
+
+digits_take : Takes digits_arg digits_tokens AreDigits
+digits_take (Space ∷ Word words.None ∷ []) d e = subst (λ (x : Option ℤ). (Space ∷ Word words.None ∷ [] ≡ digits_tokens x) × AreDigits x) (some_is None d e) (refl, tt)
+digits_take (Space ∷ Number n ∷ []) d e = number_digits n (nat_le n 3) d refl e
+digits_take _ d e = absurd cc
+
+digits_line : (d : Option ℤ) → AreDigits d → IsLine (Word words.Digits ∷ digits_tokens d) (lines.Digits d)
+digits_line None f = (refl, f)
+digits_line (Some (pos n)) f = (refl, f)
+digits_line (Some (negsuc n)) f = absurd f
+
+raw_takes : Takes raw_arg raw_tokens QueryFits
+raw_takes (Space ∷ Word words.Raw ∷ rest) q e =
+    let b = bind_some (text_arg rest) (λ sql. Some (record { sql = sql })) q e in
+    let t = text_takes rest b.0 b.1 in
+    let is : record { sql = b.0 } ≡ q = some_is _ q b.2 in
+    subst (λ (r : QueryText). (Space ∷ Word words.Raw ∷ rest ≡ raw_tokens r) × QueryFits r) is (ap (λ (ts : List Token). Space ∷ Word words.Raw ∷ ts) t.0, t.1)
+raw_takes _ q e = absurd cc
+
+alone_takes : {A : Type 0} (x y : A) (ts : List Token) → alone x ts ≡ Some y → (ts ≡ []) × (x ≡ y)
+alone_takes x y [] e = (refl, some_is x y e)
+alone_takes x y (t ∷ ts) e = absurd cc
+
+-- what is made of an argument behind a word has the tokens of its row
+made : {A B : Type 0} (Is : List Token → B → Type 0) (read : List Token → Option A) (tokens : A → List Token) (Fits : A → Type 0) (make : A → B) (k : Keyword)
+    → Takes read tokens Fits → ((x : A) → Fits x → Is (Word k ∷ tokens x) (make x))
+    → (rest : List Token) (y : B) → (read rest >>= λ x. Some (make x)) ≡ Some y → Is (Word k ∷ rest) y
+made {A} {B} Is read tokens Fits make k takes is rest y e =
+    let b = bind_some (read rest) (λ (x : A). Some (make x)) y e in
+    let t = takes rest b.0 b.1 in
+    subst (Is (Word k ∷ rest)) (some_is (make b.0) y b.2) (subst (λ (ts : List Token). Is (Word k ∷ ts) (make b.0)) (sym t.0) (is b.0 t.1))
+
+-- and so has a word alone
+bare : {B : Type 0} (Is : List Token → B → Type 0) (x : B) (k : Keyword) → Is (Word k ∷ []) x → (rest : List Token) (y : B) → alone x rest ≡ Some y → Is (Word k ∷ rest) y
+bare Is x k is rest y e =
+    let t = alone_takes x y rest e in
+    subst (Is (Word k ∷ rest)) t.1 (subst (λ (ts : List Token). Is (Word k ∷ ts) x) (sym t.0) is)
+
 -- ---- calls
 
-raw_takes : (ts : List Token) (s : List ℕ) → raw_arg ts ≡ Some s → (ts ≡ Space ∷ Word words.Raw ∷ Space ∷ Text s ∷ []) × IsPlain s
-raw_takes (Space ∷ Word words.Raw ∷ rest) s e = let t = text_takes rest s e in (ap (λ (ts : List Token). Space ∷ Word words.Raw ∷ ts) t.0, t.1)
-raw_takes _ s e = absurd cc
+-- the tokens are those of the call, which may have its values
+abbrev pub IsCall : List Token → Call → Type 0
+IsCall ts c = (ts ≡ call_tokens c) × CallFits c
 
-call_takes : (k : Keyword) (rest : List Token) (c : Call) → call_with k rest ≡ Some c → (Word k ∷ rest ≡ call_tokens c) × CallFits c
-call_takes words.Execute rest c e =
-    let b = bind_some (raw_arg rest) (λ sql. Some (calls.Execute (record { sql = sql }))) c e in
-    let t = raw_takes rest b.0 b.1 in
-    subst (λ (d : Call). (Word words.Execute ∷ rest ≡ call_tokens d) × CallFits d) (some_is (calls.Execute (record { sql = b.0 })) c b.2) (ap (λ (ts : List Token). Word words.Execute ∷ ts) t.0, t.1)
+queried : (k : Keyword) (make : QueryText → Call) → ((q : QueryText) → QueryFits q → IsCall (Word k ∷ raw_tokens q) (make q))
+    → (rest : List Token) (c : Call) → (raw_arg rest >>= λ q. Some (make q)) ≡ Some c → IsCall (Word k ∷ rest) c
+queried k make is rest c e = made IsCall raw_arg raw_tokens QueryFits make k raw_takes is rest c e
+
+call_takes : (k : Keyword) (rest : List Token) (c : Call) → call_with k rest ≡ Some c → IsCall (Word k ∷ rest) c
+call_takes words.Execute rest c e = queried words.Execute (λ q. calls.Execute q) (λ q f. (refl, f)) rest c e
+call_takes words.ExecuteMany rest c e = queried words.ExecuteMany (λ q. calls.ExecuteMany q) (λ q f. (refl, f)) rest c e
+call_takes words.Fetch rest c e = queried words.Fetch (λ q. calls.Fetch q) (λ q f. (refl, f)) rest c e
+call_takes words.FetchMany rest c e = queried words.FetchMany (λ q. calls.FetchMany q) (λ q f. (refl, f)) rest c e
+call_takes words.FetchAll rest c e = queried words.FetchAll (λ q. calls.FetchAll q) (λ q f. (refl, f)) rest c e
+call_takes words.FetchOptional rest c e = queried words.FetchOptional (λ q. calls.FetchOptional q) (λ q f. (refl, f)) rest c e
+call_takes words.FetchOne rest c e = queried words.FetchOne (λ q. calls.FetchOne q) (λ q f. (refl, f)) rest c e
+call_takes words.Ping rest c e = bare IsCall calls.Ping words.Ping (refl, tt) rest c e
+call_takes words.Flush rest c e = bare IsCall calls.Flush words.Flush (refl, tt) rest c e
 call_takes _ rest c e = absurd cc
 
 behind_takes : (ts : List Token) (c : Call) → call_arg ts ≡ Some c → (ts ≡ Space ∷ call_tokens c) × CallFits c
 behind_takes (Space ∷ Word k ∷ rest) c e = let t = call_takes k rest c e in (ap (λ (ts : List Token). Space ∷ ts) t.0, t.1)
 behind_takes _ c e = absurd cc
 
+-- and back: a call is read behind a space, is no `most`, and no two of its words stand side by side
+pub record IsBehind (c : Call) : Type 0 where
+  pub read : call_arg (Space ∷ call_tokens c) ≡ Some c
+  pub plain : most_arg (Space ∷ call_tokens c) ≡ Some (None, Space ∷ call_tokens c)
+  pub parts : apart (Space ∷ call_tokens c) ≡ true
+
+pub call_again : (c : Call) → CallFits c → IsBehind c
+call_again (calls.Execute q) f = record { read = rw f refl; plain = refl; parts = refl }
+call_again (calls.ExecuteMany q) f = record { read = rw f refl; plain = refl; parts = refl }
+call_again (calls.Fetch q) f = record { read = rw f refl; plain = refl; parts = refl }
+call_again (calls.FetchMany q) f = record { read = rw f refl; plain = refl; parts = refl }
+call_again (calls.FetchAll q) f = record { read = rw f refl; plain = refl; parts = refl }
+call_again (calls.FetchOptional q) f = record { read = rw f refl; plain = refl; parts = refl }
+call_again (calls.FetchOne q) f = record { read = rw f refl; plain = refl; parts = refl }
+call_again calls.Ping f = record { read = refl; plain = refl; parts = refl }
+call_again calls.Flush f = record { read = refl; plain = refl; parts = refl }
+
 -- ---- lines
 
--- the tokens are those of the line, which may have its values
-abbrev pub IsLine : List Token → Line → Type 0
-IsLine ts l = (ts ≡ tokens_of l) × LineFits l
+bounds_take : (a b c : Bool) (m n : ℕ) (l : Line) → cond ((a || b) || c) None (Some (lines.Take m n)) ≡ Some l → (a ≡ false) × (b ≡ false) × (c ≡ false) × (lines.Take m n ≡ l)
+bounds_take false false false m n l e = (refl, refl, refl, cc)
+bounds_take true b c m n l e = absurd cc
+bounds_take false true c m n l e = absurd cc
+bounds_take false false true m n l e = absurd cc
+
+bounds_are : (m n : ℕ) → nat_eq m 0 ≡ false → nat_eq n 0 ≡ false → nat_lt 1000000 n ≡ false → (1 ≤ m) × (1 ≤ n) × (n ≤ 1000000)
+bounds_are m n a b c = (grind (arith, nat_tests), grind (arith, nat_tests), grind (arith, nat_tests))
+
+bounds_again : (m n : ℕ) → 1 ≤ m → 1 ≤ n → n ≤ 1000000 → take_of m n ≡ Some (lines.Take m n)
+bounds_again m n a b c = grind (arith, nat_tests)
+
+two_numbers : (ts us : List Token) (m n : ℕ) → ts ≡ Space ∷ Number m ∷ us → us ≡ number_tokens n → Word words.Take ∷ ts ≡ tokens_of (lines.Take m n)
+two_numbers ts us m n e f = ap (λ (vs : List Token). Word words.Take ∷ vs) (e ∙ ap (λ (vs : List Token). Space ∷ Number m ∷ vs) f)
+
+take_takes : (ts : List Token) (l : Line) → take_line ts ≡ Some l → IsLine (Word words.Take ∷ ts) l
+take_takes ts l e =
+    let b = bind_some (number_arg ts) (λ (bytes : ℕ × List Token). last_number bytes.1 >>= λ times. take_of bytes.0 times) l e in
+    let d = bind_some (last_number b.0.1) (λ (times : ℕ). take_of b.0.0 times) l b.2 in
+    let all = two_numbers ts b.0.1 b.0.0 d.0 (number_takes ts b.0 b.1) (last_takes b.0.1 d.0 d.1).0 in
+    let g = bounds_take (nat_eq b.0.0 0) (nat_eq d.0 0) (nat_lt 1000000 d.0) b.0.0 d.0 l d.2 in
+    subst (IsLine (Word words.Take ∷ ts)) g.3 (all, bounds_are b.0.0 d.0 g.0 g.1 g.2)
+
+-- the tokens of a step behind its polls
+abbrev most_tokens : Option ℕ → List Token → List Token
+most_tokens None ts = ts
+most_tokens (Some n) ts = Space ∷ Word words.Most ∷ Space ∷ Number n ∷ ts
+
+most_takes : (ts : List Token) (x : Option ℕ × List Token) → most_arg ts ≡ Some x → ts ≡ most_tokens x.0 x.1
+most_takes (Space ∷ Word words.Most ∷ rest) x e =
+    let b = bind_some (number_arg rest) (λ (most : ℕ × List Token). Some (Some most.0, most.1)) x e in
+    let is : (Some b.0.0, b.0.1) ≡ x = some_is _ x b.2 in
+    subst (λ (y : Option ℕ × List Token). Space ∷ Word words.Most ∷ rest ≡ most_tokens y.0 y.1) is (ap (λ (us : List Token). Space ∷ Word words.Most ∷ us) (number_takes rest b.0 b.1))
+most_takes ts x e = let is : (None, ts) ≡ x = some_is _ x e in subst (λ (y : Option ℕ × List Token). ts ≡ most_tokens y.0 y.1) is refl
+
+step_tokens : (polls : ℕ) (most : Option ℕ) (call : Call) → Word words.Step ∷ Space ∷ Number polls ∷ most_tokens most (Space ∷ call_tokens call) ≡ tokens_of (lines.Step polls most call)
+step_tokens polls None call = refl
+step_tokens polls (Some n) call = refl
+
+same_line : (ts : List Token) (l m : Line) → l ≡ m → IsLine ts l → IsLine ts m
+same_line ts l m e h = subst (IsLine ts) e h
+
+step_is : (ts us vs : List Token) (polls : ℕ) (most : Option ℕ) (call : Call) → ts ≡ Space ∷ Number polls ∷ us → us ≡ most_tokens most vs → vs ≡ Space ∷ call_tokens call → Word words.Step ∷ ts ≡ tokens_of (lines.Step polls most call)
+step_is ts us vs polls most call e f g =
+    ap (λ (ws : List Token). Word words.Step ∷ ws) (e ∙ ap (λ (ws : List Token). Space ∷ Number polls ∷ ws) (f ∙ ap (most_tokens most) g)) ∙ step_tokens polls most call
+
+step_takes : (ts : List Token) (l : Line) → step_line ts ≡ Some l → IsLine (Word words.Step ∷ ts) l
+step_takes ts l e =
+    let b = bind_some (number_arg ts) (λ (polls : ℕ × List Token). most_arg polls.1 >>= λ most. call_arg most.1 >>= λ call. Some (lines.Step polls.0 most.0 call)) l e in
+    let d = bind_some (most_arg b.0.1) (λ (most : Option ℕ × List Token). call_arg most.1 >>= λ call. Some (lines.Step b.0.0 most.0 call)) l b.2 in
+    let f = bind_some (call_arg d.0.1) (λ (call : Call). Some (lines.Step b.0.0 d.0.0 call)) l d.2 in
+    let t = behind_takes d.0.1 f.0 f.1 in
+    let all = step_is ts b.0.1 d.0.1 b.0.0 d.0.0 f.0 (number_takes ts b.0 b.1) (most_takes b.0.1 d.0 d.1) t.0 in
+    same_line (Word words.Step ∷ ts) (lines.Step b.0.0 d.0.0 f.0) l (some_is (lines.Step b.0.0 d.0.0 f.0) l f.2) (all, t.1)
 
 with_takes : (k : Keyword) (rest : List Token) (l : Line) → line_with k rest ≡ Some l → IsLine (Word k ∷ rest) l
-with_takes words.User rest l e =
-    let b = bind_some (text_arg rest) (λ name. Some (lines.User name)) l e in
-    let t = text_takes rest b.0 b.1 in
-    subst (IsLine (Word words.User ∷ rest)) (some_is (lines.User b.0) l b.2) (ap (λ (ts : List Token). Word words.User ∷ ts) t.0, t.1)
-with_takes words.Server rest l e =
-    let b = bind_some (bytes_arg rest) (λ bytes. Some (lines.Server bytes)) l e in
-    subst (IsLine (Word words.Server ∷ rest)) (some_is (lines.Server b.0) l b.2) (ap (λ (ts : List Token). Word words.Server ∷ ts) (bytes_takes rest b.0 b.1), tt)
-with_takes words.Step rest l e =
-    let b = bind_some (number_arg rest) (λ polls. call_arg polls.1 >>= λ call. Some (lines.Step polls.0 call)) l e in
-    let n = number_takes rest b.0 b.1 in
-    let d = bind_some (call_arg b.0.1) (λ call. Some (lines.Step b.0.0 call)) l b.2 in
-    let t = behind_takes b.0.1 d.0 d.1 in
-    let all : rest ≡ Space ∷ Number b.0.0 ∷ Space ∷ call_tokens d.0 = n ∙ ap (λ (ts : List Token). Space ∷ Number b.0.0 ∷ ts) t.0 in
-    subst (IsLine (Word words.Step ∷ rest)) (some_is (lines.Step b.0.0 d.0) l d.2) (ap (λ (ts : List Token). Word words.Step ∷ ts) all, t.1)
+with_takes words.User rest l e = made IsLine text_arg text_tokens IsUnicode (λ s. lines.User s) words.User text_takes (λ s f. (refl, f)) rest l e
+with_takes words.Database rest l e = made IsLine text_arg text_tokens IsUnicode (λ s. lines.Database s) words.Database text_takes (λ s f. (refl, f)) rest l e
+with_takes words.Application rest l e = made IsLine text_arg text_tokens IsUnicode (λ s. lines.Application s) words.Application text_takes (λ s f. (refl, f)) rest l e
+with_takes words.Option rest l e = made IsLine pair_arg pair_tokens ArePair (λ p. lines.Option p.0 p.1) words.Option pair_takes (λ p f. (refl, f)) rest l e
+with_takes words.Digits rest l e = made IsLine digits_arg digits_tokens AreDigits (λ d. lines.Digits d) words.Digits digits_take digits_line rest l e
+with_takes words.Server rest l e = made IsLine bytes_arg text_tokens anything (λ s. lines.Server s) words.Server bytes_takes (λ s f. (refl, tt)) rest l e
+with_takes words.Wait rest l e = bare IsLine lines.Wait words.Wait (refl, tt) rest l e
+with_takes words.End rest l e = bare IsLine lines.End words.End (refl, tt) rest l e
+with_takes words.Fail rest l e = bare IsLine lines.Fail words.Fail (refl, tt) rest l e
+with_takes words.Take rest l e = take_takes rest l e
+with_takes words.Hold rest l e = bare IsLine lines.Hold words.Hold (refl, tt) rest l e
+with_takes words.Break rest l e = bare IsLine lines.Break words.Break (refl, tt) rest l e
+with_takes words.Start rest l e = made IsLine last_number number_tokens anything (λ n. lines.Start n) words.Start last_takes (λ n f. (refl, tt)) rest l e
+with_takes words.Step rest l e = step_takes rest l e
 with_takes _ rest l e = absurd cc
 
 pub from_takes : (ts : List Token) (l : Line) → line_from ts ≡ Some l → IsLine ts l
@@ -93,6 +262,20 @@ from_takes _ l e = absurd cc
 
 pub from_again : (l : Line) → LineFits l → line_from (tokens_of l) ≡ Some l
 from_again lines.Blank f = absurd f
-from_again (lines.User name) f = rw (f.0, f.1) refl
+from_again (lines.User name) f = rw f refl
+from_again (lines.Database name) f = rw f refl
+from_again (lines.Application name) f = rw f refl
+from_again (lines.Option name value) f = rw (f.0, f.1) refl
+from_again (lines.Digits None) f = refl
+from_again (lines.Digits (Some (pos n))) f = let small : nat_le n 3 ≡ true = grind (arith, nat_tests, f) in rw small refl
+from_again (lines.Digits (Some (negsuc n))) f = absurd f
 from_again (lines.Server bytes) f = refl
-from_again (lines.Step polls (calls.Execute query)) f = rw (f.0, f.1) refl
+from_again lines.Wait f = refl
+from_again lines.End f = refl
+from_again lines.Fail f = refl
+from_again (lines.Take bytes times) f = bounds_again bytes times f.0 f.1 f.2
+from_again lines.Hold f = refl
+from_again lines.Break f = refl
+from_again (lines.Start polls) f = refl
+from_again (lines.Step polls None call) f = let c = call_again call f in rw (c.plain, c.read) refl
+from_again (lines.Step polls (Some most) call) f = let c = call_again call f in rw c.read refl

@@ -1,32 +1,22 @@
--- What is spelling_of is read by the lexer.
+-- What is spelled is read by the lexer.
 use Rattle.std.proofs.Common.{ℕ, ◌≡◌, ◌+◌, ◌-◌, ◌*◌, ◌/◌, ◌%◌, ◌^◌, ◌∷◌, ◌++◌, [], List, Option, Some, None, Bool, true, false, cond, nat_eq, nat_lt, length, refl, sym, ap, ◌∙◌, subst, append_assoc, arith, inl, inr}
 use Rattle.std.proofs.lemmas.List.{append-nil}
 use Rattle.std.proofs.lemmas.Bool.Decides.{nat_tests}
 use Rattle.pg_script.specs.declared.token.Token.{Token}
 use Rattle.pg_script.specs.declared.token.Token.TheVariants.{Space, Word, Number, Text}
 use Rattle.pg_script.specs.declared.token.Keyword.{Keyword}
-use Rattle.pg_script.specs.declared.token.Keyword.TheVariants as words
 use Rattle.pg_script.specs.declared.lexer.Mode.{Mode}
 use Rattle.pg_script.specs.declared.lexer.Mode.TheVariants as modes
 use Rattle.pg_script.specs.Reading.{◌>>=◌, run}
-use Rattle.pg_script.specs.Words.{spelling_of, number_of, keyword_of, token_of, digits_after, is_digit}
+use Rattle.pg_script.specs.Words.{spelling_of, number_of, token_of, digits_after, is_digit}
 use Rattle.pg_script.specs.Lexing.{LexerState, step, finish, tokens_in}
-use Rattle.std.specs.Prelude.{◌&&◌}
+use Rattle.std.specs.Prelude.{◌&&◌, not}
+use Rattle.std.specs.List.{list_all}
 use Rattle.pg_script.specs.Grammar.{IsCharacter, IsText, IsNumber, SpellsAll}
+use Rattle.pg_script.proofs.Apart.{is_word, apart}
+use Rattle.pg_script.proofs.WordLaws.{goes_on, is_one_word, word_law}
 use Rattle.pg_script.proofs.GrammarLaws.{bind_some}
 use Rattle.pg_script.proofs.SpellingLaws.{guarded, unless, number_of-again, ordinary_tests, hex_value-again, byte_halves}
-
--- a word or a number, which nothing but its neighbours ends
-abbrev pub is_word : Token → Bool
-is_word (Word k) = true
-is_word (Number n) = true
-is_word _ = false
-
--- no two of these stand side by side
-abbrev pub Apart : List Token → Type 0
-Apart [] = Unit {0}
-Apart (t ∷ []) = Unit {0}
-Apart (t ∷ u ∷ ts) = ((is_word t && is_word u) ≡ false) × Apart (u ∷ ts)
 
 abbrev at : List Token → List ℕ → Mode → LexerState
 at ts held mode = record { tokens = ts; held = held; mode = mode }
@@ -60,45 +50,67 @@ quoted_runs s ts q y h = ap (λ (z : List ℕ). lexed (at ts [] modes.Text) z) (
 
 -- ---- words and numbers
 
-shape : (k : Keyword) → (b : ℕ) × (bs : List ℕ) × (spelling_of k ≡ b ∷ bs)
-shape words.User = (_, _, refl)
-shape words.Server = (_, _, refl)
-shape words.Step = (_, _, refl)
-shape words.Raw = (_, _, refl)
-shape words.Execute = (_, _, refl)
+both : (a b : Bool) → (a && b) ≡ true → (a ≡ true) × (b ≡ true)
+both true b e = (refl, e)
+both false b e = absurd cc
 
-word_token : (k : Keyword) → token_of (spelling_of k) ≡ Some (Word k)
-unfolding token_of keyword_of
-word_token words.User = refl
-word_token words.Server = refl
-word_token words.Step = refl
-word_token words.Raw = refl
-word_token words.Execute = refl
-
-word_runs : (k : Keyword) (ts : List Token) (y : List ℕ) → lexed (at ts [] modes.Word) (spelling_of k ++ y) ≡ lexed (at ts (spelling_of k) modes.Word) y
-unfolding run step
-word_runs words.User ts y = refl
-word_runs words.Server ts y = refl
-word_runs words.Step ts y = refl
-word_runs words.Raw ts y = refl
-word_runs words.Execute ts y = refl
+negated : (a : Bool) → not a ≡ true → a ≡ false
+negated false e = refl
+negated true e = absurd cc
 
 plain_step : (ts : List Token) (held : List ℕ) (b : ℕ) (y : List ℕ) → nat_eq b 32 ≡ false → nat_eq b 34 ≡ false → lexed (at ts held modes.Word) (b ∷ y) ≡ lexed (at ts (held ++ b ∷ []) modes.Word) y
 unfolding run step
 plain_step ts held b y h k = rw (h, k) refl
 
+word_runs : (w : List ℕ) (ts : List Token) (held y : List ℕ) → list_all goes_on w ≡ true → lexed (at ts held modes.Word) (w ++ y) ≡ lexed (at ts (held ++ w) modes.Word) y
+word_runs [] ts held y e = ap (λ (z : List ℕ). lexed (at ts z modes.Word) y) (sym (append-nil held))
+word_runs (b ∷ w) ts held y e =
+    let d = both (goes_on b) (list_all goes_on w) e in
+    let k = both (not (nat_eq b 32)) (not (nat_eq b 34)) d.0 in
+    plain_step ts held b (w ++ y) (negated (nat_eq b 32) k.0) (negated (nat_eq b 34) k.1) ∙ word_runs w ts (held ++ b ∷ []) y d.1 ∙ ap (λ (z : List ℕ). lexed (at ts z modes.Word) y) (append_assoc held (b ∷ []) w)
+
+-- a word has a first byte, which is no digit and begins no comment
+pub record HasHead (w : List ℕ) : Type 0 where
+  pub head : ℕ
+  pub rest : List ℕ
+  pub is : w ≡ head ∷ rest
+  pub no_digit : is_digit head ≡ false
+  pub no_comment : nat_eq head 35 ≡ false
+  pub goes : list_all goes_on w ≡ true
+
+pub word_head : (w : List ℕ) → is_one_word w ≡ true → HasHead w
+word_head [] e = absurd cc
+word_head (b ∷ bs) e =
+    let d = both (not (is_digit b)) (not (nat_eq b 35) && list_all goes_on (b ∷ bs)) e in
+    let c = both (not (nat_eq b 35)) (list_all goes_on (b ∷ bs)) d.1 in
+    record { head = b; rest = bs; is = refl; no_digit = negated (is_digit b) d.0; no_comment = negated (nat_eq b 35) c.0; goes = c.1 }
+
+no_number_in : (b : ℕ) (bs : List ℕ) → is_digit b ≡ false → number_of (b ∷ bs) ≡ None
+no_number_in b bs e = rw e (elim (nat_lt 9 (length bs)) as (λ (long : Bool). cond {A = Option ℕ} long None None ≡ None) [ true ↦ refl | false ↦ refl ])
+
+no_number : (w : List ℕ) → HasHead w → number_of w ≡ None
+no_number w h = ap number_of h.is ∙ no_number_in h.head h.rest h.no_digit
+
+word_token : (k : Keyword) → token_of (spelling_of k) ≡ Some (Word k)
+unfolding token_of
+word_token k =
+    let l = word_law k in
+    rw (no_number (spelling_of k) (word_head (spelling_of k) l.shape), l.read) refl
+
 digit_step : (b n : ℕ) (bs : List ℕ) (m : ℕ) → cond (is_digit b) (digits_after n bs) None ≡ Some m → (is_digit b ≡ true) × (digits_after n bs ≡ Some m)
 digit_step b n bs m e = guarded (is_digit b) (digits_after n bs) m e
 
-no_mark : (b : ℕ) → is_digit b ≡ true → (nat_eq b 32 ≡ false) × (nat_eq b 34 ≡ false)
-no_mark b h = (grind (arith, nat_tests), grind (arith, nat_tests))
+digit_goes : (b : ℕ) → is_digit b ≡ true → goes_on b ≡ true
+digit_goes b h =
+    let space : nat_eq b 32 ≡ false = grind (arith, nat_tests) in
+    let quote : nat_eq b 34 ≡ false = grind (arith, nat_tests) in
+    rw (space, quote) refl
 
-digits_run : (w : List ℕ) (n m : ℕ) (ts : List Token) (held y : List ℕ) → digits_after n w ≡ Some m → lexed (at ts held modes.Word) (w ++ y) ≡ lexed (at ts (held ++ w) modes.Word) y
-digits_run [] n m ts held y e = ap (λ (z : List ℕ). lexed (at ts z modes.Word) y) (sym (append-nil held))
-digits_run (b ∷ w) n m ts held y e =
+digits_go : (w : List ℕ) (n m : ℕ) → digits_after n w ≡ Some m → list_all goes_on w ≡ true
+digits_go [] n m e = refl
+digits_go (b ∷ w) n m e =
     let d = digit_step b (n * 10 + (b - 48)) w m e in
-    let k = no_mark b d.0 in
-    plain_step ts held b (w ++ y) k.0 k.1 ∙ digits_run w (n * 10 + (b - 48)) m ts (held ++ b ∷ []) y d.1 ∙ ap (λ (z : List ℕ). lexed (at ts z modes.Word) y) (append_assoc held (b ∷ []) w)
+    rw (digit_goes b d.0) (digits_go w (n * 10 + (b - 48)) m d.1)
 
 number_shape : (w : List ℕ) (n : ℕ) → number_of w ≡ Some n → (b : ℕ) × (bs : List ℕ) × (w ≡ b ∷ bs) × ((m : ℕ) × (digits_after 0 w ≡ Some m))
 number_shape [] n e = absurd cc
@@ -135,23 +147,20 @@ pub record IsFront (t : Token) (w : List ℕ) : Type 0 where
 
 word_front : (k : Keyword) (w : List ℕ) → w ≡ spelling_of k → IsFront (Word k) w
 word_front k w e =
-    let s = shape k in
-    subst (IsFront (Word k)) (sym e) (record { runs = λ ts y. word_runs k ts y; head = s.0; rest = s.1; is = s.2; token = word_token k })
+    let h = word_head (spelling_of k) (word_law k).shape in
+    subst (IsFront (Word k)) (sym e) (record { runs = λ ts y. word_runs (spelling_of k) ts [] y h.goes; head = h.head; rest = h.rest; is = h.is; token = word_token k })
 
 number_front : (n : ℕ) (w : List ℕ) → IsNumber n w → IsFront (Number n) w
 number_front n w h =
     let e = number_of-again w n h in
     let s = number_shape w n e in
-    record { runs = λ ts y. digits_run w 0 s.3.0 ts [] y s.3.1; head = s.0; rest = s.1; is = s.2; token = number_token w n e }
+    record { runs = λ ts y. word_runs w ts [] y (digits_go w 0 s.3.0 s.3.1); head = s.0; rest = s.1; is = s.2; token = number_token w n e }
 
 -- ---- lines
 
-true_false : true ≡ false → ⊥
-true_false e = cc
-
-tail_apart : (t : Token) (ts : List Token) → Apart (t ∷ ts) → Apart ts
-tail_apart t [] a = tt
-tail_apart t (u ∷ ts) a = a.1
+tail_apart : (t : Token) (ts : List Token) → apart (t ∷ ts) ≡ true → apart ts ≡ true
+tail_apart t [] a = refl
+tail_apart t (u ∷ ts) a = (both (not (is_word t && is_word u)) (apart (u ∷ ts)) a).1
 
 joined : (before ts : List Token) (t : Token) (o : Option (List Token)) → o ≡ Some ((before ++ t ∷ []) ++ ts) → o ≡ Some (before ++ t ∷ ts)
 joined before ts t o e = e ∙ ap (λ (z : List Token). Some z) (append_assoc before (t ∷ []) ts)
@@ -179,22 +188,22 @@ clear_space : (before ts : List Token) (x y z : List ℕ) → x ≡ 32 ∷ [] �
 unfolding run step
 clear_space before ts x y z d e h = rw (e, d) (joined before ts Space _ h)
 
-clear : (ts before : List Token) (line : List ℕ) → SpellsAll ts line → Apart ts → lexed (at before [] modes.Word) line ≡ Some (before ++ ts)
+clear : (ts before : List Token) (line : List ℕ) → SpellsAll ts line → apart ts ≡ true → lexed (at before [] modes.Word) line ≡ Some (before ++ ts)
 unfolding run finish
 clear [] before line h a = rw h (ap (λ (us : List Token). Some us) (sym (append-nil before)))
 clear (Space ∷ ts) before line h a = clear_space before ts h.0 line h.1 h.2 h.4 (clear ts (before ++ Space ∷ []) h.1 h.3 (tail_apart Space ts a))
 clear (Text s ∷ ts) before line h a = clear_text before ts s h.0 line h.1 h.2.0 h.2.1 h.2.2 h.4 (clear ts (before ++ Text s ∷ []) h.1 h.3 (tail_apart (Text s) ts a))
 clear (Word k ∷ []) before line h a = rw h.4 (front_end before (Word k) h.0 h.1 (word_front k h.0 h.2) h.3)
-clear (Word k ∷ Space ∷ ts) before line h a = rw h.4 (front_space before ts (Word k) h.0 h.3.0 h.1 h.3.1 (word_front k h.0 h.2) h.3.2 h.3.4 (clear ts ((before ++ Word k ∷ []) ++ Space ∷ []) h.3.1 h.3.3 (tail_apart Space ts a.1)))
-clear (Word k ∷ Text s ∷ ts) before line h a = rw h.4 (front_text before ts (Word k) s h.0 h.3.0 h.1 h.3.1 h.3.2.0 (word_front k h.0 h.2) h.3.2.1 h.3.2.2 h.3.4 (clear ts ((before ++ Word k ∷ []) ++ Text s ∷ []) h.3.1 h.3.3 (tail_apart (Text s) ts a.1)))
-clear (Word k ∷ Word j ∷ ts) before line h a = absurd (true_false a.0)
-clear (Word k ∷ Number j ∷ ts) before line h a = absurd (true_false a.0)
+clear (Word k ∷ Space ∷ ts) before line h a = rw h.4 (front_space before ts (Word k) h.0 h.3.0 h.1 h.3.1 (word_front k h.0 h.2) h.3.2 h.3.4 (clear ts ((before ++ Word k ∷ []) ++ Space ∷ []) h.3.1 h.3.3 (tail_apart Space ts a)))
+clear (Word k ∷ Text s ∷ ts) before line h a = rw h.4 (front_text before ts (Word k) s h.0 h.3.0 h.1 h.3.1 h.3.2.0 (word_front k h.0 h.2) h.3.2.1 h.3.2.2 h.3.4 (clear ts ((before ++ Word k ∷ []) ++ Text s ∷ []) h.3.1 h.3.3 (tail_apart (Text s) ts a)))
+clear (Word k ∷ Word j ∷ ts) before line h a = absurd cc
+clear (Word k ∷ Number j ∷ ts) before line h a = absurd cc
 clear (Number k ∷ []) before line h a = rw h.4 (front_end before (Number k) h.0 h.1 (number_front k h.0 h.2) h.3)
-clear (Number k ∷ Space ∷ ts) before line h a = rw h.4 (front_space before ts (Number k) h.0 h.3.0 h.1 h.3.1 (number_front k h.0 h.2) h.3.2 h.3.4 (clear ts ((before ++ Number k ∷ []) ++ Space ∷ []) h.3.1 h.3.3 (tail_apart Space ts a.1)))
-clear (Number k ∷ Text s ∷ ts) before line h a = rw h.4 (front_text before ts (Number k) s h.0 h.3.0 h.1 h.3.1 h.3.2.0 (number_front k h.0 h.2) h.3.2.1 h.3.2.2 h.3.4 (clear ts ((before ++ Number k ∷ []) ++ Text s ∷ []) h.3.1 h.3.3 (tail_apart (Text s) ts a.1)))
-clear (Number k ∷ Word j ∷ ts) before line h a = absurd (true_false a.0)
-clear (Number k ∷ Number j ∷ ts) before line h a = absurd (true_false a.0)
+clear (Number k ∷ Space ∷ ts) before line h a = rw h.4 (front_space before ts (Number k) h.0 h.3.0 h.1 h.3.1 (number_front k h.0 h.2) h.3.2 h.3.4 (clear ts ((before ++ Number k ∷ []) ++ Space ∷ []) h.3.1 h.3.3 (tail_apart Space ts a)))
+clear (Number k ∷ Text s ∷ ts) before line h a = rw h.4 (front_text before ts (Number k) s h.0 h.3.0 h.1 h.3.1 h.3.2.0 (number_front k h.0 h.2) h.3.2.1 h.3.2.2 h.3.4 (clear ts ((before ++ Number k ∷ []) ++ Text s ∷ []) h.3.1 h.3.3 (tail_apart (Text s) ts a)))
+clear (Number k ∷ Word j ∷ ts) before line h a = absurd cc
+clear (Number k ∷ Number j ∷ ts) before line h a = absurd cc
 
--- what is spelling_of so is read
-pub lexer_again : (ts : List Token) (line : List ℕ) → SpellsAll ts line → Apart ts → tokens_in line ≡ Some ts
+-- what is spelled so is read
+pub lexer_again : (ts : List Token) (line : List ℕ) → SpellsAll ts line → apart ts ≡ true → tokens_in line ≡ Some ts
 lexer_again ts line h a = clear ts [] line h a

@@ -2,6 +2,8 @@ pub mod TextLaws
 pub mod Runs
 pub mod LineLaws
 pub mod ReadLaws
+pub mod Apart
+pub mod WordLaws
 pub mod GrammarLaws
 pub mod SpellingLaws
 pub mod LexerTakes

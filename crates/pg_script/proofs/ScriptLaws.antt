@@ -1,14 +1,12 @@
 -- Whole scripts: what is read is in the grammar, and what is in the grammar is read.
-use Rattle.std.proofs.Common.{rules, ℕ, ◌≡◌, ◌+◌, ◌∷◌, ◌++◌, [], List, Option, Some, None, Result, Ok, Err, Bool, true, false, cond, nat_eq, nat_lt, length, refl, sym, ap, ◌∙◌, subst, arith, inl, inr}
+use Rattle.std.proofs.Common.{ℕ, ◌≡◌, ◌+◌, ◌∷◌, ◌++◌, [], List, Option, Some, None, Result, Ok, Err, Bool, true, false, cond, nat_eq, nat_lt, length, refl, sym, ap, ◌∙◌, subst, arith, inl, inr}
+use Rattle.std.specs.Prelude.{pos, negsuc}
 use Rattle.std.specs.Str.{is_utf8}
 use Rattle.std.proofs.lemmas.Bool.{eqb-true}
 use Rattle.std.proofs.lemmas.Bool.Decides.{nat_tests}
 use Rattle.pg_script.specs.declared.token.Token.{Token}
 use Rattle.pg_script.specs.declared.token.Token.TheVariants.{Word}
 use Rattle.pg_script.specs.declared.token.Keyword.{Keyword}
-use Rattle.pg_script.specs.declared.token.Keyword.TheVariants as words
-use Rattle.pg_script.specs.declared.step.Call.{Call}
-use Rattle.pg_script.specs.declared.step.Call.TheVariants as calls
 use Rattle.pg_script.specs.declared.line.Line.{Line}
 use Rattle.pg_script.specs.declared.line.Line.TheVariants as lines
 use Rattle.pg_script.specs.declared.script.Script.{Script}
@@ -20,19 +18,19 @@ use Rattle.pg_script.specs.Lexing.{tokens_in}
 use Rattle.pg_script.specs.Lines.{line_from, line_in}
 use Rattle.pg_script.specs.Scripts.{add, add_line, empty_script, lines_of, read_from, read_next, read_text, ReadsAs}
 use Rattle.pg_script.specs.Grammar.{tokens_of, LineFits, SpellsAll, SpellsLine, AreLines, Adds, FirstBad, IsScript, IsBadLine, Says, Reads, Refuses}
-use Rattle.pg_script.proofs.GrammarLaws.{bind_some, some_is, from_takes, from_again}
+use Rattle.pg_script.proofs.Apart.{apart}
+use Rattle.pg_script.proofs.WordLaws.{word_law}
+use Rattle.pg_script.proofs.GrammarLaws.{bind_some, some_is, call_again, from_takes, from_again}
 use Rattle.pg_script.proofs.SpellingLaws.{chosen, none_some}
 use Rattle.pg_script.proofs.LexerTakes.{lexer_takes}
-use Rattle.pg_script.proofs.LexerAgain.{Apart, lexer_again}
+use Rattle.pg_script.proofs.LexerAgain.{HasHead, word_head, lexer_again}
 use Rattle.pg_script.proofs.LineLaws.{lines_are, lines_again}
 
 -- ---- one line
 
 spells : (l : Line) (a : List ℕ) → LineFits l → SpellsAll (tokens_of l) a → SpellsLine l a
 spells lines.Blank a f s = absurd f
-spells (lines.User x) a f s = (f, s)
-spells (lines.Server x) a f s = (f, s)
-spells (lines.Step p c) a f s = (f, s)
+spells l a f s = (f, s)
 
 tokens_take : (a : List ℕ) (l : Line) → (tokens_in a >>= line_from) ≡ Some l → SpellsLine l a
 tokens_take a l e =
@@ -50,22 +48,18 @@ line_takes (b ∷ bs) l e = elim (chosen (nat_eq b 35) _ _ (Some l) e) [
   | inr c ↦ tokens_take (b ∷ bs) l c.1
 ]
 
-begins : (k : Keyword) (y : List ℕ) → line_in (spelling_of k ++ y) ≡ (tokens_in (spelling_of k ++ y) >>= line_from)
-begins words.User y = refl
-begins words.Server y = refl
-begins words.Step y = refl
-begins words.Execute y = refl
-begins words.Raw y = refl
+begins_in : (w y : List ℕ) → HasHead w → line_in (w ++ y) ≡ (tokens_in (w ++ y) >>= line_from)
+begins_in w y h = rw h.is (rw h.no_comment refl)
 
-word_again : (l : Line) (k : Keyword) (ts : List Token) (a : List ℕ) → tokens_of l ≡ Word k ∷ ts → LineFits l → Apart (tokens_of l) → SpellsAll (tokens_of l) a → line_in a ≡ Some l
+begins : (k : Keyword) (y : List ℕ) → line_in (spelling_of k ++ y) ≡ (tokens_in (spelling_of k ++ y) >>= line_from)
+begins k y = begins_in (spelling_of k) y (word_head (spelling_of k) (word_law k).shape)
+
+word_again : (l : Line) (k : Keyword) (ts : List Token) (a : List ℕ) → tokens_of l ≡ Word k ∷ ts → LineFits l → apart (tokens_of l) ≡ true → SpellsAll (tokens_of l) a → line_in a ≡ Some l
 word_again l k ts a e f p s =
     let s' : SpellsAll (Word k ∷ ts) a = subst (λ (us : List Token). SpellsAll us a) e s in
     let a-is : a ≡ spelling_of k ++ s'.1 = s'.4 ∙ ap (λ (x : List ℕ). x ++ s'.1) s'.2 in
     let whole : line_in a ≡ (tokens_in a >>= line_from) = subst (λ (x : List ℕ). line_in x ≡ (tokens_in x >>= line_from)) (sym a-is) (begins k s'.1) in
     whole ∙ ap (λ (o : Option (List Token)). o >>= line_from) (lexer_again (tokens_of l) a s p) ∙ from_again l f
-
-apart_step : (n : ℕ) (c : Call) → Apart (tokens_of (lines.Step n c))
-apart_step n (calls.Execute q) = search rules
 
 comment : (a rest : List ℕ) → a ≡ 35 ∷ rest → is_utf8 a ≡ true → line_in a ≡ Some lines.Blank
 comment a rest e u = let v : is_utf8 (35 ∷ rest) ≡ true = rw e at u in rw (e, v) refl
@@ -73,9 +67,12 @@ comment a rest e u = let v : is_utf8 (35 ∷ rest) ≡ true = rw e at u in rw (e
 pub line_again : (l : Line) (a : List ℕ) → SpellsLine l a → line_in a ≡ Some l
 line_again lines.Blank a (inl e) = rw e refl
 line_again lines.Blank a (inr s) = comment a s.0 s.1 s.2
-line_again (lines.User x) a s = word_again (lines.User x) _ _ a refl s.0 (search rules) s.1
-line_again (lines.Server x) a s = word_again (lines.Server x) _ _ a refl s.0 (search rules) s.1
-line_again (lines.Step n c) a s = word_again (lines.Step n c) _ _ a refl s.0 (apart_step n c) s.1
+line_again (lines.Step n None c) a s = word_again (lines.Step n None c) _ _ a refl s.0 (call_again c s.0).parts s.1
+line_again (lines.Step n (Some m) c) a s = word_again (lines.Step n (Some m) c) _ _ a refl s.0 (call_again c s.0).parts s.1
+line_again (lines.Digits None) a s = word_again (lines.Digits None) _ _ a refl s.0 refl s.1
+line_again (lines.Digits (Some (pos n))) a s = word_again (lines.Digits (Some (pos n))) _ _ a refl s.0 refl s.1
+line_again (lines.Digits (Some (negsuc n))) a s = absurd s.0
+line_again l a s = word_again l _ _ a refl s.0 refl s.1
 
 -- ---- what is read
 

@@ -1,10 +1,10 @@
 -- The grammar of a script: how its lines, and the tokens of a line, are spelled.
-use Rattle.std.specs.Prelude.{ℕ, ◌≡◌, ◌≢◌, ◌+◌, ◌/◌, ◌%◌, ◌^◌, ◌≤◌, ◌<◌, ◌∷◌, ◌++◌, ◌⊎◌, [], List, Some, None, Result, Ok, Err, nat_eq, length, IsTrue, IsFalse}
+use Rattle.std.specs.Prelude.{ℕ, pos, negsuc, ◌≡◌, ◌≢◌, ◌+◌, ◌/◌, ◌%◌, ◌^◌, ◌≤◌, ◌<◌, ◌∷◌, ◌++◌, ◌⊎◌, [], List, Some, None, Result, Ok, Err, nat_eq, length, IsTrue, IsFalse}
 use Rattle.std.specs.Char.{digit_char}
 use Rattle.std.specs.List.{list_any}
 use Rattle.std.specs.Str.{is_utf8}
 use Rattle.std.specs.Str.Parse.{IsNumeral, digits_value}
-use Rattle.pg_wire.specs.Bytes.{HasNoNul}
+use Rattle.pg_request.specs.Queries.{QueryText}
 use Rattle.pg_script.specs.declared.token.Token.{Token}
 use Rattle.pg_script.specs.declared.token.Token.TheVariants.{Space, Word, Number, Text}
 use Rattle.pg_script.specs.declared.token.Keyword.TheVariants as words
@@ -20,29 +20,72 @@ use Rattle.pg_script.specs.declared.error.ReadError.TheVariants as errors
 
 -- ---- lines as tokens: one row a line
 
-abbrev pub call_tokens : Call → List Token
-call_tokens (calls.Execute query) = Word words.Execute ∷ Space ∷ Word words.Raw ∷ Space ∷ Text query.sql ∷ []
+abbrev pub raw_tokens : QueryText → List Token
+raw_tokens query = Space ∷ Word words.Raw ∷ Space ∷ Text query.sql ∷ []
 
+abbrev pub call_tokens : Call → List Token
+call_tokens (calls.Execute query) = Word words.Execute ∷ raw_tokens query
+call_tokens (calls.ExecuteMany query) = Word words.ExecuteMany ∷ raw_tokens query
+call_tokens (calls.Fetch query) = Word words.Fetch ∷ raw_tokens query
+call_tokens (calls.FetchMany query) = Word words.FetchMany ∷ raw_tokens query
+call_tokens (calls.FetchAll query) = Word words.FetchAll ∷ raw_tokens query
+call_tokens (calls.FetchOptional query) = Word words.FetchOptional ∷ raw_tokens query
+call_tokens (calls.FetchOne query) = Word words.FetchOne ∷ raw_tokens query
+call_tokens calls.Ping = Word words.Ping ∷ []
+call_tokens calls.Flush = Word words.Flush ∷ []
+
+-- digits below 0 have no spelling (`LineFits` has none of them)
 abbrev pub tokens_of : Line → List Token
 tokens_of lines.Blank = []
 tokens_of (lines.User name) = Word words.User ∷ Space ∷ Text name ∷ []
+tokens_of (lines.Database name) = Word words.Database ∷ Space ∷ Text name ∷ []
+tokens_of (lines.Application name) = Word words.Application ∷ Space ∷ Text name ∷ []
+tokens_of (lines.Option name value) = Word words.Option ∷ Space ∷ Text name ∷ Space ∷ Text value ∷ []
+tokens_of (lines.Digits None) = Word words.Digits ∷ Space ∷ Word words.None ∷ []
+tokens_of (lines.Digits (Some (pos n))) = Word words.Digits ∷ Space ∷ Number n ∷ []
+tokens_of (lines.Digits (Some (negsuc n))) = []
 tokens_of (lines.Server bytes) = Word words.Server ∷ Space ∷ Text bytes ∷ []
-tokens_of (lines.Step polls call) = Word words.Step ∷ Space ∷ Number polls ∷ Space ∷ call_tokens call
+tokens_of lines.Wait = Word words.Wait ∷ []
+tokens_of lines.End = Word words.End ∷ []
+tokens_of lines.Fail = Word words.Fail ∷ []
+tokens_of (lines.Take bytes times) = Word words.Take ∷ Space ∷ Number bytes ∷ Space ∷ Number times ∷ []
+tokens_of lines.Hold = Word words.Hold ∷ []
+tokens_of lines.Break = Word words.Break ∷ []
+tokens_of (lines.Start polls) = Word words.Start ∷ Space ∷ Number polls ∷ []
+tokens_of (lines.Step polls None call) = Word words.Step ∷ Space ∷ Number polls ∷ Space ∷ call_tokens call
+tokens_of (lines.Step polls (Some most) call) = Word words.Step ∷ Space ∷ Number polls ∷ Space ∷ Word words.Most ∷ Space ∷ Number most ∷ Space ∷ call_tokens call
 
 -- ---- which values a line may have
 
--- bytes that stand where a text is meant: UTF-8 without a zero byte
-abbrev pub IsPlain : List ℕ → Type 0
-IsPlain s = IsTrue (is_utf8 s) × HasNoNul s
+-- bytes that stand where a text is meant
+abbrev pub IsUnicode : List ℕ → Type 0
+IsUnicode s = IsTrue (is_utf8 s)
+
+abbrev pub QueryFits : QueryText → Type 0
+QueryFits query = IsUnicode query.sql
 
 abbrev pub CallFits : Call → Type 0
-CallFits (calls.Execute query) = IsPlain query.sql
+CallFits (calls.Execute query) = QueryFits query
+CallFits (calls.ExecuteMany query) = QueryFits query
+CallFits (calls.Fetch query) = QueryFits query
+CallFits (calls.FetchMany query) = QueryFits query
+CallFits (calls.FetchAll query) = QueryFits query
+CallFits (calls.FetchOptional query) = QueryFits query
+CallFits (calls.FetchOne query) = QueryFits query
+CallFits calls.Ping = Unit {0}
+CallFits calls.Flush = Unit {0}
 
 abbrev pub LineFits : Line → Type 0
 LineFits lines.Blank = ⊥
-LineFits (lines.User name) = IsPlain name
-LineFits (lines.Server bytes) = Unit {0}
-LineFits (lines.Step polls call) = CallFits call
+LineFits (lines.User name) = IsUnicode name
+LineFits (lines.Database name) = IsUnicode name
+LineFits (lines.Application name) = IsUnicode name
+LineFits (lines.Option name value) = IsUnicode name × IsUnicode value
+LineFits (lines.Digits (Some (pos n))) = n ≤ 3
+LineFits (lines.Digits (Some (negsuc n))) = ⊥
+LineFits (lines.Take bytes times) = (1 ≤ bytes) × (1 ≤ times) × (times ≤ 1000000)
+LineFits (lines.Step polls most call) = CallFits call
+LineFits _ = Unit {0}
 
 -- ---- tokens as bytes
 

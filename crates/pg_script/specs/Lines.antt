@@ -1,9 +1,8 @@
 -- The lines of a script, read from their tokens.
-use Rattle.std.specs.Prelude.{◌∷◌, ◌&&◌, [], List, ℕ, Option, Some, None, nat_eq, not, if◌then◌else◌}
-use Rattle.std.specs.List.{list_any}
+use Rattle.std.specs.Prelude.{◌∷◌, ◌||◌, [], List, ℕ, Option, Some, None, nat_eq, nat_lt, if◌then◌else◌}
 use Rattle.std.specs.Str.{is_utf8}
 use Rattle.pg_script.specs.declared.token.Token.{Token}
-use Rattle.pg_script.specs.declared.token.Token.TheVariants.{Space, Word, Number, Text}
+use Rattle.pg_script.specs.declared.token.Token.TheVariants.{Space, Word}
 use Rattle.pg_script.specs.declared.token.Keyword.{Keyword}
 use Rattle.pg_script.specs.declared.token.Keyword.TheVariants as words
 use Rattle.pg_script.specs.declared.step.Call.{Call}
@@ -12,41 +11,65 @@ use Rattle.pg_script.specs.declared.line.Line.{Line}
 use Rattle.pg_script.specs.declared.line.Line.TheVariants as lines
 use Rattle.pg_script.specs.Lexing.{tokens_in}
 use Rattle.pg_script.specs.Reading.{◌>>=◌}
+use Rattle.pg_script.specs.Arguments.{alone, bytes_arg, text_arg, pair_arg, number_arg, last_number, digits_arg, raw_arg}
 
--- UTF-8 without a zero byte
-abbrev pub text_in : List ℕ → Option (List ℕ)
-text_in s = if is_utf8 s && not (list_any (nat_eq 0) s) then Some s else None
-
-abbrev pub bytes_arg : List Token → Option (List ℕ)
-bytes_arg (Space ∷ Text s ∷ []) = Some s
-bytes_arg _ = None
-
-abbrev pub text_arg : List Token → Option (List ℕ)
-text_arg ts = bytes_arg ts >>= text_in
-
-abbrev pub number_arg : List Token → Option (ℕ × List Token)
-number_arg (Space ∷ Number n ∷ rest) = Some (n, rest)
-number_arg _ = None
-
-abbrev pub raw_arg : List Token → Option (List ℕ)
-raw_arg (Space ∷ Word words.Raw ∷ rest) = text_arg rest
-raw_arg _ = None
+-- ---- calls
 
 abbrev pub call_with : Keyword → List Token → Option Call
-call_with words.Execute rest = raw_arg rest >>= λ sql. Some (calls.Execute (record { sql = sql }))
+call_with words.Execute rest = raw_arg rest >>= λ query. Some (calls.Execute query)
+call_with words.ExecuteMany rest = raw_arg rest >>= λ query. Some (calls.ExecuteMany query)
+call_with words.Fetch rest = raw_arg rest >>= λ query. Some (calls.Fetch query)
+call_with words.FetchMany rest = raw_arg rest >>= λ query. Some (calls.FetchMany query)
+call_with words.FetchAll rest = raw_arg rest >>= λ query. Some (calls.FetchAll query)
+call_with words.FetchOptional rest = raw_arg rest >>= λ query. Some (calls.FetchOptional query)
+call_with words.FetchOne rest = raw_arg rest >>= λ query. Some (calls.FetchOne query)
+call_with words.Ping rest = alone calls.Ping rest
+call_with words.Flush rest = alone calls.Flush rest
 call_with _ rest = None
 
 abbrev pub call_arg : List Token → Option Call
 call_arg (Space ∷ Word word ∷ rest) = call_with word rest
 call_arg _ = None
 
+-- ---- lines
+
+-- so many bytes, so many times
+abbrev pub take_of : ℕ → ℕ → Option Line
+take_of bytes times = if nat_eq bytes 0 || nat_eq times 0 || nat_lt 1000000 times then None else Some (lines.Take bytes times)
+
+abbrev pub take_line : List Token → Option Line
+take_line ts = do
+  bytes ← number_arg ts
+  times ← last_number bytes.1
+  take_of bytes.0 times
+
+-- the most items of a step where the word `most` says them, and the tokens behind
+abbrev pub most_arg : List Token → Option (Option ℕ × List Token)
+most_arg (Space ∷ Word words.Most ∷ rest) = number_arg rest >>= λ most. Some (Some most.0, most.1)
+most_arg rest = Some (None, rest)
+
+abbrev pub step_line : List Token → Option Line
+step_line ts = do
+  polls ← number_arg ts
+  most ← most_arg polls.1
+  call ← call_arg most.1
+  Some (lines.Step polls.0 most.0 call)
+
 abbrev pub line_with : Keyword → List Token → Option Line
 line_with words.User rest = text_arg rest >>= λ name. Some (lines.User name)
+line_with words.Database rest = text_arg rest >>= λ name. Some (lines.Database name)
+line_with words.Application rest = text_arg rest >>= λ name. Some (lines.Application name)
+line_with words.Option rest = pair_arg rest >>= λ pair. Some (lines.Option pair.0 pair.1)
+line_with words.Digits rest = digits_arg rest >>= λ digits. Some (lines.Digits digits)
 line_with words.Server rest = bytes_arg rest >>= λ bytes. Some (lines.Server bytes)
-line_with words.Step rest = do
-  polls ← number_arg rest
-  call ← call_arg polls.1
-  Some (lines.Step polls.0 call)
+line_with words.Wait rest = alone lines.Wait rest
+line_with words.End rest = alone lines.End rest
+line_with words.Fail rest = alone lines.Fail rest
+line_with words.Take rest = take_line rest
+line_with words.Hold rest = alone lines.Hold rest
+line_with words.Break rest = alone lines.Break rest
+line_with words.Start rest = last_number rest >>= λ polls. Some (lines.Start polls)
+line_with words.Step rest = step_line rest
 line_with _ rest = None
 
 abbrev pub line_from : List Token → Option Line

@@ -1,7 +1,9 @@
 -- A script, read line by line.
-use Rattle.std.specs.Prelude.{◌≡◌, ◌+◌, ◌∷◌, ◌++◌, [], List, ℕ, Option, Some, None, Result, Ok, Err, nat_eq, nat_lt, length, if◌then◌else◌}
+use Rattle.std.specs.Prelude.{◌≡◌, ◌+◌, ◌∷◌, ◌++◌, [], List, ℕ, Option, Some, None, Result, Ok, Err, nat_eq, nat_lt, length, replicate, unwrap_or, if◌then◌else◌}
 use Rattle.pg_stream.specs.declared.events.ReadEvent.{ReadEvent}
-use Rattle.pg_stream.specs.declared.events.ReadEvent.TheVariants as events
+use Rattle.pg_stream.specs.declared.events.ReadEvent.TheVariants as reads
+use Rattle.pg_stream.specs.declared.events.WriteEvent.{WriteEvent}
+use Rattle.pg_stream.specs.declared.events.WriteEvent.TheVariants as writes
 use Rattle.pg_script.specs.declared.step.Step.{Step}
 use Rattle.pg_script.specs.declared.line.Line.{Line}
 use Rattle.pg_script.specs.declared.line.Line.TheVariants as lines
@@ -12,27 +14,42 @@ use Rattle.pg_script.specs.Reading.{◌>>=◌}
 use Rattle.pg_script.specs.Lines.{line_in}
 
 abbrev pub empty_script : Script
-empty_script = record { user = None; events = []; steps = [] }
+empty_script = record { user = None; database = None; application = None; options = []; digits = None; start_polls = None; events = []; writes = []; steps = [] }
 
 abbrev pub with_event : Script → ReadEvent → Option Script
 with_event s e = Some (record s { events = s.events ++ e ∷ [] })
 
--- a user, where there was none
-abbrev pub with_only_user : Option (List ℕ) → Script → List ℕ → Option Script
-with_only_user None s name = Some (record s { user = Some name })
-with_only_user (Some _) s name = None
+abbrev pub with_writes : Script → List WriteEvent → Option Script
+with_writes s es = Some (record s { writes = s.writes ++ es })
 
--- a step, where there was none
-abbrev pub with_only_step : List Step → Script → Step → Option Script
-with_only_step [] s step = Some (record s { steps = step ∷ [] })
-with_only_step (_ ∷ _) s step = None
+abbrev pub with_step : Script → Step → Option Script
+with_step s step = Some (record s { steps = s.steps ++ step ∷ [] })
+
+abbrev pub with_option : Script → List ℕ → List ℕ → Option Script
+with_option s name value = Some (record s { options = s.options ++ (name, value) ∷ [] })
+
+-- what is set where nothing had set it
+abbrev pub set_once : {A : Type 0} → Option A → A → Option (Option A)
+set_once None value = Some (Some value)
+set_once (Some _) value = None
 
 -- one line more; a step ends after so many items only where it says so
 abbrev pub add : Script → Line → Option Script
 add s lines.Blank = Some s
-add s (lines.User name) = with_only_user s.user s name
-add s (lines.Server bytes) = with_event s (events.Piece bytes)
-add s (lines.Step polls call) = with_only_step s.steps s (record { call = call; polls = polls; most = 4294967295 })
+add s (lines.User name) = set_once s.user name >>= λ user. Some (record s { user = user })
+add s (lines.Database name) = set_once s.database name >>= λ database. Some (record s { database = database })
+add s (lines.Application name) = set_once s.application name >>= λ application. Some (record s { application = application })
+add s (lines.Option name value) = with_option s name value
+add s (lines.Digits digits) = set_once s.digits digits >>= λ digits. Some (record s { digits = digits })
+add s (lines.Server bytes) = with_event s (reads.Piece bytes)
+add s lines.Wait = with_event s reads.Wait
+add s lines.End = with_event s reads.End
+add s lines.Fail = with_event s reads.Fail
+add s (lines.Take bytes times) = with_writes s (replicate times (writes.Take bytes))
+add s lines.Hold = with_writes s (writes.Wait ∷ [])
+add s lines.Break = with_writes s (writes.Fail ∷ [])
+add s (lines.Start polls) = set_once s.start_polls polls >>= λ start_polls. Some (record s { start_polls = start_polls })
+add s (lines.Step polls most call) = with_step s (record { call = call; polls = polls; most = unwrap_or most 4294967295 })
 
 unfoldable pub add_line : Script → List ℕ → Option Script
 add_line s line = line_in line >>= add s

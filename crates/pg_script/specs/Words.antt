@@ -9,13 +9,36 @@ use Rattle.pg_script.specs.Reading.{◌>>=◌}
 -- how a word is spelled
 abbrev pub spelling_of : Keyword → List ℕ
 spelling_of words.User = codes "user"
+spelling_of words.Database = codes "database"
+spelling_of words.Application = codes "application"
+spelling_of words.Option = codes "option"
+spelling_of words.Digits = codes "digits"
+spelling_of words.None = codes "none"
 spelling_of words.Server = codes "server"
+spelling_of words.Wait = codes "wait"
+spelling_of words.End = codes "end"
+spelling_of words.Fail = codes "fail"
+spelling_of words.Take = codes "take"
+spelling_of words.Hold = codes "hold"
+spelling_of words.Break = codes "break"
+spelling_of words.Start = codes "start"
 spelling_of words.Step = codes "step"
-spelling_of words.Execute = codes "execute"
+spelling_of words.Most = codes "most"
 spelling_of words.Raw = codes "raw"
+spelling_of words.Execute = codes "execute"
+spelling_of words.ExecuteMany = codes "execute_many"
+spelling_of words.Fetch = codes "fetch"
+spelling_of words.FetchMany = codes "fetch_many"
+spelling_of words.FetchAll = codes "fetch_all"
+spelling_of words.FetchOptional = codes "fetch_optional"
+spelling_of words.FetchOne = codes "fetch_one"
+spelling_of words.Ping = codes "ping"
+spelling_of words.Flush = codes "flush"
 
 abbrev pub all_words : List Keyword
-all_words = words.User ∷ words.Server ∷ words.Step ∷ words.Execute ∷ words.Raw ∷ []
+all_words = words.User ∷ words.Database ∷ words.Application ∷ words.Option ∷ words.Digits ∷ words.None ∷ words.Server ∷ words.Wait ∷ words.End ∷ words.Fail ∷ words.Take ∷ words.Hold ∷ words.Break
+    ∷ words.Start ∷ words.Step ∷ words.Most ∷ words.Raw ∷ words.Execute ∷ words.ExecuteMany ∷ words.Fetch ∷ words.FetchMany
+    ∷ words.FetchAll ∷ words.FetchOptional ∷ words.FetchOne ∷ words.Ping ∷ words.Flush ∷ []
 
 abbrev pub is_digit : ℕ → Bool
 is_digit b = nat_le 48 b && nat_le b 57

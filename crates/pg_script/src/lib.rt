@@ -3,18 +3,30 @@
 //! A script is lines ended by a line feed, the last one perhaps without. Empty lines and lines of UTF-8 that begin with `#`
 //! are passed over. The words of any other line are separated by one space:
 //!
-//! - `user TEXT`, at most once: the user of start-up.
-//! - `server TEXT`: bytes that one read of the link gives, in order.
-//! - `step POLLS execute raw TEXT`, at most once: a simple query, dropped after POLLS polls that answered `Pending`.
+//! | Line | Means |
+//! |---|---|
+//! | `user TEXT`, `database TEXT`, `application TEXT` | the texts of start-up; each at most once |
+//! | `option TEXT TEXT` | an option of the server and its value |
+//! | `digits none`, `digits N` | `extra_float_digits`, left out or from 0 to 3; at most once |
+//! | `start N` | the polls that start-up has at most; at most once |
+//! | `server TEXT`, `wait`, `end`, `fail` | what the link's next read does: it gives these bytes, gives nothing yet, ends, or fails |
+//! | `take N K`, `hold`, `break` | what its next writes do: K of them take at most N bytes each; one takes nothing yet; one fails |
+//! | `step N CALL`, `step N most M CALL` | a call, dropped after N polls that answered `Pending` or after M items |
+//!
+//! The options, the events of reads, those of writes and the steps each keep their order, and else the lines may stand in any.
+//! A CALL is `execute`, `execute_many`, `fetch`, `fetch_many`, `fetch_all`, `fetch_optional` or `fetch_one`, each with `raw TEXT`
+//! behind it, a text of SQL; or `ping` or `flush`.
 //!
 //! A TEXT stands between quotes, and is printable ASCII other than a quote and a backslash, or `\"`, `\\`, or `\xHH` for any
-//! byte, with two lower-case hexadecimal digits; but for `server` its bytes are UTF-8 without a zero byte. POLLS is one to ten
-//! digits, at most 4294967295. Any other line is bad, and nothing is required.
+//! byte, with two lower-case hexadecimal digits. But for `server` its bytes are UTF-8; a zero byte among them is no fault of the
+//! script. A number is one to ten digits, at most 4294967295; of `take` both are at least 1, and K is at most 1000000. Without
+//! `most` a step has 4294967295 of it. Any other line is bad, and nothing is required.
 //!
 //! Begin with `Script`, and with `read_script`, whose contract is this grammar. A line is read in two steps: the lexer cuts it
 //! into tokens, and `line_in` finds what they say.
 #![tactic(auto)]
 
+mod arguments;
 mod error;
 mod lexer;
 mod line;

@@ -1,16 +1,19 @@
-ghost use Rattle.std.specs.Prelude.{◌≡◌, nat_eq, option_map};
-ghost use Rattle.std.specs.List.{list_any};
-ghost use Rattle.std.specs.Str.{is_utf8};
+ghost use Rattle.std.specs.Prelude.{◌≡◌};
 ghost use Rattle.pg_script.specs.Reading.{Gives};
-ghost use Rattle.pg_script.specs.Lines.{text_in, text_arg, bytes_arg, number_arg, raw_arg, call_with, call_arg, line_with, line_from, line_in};
+ghost use Rattle.pg_script.specs.Lines.{call_with, call_arg, take_line, most_arg, step_line, line_with, line_from, line_in};
 
+use crate::arguments::{
+    alone, bytes_arg, digits_arg, is_utf8, last_number, number_arg, pair_arg, raw_arg, text_arg,
+};
 use crate::error::LineError;
 use crate::lexer::tokens_in;
 use crate::step::Call;
 use crate::token::{Keyword, Token};
-use pg_request::Query;
 use pg_wire::{Blob, Text};
 use std::alloc::Global;
+
+/// The most times that one line says what a write takes.
+const TIMES_MAX: u32 = 1_000_000;
 
 /// What a line says.
 #[derive(Debug, Drop)]
@@ -18,84 +21,42 @@ pub(crate) enum Line {
     /// An empty line, or a comment.
     Blank,
     User(Text),
+    Database(Text),
+    Application(Text),
+    Option(Text, Text),
+    Digits(Option<i8>),
     Server(Blob),
-    Step { polls: u32, call: Call },
-}
-
-fn is_utf8(bytes: &[u8]) -> bool
-    ensures { result ≡ is_utf8 bytes.now }
-{
-    match str::from_utf8(bytes) {
-        Ok(_) => true,
-        Err(_) => false,
-    }
-}
-
-fn has_nul(bytes: &[u8]) -> bool
-    ensures { result ≡ list_any (nat_eq 0) bytes.now }
-{
-    bytes.contains(&0)
-}
-
-// UTF-8 without a zero byte.
-fn text_in(bytes: &[u8]) -> Option<&str>
-    ensures { option_map (λ t. t.now) result ≡ text_in bytes.now }
-{
-    match str::from_utf8(bytes) {
-        Ok(text) => { if has_nul(bytes) { None } else { Some(text) } }
-        Err(_) => None,
-    }
-}
-
-// One text, and nothing more.
-fn bytes_arg(tokens: &[Token]) -> Result<&[u8], LineError>
-    ensures { Gives (λ b. b.now) result (bytes_arg tokens.now) }
-{
-    match tokens {
-        [Token::Space, Token::Text(bytes)] => Ok(bytes.as_bytes()),
-        _ => Err(LineError::Bad),
-    }
-}
-
-// The same, where a text is meant.
-fn text_arg(alloc: Global, tokens: &[Token]) -> Result<Text, LineError>
-    ensures { Gives (λ t. t) result (text_arg tokens.now) }
-{
-    let bytes = bytes_arg(tokens)?;
-    match text_in(bytes) {
-        Some(text) => Ok(Text::from_str(alloc, text)?),
-        None => Err(LineError::Bad),
-    }
-}
-
-// A number, and the tokens behind it.
-fn number_arg(tokens: &[Token]) -> Result<(u32, &[Token]), LineError>
-    ensures { Gives (λ x. (x.0, x.1.now)) result (number_arg tokens.now) }
-{
-    match tokens {
-        [Token::Space, Token::Number(number), rest @ ..] => Ok((*number, rest)),
-        _ => Err(LineError::Bad),
-    }
-}
-
-// One text of SQL behind the word `raw`.
-fn raw_arg(alloc: Global, tokens: &[Token]) -> Result<Text, LineError>
-    ensures { Gives (λ t. t) result (raw_arg tokens.now) }
-{
-    match tokens {
-        [Token::Space, Token::Word(Keyword::Raw), rest @ ..] => text_arg(alloc, rest),
-        _ => Err(LineError::Bad),
-    }
+    Wait,
+    End,
+    Fail,
+    /// So many writes take so many bytes each.
+    Take {
+        bytes: u32,
+        times: u32,
+    },
+    Hold,
+    Break,
+    Start(u32),
+    Step {
+        polls: u32,
+        most: Option<u32>,
+        call: Call,
+    },
 }
 
 fn call_with(alloc: Global, word: Keyword, rest: &[Token]) -> Result<Call, LineError>
     ensures { Gives (λ c. c) result (call_with word rest.now) }
 {
     match word {
-        Keyword::Execute => {
-            let sql = raw_arg(alloc, rest)?;
-            Ok(Call::Execute(Query::from_text(sql)))
-        }
+        Keyword::Execute => Ok(Call::Execute(raw_arg(alloc, rest)?)),
+        Keyword::ExecuteMany => Ok(Call::ExecuteMany(raw_arg(alloc, rest)?)),
+        Keyword::Fetch => Ok(Call::Fetch(raw_arg(alloc, rest)?)),
+        Keyword::FetchMany => Ok(Call::FetchMany(raw_arg(alloc, rest)?)),
+        Keyword::FetchAll => Ok(Call::FetchAll(raw_arg(alloc, rest)?)),
+        Keyword::FetchOptional => Ok(Call::FetchOptional(raw_arg(alloc, rest)?)),
+        Keyword::FetchOne => Ok(Call::FetchOne(raw_arg(alloc, rest)?)),
+        Keyword::Ping => alone(Call::Ping, rest),
+        Keyword::Flush => alone(Call::Flush, rest),
         _ => Err(LineError::Bad),
     }
 }
@@ -109,23 +70,63 @@ fn call_arg(alloc: Global, tokens: &[Token]) -> Result<Call, LineError>
     }
 }
 
+fn take_line(tokens: &[Token]) -> Result<Line, LineError>
+    ensures { Gives (λ l. l) result (take_line tokens.now) }
+{
+    let (bytes, rest) = number_arg(tokens)?;
+    let times = last_number(rest)?;
+    if bytes == 0 || times == 0 || TIMES_MAX < times {
+        return Err(LineError::Bad);
+    }
+    Ok(Line::Take { bytes, times })
+}
+
+// The most items of a step where the word `most` says them, and the tokens behind.
+fn most_arg(tokens: &[Token]) -> Result<(Option<u32>, &[Token]), LineError>
+    ensures { Gives (λ x. (x.0, x.1.now)) result (most_arg tokens.now) }
+{
+    match tokens {
+        [Token::Space, Token::Word(Keyword::Most), rest @ ..] => {
+            let (most, rest) = number_arg(rest)?;
+            Ok((Some(most), rest))
+        }
+        _ => Ok((None, tokens)),
+    }
+}
+
+fn step_line(alloc: Global, tokens: &[Token]) -> Result<Line, LineError>
+    ensures { Gives (λ l. l) result (step_line tokens.now) }
+{
+    let (polls, rest) = number_arg(tokens)?;
+    let (most, rest) = most_arg(rest)?;
+    let call = call_arg(alloc, rest)?;
+    Ok(Line::Step { polls, most, call })
+}
+
 fn line_with(alloc: Global, word: Keyword, rest: &[Token]) -> Result<Line, LineError>
     ensures { Gives (λ l. l) result (line_with word rest.now) }
 {
     match word {
-        Keyword::User => {
-            let name = text_arg(alloc, rest)?;
-            Ok(Line::User(name))
+        Keyword::User => Ok(Line::User(text_arg(alloc, rest)?)),
+        Keyword::Database => Ok(Line::Database(text_arg(alloc, rest)?)),
+        Keyword::Application => Ok(Line::Application(text_arg(alloc, rest)?)),
+        Keyword::Option => {
+            let (name, value) = pair_arg(alloc, rest)?;
+            Ok(Line::Option(name, value))
         }
+        Keyword::Digits => Ok(Line::Digits(digits_arg(rest)?)),
         Keyword::Server => {
             let bytes = bytes_arg(rest)?;
             Ok(Line::Server(Blob::from_slice(alloc, bytes)?))
         }
-        Keyword::Step => {
-            let (polls, rest) = number_arg(rest)?;
-            let call = call_arg(alloc, rest)?;
-            Ok(Line::Step { polls, call })
-        }
+        Keyword::Wait => alone(Line::Wait, rest),
+        Keyword::End => alone(Line::End, rest),
+        Keyword::Fail => alone(Line::Fail, rest),
+        Keyword::Take => take_line(rest),
+        Keyword::Hold => alone(Line::Hold, rest),
+        Keyword::Break => alone(Line::Break, rest),
+        Keyword::Start => Ok(Line::Start(last_number(rest)?)),
+        Keyword::Step => step_line(alloc, rest),
         _ => Err(LineError::Bad),
     }
 }

@@ -53,8 +53,8 @@ fn read_limited(alloc: Global, text: &[u8]) -> Result<Script, ReadError>
     read_lines(alloc, text)
 }
 
-/// Reads a script, in time and memory that grow with its length. Nothing in it is required: a text without any line is the
-/// empty script.
+/// Reads a script, in time and memory that grow with its length and with what its `take` lines count. Nothing in it is
+/// required: a text without any line is the empty script.
 pub fn read_script(alloc: Global, text: &[u8]) -> Result<Script, ReadError>
     // A script that is read is one that the text spells; a bad line is the text's first one.
     ensures says { Says result text.now }

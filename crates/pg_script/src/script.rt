@@ -1,11 +1,11 @@
-ghost use Rattle.std.specs.Prelude.{◌≡◌};
+ghost use Rattle.std.specs.Prelude.{◌≡◌, ◌∷◌, [], replicate};
 ghost use Rattle.pg_script.specs.Reading.{Gives};
-ghost use Rattle.pg_script.specs.Scripts.{add, add_line, empty_script, with_event, with_only_user, with_only_step};
+ghost use Rattle.pg_script.specs.Scripts.{add, add_line, empty_script, with_event, with_writes, with_step, with_option, set_once};
 
 use crate::error::LineError;
 use crate::line::{Line, line_in};
 use crate::step::Step;
-use pg_stream::ReadEvent;
+use pg_stream::{ReadEvent, WriteEvent};
 use pg_wire::{Sequence, Text};
 use std::alloc::Global;
 
@@ -13,9 +13,32 @@ use std::alloc::Global;
 #[derive(Debug, Drop)]
 pub struct Script {
     pub user: Option<Text>,
+    pub database: Option<Text>,
+    pub application: Option<Text>,
+    /// Names of options of the server and their values, in order.
+    pub options: Sequence<(Text, Text)>,
+    /// `extra_float_digits`, where the script says it.
+    pub digits: Option<Option<i8>>,
+    /// The polls that start-up has at most, where the script says them.
+    pub start_polls: Option<u32>,
     /// What the link's reads give, in order.
     pub events: Sequence<ReadEvent>,
+    /// What the link's writes take, in order.
+    pub writes: Sequence<WriteEvent>,
     pub steps: Sequence<Step>,
+}
+
+// Sets what nothing had set.
+fn set_once<T: Drop>(slot: &mut Option<T>, value: T) -> Result<(), LineError>
+    ensures { Gives (λ _. slot.new) result (set_once slot.old value) }
+{
+    match slot {
+        Some(_) => Err(LineError::Bad),
+        None => {
+            *slot = Some(value);
+            Ok(())
+        }
+    }
 }
 
 impl Script {
@@ -24,9 +47,22 @@ impl Script {
     {
         Script {
             user: None,
+            database: None,
+            application: None,
+            options: Sequence::new(alloc),
+            digits: None,
+            start_polls: None,
             events: Sequence::new(alloc),
+            writes: Sequence::new(alloc),
             steps: Sequence::new(alloc),
         }
+    }
+
+    fn push_option(&mut self, name: Text, value: Text) -> Result<(), LineError>
+        ensures { Gives (λ _. self.new) result (with_option self.old name value) }
+    {
+        self.options.push((name, value))?;
+        Ok(())
     }
 
     fn push_event(&mut self, event: ReadEvent) -> Result<(), LineError>
@@ -36,24 +72,25 @@ impl Script {
         Ok(())
     }
 
-    fn set_user(&mut self, user: Text) -> Result<(), LineError>
-        ensures { Gives (λ _. self.new) result (with_only_user self.old.user self.old user) }
+    fn push_write(&mut self, event: WriteEvent) -> Result<(), LineError>
+        ensures { Gives (λ _. self.new) result (with_writes self.old (event ∷ [])) }
     {
-        match self.user {
-            Some(_) => Err(LineError::Bad),
-            None => {
-                self.user = Some(user);
-                Ok(())
-            }
+        self.writes.push(event)?;
+        Ok(())
+    }
+
+    fn push_writes(&mut self, event: WriteEvent, times: u32) -> Result<(), LineError>
+        ensures { Gives (λ _. self.new) result (with_writes self.old (replicate times event)) }
+    {
+        for _ in 0..times {
+            self.push_write(event)?;
         }
+        Ok(())
     }
 
     fn push_step(&mut self, step: Step) -> Result<(), LineError>
-        ensures { Gives (λ _. self.new) result (with_only_step self.old.steps self.old step) }
+        ensures { Gives (λ _. self.new) result (with_step self.old step) }
     {
-        if !self.steps.is_empty() {
-            return Err(LineError::Bad);
-        }
         self.steps.push(step)?;
         Ok(())
     }
@@ -63,12 +100,25 @@ impl Script {
     {
         match line {
             Line::Blank => Ok(()),
-            Line::User(name) => self.set_user(name),
+            Line::User(name) => set_once(&mut self.user, name),
+            Line::Database(name) => set_once(&mut self.database, name),
+            Line::Application(name) => set_once(&mut self.application, name),
+            Line::Option(name, value) => self.push_option(name, value),
+            Line::Digits(digits) => set_once(&mut self.digits, digits),
             Line::Server(bytes) => self.push_event(ReadEvent::Piece(bytes)),
-            Line::Step { polls, call } => self.push_step(Step {
+            Line::Wait => self.push_event(ReadEvent::Wait),
+            Line::End => self.push_event(ReadEvent::End),
+            Line::Fail => self.push_event(ReadEvent::Fail),
+            Line::Take { bytes, times } => {
+                self.push_writes(WriteEvent::Take(bytes as usize), times)
+            }
+            Line::Hold => self.push_write(WriteEvent::Wait),
+            Line::Break => self.push_write(WriteEvent::Fail),
+            Line::Start(polls) => set_once(&mut self.start_polls, polls),
+            Line::Step { polls, most, call } => self.push_step(Step {
                 call,
                 polls,
-                most: u32::MAX,
+                most: most.unwrap_or(u32::MAX),
             }),
         }
     }

@@ -4,10 +4,31 @@ use pg_wire::Blob;
 #[derive(Clone, Copy, Debug, PartialEq, Eq)]
 pub(crate) enum Keyword {
     User,
+    Database,
+    Application,
+    Option,
+    Digits,
+    None,
     Server,
+    Wait,
+    End,
+    Fail,
+    Take,
+    Hold,
+    Break,
+    Start,
     Step,
-    Execute,
+    Most,
     Raw,
+    Execute,
+    ExecuteMany,
+    Fetch,
+    FetchMany,
+    FetchAll,
+    FetchOptional,
+    FetchOne,
+    Ping,
+    Flush,
 }
 
 /// A token of a line.

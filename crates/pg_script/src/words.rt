@@ -1,7 +1,71 @@
-ghost use Rattle.std.specs.Prelude.{◌≡◌, bytes_eq};
-ghost use Rattle.pg_script.specs.Words.{number_of, keyword_of, token_of};
+ghost use Rattle.std.specs.Prelude.{◌≡◌};
+ghost use Rattle.pg_script.specs.Words.{spelling_of, number_of, keyword_among, keyword_of, token_of};
 
 use crate::token::{Keyword, Token};
+
+/// All words of a script.
+const WORDS: [Keyword; 26] = [
+    Keyword::User,
+    Keyword::Database,
+    Keyword::Application,
+    Keyword::Option,
+    Keyword::Digits,
+    Keyword::None,
+    Keyword::Server,
+    Keyword::Wait,
+    Keyword::End,
+    Keyword::Fail,
+    Keyword::Take,
+    Keyword::Hold,
+    Keyword::Break,
+    Keyword::Start,
+    Keyword::Step,
+    Keyword::Most,
+    Keyword::Raw,
+    Keyword::Execute,
+    Keyword::ExecuteMany,
+    Keyword::Fetch,
+    Keyword::FetchMany,
+    Keyword::FetchAll,
+    Keyword::FetchOptional,
+    Keyword::FetchOne,
+    Keyword::Ping,
+    Keyword::Flush,
+];
+
+// How a word is spelled.
+fn spelling_of(word: Keyword) -> &'static [u8]
+    ensures { result.now ≡ spelling_of word }
+{
+    match word {
+        Keyword::User => b"user",
+        Keyword::Database => b"database",
+        Keyword::Application => b"application",
+        Keyword::Option => b"option",
+        Keyword::Digits => b"digits",
+        Keyword::None => b"none",
+        Keyword::Server => b"server",
+        Keyword::Wait => b"wait",
+        Keyword::End => b"end",
+        Keyword::Fail => b"fail",
+        Keyword::Take => b"take",
+        Keyword::Hold => b"hold",
+        Keyword::Break => b"break",
+        Keyword::Start => b"start",
+        Keyword::Step => b"step",
+        Keyword::Most => b"most",
+        Keyword::Raw => b"raw",
+        Keyword::Execute => b"execute",
+        Keyword::ExecuteMany => b"execute_many",
+        Keyword::Fetch => b"fetch",
+        Keyword::FetchMany => b"fetch_many",
+        Keyword::FetchAll => b"fetch_all",
+        Keyword::FetchOptional => b"fetch_optional",
+        Keyword::FetchOne => b"fetch_one",
+        Keyword::Ping => b"ping",
+        Keyword::Flush => b"flush",
+    }
+}
 
 // One to ten digits, at most 4294967295.
 fn number_of(word: &[u8]) -> Option<u32>
@@ -20,30 +84,23 @@ fn number_of(word: &[u8]) -> Option<u32>
     u32::try_from(number).ok()
 }
 
-// Whether a word is spelled so.
-fn is(word: &[u8], spelling: &[u8]) -> bool
-    ensures { result ≡ bytes_eq word.now spelling.now }
+// The first of some words that is spelled so.
+fn keyword_among(keywords: &[Keyword], word: &[u8]) -> Option<Keyword>
+    ensures { result ≡ keyword_among keywords.now word.now }
 {
-    word == spelling
+    for keyword in keywords {
+        if word == spelling_of(*keyword) {
+            return Some(*keyword);
+        }
+    }
+    None
 }
 
 #[tactic(auto, unfolding(crate::specs::Words::keyword_of))]
 fn keyword_of(word: &[u8]) -> Option<Keyword>
     ensures { result ≡ keyword_of word.now }
 {
-    if is(word, b"user") {
-        Some(Keyword::User)
-    } else if is(word, b"server") {
-        Some(Keyword::Server)
-    } else if is(word, b"step") {
-        Some(Keyword::Step)
-    } else if is(word, b"execute") {
-        Some(Keyword::Execute)
-    } else if is(word, b"raw") {
-        Some(Keyword::Raw)
-    } else {
-        None
-    }
+    keyword_among(&WORDS, word)
 }
 
 /// A number or a word.

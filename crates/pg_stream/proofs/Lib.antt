@@ -2,3 +2,5 @@ pub mod Known
 pub mod StreamLemmas
 pub mod EventLaws
 pub mod OutsideLaws
+pub mod VersionLaws
+pub mod ParameterLaws

@@ -1,25 +1,24 @@
 -- How calls of a stream follow one another.
-use Rattle.std.proofs.Common.{◌⊎◌, ◌≡◌, ℕ, ◌+◌, ◌-◌, ◌<◌, ◌≤◌, inl, inr, Bool, true, false, List, [], ◌∷◌, ◌++◌, take, drop, length, refl, sym, ap, ◌∙◌, append_assoc, arith, subst, Option, Some, None, codes, take_at, drop_at, Result, Ok, Err}
-use Rattle.std.specs.List.{AllByRecursion}
-use Rattle.std.specs.Io.KnownBytes.{Appends}
+use Rattle.std.proofs.Common.{◌⊎◌, ◌≡◌, max, ℕ, ◌+◌, ◌-◌, ◌<◌, ◌≤◌, inl, inr, true, false, List, [], ◌∷◌, ◌++◌, take, drop, length, refl, sym, ap, ◌∙◌, append_assoc, arith, subst, Some, None, codes, take_at, drop_at, Result, Ok, Err}
 use Rattle.std.proofs.lemmas.List.{append-nil, take-append-drop, length-append, length-take}
 use Rattle.futures.specs.declared.task.Poll.{Poll}
 use Rattle.futures.specs.declared.task.Poll.TheVariants.{Ready, Pending}
 use Rattle.pg_wire.specs.declared.error.Error.{Error}
 use Rattle.pg_wire.specs.declared.error.Error.TheVariants as errors
-use Rattle.pg_wire.specs.declared.error.IoCause.TheVariants.{Fault, End, Source}
+use Rattle.pg_wire.specs.declared.error.IoCause.TheVariants.{Fault, End}
 use Rattle.pg_wire.specs.declared.error.ProtocolFault.TheVariants as protocol
 use Rattle.pg_wire.specs.declared.error.ServerFault.TheVariants as faults
 use Rattle.pg_wire.specs.Bytes.{number32}
 use Rattle.pg_wire.specs.Frame.{Frame, bytes_of, text_of, is_known}
 use Rattle.pg_wire.specs.Parts.{is_asynchronous}
 use Rattle.pg_stream.specs.declared.stream.Front.{Front}
-use Rattle.pg_stream.specs.declared.link.LinkRead.{LinkRead}
 use Rattle.pg_stream.specs.declared.link.LinkRead.TheVariants as reads
-use Rattle.pg_stream.specs.declared.link.LinkWrite.{LinkWrite}
 use Rattle.pg_stream.specs.declared.link.LinkWrite.TheVariants as writes
 use Rattle.pg_stream.specs.Links.{LinkSeen, NoneFalls, Rose, Reads, Writes}
-use Rattle.pg_stream.specs.Streams.{GrewBy, StreamSeen, Sends, Takes, TakenFrom, Passes, AreFrames, Tallies, Moves, AllMoved, SendsOnce, ReadsOnce, HasNone, PollsFront, PollsFrame, PollsHeard, PollsAhead, IsHeardFront, framed, AheadOnce, HeardCause, IsMalformedFront, PassesAside, TakesFront, StreamOf, stream_by, AreAsynchronous, PendingCause, ErrorCause, IsFrontOf, IsFront}
+use Rattle.pg_stream.specs.Streams.{GrewBy, StreamSeen, Sends, Takes, TakenFrom, Passes, AreFrames, Tallies, Moves, AllMoved, OneMoved, WriteWaited, ReadWaited, SendsOnce, ReadsOnce, HasNone, PollsFront, PollsFrame, PollsHeard, PollsAhead, IsHeardFront, framed, AheadOnce, HeardCause, IsMalformedFront, PassesAside, TakesFront, TakesHeard, StreamOf, stream_by, AreAsynchronous, PendingCause, ErrorCause, IsFrontOf, IsFront}
+use Rattle.pg_stream.specs.Parameters.{ParametersSeen, SetsBy, SetsByAll}
+use Rattle.pg_stream.specs.Asynchronous.{IsAside, TakesAside}
+use Rattle.pg_stream.proofs.ParameterLaws.{sets_heard}
 use Rattle.pg_stream.proofs.Known.{Appends-then, Appends-from_keeps, Appends-refl, NoneFalls-refl, NoneFalls-then}
 
 pub AreFrames-append : (xs ys : List Frame) → AreFrames xs → AreFrames ys → AreFrames (xs ++ ys)
@@ -79,6 +78,12 @@ Tallies-none a b n w m = record {
   moving = omega (arith, n.moved);
 }
 
+-- ---- the parameters that frames set
+
+pub SetsByAll-append : (xs ys : List Frame) (a b c : ParametersSeen) → SetsByAll xs a b → SetsByAll ys b c → SetsByAll (xs ++ ys) a c
+SetsByAll-append [] ys a b c p q = subst (λ (m : ParametersSeen). SetsByAll ys m c) p q
+SetsByAll-append (x ∷ xs) ys a b c p q = (p.0, p.1, SetsByAll-append xs ys p.0 b c p.2 q)
+
 -- one call after another
 pub Moves-then : (a b c : StreamSeen) (s t : List ℕ) (x y : List Frame) → Moves a b s x → Moves b c t y → Moves a c (s ++ t) (x ++ y)
 Moves-then a b c s t x y p q = record {
@@ -88,6 +93,8 @@ Moves-then a b c s t x y p q = record {
   tallies = Tallies-then a b c p.tallies q.tallies;
   left = omega (arith, p.left, q.left);
   fuel = omega (arith, p.fuel, q.fuel, length-append x y);
+  spare = omega (arith, p.spare, q.spare, length-append s t);
+  parameters = SetsByAll-append x y a.parameters b.parameters c.parameters p.parameters q.parameters;
 }
 
 -- no call at all
@@ -99,26 +106,34 @@ Moves-none a = record {
   tallies = Tallies-none a a (NoneFalls-refl a.link) refl refl;
   left = omega arith;
   fuel = omega arith;
+  spare = omega arith;
+  parameters = refl;
 }
 
 pub AllMoved-none : (a : StreamSeen) → AllMoved a a
-AllMoved-none a = omega arith
+AllMoved-none a = (omega arith, omega arith)
 
-pub AllMoved-more : (a b c : StreamSeen) → AllMoved a b → b.left ≤ a.left → c.left + 1 ≡ b.left → Rose b.link.moved c.link.moved → AllMoved a c
-AllMoved-more a b c p le e r = omega (arith, p, r)
+pub AllMoved-more : (a b c : StreamSeen) → AllMoved a b → b.left ≤ a.left → c.left + 1 ≡ b.left → OneMoved b c → AllMoved a c
+AllMoved-more a b c p le e r = (omega (arith, p.0, r.0), omega (arith, p.1, r.1))
 
 pub AllMoved-then : (a b c : StreamSeen) → AllMoved a b → b.left ≤ a.left → AllMoved b c → c.left ≤ b.left → AllMoved a c
-AllMoved-then a b c p h q k = omega (arith, p, q, h, k)
+AllMoved-then a b c p h q k = (omega (arith, p.0, q.0, h, k), omega (arith, p.1, q.1, h, k))
 
 -- a count that rose in the last step rose over all
 pub Rose-after : (n m k : ℕ) → n ≤ m → Rose m k → Rose n k
 Rose-after n m k le r = omega (arith, le, r)
 
-pub PendingCause-after : (a b c : StreamSeen) → NoneFalls a.link b.link → AllMoved a b → b.left ≤ a.left → c.left ≤ b.left → PendingCause b c → PendingCause a c
-PendingCause-after a b c m s h k p = elim p [
-  | inl w ↦ inl (Rose-after _ _ _ m.write_waits w)
+pub WriteWaited-after : (a b c : StreamSeen) → NoneFalls a.link b.link → a.waits ≤ b.waits → WriteWaited b c → WriteWaited a c
+WriteWaited-after a b c m n w = (Rose-after _ _ _ m.write_waits w.0, Rose-after _ _ _ n w.1)
+
+pub ReadWaited-after : (a b c : StreamSeen) → NoneFalls a.link b.link → a.waits ≤ b.waits → ReadWaited b c → ReadWaited a c
+ReadWaited-after a b c m n w = (Rose-after _ _ _ m.read_waits w.0, Rose-after _ _ _ n w.1)
+
+pub PendingCause-after : (a b c : StreamSeen) → NoneFalls a.link b.link → a.waits ≤ b.waits → AllMoved a b → b.left ≤ a.left → c.left ≤ b.left → PendingCause b c → PendingCause a c
+PendingCause-after a b c m n s h k p = elim p [
+  | inl w ↦ inl (WriteWaited-after a b c m n w)
   | inr w ↦ elim w [
-    | inl r ↦ inr (inl (Rose-after _ _ _ m.read_waits r.0, r.1, r.2))
+    | inl r ↦ inr (inl (ReadWaited-after a b c m n r.0, r.1, r.2))
     | inr f ↦ inr (inr (f.0, AllMoved-then a b c s h f.1 k))
   ]
 ]
@@ -130,10 +145,10 @@ ErrorCause-after a b c (errors.Io End) m p = (Rose-after _ _ _ m.ends p.0, p.1)
 ErrorCause-after a b c (errors.Protocol (protocol.Server f)) m p = p
 ErrorCause-after a b c _ m p = absurd p
 
-pub PollsFront-after : (a b c : StreamSeen) (r : Poll (Result Front Error)) → Moves a b [] [] → AllMoved a b → PollsFront b c r → PollsFront a c r
-PollsFront-after a b c Pending m s p = (Moves-then a b c [] [] [] [] m p.0, PendingCause-after a b c m.counts s m.left p.0.left p.1)
-PollsFront-after a b c (Ready (Ok front)) m s p = (Moves-then a b c [] [] [] [] m p.0, p.1, AllMoved-then a b c s m.left p.2 p.0.left, p.3, p.4, p.5)
-PollsFront-after a b c (Ready (Err e)) m s p = (Moves-then a b c [] [] [] [] m p.0, ErrorCause-after a b c e m.counts p.1)
+pub PollsFront-after : (a b c : StreamSeen) (r : Poll (Result Front Error)) → Moves a b [] [] → b.spare ≡ a.spare → AllMoved a b → PollsFront b c r → PollsFront a c r
+PollsFront-after a b c Pending m k s p = (Moves-then a b c [] [] [] [] m p.0, PendingCause-after a b c m.counts m.tallies.waits.0 s m.left p.0.left p.1, p.2 ∙ k)
+PollsFront-after a b c (Ready (Ok front)) m k s p = (Moves-then a b c [] [] [] [] m p.0, p.1, AllMoved-then a b c s m.left p.2 p.0.left, p.3, p.4 ∙ k)
+PollsFront-after a b c (Ready (Err e)) m k s p = (Moves-then a b c [] [] [] [] m p.0, ErrorCause-after a b c e m.counts p.1, p.2 ∙ k)
 
 -- ---- one link call
 
@@ -147,37 +162,40 @@ one_move : (a b : StreamSeen) → NoneFalls a.link b.link → GrewBy 1 a.moves b
 one_move a b n m w r = record { write_waits = 0; read_waits = 0; moved = 1; waits = (omega (arith, w), omega (arith, w), omega (arith, w)); moves = m; writes = omega (arith, n.write_waits); reads = omega (arith, n.read_waits); moving = r }
 
 pub sends_moved : (a : StreamSeen) (link : LinkSeen) (n m : ℕ) → Writes a.link link (writes.Moved n) a.unsent → 0 < a.left → GrewBy 1 a.moves m
-    → SendsOnce a (record { link = link; unsent = drop n a.unsent; held = a.held; left = a.left - 1; waits = a.waits; moves = m; taken = a.taken }) (writes.Moved n)
+    → SendsOnce a (record a { link = link; unsent = drop n a.unsent; left = a.left - 1; moves = m }) (writes.Moved n)
 sends_moved a link n m w some grew =
-    let b : StreamSeen = record { link = link; unsent = drop n a.unsent; held = a.held; left = a.left - 1; waits = a.waits; moves = m; taken = a.taken } in
+    let b : StreamSeen = record a { link = link; unsent = drop n a.unsent; left = a.left - 1; moves = m } in
     let parts : a.unsent ++ [] ≡ take n a.unsent ++ drop n a.unsent = append-nil a.unsent ∙ sym (take-append-drop n a.unsent) in
     record {
-      moves = record { counts = w.counts; sent = (take n a.unsent, w.takes.2, parts); read = ([], Appends-from_keeps _ _ w.given, append-nil a.held, tt, GrewBy-none a.taken); tallies = one_move a b w.counts grew refl w.takes.3; left = omega arith; fuel = omega arith };
+      moves = record { counts = w.counts; sent = (take n a.unsent, w.takes.2, parts); read = ([], Appends-from_keeps _ _ w.given, append-nil a.held, tt, GrewBy-none a.taken); tallies = one_move a b w.counts grew refl w.takes.3; left = omega arith; fuel = omega arith; spare = omega arith; parameters = refl };
       held = refl;
+      spare = refl;
       left = omega arith;
-      cause = w.takes.3;
+      cause = (w.takes.3, grew.2);
     }
 
 pub reads_moved : (a : StreamSeen) (link : LinkSeen) (into : List ℕ) (n m : ℕ) → Reads a.link link (reads.Moved n) into → length into ≤ 8192 → 0 < a.left → GrewBy 1 a.moves m
-    → ReadsOnce a (record { link = link; unsent = a.unsent; held = a.held ++ take n into; left = a.left - 1; waits = a.waits; moves = m; taken = a.taken }) (reads.Moved n)
+    → ReadsOnce a (record a { link = link; held = a.held ++ take n into; left = a.left - 1; moves = m }) (reads.Moved n)
 reads_moved a link into n m r fits some grew =
-    let b : StreamSeen = record { link = link; unsent = a.unsent; held = a.held ++ take n into; left = a.left - 1; waits = a.waits; moves = m; taken = a.taken } in
+    let b : StreamSeen = record a { link = link; held = a.held ++ take n into; left = a.left - 1; moves = m } in
     record {
-      moves = record { counts = r.counts; sent = ([], Appends-from_keeps _ _ r.taken, append-nil a.unsent); read = (take n into, r.gives.2, refl, tt, GrewBy-none a.taken); tallies = one_move a b r.counts grew refl r.gives.4; left = omega arith; fuel = omega (arith, length-append a.held (take n into), length-take n into) };
+      moves = record { counts = r.counts; sent = ([], Appends-from_keeps _ _ r.taken, append-nil a.unsent); read = (take n into, r.gives.2, refl, tt, GrewBy-none a.taken); tallies = one_move a b r.counts grew refl r.gives.4; left = omega arith; fuel = omega (arith, length-append a.held (take n into), length-take n into); spare = omega arith; parameters = refl };
       unsent = refl;
+      spare = refl;
       left = omega arith;
-      cause = r.gives.4;
+      cause = (r.gives.4, grew.2);
     }
 
 pub reads_waited : (a : StreamSeen) (link : LinkSeen) (into : List ℕ) (m : ℕ) → Reads a.link link reads.NotYet into → 0 < a.left → GrewBy 1 a.waits m
-    → ReadsOnce a (record { link = link; unsent = a.unsent; held = a.held; left = a.left - 1; waits = m; moves = a.moves; taken = a.taken }) reads.NotYet
+    → ReadsOnce a (record a { link = link; left = a.left - 1; waits = m }) reads.NotYet
 reads_waited a link into m r some grew =
-    let b : StreamSeen = record { link = link; unsent = a.unsent; held = a.held; left = a.left - 1; waits = m; moves = a.moves; taken = a.taken } in
+    let b : StreamSeen = record a { link = link; left = a.left - 1; waits = m } in
     record {
-      moves = record { counts = r.counts; sent = ([], Appends-from_keeps _ _ r.taken, append-nil a.unsent); read = ([], Appends-from_keeps _ _ r.gives.0, append-nil a.held, tt, GrewBy-none a.taken); tallies = one_wait a b r.counts grew refl (inr r.gives.2); left = omega arith; fuel = omega arith };
+      moves = record { counts = r.counts; sent = ([], Appends-from_keeps _ _ r.taken, append-nil a.unsent); read = ([], Appends-from_keeps _ _ r.gives.0, append-nil a.held, tt, GrewBy-none a.taken); tallies = one_wait a b r.counts grew refl (inr r.gives.2); left = omega arith; fuel = omega arith; spare = omega arith; parameters = refl };
       unsent = refl;
+      spare = refl;
       left = omega arith;
-      cause = (r.gives.2, refl);
+      cause = ((r.gives.2, grew.2), refl);
     }
 
 -- ---- the frame at the front
@@ -214,31 +232,64 @@ front_within held front f =
     let size : length (bytes_of f.0 ++ f.1) ≡ length f.0.body + 5 + length f.1 = omega (arith, length-append (bytes_of f.0) f.1, length-append (number32 (length f.0.body + 4)) f.0.body) in
     (omega (arith, is.total), omega (arith, is.total, ap length is.parts, size))
 
+-- ---- a message at the front that is taken aside
+
+pub passes_aside : {A : Type 0} (a b : StreamOf A) (p : ParametersSeen) (front : Front) (body rest : List ℕ) → IsFrontOf a.held front (framed front.tag body) rest → TakesAside (framed front.tag body) a.parameters p (Ok true)
+    → Passes front (record a { parameters = p }) b → PassesAside front a b (Ok true)
+passes_aside {A} a b p front body rest f t q =
+    let moved = q (framed front.tag body) rest f in
+    let same : b.parameters ≡ p = ap (λ (s : StreamOf A). s.parameters) moved.0 in (
+      framed front.tag body,
+      rest,
+      f,
+      t.0,
+      (
+        moved.0 ∙ ap (λ (m : ParametersSeen). record a { held = rest; taken = b.taken; parameters = m }) (sym same),
+        moved.1,
+        subst (SetsBy (framed front.tag body) a.parameters) (sym same) t.1,
+      ),
+    )
+
+pub refuses_aside : {A : Type 0} (a : StreamOf A) (p : ParametersSeen) (front : Front) (body rest : List ℕ) (e : Error) → IsFrontOf a.held front (framed front.tag body) rest → TakesAside (framed front.tag body) a.parameters p (Err e)
+    → PassesAside front a (record a { parameters = p }) (Err e)
+refuses_aside {A} a p front body rest errors.OutOfMemory f t = ap (λ (m : ParametersSeen). record a { parameters = m }) t.1
+refuses_aside {A} a p front body rest (errors.Protocol (protocol.Server (faults.Malformed tag))) f t = (
+  ap (λ (m : ParametersSeen). record a { parameters = m }) t.1,
+  record { frame = framed front.tag body; rest = rest; whole = f.whole; tag_is = sym t.2.0; asynchronous = t.0; refused = t.2.1; parts = f.parts },
+)
+refuses_aside {A} a p front body rest _ f t = absurd t.2
+
+pub leaves_heard : {A : Type 0} (a : StreamOf A) (p : ParametersSeen) (front : Front) (body : List ℕ) → TakesAside (framed front.tag body) a.parameters p (Ok false) → PassesAside front a (record a { parameters = p }) (Ok false)
+leaves_heard a p front body t = (ap (λ (m : ParametersSeen). record a { parameters = m }) t.1, λ frame rest f. front_tag a.held front frame rest f ∙ t.0)
+
 -- ---- reads one after another, with all sent and no whole frame held before each
 
 pub record ReadsOn (a b : StreamSeen) : Type 0 where
   pub moves : Moves a b [] []
   pub unsent : b.unsent ≡ []
+  pub spare : b.spare ≡ a.spare
   pub moved : AllMoved a b
 
 pub reads_on : (a b c : StreamSeen) (n : ℕ) → ReadsOn a b → ReadsOnce b c (reads.Moved n) → ReadsOn a c
 reads_on a b c n i r = record {
   moves = Moves-then a b c [] [] [] [] i.moves r.moves;
   unsent = r.unsent ∙ i.unsent;
+  spare = r.spare ∙ i.spare;
   moved = AllMoved-more a b c i.moved i.moves.left r.left r.cause;
 }
 
 pub read_waits : (a b c : StreamSeen) → ReadsOn a b → HasNone b.held → ReadsOnce b c reads.NotYet → PollsFront a c Pending
 read_waits a b c i none r = (
   Moves-then a b c [] [] [] [] i.moves r.moves,
-  inr (inl (Rose-after _ _ _ i.moves.counts.read_waits r.cause.0, r.unsent ∙ i.unsent, subst HasNone (sym r.cause.1) none)),
+  inr (inl (ReadWaited-after a b c i.moves.counts i.moves.tallies.waits.0 r.cause.0, r.unsent ∙ i.unsent, subst HasNone (sym r.cause.1) none)),
+  r.spare ∙ i.spare,
 )
 
 pub read_ends : (a b c : StreamSeen) → ReadsOn a b → ReadsOnce b c reads.End → PollsFront a c (Ready (Err (errors.Io End)))
-read_ends a b c i r = (Moves-then a b c [] [] [] [] i.moves r.moves, (Rose-after _ _ _ i.moves.counts.ends r.cause.0, r.unsent ∙ i.unsent))
+read_ends a b c i r = (Moves-then a b c [] [] [] [] i.moves r.moves, (Rose-after _ _ _ i.moves.counts.ends r.cause.0, r.unsent ∙ i.unsent), r.spare ∙ i.spare)
 
 pub read_fails : (a b c : StreamSeen) → ReadsOn a b → ReadsOnce b c reads.Failed → PollsFront a c (Ready (Err (errors.Io Fault)))
-read_fails a b c i r = (Moves-then a b c [] [] [] [] i.moves r.moves, Rose-after _ _ _ i.moves.counts.faults r.cause.0)
+read_fails a b c i r = (Moves-then a b c [] [] [] [] i.moves r.moves, Rose-after _ _ _ i.moves.counts.faults r.cause.0, r.spare ∙ i.spare)
 
 -- ---- frames taken aside, and the next one that isn't
 
@@ -246,23 +297,24 @@ pub record HearsOn (a b : StreamSeen) : Type 0 where
   pub aside : List Frame
   pub asynchronous : AreAsynchronous aside
   pub moves : Moves a b [] aside
+  pub spare : b.spare ≡ a.spare
   pub moved : AllMoved a b
 
-AreAsynchronous-more : (xs : List Frame) (f : Frame) → AreAsynchronous xs → is_asynchronous f ≡ true → AreAsynchronous (xs ++ f ∷ [])
+AreAsynchronous-more : (xs : List Frame) (f : Frame) → AreAsynchronous xs → IsAside f → AreAsynchronous (xs ++ f ∷ [])
 AreAsynchronous-more [] f p e = (e, tt)
 AreAsynchronous-more (x ∷ xs) f p e = (p.0, AreAsynchronous-more xs f p.1 e)
 
 pub hears_none : (a : StreamSeen) → HearsOn a a
-hears_none a = record { aside = []; asynchronous = tt; moves = Moves-none a; moved = AllMoved-none a }
+hears_none a = record { aside = []; asynchronous = tt; moves = Moves-none a; spare = refl; moved = AllMoved-none a }
 
 -- the frame at the front is taken, with no call of the link
-pub takes_front : (a b : StreamSeen) (front : Front) (frame : Frame) (rest : List ℕ) → IsFrontOf a.held front frame rest → TakenFrom a b front rest → Moves a b [] (frame ∷ [])
+pub takes_front : (a b : StreamSeen) (front : Front) (frame : Frame) (rest : List ℕ) → IsFrontOf a.held front frame rest → TakenFrom a b front frame rest → Moves a b [] (frame ∷ [])
 takes_front a b front frame rest f t =
     let size : length a.held ≡ length frame.body + 5 + length rest = ap length f.parts ∙ omega (arith, length-append (bytes_of frame) rest, length-append (number32 (length frame.body + 4)) frame.body) in
     let parts : a.held ++ [] ≡ text_of (frame ∷ []) ++ rest = append-nil a.held ∙ f.parts ∙ ap (λ (z : List ℕ). z ++ rest) (sym (append-nil (bytes_of frame))) in
     let long : front.total ≡ length (text_of (frame ∷ [])) = omega (arith, f.total, length-append (bytes_of frame) [], length-append (number32 (length frame.body + 4)) frame.body) in
     let counts : NoneFalls a.link a.link = NoneFalls-refl a.link in
-    let c : StreamSeen = record a { held = rest; taken = b.taken } in
+    let c : StreamSeen = record a { held = rest; taken = b.taken; parameters = b.parameters } in
     let taken : Moves a c [] (frame ∷ []) = record {
       counts = counts;
       sent = ([], Appends-refl a.link.taken, append-nil a.unsent);
@@ -270,50 +322,82 @@ takes_front a b front frame rest f t =
       tallies = Tallies-none a c counts refl refl;
       left = omega arith;
       fuel = omega (arith, size);
+      spare = omega arith;
+      parameters = (b.parameters, t.2, refl);
     } in
     subst (λ (s : StreamSeen). Moves a s [] (frame ∷ [])) (sym t.0) taken
 
-AllMoved-taken : (a b c : StreamSeen) (front : Front) (rest : List ℕ) → AllMoved a b → TakenFrom b c front rest → AllMoved a c
-AllMoved-taken a b c front rest m t = subst (λ (s : StreamSeen). AllMoved a s) (sym t.0) m
+AllMoved-taken : (a b c : StreamSeen) (front : Front) (frame : Frame) (rest : List ℕ) → AllMoved a b → TakenFrom b c front frame rest → AllMoved a c
+AllMoved-taken a b c front frame rest m t = subst (λ (s : StreamSeen). AllMoved a s) (sym t.0) m
 
-seen_taken : {A : Type 0} (seen : A → LinkSeen) (a b : StreamOf A) (front : Front) (rest : List ℕ) → TakenFrom a b front rest → TakenFrom (stream_by seen a) (stream_by seen b) front rest
-seen_taken seen a b front rest t = (ap (stream_by seen) t.0, t.1)
+seen_taken : {A : Type 0} (seen : A → LinkSeen) (a b : StreamOf A) (front : Front) (frame : Frame) (rest : List ℕ) → TakenFrom a b front frame rest → TakenFrom (stream_by seen a) (stream_by seen b) front frame rest
+seen_taken seen a b front frame rest t = (ap (stream_by seen) t.0, t.1, t.2)
+
+-- a frame that is no asynchronous message sets nothing
+taken_heard : {A : Type 0} (a b : StreamOf A) (front : Front) (frame : Frame) (rest : List ℕ) → is_asynchronous frame ≡ false → IsFrontOf a.held front frame rest → Passes front a b → TakenFrom a b front frame rest
+taken_heard {A} a b front frame rest h f p =
+    let q = p frame rest f in
+    let same : b.parameters ≡ a.parameters = ap (λ (s : StreamOf A). s.parameters) q.0 in
+    (q.0 ∙ ap (λ (m : ParametersSeen). record a { held = rest; taken = b.taken; parameters = m }) (sym same), q.1, subst (SetsBy frame a.parameters) (sym same) (sets_heard frame a.parameters h))
 
 -- one frame aside
 pub aside_once : {A : Type 0} (seen : A → LinkSeen) (a b c : StreamOf A) (front : Front) → PollsFront (stream_by seen a) (stream_by seen b) (Ready (Ok front)) → PassesAside front b c (Ok true)
     → AheadOnce (stream_by seen a) (stream_by seen c) None
 aside_once seen a b c front p q =
-    let taken = seen_taken seen b c front q.1 q.4 in
-    (q.0, q.3, Moves-then (stream_by seen a) (stream_by seen b) (stream_by seen c) [] [] [] (q.0 ∷ []) p.0 (takes_front (stream_by seen b) (stream_by seen c) front q.0 q.1 q.2 taken), AllMoved-taken (stream_by seen a) (stream_by seen b) (stream_by seen c) front q.1 p.2 taken)
+    let taken = seen_taken seen b c front q.0 q.1 q.4 in (
+      q.0,
+      q.3,
+      Moves-then (stream_by seen a) (stream_by seen b) (stream_by seen c) [] [] [] (q.0 ∷ []) p.0 (takes_front (stream_by seen b) (stream_by seen c) front q.0 q.1 q.2 taken),
+      AllMoved-taken (stream_by seen a) (stream_by seen b) (stream_by seen c) front q.0 q.1 p.2 taken,
+      ap (λ (s : StreamSeen). s.spare) taken.0 ∙ p.4,
+    )
 
 -- a frame that is no asynchronous message stays at the front
 pub ahead_once : {A : Type 0} (seen : A → LinkSeen) (a b c : StreamOf A) (front : Front) → PollsFront (stream_by seen a) (stream_by seen b) (Ready (Ok front)) → PassesAside front b c (Ok false)
     → AheadOnce (stream_by seen a) (stream_by seen c) (Some (Ready (Ok front)))
-ahead_once {A} seen a b c front p q = subst (λ (s : StreamOf A). AheadOnce (stream_by seen a) (stream_by seen s) (Some (Ready (Ok front)))) (sym q.0) ([], tt, p.0, p.1, p.2, (p.3, p.4, p.5, q.1 p.3 p.4 p.5))
+ahead_once {A} seen a b c front p q = subst (λ (s : StreamOf A). AheadOnce (stream_by seen a) (stream_by seen s) (Some (Ready (Ok front)))) (sym q.0)
+    ([], tt, p.0, p.1, p.2, (p.3.0, p.3.1, p.3.2, q.1 p.3.0 p.3.1 p.3.2), p.4)
 
 -- the frame at the front is taken too, or stays for want of memory
-pub heard_then : {A : Type 0} (seen : A → LinkSeen) (a b c : StreamOf A) (front : Front) (r : Result Frame Error) → PollsAhead (stream_by seen a) (stream_by seen b) (Ready (Ok front)) → TakesFront front b c r
+pub heard_then : {A : Type 0} (seen : A → LinkSeen) (a b c : StreamOf A) (front : Front) (r : Result Frame Error) → PollsAhead (stream_by seen a) (stream_by seen b) (Ready (Ok front)) → TakesHeard front b c r
     → PollsHeard (stream_by seen a) (stream_by seen c) (Ready r)
 heard_then {A} seen a b c front (Ok frame) p t =
-    let taken = seen_taken seen b c front t.0 t.2 in
-    let same : is_asynchronous frame ≡ false = front_tag b.held front frame t.0 t.1 ∙ sym (front_tag b.held front p.5.0 p.5.1 p.5.2) ∙ p.5.3 in (
+    let taken = seen_taken seen b c front frame t.1.0 t.1.2 in (
       p.0,
       p.1,
-      Moves-then (stream_by seen a) (stream_by seen b) (stream_by seen c) [] [] p.0 (frame ∷ []) p.2 (takes_front (stream_by seen b) (stream_by seen c) front frame t.0 t.1 taken),
-      same,
+      Moves-then (stream_by seen a) (stream_by seen b) (stream_by seen c) [] [] p.0 (frame ∷ []) p.2 (takes_front (stream_by seen b) (stream_by seen c) front frame t.1.0 t.1.1 taken),
+      t.0,
       subst (λ (s : StreamSeen). s.unsent ≡ []) (sym taken.0) p.3,
-      AllMoved-taken (stream_by seen a) (stream_by seen b) (stream_by seen c) front t.0 p.4 taken,
+      AllMoved-taken (stream_by seen a) (stream_by seen b) (stream_by seen c) front frame t.1.0 p.4 taken,
+      ap (λ (s : StreamSeen). s.spare) taken.0 ∙ p.6,
     )
 heard_then {A} seen a b c front (Err e) p t =
-    (p.0, p.1, subst (λ (s : StreamOf A). Moves (stream_by seen a) (stream_by seen s) [] p.0) (sym t.0) p.2, subst (HeardCause (stream_by seen a) (stream_by seen c)) (sym t.1) tt)
+    let same : stream_by seen c ≡ stream_by seen b = ap (stream_by seen) t.0 in
+    (p.0, p.1, subst (λ (s : StreamSeen). Moves (stream_by seen a) s [] p.0) (sym same) p.2, subst (HeardCause (stream_by seen a) (stream_by seen c)) (sym t.1) tt, ap (λ (s : StreamSeen). s.spare) same ∙ p.6)
+
+-- the same of whatever frame stands there
+pub frame_then : {A : Type 0} (seen : A → LinkSeen) (a b c : StreamOf A) (front : Front) (r : Result Frame Error) → PollsFront (stream_by seen a) (stream_by seen b) (Ready (Ok front)) → TakesFront front b c r
+    → PollsFrame (stream_by seen a) (stream_by seen c) (Ready r)
+frame_then {A} seen a b c front (Ok frame) p t =
+    let taken = seen_taken seen b c front frame t.0 t.2 in (
+      Moves-then (stream_by seen a) (stream_by seen b) (stream_by seen c) [] [] [] (frame ∷ []) p.0 (takes_front (stream_by seen b) (stream_by seen c) front frame t.0 t.1 taken),
+      subst (λ (s : StreamSeen). s.unsent ≡ []) (sym taken.0) p.1,
+      AllMoved-taken (stream_by seen a) (stream_by seen b) (stream_by seen c) front frame t.0 p.2 taken,
+      ap (λ (s : StreamSeen). s.spare) taken.0 ∙ p.4,
+    )
+frame_then {A} seen a b c front (Err e) p t =
+    let same : stream_by seen c ≡ stream_by seen b = ap (stream_by seen) t.0 in
+    (subst (λ (s : StreamSeen). Moves (stream_by seen a) s [] []) (sym same) p.0, subst (ErrorCause (stream_by seen a) (stream_by seen c)) (sym t.1) tt, ap (λ (s : StreamSeen). s.spare) same ∙ p.4)
 
 -- an asynchronous message that is refused
 pub refused_once : {A : Type 0} (seen : A → LinkSeen) (a b c : StreamOf A) (front : Front) (e : Error) → PollsFront (stream_by seen a) (stream_by seen b) (Ready (Ok front)) → PassesAside front b c (Err e)
     → AheadOnce (stream_by seen a) (stream_by seen c) (Some (Ready (Err e)))
-refused_once {A} seen a b c front errors.OutOfMemory p q = ([], tt, subst (λ (s : StreamSeen). Moves (stream_by seen a) s [] []) (sym (ap (stream_by seen) q)) p.0, tt)
+refused_once {A} seen a b c front errors.OutOfMemory p q =
+    let same : stream_by seen c ≡ stream_by seen b = ap (stream_by seen) q in
+    ([], tt, subst (λ (s : StreamSeen). Moves (stream_by seen a) s [] []) (sym same) p.0, tt, ap (λ (s : StreamSeen). s.spare) same ∙ p.4)
 refused_once {A} seen a b c front (errors.Protocol (protocol.Server (faults.Malformed tag))) p q =
-    let same : c ≡ b = q.0 in
-    ([], tt, subst (λ (s : StreamSeen). Moves (stream_by seen a) s [] []) (sym (ap (stream_by seen) same)) p.0, subst (λ (s : StreamOf A). IsMalformedFront s.held tag) (sym same) q.1)
+    let same : stream_by seen c ≡ stream_by seen b = ap (stream_by seen) q.0 in
+    ([], tt, subst (λ (s : StreamSeen). Moves (stream_by seen a) s [] []) (sym same) p.0, subst (λ (s : StreamOf A). IsMalformedFront s.held tag) (sym q.0) q.1, ap (λ (s : StreamSeen). s.spare) same ∙ p.4)
 refused_once {A} seen a b c front _ p q = absurd q
 
 HeardCause-from : (a b : StreamSeen) (e : Error) → ErrorCause a b e → HeardCause a b e
@@ -322,16 +406,17 @@ HeardCause-from a b e p = p
 
 -- the stream itself fails
 pub failed_once : (a b : StreamSeen) (e : Error) → PollsFront a b (Ready (Err e)) → AheadOnce a b (Some (Ready (Err e)))
-failed_once a b e p = ([], tt, p.0, HeardCause-from a b e p.1)
+failed_once a b e p = ([], tt, p.0, HeardCause-from a b e p.1, p.2)
 
 pub waits_once : (a b : StreamSeen) → PollsFront a b Pending → AheadOnce a b (Some Pending)
-waits_once a b p = ([], tt, p.0, p.1)
+waits_once a b p = ([], tt, p.0, p.1, p.2)
 
 pub hears_on : (a b c : StreamSeen) → HearsOn a b → AheadOnce b c None → HearsOn a c
 hears_on a b c i p = record {
   aside = i.aside ++ p.0 ∷ [];
   asynchronous = AreAsynchronous-more i.aside p.0 i.asynchronous p.1;
   moves = Moves-then a b c [] [] i.aside (p.0 ∷ []) i.moves p.2;
+  spare = p.4 ∙ i.spare;
   moved = AllMoved-then a b c i.moved i.moves.left p.3 p.2.left;
 }
 
@@ -345,27 +430,32 @@ HeardCause-after a b c e m p = ErrorCause-after a b c e m p
 
 pub hears_last : (a b c : StreamSeen) (r : Poll (Result Front Error)) → HearsOn a b → PollsAhead b c r → PollsAhead a c r
 hears_last a b c Pending i p =
-    (i.aside ++ p.0, AreAsynchronous-append i.aside p.0 i.asynchronous p.1, Moves-then a b c [] [] i.aside p.0 i.moves p.2, PendingCause-after a b c i.moves.counts i.moved i.moves.left p.2.left p.3)
+    (i.aside ++ p.0, AreAsynchronous-append i.aside p.0 i.asynchronous p.1, Moves-then a b c [] [] i.aside p.0 i.moves p.2, PendingCause-after a b c i.moves.counts i.moves.tallies.waits.0 i.moved i.moves.left p.2.left p.3, p.4 ∙ i.spare)
 hears_last a b c (Ready (Ok front)) i p =
-    (i.aside ++ p.0, AreAsynchronous-append i.aside p.0 i.asynchronous p.1, Moves-then a b c [] [] i.aside p.0 i.moves p.2, p.3, AllMoved-then a b c i.moved i.moves.left p.4 p.2.left, p.5)
+    (i.aside ++ p.0, AreAsynchronous-append i.aside p.0 i.asynchronous p.1, Moves-then a b c [] [] i.aside p.0 i.moves p.2, p.3, AllMoved-then a b c i.moved i.moves.left p.4 p.2.left, p.5, p.6 ∙ i.spare)
 hears_last a b c (Ready (Err e)) i p =
-    (i.aside ++ p.0, AreAsynchronous-append i.aside p.0 i.asynchronous p.1, Moves-then a b c [] [] i.aside p.0 i.moves p.2, HeardCause-after a b c e i.moves.counts p.3)
+    (i.aside ++ p.0, AreAsynchronous-append i.aside p.0 i.asynchronous p.1, Moves-then a b c [] [] i.aside p.0 i.moves p.2, HeardCause-after a b c e i.moves.counts p.3, p.4 ∙ i.spare)
 
 -- a message at the front that was taken
-pub took_front : {A : Type 0} (seen : A → LinkSeen) (a b : StreamOf A) (front : Front) → IsFront a.held front → Passes front a b
+pub took_frame : {A : Type 0} (seen : A → LinkSeen) (a b : StreamOf A) (front : Front) (frame : Frame) (rest : List ℕ) → IsFrontOf a.held front frame rest → is_asynchronous frame ≡ false → Passes front a b
+    → Moves (stream_by seen a) (stream_by seen b) [] (frame ∷ []) × AllMoved (stream_by seen a) (stream_by seen b)
+took_frame seen a b front frame rest f heard p =
+    let taken = seen_taken seen a b front frame rest (taken_heard a b front frame rest heard f p) in
+    (takes_front (stream_by seen a) (stream_by seen b) front frame rest f taken, AllMoved-taken (stream_by seen a) (stream_by seen a) (stream_by seen b) front frame rest (AllMoved-none (stream_by seen a)) taken)
+
+pub took_front : {A : Type 0} (seen : A → LinkSeen) (a b : StreamOf A) (front : Front) → IsHeardFront a.held front → Passes front a b
     → (frame : Frame) × Moves (stream_by seen a) (stream_by seen b) [] (frame ∷ []) × AllMoved (stream_by seen a) (stream_by seen b)
-took_front seen a b front f p =
-    let taken = seen_taken seen a b front f.1 (p f.0 f.1 f.2) in
-    (f.0, takes_front (stream_by seen a) (stream_by seen b) front f.0 f.1 f.2 taken, AllMoved-taken (stream_by seen a) (stream_by seen a) (stream_by seen b) front f.1 (AllMoved-none (stream_by seen a)) taken)
+took_front seen a b front f p = let t = took_frame seen a b front f.0 f.1 f.2 f.3 p in (f.0, t.0, t.1)
 
 pub IsFront-from_heard : (held : List ℕ) (front : Front) → IsHeardFront held front → IsFront held front
 IsFront-from_heard held front h = (h.0, h.1, h.2)
 
--- what is queued is moved into what is unsent
-pub queues : {A : Type 0} (seen : A → LinkSeen) (a b : StreamOf A) (bytes : List ℕ) → b ≡ record a { unsent = a.unsent ++ bytes } → Moves (stream_by seen a) (stream_by seen b) bytes [] × AllMoved (stream_by seen a) (stream_by seen b)
-queues {A} seen a b bytes e =
+-- what is queued is moved into what is unsent, and may take of the cleanup reserve
+pub queues_by : {A : Type 0} (seen : A → LinkSeen) (a b : StreamOf A) (bytes : List ℕ) (spare : ℕ) → a.spare ≤ spare + length bytes → b ≡ record a { unsent = a.unsent ++ bytes; spare = spare }
+    → Moves (stream_by seen a) (stream_by seen b) bytes [] × AllMoved (stream_by seen a) (stream_by seen b)
+queues_by {A} seen a b bytes spare room e =
     let s : StreamSeen = stream_by seen a in
-    let t : StreamSeen = record s { unsent = a.unsent ++ bytes } in
+    let t : StreamSeen = record s { unsent = a.unsent ++ bytes; spare = spare } in
     let counts : NoneFalls s.link s.link = NoneFalls-refl s.link in
     let moves : Moves s t bytes [] = record {
       counts = counts;
@@ -374,6 +464,20 @@ queues {A} seen a b bytes e =
       tallies = Tallies-none s t counts refl refl;
       left = omega arith;
       fuel = omega arith;
+      spare = room;
+      parameters = refl;
     } in
-    let all : AllMoved s t = omega arith in
+    let all : AllMoved s t = (omega arith, omega arith) in
     subst (λ (u : StreamOf A). Moves s (stream_by seen u) bytes [] × AllMoved s (stream_by seen u)) (sym e) (moves, all)
+
+pub queues : {A : Type 0} (seen : A → LinkSeen) (a b : StreamOf A) (bytes : List ℕ) → b ≡ record a { unsent = a.unsent ++ bytes } → Moves (stream_by seen a) (stream_by seen b) bytes [] × AllMoved (stream_by seen a) (stream_by seen b)
+queues seen a b bytes e = queues_by seen a b bytes a.spare (omega arith) e
+
+-- the cleanup reserve is made
+pub reserves : {A : Type 0} (seen : A → LinkSeen) (a b : StreamOf A) (n : ℕ) → b ≡ record a { spare = max a.spare n } → Moves (stream_by seen a) (stream_by seen b) [] [] × AllMoved (stream_by seen a) (stream_by seen b)
+reserves {A} seen a b n e = queues_by seen a b [] (max a.spare n) (omega arith) (e ∙ ap (λ (u : List ℕ). record a { unsent = u; spare = max a.spare n }) (sym (append-nil a.unsent)))
+
+-- a cleanup frame is queued out of it
+pub cleans : {A : Type 0} (seen : A → LinkSeen) (a b : StreamOf A) (frame : List ℕ) → length frame ≤ a.spare → b ≡ record a { unsent = a.unsent ++ frame; spare = a.spare - length frame }
+    → Moves (stream_by seen a) (stream_by seen b) frame [] × AllMoved (stream_by seen a) (stream_by seen b)
+cleans seen a b frame fits e = queues_by seen a b frame (a.spare - length frame) (omega (arith, fits)) e

@@ -1,12 +1,24 @@
--- Why an asynchronous message is refused.
-use Rattle.std.specs.Prelude.{◌≡◌, ℕ}
+-- Asynchronous messages, which a server may send between any two others (PostgreSQL manual, "Message Flow",
+-- "Asynchronous Operations").
+use Rattle.std.specs.Prelude.{◌≡◌, Bool, true, false, Result, Ok, Err}
 use Rattle.pg_wire.specs.declared.error.Error.{Error}
-use Rattle.pg_wire.specs.declared.error.Error.TheVariants as errors
-use Rattle.pg_wire.specs.declared.error.ProtocolFault.TheVariants as protocol
-use Rattle.pg_wire.specs.declared.error.ServerFault.TheVariants as faults
+use Rattle.pg_wire.specs.Frame.{Frame}
+use Rattle.pg_wire.specs.Backend.{BackendMessage}
+use Rattle.pg_wire.specs.Parts.{is_asynchronous}
+use Rattle.pg_wire.specs.Decoding.{IsRefused}
+use Rattle.pg_stream.specs.Parameters.{ParametersSeen, Carries, SetsBy}
 
--- memory is wanting, or the body is not in its format
-abbrev pub IsAsynchronousFault : ℕ → Error → Type 0
-IsAsynchronousFault tag errors.OutOfMemory = Unit {0}
-IsAsynchronousFault tag (errors.Protocol (protocol.Server (faults.Malformed at))) = at ≡ tag
-IsAsynchronousFault tag _ = ⊥
+-- the frame is in the format of its tag
+abbrev pub IsSaid : Frame → Type 0
+IsSaid frame = (m : BackendMessage) × Carries frame m
+
+-- an asynchronous message in its format
+abbrev pub IsAside : Frame → Type 0
+IsAside frame = (is_asynchronous frame ≡ true) × IsSaid frame
+
+-- An asynchronous message is taken aside: a ParameterStatus sets its value, and nothing of the others is kept. One that is not in its
+-- format is refused, and nothing is kept for want of memory.
+abbrev pub TakesAside : Frame → ParametersSeen → ParametersSeen → Result Bool Error → Type 0
+TakesAside frame a b (Ok true) = IsAside frame × SetsBy frame a b
+TakesAside frame a b (Ok false) = (is_asynchronous frame ≡ false) × (b ≡ a)
+TakesAside frame a b (Err e) = (is_asynchronous frame ≡ true) × (b ≡ a) × IsRefused frame.tag frame.body e

@@ -4,3 +4,7 @@ pub mod Asynchronous
 pub mod Events
 pub mod Memory
 pub mod Outside
+pub mod Versions
+pub mod VersionReading
+pub mod Outgoing
+pub mod Parameters

@@ -1,5 +1,5 @@
 -- What is seen of a stream, and how its calls move it on.
-use Rattle.std.specs.Prelude.{◌≡◌, ℕ, ◌+◌, ◌-◌, ◌*◌, ◌^◌, ◌≤◌, min, length, ◌⊎◌, List, [], ◌∷◌, ◌++◌, Bool, true, false, Option, Some, None, Result, Ok, Err}
+use Rattle.std.specs.Prelude.{◌≡◌, ℕ, ◌+◌, ◌-◌, ◌*◌, ◌≤◌, length, ◌⊎◌, List, [], ◌∷◌, ◌++◌, Bool, true, false, Option, Some, None, Result, Ok, Err}
 use Rattle.std.specs.List.{AllByRecursion}
 use Rattle.std.specs.Io.KnownBytes.{Appends}
 use Rattle.futures.specs.declared.task.Poll.{Poll}
@@ -18,13 +18,18 @@ use Rattle.pg_stream.specs.declared.link.LinkRead.{LinkRead}
 use Rattle.pg_stream.specs.declared.link.LinkRead.TheVariants as reads
 use Rattle.pg_stream.specs.declared.link.LinkWrite.{LinkWrite}
 use Rattle.pg_stream.specs.declared.link.LinkWrite.TheVariants as writes
+use Rattle.pg_wire.specs.Backend.{BackendMessage}
 use Rattle.pg_stream.specs.Links.{LinkSeen, NoneFalls, RoseBy, Rose}
+use Rattle.pg_stream.specs.Parameters.{ParametersSeen, no_parameters, Carries, SetsBy, SetsByAll}
+use Rattle.pg_stream.specs.Asynchronous.{IsAside}
 
 -- A stream over a link, or over what is seen of one: clauses name the first, lemmas the second.
 pub record StreamOf (A : Type 0) : Type 0 where
   pub link : A
   -- queued and not sent
   pub unsent : List ℕ
+  -- how many bytes of cleanup can be queued without taking memory
+  pub spare : ℕ
   -- read and not taken
   pub held : List ℕ
   -- the link calls that this poll may still make
@@ -34,16 +39,18 @@ pub record StreamOf (A : Type 0) : Type 0 where
   pub moves : ℕ
   -- the bytes of all frames taken, up to the same
   pub taken : ℕ
+  -- what the frames taken told of the server's parameters
+  pub parameters : ParametersSeen
 
 abbrev pub StreamSeen : Type 0
 StreamSeen = StreamOf LinkSeen
 
 abbrev pub stream_by : {A : Type 0} → (A → LinkSeen) → StreamOf A → StreamSeen
-stream_by f s = record { link = f s.link; unsent = s.unsent; held = s.held; left = s.left; waits = s.waits; moves = s.moves; taken = s.taken }
+stream_by f s = record { link = f s.link; unsent = s.unsent; spare = s.spare; held = s.held; left = s.left; waits = s.waits; moves = s.moves; taken = s.taken; parameters = s.parameters }
 
 -- a stream that has queued and read nothing
 abbrev pub fresh_stream : {A : Type 0} → A → StreamOf A
-fresh_stream link = record { link = link; unsent = []; held = []; left = 256; waits = 0; moves = 0; taken = 0 }
+fresh_stream link = record { link = link; unsent = []; spare = 0; held = []; left = 256; waits = 0; moves = 0; taken = 0; parameters = no_parameters }
 
 -- how much a poll can still do: a link call adds at most 8192 bytes, and a frame takes five away at least
 abbrev pub fuel_of : StreamSeen → ℕ
@@ -83,10 +90,23 @@ pub record Moves (a b : StreamSeen) (queued : List ℕ) (frames : List Frame) : 
   pub tallies : Tallies a b
   pub left : b.left ≤ a.left
   pub fuel : 5 * length frames + fuel_of b ≤ fuel_of a
+  -- only what was queued can have taken of the cleanup reserve
+  pub spare : a.spare ≤ b.spare + length queued
+  pub parameters : SetsByAll frames a.parameters b.parameters
+
+-- a write waited, a read waited, a call moved bytes: the link and the stream count it
+abbrev pub WriteWaited : StreamSeen → StreamSeen → Type 0
+WriteWaited a b = Rose a.link.write_waits b.link.write_waits × Rose a.waits b.waits
+
+abbrev pub ReadWaited : StreamSeen → StreamSeen → Type 0
+ReadWaited a b = Rose a.link.read_waits b.link.read_waits × Rose a.waits b.waits
+
+abbrev pub OneMoved : StreamSeen → StreamSeen → Type 0
+OneMoved a b = Rose a.link.moved b.link.moved × Rose a.moves b.moves
 
 -- each link call moved bytes
 abbrev pub AllMoved : StreamSeen → StreamSeen → Type 0
-AllMoved a b = RoseBy (a.left - b.left) a.link.moved b.link.moved
+AllMoved a b = RoseBy (a.left - b.left) a.link.moved b.link.moved × RoseBy (a.left - b.left) a.moves b.moves
 
 -- the calls that were allowed are made, and each moved bytes
 abbrev pub IsSpent : StreamSeen → StreamSeen → Type 0
@@ -98,32 +118,34 @@ HasNone bytes = BeginsNoFrame backend_tags bytes
 -- ---- one link call
 
 abbrev pub WriteCause : StreamSeen → StreamSeen → LinkWrite → Type 0
-WriteCause a b (writes.Moved n) = Rose a.link.moved b.link.moved
-WriteCause a b writes.NotYet = Rose a.link.write_waits b.link.write_waits
+WriteCause a b (writes.Moved n) = OneMoved a b
+WriteCause a b writes.NotYet = WriteWaited a b
 WriteCause a b writes.Failed = Rose a.link.faults b.link.faults
 
 pub record SendsOnce (a b : StreamSeen) (answer : LinkWrite) : Type 0 where
   pub moves : Moves a b [] []
   pub held : b.held ≡ a.held
+  pub spare : b.spare ≡ a.spare
   pub left : b.left + 1 ≡ a.left
   pub cause : WriteCause a b answer
 
 abbrev pub ReadCause : StreamSeen → StreamSeen → LinkRead → Type 0
-ReadCause a b (reads.Moved n) = Rose a.link.moved b.link.moved
-ReadCause a b reads.NotYet = Rose a.link.read_waits b.link.read_waits × (b.held ≡ a.held)
+ReadCause a b (reads.Moved n) = OneMoved a b
+ReadCause a b reads.NotYet = ReadWaited a b × (b.held ≡ a.held)
 ReadCause a b reads.End = Rose a.link.ends b.link.ends × (b.held ≡ a.held)
 ReadCause a b reads.Failed = Rose a.link.faults b.link.faults × (b.held ≡ a.held)
 
 pub record ReadsOnce (a b : StreamSeen) (answer : LinkRead) : Type 0 where
   pub moves : Moves a b [] []
   pub unsent : b.unsent ≡ a.unsent
+  pub spare : b.spare ≡ a.spare
   pub left : b.left + 1 ≡ a.left
   pub cause : ReadCause a b answer
 
 -- ---- polls
 
 abbrev pub SendGives : StreamSeen → StreamSeen → Poll (Result (Unit {0}) Error) → Type 0
-SendGives a b Pending = Rose a.link.write_waits b.link.write_waits ⊎ IsSpent a b
+SendGives a b Pending = WriteWaited a b ⊎ IsSpent a b
 SendGives a b (Ready (Ok u)) = (b.unsent ≡ []) × AllMoved a b
 SendGives a b (Ready (Err e)) = (e ≡ errors.Io Fault) × Rose a.link.faults b.link.faults
 
@@ -131,12 +153,13 @@ SendGives a b (Ready (Err e)) = (e ≡ errors.Io Fault) × Rose a.link.faults b.
 pub record PollsSend (a b : StreamSeen) (answer : Poll (Result (Unit {0}) Error)) : Type 0 where
   pub moves : Moves a b [] []
   pub held : b.held ≡ a.held
+  pub spare : b.spare ≡ a.spare
   pub gives : SendGives a b answer
 
 -- why a poll answers `Pending`: a write waited; or a read waited with all sent and no whole frame held; or its calls are spent
 abbrev pub PendingCause : StreamSeen → StreamSeen → Type 0
-PendingCause a b = Rose a.link.write_waits b.link.write_waits
-    ⊎ (Rose a.link.read_waits b.link.read_waits × (b.unsent ≡ []) × HasNone b.held)
+PendingCause a b = WriteWaited a b
+    ⊎ (ReadWaited a b × (b.unsent ≡ []) × HasNone b.held)
     ⊎ IsSpent a b
 
 -- the bytes begin with a header that no frame has
@@ -173,33 +196,38 @@ FrontIs held (Ok None) = HasNone held
 FrontIs held (Err (errors.Protocol (protocol.Server fault))) = HeaderFault held fault
 FrontIs held (Err _) = ⊥
 
--- the frame at the front is gone, and its bytes are counted
-abbrev pub TakenFrom : {A : Type 0} → StreamOf A → StreamOf A → Front → List ℕ → Type 0
-TakenFrom a b front rest = (b ≡ record a { held = rest; taken = b.taken }) × GrewBy front.total a.taken b.taken
+-- the frame at the front is gone, its bytes are counted, and the value that it tells is kept
+abbrev pub TakenFrom : {A : Type 0} → StreamOf A → StreamOf A → Front → Frame → List ℕ → Type 0
+TakenFrom a b front frame rest = (b ≡ record a { held = rest; taken = b.taken; parameters = b.parameters }) × GrewBy front.total a.taken b.taken × SetsBy frame a.parameters b.parameters
 
--- whatever frame stood at the front is gone
+-- whatever frame stood at the front is gone, and nothing of it is kept
 abbrev pub Passes : {A : Type 0} → Front → StreamOf A → StreamOf A → Type 0
-Passes front a b = (frame : Frame) (rest : List ℕ) → IsFrontOf a.held front frame rest → TakenFrom a b front rest
+Passes front a b = (frame : Frame) (rest : List ℕ) → IsFrontOf a.held front frame rest → (b ≡ record a { held = rest; taken = b.taken }) × GrewBy front.total a.taken b.taken
 
 -- the frame at the front is taken, or stays for want of memory
 abbrev pub TakesFront : {A : Type 0} → Front → StreamOf A → StreamOf A → Result Frame Error → Type 0
-TakesFront front a b (Ok frame) = (rest : List ℕ) × IsFrontOf a.held front frame rest × TakenFrom a b front rest
+TakesFront front a b (Ok frame) = (rest : List ℕ) × IsFrontOf a.held front frame rest × TakenFrom a b front frame rest
 TakesFront front a b (Err e) = (b ≡ a) × (e ≡ errors.OutOfMemory)
+
+-- the same of a frame that is no asynchronous message
+abbrev pub TakesHeard : {A : Type 0} → Front → StreamOf A → StreamOf A → Result Frame Error → Type 0
+TakesHeard front a b (Ok frame) = (is_asynchronous frame ≡ false) × TakesFront front a b (Ok frame)
+TakesHeard front a b (Err e) = TakesFront front a b (Err e)
 
 -- A poll that waits for a whole frame at the front, and takes none.
 abbrev pub PollsFront : StreamSeen → StreamSeen → Poll (Result Front Error) → Type 0
-PollsFront a b Pending = Moves a b [] [] × PendingCause a b
-PollsFront a b (Ready (Ok front)) = Moves a b [] [] × (b.unsent ≡ []) × AllMoved a b × (frame : Frame) × (rest : List ℕ) × IsFrontOf b.held front frame rest
-PollsFront a b (Ready (Err e)) = Moves a b [] [] × ErrorCause a b e
+PollsFront a b Pending = Moves a b [] [] × PendingCause a b × (b.spare ≡ a.spare)
+PollsFront a b (Ready (Ok front)) = Moves a b [] [] × (b.unsent ≡ []) × AllMoved a b × IsFront b.held front × (b.spare ≡ a.spare)
+PollsFront a b (Ready (Err e)) = Moves a b [] [] × ErrorCause a b e × (b.spare ≡ a.spare)
 
--- A poll for the next frame of all bytes given. Each other answer has its cause.
+-- A poll for the next frame of all bytes given. Each other answer has its cause, and the cleanup reserve stays.
 abbrev pub PollsFrame : StreamSeen → StreamSeen → Poll (Result Frame Error) → Type 0
-PollsFrame a b Pending = Moves a b [] [] × PendingCause a b
-PollsFrame a b (Ready (Ok frame)) = Moves a b [] (frame ∷ []) × (b.unsent ≡ []) × AllMoved a b
-PollsFrame a b (Ready (Err e)) = Moves a b [] [] × ErrorCause a b e
+PollsFrame a b Pending = Moves a b [] [] × PendingCause a b × (b.spare ≡ a.spare)
+PollsFrame a b (Ready (Ok frame)) = Moves a b [] (frame ∷ []) × (b.unsent ≡ []) × AllMoved a b × (b.spare ≡ a.spare)
+PollsFrame a b (Ready (Err e)) = Moves a b [] [] × ErrorCause a b e × (b.spare ≡ a.spare)
 
 abbrev pub AreAsynchronous : List Frame → Type 0
-AreAsynchronous frames = AllByRecursion (λ f. is_asynchronous f ≡ true) frames
+AreAsynchronous frames = AllByRecursion IsAside frames
 
 -- an asynchronous message stands at the front, and its body is not in its format
 pub record IsMalformedFront (bytes : List ℕ) (tag : ℕ) : Type 0 where
@@ -208,6 +236,7 @@ pub record IsMalformedFront (bytes : List ℕ) (tag : ℕ) : Type 0 where
   pub whole : IsWhole backend_tags frame
   pub tag_is : frame.tag ≡ tag
   pub asynchronous : is_asynchronous frame ≡ true
+  pub refused : (m : BackendMessage) → Carries frame m → ⊥
   pub parts : bytes ≡ bytes_of frame ++ rest
 
 abbrev pub HeardCause : StreamSeen → StreamSeen → Error → Type 0
@@ -220,19 +249,19 @@ IsHeardFront held front = (frame : Frame) × (rest : List ℕ) × IsFrontOf held
 
 -- A poll that waits for a frame at the front that is no asynchronous message: those before it are taken aside, in order.
 abbrev pub PollsAhead : StreamSeen → StreamSeen → Poll (Result Front Error) → Type 0
-PollsAhead a b Pending = (aside : List Frame) × AreAsynchronous aside × Moves a b [] aside × PendingCause a b
-PollsAhead a b (Ready (Ok front)) = (aside : List Frame) × AreAsynchronous aside × Moves a b [] aside × (b.unsent ≡ []) × AllMoved a b × IsHeardFront b.held front
-PollsAhead a b (Ready (Err e)) = (aside : List Frame) × AreAsynchronous aside × Moves a b [] aside × HeardCause a b e
+PollsAhead a b Pending = (aside : List Frame) × AreAsynchronous aside × Moves a b [] aside × PendingCause a b × (b.spare ≡ a.spare)
+PollsAhead a b (Ready (Ok front)) = (aside : List Frame) × AreAsynchronous aside × Moves a b [] aside × (b.unsent ≡ []) × AllMoved a b × IsHeardFront b.held front × (b.spare ≡ a.spare)
+PollsAhead a b (Ready (Err e)) = (aside : List Frame) × AreAsynchronous aside × Moves a b [] aside × HeardCause a b e × (b.spare ≡ a.spare)
 
 -- A poll for the next frame that is no asynchronous message.
 abbrev pub PollsHeard : StreamSeen → StreamSeen → Poll (Result Frame Error) → Type 0
-PollsHeard a b Pending = (aside : List Frame) × AreAsynchronous aside × Moves a b [] aside × PendingCause a b
-PollsHeard a b (Ready (Ok frame)) = (aside : List Frame) × AreAsynchronous aside × Moves a b [] (aside ++ frame ∷ []) × (is_asynchronous frame ≡ false) × (b.unsent ≡ []) × AllMoved a b
-PollsHeard a b (Ready (Err e)) = (aside : List Frame) × AreAsynchronous aside × Moves a b [] aside × HeardCause a b e
+PollsHeard a b Pending = (aside : List Frame) × AreAsynchronous aside × Moves a b [] aside × PendingCause a b × (b.spare ≡ a.spare)
+PollsHeard a b (Ready (Ok frame)) = (aside : List Frame) × AreAsynchronous aside × Moves a b [] (aside ++ frame ∷ []) × (is_asynchronous frame ≡ false) × (b.unsent ≡ []) × AllMoved a b × (b.spare ≡ a.spare)
+PollsHeard a b (Ready (Err e)) = (aside : List Frame) × AreAsynchronous aside × Moves a b [] aside × HeardCause a b e × (b.spare ≡ a.spare)
 
--- the frame at the front is passed over where it is an asynchronous message
+-- the frame at the front is taken aside where it is an asynchronous message
 abbrev pub PassesAside : {A : Type 0} → Front → StreamOf A → StreamOf A → Result Bool Error → Type 0
-PassesAside front a b (Ok true) = (frame : Frame) × (rest : List ℕ) × IsFrontOf a.held front frame rest × (is_asynchronous frame ≡ true) × TakenFrom a b front rest
+PassesAside front a b (Ok true) = (frame : Frame) × (rest : List ℕ) × IsFrontOf a.held front frame rest × IsAside frame × TakenFrom a b front frame rest
 PassesAside front a b (Ok false) = (b ≡ a) × ((frame : Frame) (rest : List ℕ) → IsFrontOf a.held front frame rest → is_asynchronous frame ≡ false)
 PassesAside front a b (Err errors.OutOfMemory) = b ≡ a
 PassesAside front a b (Err (errors.Protocol (protocol.Server (faults.Malformed tag)))) = (b ≡ a) × IsMalformedFront a.held tag
@@ -240,5 +269,5 @@ PassesAside front a b (Err _) = ⊥
 
 -- one frame taken aside, or the answer
 abbrev pub AheadOnce : StreamSeen → StreamSeen → Option (Poll (Result Front Error)) → Type 0
-AheadOnce a b None = (frame : Frame) × (is_asynchronous frame ≡ true) × Moves a b [] (frame ∷ []) × AllMoved a b
+AheadOnce a b None = (frame : Frame) × IsAside frame × Moves a b [] (frame ∷ []) × AllMoved a b × (b.spare ≡ a.spare)
 AheadOnce a b (Some answer) = PollsAhead a b answer

@@ -1,47 +1,55 @@
-ghost use Rattle.std.specs.Prelude.{◌≡◌, IfErr, codes};
-ghost use Rattle.pg_wire.specs.Frame.{is_known};
-ghost use Rattle.pg_stream.specs.Asynchronous.{IsAsynchronousFault};
+ghost use Rattle.std.specs.Prelude.{◌≡◌, IfErr, OnOk};
+ghost use Rattle.pg_wire.specs.Decoding.{IsRefused};
+ghost use Rattle.pg_stream.specs.Asynchronous.{IsSaid, TakesAside};
+ghost use Rattle.pg_stream.specs.Streams.{framed};
 
-use pg_wire::{
-    Error, ProtocolFault, ServerFault, decode_notice_response, decode_notification_response,
-    decode_parameter_status,
-};
+use crate::parameters::Parameters;
+use pg_wire::{Error, decode_notice_response, decode_notification_response};
 use std::alloc::Global;
 
-/// Whether a frame with this tag may come between any two others: a notice, a parameter change or a notification.
-pub(crate) fn is_asynchronous_tag(tag: u8) -> bool
-    ensures { result ≡ is_known (codes "NSA") tag }
+fn check_notice(alloc: Global, body: &[u8]) -> Result<(), Error>
+    ensures said { OnOk result (IsSaid (framed 78 body.now)) }
+    ensures refused { IfErr result (λ e. IsRefused 78 body.now e) }
 {
-    matches!(tag, b'N' | b'S' | b'A')
-}
-
-// Why the body of a message with this tag is not kept: memory is wanting, or it is not in its format.
-fn refusal(tag: u8, error: Error) -> Error
-    ensures { IsAsynchronousFault tag result }
-{
-    match error {
-        Error::OutOfMemory => Error::OutOfMemory,
-        _ => Error::Protocol(ProtocolFault::Server(ServerFault::Malformed { tag })),
-    }
-}
-
-// What is left of a message that was read to see whether it is in its format.
-fn checked<T: Drop>(tag: u8, read: Result<T, Error>) -> Result<(), Error>
-    ensures { IfErr result (λ e. IsAsynchronousFault tag e) }
-{
-    match read {
+    match decode_notice_response(alloc, body) {
         Ok(_) => Ok(()),
-        Err(e) => Err(refusal(tag, e)),
+        Err(e) => Err(e),
     }
 }
 
-/// Whether the body of an asynchronous message is in its format.
-pub(crate) fn check_asynchronous(alloc: Global, tag: u8, body: &[u8]) -> Result<(), Error>
-    ensures { IfErr result (λ e. IsAsynchronousFault tag e) }
+fn check_notification(alloc: Global, body: &[u8]) -> Result<(), Error>
+    ensures said { OnOk result (IsSaid (framed 65 body.now)) }
+    ensures refused { IfErr result (λ e. IsRefused 65 body.now e) }
+{
+    match decode_notification_response(alloc, body) {
+        Ok(_) => Ok(()),
+        Err(e) => Err(e),
+    }
+}
+
+/// Takes an asynchronous message aside, and tells whether it is one: of a notice or a notification nothing is kept, and of a
+/// parameter the last value.
+pub(crate) fn take_aside(
+    parameters: &mut Parameters,
+    alloc: Global,
+    tag: u8,
+    body: &[u8],
+) -> Result<bool, Error>
+    ensures { TakesAside (framed tag body.now) parameters.old parameters.new result }
 {
     match tag {
-        b'N' => checked(tag, decode_notice_response(alloc, body)),
-        b'S' => checked(tag, decode_parameter_status(alloc, body)),
-        _ => checked(tag, decode_notification_response(alloc, body)),
+        b'N' => {
+            check_notice(alloc, body)?;
+            Ok(true)
+        }
+        b'S' => {
+            parameters.take(alloc, body)?;
+            Ok(true)
+        }
+        b'A' => {
+            check_notification(alloc, body)?;
+            Ok(true)
+        }
+        _ => Ok(false),
     }
 }

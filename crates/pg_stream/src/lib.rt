@@ -12,16 +12,19 @@ mod link;
 mod memory;
 mod memory_sink;
 mod memory_source;
+mod outgoing;
 mod outside;
+mod parameters;
 mod read_list;
 mod standard;
 mod stream;
 #[cfg(test)]
 mod tests;
+mod version;
 
 pub use events::{ReadEvent, WriteEvent};
 pub use gather::{Gathered, read_all, send};
-pub use laws::memory_link_gives_its_pieces;
+pub use laws::{memory_link_gives_its_pieces, parameters_are_the_last_values};
 pub use link::{Link, LinkRead, LinkUpgrade, LinkWrite, TlsWish};
 pub use memory::MemoryLink;
 pub use memory_sink::MemorySink;
@@ -29,3 +32,4 @@ pub use memory_source::MemorySource;
 pub use outside::{Sink, SinkWrite, Source, SourceRead};
 pub use standard::{StdSink, StdSource};
 pub use stream::{CALLS_MAX, Front, LinkCalls, PgStream};
+pub use version::parse_server_version;

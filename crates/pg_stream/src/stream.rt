@@ -1,8 +1,11 @@
-ghost use Rattle.std.specs.Prelude.{◌≡◌, ◌+◌, ◌-◌, ◌<◌, ◌≤◌, ◌++◌, [], length, take, IfOk, OnOk, OnErr};
+ghost use Rattle.std.specs.Prelude.{◌≡◌, ◌+◌, ◌-◌, ◌<◌, ◌≤◌, ◌++◌, [], length, take, max, IfOk, OnOk, OnErr, option_map};
 ghost use Rattle.std.specs.Prelude.{nat_eq, List, ℕ};
-ghost use Rattle.pg_stream.specs.Streams.{stream_by, fresh_stream, SendsOnce, ReadsOnce, PollsSend, PollsFront, PollsFrame, PollsHeard, FrontIs, IsFront, IsFrontOf, TakesFront, Passes, PassesAside, PollsAhead, AheadOnce, framed};
+ghost use Rattle.pg_stream.specs.Streams.{stream_by, fresh_stream, SendsOnce, ReadsOnce, PollsSend, PollsFront, PollsFrame, PollsHeard, FrontIs, IsFront, IsHeardFront, IsFrontOf, TakesFront, TakesHeard, Passes, PassesAside, PollsAhead, AheadOnce, framed};
+ghost use Rattle.pg_stream.specs.Parameters.{value_of};
 
-use crate::asynchronous::{check_asynchronous, is_asynchronous_tag};
+use crate::asynchronous::take_aside;
+use crate::outgoing::Outgoing;
+use crate::parameters::Parameters;
 use crate::{Link, LinkRead, LinkWrite};
 use bytes::BytesMut;
 use pg_wire::{Blob, Cut, Error, Frame, IoCause, Poll, ProtocolFault, ServerFault, cut};
@@ -26,12 +29,13 @@ pub struct LinkCalls {
 #[derive(Drop)]
 pub struct PgStream<L> {
     link: L,
-    unsent: BytesMut,
+    unsent: Outgoing,
     held: BytesMut,
     left: u16,
     waits: u64,
     moves: u64,
     taken: u64,
+    parameters: Parameters,
 }
 
 impl<L> Model for PgStream<L> {
@@ -39,7 +43,7 @@ impl<L> Model for PgStream<L> {
 
     ghost Value = { StreamOf L };
 
-    ghost view = { λ s. record { link = s.link; unsent = s.unsent.items; held = s.held.items; left = s.left; waits = s.waits; moves = s.moves; taken = s.taken } };
+    ghost view = { λ s. record { link = s.link; unsent = s.unsent.bytes; spare = s.unsent.spare; held = s.held.items; left = s.left; waits = s.waits; moves = s.moves; taken = s.taken; parameters = s.parameters } };
 }
 
 /// The whole frame at the front of what is held: its tag, and its size with the header.
@@ -47,17 +51,6 @@ impl<L> Model for PgStream<L> {
 pub struct Front {
     pub tag: u8,
     pub total: usize,
-}
-
-// Adds bytes for which room was made.
-fn extend_reserved(held: &mut BytesMut, bytes: &[u8])
-    requires { length bytes.now ≤ held.old.spare }
-    ensures { held.new.items ≡ held.old.items ++ bytes.now }
-{
-    match held.extend_from_slice(bytes) {
-        Ok(()) => {}
-        Err(_) => unreachable!(),
-    }
 }
 
 // The whole frame at the front of the bytes, if there is one.
@@ -81,6 +74,14 @@ fn server_fault(fault: ServerFault) -> Error
     Error::Protocol(ProtocolFault::Server(fault))
 }
 
+// The body of the frame at the front.
+fn body_of(held: &BytesMut, front: Front) -> &[u8]
+    requires { IsFront held.now.items front }
+    ensures { (rest : List ℕ) × IsFrontOf held.now.items front (framed front.tag result.now) rest }
+{
+    &held.as_slice()[5..front.total]
+}
+
 impl<L> PgStream<L> {
     /// A stream that has queued and read nothing, at the beginning of a call and of a poll.
     pub fn new(alloc: Global, link: L) -> Self
@@ -88,12 +89,13 @@ impl<L> PgStream<L> {
     {
         PgStream {
             link,
-            unsent: BytesMut::new(alloc),
+            unsent: Outgoing::new(alloc),
             held: BytesMut::new(alloc),
             left: CALLS_MAX,
             waits: 0,
             moves: 0,
             taken: 0,
+            parameters: Parameters::new(alloc),
         }
     }
 
@@ -116,6 +118,7 @@ impl<L> PgStream<L> {
             waits: _,
             moves: _,
             taken: _,
+            parameters: _,
         } = self;
         link
     }
@@ -125,10 +128,61 @@ impl<L> PgStream<L> {
         ensures ok { OnOk result (self.new ≡ record self.old { unsent = self.old.unsent ++ frames.now }) }
         ensures err { OnErr result ((self.new ≡ self.old) × (result ≡ Err Error.OutOfMemory)) }
     {
-        match self.unsent.extend_from_slice(frames.as_bytes()) {
+        match self.unsent.queue(frames.as_bytes()) {
             Ok(()) => Ok(()),
             Err(_) => Err(Error::OutOfMemory),
         }
+    }
+
+    /// Keeps room for so many bytes of cleanup at least: what is queued meanwhile takes none of it.
+    pub fn reserve_cleanup(&mut self, bytes: usize) -> Result<(), Error>
+        ensures ok { OnOk result (self.new ≡ record self.old { spare = max self.old.spare bytes }) }
+        ensures err { OnErr result ((self.new ≡ self.old) × (result ≡ Err Error.OutOfMemory)) }
+    {
+        match self.unsent.reserve_cleanup(bytes) {
+            Ok(()) => Ok(()),
+            Err(_) => Err(Error::OutOfMemory),
+        }
+    }
+
+    /// How many bytes of cleanup can be queued without taking memory.
+    pub fn spare(&self) -> usize
+        ensures { result ≡ self.now.spare }
+    {
+        self.unsent.spare()
+    }
+
+    /// Adds a cleanup frame to what is to be sent, in the room that was kept for it.
+    pub fn queue_cleanup(&mut self, frame: &[u8])
+        requires { length frame.now ≤ self.old.spare }
+        ensures { self.new ≡ record self.old { unsent = self.old.unsent ++ frame.now; spare = self.old.spare - length frame.now } }
+    {
+        self.unsent.queue_cleanup(frame);
+    }
+
+    /// The last value that the server told of a parameter, but for `server_version`: that one is `server_version_num`.
+    /// (PostgreSQL manual, "Message Formats", ParameterStatus.)
+    pub fn parameter(&self, name: &str) -> Option<&str>
+        ensures { option_map (λ value. value.now) result ≡ value_of name.now self.now.parameters }
+    {
+        self.parameters.get(name)
+    }
+
+    /// The number of the server's version, as `parse_server_version` reads it from the last text that the server told.
+    pub fn server_version_num(&self) -> Option<u32>
+        ensures { result ≡ self.now.parameters.version }
+    {
+        self.parameters.version()
+    }
+
+    /// Gives up the room of the buffers that neither bytes nor the cleanup reserve need.
+    pub fn shrink_buffers(&mut self) -> Result<(), Error>
+        ensures same { self.new ≡ self.old }
+        ensures err { OnErr result (result ≡ Err Error.OutOfMemory) }
+    {
+        self.unsent.shrink()?;
+        self.held = BytesMut::copy_from_slice(*self.held.allocator(), self.held.as_slice())?;
+        Ok(())
     }
 
     /// Begins a call: its waits and moves are counted from zero.
@@ -190,11 +244,19 @@ impl<L> PgStream<L> {
         requires { IsFront self.now.held front }
         ensures { (rest : List ℕ) × IsFrontOf self.now.held front (framed front.tag result.now) rest }
     {
-        &self.held.as_slice()[5..front.total]
+        body_of(&self.held, front)
     }
 
     /// Takes the frame at the front, of which nothing is kept.
     pub fn pass(&mut self, front: Front)
+        requires { IsHeardFront self.old.held front }
+        ensures { Passes front self.old self.new }
+    {
+        self.skip(front);
+    }
+
+    // Takes the bytes of the frame at the front off what is held.
+    fn skip(&mut self, front: Front)
         requires { IsFront self.old.held front }
         ensures { Passes front self.old self.new }
     {
@@ -202,27 +264,41 @@ impl<L> PgStream<L> {
         self.taken = self.taken.saturating_add(front.total as u64);
     }
 
-    // Takes the frame at the front off what is held; without memory it stays.
+    // Takes the frame at the front, which is no asynchronous message; without memory it stays.
+    fn take_heard(&mut self, alloc: Global, front: Front) -> Result<Frame, Error>
+        requires { IsHeardFront self.old.held front }
+        ensures { TakesHeard front self.old self.new result }
+    {
+        let body = Blob::from_slice(alloc, self.body(front))?;
+        self.skip(front);
+        Ok(Frame::new(front.tag, body))
+    }
+
+    // Takes the frame at the front, and keeps the parameter that it tells; without memory it stays.
     fn take_front(&mut self, alloc: Global, front: Front) -> Result<Frame, Error>
         requires { IsFront self.old.held front }
         ensures { TakesFront front self.old self.new result }
     {
-        let body = Blob::from_slice(alloc, self.body(front))?;
-        self.pass(front);
+        let body = Blob::from_slice(alloc, body_of(&self.held, front))?;
+        self.parameters.note(alloc, front.tag, body.as_bytes())?;
+        self.skip(front);
         Ok(Frame::new(front.tag, body))
     }
 
-    // Passes over the frame at the front where it is an asynchronous message; without memory it stays.
+    // Takes the frame at the front aside where it is an asynchronous message; without memory it stays.
     fn pass_aside(&mut self, alloc: Global, front: Front) -> Result<bool, Error>
         requires { IsFront self.old.held front }
         ensures { PassesAside front self.old self.new result }
     {
-        if !is_asynchronous_tag(front.tag) {
-            return Ok(false);
+        let body = body_of(&self.held, front);
+        match take_aside(&mut self.parameters, alloc, front.tag, body) {
+            Ok(true) => {
+                self.skip(front);
+                Ok(true)
+            }
+            Ok(false) => Ok(false),
+            Err(e) => Err(e),
         }
-        check_asynchronous(alloc, front.tag, self.body(front))?;
-        self.pass(front);
-        Ok(true)
     }
 }
 
@@ -259,7 +335,7 @@ impl<L: Link> PgStream<L> {
         self.left -= 1;
         match self.link.read(&mut chunk) {
             LinkRead::Moved(count) => {
-                extend_reserved(&mut self.held, &chunk[..count]);
+                self.held.extend_reserved(&chunk[..count]);
                 self.moves = self.moves.saturating_add(1);
                 Ok(LinkRead::Moved(count))
             }
@@ -369,7 +445,7 @@ impl<L: Link> PgStream<L> {
         ensures { PollsHeard (stream_by L.seen self.old) (stream_by L.seen self.new) result }
     {
         match self.poll_ahead(alloc) {
-            Poll::Ready(Ok(front)) => Poll::Ready(self.take_front(alloc, front)),
+            Poll::Ready(Ok(front)) => Poll::Ready(self.take_heard(alloc, front)),
             Poll::Ready(Err(e)) => Poll::Ready(Err(e)),
             Poll::Pending => Poll::Pending,
         }

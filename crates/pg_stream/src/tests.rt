@@ -1,8 +1,9 @@
 use crate::{
     Gathered, Link, LinkRead, LinkUpgrade, LinkWrite, MemoryLink, MemorySink, MemorySource,
-    ReadEvent, Sink, SinkWrite, StdSink, StdSource, TlsWish, WriteEvent, read_all, send,
+    PgStream, ReadEvent, Sink, SinkWrite, StdSink, StdSource, TlsWish, WriteEvent,
+    parse_server_version, read_all, send,
 };
-use pg_wire::{Blob, Sequence};
+use pg_wire::{Blob, Poll, Sequence};
 use std::alloc::{AllocError, Global};
 use std::test::Fail;
 
@@ -125,5 +126,60 @@ fn std_reader_and_writer(rt: HostRuntime) -> Result<(), Fail> {
     let mut room = [0; 3];
     let mut small = StdSink::new(room.as_mut_slice());
     assert!(rt; !send(&mut small, b"hijk"));
+    Ok(())
+}
+
+#[test]
+fn reads_server_versions(rt: HostRuntime) -> Result<(), Fail> {
+    assert_eq!(rt; parse_server_version("9.6.1"), Some(90601));
+    assert_eq!(rt; parse_server_version("10.1"), Some(100001));
+    assert_eq!(rt; parse_server_version("9.6devel"), Some(90600));
+    assert_eq!(rt; parse_server_version("10devel"), Some(100000));
+    assert_eq!(rt; parse_server_version("13devel87"), Some(130000));
+    let debian = "16.3 (Debian 16.3-1.pgdg120+1)";
+    assert_eq!(rt; parse_server_version(debian), Some(160003));
+    assert_eq!(rt; parse_server_version("unknown"), None);
+    assert_eq!(rt; parse_server_version("99999999999"), None);
+    assert_eq!(rt; parse_server_version("429497.0"), None);
+    assert_eq!(rt; parse_server_version("1.2.3.4"), None);
+    Ok(())
+}
+
+#[test]
+fn keeps_the_last_parameters(rt: HostRuntime) -> Result<(), Fail> {
+    let alloc = rt.alloc();
+    let mut reads = Sequence::new(alloc);
+    reads.push(piece(alloc, b"S\x00\x00\x00\x11TimeZone\x00UTC\x00")?)?;
+    reads.push(piece(alloc, b"S\x00\x00\x00\x18server_version\x0016.3\x00")?)?;
+    reads.push(piece(alloc, b"S\x00\x00\x00\x11TimeZone\x00GMT\x00")?)?;
+    reads.push(piece(alloc, b"Z\x00\x00\x00\x05I")?)?;
+    let link = MemoryLink::new(alloc, reads, Sequence::new(alloc), false, false);
+    let mut stream = PgStream::new(alloc, link);
+    assert!(rt; matches!(stream.poll_heard(alloc), Poll::Ready(Ok(_))));
+    assert_eq!(rt; stream.parameter("TimeZone"), Some("GMT"));
+    assert_eq!(rt; stream.parameter("server_version"), None);
+    assert_eq!(rt; stream.server_version_num(), Some(160003));
+    Ok(())
+}
+
+#[test]
+fn keeps_room_for_cleanup(rt: HostRuntime) -> Result<(), Fail> {
+    let alloc = rt.alloc();
+    let link = MemoryLink::new(
+        alloc,
+        Sequence::new(alloc),
+        Sequence::new(alloc),
+        false,
+        false,
+    );
+    let mut stream = PgStream::new(alloc, link);
+    assert!(rt; stream.reserve_cleanup(8).is_ok());
+    assert!(rt; stream.queue(&Blob::from_slice(alloc, b"abc")?).is_ok());
+    assert!(rt; stream.shrink_buffers().is_ok());
+    assert_eq!(rt; stream.spare(), 8);
+    stream.queue_cleanup(b"defgh");
+    assert_eq!(rt; stream.spare(), 3);
+    assert!(rt; matches!(stream.poll_send(), Poll::Ready(Ok(()))));
+    assert!(rt; stream.link().taken() == b"abcdefgh".as_slice());
     Ok(())
 }

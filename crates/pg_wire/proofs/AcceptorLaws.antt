@@ -112,7 +112,7 @@ end_broken front status s = record { before = s.0; last = s.1; status = status; 
 
 -- ---- what is accepted can be completed
 
-same_some : {A : Type 0} (x y : A) → Some x ≡ Some y → x ≡ y
+pub same_some : {A : Type 0} (x y : A) → Some x ≡ Some y → x ≡ y
 same_some x y e = cc
 
 accept_step : (s : Awaits) (front : List BackendMessage) (a : BackendMessage) (t : Awaits) → Shape s front → next s a ≡ Some t → Shape t (front ++ a ∷ [])
@@ -127,7 +127,7 @@ accept_step AfterError front (ReadyForQuery status) t s e = subst (λ (u : Await
 accept_step AfterError front _ t s e = absurd cc
 accept_step NothingMore front a t s e = absurd cc
 
-and_then_some : (o : Option Awaits) (rs : List BackendMessage) (t : Awaits) → option_and_then (λ u. accepts u rs) o ≡ Some t → (u : Awaits) × (o ≡ Some u) × (accepts u rs ≡ Some t)
+pub and_then_some : (o : Option Awaits) (rs : List BackendMessage) (t : Awaits) → option_and_then (λ u. accepts u rs) o ≡ Some t → (u : Awaits) × (o ≡ Some u) × (accepts u rs ≡ Some t)
 and_then_some None rs t e = absurd cc
 and_then_some (Some u) rs t e = (u, refl, e)
 
@@ -175,7 +175,7 @@ rows_accepted width [] tag h = refl
 rows_accepted width (row ∷ rows) tag h = ap (option_and_then (λ (u : Awaits). accepts u (map DataRow rows ++ CommandComplete tag ∷ []))) (row_next width row h.0) ∙ rows_accepted width rows tag h.1
 
 -- the two places where a segment may begin
-abbrev IsStart : Awaits → Type 0
+abbrev pub IsStart : Awaits → Type 0
 IsStart FirstSegment = Unit {0}
 IsStart FurtherSegment = Unit {0}
 IsStart _ = ⊥
@@ -201,14 +201,14 @@ empty_accepted (RowsOf width) i = absurd i
 empty_accepted AfterError i = absurd i
 empty_accepted NothingMore i = absurd i
 
-error_accepted : (s : Awaits) (details : List ErrorField) → IsStart s → accepts s (ErrorResponse details ∷ []) ≡ Some AfterError
+pub error_accepted : (s : Awaits) (details : List ErrorField) → IsStart s → accepts s (ErrorResponse details ∷ []) ≡ Some AfterError
 error_accepted FirstSegment details i = refl
 error_accepted FurtherSegment details i = refl
 error_accepted (RowsOf width) details i = absurd i
 error_accepted AfterError details i = absurd i
 error_accepted NothingMore details i = absurd i
 
-segment_accepted : (s : Awaits) (rs : List BackendMessage) → IsStart s → IsSegment rs → accepts s rs ≡ Some FurtherSegment
+pub segment_accepted : (s : Awaits) (rs : List BackendMessage) → IsStart s → IsSegment rs → accepts s rs ≡ Some FurtherSegment
 segment_accepted s rs i (inl c) = ap (accepts s) c.1 ∙ command_accepted s c.0 i
 segment_accepted s rs i (inr (inl t)) = ap (accepts s) t.4 ∙ table_accepted s t.0 t.1 t.2 i t.3
 segment_accepted s rs i (inr (inr e)) = ap (accepts s) e ∙ empty_accepted s i
@@ -231,7 +231,7 @@ rows_broken width (a ∷ front) missing (row ∷ rows) tag details w n e =
     ∙ ap (option_and_then (λ (u : Awaits). accepts u (front ++ ErrorResponse details ∷ []))) (row_next width row w.0)
     ∙ rows_broken width front missing rows tag details w.1 n tails
 
-one_front : (x : BackendMessage) (front missing : List BackendMessage) → missing ≢ [] → front ++ missing ≡ x ∷ [] → front ≡ []
+pub one_front : (x : BackendMessage) (front missing : List BackendMessage) → missing ≢ [] → front ++ missing ≡ x ∷ [] → front ≡ []
 one_front x [] missing n e = refl
 one_front x (y ∷ ys) missing n e = absurd (n (nil ys (tails e)))
   where
@@ -242,7 +242,7 @@ one_front x (y ∷ ys) missing n e = absurd (n (nil ys (tails e)))
     nil [] h = h
     nil (z ∷ zs) h = absurd cc
 
-broken_of : (s : Awaits) (front missing : List BackendMessage) (details : List ErrorField) → IsStart s → missing ≢ [] → IsSegment (front ++ missing) → accepts s (front ++ ErrorResponse details ∷ []) ≡ Some AfterError
+pub broken_of : (s : Awaits) (front missing : List BackendMessage) (details : List ErrorField) → IsStart s → missing ≢ [] → IsSegment (front ++ missing) → accepts s (front ++ ErrorResponse details ∷ []) ≡ Some AfterError
 broken_of s front missing details i n (inl c) = ap (λ (f : List BackendMessage). accepts s (f ++ ErrorResponse details ∷ [])) (one_front (CommandComplete c.0) front missing n c.1) ∙ error_accepted s details i
 broken_of s front missing details i n (inr (inr e)) = ap (λ (f : List BackendMessage). accepts s (f ++ ErrorResponse details ∷ [])) (one_front EmptyQueryResponse front missing n e) ∙ error_accepted s details i
 broken_of s [] missing details i n (inr (inl t)) = error_accepted s details i

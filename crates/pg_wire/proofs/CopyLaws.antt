@@ -27,7 +27,7 @@ segments_more rs s = record {
 }
 
 -- a server where no copy is going on
-abbrev plain : Server → CopyServer
+abbrev pub plain : Server → CopyServer
 plain m = record { server = m; mode = NotCopying }
 
 execute_more : (old new : Server) (o : Option (List FieldDescription)) (rs : List BackendMessage) → StepsExecute old o rs new → StepsCopyExecute old o rs (plain new)
@@ -53,11 +53,11 @@ plain_step false false A B C h e k = h
 step_more : (old new : Server) (message : FrontendMessage) (rs : List BackendMessage) → ServerStep old message rs new → CopyStep (plain old) message rs (plain new)
 step_more old new message rs step = stays old.over old.skip _ _ (new, step, refl) (λ e k. plain_more old new message rs step (plain_step old.over old.skip _ _ _ step e k))
 
-run_more : (old new : Server) (messages : List FrontendMessage) (rss : List (List BackendMessage)) → ServerRun old messages rss new → CopyRun (plain old) messages rss (plain new)
-run_more old new [] [] run = ap plain run
-run_more old new [] (rs ∷ rss) run = absurd run
-run_more old new (message ∷ messages) [] run = absurd run
-run_more old new (message ∷ messages) (rs ∷ rss) run = (plain run.0, step_more old run.0 message rs run.1, run_more run.0 new messages rss run.2)
+pub run_copies : (old new : Server) (messages : List FrontendMessage) (rss : List (List BackendMessage)) → ServerRun old messages rss new → CopyRun (plain old) messages rss (plain new)
+run_copies old new [] [] run = ap plain run
+run_copies old new [] (rs ∷ rss) run = absurd run
+run_copies old new (message ∷ messages) [] run = absurd run
+run_copies old new (message ∷ messages) (rs ∷ rss) run = (plain run.0, step_more old run.0 message rs run.1, run_copies run.0 new messages rss run.2)
 
 pub replies_copy : (sent heard : List Frame) → AreReplies sent heard → AreCopyReplies sent heard
 replies_copy sent heard r = record {
@@ -66,7 +66,7 @@ replies_copy sent heard r = record {
   after = plain r.after;
   messages_have_frames = r.messages_have_frames;
   sent_is = r.sent_is;
-  run = run_more fresh_server r.after r.messages r.replies r.run;
+  run = run_copies fresh_server r.after r.messages r.replies r.run;
   replies_have_frames = r.replies_have_frames;
   heard_is = r.heard_is;
 }

@@ -4,6 +4,8 @@ pub mod PartLaws
 pub mod RunLaws
 pub mod GroupLaws
 pub mod CopyLaws
+pub mod CopyAcceptorLaws
+pub mod RefusalLaws
 pub mod Unique
 pub mod SentLaws
 pub mod AcceptorLaws
@@ -11,7 +13,7 @@ pub mod GrowLaws
 pub mod OwnLaws
 pub mod HeaderLaws
 pub mod ReplyLaws
-pub mod Examples
+pub mod ExchangeLaws
 pub mod TagLaws
 pub mod StepLaws
 pub mod SkipLaws

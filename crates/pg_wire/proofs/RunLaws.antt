@@ -194,7 +194,7 @@ inner_run old new (message ∷ messages) (rs ∷ rss) i e run =
 abbrev pub AnswersGroup : List (List BackendMessage) → Server → Type 0
 AnswersGroup rss new = EndsReady (flat_map (λ rs. rs) rss) × IsBetween new
 
-sync_step : (old new : Server) (rs : List BackendMessage) → old.over ≡ false → ServerStep old Sync rs new → StepsSync old rs new
+pub sync_step : (old new : Server) (rs : List BackendMessage) → old.over ≡ false → ServerStep old Sync rs new → StepsSync old rs new
 sync_step old new rs e h = ⊎_elim (λ (s : StepsSync old rs new). s) (λ (s : StepsSync old rs new). s) (skips_or_steps old.over old.skip _ _ _ e h)
 
 pub plain_step : (over skip : Bool) (A B C : Type 0) → over ≡ false → skip ≡ false → cond over A (cond skip B C) → C

@@ -9,8 +9,11 @@ use Rattle.pg_wire.specs.declared.error.CallerFault.TheVariants as callers
 abbrev pub body_max : ℕ
 body_max = 2147483643
 
+-- No cause to refuse a message of so many counted parts and with a body of this length. AreTexts says that no text in it holds a zero byte.
+abbrev pub Allows : ℕ → Type 0 → ℕ → Type 0
+Allows count AreTexts size = (count ≤ 65535) × AreTexts × (size ≤ body_max)
+
 -- Why a message of so many counted parts and with a body of this length is refused, the first cause that holds.
--- AreTexts says that no text in it holds a zero byte.
 abbrev pub Refuses : ℕ → Type 0 → ℕ → Error → Type 0
 Refuses count AreTexts size (errors.Protocol (faults.Caller (callers.TooMany n))) = (n ≡ count) × (65535 < count)
 Refuses count AreTexts size (errors.Protocol (faults.Caller callers.Nul)) = (count ≤ 65535) × (AreTexts → ⊥)

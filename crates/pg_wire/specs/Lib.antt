@@ -10,6 +10,8 @@ pub mod Pieces
 pub mod Completion
 pub mod Acceptor
 pub mod Copying
+pub mod Refusals
+pub mod Exchanges
 pub mod Transactions
 pub mod Header
 pub mod Reports

@@ -1,4 +1,4 @@
--- Reading a body from left to right, as the private readers do: a value and the bytes behind it, or None where no such
+-- Internal: reading a body from left to right, as the private readers do: a value and the bytes behind it, or None where no such
 -- value stands there. The grammar itself is in Backend.
 use Rattle.std.specs.Prelude.{ℕ, ℤ, zero, suc, ◌+◌, ◌*◌, ◌-◌, ◌^◌, List, [], ◌∷◌, length, take, drop, Option, Some, None, nat_lt, nat_le, ◌==◌, ◌&&◌, if◌then◌else◌}
 use Rattle.std.specs.Int.{w16, w32, from_be_bytes, cast_signed}

@@ -1,5 +1,5 @@
 -- What the fields of an ErrorResponse or a NoticeResponse report (PostgreSQL manual, "Error and Notice Message Fields").
-use Rattle.std.specs.Prelude.{ℕ, List, [], ◌∷◌, Option, Some, None, codes, bytes_eq, nat_eq, if◌then◌else◌, unwrap_or, option_and_then}
+use Rattle.std.specs.Prelude.{ℕ, List, [], Option, Some, None, codes, bytes_eq, nat_eq, if◌then◌else◌, unwrap_or, option_and_then, option_map, find}
 use Rattle.std.specs.Option.{option_or}
 use Rattle.std.specs.Str.Lossy.{utf8_lossy}
 use Rattle.pg_wire.specs.declared.fields.ErrorField.{ErrorField}
@@ -8,8 +8,7 @@ use Rattle.pg_wire.specs.declared.severity.PgSeverity.TheVariants as severities
 
 -- the text of the first field of this code
 abbrev pub first_text : ℕ → List ErrorField → Option (List ℕ)
-first_text code [] = None
-first_text code (f ∷ fs) = if nat_eq f.code code then Some f.text else first_text code fs
+first_text code fields = option_map (λ f. f.text) (find (λ f. nat_eq f.code code) fields)
 
 -- the severity that a word names; the words of field V are never translated
 unfoldable pub severity_named : List ℕ → Option PgSeverity

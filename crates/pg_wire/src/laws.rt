@@ -19,6 +19,7 @@ ghost use Rattle.pg_wire.specs.Pieces.{PiecesOf, BeginsResponse, IsNoCopy};
 ghost use Rattle.pg_wire.specs.Server.{AreReplies, MayHear, IsPrefixOf, Server, Statement, statement_at, portal_at, fresh_server, ServerStep, ServerRun, IsQueryResponse};
 ghost use Rattle.pg_wire.specs.Acceptor as acceptor;
 ghost use Rattle.pg_wire.specs.Copying.{AreCopyReplies, CopyServer, CopyStep, CopyRun, NotCopying, QueryCopies, ExecuteCopies};
+ghost use Rattle.pg_wire.specs.Refusals.{BeginsCopyResponse, IsRefused, AnswersNoSync};
 ghost use Rattle.pg_wire.specs.Transactions.{AreTransactionReplies, StatusAfter};
 
 // Frames.
@@ -368,6 +369,30 @@ pub fn sync_in_a_copy_has_no_case()
     ensures execute { (server : Server) (new : CopyServer) (rs : List BackendMessage) →
         server.over ≡ false → server.skip ≡ false →
         CopyStep (record { server = server; mode = ExecuteCopies }) frontend.Sync rs new → ⊥ }
+{}
+
+/// A message that is refused begins no response: behind messages of a response to a Query that were accepted, no server between two groups goes
+/// on with a message that may not come there and begins no copy.
+pub fn refused_message_begins_no_response()
+    ensures { (sql : List ℕ) (own : List BackendMessage) (s : acceptor.Awaits) (frame : Frame) →
+        AllByRecursion HasBackendFrame own → acceptor.accepts acceptor.FirstSegment own ≡ Some s →
+        IsRefused s frame →
+        BeginsCopyResponse (frontend.Query sql ∷ []) (map backend_frame own ++ frame ∷ []) → ⊥ }
+{}
+
+/// The response to a Sync begins with ReadyForQuery or an ErrorResponse.
+pub fn only_ready_or_error_answers_a_sync()
+    ensures { (frame : Frame) → AnswersNoSync frame →
+        BeginsCopyResponse (frontend.Sync ∷ []) (frame ∷ []) → ⊥ }
+{}
+
+/// What a server that never copies may begin, one that may copy may begin too.
+pub fn copies_only_add_responses()
+    ensures { (group : List FrontendMessage) (before after : Server) (replies : List (List BackendMessage))
+        (frames : List Frame) → IsBetween before → ServerRun before group replies after →
+        AllByRecursion HasBackendFrame (flat_map (λ rs. rs) replies) →
+        IsPrefixOf frames (map backend_frame (flat_map (λ rs. rs) replies)) →
+        BeginsCopyResponse group frames }
 {}
 
 // The transaction status.

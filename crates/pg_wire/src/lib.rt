@@ -5,6 +5,7 @@ mod appending;
 mod blob;
 mod cutting;
 mod error;
+pub mod exchanges;
 mod fields;
 mod frame;
 mod front;

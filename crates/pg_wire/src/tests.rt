@@ -1,229 +1,369 @@
-//! Frames and bodies as other programs write them, and each message once.
+//! Each encoder and each decoder once. The bytes are the ones that the manual and the drivers of other languages give.
 
 use super::*;
 use std::alloc::Global;
 use std::test::*;
 
-fn text(alloc: Global, text: &str) -> Result<Text, Fail> {
-    Ok(Text::from_str(alloc, text).ok().ok_or("a text is kept")?)
+/// A row of the table: a message that is written, one without a body, a tag and the rows that it counts, or another message that is read.
+#[derive(Clone, Copy)]
+enum Row {
+    Sent(Sent),
+    Empty(u8),
+    Counts(u64),
+    Got(Got),
 }
 
-fn pair(alloc: Global, name: &str, value: &str) -> Result<(Text, Text), Fail> {
-    Ok((text(alloc, name)?, text(alloc, value)?))
+#[derive(Clone, Copy)]
+enum Sent {
+    Startup,
+    StartupWithDatabase,
+    SslRequest,
+    Query,
+    ParseNamed,
+    ParseUnnamed,
+    DescribeNamed,
+    DescribeUnnamed,
+    DescribePortal,
+    Bind,
+    Execute,
+    CloseStatement,
+    ClosePortal,
+    Sync,
+    Terminate,
+    Password,
+    SaslInitial,
+    SaslNext,
+    CopyBytes,
+    CopyDone,
+    CopyFail,
 }
 
-#[test]
-fn startup(rt: HostRuntime) -> Result<(), Fail> {
-    let alloc = rt.alloc();
+#[derive(Clone, Copy)]
+enum Got {
+    AuthenticationOk,
+    Salt,
+    Mechanism,
+    KeyData,
+    Setting,
+    InTransaction,
+    Columns,
+    Types,
+    Values,
+    NoRow,
+    Error,
+    Notice,
+    Notification,
+    CopyIn,
+    CopyOut,
+    CopyData,
+}
+
+const NAMED: StatementId = StatementId { number: 1234567890 };
+
+fn pair(alloc: Global, name: &str, value: &str) -> Result<(Text, Text), Error> {
+    Ok((Text::from_str(alloc, name)?, Text::from_str(alloc, value)?))
+}
+
+fn startup(alloc: Global, out: &mut Blob) -> Result<(), Error> {
     let params = [
         pair(alloc, "DateStyle", "ISO, MDY")?,
         pair(alloc, "client_encoding", "UTF8")?,
         pair(alloc, "TimeZone", "UTC")?,
         pair(alloc, "extra_float_digits", "2")?,
     ];
+    encode_startup(out, "u", None, &params)
+}
+
+fn write(alloc: Global, message: Sent, out: &mut Blob) -> Result<(), Error> {
+    match message {
+        Sent::Startup => startup(alloc, out),
+        Sent::StartupWithDatabase => encode_startup(out, "postgres", Some("postgres"), &[]),
+        Sent::SslRequest => Ok(out.append(&SslRequest::BYTES)?),
+        Sent::Query => encode_query(out, "SELECT 1"),
+        Sent::ParseNamed => encode_parse(out, NAMED, "SELECT $1", &[Oid(25)]),
+        Sent::ParseUnnamed => encode_parse(out, StatementId::UNNAMED, "SELECT $1", &[Oid(25)]),
+        Sent::DescribeNamed => encode_describe_statement(out, NAMED),
+        Sent::DescribeUnnamed => encode_describe_statement(out, StatementId::UNNAMED),
+        Sent::DescribePortal => encode_describe_portal(out, PortalId::UNNAMED),
+        Sent::Bind => encode_bind(
+            out,
+            StatementId::NAMED_START,
+            2,
+            b"\x00\x00\x00\x01x\xff\xff\xff\xff",
+        ),
+        Sent::Execute => encode_execute(out, PortalId::UNNAMED, 1234567890),
+        Sent::CloseStatement => encode_close_statement(out, StatementId::NAMED_START),
+        Sent::ClosePortal => encode_close_portal(out, PortalId::UNNAMED),
+        Sent::Sync => encode_sync(out),
+        Sent::Terminate => encode_terminate(out),
+        Sent::Password => encode_password(out, "pw"),
+        Sent::SaslInitial => encode_sasl_initial(out, "n,,"),
+        Sent::SaslNext => encode_sasl_response(out, "c="),
+        Sent::CopyBytes => encode_copy_bytes(out, b"1\n"),
+        Sent::CopyDone => encode_copy_done(out),
+        Sent::CopyFail => encode_copy_fail(out, "no"),
+    }
+}
+
+fn writes(alloc: Global, message: Sent, want: &[u8]) -> Result<bool, Error> {
     let mut out = Blob::new(alloc);
-    encode_startup(&mut out, "u", None, &params)
-        .ok()
-        .ok_or("Startup")?;
-    let want =
-        b"\x00\x00\x00\x5a\x00\x03\x00\x00user\x00u\x00DateStyle\x00ISO, MDY\x00client_encoding\x00UTF8\x00TimeZone\x00UTC\x00extra_float_digits\x002\x00\x00";
-    assert_eq!(rt; out.as_bytes(), want.as_slice());
-    out.truncate(0);
-    encode_startup(&mut out, "postgres", Some("postgres"), &[])
-        .ok()
-        .ok_or("Startup")?;
-    let want = b"\x00\x00\x00\x29\x00\x03\x00\x00user\x00postgres\x00database\x00postgres\x00\x00";
-    assert_eq!(rt; out.as_bytes(), want.as_slice());
-    assert_eq!(rt;
-        SslRequest::BYTES.as_slice(),
-        b"\x00\x00\x00\x08\x04\xd2\x16\x2f".as_slice()
-    );
-    Ok(())
+    write(alloc, message, &mut out)?;
+    Ok(out.as_bytes() == want)
 }
 
-#[test]
-fn simple_frames(rt: HostRuntime) -> Result<(), Fail> {
-    let mut out = Blob::new(rt.alloc());
-    encode_query(&mut out, "SELECT 1").ok().ok_or("Query")?;
-    encode_sync(&mut out).ok().ok_or("Sync")?;
-    encode_terminate(&mut out).ok().ok_or("Terminate")?;
-    encode_password(&mut out, "pw").ok().ok_or("Password")?;
-    encode_sasl_initial(&mut out, "n,,")
-        .ok()
-        .ok_or("SASLInitialResponse")?;
-    encode_sasl_response(&mut out, "c=")
-        .ok()
-        .ok_or("SASLResponse")?;
-    encode_copy_bytes(&mut out, b"1\n").ok().ok_or("CopyData")?;
-    encode_copy_done(&mut out).ok().ok_or("CopyDone")?;
-    encode_copy_fail(&mut out, "no").ok().ok_or("CopyFail")?;
-    let want =
-        b"Q\x00\x00\x00\x0dSELECT 1\x00S\x00\x00\x00\x04X\x00\x00\x00\x04p\x00\x00\x00\x07pw\x00p\x00\x00\x00\x19SCRAM-SHA-256\x00\x00\x00\x00\x03n,,p\x00\x00\x00\x06c=d\x00\x00\x00\x061\nc\x00\x00\x00\x04f\x00\x00\x00\x07no\x00";
-    assert_eq!(rt; out.as_bytes(), want.as_slice());
-    assert!(rt;
-        matches!(
-            encode_query(&mut out, "a\0"),
-            Err(Error::Protocol(ProtocolFault::Caller(CallerFault::Nul)))
-        )
-    );
-    assert_eq!(rt; out.as_bytes(), want.as_slice());
-    Ok(())
+fn reads_empty(tag: u8, body: &[u8]) -> bool {
+    match tag {
+        b'I' => decode_empty_query(body).is_ok(),
+        b'1' => decode_parse_complete(body).is_ok(),
+        b'2' => decode_bind_complete(body).is_ok(),
+        b'3' => decode_close_complete(body).is_ok(),
+        b'n' => decode_no_data(body).is_ok(),
+        b's' => decode_portal_suspended(body).is_ok(),
+        _ => decode_copy_done(body).is_ok(),
+    }
 }
 
-#[test]
-fn extended_frames(rt: HostRuntime) -> Result<(), Fail> {
-    let named = StatementId { number: 1234567890 };
-    let mut out = Blob::new(rt.alloc());
-    encode_parse(&mut out, named, "SELECT $1", &[Oid(25)])
-        .ok()
-        .ok_or("Parse")?;
-    encode_parse(&mut out, StatementId::UNNAMED, "SELECT $1", &[Oid(25)])
-        .ok()
-        .ok_or("Parse")?;
-    encode_describe_statement(&mut out, named)
-        .ok()
-        .ok_or("Describe")?;
-    encode_describe_portal(&mut out, PortalId::UNNAMED)
-        .ok()
-        .ok_or("Describe")?;
-    let want =
-        b"P\x00\x00\x00\x26sqlx_s_1234567890\x00SELECT $1\x00\x00\x01\x00\x00\x00\x19P\x00\x00\x00\x15\x00SELECT $1\x00\x00\x01\x00\x00\x00\x19D\x00\x00\x00\x17Ssqlx_s_1234567890\x00D\x00\x00\x00\x06P\x00";
-    assert_eq!(rt; out.as_bytes(), want.as_slice());
-    out.truncate(0);
-    encode_bind(
-        &mut out,
-        StatementId::NAMED_START,
-        2,
-        b"\x00\x00\x00\x01x\xff\xff\xff\xff",
+fn reads_count(body: &[u8], want: u64) -> Result<bool, Error> {
+    Ok(decode_command_complete(body)?.rows_affected() == want)
+}
+
+fn reads_ok(alloc: Global, body: &[u8]) -> Result<bool, Error> {
+    match decode_authentication(alloc, body)? {
+        Authentication::Ok => Ok(true),
+        _ => Ok(false),
+    }
+}
+
+fn reads_mechanism(alloc: Global, body: &[u8]) -> Result<bool, Error> {
+    match decode_authentication(alloc, body)? {
+        Authentication::Sasl { mechanisms } => Ok(mechanisms.len() == 1),
+        _ => Ok(false),
+    }
+}
+
+fn reads_key(body: &[u8]) -> Result<bool, Error> {
+    let key = decode_backend_key_data(body)?;
+    Ok(key.process_id == 10182 && key.secret_key == 2303903019)
+}
+
+fn reads_status(body: &[u8]) -> Result<bool, Error> {
+    Ok(decode_ready_for_query(body)? == TransactionStatus::Transaction)
+}
+
+fn reads_types(alloc: Global, body: &[u8]) -> Result<bool, Error> {
+    let types = decode_parameter_description(alloc, body)?;
+    Ok(types.as_slice() == [Oid(25)].as_slice())
+}
+
+fn refuses_row(alloc: Global, body: &[u8]) -> bool {
+    decode_data_row(alloc, body).is_err()
+}
+
+fn reads_notice(alloc: Global, body: &[u8]) -> Result<bool, Error> {
+    Ok(decode_notice_response(alloc, body)?.severity() == PgSeverity::Log)
+}
+
+fn reads_data(alloc: Global, body: &[u8]) -> Result<bool, Error> {
+    Ok(decode_copy_data(alloc, body)?.as_bytes() == b"1\n".as_slice())
+}
+
+fn reads_salt(alloc: Global, body: &[u8]) -> Result<bool, Error> {
+    match decode_authentication(alloc, body)? {
+        Authentication::Md5Password { salt } => Ok(salt == [1, 2, 3, 4]),
+        _ => Ok(false),
+    }
+}
+
+fn reads_columns(alloc: Global, body: &[u8]) -> Result<bool, Error> {
+    let columns = decode_row_description(alloc, body)?;
+    match columns.as_slice() {
+        [column] => Ok(
+            column.name.as_str() == "a"
+                && column.relation_id.is_none()
+                && column.type_id == Oid(23)
+                && column.size == 4
+                && column.modifier == -1
+                && column.format == 1,
+        ),
+        _ => Ok(false),
+    }
+}
+
+fn reads_values(alloc: Global, body: &[u8]) -> Result<bool, Error> {
+    let row = decode_data_row(alloc, body)?;
+    if row.len() != 2 {
+        return Ok(false);
+    }
+    Ok(row.get(0) == Some(b"x".as_slice()) && row.get(1).is_none())
+}
+
+fn reads_notification(alloc: Global, body: &[u8]) -> Result<bool, Error> {
+    let told = decode_notification_response(alloc, body)?;
+    Ok(
+        told.process_id == 0x34201002
+            && told.channel.as_str() == "TEST-CHANNEL"
+            && told.payload.as_str() == "THIS IS A TEST",
     )
-    .ok()
-    .ok_or("Bind")?;
-    encode_execute(&mut out, PortalId::UNNAMED, 1234567890)
-        .ok()
-        .ok_or("Execute")?;
-    encode_close_statement(&mut out, StatementId::NAMED_START)
-        .ok()
-        .ok_or("Close")?;
-    encode_close_portal(&mut out, PortalId::UNNAMED)
-        .ok()
-        .ok_or("Close")?;
-    let want =
-        b"B\x00\x00\x00\x21\x00sqlx_s_1\x00\x00\x01\x00\x01\x00\x02\x00\x00\x00\x01x\xff\xff\xff\xff\x00\x01\x00\x01E\x00\x00\x00\x09\x00\x49\x96\x02\xd2C\x00\x00\x00\x0eSsqlx_s_1\x00C\x00\x00\x00\x06P\x00";
-    assert_eq!(rt; out.as_bytes(), want.as_slice());
-    assert!(rt; StatementId { number: u32::MAX }.next().is_none());
-    assert!(rt; StatementId::UNNAMED.next() == Some(StatementId::UNNAMED));
-    Ok(())
+}
+
+fn reads_setting(alloc: Global, body: &[u8]) -> Result<bool, Error> {
+    let told = decode_parameter_status(alloc, body)?;
+    Ok(told.name.as_str() == "TimeZone" && told.value.as_str() == "UTC")
+}
+
+fn reads_error(alloc: Global, body: &[u8]) -> Result<bool, Error> {
+    let error = decode_error_response(alloc, body)?;
+    Ok(error.severity() == PgSeverity::Fatal && error.code() == "28P01" && error.message() == "no")
+}
+
+fn is_copy(told: &CopyResponseData) -> bool {
+    told.format == 1 && told.format_codes.as_slice() == [1].as_slice()
+}
+
+fn reads_copy_in(alloc: Global, body: &[u8]) -> Result<bool, Error> {
+    let told = decode_copy_in_response(alloc, body)?;
+    Ok(is_copy(&told))
+}
+
+fn reads_copy_out(alloc: Global, body: &[u8]) -> Result<bool, Error> {
+    let told = decode_copy_out_response(alloc, body)?;
+    Ok(is_copy(&told))
+}
+
+fn reads(alloc: Global, message: Got, body: &[u8]) -> Result<bool, Error> {
+    match message {
+        Got::AuthenticationOk => reads_ok(alloc, body),
+        Got::Salt => reads_salt(alloc, body),
+        Got::Mechanism => reads_mechanism(alloc, body),
+        Got::KeyData => reads_key(body),
+        Got::Setting => reads_setting(alloc, body),
+        Got::InTransaction => reads_status(body),
+        Got::Columns => reads_columns(alloc, body),
+        Got::Types => reads_types(alloc, body),
+        Got::Values => reads_values(alloc, body),
+        Got::NoRow => Ok(refuses_row(alloc, body)),
+        Got::Error => reads_error(alloc, body),
+        Got::Notice => reads_notice(alloc, body),
+        Got::Notification => reads_notification(alloc, body),
+        Got::CopyIn => reads_copy_in(alloc, body),
+        Got::CopyOut => reads_copy_out(alloc, body),
+        Got::CopyData => reads_data(alloc, body),
+    }
+}
+
+/// Whether the row's message has these bytes: all of its frame where it is written, and its body where it is read.
+fn holds(alloc: Global, row: Row, bytes: &[u8]) -> Result<bool, Error> {
+    match row {
+        Row::Sent(message) => writes(alloc, message, bytes),
+        Row::Empty(tag) => Ok(reads_empty(tag, bytes)),
+        Row::Counts(rows) => reads_count(bytes, rows),
+        Row::Got(message) => reads(alloc, message, bytes),
+    }
 }
 
 #[test]
-fn rows_affected(rt: HostRuntime) -> Result<(), Fail> {
-    for (body, want) in [
-        (b"INSERT 0 1214\0".as_slice(), 1214),
-        (b"BEGIN\0".as_slice(), 0),
-        (b"UPDATE 5\0".as_slice(), 5),
-        (b"5\0".as_slice(), 0),
-        (b"COPY 1x\0".as_slice(), 0),
-        (b"COPY 18446744073709551615\0".as_slice(), u64::MAX),
-        (b"COPY 18446744073709551616\0".as_slice(), 0),
-    ] {
-        let complete = decode_command_complete(body).ok().ok_or("CommandComplete")?;
-        assert_eq!(rt; complete.rows_affected(), want);
+fn messages(rt: HostRuntime) -> Result<(), Fail> {
+    let rows = [
+        (
+            Row::Sent(Sent::Startup),
+            b"\x00\x00\x00\x5a\x00\x03\x00\x00user\x00u\x00DateStyle\x00ISO, MDY\x00client_encoding\x00UTF8\x00TimeZone\x00UTC\x00extra_float_digits\x002\x00\x00".as_slice(),
+        ),
+        (
+            Row::Sent(Sent::StartupWithDatabase),
+            b"\x00\x00\x00\x29\x00\x03\x00\x00user\x00postgres\x00database\x00postgres\x00\x00",
+        ),
+        (
+            Row::Sent(Sent::SslRequest),
+            b"\x00\x00\x00\x08\x04\xd2\x16\x2f",
+        ),
+        (Row::Sent(Sent::Query), b"Q\x00\x00\x00\x0dSELECT 1\x00"),
+        (
+            Row::Sent(Sent::ParseNamed),
+            b"P\x00\x00\x00\x26sqlx_s_1234567890\x00SELECT $1\x00\x00\x01\x00\x00\x00\x19",
+        ),
+        (
+            Row::Sent(Sent::ParseUnnamed),
+            b"P\x00\x00\x00\x15\x00SELECT $1\x00\x00\x01\x00\x00\x00\x19",
+        ),
+        (
+            Row::Sent(Sent::DescribeNamed),
+            b"D\x00\x00\x00\x17Ssqlx_s_1234567890\x00",
+        ),
+        (Row::Sent(Sent::DescribeUnnamed), b"D\x00\x00\x00\x06S\x00"),
+        (Row::Sent(Sent::DescribePortal), b"D\x00\x00\x00\x06P\x00"),
+        (
+            Row::Sent(Sent::Bind),
+            b"B\x00\x00\x00\x21\x00sqlx_s_1\x00\x00\x01\x00\x01\x00\x02\x00\x00\x00\x01x\xff\xff\xff\xff\x00\x01\x00\x01",
+        ),
+        (
+            Row::Sent(Sent::Execute),
+            b"E\x00\x00\x00\x09\x00\x49\x96\x02\xd2",
+        ),
+        (
+            Row::Sent(Sent::CloseStatement),
+            b"C\x00\x00\x00\x0eSsqlx_s_1\x00",
+        ),
+        (Row::Sent(Sent::ClosePortal), b"C\x00\x00\x00\x06P\x00"),
+        (Row::Sent(Sent::Sync), b"S\x00\x00\x00\x04"),
+        (Row::Sent(Sent::Terminate), b"X\x00\x00\x00\x04"),
+        (Row::Sent(Sent::Password), b"p\x00\x00\x00\x07pw\x00"),
+        (
+            Row::Sent(Sent::SaslInitial),
+            b"p\x00\x00\x00\x19SCRAM-SHA-256\x00\x00\x00\x00\x03n,,",
+        ),
+        (Row::Sent(Sent::SaslNext), b"p\x00\x00\x00\x06c="),
+        (Row::Sent(Sent::CopyBytes), b"d\x00\x00\x00\x061\n"),
+        (Row::Sent(Sent::CopyDone), b"c\x00\x00\x00\x04"),
+        (Row::Sent(Sent::CopyFail), b"f\x00\x00\x00\x07no\x00"),
+        (Row::Got(Got::AuthenticationOk), b"\x00\x00\x00\x00"),
+        (Row::Got(Got::Salt), b"\x00\x00\x00\x05\x01\x02\x03\x04"),
+        (
+            Row::Got(Got::Mechanism),
+            b"\x00\x00\x00\x0aSCRAM-SHA-256\x00\x00",
+        ),
+        (Row::Got(Got::KeyData), b"\x00\x00\x27\xc6\x89\x52\xc5\x2b"),
+        (Row::Got(Got::Setting), b"TimeZone\x00UTC\x00"),
+        (Row::Got(Got::InTransaction), b"T"),
+        (
+            Row::Got(Got::Columns),
+            b"\x00\x01a\x00\x00\x00\x00\x00\x00\x00\x00\x00\x00\x17\x00\x04\xff\xff\xff\xff\x00\x01",
+        ),
+        (Row::Got(Got::Types), b"\x00\x01\x00\x00\x00\x19"),
+        (
+            Row::Got(Got::Values),
+            b"\x00\x02\x00\x00\x00\x01x\xff\xff\xff\xff",
+        ),
+        (Row::Got(Got::NoRow), b"\x00\x01\xff\xff\xff\xfe"),
+        (Row::Counts(1214), b"INSERT 0 1214\x00"),
+        (Row::Counts(0), b"BEGIN\x00"),
+        (Row::Counts(5), b"UPDATE 5\x00"),
+        (Row::Counts(0), b"5\x00"),
+        (Row::Counts(0), b"COPY 1x\x00"),
+        (Row::Counts(u64::MAX), b"COPY 18446744073709551615\x00"),
+        (Row::Counts(0), b"COPY 18446744073709551616\x00"),
+        (
+            Row::Got(Got::Error),
+            b"SFEHLER\x00VFATAL\x00C28P01\x00Mno\x00\x00",
+        ),
+        (Row::Got(Got::Notice), b"\x00"),
+        (
+            Row::Got(Got::Notification),
+            b"\x34\x20\x10\x02TEST-CHANNEL\x00THIS IS A TEST\x00",
+        ),
+        (Row::Got(Got::CopyIn), b"\x01\x00\x01\x00\x01"),
+        (Row::Got(Got::CopyOut), b"\x01\x00\x01\x00\x01"),
+        (Row::Got(Got::CopyData), b"1\n"),
+        (Row::Empty(b'c'), b""),
+        (Row::Empty(b'I'), b""),
+        (Row::Empty(b'1'), b""),
+        (Row::Empty(b'2'), b""),
+        (Row::Empty(b'3'), b""),
+        (Row::Empty(b'n'), b""),
+        (Row::Empty(b's'), b""),
+    ];
+    for (row, bytes) in rows {
+        let is_so = holds(rt.alloc(), row, bytes).ok().ok_or("the message")?;
+        assert!(rt; is_so);
     }
-    Ok(())
-}
-
-#[test]
-fn plain_bodies(rt: HostRuntime) -> Result<(), Fail> {
-    let alloc = rt.alloc();
-    let key = decode_backend_key_data(b"\x00\x00\x27\xc6\x89\x52\xc5\x2b")
-        .ok()
-        .ok_or("BackendKeyData")?;
-    assert_eq!(rt; key.process_id, 10182);
-    assert_eq!(rt; key.secret_key, 2303903019);
-    let told = decode_notification_response(
-        alloc,
-        b"\x34\x20\x10\x02TEST-CHANNEL\x00THIS IS A TEST\x00",
-    ).ok()
-        .ok_or("NotificationResponse")?;
-    assert_eq!(rt; told.process_id, 0x34201002);
-    assert_eq!(rt; told.channel.as_str(), "TEST-CHANNEL");
-    assert_eq!(rt; told.payload.as_str(), "THIS IS A TEST");
-    let status = decode_parameter_status(alloc, b"TimeZone\x00UTC\x00")
-        .ok()
-        .ok_or("ParameterStatus")?;
-    assert_eq!(rt; status.value.as_str(), "UTC");
-    assert!(rt;
-        matches!(
-            decode_ready_for_query(b"T"),
-            Ok(TransactionStatus::Transaction)
-        )
-    );
-    assert!(rt;
-        matches!(
-            decode_authentication(alloc, b"\x00\x00\x00\x00"),
-            Ok(Authentication::Ok)
-        )
-    );
-    assert!(rt;
-        matches!(
-            decode_authentication(alloc, b"\x00\x00\x00\x0aSCRAM-SHA-256\x00\x00"),
-            Ok(Authentication::Sasl { .. })
-        )
-    );
-    assert!(rt; decode_copy_data(alloc, b"1").is_ok());
-    assert!(rt; decode_empty_query(b"").is_ok());
-    assert!(rt; decode_parse_complete(b"").is_ok());
-    assert!(rt; decode_bind_complete(b"").is_ok());
-    assert!(rt; decode_close_complete(b"").is_ok());
-    assert!(rt; decode_no_data(b"").is_ok());
-    assert!(rt; decode_portal_suspended(b"").is_ok());
-    assert!(rt; decode_copy_done(b"").is_ok());
-    Ok(())
-}
-
-#[test]
-fn listed_bodies(rt: HostRuntime) -> Result<(), Fail> {
-    let alloc = rt.alloc();
-    let types = decode_parameter_description(alloc, b"\x00\x01\x00\x00\x00\x19")
-        .ok()
-        .ok_or("ParameterDescription")?;
-    assert!(rt; types.as_slice() == [Oid(25)].as_slice());
-    let row = decode_data_row(alloc, b"\x00\x02\x00\x00\x00\x01x\xff\xff\xff\xff")
-        .ok()
-        .ok_or("DataRow")?;
-    assert_eq!(rt; row.len(), 2);
-    if row.len() == 2 {
-        assert_eq!(rt; row.get(0), Some(b"x".as_slice()));
-        assert_eq!(rt; row.get(1), None);
-    }
-    assert!(rt; decode_data_row(alloc, b"\x00\x01\xff\xff\xff\xfe").is_err());
-    let columns = decode_row_description(
-        alloc,
-        b"\x00\x01a\x00\x00\x00\x00\x00\x00\x00\x00\x00\x00\x17\x00\x04\xff\xff\xff\xff\x00\x01",
-    )
-    .ok()
-    .ok_or("RowDescription")?;
-    for column in columns.as_slice() {
-        assert_eq!(rt; column.name.as_str(), "a");
-        assert!(rt; column.relation_id.is_none());
-        assert_eq!(rt; column.size, 4);
-        assert_eq!(rt; column.modifier, -1);
-    }
-    let copy = decode_copy_in_response(alloc, b"\x01\x00\x01\x00\x01")
-        .ok()
-        .ok_or("CopyInResponse")?;
-    assert_eq!(rt; copy.format, 1);
-    assert_eq!(rt; copy.format_codes.as_slice(), [1].as_slice());
-    assert!(rt; decode_copy_out_response(alloc, b"\x00\x00\x00").is_ok());
-    let error = decode_error_response(alloc, b"SFEHLER\x00VFATAL\x00C28P01\x00Mno\x00\x00")
-        .ok()
-        .ok_or("ErrorResponse")?;
-    assert!(rt; error.severity() == PgSeverity::Fatal);
-    assert_eq!(rt; error.code(), "28P01");
-    assert_eq!(rt; error.message(), "no");
-    let notice = decode_notice_response(alloc, b"\x00")
-        .ok()
-        .ok_or("NoticeResponse")?;
-    assert!(rt; notice.severity() == PgSeverity::Log);
     Ok(())
 }

@@ -3,17 +3,24 @@
 
 use pg_conn::MemoryDial;
 use pg_play::top;
-use pg_stream::{StdSink, StdSource};
+use pg_stream::{StdSink, StdSource, send};
 use pg_wire::Sequence;
 use std::collections::VecDeque;
+use std::io::ErrorKind;
 use std::process::ExitCode;
 use std::{env, io};
 
-// The words behind the program's name.
+// The words behind the program's name. Where one is no UTF-8 there are none, for no words of the program have it.
 fn words(rt: &HostRuntime) -> io::Result<Vec<String>> {
     let mut words = Vec::new(rt.alloc());
-    for word in env::args(rt)?.skip(1) {
-        words.push(word)?;
+    match env::args(rt) {
+        Ok(args) => {
+            for word in args.skip(1) {
+                words.push(word)?;
+            }
+        }
+        Err(e) if e.kind() == ErrorKind::OutOfMemory => return Err(e),
+        Err(_) => {}
     }
     Ok(words)
 }
@@ -29,11 +36,16 @@ fn no_dial(rt: &HostRuntime) -> MemoryDial {
 }
 
 fn main(rt: HostRuntime) -> ExitCode {
-    let Ok(words) = words(&rt) else {
-        return ExitCode::from(5);
-    };
     let mut source = StdSource::new(rt.reader());
     let mut sink = StdSink::new(io::writer(&rt));
+    let Ok(words) = words(&rt) else {
+        let status = if send(&mut sink, b"out of memory\n") {
+            5
+        } else {
+            4
+        };
+        return ExitCode::from(status);
+    };
     let mut dial = no_dial(&rt);
     let ran = top(rt.alloc(), &words, &mut source, &mut sink, &mut dial);
     ExitCode::from(ran.status)

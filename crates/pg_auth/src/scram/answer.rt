@@ -3,20 +3,18 @@ ghost use Rattle.std.specs.List.{All};
 ghost use Rattle.pg_auth.specs.Nonce.{IsNonce};
 ghost use Rattle.pg_wire.specs.declared.error.Error.TheVariants.{OutOfMemory};
 ghost use Rattle.pg_auth.specs.Reading.{said};
-ghost use Rattle.pg_auth.specs.Scram.{IsPlain, Continues, client_first_bare, client_final_bare, client_proof, server_signature};
+ghost use Rattle.pg_auth.specs.Scram.{IsPlain, Continues, client_first_bare, client_final_bare};
 ghost use Rattle.pg_auth.specs.ScramAnswers.{AnswersTo, IsAnswer, RefusesProof};
 
 use super::ascii::push_ascii;
 use super::client_first::push_client_first_bare;
+use super::keys::{client_proof, server_signature};
 use super::plain::check_plain;
 use super::server_first::{ServerFirst, read_server_first};
 use super::{MALFORMED, refused};
-use crate::keyed_hash::hmac;
 use crate::salted::hi;
-use crate::xor::xored;
 use base64::engine::general_purpose::STANDARD;
 use pg_wire::{ConfigPart, Error, ServerFault, Text};
-use sha2::{Digest, Sha256};
 use std::alloc::{AllocError, Global};
 
 /// What a client answers to a server's first message, and what it awaits then.
@@ -66,22 +64,6 @@ fn messages(
     Ok(text)
 }
 
-#[tactic(auto, unfolding(crate::specs::Scram::client_proof))]
-fn proof(salted: &[u8; 32], message: &[u8]) -> [u8; 32]
-    ensures { result ≡ client_proof salted.now message.now }
-{
-    let client_key = hmac(salted, b"Client Key");
-    let signature = hmac(&Sha256::digest(client_key), message);
-    xored(client_key, &signature)
-}
-
-#[tactic(auto, unfolding(crate::specs::Scram::server_signature))]
-fn signature(salted: &[u8; 32], message: &[u8]) -> [u8; 32]
-    ensures { result ≡ server_signature salted.now message.now }
-{
-    hmac(&hmac(salted, b"Server Key"), message)
-}
-
 // What is answered to a message that was read and goes on from the client's.
 #[tactic(auto, unfolding(crate::specs::Scram::client_final, crate::specs::Scram::auth_message))]
 fn answer(
@@ -106,8 +88,8 @@ fn answer(
         server.salt.as_slice(),
         server.rounds,
     )?;
-    let proof = proof(&salted, message.as_bytes());
-    let verifier = signature(&salted, message.as_bytes());
+    let proof = client_proof(&salted, message.as_bytes());
+    let verifier = server_signature(&salted, message.as_bytes());
     text.push_str(",p=")?;
     STANDARD.encode_string(&proof, &mut text)?;
     Ok(ScramAnswer {

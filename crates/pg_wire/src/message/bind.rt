@@ -1,6 +1,6 @@
 ghost use Rattle.std.specs.Prelude.{◌≡◌, ◌∷◌, ◌++◌, [], List, ℕ, Option, length, flat_map, OnOk, OnErr, IfErr};
 ghost use Rattle.pg_wire.specs.Bytes.{number16, number32, ended, value};
-ghost use Rattle.pg_wire.specs.Encoding.{Refuses};
+ghost use Rattle.pg_wire.specs.Encoding.{Allows, Refuses};
 ghost use Rattle.pg_wire.specs.Frame.{bytes_of, frontend_tags, IsWhole};
 ghost use Rattle.pg_wire.specs.Frontend.{frontend_frame, Bind, bind_body, name_under, statement_name};
 
@@ -49,6 +49,7 @@ pub fn encode_bind(
     ensures values { OnOk result ((values : List (Option (List ℕ))) → length values ≡ count → flat_map value values ≡ params.now → out.new ≡ out.old ++ bytes_of (frontend_frame (Bind (name_under statement_name statement) values))) }
     ensures whole { OnOk result (IsWhole frontend_tags (record { tag = 66; body = bind_body (name_under statement_name statement) count params.now })) }
     ensures err { OnErr result (out.new ≡ out.old) }
+    ensures allowed { OnOk result (Allows count (Unit {0}) (length (bind_body (name_under statement_name statement) count params.now))) }
     ensures cause { IfErr result (Refuses count (Unit {0}) (length (bind_body (name_under statement_name statement) count params.now))) }
 {
     let count = check_count(count)?;

@@ -2,7 +2,7 @@ ghost use Rattle.std.specs.Prelude.{◌≡◌, ◌++◌, length, OnOk, OnErr, If
 ghost use Rattle.pg_wire.specs.Bytes.{HasNoNul};
 ghost use Rattle.pg_wire.specs.Frame.{bytes_of, frontend_tags, IsWhole};
 ghost use Rattle.pg_wire.specs.Frontend.{frontend_frame, HasFrontendFrame, CopyFail};
-ghost use Rattle.pg_wire.specs.Encoding.{Refuses};
+ghost use Rattle.pg_wire.specs.Encoding.{Allows, Refuses};
 
 use crate::appending::{append_frame, check_body, check_text};
 use crate::{Blob, Error};
@@ -13,6 +13,7 @@ pub fn encode_copy_fail(out: &mut Blob, message: &str) -> Result<(), Error>
     ensures ok { OnOk result (out.new ≡ out.old ++ bytes_of (frontend_frame (CopyFail message.now))) }
     ensures whole { OnOk result (HasFrontendFrame (CopyFail message.now) × IsWhole frontend_tags (frontend_frame (CopyFail message.now))) }
     ensures err { OnErr result (out.new ≡ out.old) }
+    ensures allowed { OnOk result (Allows 0 (HasNoNul message.now) (length (frontend_frame (CopyFail message.now)).body)) }
     ensures cause { IfErr result (Refuses 0 (HasNoNul message.now) (length (frontend_frame (CopyFail message.now)).body)) }
 {
     check_text(message)?;

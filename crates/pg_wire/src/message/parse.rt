@@ -1,7 +1,7 @@
 ghost use Rattle.std.specs.Prelude.{◌≡◌, ◌∷◌, ◌++◌, ◌≤◌, List, ℕ, length, flat_map, OnOk, OnErr, IfErr};
 ghost use Rattle.std.specs.List.{AllByRecursion};
 ghost use Rattle.pg_wire.specs.Bytes.{number16, number32, ended, HasNoNul};
-ghost use Rattle.pg_wire.specs.Encoding.{Refuses};
+ghost use Rattle.pg_wire.specs.Encoding.{Allows, Refuses};
 ghost use Rattle.pg_wire.specs.Frame.{bytes_of, frontend_tags, IsWhole};
 ghost use Rattle.pg_wire.specs.Frontend.{frontend_frame, HasFrontendFrame, IsNumber32, Parse, name_under, type_list, statement_name};
 
@@ -89,6 +89,7 @@ pub fn encode_parse(
     ensures ok { OnOk result (out.new ≡ out.old ++ bytes_of (frontend_frame (Parse (name_under statement_name statement) sql.now types.now))) }
     ensures whole { OnOk result (HasFrontendFrame (Parse (name_under statement_name statement) sql.now types.now) × IsWhole frontend_tags (frontend_frame (Parse (name_under statement_name statement) sql.now types.now))) }
     ensures err { OnErr result (out.new ≡ out.old) }
+    ensures allowed { OnOk result (Allows (length types.now) (HasNoNul sql.now) (length (frontend_frame (Parse (name_under statement_name statement) sql.now types.now)).body)) }
     ensures cause { IfErr result (Refuses (length types.now) (HasNoNul sql.now) (length (frontend_frame (Parse (name_under statement_name statement) sql.now types.now)).body)) }
 {
     let count = check_count(types.len() as u64)?;

@@ -1,6 +1,6 @@
 ghost use Rattle.std.specs.Prelude.{◌≡◌, ◌++◌, length, OnOk, OnErr, IfErr};
 ghost use Rattle.pg_wire.specs.Bytes.{HasNoNul};
-ghost use Rattle.pg_wire.specs.Encoding.{Refuses};
+ghost use Rattle.pg_wire.specs.Encoding.{Allows, Refuses};
 ghost use Rattle.pg_wire.specs.Frame.{bytes_of, frontend_tags, IsWhole};
 ghost use Rattle.pg_wire.specs.Frontend.{password};
 
@@ -13,6 +13,7 @@ pub fn encode_password(out: &mut Blob, text: &str) -> Result<(), Error>
     ensures ok { OnOk result (out.new ≡ out.old ++ bytes_of (password text.now)) }
     ensures whole { OnOk result (HasNoNul text.now × IsWhole frontend_tags (password text.now)) }
     ensures err { OnErr result (out.new ≡ out.old) }
+    ensures allowed { OnOk result (Allows 0 (HasNoNul text.now) (length (password text.now).body)) }
     ensures cause { IfErr result (Refuses 0 (HasNoNul text.now) (length (password text.now).body)) }
 {
     check_text(text)?;

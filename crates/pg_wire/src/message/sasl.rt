@@ -1,7 +1,7 @@
 ghost use Rattle.std.specs.Prelude.{◌≡◌, ◌∷◌, ◌++◌, ◌<◌, ◌≤◌, ◌^◌, List, ℕ, length, OnOk, OnErr, IfErr};
 ghost use Rattle.pg_wire.specs.Bytes.{number32, HasNoNul};
-ghost use Rattle.pg_wire.specs.Encoding.{Refuses, body_max};
-ghost use Rattle.pg_wire.specs.Frame.{bytes_of};
+ghost use Rattle.pg_wire.specs.Encoding.{Allows, Refuses};
+ghost use Rattle.pg_wire.specs.Frame.{bytes_of, frontend_tags, IsWhole};
 ghost use Rattle.pg_wire.specs.Frontend.{sasl_first, sasl_next};
 
 use crate::appending::{append_frame, append_header, check_body, check_text};
@@ -48,8 +48,9 @@ fn append_initial(
 /// (PostgreSQL manual, "Message Formats", SASLInitialResponse.)
 pub fn encode_sasl_initial(out: &mut Blob, response: &str) -> Result<(), Error>
     ensures ok { OnOk result (out.new ≡ out.old ++ bytes_of (sasl_first response.now)) }
-    ensures whole { OnOk result (HasNoNul response.now × (length (sasl_first response.now).body ≤ body_max)) }
+    ensures whole { OnOk result (HasNoNul response.now × IsWhole frontend_tags (sasl_first response.now)) }
     ensures err { OnErr result (out.new ≡ out.old) }
+    ensures allowed { OnOk result (Allows 0 (HasNoNul response.now) (length (sasl_first response.now).body)) }
     ensures cause { IfErr result (Refuses 0 (HasNoNul response.now) (length (sasl_first response.now).body)) }
 {
     check_text(response)?;
@@ -62,8 +63,9 @@ pub fn encode_sasl_initial(out: &mut Blob, response: &str) -> Result<(), Error>
 /// (PostgreSQL manual, "Message Formats", SASLResponse.)
 pub fn encode_sasl_response(out: &mut Blob, response: &str) -> Result<(), Error>
     ensures ok { OnOk result (out.new ≡ out.old ++ bytes_of (sasl_next response.now)) }
-    ensures whole { OnOk result (HasNoNul response.now × (length (sasl_next response.now).body ≤ body_max)) }
+    ensures whole { OnOk result (HasNoNul response.now × IsWhole frontend_tags (sasl_next response.now)) }
     ensures err { OnErr result (out.new ≡ out.old) }
+    ensures allowed { OnOk result (Allows 0 (HasNoNul response.now) (length (sasl_next response.now).body)) }
     ensures cause { IfErr result (Refuses 0 (HasNoNul response.now) (length (sasl_next response.now).body)) }
 {
     check_text(response)?;

@@ -1,6 +1,12 @@
-use Rattle.std.proofs.Common.{◌≡◌, ◌≤◌, length, vec_capacity}
+use Rattle.std.proofs.Common.{◌≡◌, ◌≤◌, length, take, vec_capacity}
+use Rattle.pg_conn.specs.Connections.{seen_by}
+use Rattle.pg_play.specs.Plays.{PlaysOn}
 use Rattle.pg_play.proofs.playing.play_steps.Given as goal
 
--- each step so far has its outcome, and there is room for the others
+-- each step so far has its outcome and was played, and there is room for the others
 abbrev pub invariant-loop-step : goal.invariant-loop-step
-invariant-loop-step g l = (length l.outcomes.items ≡ l.step-index) × (length l.fn.steps ≤ vec_capacity l.outcomes)
+invariant-loop-step g l = record {
+  count : length l.outcomes.items ≡ l.step-index;
+  room : length l.fn.steps ≤ vec_capacity l.outcomes;
+  plays : PlaysOn (seen_by g.L.Link.seen l.fn.conn) (seen_by g.L.Link.seen l.conn) (take l.step-index l.fn.steps) l.outcomes.items;
+}

@@ -1,6 +1,6 @@
 use Rattle.std.proofs.Common.{string_bytes}
 use Rattle.pg_stream.specs.Outside.{Sent}
-use Rattle.pg_play.proofs.TopLaws.{ended, starved}
+use Rattle.pg_play.proofs.TopLaws.{ended}
 use Rattle.pg_play.proofs.program.top.Goals as goal
 
 pub returns-in-Ok : goal.returns-in-Ok

@@ -6,4 +6,4 @@ pub returns-in-Ready-Ok : goal.returns-in-Ready-Ok
 returns-in-Ready-Ok g c =
     let seen = stream_by g.L.Link.seen in
     let sent = rw c.in-Ready-Ok.field-0-is at c.in-Ready-Ok.ensures in
-    PollsFront-after (seen c.args.self.now) (seen c.poll_send.new.self) (seen c.poll_read.new.self) c.poll_read.result c.poll_send.ensures.moves sent.gives.1 c.poll_read.ensures
+    PollsFront-after (seen c.args.self.now) (seen c.poll_send.new.self) (seen c.poll_read.new.self) c.poll_read.result c.poll_send.ensures.moves c.poll_send.ensures.spare sent.gives.1 c.poll_read.ensures

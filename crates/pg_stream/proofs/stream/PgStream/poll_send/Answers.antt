@@ -1,6 +1,6 @@
 use Rattle.std.proofs.Common.{[], ◌∙◌, refl, inl}
 use Rattle.pg_stream.specs.Streams.{stream_by}
-use Rattle.pg_stream.proofs.StreamLemmas.{Moves-then, AllMoved-more, Rose-after}
+use Rattle.pg_stream.proofs.StreamLemmas.{Moves-then, AllMoved-more, Rose-after, WriteWaited-after}
 use Rattle.pg_stream.proofs.stream.PgStream.poll_send.Goals as goal
 
 pub loop-self-preserved : goal.loop-self-preserved
@@ -11,6 +11,7 @@ loop-self-preserved g c =
     record {
       moves = Moves-then (seen c.args.self.now) (seen c.loop-self.self) (seen c.send_once.new.self) [] [] [] [] i.moves s.moves;
       held = s.held ∙ i.held;
+      spare = s.spare ∙ i.spare;
       moved = AllMoved-more (seen c.args.self.now) (seen c.loop-self.self) (seen c.send_once.new.self) i.moved i.moves.left s.left c.in-Moved.ensures.cause;
     }
 
@@ -22,7 +23,8 @@ returns-in-NotYet g c =
     record {
       moves = Moves-then (seen c.args.self.now) (seen c.loop-self.self) (seen c.send_once.new.self) [] [] [] [] i.moves s.moves;
       held = s.held ∙ i.held;
-      gives = inl (Rose-after _ _ _ i.moves.counts.write_waits c.in-NotYet.ensures.cause);
+      spare = s.spare ∙ i.spare;
+      gives = inl (WriteWaited-after (seen c.args.self.now) (seen c.loop-self.self) (seen c.send_once.new.self) i.moves.counts i.moves.tallies.waits.0 c.in-NotYet.ensures.cause);
     }
 
 pub returns-in-Failed : goal.returns-in-Failed
@@ -33,5 +35,6 @@ returns-in-Failed g c =
     record {
       moves = Moves-then (seen c.args.self.now) (seen c.loop-self.self) (seen c.send_once.new.self) [] [] [] [] i.moves s.moves;
       held = s.held ∙ i.held;
+      spare = s.spare ∙ i.spare;
       gives = (refl, Rose-after _ _ _ i.moves.counts.faults c.in-Failed.ensures.cause);
     }

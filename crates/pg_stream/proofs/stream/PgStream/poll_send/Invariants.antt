@@ -6,6 +6,7 @@ abbrev pub invariant-loop-self : goal.invariant-loop-self
 invariant-loop-self g l = record {
   moves : Moves (stream_by g.L.Link.seen l.initial.self) (stream_by g.L.Link.seen l.self) [] [];
   held : l.self.held ≡ l.initial.self.held;
+  spare : l.self.spare ≡ l.initial.self.spare;
   moved : AllMoved (stream_by g.L.Link.seen l.initial.self) (stream_by g.L.Link.seen l.self);
 }
 

@@ -8,7 +8,7 @@ returns-in-Moved-clause-ok g c =
     let grew : GrewBy 1 c.self.inside.moves c.saturating_add-self-inside.result = search rules in
     let some = rw (← c.self.view_is) at c.requires in
     let fits : length c.read.new.into ≤ 8192 = omega (arith, c.read.auto.into) in
-    rw (← c.self.view_is, c.extend_reserved.ensures, c.reserve.ensures.items) (reads_moved _ _ c.read.new.into _ _ c.in-Moved.ensures fits some grew)
+    rw (← c.self.view_is, c.extend_reserved.ensures.items, c.reserve.ensures.items) (reads_moved _ _ c.read.new.into _ _ c.in-Moved.ensures fits some grew)
 
 pub returns-in-NotYet-clause-ok : goal.returns-in-NotYet-clause-ok
 returns-in-NotYet-clause-ok g c =

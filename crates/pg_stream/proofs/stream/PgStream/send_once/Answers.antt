@@ -7,4 +7,4 @@ pub returns-in-Moved : goal.returns-in-Moved
 returns-in-Moved g c =
     let grew : GrewBy 1 c.self.inside.moves c.saturating_add-self-inside.result = search rules in
     let some = rw (← c.self.view_is) at c.requires.left in
-    rw (← c.self.view_is, c.advance.ensures.items) (sends_moved _ _ _ _ (rw c.as_slice.ensures at c.in-Moved.ensures) some grew)
+    rw (← c.self.view_is, c.advance.ensures) (sends_moved _ _ _ _ (rw c.as_slice.ensures at c.in-Moved.ensures) some grew)

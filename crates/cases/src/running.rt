@@ -1,0 +1,69 @@
+use pg_conn::MemoryDial;
+use pg_play::top;
+use pg_stream::{MemorySink, MemorySource};
+use pg_wire::{Blob, Sequence};
+use std::alloc::{AllocError, Global};
+use std::collections::VecDeque;
+
+/// What a run of the program gave: its status, and the text that it wrote.
+#[derive(Drop)]
+pub(crate) struct Ended {
+    pub(crate) status: u8,
+    pub(crate) sink: MemorySink,
+}
+
+/// Which calls of the source and of the sink fail, and how much one read gives at most.
+#[derive(Clone, Copy)]
+pub(crate) struct Outside {
+    pub(crate) most: usize,
+    pub(crate) failing_read: u64,
+    pub(crate) failing_write: u64,
+}
+
+pub(crate) const WHOLE: Outside = Outside {
+    most: 65536,
+    failing_read: 0,
+    failing_write: 0,
+};
+
+fn only(alloc: Global, call: u64) -> Result<Sequence<u64>, AllocError> {
+    let mut calls = Sequence::new(alloc);
+    calls.push(call)?;
+    Ok(calls)
+}
+
+/// Runs the program on words and on the text of its input.
+pub(crate) fn run(
+    alloc: Global,
+    words: &[&str],
+    text: &str,
+    outside: Outside,
+) -> Result<Ended, AllocError> {
+    let mut owned = Vec::new(alloc);
+    for word in words {
+        owned.push(String::from_str(alloc, word)?)?;
+    }
+    let bytes = Blob::from_slice(alloc, text.as_bytes())?;
+    let mut source = MemorySource::new(bytes, outside.most, only(alloc, outside.failing_read)?);
+    let mut sink = MemorySink::new(alloc, only(alloc, outside.failing_write)?);
+    let mut dial = MemoryDial::new(
+        VecDeque::new(alloc),
+        VecDeque::new(alloc),
+        Sequence::new(alloc),
+    );
+    let ran = top(alloc, &owned, &mut source, &mut sink, &mut dial);
+    Ok(Ended {
+        status: ran.status,
+        sink,
+    })
+}
+
+/// The text of so many lines.
+pub(crate) fn text_of(alloc: Global, lines: &[&str]) -> Result<String, AllocError> {
+    let mut text = String::new(alloc);
+    for line in lines {
+        text.push_str(line)?;
+        text.push_str("\n")?;
+    }
+    Ok(text)
+}

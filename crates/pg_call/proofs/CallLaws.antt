@@ -1,0 +1,493 @@
+-- One more message of a call.
+use Rattle.std.proofs.Common.{◌≡◌, ◌≢◌, inl, inr, ℕ, ◌+◌, ◌-◌, ◌<◌, Bool, true, false, not, ◌&&◌, ◌||◌, cond, ◌==◌, List, [], ◌∷◌, ◌++◌, length, map, filter, refl, sym, ap, ◌∙◌, subst, arith, append-nil, Result, Ok, Err, IfOk, IfErr, OnOk, Option, Some, None, option_and_then}
+use Rattle.std.specs.List.{AllByRecursion, count_by, list_any}
+use Rattle.std.proofs.lemmas.Bool.{eqb-true}
+use Rattle.std.proofs.lemmas.List.{map-append}
+use Rattle.std.proofs.lemmas.List.Elements.{filter-append}
+use Rattle.pg_wire.specs.declared.error.Error.{Error}
+use Rattle.pg_wire.specs.declared.error.Error.TheVariants as errors
+use Rattle.pg_wire.specs.declared.error.ProtocolFault.TheVariants as protocol
+use Rattle.pg_wire.specs.declared.error.ServerFault.TheVariants as faults
+use Rattle.pg_wire.specs.declared.fields.ErrorField.{ErrorField}
+use Rattle.pg_wire.specs.Frame.{Frame}
+use Rattle.pg_wire.specs.Parts.{is_ready}
+use Rattle.pg_wire.specs.Frontend.{FrontendMessage}
+use Rattle.pg_wire.specs.Backend.{Values, BackendMessage, backend_frame, HasBackendFrame, ErrorResponse, ReadyForQuery, CopyInResponse, CopyOutResponse}
+use Rattle.pg_wire.specs.Decoding.{IsRefused}
+use Rattle.pg_wire.specs.declared.status.TransactionStatus.{TransactionStatus}
+use Rattle.pg_call.specs.declared.kind.How.TheVariants as hows
+use Rattle.pg_call.specs.declared.kind.Kind.{Kind}
+use Rattle.pg_call.specs.declared.kind.Kind.TheVariants as kinds
+use Rattle.pg_call.specs.declared.tally.Tally.{Tally}
+use Rattle.pg_call.specs.declared.request.Request.{Request}
+use Rattle.pg_call.specs.declared.request.Request.TheVariants as requests
+use Rattle.pg_call.specs.declared.answer.CallItem.{CallItem}
+use Rattle.pg_call.specs.declared.answer.CallAnswer.{CallAnswer}
+use Rattle.pg_call.specs.declared.judging.Part.{Part}
+use Rattle.pg_call.specs.declared.judging.Part.TheVariants as parts
+use Rattle.pg_call.specs.declared.ledger.Ledger.{Ledger}
+use Rattle.pg_call.specs.declared.reply.Reply.{Reply}
+use Rattle.pg_call.specs.declared.reply.Heard.{Heard}
+use Rattle.pg_call.specs.declared.reply.Heard.TheVariants as heards
+use Rattle.pg_call.specs.declared.waiting.Waiting.{Waiting}
+use Rattle.pg_call.specs.declared.calling.Call.{Call}
+use Rattle.pg_call.specs.declared.calling.Call.TheVariants as calls
+use Rattle.pg_call.specs.declared.calling.Beat.{Beat}
+use Rattle.pg_call.specs.declared.calling.Beat.TheVariants as beats
+use Rattle.pg_call.specs.declared.calling.Taken.{Taken}
+use Rattle.pg_call.specs.declared.running.Running.{Running}
+use Rattle.pg_call.specs.Requests.{Group, said_in, kind_of, groups_of, messages_of, farewell, CanBeSaid}
+use Rattle.pg_call.specs.Items.{item_of, items_of, yields, shown, tally_of, answer_to, finished, one_row}
+use Rattle.pg_call.specs.Replies.{awaits_first, goes_on, part_after, may_copy, MayNotCome, IsFault}
+use Rattle.pg_call.specs.Drains.{is_error, is_copy_in, before_readys, after_readys, failed_behind, fails_for, drain_fails}
+use Rattle.pg_call.specs.Hearing.{framed, added_all, gone_on, HearsMessage, Hears, marked, ledger_behind, fails_of, DrainsBy, Drains, Follows}
+use Rattle.pg_call.specs.Calls.{IsDraining, IsReplying, owes_own, owes_none, CallIs, owner_failed, Leaves, IsFine, EndsFine, CallEnds, IsFrontFault, CallTakes, TakesMessage, RefusesMessage}
+use Rattle.pg_call.proofs.DrainLaws.{count-push, count-same, after_below, after_from, before_below, before_from, failed-push, fails-push, still_failed, no_more_failed}
+use Rattle.pg_call.proofs.ItemLaws.{items-push, tally-more}
+use Rattle.pg_call.proofs.RefusedLaws.{group_refused}
+
+-- ---- a reply that no one waits for
+
+ready_behind : (start : Ledger) (hs : List Frame) (ledger : Ledger) (f : Frame) (b : Bool) → is_ready f ≡ b → 0 < ledger.owed → count_by is_ready hs + ledger.owed ≡ start.owed
+    → count_by is_ready (hs ++ f ∷ []) + (cond b (record { owed = ledger.owed - 1; is_copy_failed = false }) ledger).owed ≡ start.owed
+ready_behind start hs ledger f true z some c = let n = rw z at (count-push is_ready hs f) in omega (arith, n, some, c)
+ready_behind start hs ledger f false z some c = let n = rw z at (count-push is_ready hs f) in omega (arith, n, some, c)
+
+owner_behind : (start : Ledger) (hs : List Frame) (ledger : Ledger) (f : Frame) (b : Bool) → is_ready f ≡ b → ledger.is_copy_failed ≡ start.is_copy_failed && not (list_any is_ready hs)
+    → (cond b (record { owed = ledger.owed - 1; is_copy_failed = false }) ledger).is_copy_failed ≡ start.is_copy_failed && not (list_any is_ready (hs ++ f ∷ []))
+owner_behind start hs ledger f true z e = no_more_failed start.is_copy_failed hs f z
+owner_behind start hs ledger f false z e = still_failed start.is_copy_failed hs f ledger.is_copy_failed z e
+
+drained : (start : Ledger) (said : List FrontendMessage) (hs : List Frame) (items : List CallItem) (ledger : Ledger) (failed : Bool) (f : Frame) → 0 < ledger.owed → is_error f ≡ false
+    → IsDraining start said hs items ledger failed → IsDraining start (said ++ fails_for failed f) (hs ++ f ∷ []) items (ledger_behind ledger f) (failed_behind failed f)
+drained start said hs items ledger failed f some e d =
+    let below : count_by is_ready hs < start.owed = omega (arith, d.counted, some) in
+    record {
+      said_is = ap (λ (t : List FrontendMessage). t ++ fails_for failed f) d.said_is ∙ ap (λ (b : Bool). drain_fails start.is_copy_failed hs ++ fails_for b f) d.failed_is ∙ sym (fails-push start.is_copy_failed hs f);
+      items_are = d.items_are;
+      counted = ready_behind start hs ledger f (is_ready f) refl some d.counted;
+      owner = owner_behind start hs ledger f (is_ready f) refl d.owner;
+      failed_is = ap (λ (b : Bool). failed_behind b f) d.failed_is ∙ sym (failed-push start.is_copy_failed hs f);
+      well = count-same is_error hs f 0 e d.well;
+      none = after_below hs start.owed f below;
+      all = before_below hs start.owed f below ∙ ap (λ (t : List Frame). t ++ f ∷ []) d.all;
+    }
+
+said_alone : (xs : List FrontendMessage) → xs ≡ xs ++ ([] ++ []) ++ []
+said_alone xs = sym (append-nil (xs ++ []) ∙ append-nil xs)
+
+-- what a draining call leaves
+pub leaves_draining : (start : Ledger) (r : Request) (said : List FrontendMessage) (hs : List Frame) (items : List CallItem) (ledger : Ledger) (failed : Bool) → IsDraining start said hs items ledger failed → Leaves start r said hs items ledger false
+leaves_draining start r said hs items ledger failed d = record {
+  own = [];
+  bye = [];
+  reply = [];
+  said_is = d.said_is ∙ ap (λ (t : List Frame). drain_fails start.is_copy_failed t) (sym d.all) ∙ said_alone (drain_fails start.is_copy_failed (before_readys start.owed hs));
+  counted = omega (arith, d.counted);
+  failed_is = d.owner;
+  queued = inl refl;
+  farewells = inl refl;
+  replied = d.none;
+  reply_has_frames = tt;
+  shows = rw d.items_are (shown (kind_of r) [], refl);
+  idle = λ e. d.items_are;
+  rests = λ e. d.none;
+}
+
+-- the same behind an error
+leaves_drained : (start : Ledger) (r : Request) (said : List FrontendMessage) (hs : List Frame) (items : List CallItem) (ledger : Ledger) (failed : Bool) (f : Frame) → is_ready f ≡ false → fails_for failed f ≡ [] → 0 < ledger.owed
+    → IsDraining start said hs items ledger failed → Leaves start r said (hs ++ f ∷ []) items ledger false
+leaves_drained start r said hs items ledger failed f z n some d =
+    let below : count_by is_ready hs < start.owed = omega (arith, d.counted, some) in
+    record {
+      own = [];
+      bye = [];
+      reply = [];
+      said_is =
+          sym (append-nil said)
+          ∙ ap (λ (t : List FrontendMessage). said ++ t) (sym n)
+          ∙ ap (λ (t : List FrontendMessage). t ++ fails_for failed f) d.said_is
+          ∙ ap (λ (b : Bool). drain_fails start.is_copy_failed hs ++ fails_for b f) d.failed_is
+          ∙ sym (fails-push start.is_copy_failed hs f)
+          ∙ ap (λ (t : List Frame). drain_fails start.is_copy_failed t) (sym (before_below hs start.owed f below ∙ ap (λ (t : List Frame). t ++ f ∷ []) d.all))
+          ∙ said_alone (drain_fails start.is_copy_failed (before_readys start.owed (hs ++ f ∷ [])));
+      counted = omega (arith, d.counted, count-same is_ready hs f (count_by is_ready hs) z refl);
+      failed_is = still_failed start.is_copy_failed hs f ledger.is_copy_failed z d.owner;
+      queued = inl refl;
+      farewells = inl refl;
+      replied = after_below hs start.owed f below;
+      reply_has_frames = tt;
+      shows = rw d.items_are (shown (kind_of r) [], refl);
+      idle = λ e. d.items_are;
+      rests = λ e. after_below hs start.owed f below;
+    }
+
+fails_none : (f : Frame) (tag : ℕ) (failed : Bool) → f.tag ≡ tag → fails_for failed (record { tag = tag; body = f.body }) ≡ [] → fails_for failed f ≡ []
+fails_none f tag failed e h = rw e h
+
+test_at : (t : Frame → Bool) (f : Frame) (tag : ℕ) (b : Bool) → f.tag ≡ tag → t (record { tag = tag; body = f.body }) ≡ b → t f ≡ b
+test_at t f tag b e h = rw e h
+
+pub drain_takes : (f : Frame) (a b : Running) (w : Waiting) (beat : Beat) (fails : Bool) → a.call ≡ calls.Waiting w → 0 < a.ledger.owed → DrainsBy f w.is_copy_failed a b beat fails
+    → (start : Ledger) (r : Request) (said : List FrontendMessage) (hs : List Frame) (items : List CallItem) → CallIs start r said hs items a.ledger (calls.Waiting w) → CallTakes start r (said ++ fails_of fails) (hs ++ f ∷ []) items b.ledger b.call beat
+drain_takes f a b w beats.More fails k some d start r said hs items i =
+    rw (d.2, d.1, k) (i.0, i.1, i.2, drained start said hs items a.ledger w.is_copy_failed f some d.0 i.3)
+drain_takes f a b w beats.Waits fails k some d start r said hs items i = absurd d
+drain_takes f a b w (beats.Yields item) fails k some d start r said hs items i = absurd d
+drain_takes f a b w (beats.Ends answer) fails k some d start r said hs items i =
+    let tag : f.tag ≡ 69 = sym (ap (λ (g : Frame). g.tag) d.1.1) in
+    rw (d.4, d.2, d.3, append-nil said) (
+      refl,
+      (
+        leaves_drained start r said hs items a.ledger w.is_copy_failed f (test_at is_ready f 69 false tag refl) (fails_none f 69 w.is_copy_failed tag refl) some i.3,
+        (hs, ap (λ (g : Frame). hs ++ g ∷ []) (sym d.1.1), d.1.0, i.3.well),
+      ),
+      tt,
+    )
+
+-- ---- the own reply
+
+one_group : (groups : List Group) → length groups ≡ 1 → (group : Group) × (groups ≡ group ∷ [])
+one_group [] e = absurd (omega (arith, e))
+one_group (g ∷ []) e = (g, refl)
+one_group (g ∷ h ∷ gs) e = absurd (omega (arith, e))
+
+owner_own : (start : Ledger) (hs : List Frame) (groups : List Group) (copied : Bool) → length groups ≡ 1 → copied ≡ owner_failed start hs groups copied
+owner_own start hs [] copied e = absurd (omega (arith, e))
+owner_own start hs (g ∷ gs) copied e = refl
+
+not_none : (groups : List Group) → length groups ≡ 1 → groups ≡ [] → ⊥
+not_none groups n e = let z = ap (λ (g : List Group). length g) e in absurd (omega (arith, n, z))
+
+-- what a call leaves whose reply comes: some more messages of it, which show no more
+pub leaves_own : (start : Ledger) (r : Request) (said : List FrontendMessage) (hs hs' : List Frame) (items : List CallItem) (reply : Reply) (i : IsReplying start r said hs items reply) (copied : Bool) (own' : List BackendMessage) → CanBeSaid r
+    → count_by is_ready hs' ≡ start.owed → before_readys start.owed hs' ≡ before_readys start.owed hs → after_readys start.owed hs' ≡ map backend_frame own' → AllByRecursion HasBackendFrame own' → items_of own' ≡ items_of i.own
+    → Leaves start r (said ++ fails_of copied) hs' items (record { owed = 1; is_copy_failed = copied }) copied
+leaves_own start r said hs hs' items reply i copied own' can c before after have same = record {
+  own = groups_of r;
+  bye = [];
+  reply = own';
+  said_is =
+      ap (λ (t : List FrontendMessage). t ++ fails_of copied) (
+      i.said_is
+      ∙ ap (λ (t : List Frame). drain_fails start.is_copy_failed t ++ said_in (groups_of r)) (sym before)
+      ∙ ap (λ (t : List FrontendMessage). drain_fails start.is_copy_failed (before_readys start.owed hs') ++ t) (sym (append-nil (said_in (groups_of r))))
+      );
+  counted = omega (arith, c, i.one);
+  failed_is = owner_own start hs' (groups_of r) copied i.one;
+  queued = inr (refl, i.one, can, c);
+  farewells = inl refl;
+  replied = after;
+  reply_has_frames = have;
+  shows = ([], append-nil items ∙ i.items_are ∙ ap (λ (k : Kind). shown k (items_of i.own)) i.kind_is ∙ ap (shown (kind_of r)) (sym same));
+  idle = λ e. absurd (not_none (groups_of r) i.one e);
+  rests = λ e. absurd (omega (arith, e));
+}
+
+all_and : {A : Type 0} (P : A → Type 0) (xs : List A) (x : A) → AllByRecursion P xs → P x → AllByRecursion P (xs ++ x ∷ [])
+all_and P [] x h k = (k, tt)
+all_and P (y ∷ ys) x h k = (h.0, all_and P ys x h.1 k)
+
+-- one message more of the own reply
+own_push : (start : Ledger) (r : Request) (said : List FrontendMessage) (hs : List Frame) (items : List CallItem) (reply : Reply) (i : IsReplying start r said hs items reply) (m : BackendMessage)
+    → after_readys start.owed (hs ++ backend_frame m ∷ []) ≡ map backend_frame (i.own ++ m ∷ [])
+own_push start r said hs items reply i m =
+    after_from hs start.owed (backend_frame m) (omega (arith, i.counted)) ∙ ap (λ (t : List Frame). t ++ backend_frame m ∷ []) i.own_is ∙ sym (map-append backend_frame i.own (m ∷ []))
+
+items_same : (own : List BackendMessage) (m : BackendMessage) → item_of m ≡ [] → items_of (own ++ m ∷ []) ≡ items_of own
+items_same own m e = items-push own m ∙ ap (λ (t : List CallItem). items_of own ++ t) e ∙ append-nil (items_of own)
+
+leaves_with : (start : Ledger) (r : Request) (said : List FrontendMessage) (hs : List Frame) (items : List CallItem) (reply : Reply) (copied : Bool) (m : BackendMessage) → CanBeSaid r → HasBackendFrame m → is_ready (backend_frame m) ≡ false → item_of m ≡ []
+    → IsReplying start r said hs items reply → Leaves start r (said ++ fails_of copied) (hs ++ backend_frame m ∷ []) items (record { owed = 1; is_copy_failed = copied }) copied
+leaves_with start r said hs items reply copied m can have z none i =
+    leaves_own start r said hs (hs ++ backend_frame m ∷ []) items reply i copied (i.own ++ m ∷ []) can
+    (count-same is_ready hs (backend_frame m) start.owed z i.counted)
+    (before_from hs start.owed (backend_frame m) (omega (arith, i.counted)))
+    (own_push start r said hs items reply i m)
+    (all_and HasBackendFrame i.own m i.own_have_frames have)
+    (items_same i.own m none)
+
+-- an error ends it
+own_fails : (start : Ledger) (r : Request) (said : List FrontendMessage) (hs : List Frame) (items : List CallItem) (reply : Reply) (error : List ErrorField) → CanBeSaid r → HasBackendFrame (ErrorResponse error) → IsReplying start r said hs items reply
+    → CallTakes start r (said ++ []) (hs ++ backend_frame (ErrorResponse error) ∷ []) items owes_own calls.Idle (beats.Ends (Err (errors.Database error)))
+own_fails start r said hs items reply error can have i = (
+  refl,
+  (
+    leaves_with start r said hs items reply false (ErrorResponse error) can have refl refl i,
+    (hs, refl, have, i.well),
+  ),
+  tt,
+)
+
+-- ---- its end
+
+pub no_groups_close : (r : Request) → kind_of r ≡ kinds.Close → (groups_of r ≡ []) × (messages_of r ≡ farewell kinds.Close)
+no_groups_close requests.Close e = (refl, refl)
+no_groups_close requests.Flush e = absurd cc
+no_groups_close requests.Ping e = absurd cc
+no_groups_close (requests.Execute query) e = absurd cc
+no_groups_close (requests.ExecuteMany query) e = absurd cc
+no_groups_close (requests.Fetch query) e = absurd cc
+no_groups_close (requests.FetchMany query) e = absurd cc
+no_groups_close (requests.FetchAll query) e = absurd cc
+no_groups_close (requests.FetchOptional query) e = absurd cc
+no_groups_close (requests.FetchOne query) e = absurd cc
+
+on_ok : {A E : Type 0} (result : Result A E) (P : Type 0) → P → OnOk result P
+on_ok (Ok a) P p = p
+on_ok (Err e) P p = tt
+
+-- an answer at the end of a reply
+abbrev IsLast : Result CallAnswer Error → Type 0
+IsLast (Ok a) = Unit {0}
+IsLast (Err errors.RowNotFound) = Unit {0}
+IsLast (Err _) = ⊥
+
+one_row_last : (o : Option Values) → IsLast (one_row o)
+one_row_last None = tt
+one_row_last (Some row) = tt
+
+finished_last : (kind : Kind) (t : Tally) → IsLast (finished kind t)
+finished_last (kinds.Run hows.Execute) t = tt
+finished_last (kinds.Run hows.ExecuteMany) t = tt
+finished_last (kinds.Run hows.Fetch) t = tt
+finished_last (kinds.Run hows.FetchMany) t = tt
+finished_last (kinds.Run hows.FetchAll) t = tt
+finished_last (kinds.Run hows.FetchOptional) t = tt
+finished_last (kinds.Run hows.FetchOne) t = one_row_last t.first
+finished_last kinds.Ping t = tt
+finished_last kinds.Flush t = tt
+finished_last kinds.Close t = tt
+
+ends_fine : (start : Ledger) (r : Request) (said : List FrontendMessage) (hs : List Frame) (items : List CallItem) (ledger : Ledger) (answer : Result CallAnswer Error) → IsLast answer → EndsFine start r said hs items ledger answer → CallEnds start r said hs items ledger answer
+ends_fine start r said hs items ledger (Ok a) k f = f
+ends_fine start r said hs items ledger (Err errors.RowNotFound) k f = f
+ends_fine start r said hs items ledger (Err _) k f = absurd k
+
+pub plain_messages : (r : Request) → length (groups_of r) ≡ 1 → said_in (groups_of r) ≡ messages_of r
+plain_messages (requests.Execute query) n = refl
+plain_messages (requests.ExecuteMany query) n = refl
+plain_messages (requests.Fetch query) n = refl
+plain_messages (requests.FetchMany query) n = refl
+plain_messages (requests.FetchAll query) n = refl
+plain_messages (requests.FetchOptional query) n = refl
+plain_messages (requests.FetchOne query) n = refl
+plain_messages requests.Ping n = refl
+plain_messages requests.Flush n = absurd (omega (arith, n))
+plain_messages requests.Close n = absurd (omega (arith, n))
+
+closed_fine : (start : Ledger) (r : Request) (said : List FrontendMessage) (hs : List Frame) (items : List CallItem) (reply : Reply) (i : IsReplying start r said hs items reply) (status : TransactionStatus) → CanBeSaid r
+    → IsFine start r said (hs ++ backend_frame (ReadyForQuery status) ∷ []) items owes_none
+closed_fine start r said hs items reply i status can =
+    let m = ReadyForQuery status in
+    let f = backend_frame m in
+    record {
+      reply = i.own ++ m ∷ [];
+      can = can;
+      said_is = i.said_is ∙ ap (λ (t : List Frame). drain_fails start.is_copy_failed t ++ said_in (groups_of r)) (sym (before_from hs start.owed f (omega (arith, i.counted)))) ∙ ap (λ (t : List FrontendMessage). drain_fails start.is_copy_failed (before_readys start.owed (hs ++ f ∷ [])) ++ t) (plain_messages r i.one);
+      owes = refl;
+      counted = omega (arith, i.counted, i.one, count-push is_ready hs f);
+      well = count-same is_error hs f 0 refl i.well;
+      replied = own_push start r said hs items reply i m;
+      reply_has_frames = all_and HasBackendFrame i.own m i.own_have_frames tt;
+      items_are = i.items_are ∙ ap (λ (k : Kind). shown k (items_of i.own)) i.kind_is ∙ ap (shown (kind_of r)) (sym (items_same i.own m refl));
+      ends = inr (hs, f, refl, refl);
+    }
+
+own_not_close : (r : Request) → length (groups_of r) ≡ 1 → kind_of r ≡ kinds.Close → ⊥
+own_not_close r n k = let z = ap (λ (g : List Group). length g) (no_groups_close r k).0 in absurd (omega (arith, n, z))
+
+own_closes : (start : Ledger) (r : Request) (said : List FrontendMessage) (hs : List Frame) (items : List CallItem) (reply : Reply) (status : TransactionStatus) → CanBeSaid r → IsReplying start r said hs items reply
+    → CallTakes start r (said ++ []) (hs ++ backend_frame (ReadyForQuery status) ∷ []) items owes_none calls.Idle (beats.Ends (finished reply.kind reply.tally))
+unfolding closed_fine
+own_closes start r said hs items reply status can i =
+    let same : answer_to (kind_of r) (items_of (i.own ++ ReadyForQuery status ∷ [])) ≡ finished reply.kind reply.tally =
+    ap (answer_to (kind_of r)) (items_same i.own (ReadyForQuery status) refl) ∙ ap (λ (k : Kind). answer_to k (items_of i.own)) (sym i.kind_is) ∙ ap (finished reply.kind) (sym i.tally_is) in
+    (refl, ends_fine start r (said ++ []) _ items owes_none _ (finished_last reply.kind reply.tally) (rw (append-nil said) (closed_fine start r said hs items reply i status can, same)), on_ok (finished reply.kind reply.tally) (kind_of r ≡ kinds.Close → ⊥) (λ k. own_not_close r i.one k))
+
+-- ---- a copy that nobody asked for
+
+own_copies : (start : Ledger) (r : Request) (said : List FrontendMessage) (hs : List Frame) (items : List CallItem) (reply : Reply) (m : BackendMessage) → CanBeSaid r → HasBackendFrame m → may_copy reply.part m ≡ true → is_ready (backend_frame m) ≡ false → is_error (backend_frame m) ≡ false
+    → item_of m ≡ [] → IsReplying start r said hs items reply
+    → let tag = (backend_frame m).tag in let copied = tag == 71 in
+    CallTakes start r (said ++ fails_of copied) (hs ++ backend_frame m ∷ []) items (record { owed = 1; is_copy_failed = copied }) calls.Idle (beats.Ends (Err (errors.Protocol (protocol.Reply tag))))
+unfolding leaves_with leaves_own
+own_copies start r said hs items reply m can have copies z e none i = (
+  refl,
+  (
+    (leaves_with start r said hs items reply ((backend_frame m).tag == 71) m can have z none i, refl, i.one),
+    count-same is_error hs (backend_frame m) 0 e i.well,
+    record {
+      front = hs;
+      own = i.own;
+      part = reply.part;
+      last = m;
+      hs_are = refl;
+      last_has_frame = have;
+      tagged = refl;
+      own_is = i.own_is;
+      own_have_frames = i.own_have_frames;
+      so_far = ap (λ (k : Kind). part_after (awaits_first k) i.own) (sym i.kind_is) ∙ i.so_far;
+      copies = copies;
+    },
+  ),
+  tt,
+)
+
+-- ---- it goes on
+
+part-push : (s t u : Part) (ms : List BackendMessage) (m : BackendMessage) → part_after s ms ≡ Some t → goes_on t m ≡ Some u → part_after s (ms ++ m ∷ []) ≡ Some u
+part-push s t u [] m e j =
+    let same : s ≡ t = cc in
+    rw same (ap (λ (o : Option Part). option_and_then (λ n. part_after n []) o) j)
+part-push s t u (x ∷ xs) m e j = by (goes_on s x) (λ n k. part-push n t u xs m k j) e
+  where
+    by : (o : Option Part) → ((n : Part) → part_after n xs ≡ Some t → part_after n (xs ++ m ∷ []) ≡ Some u) → option_and_then (λ n. part_after n xs) o ≡ Some t → option_and_then (λ n. part_after n (xs ++ m ∷ [])) o ≡ Some u
+    by None f k = absurd cc
+    by (Some n) f k = f n k
+
+went_on : (start : Ledger) (r : Request) (said : List FrontendMessage) (hs : List Frame) (items : List CallItem) (reply : Reply) (next : Part) (m : BackendMessage) → HasBackendFrame m → goes_on reply.part m ≡ Some next → is_ready (backend_frame m) ≡ false → is_error (backend_frame m) ≡ false
+    → IsReplying start r said hs items reply → IsReplying start r said (hs ++ backend_frame m ∷ []) (items ++ filter (yields reply.kind) (item_of m)) (gone_on reply next (item_of m))
+went_on start r said hs items reply next m have goes z e i = record {
+  own = i.own ++ m ∷ [];
+  kind_is = i.kind_is;
+  one = i.one;
+  said_is = i.said_is ∙ ap (λ (t : List Frame). drain_fails start.is_copy_failed t ++ said_in (groups_of r)) (sym (before_from hs start.owed (backend_frame m) (omega (arith, i.counted))));
+  counted = count-same is_ready hs (backend_frame m) start.owed z i.counted;
+  well = count-same is_error hs (backend_frame m) 0 e i.well;
+  own_is = own_push start r said hs items reply i m;
+  own_have_frames = all_and HasBackendFrame i.own m i.own_have_frames have;
+  so_far = part-push (awaits_first reply.kind) reply.part next i.own m i.so_far goes;
+  tally_is = ap (λ (t : Tally). added_all reply.kind t (item_of m)) i.tally_is ∙ tally-more reply.kind (items_of i.own) (item_of m) ∙ ap (tally_of reply.kind) (sym (items-push i.own m));
+  items_are = ap (λ (t : List CallItem). t ++ filter (yields reply.kind) (item_of m)) i.items_are ∙ sym (filter-append (yields reply.kind) (items_of i.own) (item_of m)) ∙ ap (shown reply.kind) (sym (items-push i.own m));
+}
+
+-- what a reply goes on by is no error, and not its end
+no_ready : (part next : Part) (status : TransactionStatus) → goes_on part (ReadyForQuery status) ≡ Some next → ⊥
+no_ready parts.First next status e = absurd cc
+no_ready parts.Further next status e = absurd cc
+no_ready (parts.Rows columns) next status e = absurd cc
+no_ready parts.Synced next status e = absurd cc
+
+no_error : (part next : Part) (details : List ErrorField) → goes_on part (ErrorResponse details) ≡ Some next → ⊥
+no_error parts.First next details e = absurd cc
+no_error parts.Further next details e = absurd cc
+no_error (parts.Rows columns) next details e = absurd cc
+no_error parts.Synced next details e = absurd cc
+
+goes_plain : (part next : Part) (m : BackendMessage) → goes_on part m ≡ Some next → (is_ready (backend_frame m) ≡ false) × (is_error (backend_frame m) ≡ false)
+goes_plain part next (ReadyForQuery status) e = absurd (no_ready part next status e)
+goes_plain part next (ErrorResponse details) e = absurd (no_error part next details e)
+goes_plain part next _ e = (refl, refl)
+
+copies_plain : (part : Part) (m : BackendMessage) → may_copy part m ≡ true → (is_ready (backend_frame m) ≡ false) × (is_error (backend_frame m) ≡ false) × (item_of m ≡ [])
+copies_plain parts.First (CopyInResponse format columns) e = (refl, refl, refl)
+copies_plain parts.First (CopyOutResponse format columns) e = (refl, refl, refl)
+copies_plain parts.First _ e = absurd cc
+copies_plain parts.Further (CopyInResponse format columns) e = (refl, refl, refl)
+copies_plain parts.Further (CopyOutResponse format columns) e = (refl, refl, refl)
+copies_plain parts.Further _ e = absurd cc
+copies_plain (parts.Rows columns) m e = absurd cc
+copies_plain parts.Synced m e = absurd cc
+
+-- ---- a message of the own reply
+
+-- the call is told, whatever its fields are called
+call_at : (start : Ledger) (r : Request) (said : List FrontendMessage) (hs : List Frame) (items : List CallItem) (l l' : Ledger) (k k' : Call) (beat : Beat) → l' ≡ l → k' ≡ k → CallTakes start r said hs items l k beat → CallTakes start r said hs items l' k' beat
+call_at start r said hs items l l' k k' beat e f c = subst (λ (x : Call). CallTakes start r said hs items l' x beat) (sym f) (subst (λ (x : Ledger). CallTakes start r said hs items x k beat) (sym e) c)
+
+-- what Follows says of the ledger and the call
+running_at : (a b : Running) → b ≡ a → (b.ledger ≡ a.ledger) × (b.call ≡ a.call)
+running_at a b e = (ap (λ (x : Running). x.ledger) e, ap (λ (x : Running). x.call) e)
+
+pub own_takes : (start : Ledger) (r : Request) (said : List FrontendMessage) (hs : List Frame) (items : List CallItem) (reply reply' : Reply) (m : BackendMessage) (heard : Heard) (ledger : Ledger) (b : Running) (taken : Taken) → HasBackendFrame m
+    → HearsMessage reply reply' m heard → Follows (backend_frame m).tag heard (record { ledger = ledger; call = calls.Own reply' }) b taken → ledger ≡ owes_own → CanBeSaid r → IsReplying start r said hs items reply
+    → CallTakes start r (said ++ fails_of taken.fails_copy) (hs ++ backend_frame m ∷ []) items b.ledger b.call taken.beat
+own_takes start r said hs items reply reply' m heards.More ledger b taken have h f o can i =
+    let g = goes_plain reply.part h.0 m h.1 in
+    let none : items ++ filter (yields reply.kind) (item_of m) ≡ items = ap (λ (t : List CallItem). items ++ t) h.3 ∙ append-nil items in
+    rw (f.1, f.0, append-nil said, h.2) (o, can, rw none at (went_on start r said hs items reply h.0 m have h.1 g.0 g.1 i))
+own_takes start r said hs items reply reply' m (heards.Yields item) ledger b taken have h f o can i =
+    let g = goes_plain reply.part h.0 m h.1 in
+    rw (f.1, f.0, append-nil said, h.2) (o, can, rw h.3 at (went_on start r said hs items reply h.0 m have h.1 g.0 g.1 i))
+own_takes start r said hs items reply reply' m (heards.Failed error) ledger b taken have h f o can i =
+    rw (f.1, f.0, o, h.0) (own_fails start r said hs items reply error can (rw h.0 at have) i)
+own_takes start r said hs items reply reply' m heards.Closed ledger b taken have h f o can i =
+    let status = h.1.0 in
+    rw (f.1, f.0, h.1.1, h.2) (own_closes start r said hs items reply status can i)
+own_takes start r said hs items reply reply' m heards.Copies ledger b taken have h f o can i =
+    let p = copies_plain reply.part m h.0 in
+    rw (f.1, f.0, o) (own_copies start r said hs items reply m can have h.0 p.0 p.1 p.2 i)
+
+-- ---- a message that is refused
+
+fault_at : (start : Ledger) (r : Request) (said : List FrontendMessage) (hs : List Frame) (items : List CallItem) (reply : Reply) (f : Frame) (e : Error) → IsFault (MayNotCome reply.part) f.tag f.body e → IsReplying start r said hs items reply
+    → IsFrontFault start r (groups_of r) hs f e
+fault_at start r said hs items reply f errors.OutOfMemory h i = tt
+fault_at start r said hs items reply f (errors.Protocol (protocol.Server (faults.Malformed t))) h i = (h.0, λ m have same. h.1 m (have, same))
+fault_at start r said hs items reply f (errors.Protocol (protocol.Server (faults.Unlawful t))) h i =
+    let g = one_group (groups_of r) i.one in
+    (h.0, refl, i.counted, (g.0, g.1, λ b. group_refused r g.0 i.own reply.part f g.1 i.own_have_frames (rw i.kind_is at i.so_far) (λ m have same. h.1 m (have, same)) (rw i.own_is at b)))
+fault_at start r said hs items reply f _ h i = absurd h
+
+pub own_refuses : (f : Frame) (ledger : Ledger) (reply : Reply) (e : Error) → IsFault (MayNotCome reply.part) f.tag f.body e
+    → (start : Ledger) (r : Request) (said : List FrontendMessage) (hs : List Frame) (items : List CallItem) → CallIs start r said hs items ledger (calls.Own reply)
+    → (l : Leaves start r said hs items ledger false) × (count_by is_error hs ≡ 0) × IsFrontFault start r l.own hs f e
+unfolding leaves_own
+own_refuses f ledger reply e h start r said hs items i =
+    let l = leaves_own start r said hs hs items reply i.2 false i.2.own i.1 i.2.counted refl i.2.own_is i.2.own_have_frames refl in
+    rw (i.0, ← append-nil said) (l, i.2.well, fault_at start r said hs items reply f e h i.2)
+
+drain_fault : (start : Ledger) (r : Request) (own : List Group) (hs : List Frame) (f : Frame) (e : Error) → IsRefused f.tag f.body e → IsFrontFault start r own hs f e
+drain_fault start r own hs f errors.OutOfMemory h = tt
+drain_fault start r own hs f (errors.Protocol (protocol.Server (faults.Malformed t))) h = (h.0, λ m have same. h.1 m (have, same))
+drain_fault start r own hs f _ h = absurd h
+
+pub drain_refuses : (f : Frame) (ledger : Ledger) (w : Waiting) (e : Error) → IsRefused f.tag f.body e
+    → (start : Ledger) (r : Request) (said : List FrontendMessage) (hs : List Frame) (items : List CallItem) → CallIs start r said hs items ledger (calls.Waiting w)
+    → (l : Leaves start r said hs items ledger false) × (count_by is_error hs ≡ 0) × IsFrontFault start r l.own hs f e
+unfolding leaves_draining
+drain_refuses f ledger w e h start r said hs items i = (leaves_draining start r said hs items ledger w.is_copy_failed i.3, i.3.well, drain_fault start r [] hs f e h)
+
+-- ---- as the answers of a function
+
+abbrev pub as_call : Ledger → Call → Running
+as_call ledger call = record { ledger = ledger; call = call }
+
+pub drains_ok : (tag : ℕ) (body : List ℕ) (a b : Running) (w : Waiting) (result : Result Taken Error) → a.call ≡ calls.Waiting w → 0 < a.ledger.owed → IfOk result (Drains tag body w.is_copy_failed (as_call a.ledger (calls.Waiting w)) b)
+    → IfOk result (TakesMessage tag body a b)
+drains_ok tag body a b w (Ok taken) k some d = λ start r said hs items i. drain_takes (framed tag body) (as_call a.ledger (calls.Waiting w)) b w taken.beat taken.fails_copy refl some d start r said hs items (subst (λ (c : Call). CallIs start r said hs items a.ledger c) k i)
+drains_ok tag body a b w (Err e) k some d = tt
+
+pub drains_err : (tag : ℕ) (body : List ℕ) (a b : Running) (w : Waiting) (result : Result Taken Error) → a.call ≡ calls.Waiting w → IfErr result (λ e. (b ≡ as_call a.ledger (calls.Waiting w)) × IsRefused tag body e)
+    → IfErr result (RefusesMessage tag body a)
+drains_err tag body a b w (Ok taken) k d = tt
+drains_err tag body a b w (Err e) k d = λ start r said hs items i. drain_refuses (framed tag body) a.ledger w e d.1 start r said hs items (subst (λ (c : Call). CallIs start r said hs items a.ledger c) k i)
+
+test_none : (t : Frame → Bool) (n : ℕ) (f : Frame) → (f.tag ≢ n) → t f ≡ (f.tag == n) || false → t f ≡ false
+test_none t n f d e = e ∙ by (f.tag == n) (λ h. d (eqb-true _ _ h))
+  where
+    by : (b : Bool) → (b ≡ true → ⊥) → b || false ≡ false
+    by true h = absurd (h refl)
+    by false h = refl
+
+pub drains_other : (f : Frame) (failed : Bool) (a : Running) → (f.tag ≢ 90) → (f.tag ≢ 69) → (f.tag ≢ 71) → marked failed a.call ≡ a.call → DrainsBy f failed a a beats.More false
+drains_other f failed a z e g m =
+    let ready = test_none is_ready 90 f z refl in
+    let error = test_none is_error 69 f e refl in
+    let copy = test_none is_copy_in 71 f g refl in
+    rw (ready, copy) (error, by failed m, refl)
+  where
+    by : (b : Bool) → marked b a.call ≡ a.call → a ≡ as_call a.ledger (marked (b || false) a.call)
+    by true h = ap (λ (c : Call). as_call a.ledger c) (sym h)
+    by false h = ap (λ (c : Call). as_call a.ledger c) (sym h)
+
+pub own_errs : (tag : ℕ) (body : List ℕ) (a : Running) (reply : Reply) (e : Error) → a.call ≡ calls.Own reply → IsFault (MayNotCome reply.part) tag body e → RefusesMessage tag body a e
+own_errs tag body a reply e k h start r said hs items i = own_refuses (framed tag body) a.ledger reply e h start r said hs items (subst (λ (c : Call). CallIs start r said hs items a.ledger c) k i)
+
+pub own_oks : (tag : ℕ) (body : List ℕ) (a b : Running) (reply reply' : Reply) (heard : Heard) (taken : Taken) → a.call ≡ calls.Own reply → Hears reply reply' tag body heard → Follows tag heard (as_call a.ledger (calls.Own reply')) b taken → TakesMessage tag body a b taken
+own_oks tag body a b reply reply' heard taken k h f start r said hs items i =
+    let j = subst (λ (c : Call). CallIs start r said hs items a.ledger c) k i in
+    let same : (backend_frame h.0).tag ≡ tag = ap (λ (g : Frame). g.tag) h.1.1 in
+    let t = own_takes start r said hs items reply reply' h.0 heard a.ledger b taken h.1.0 h.2 (rw same f) j.0 j.1 j.2 in
+    subst (λ (g : Frame). CallTakes start r (said ++ fails_of taken.fails_copy) (hs ++ g ∷ []) items b.ledger b.call taken.beat) h.1.1 t

@@ -1,0 +1,7 @@
+pub mod PlaceLaws
+pub mod DrainLaws
+pub mod ItemLaws
+pub mod RefusedLaws
+pub mod CallLaws
+pub mod LeaveLaws
+pub mod FitLaws

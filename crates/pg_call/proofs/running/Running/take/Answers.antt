@@ -1,0 +1,14 @@
+use Rattle.pg_call.proofs.CallLaws.{drains_ok, drains_err, own_oks, own_errs}
+use Rattle.pg_call.proofs.running.Running.take.Goals as goal
+
+pub returns-in-Waiting-clause-ok : goal.returns-in-Waiting-clause-ok
+returns-in-Waiting-clause-ok c = drains_ok c.args.tag c.args.body.now c.args.self.now c.drain.new.self c.in-Waiting.waiting c.drain.result c.in-Waiting.is (rw c.in-Waiting.is at c.requires) c.drain.ensures.ok
+
+pub returns-in-Waiting-clause-err : goal.returns-in-Waiting-clause-err
+returns-in-Waiting-clause-err c = drains_err c.args.tag c.args.body.now c.args.self.now c.drain.new.self c.in-Waiting.waiting c.drain.result c.in-Waiting.is c.drain.ensures.err
+
+pub returns-in-Ok-clause-ok : goal.returns-in-Ok-clause-ok
+returns-in-Ok-clause-ok c = own_oks c.args.tag c.args.body.now c.args.self.now c.follow.new.self c.in-Own.reply c.take.new.self c.in-Ok.heard c.follow.result c.in-Own.is c.in-Ok.ensures.ok c.follow.ensures
+
+pub returns-in-Err-clause-err : goal.returns-in-Err-clause-err
+returns-in-Err-clause-err c = own_errs c.args.tag c.args.body.now c.args.self.now c.in-Own.reply c.in-Err.e c.in-Own.is c.in-Err.ensures.err

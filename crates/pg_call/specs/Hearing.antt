@@ -1,0 +1,117 @@
+-- Internal: what one message makes of a call, exactly, before any history.
+use Rattle.std.specs.Prelude.{◌≡◌, ℕ, ◌-◌, Bool, true, false, ◌==◌, List, [], ◌∷◌, filter, Result, Err, Option, Some, if◌then◌else◌}
+use Rattle.pg_wire.specs.declared.error.Error.{Error}
+use Rattle.pg_wire.specs.declared.error.Error.TheVariants as errors
+use Rattle.pg_wire.specs.declared.error.ProtocolFault.TheVariants as protocol
+use Rattle.pg_wire.specs.declared.fields.ErrorField.{ErrorField}
+use Rattle.pg_wire.specs.declared.status.TransactionStatus.{TransactionStatus}
+use Rattle.pg_wire.specs.Frame.{Frame}
+use Rattle.pg_wire.specs.Parts.{is_ready}
+use Rattle.pg_wire.specs.Frontend.{FrontendMessage}
+use Rattle.pg_wire.specs.Backend.{BackendMessage, ReadyForQuery, ErrorResponse}
+use Rattle.pg_wire.specs.Decoding.{Says}
+use Rattle.pg_call.specs.declared.kind.Kind.{Kind}
+use Rattle.pg_call.specs.declared.answer.CallItem.{CallItem}
+use Rattle.pg_call.specs.declared.answer.CallAnswer.{CallAnswer}
+use Rattle.pg_call.specs.declared.tally.Tally.{Tally}
+use Rattle.pg_call.specs.declared.judging.Part.{Part}
+use Rattle.pg_call.specs.declared.ledger.Ledger.{Ledger}
+use Rattle.pg_call.specs.declared.reply.Reply.{Reply}
+use Rattle.pg_call.specs.declared.reply.Heard.{Heard}
+use Rattle.pg_call.specs.declared.reply.Heard.TheVariants as heards
+use Rattle.pg_call.specs.declared.calling.Call.{Call}
+use Rattle.pg_call.specs.declared.calling.Call.TheVariants as calls
+use Rattle.pg_call.specs.declared.calling.Beat.{Beat}
+use Rattle.pg_call.specs.declared.calling.Beat.TheVariants as beats
+use Rattle.pg_call.specs.declared.calling.Taken.{Taken}
+use Rattle.pg_call.specs.declared.running.Running.{Running}
+use Rattle.pg_call.specs.Requests.{copy_fail}
+use Rattle.pg_call.specs.Items.{item_of, yields, added, empty_tally, finished}
+use Rattle.pg_call.specs.Replies.{awaits_first, goes_on, may_close, may_copy, list_of}
+use Rattle.pg_call.specs.Drains.{is_error, failed_behind, fails_for}
+
+abbrev pub framed : ℕ → List ℕ → Frame
+framed tag body = record { tag = tag; body = body }
+
+-- ---- the own reply
+
+abbrev pub fresh_reply : Kind → Reply
+fresh_reply kind = record { kind = kind; tally = empty_tally; part = awaits_first kind }
+
+-- the tally with more items
+abbrev pub added_all : Kind → Tally → List CallItem → Tally
+added_all kind t [] = t
+added_all kind t (i ∷ is) = added_all kind (added kind t i) is
+
+-- the reply with what came by one message
+abbrev pub gone_on : Reply → Part → List CallItem → Reply
+gone_on r part items = record r { tally = added_all r.kind r.tally items; part = part }
+
+-- which item is shown at once
+abbrev pub Shows : List CallItem → Heard → Type 0
+Shows items heards.More = items ≡ []
+Shows items (heards.Yields item) = items ≡ item ∷ []
+Shows items _ = ⊥
+
+abbrev pub HearsItem : Reply → Reply → Part → Option CallItem → Heard → Type 0
+HearsItem a b part item heard = (b ≡ gone_on a part (list_of item)) × Shows (filter (yields a.kind) (list_of item)) heard
+
+abbrev pub HearsMessage : Reply → Reply → BackendMessage → Heard → Type 0
+HearsMessage a b m (heards.Failed error) = (m ≡ ErrorResponse error) × (b ≡ a)
+HearsMessage a b m heards.Closed = (may_close a.part ≡ true) × ((status : TransactionStatus) × (m ≡ ReadyForQuery status)) × (b ≡ a)
+HearsMessage a b m heards.Copies = (may_copy a.part m ≡ true) × (b ≡ a)
+HearsMessage a b m heard = (next : Part) × (goes_on a.part m ≡ Some next) × (b ≡ gone_on a next (item_of m)) × Shows (filter (yields a.kind) (item_of m)) heard
+
+abbrev pub Hears : Reply → Reply → ℕ → List ℕ → Heard → Type 0
+Hears a b tag body heard = (m : BackendMessage) × Says tag body m × HearsMessage a b m heard
+
+-- ---- a reply to an earlier call
+
+abbrev pub marked : Bool → Call → Call
+marked failed (calls.Waiting waiting) = calls.Waiting (record waiting { is_copy_failed = failed })
+marked failed call = call
+
+abbrev pub ledger_behind : Ledger → Frame → Ledger
+ledger_behind ledger f = if is_ready f then record { owed = ledger.owed - 1; is_copy_failed = false } else ledger
+
+abbrev pub fails_of : Bool → List FrontendMessage
+fails_of fails = if fails then copy_fail ∷ [] else []
+
+-- one frame of a reply that no one waits for
+abbrev pub DrainsBy : Frame → Bool → Running → Running → Beat → Bool → Type 0
+DrainsBy f failed a b beats.More fails = (is_error f ≡ false) × (b ≡ record { ledger = ledger_behind a.ledger f; call = marked (failed_behind failed f) a.call }) × (fails_of fails ≡ fails_for failed f)
+DrainsBy f failed a b (beats.Ends answer) fails = (error : List ErrorField) × Says f.tag f.body (ErrorResponse error) × (answer ≡ Err (errors.Database error)) × (b ≡ record { ledger = a.ledger; call = calls.Idle }) × (fails ≡ false)
+DrainsBy f failed a b _ fails = ⊥
+
+abbrev pub Drains : ℕ → List ℕ → Bool → Running → Running → Taken → Type 0
+Drains tag body failed a b taken = DrainsBy (framed tag body) failed a b taken.beat taken.fails_copy
+
+-- ---- what a message of the own reply makes of the call
+
+abbrev pub IsReplied : Call → Type 0
+IsReplied (calls.Own reply) = Unit {0}
+IsReplied _ = ⊥
+
+abbrev pub just : Beat → Taken
+just beat = record { beat = beat; fails_copy = false }
+
+abbrev pub idle_with : Ledger → Running
+idle_with ledger = record { ledger = ledger; call = calls.Idle }
+
+abbrev pub finished_by : Call → Result CallAnswer Error
+finished_by (calls.Own reply) = finished reply.kind reply.tally
+finished_by _ = Err errors.OutOfMemory
+
+abbrev pub Closes : Running → Running → Taken → Type 0
+Closes a b taken = (b ≡ idle_with (record { owed = 0; is_copy_failed = false })) × (taken ≡ just (beats.Ends (finished_by a.call)))
+
+abbrev pub RefusesCopy : ℕ → Running → Running → Taken → Type 0
+RefusesCopy tag a b taken = (b ≡ idle_with (record { owed = a.ledger.owed; is_copy_failed = tag == 71 }))
+    × (taken ≡ record { beat = beats.Ends (Err (errors.Protocol (protocol.Reply tag))); fails_copy = tag == 71 })
+
+abbrev pub Follows : ℕ → Heard → Running → Running → Taken → Type 0
+Follows tag heards.More a b taken = (b ≡ a) × (taken ≡ just beats.More)
+Follows tag (heards.Yields item) a b taken = (b ≡ a) × (taken ≡ just (beats.Yields item))
+Follows tag (heards.Failed error) a b taken = (b ≡ idle_with a.ledger) × (taken ≡ just (beats.Ends (Err (errors.Database error))))
+Follows tag heards.Closed a b taken = Closes a b taken
+Follows tag heards.Copies a b taken = RefusesCopy tag a b taken

@@ -1,0 +1,106 @@
+-- The answer rule: what a call shows of its own reply, and what it answers at its end.
+use Rattle.std.specs.Prelude.{ℕ, ◌+◌, ◌-◌, ◌^◌, min, Bool, true, false, List, [], ◌∷◌, ◌++◌, filter, flat_map, sum_by, Option, Some, None, Result, Ok, Err, if◌then◌else◌}
+use Rattle.pg_wire.specs.declared.error.Error.{Error}
+use Rattle.pg_wire.specs.declared.error.Error.TheVariants as errors
+use Rattle.pg_wire.specs.Backend.{Values, BackendMessage, DataRow, CommandComplete}
+use Rattle.pg_wire.specs.Completion.{rows_affected}
+use Rattle.pg_call.specs.declared.kind.How.TheVariants as hows
+use Rattle.pg_call.specs.declared.kind.Kind.{Kind}
+use Rattle.pg_call.specs.declared.kind.Kind.TheVariants as kinds
+use Rattle.pg_call.specs.declared.answer.CallItem.{CallItem}
+use Rattle.pg_call.specs.declared.answer.CallItem.TheVariants.{Row, Count}
+use Rattle.pg_call.specs.declared.answer.CallAnswer.{CallAnswer}
+use Rattle.pg_call.specs.declared.answer.CallAnswer.TheVariants as answers
+use Rattle.pg_call.specs.declared.tally.Tally.{Tally}
+
+-- a row for each DataRow, and a count for each CommandComplete
+abbrev pub item_of : BackendMessage → List CallItem
+item_of (DataRow values) = Row values ∷ []
+item_of (CommandComplete tag) = Count (record { rows = rows_affected tag }) ∷ []
+item_of _ = []
+
+abbrev pub items_of : List BackendMessage → List CallItem
+items_of reply = flat_map item_of reply
+
+abbrev pub row_in : CallItem → List Values
+row_in (Row values) = values ∷ []
+row_in (Count n) = []
+
+abbrev pub rows_in : List CallItem → List Values
+rows_in items = flat_map row_in items
+
+abbrev pub count_in : CallItem → ℕ
+count_in (Row values) = 0
+count_in (Count n) = n.rows
+
+-- the sum of the counts, up to u64's greatest value
+abbrev pub total_of : List CallItem → ℕ
+total_of items = min (sum_by count_in items) (2 ^ 64 - 1)
+
+abbrev pub first_row : List Values → Option Values
+first_row [] = None
+first_row (row ∷ rows) = Some row
+
+-- whether a call shows this item as it comes
+abbrev pub yields : Kind → CallItem → Bool
+yields (kinds.Run hows.ExecuteMany) (Count n) = true
+yields (kinds.Run hows.Fetch) (Row values) = true
+yields (kinds.Run hows.FetchMany) item = true
+yields _ _ = false
+
+-- what it shows of all items
+abbrev pub shown : Kind → List CallItem → List CallItem
+shown kind items = filter (yields kind) items
+
+-- whether all rows come with the answer, or the first
+abbrev pub keeps_all : Kind → Bool
+keeps_all (kinds.Run hows.FetchAll) = true
+keeps_all _ = false
+
+abbrev pub keeps_first : Kind → Bool
+keeps_first (kinds.Run hows.FetchOptional) = true
+keeps_first (kinds.Run hows.FetchOne) = true
+keeps_first _ = false
+
+-- what is kept of all items for the answer
+abbrev pub tally_of : Kind → List CallItem → Tally
+tally_of kind items = record {
+  total = total_of items;
+  rows = if keeps_all kind then rows_in items else [];
+  first = if keeps_first kind then first_row (rows_in items) else None;
+}
+
+-- the answer to all items, or that there is no row where there must be one
+abbrev pub one_row : Option Values → Result CallAnswer Error
+one_row None = Err errors.RowNotFound
+one_row (Some row) = Ok (answers.OneRow (Some row))
+
+abbrev pub finished : Kind → Tally → Result CallAnswer Error
+finished (kinds.Run hows.Execute) t = Ok (answers.Total (record { rows = t.total }))
+finished (kinds.Run hows.FetchAll) t = Ok (answers.Rows t.rows)
+finished (kinds.Run hows.FetchOptional) t = Ok (answers.OneRow t.first)
+finished (kinds.Run hows.FetchOne) t = one_row t.first
+finished _ t = Ok answers.Unit
+
+abbrev pub answer_to : Kind → List CallItem → Result CallAnswer Error
+answer_to kind items = finished kind (tally_of kind items)
+
+-- ---- item by item
+
+abbrev pub empty_tally : Tally
+empty_tally = record { total = 0; rows = []; first = None }
+
+abbrev pub first_of : Option Values → Values → Option Values
+first_of None row = Some row
+first_of (Some first) row = Some first
+
+abbrev pub added : Kind → Tally → CallItem → Tally
+added kind t (Count n) = record t { total = min (t.total + n.rows) (2 ^ 64 - 1) }
+added kind t (Row row) = record t {
+  rows = if keeps_all kind then t.rows ++ row ∷ [] else t.rows;
+  first = if keeps_first kind then first_of t.first row else t.first;
+}
+
+abbrev pub shown_if : Bool → CallItem → Option CallItem
+shown_if true item = Some item
+shown_if false item = None

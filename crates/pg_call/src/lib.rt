@@ -1,0 +1,31 @@
+//! One call of a connection as plain data, without a stream: what it asks, what its reply may be, and how far it has come.
+//!
+//! `PgConnection` of the crate above moves a call on; here stands what each message of the server makes of it. Begin with `Request`,
+//! what a caller asks, and `Running`, which takes the messages.
+#![tactic(auto)]
+
+mod answer;
+mod calling;
+mod format;
+mod judging;
+mod kind;
+mod ledger;
+mod query_result;
+mod reply;
+mod request;
+mod running;
+mod tally;
+mod waiting;
+
+pub use answer::{CallAnswer, CallItem, Turn};
+pub use calling::{Beat, Call, Taken};
+pub use format::refuse;
+pub use judging::{Part, Verdict, judge};
+pub use kind::{How, Kind};
+pub use ledger::Ledger;
+pub use query_result::PgQueryResult;
+pub use reply::{Heard, Reply};
+pub use request::Request;
+pub use running::Running;
+pub use tally::Tally;
+pub use waiting::Waiting;

@@ -1,0 +1,164 @@
+ghost use Rattle.std.specs.Prelude.{◌≡◌, ◌≢◌, ◌<◌, true, false, IfOk, IfErr, OnErr};
+ghost use Rattle.pg_wire.specs.Decoding.{IsRefused};
+ghost use Rattle.pg_call.specs.Calls.{IsAwaiting, TakesMessage, RefusesMessage};
+ghost use Rattle.pg_call.specs.Hearing.{Drains, Closes, RefusesCopy, Follows, IsReplied, marked};
+
+use crate::{Beat, Call, CallAnswer, CallItem, Heard, Ledger, Taken};
+use pg_wire::{Error, ProtocolFault, decode_error_response, decode_ready_for_query};
+use std::alloc::Global;
+use std::mem;
+
+/// The running call, and the replies that are owed.
+#[derive(Debug, Drop)]
+pub struct Running {
+    pub ledger: Ledger,
+    pub call: Call,
+}
+
+// A message for which no CopyFail is due.
+fn plain(beat: Beat) -> Taken
+    ensures { result ≡ record { beat = beat; fails_copy = false } }
+{
+    Taken {
+        beat,
+        fails_copy: false,
+    }
+}
+
+impl Running {
+    /// No call runs, and nothing is owed.
+    pub fn new() -> Self
+        ensures { result ≡ record { ledger = record { owed = 0; is_copy_failed = false }; call = Call.Idle } }
+    {
+        Running {
+            ledger: Ledger::new(),
+            call: Call::Idle,
+        }
+    }
+
+    // The call ends.
+    fn end(&mut self, answer: Result<CallAnswer, Error>) -> Taken
+        ensures beat { result ≡ record { beat = Beat.Ends answer; fails_copy = false } }
+        ensures idle { self.new ≡ record self.old { call = Call.Idle } }
+    {
+        self.call = Call::Idle;
+        plain(Beat::Ends(answer))
+    }
+
+    // Marks whether a CopyFail was queued for the reply that is drained now.
+    fn mark(&mut self, failed: bool)
+        ensures { self.new ≡ record self.old { call = marked failed self.old.call } }
+    {
+        if let Call::Waiting(waiting) = &mut self.call {
+            waiting.is_copy_failed = failed;
+        }
+    }
+
+    // A reply to an earlier call has come to its end.
+    fn drain_ready(&mut self, body: &[u8]) -> Result<Taken, Error>
+        requires { 0 < self.old.ledger.owed }
+        ensures ok { IfOk result (Drains 90 body.now true self.old self.new) }
+        ensures ended { IfOk result (Drains 90 body.now false self.old self.new) }
+        ensures err { IfErr result (λ e. (self.new ≡ self.old) × IsRefused 90 body.now e) }
+    {
+        let _ = decode_ready_for_query(body)?;
+        self.ledger.take_ready();
+        self.mark(false);
+        Ok(plain(Beat::More))
+    }
+
+    // A reply to an earlier call has failed.
+    fn drain_error(&mut self, alloc: Global, body: &[u8]) -> Result<Taken, Error>
+        ensures ok { IfOk result (Drains 69 body.now true self.old self.new) }
+        ensures ended { IfOk result (Drains 69 body.now false self.old self.new) }
+        ensures err { IfErr result (λ e. (self.new ≡ self.old) × IsRefused 69 body.now e) }
+    {
+        let error = decode_error_response(alloc, body)?;
+        Ok(self.end(Err(Error::Database(error))))
+    }
+
+    // A message of a reply to an earlier call: only its errors, its end and a copy from the client are looked at.
+    fn drain(&mut self, alloc: Global, failed: bool, tag: u8, body: &[u8]) -> Result<Taken, Error>
+        requires owed { 0 < self.old.ledger.owed }
+        requires failed { marked failed self.old.call ≡ self.old.call }
+        ensures ok { IfOk result (Drains tag body.now failed self.old self.new) }
+        ensures err { IfErr result (λ e. (self.new ≡ self.old) × IsRefused tag body.now e) }
+    {
+        match tag {
+            b'Z' => self.drain_ready(body),
+            b'E' => self.drain_error(alloc, body),
+            b'G' => {
+                self.mark(true);
+                Ok(Taken {
+                    beat: Beat::More,
+                    fails_copy: !failed,
+                })
+            }
+            _ => Ok(plain(Beat::More)),
+        }
+    }
+
+    // The own reply has come to its end. It was the last that was owed.
+    fn close(&mut self) -> Taken
+        requires { IsReplied self.old.call }
+        ensures { Closes self.old self.new result }
+    {
+        match mem::replace(&mut self.call, Call::Idle) {
+            Call::Own(reply) => {
+                self.ledger = Ledger::new();
+                plain(Beat::Ends(reply.finish()))
+            }
+            _ => unreachable!(),
+        }
+    }
+
+    // A copy has begun, for which nobody has asked: one from the client is ended at once.
+    fn refuse_copy(&mut self, tag: u8) -> Taken
+        ensures { RefusesCopy tag self.old self.new result }
+    {
+        let fails_copy = tag == b'G';
+        self.call = Call::Idle;
+        self.ledger.is_copy_failed = fails_copy;
+        Taken {
+            beat: Beat::Ends(Err(Error::Protocol(ProtocolFault::Reply { tag }))),
+            fails_copy,
+        }
+    }
+
+    // What a message of the own reply makes of the call.
+    fn follow(&mut self, tag: u8, heard: Heard) -> Taken
+        requires { IsReplied self.old.call }
+        ensures { Follows tag heard self.old self.new result }
+    {
+        match heard {
+            Heard::More => plain(Beat::More),
+            Heard::Yields(item) => plain(Beat::Yields(item)),
+            Heard::Failed(error) => self.end(Err(Error::Database(error))),
+            Heard::Closed => self.close(),
+            Heard::Copies => self.refuse_copy(tag),
+        }
+    }
+
+    /// Takes one message that is no asynchronous one. An `Err` leaves it where it is: it is the server's fault, or want of
+    /// memory.
+    pub fn take(&mut self, alloc: Global, tag: u8, body: &[u8]) -> Result<Taken, Error>
+        requires { IsAwaiting self.old.ledger self.old.call }
+        ensures ok { IfOk result (TakesMessage tag body.now self.old self.new) }
+        ensures copy { IfOk result (λ taken. taken.fails_copy ≡ true → tag ≡ 71) }
+        ensures goes { IfOk result (λ taken. taken.beat ≢ Beat.Waits) }
+        ensures err { IfErr result (RefusesMessage tag body.now self.old) }
+        ensures ledger { OnErr result (self.new.ledger ≡ self.old.ledger) }
+    {
+        match &mut self.call {
+            Call::Idle | Call::Asked(_) | Call::Closing => Ok(plain(Beat::More)),
+            Call::Waiting(waiting) => {
+                let failed = waiting.is_copy_failed;
+                self.drain(alloc, failed, tag, body)
+            }
+            Call::Own(reply) => match reply.take(alloc, tag, body) {
+                Ok(heard) => Ok(self.follow(tag, heard)),
+                Err(e) => Err(e),
+            },
+        }
+    }
+}

@@ -1,0 +1,11 @@
+use crate::Kind;
+use pg_wire::Blob;
+
+/// A call whose frames are written, while replies to earlier calls are owed.
+#[derive(Debug, Drop)]
+pub struct Waiting {
+    pub kind: Kind,
+    pub frames: Blob,
+    /// Whether a CopyFail was queued for the reply that is drained now.
+    pub is_copy_failed: bool,
+}

@@ -1,0 +1,79 @@
+-- What a poll answers is of the call's kind.
+use Rattle.std.proofs.Common.{◌≡◌, ◌∙◌, [], ◌∷◌, ◌++◌, refl, sym, subst, Result, Err, Option, Some, None}
+use Rattle.futures.specs.declared.task.Poll.{Poll}
+use Rattle.futures.specs.declared.task.Poll.TheVariants.{Ready, Pending}
+use Rattle.pg_wire.specs.declared.error.ServerFault.{ServerFault}
+use Rattle.pg_wire.specs.declared.error.Error.{Error}
+use Rattle.pg_wire.specs.declared.error.Error.TheVariants as errors
+use Rattle.pg_wire.specs.declared.error.ProtocolFault.TheVariants as protocol
+use Rattle.pg_stream.specs.Links.{LinkSeen}
+use Rattle.pg_call.specs.declared.kind.Kind.{Kind}
+use Rattle.pg_call.specs.declared.kind.Kind.TheVariants as kinds
+use Rattle.pg_call.specs.declared.request.Request.{Request}
+use Rattle.pg_call.specs.declared.answer.Turn.{Turn}
+use Rattle.pg_call.specs.declared.answer.Turn.TheVariants as turns
+use Rattle.pg_call.specs.declared.calling.Beat.TheVariants as beats
+use Rattle.pg_call.specs.Requests.{kind_of}
+use Rattle.pg_call.specs.Items.{items_of, tally_of}
+use Rattle.pg_call.specs.Answers.{TurnFits, AnswerFits}
+use Rattle.pg_call.proofs.FitLaws.{shown_fits, finished_fits}
+use Rattle.pg_conn.specs.Connections.{ConnOf, ConnSeen, seen_by, started_call, begun_with, begun_by}
+use Rattle.pg_conn.specs.Turns.{TakesBeat, PollsBy, PollsCall, beat_of}
+use Rattle.pg_conn.specs.States.{IsCalling, PollFits, turn_of, closing_turn, KeepsConn, PollsClose}
+
+-- a call that was started
+pub started_calling : {A : Type 0} (r : Request) (c : ConnOf A) → IsCalling (kind_of r) (started_call r c)
+started_calling r c = (c.ledger, r, [], [], [], refl, (refl, refl, refl, refl, refl))
+
+fits_beat : (a b : ConnSeen) (kind : Kind) (answer : Poll Turn) → TakesBeat a b (beat_of answer) → IsCalling kind a → PollFits kind b answer
+fits_beat a b kind Pending t i =
+    let told = t.3.tells i.0 i.1 i.2 i.3 i.4 i.6 in
+    (i.0, i.1, i.2 ++ told.0, i.3 ++ t.2, i.4, i.5, told.3.0)
+fits_beat a b kind (Ready (turns.Item item)) t i =
+    let told = t.3.tells i.0 i.1 i.2 i.3 i.4 i.6 in (
+      subst (λ (k : Kind). TurnFits k (turns.Item item)) i.5 (shown_fits i.0 i.1 (i.2 ++ told.0) (i.3 ++ t.2) i.4 item b.ledger b.call told.3),
+      (i.0, i.1, i.2 ++ told.0, i.3 ++ t.2, i.4 ++ item ∷ [], i.5, told.3),
+    )
+fits_beat a b kind (Ready (turns.Ok answer)) t i =
+    let told = t.3.tells i.0 i.1 i.2 i.3 i.4 i.6 in
+    let fine = told.3.1 in
+    (subst (λ (k : Kind). AnswerFits k answer) i.5 (finished_fits (kind_of i.1) (tally_of (kind_of i.1) (items_of fine.0.reply)) answer fine.1), tt)
+fits_beat a b kind (Ready (turns.Err e)) t i = (tt, tt)
+
+fits_fault : (b : ConnSeen) (kind : Kind) (fault : ServerFault) (answer : Poll Turn) → beat_of answer ≡ beats.Ends (Err (errors.Protocol (protocol.Server fault))) → PollFits kind b answer
+fits_fault b kind fault Pending e = absurd cc
+fits_fault b kind fault (Ready (turns.Item item)) e = absurd cc
+fits_fault b kind fault (Ready (turns.Ok answer)) e = absurd cc
+fits_fault b kind fault (Ready (turns.Err error)) e = (tt, tt)
+
+fits_by : (o : Option ServerFault) (begun a b : ConnSeen) (kind : Kind) (answer : Poll Turn) → PollsBy o begun a b (beat_of answer) → IsCalling kind begun → PollFits kind b answer
+fits_by None begun a b kind answer p i = as_broken b kind answer (fits_beat begun _ kind answer p.0 i)
+  where
+    as_broken : (b : ConnSeen) (kind : Kind) (answer : Poll Turn) → PollFits kind (record b { broken = None }) answer → PollFits kind b answer
+    as_broken b kind Pending f = f
+    as_broken b kind (Ready (turns.Item item)) f = f
+    as_broken b kind (Ready (turns.Ok answer)) f = f
+    as_broken b kind (Ready (turns.Err e)) f = f
+fits_by (Some fault) begun a b kind answer p i = fits_fault b kind fault answer p.1
+
+-- over a link
+unseen : {A : Type 0} (seen : A → LinkSeen) (b : ConnOf A) (kind : Kind) (answer : Poll Turn) → PollFits kind (seen_by seen b) answer → PollFits kind b answer
+unseen seen b kind Pending f = f
+unseen seen b kind (Ready (turns.Item item)) f = f
+unseen seen b kind (Ready (turns.Ok answer)) f = f
+unseen seen b kind (Ready (turns.Err e)) f = f
+
+pub poll_fits : {A : Type 0} (seen : A → LinkSeen) (a b : ConnOf A) (kind : Kind) (answer : Poll Turn) → PollsCall (seen_by seen a) (seen_by seen b) answer → IsCalling kind a → PollFits kind b answer
+poll_fits seen a b kind answer p i = unseen seen b kind answer (fits_by a.broken (begun_with 256 (seen_by seen a)) (seen_by seen a) (seen_by seen b) kind answer p i)
+
+-- ---- a close
+
+pub same_some : {A : Type 0} (o : Option A) (x y : A) → o ≡ Some x → o ≡ Some y → x ≡ y
+same_some {A = A} o x y e f = the_same x y (sym e ∙ f)
+  where
+    the_same : (x y : A) → Some x ≡ Some y → x ≡ y
+    the_same x y k = cc
+
+pub closes_by : {A : Type 0} (seen : A → LinkSeen) (a a' b : ConnOf A) (r r' : Option Request) (new : Option (ConnOf A)) (answer : Poll (Result A Error)) → r ≡ r' → a ≡ a' → PollsCall (seen_by seen (begun_by r a)) (seen_by seen b) (turn_of closing_turn answer)
+    → PollFits kinds.Close b (turn_of closing_turn answer) → KeepsConn b new answer → PollsClose seen (begun_by r' a') new answer
+closes_by seen a a' b r r' new answer e f polls fits keeps = rw (← e, ← f) (b, polls, fits, keeps)

@@ -1,0 +1,510 @@
+-- How the beats of a call follow one another.
+use Rattle.std.proofs.Common.{◌≡◌, ◌≢◌, ℕ, ◌+◌, ◌-◌, ◌<◌, ◌≤◌, cond, inl, inr, Bool, true, false, ◌&&◌, ◌==◌, List, [], ◌∷◌, ◌++◌, length, map, refl, sym, ap, ◌∙◌, subst, append_assoc, append-nil, length-append, arith, Ok, Err, Option, Some, None}
+use Rattle.std.specs.List.{count_by}
+use Rattle.std.proofs.lemmas.Bool.{eqb-true}
+use Rattle.std.proofs.lemmas.List.{map-append}
+use Rattle.std.proofs.lemmas.List.Sums.{sum_by-append}
+use Rattle.futures.specs.declared.task.Poll.TheVariants.{Ready, Pending}
+use Rattle.pg_wire.specs.declared.error.Error.{Error}
+use Rattle.pg_wire.specs.declared.error.Error.TheVariants as errors
+use Rattle.pg_wire.specs.declared.error.IoCause.TheVariants as io
+use Rattle.pg_wire.specs.declared.error.ProtocolFault.TheVariants as protocol
+use Rattle.pg_wire.specs.declared.error.ServerFault.TheVariants as faults
+use Rattle.pg_wire.specs.Frame.{Frame, text_of}
+use Rattle.pg_wire.specs.Frontend.{FrontendMessage, frontend_frame}
+use Rattle.pg_wire.specs.Parts.{heard, is_asynchronous}
+use Rattle.pg_wire.proofs.PartLaws.{heard-append}
+use Rattle.pg_stream.specs.Links.{LinkSeen, NoneFalls}
+use Rattle.pg_stream.specs.declared.stream.Front.{Front}
+use Rattle.pg_stream.specs.Streams.{StreamOf, StreamSeen, GrewBy, stream_by, Moves, AllMoved, Passes, IsFrontOf, IsHeardFront, AreAsynchronous, PollsAhead, PollsSend, SendGives, PendingCause, HeardCause}
+use Rattle.pg_stream.proofs.StreamLemmas.{Moves-none, Moves-then, AllMoved-none, AllMoved-then, PendingCause-after, ErrorCause-after, text_of-append, queues_by, took_frame}
+use Rattle.pg_request.specs.Queries.{QueryText}
+use Rattle.pg_call.specs.declared.kind.Kind.{Kind}
+use Rattle.pg_call.specs.declared.kind.Kind.TheVariants as kinds
+use Rattle.pg_call.specs.declared.request.Request.{Request}
+use Rattle.pg_call.specs.declared.request.Request.TheVariants as requests
+use Rattle.pg_call.specs.declared.answer.CallItem.{CallItem}
+use Rattle.pg_call.specs.declared.answer.CallAnswer.TheVariants as answers
+use Rattle.pg_call.specs.declared.ledger.Ledger.{Ledger}
+use Rattle.pg_call.specs.declared.waiting.Waiting.{Waiting}
+use Rattle.pg_call.specs.declared.calling.Call.{Call}
+use Rattle.pg_call.specs.declared.calling.Call.TheVariants as calls
+use Rattle.pg_call.specs.declared.calling.Beat.{Beat}
+use Rattle.pg_call.specs.declared.calling.Beat.TheVariants as beats
+use Rattle.pg_call.specs.declared.calling.Taken.{Taken}
+use Rattle.pg_call.specs.declared.running.Running.{Running}
+use Rattle.pg_call.specs.Requests.{Group, spelled, kind_of, messages_of, is_flush, is_close, query_of, CanBeSaid, IsRefusal, RefusesQuery}
+use Rattle.pg_call.specs.Hearing.{framed, fails_of}
+use Rattle.pg_call.specs.Calls.{CallIs, IsAwaiting, CallEnds, CallTakes, TakesMessage, RefusesMessage}
+use Rattle.pg_call.proofs.LeaveLaws.{leaves_call, call_well, closing_fine, flush_fine, draining_none, replying_from, closing_from}
+use Rattle.pg_conn.specs.Connections.{ConnOf, ConnSeen, seen_by, idle, with_spare, queued_call, awaiting, closing, frames_in}
+use Rattle.pg_conn.specs.Turns.{ends_request, IsMissed, FailsBy, EndsBy, Tells, BeatCause, Turns, TakesBeat, IsAsked, Prepares, Refuses, is_flushed, IsAhead, Readies, Accepts, queued_copy_fail}
+
+-- the bytes of messages, one after another
+pub spelled-append : (xs ys : List FrontendMessage) → spelled (xs ++ ys) ≡ spelled xs ++ spelled ys
+spelled-append xs ys = ap text_of (map-append frontend_frame xs ys) ∙ text_of-append (map frontend_frame xs) (map frontend_frame ys)
+
+counts-append : (xs ys : List FrontendMessage) → count_by ends_request (xs ++ ys) ≡ count_by ends_request xs + count_by ends_request ys
+counts-append xs ys = sum_by-append (λ (m : FrontendMessage). cond (ends_request m) 1 0) xs ys
+
+grew-then : (x y z a b c : ℕ) → GrewBy x a b → GrewBy y b c → z ≡ x + y → GrewBy z a c
+grew-then x y z a b c p q r = omega (arith, p, q, r)
+
+grew-none : (a : ℕ) → GrewBy 0 a a
+grew-none a = omega arith
+
+-- ---- a beat after beats that went on
+
+heard_cause_after : (a b c : StreamSeen) (e : Error) → NoneFalls a.link b.link → HeardCause b c e → HeardCause a c e
+heard_cause_after a b c (errors.Protocol (protocol.Server (faults.Malformed tag))) m h = h
+heard_cause_after a b c errors.OutOfMemory m h = tt
+heard_cause_after a b c (errors.Io io.Fault) m h = ErrorCause-after a b c (errors.Io io.Fault) m h
+heard_cause_after a b c (errors.Io io.End) m h = ErrorCause-after a b c (errors.Io io.End) m h
+heard_cause_after a b c (errors.Protocol (protocol.Server (faults.ShortLength tag size))) m h = h
+heard_cause_after a b c (errors.Protocol (protocol.Server (faults.UnknownTag tag))) m h = h
+heard_cause_after a b c _ m h = absurd h
+
+fails_from : (a b c : ConnSeen) (start : Ledger) (r : Request) (own : List Group) (hs : List Frame) (e : Error) → NoneFalls a.stream.link b.stream.link → FailsBy b c start r own hs e → FailsBy a c start r own hs e
+fails_from a b c start r own hs e m (inl h) = inl (heard_cause_after a.stream b.stream c.stream e m h.0, h.1)
+fails_from a b c start r own hs e m (inr f) = inr f
+
+tells_from : (a b c : ConnSeen) (start : Ledger) (r : Request) (said : List FrontendMessage) (hs : List Frame) (items : List CallItem) (beat : Beat) → NoneFalls a.stream.link b.stream.link
+    → Tells b c start r said hs items beat → Tells a c start r said hs items beat
+tells_from a b c start r said hs items beats.More m t = t
+tells_from a b c start r said hs items beats.Waits m t = t
+tells_from a b c start r said hs items (beats.Yields item) m t = t
+tells_from a b c start r said hs items (beats.Ends (Ok answer)) m t = t
+tells_from a b c start r said hs items (beats.Ends (Err e)) m t = (
+  t.0,
+  elim t.1 [
+    | inl ends ↦ inl ends
+    | inr f ↦ inr (f.0, f.1, fails_from a b c start r f.0.own hs e m f.2)
+  ],
+)
+
+cause_after : (a b c : ConnSeen) (beat : Beat) → NoneFalls a.stream.link b.stream.link → a.stream.waits ≤ b.stream.waits → AllMoved a.stream b.stream → b.stream.left ≤ a.stream.left → c.stream.left ≤ b.stream.left → BeatCause b c beat → BeatCause a c beat
+cause_after a b c beats.More m n h k l t = AllMoved-then a.stream b.stream c.stream h k t l
+cause_after a b c beats.Waits m n h k l t = PendingCause-after a.stream b.stream c.stream m n h k l t
+cause_after a b c (beats.Yields item) m n h k l t = tt
+cause_after a b c (beats.Ends answer) m n h k l t = tt
+
+pub Turns-then : (a b c : ConnSeen) (beat : Beat) (q q' : List ℕ) (fs fs' hs hs' : List Frame) → Turns a b beats.More q fs hs → Turns b c beat q' fs' hs' → Turns a c beat (q ++ q') (fs ++ fs') (hs ++ hs')
+Turns-then a b c beat q q' fs fs' hs hs' s t = record {
+  moves = Moves-then a.stream b.stream c.stream q q' fs fs' s.moves t.moves;
+  hears = heard-append fs fs' ∙ ap (λ (x : List Frame). x ++ heard fs') s.hears ∙ ap (λ (x : List Frame). hs ++ x) t.hears;
+  cause = cause_after a b c beat s.moves.counts s.moves.tallies.waits.0 s.cause s.moves.left t.moves.left t.cause;
+  broken = t.broken ∙ s.broken;
+  counted = grew-then (length hs) (length hs') (length (hs ++ hs')) a.heard b.heard c.heard s.counted t.counted (length-append hs hs');
+  started = (t.started.0 ∙ s.started.0, t.started.1 ∙ s.started.1);
+  tells = λ start r said heards items i.
+      let one = s.tells start r said heards items i in
+      let two = t.tells start r (said ++ one.0) (heards ++ hs) items one.3 in (
+        one.0 ++ two.0,
+        spelled-append one.0 two.0 ∙ ap (λ (x : List ℕ). x ++ spelled two.0) one.1 ∙ ap (λ (x : List ℕ). q ++ x) two.1,
+        grew-then (count_by ends_request one.0) (count_by ends_request two.0) (count_by ends_request (one.0 ++ two.0)) a.groups b.groups c.groups one.2 two.2 (counts-append one.0 two.0),
+        tells_from a b c start r (said ++ (one.0 ++ two.0)) (heards ++ (hs ++ hs')) items beat s.moves.counts
+            (rw (← append_assoc said one.0 two.0, ← append_assoc heards hs hs') two.3),
+      );
+}
+
+pub TakesBeat-then : (a b c : ConnSeen) (beat : Beat) → TakesBeat a b beats.More → TakesBeat b c beat → TakesBeat a c beat
+TakesBeat-then a b c beat s t = (s.0 ++ t.0, s.1 ++ t.1, s.2 ++ t.2, Turns-then a b c beat s.0 t.0 s.1 t.1 s.2 t.2 s.3 t.3)
+
+-- ---- beats that move nothing of the link
+
+-- the stream has moved by nothing, and nothing was heard
+stays : (a b : ConnSeen) (beat : Beat) → Moves a.stream b.stream [] [] → BeatCause a b beat → b.broken ≡ a.broken → b.heard ≡ a.heard → b.groups ≡ a.groups → b.sent ≡ a.sent → b.read ≡ a.read
+    → ((start : Ledger) (r : Request) (said : List FrontendMessage) (hs : List Frame) (items : List CallItem) → CallIs start r said hs items a.ledger a.call → Tells a b start r said hs items beat)
+    → TakesBeat a b beat
+stays a b beat m c k h g s t tells = (
+  [],
+  [],
+  [],
+  record {
+    moves = m;
+    hears = refl;
+    cause = c;
+    broken = k;
+    counted = rw h (grew-none a.heard);
+    started = (s, t);
+    tells = λ start r said hs items i. ([], refl, rw g (grew-none a.groups), rw (append-nil said, append-nil hs) (tells start r said hs items i));
+  },
+)
+
+pub TakesBeat-none : (a : ConnSeen) → TakesBeat a a beats.More
+TakesBeat-none a = stays a a beats.More (Moves-none a.stream) (AllMoved-none a.stream) refl refl refl refl refl (λ start r said hs items i. i)
+
+call_at : (start : Ledger) (r : Request) (said : List FrontendMessage) (hs : List Frame) (items : List CallItem) (l : Ledger) (k k' : Call) → k ≡ k' → CallIs start r said hs items l k → CallIs start r said hs items l k'
+call_at start r said hs items l k k' e i = subst (λ (c : Call). CallIs start r said hs items l c) e i
+
+-- what is asked stands as frames
+asked_waits : (start : Ledger) (r asked : Request) (said : List FrontendMessage) (hs : List Frame) (items : List CallItem) (ledger : Ledger) (frames : List ℕ) → frames ≡ spelled (messages_of asked) → CanBeSaid asked → CallIs start r said hs items ledger (calls.Asked asked)
+    → CallIs start r said hs items ledger (calls.Waiting (record { kind = kind_of asked; frames = frames; is_copy_failed = ledger.is_copy_failed }))
+asked_waits start r asked said hs items ledger frames f can i =
+    rw (← i.0, i.1, i.2, i.3, i.4) (refl, f, can, draining_none start)
+
+pub prepared : (a : ConnSeen) (asked : Request) (frames : List ℕ) → a.call ≡ calls.Asked asked → frames ≡ spelled (messages_of asked) → CanBeSaid asked
+    → TakesBeat a (record a { call = calls.Waiting (record { kind = kind_of asked; frames = frames; is_copy_failed = a.ledger.is_copy_failed }) }) beats.More
+prepared a asked frames e f can = stays a _ beats.More (Moves-none a.stream) (AllMoved-none a.stream) refl refl refl refl refl (λ start r said hs items i. asked_waits start r asked said hs items a.ledger frames f can (call_at start r said hs items a.ledger a.call (calls.Asked asked) e i))
+
+pub prepares : (a : ConnSeen) (asked : Request) (frames : List ℕ) → a.call ≡ calls.Asked asked → frames ≡ spelled (messages_of asked) → CanBeSaid asked
+    → Prepares a (record a { call = calls.Waiting (record { kind = kind_of asked; frames = frames; is_copy_failed = a.ledger.is_copy_failed }) })
+prepares a asked frames e f can = record { beat = prepared a asked frames e f can; asked = λ w. w }
+
+pub prepares_none : (a : ConnSeen) → (IsAsked a.call → ⊥) → Prepares a a
+prepares_none a n = record { beat = TakesBeat-none a; asked = n }
+
+-- memory is wanting
+pub starved : (a : ConnSeen) (n : ℕ) → Moves a.stream (with_spare n a).stream [] [] → TakesBeat a (idle (with_spare n a)) (beats.Ends (Err errors.OutOfMemory))
+starved a n m = stays a (idle (with_spare n a)) (beats.Ends (Err errors.OutOfMemory)) m tt refl refl refl refl refl (λ start r said hs items i. (refl, inr (leaves_call start r said hs items a.ledger a.call i, call_well start r said hs items a.ledger a.call i, inl (tt, tt))))
+
+-- a request that has no frame
+refusal_by : (a : ConnSeen) (asked : Request) (e : Error) (o : Option QueryText) → query_of asked ≡ o → RefusesQuery o e → (start : Ledger) (r : Request) (said : List FrontendMessage) (hs : List Frame) (items : List CallItem) → CallIs start r said hs items a.ledger (calls.Asked asked)
+    → EndsBy a (idle a) start r said hs items e
+refusal_by a asked e None k h start r said hs items i = rw h (inr (leaves_call start r said hs items a.ledger (calls.Asked asked) i, call_well start r said hs items a.ledger (calls.Asked asked) i, inl (tt, tt)))
+refusal_by a asked errors.OutOfMemory (Some query) k h start r said hs items i = inr (leaves_call start r said hs items a.ledger (calls.Asked asked) i, call_well start r said hs items a.ledger (calls.Asked asked) i, inl (tt, tt))
+refusal_by a asked (errors.Protocol (protocol.Caller fault)) (Some query) k h start r said hs items i =
+    inl (i.2, i.3, i.4, i.1, subst (λ (q : Request). IsRefusal q (errors.Protocol (protocol.Caller fault))) i.0 (subst (λ (p : Option QueryText). RefusesQuery p (errors.Protocol (protocol.Caller fault))) (sym k) h))
+refusal_by a asked _ (Some query) k h start r said hs items i = absurd h
+
+pub refused : (a : ConnSeen) (e : Error) → Refuses a.call e → TakesBeat a (idle a) (beats.Ends (Err e))
+refused a e h = by a.call refl h
+  where
+    by : (call : Call) → a.call ≡ call → Refuses call e → TakesBeat a (idle a) (beats.Ends (Err e))
+    by (calls.Asked asked) k h = stays a (idle a) (beats.Ends (Err e)) (Moves-none a.stream) tt refl refl refl refl refl (λ start r said hs items i. (refl, refusal_by a asked e (query_of asked) refl h start r said hs items (call_at start r said hs items a.ledger a.call (calls.Asked asked) k i)))
+    by calls.Idle k h = absurd h
+    by (calls.Waiting w) k h = absurd h
+    by (calls.Own reply) k h = absurd h
+    by calls.Closing k h = absurd h
+
+-- ---- what waited is queued
+
+groups_said : (r : Request) → is_flush (kind_of r) ≡ false → is_close (kind_of r) ≡ false → count_by ends_request (messages_of r) ≡ 1
+groups_said (requests.Execute query) f c = refl
+groups_said (requests.ExecuteMany query) f c = refl
+groups_said (requests.Fetch query) f c = refl
+groups_said (requests.FetchMany query) f c = refl
+groups_said (requests.FetchAll query) f c = refl
+groups_said (requests.FetchOptional query) f c = refl
+groups_said (requests.FetchOne query) f c = refl
+groups_said requests.Ping f c = refl
+groups_said requests.Flush f c = absurd cc
+groups_said requests.Close f c = absurd cc
+
+groups_farewell : (r : Request) → is_close (kind_of r) ≡ true → count_by ends_request (messages_of r) ≡ 0
+groups_farewell requests.Close c = refl
+groups_farewell requests.Flush c = absurd cc
+groups_farewell requests.Ping c = absurd cc
+groups_farewell (requests.Execute query) c = absurd cc
+groups_farewell (requests.ExecuteMany query) c = absurd cc
+groups_farewell (requests.Fetch query) c = absurd cc
+groups_farewell (requests.FetchMany query) c = absurd cc
+groups_farewell (requests.FetchAll query) c = absurd cc
+groups_farewell (requests.FetchOptional query) c = absurd cc
+groups_farewell (requests.FetchOne query) c = absurd cc
+
+flush_false : (b : Bool) (n : ℕ) → n ≡ 0 → b && n == 0 ≡ false → b ≡ false
+flush_false true n z e = let w : true && 0 == 0 ≡ false = rw z at e in absurd cc
+flush_false false n z e = refl
+
+-- the state b stands where what waited was queued
+queues_waiting : (a b : ConnSeen) (w : Waiting) → a.call ≡ calls.Waiting w → Moves a.stream b.stream w.frames [] → AllMoved a.stream b.stream → b.broken ≡ a.broken → b.heard ≡ a.heard → b.sent ≡ a.sent → b.read ≡ a.read
+    → ((start : Ledger) (r : Request) (said : List FrontendMessage) (hs : List Frame) (items : List CallItem) → CallIs start r said hs items a.ledger (calls.Waiting w) → GrewBy (count_by ends_request (messages_of r)) a.groups b.groups × CallIs start r (said ++ messages_of r) hs items b.ledger b.call)
+    → TakesBeat a b beats.More
+queues_waiting a b w k m moved broken h s t tells = (
+  w.frames,
+  [],
+  [],
+  record {
+    moves = m;
+    hears = refl;
+    cause = moved;
+    broken = broken;
+    counted = rw h (grew-none a.heard);
+    started = (s, t);
+    tells = λ start r said hs items i.
+        let j = call_at start r said hs items a.ledger a.call (calls.Waiting w) k i in
+        let g = tells start r said hs items j in
+        (messages_of r, sym j.1, g.0, rw (append-nil hs) g.1);
+  },
+)
+
+pub asks_reply : (a : ConnSeen) (n g : ℕ) (w : Waiting) → a.call ≡ calls.Waiting w → a.ledger.owed ≡ 0 → is_flushed a.ledger a.call ≡ false → is_close w.kind ≡ false → Moves a.stream (queued_call n a).stream w.frames [] × AllMoved a.stream (queued_call n a).stream → GrewBy 1 a.groups g
+    → Readies a (awaiting w.kind g (queued_call n a))
+asks_reply a n g w k z f c m grew =
+    let flush : is_flush w.kind ≡ false = flush_false (is_flush w.kind) a.ledger.owed z (subst (λ (x : Call). is_flushed a.ledger x ≡ false) k f) in
+    record {
+      beat = queues_waiting a (awaiting w.kind g (queued_call n a)) w k m.0 m.1 refl refl refl refl (λ start r said hs items i.
+          let one = groups_said r (rw i.0 at flush) (rw i.0 at c) in
+          (rw one grew, replying_from start r said hs items a.ledger w flush c z i));
+      ahead = tt;
+    }
+
+pub asks_nothing : (a : ConnSeen) (n : ℕ) (w : Waiting) → a.call ≡ calls.Waiting w → a.ledger.owed ≡ 0 → is_close w.kind ≡ true → Moves a.stream (queued_call n a).stream w.frames [] × AllMoved a.stream (queued_call n a).stream
+    → Readies a (closing (queued_call n a))
+asks_nothing a n w k z c m = record {
+  beat = queues_waiting a (closing (queued_call n a)) w k m.0 m.1 refl refl refl refl (λ start r said hs items i.
+      let none = groups_farewell r (rw i.0 at c) in
+      (rw none (grew-none a.groups), closing_from start r said hs items a.ledger w c z i));
+  ahead = tt;
+}
+
+pub readies_none : (a : ConnSeen) → IsAhead a.ledger a.call → Readies a a
+readies_none a h = record { beat = TakesBeat-none a; ahead = h }
+
+pub ahead_waiting : (ledger : Ledger) (call : Call) (w : Waiting) → call ≡ calls.Waiting w → 0 < ledger.owed → IsAhead ledger call
+ahead_waiting ledger call w k h = rw k h
+
+pub ahead_other : (ledger : Ledger) (call : Call) → (IsAsked call → ⊥) → ((w : Waiting) → call ≡ calls.Waiting w → ⊥) → IsAhead ledger call
+ahead_other ledger (calls.Asked request) n h = absurd (n tt)
+ahead_other ledger (calls.Waiting w) n h = absurd (h w refl)
+ahead_other ledger (calls.Own reply) n h = tt
+ahead_other ledger calls.Closing n h = tt
+ahead_other ledger calls.Idle n h = tt
+
+-- ---- a flush is done
+
+flushed_by : (start : Ledger) (r : Request) (said : List FrontendMessage) (hs : List Frame) (items : List CallItem) (ledger : Ledger) (call : Call) → is_flushed ledger call ≡ true → CallIs start r said hs items ledger call → CallEnds start r said hs items ledger (Ok answers.Unit) × (kind_of r ≡ kinds.Close → ⊥)
+flushed_by start r said hs items ledger (calls.Waiting w) f i = let b = both (is_flush w.kind) (ledger.owed == 0) f in (flush_fine start r said hs items ledger w b.0 (eqb-true _ _ b.1) i, λ k. not_both w.kind b.0 (i.0 ∙ k))
+  where
+    both : (x y : Bool) → x && y ≡ true → (x ≡ true) × (y ≡ true)
+    both true y e = (refl, e)
+    both false y e = absurd cc
+
+    not_both : (k : Kind) → is_flush k ≡ true → k ≡ kinds.Close → ⊥
+    not_both k e z = let w : is_flush kinds.Close ≡ true = rw z at e in absurd cc
+flushed_by start r said hs items ledger (calls.Asked asked) f i = absurd cc
+flushed_by start r said hs items ledger (calls.Own reply) f i = absurd cc
+flushed_by start r said hs items ledger calls.Closing f i = absurd cc
+flushed_by start r said hs items ledger calls.Idle f i = absurd i
+
+pub flushed : (a : ConnSeen) → is_flushed a.ledger a.call ≡ true → TakesBeat a (idle a) (beats.Ends (Ok answers.Unit))
+flushed a f = stays a (idle a) (beats.Ends (Ok answers.Unit)) (Moves-none a.stream) tt refl refl refl refl refl (λ start r said hs items i.
+    let e = flushed_by start r said hs items a.ledger a.call f i in
+    (refl, e.0, λ k. absurd (e.1 k)))
+
+-- ---- messages
+
+heard_none : (fs : List Frame) → AreAsynchronous fs → heard fs ≡ []
+heard_none [] h = refl
+heard_none (f ∷ fs) h = let e = h.0.0 in rw e (heard_none fs h.1)
+
+-- a call that hears is owed a reply
+awaiting_owed : (start : Ledger) (r : Request) (said : List FrontendMessage) (hs : List Frame) (items : List CallItem) (ledger : Ledger) (call : Call) → IsAwaiting ledger call → CallIs start r said hs items ledger call → 0 < ledger.owed
+awaiting_owed start r said hs items ledger (calls.Waiting w) h i = h
+awaiting_owed start r said hs items ledger (calls.Own reply) h i = rw i.0 (omega arith)
+awaiting_owed start r said hs items ledger (calls.Asked asked) h i = absurd h
+awaiting_owed start r said hs items ledger calls.Closing h i = absurd h
+awaiting_owed start r said hs items ledger calls.Idle h i = absurd i
+
+-- asynchronous messages alone were taken
+asides : (a b : ConnSeen) (beat : Beat) (aside : List Frame) → AreAsynchronous aside → Moves a.stream b.stream [] aside → BeatCause a b beat → b.broken ≡ a.broken → b.heard ≡ a.heard → b.groups ≡ a.groups → b.sent ≡ a.sent → b.read ≡ a.read
+    → ((start : Ledger) (r : Request) (said : List FrontendMessage) (hs : List Frame) (items : List CallItem) → CallIs start r said hs items a.ledger a.call → Tells a b start r said hs items beat)
+    → TakesBeat a b beat
+asides a b beat aside n m c k h g s t tells = (
+  [],
+  aside,
+  [],
+  record {
+    moves = m;
+    hears = heard_none aside n;
+    cause = c;
+    broken = k;
+    counted = rw h (grew-none a.heard);
+    started = (s, t);
+    tells = λ start r said hs items i. ([], refl, rw g (grew-none a.groups), rw (append-nil said, append-nil hs) (tells start r said hs items i));
+  },
+)
+
+abbrev pub over_stream : ConnSeen → StreamSeen → ConnSeen
+over_stream a t = record a { stream = t }
+
+pub hears_nothing : (a : ConnSeen) (t : StreamSeen) → IsAwaiting a.ledger a.call → PollsAhead a.stream t Pending → TakesBeat a (over_stream a t) beats.Waits
+hears_nothing a t w p = asides a (over_stream a t) beats.Waits p.0 p.1 p.2 p.3 refl refl refl refl refl (λ start r said hs items i. (i, inl (awaiting_owed start r said hs items a.ledger a.call w i)))
+
+missed : (ledger : Ledger) (e : Error) → 0 < ledger.owed → IsMissed ledger e
+missed ledger (errors.Io io.End) h = h
+missed ledger _ h = tt
+
+pub hears_fault : (a : ConnSeen) (t : StreamSeen) (e : Error) → IsAwaiting a.ledger a.call → PollsAhead a.stream t (Ready (Err e)) → TakesBeat a (idle (over_stream a t)) (beats.Ends (Err e))
+hears_fault a t e w p = asides a (idle (over_stream a t)) (beats.Ends (Err e)) p.0 p.1 p.2 tt refl refl refl refl refl (λ start r said hs items i.
+    (refl, inr (leaves_call start r said hs items a.ledger a.call i, call_well start r said hs items a.ledger a.call i, inl (p.3, missed a.ledger e (awaiting_owed start r said hs items a.ledger a.call w i)))))
+
+pub hears_front : (a : ConnSeen) (t : StreamSeen) (front : Front) → PollsAhead a.stream t (Ready (Ok front)) → TakesBeat a (over_stream a t) beats.More
+hears_front a t front p = asides a (over_stream a t) beats.More p.0 p.1 p.2 p.4 refl refl refl refl refl (λ start r said hs items i. i)
+
+-- the cleanup reserve has grown
+pub makes_room : (a : ConnSeen) (n : ℕ) → Moves a.stream (with_spare n a).stream [] [] × AllMoved a.stream (with_spare n a).stream → TakesBeat a (with_spare n a) beats.More
+makes_room a n m = stays a (with_spare n a) beats.More m.0 m.1 refl refl refl refl refl (λ start r said hs items i. i)
+
+-- ---- a message that is refused
+
+pub front_refused : (a : ConnSeen) (front : Front) (body rest : List ℕ) (e : Error) → IsHeardFront a.stream.held front → IsFrontOf a.stream.held front (framed front.tag body) rest
+    → RefusesMessage front.tag body (record { ledger = a.ledger; call = a.call }) e → TakesBeat a (idle a) (beats.Ends (Err e))
+front_refused a front body rest e f of refuses = stays a (idle a) (beats.Ends (Err e)) (Moves-none a.stream) tt refl refl refl refl refl (λ start r said hs items i.
+    let x = refuses start r said hs items i in
+    (refl, inr (x.0, x.1, inr (framed front.tag body, rest, of.whole, heard_front a.stream.held front (framed front.tag body) rest f of, of.parts, x.2))))
+  where
+    heard_front : (held : List ℕ) (front : Front) (frame : Frame) (rest : List ℕ) → IsHeardFront held front → IsFrontOf held front frame rest → is_asynchronous frame ≡ false
+    heard_front held front frame rest f of = rw (of.tag) (rw (f.2.tag) at f.3)
+
+-- ---- a message that is taken
+
+told : (a b : ConnSeen) (start : Ledger) (r : Request) (said : List FrontendMessage) (hs : List Frame) (items : List CallItem) (beat : Beat) → CallTakes start r said hs items b.ledger b.call beat → Tells a b start r said hs items beat
+told a b start r said hs items beats.More h = h
+told a b start r said hs items beats.Waits h = absurd h
+told a b start r said hs items (beats.Yields item) h = h
+told a b start r said hs items (beats.Ends (Ok answer)) h = (h.0, h.1, λ k. absurd (h.2 k))
+told a b start r said hs items (beats.Ends (Err e)) h = (h.0, inl h.1)
+
+taken_cause : (a b : ConnSeen) (beat : Beat) → (beat ≢ beats.Waits) → AllMoved a.stream b.stream → BeatCause a b beat
+taken_cause a b beats.More n h = h
+taken_cause a b beats.Waits n h = absurd (n refl)
+taken_cause a b (beats.Yields item) n h = tt
+taken_cause a b (beats.Ends answer) n h = tt
+
+no_groups : (fails : Bool) → count_by ends_request (fails_of fails) ≡ 0
+no_groups true = refl
+no_groups false = refl
+
+fails_fit : (fails : Bool) (n : ℕ) → (fails ≡ true → 57 ≤ n) → n ≤ (n - length (spelled (fails_of fails))) + length (spelled (fails_of fails))
+fails_fit true n h = let k = h refl in omega (arith, k)
+fails_fit false n h = omega arith
+
+pub not_asked : (call : Call) → ((request : Request) → call ≡ calls.Asked request → ⊥) → IsAsked call → ⊥
+not_asked (calls.Asked request) n h = n request refl
+not_asked calls.Idle n h = h
+not_asked (calls.Waiting w) n h = h
+not_asked (calls.Own reply) n h = h
+not_asked calls.Closing n h = h
+
+-- ---- over a link
+
+room_moves : {A : Type 0} (seen : A → LinkSeen) (a : ConnOf A) (n : ℕ) → a.stream.spare ≤ n
+    → Moves (stream_by seen a.stream) (stream_by seen (with_spare n a).stream) [] [] × AllMoved (stream_by seen a.stream) (stream_by seen (with_spare n a).stream)
+room_moves {A} seen a n le = queues_by seen a.stream (with_spare n a).stream [] n (omega (arith, le)) (ap (λ (u : List ℕ). record a.stream { unsent = u; spare = n }) (sym (append-nil a.stream.unsent)))
+
+-- memory is wanting, though the reserve may have grown
+pub starves : {A : Type 0} (seen : A → LinkSeen) (a r b : ConnOf A) (e : Error) (beat : Beat) → r ≡ with_spare r.stream.spare a → a.stream.spare ≤ r.stream.spare → e ≡ errors.OutOfMemory → b ≡ idle r → beat ≡ beats.Ends (Err e) → TakesBeat (seen_by seen a) (seen_by seen b) beat
+starves {A} seen a r b e beat room le oom is ends =
+    let n = r.stream.spare in
+    let m = room_moves seen a n le in
+    rw (ends, oom) (subst (λ (x : ConnOf A). TakesBeat (seen_by seen a) (seen_by seen x) (beats.Ends (Err errors.OutOfMemory))) (sym (is ∙ ap (λ (x : ConnOf A). idle x) room)) (starved (seen_by seen a) n m.0))
+
+-- what waited is queued
+queued_moves : {A : Type 0} (seen : A → LinkSeen) (a : ConnOf A) (n : ℕ) (w : Waiting) → a.call ≡ calls.Waiting w → a.stream.spare ≤ n
+    → Moves (stream_by seen a.stream) (stream_by seen (queued_call n a).stream) w.frames [] × AllMoved (stream_by seen a.stream) (stream_by seen (queued_call n a).stream)
+queued_moves {A} seen a n w k le =
+    queues_by seen a.stream (queued_call n a).stream w.frames n (omega (arith, le)) (ap (λ (c : Call). record a.stream { unsent = a.stream.unsent ++ frames_in c; spare = n }) k)
+
+pub asks_closing : {A : Type 0} (seen : A → LinkSeen) (a q b : ConnOf A) (w : Waiting) → a.call ≡ calls.Waiting w → a.ledger.owed ≡ 0 → is_close w.kind ≡ true → a.stream.spare ≤ q.stream.spare → q ≡ queued_call q.stream.spare a → b ≡ closing q
+    → Readies (seen_by seen a) (seen_by seen b)
+asks_closing {A} seen a q b w k z c le is closes =
+    let n = q.stream.spare in
+    subst (λ (x : ConnOf A). Readies (seen_by seen a) (seen_by seen x)) (sym (closes ∙ ap (λ (x : ConnOf A). closing x) is)) (asks_nothing (seen_by seen a) n w k z c (queued_moves seen a n w k le))
+
+pub asks_own : {A : Type 0} (seen : A → LinkSeen) (a q b : ConnOf A) (w : Waiting) → a.call ≡ calls.Waiting w → a.ledger.owed ≡ 0 → is_flushed a.ledger a.call ≡ false → is_close w.kind ≡ false → a.stream.spare ≤ q.stream.spare → q ≡ queued_call q.stream.spare a
+    → b ≡ awaiting w.kind b.groups q → GrewBy 1 q.groups b.groups → Readies (seen_by seen a) (seen_by seen b)
+asks_own {A} seen a q b w k z f c le is awaits grew =
+    let n = q.stream.spare in
+    let g = b.groups in
+    let same : q.groups ≡ a.groups = ap (λ (x : ConnOf A). x.groups) is in
+    subst (λ (x : ConnOf A). Readies (seen_by seen a) (seen_by seen x)) (sym (awaits ∙ ap (λ (x : ConnOf A). awaiting w.kind g x) is)) (asks_reply (seen_by seen a) n g w k z f c (queued_moves seen a n w k le) (rw same at grew))
+
+pub with_room : {A : Type 0} (seen : A → LinkSeen) (a r : ConnOf A) → r ≡ with_spare r.stream.spare a → a.stream.spare ≤ r.stream.spare → TakesBeat (seen_by seen a) (seen_by seen r) beats.More
+with_room {A} seen a r room le =
+    let n = r.stream.spare in
+    subst (λ (x : ConnOf A). TakesBeat (seen_by seen a) (seen_by seen x) beats.More) (sym room) (makes_room (seen_by seen a) n (room_moves seen a n le))
+
+heard_tag : (front : Front) (held : List ℕ) (body rest : List ℕ) → IsHeardFront held front → IsFrontOf held front (framed front.tag body) rest → is_asynchronous (framed front.tag body) ≡ false
+heard_tag front held body rest f of = rw f.2.tag at f.3
+
+heard_one : (f : Frame) → is_asynchronous f ≡ false → heard (f ∷ []) ≡ f ∷ []
+heard_one f h = rw h refl
+
+-- a message at the front is taken
+taken_moves : {A : Type 0} (seen : A → LinkSeen) (a t : StreamOf A) (front : Front) (body rest : List ℕ) (fails : Bool) → IsHeardFront a.held front → IsFrontOf a.held front (framed front.tag body) rest → (fails ≡ true → 57 ≤ t.spare) → Passes front a t
+    → Moves (stream_by seen a) (stream_by seen (queued_copy_fail fails t)) (spelled (fails_of fails)) (framed front.tag body ∷ []) × AllMoved (stream_by seen a) (stream_by seen (queued_copy_fail fails t))
+taken_moves seen a t front body rest fails f of room p =
+    let q = spelled (fails_of fails) in
+    let frame = framed front.tag body in
+    let took = took_frame seen a t front frame rest of (heard_tag front a.held body rest f of) p in
+    let queued = queues_by seen t (queued_copy_fail fails t) q (t.spare - length q) (fails_fit fails t.spare room) refl in (
+      Moves-then (stream_by seen a) (stream_by seen t) (stream_by seen (queued_copy_fail fails t)) [] q (frame ∷ []) [] took.0 queued.0,
+      AllMoved-then (stream_by seen a) (stream_by seen t) (stream_by seen (queued_copy_fail fails t)) took.1 took.0.left queued.1 queued.0.left,
+    )
+
+pub takes_message : {A : Type 0} (seen : A → LinkSeen) (a b : ConnOf A) (new : Running) (front : Front) (body rest : List ℕ) (taken : Taken) → IsHeardFront a.stream.held front → IsFrontOf a.stream.held front (framed front.tag body) rest
+    → TakesMessage front.tag body (record { ledger = a.ledger; call = a.call }) new taken → (taken.fails_copy ≡ true → 57 ≤ a.stream.spare) → (taken.beat ≢ beats.Waits) → Accepts front taken.fails_copy (record a { ledger = new.ledger; call = new.call }) b
+    → TakesBeat (seen_by seen a) (seen_by seen b) taken.beat
+takes_message {A} seen a b new front body rest taken f of takes room goes acc =
+    let t = acc.0 in
+    let fails = taken.fails_copy in
+    let frame = framed front.tag body in
+    let h = b.heard in
+    let spare : t.spare ≡ a.stream.spare = ap (λ (x : StreamOf A). x.spare) (acc.1 frame rest of).0 in
+    let m = taken_moves seen a.stream t front body rest fails f of (λ e. rw spare (room e)) acc.1 in
+    let c : ConnSeen = record (seen_by seen a) { stream = stream_by seen (queued_copy_fail fails t); ledger = new.ledger; call = new.call; heard = h } in
+    subst (λ (x : ConnOf A). TakesBeat (seen_by seen a) (seen_by seen x) taken.beat) (sym acc.2) (
+      spelled (fails_of fails),
+      frame ∷ [],
+      frame ∷ [],
+      record {
+        moves = m.0;
+        hears = heard_one frame (heard_tag front a.stream.held body rest f of);
+        cause = taken_cause (seen_by seen a) c taken.beat goes m.1;
+        broken = refl;
+        counted = acc.3;
+        started = (refl, refl);
+        tells = λ start r said hs items i.
+            let none = no_groups fails in
+            (fails_of fails, refl, rw none (grew-none a.groups), told (seen_by seen a) c start r (said ++ fails_of fails) (hs ++ frame ∷ []) items taken.beat (takes start r said hs items i));
+      },
+    )
+
+-- ---- the last frame is sent
+
+pub farewell_waits : (a : ConnSeen) (t : StreamSeen) → a.call ≡ calls.Closing → PollsSend a.stream t Pending → TakesBeat a (over_stream a t) beats.Waits
+farewell_waits a t k p = stays a (over_stream a t) beats.Waits p.moves (sent_cause a.stream t p.gives) refl refl refl refl refl (λ start r said hs items i. (i, inr k))
+  where
+    sent_cause : (s t : StreamSeen) → SendGives s t Pending → PendingCause s t
+    sent_cause s t (inl w) = inl w
+    sent_cause s t (inr f) = inr (inr f)
+
+pub farewell_fails : (a : ConnSeen) (t : StreamSeen) (e : Error) → a.call ≡ calls.Closing → PollsSend a.stream t (Ready (Err e)) → TakesBeat a (idle (over_stream a t)) (beats.Ends (Err e))
+farewell_fails a t e k p = rw p.gives.0 (stays a (idle (over_stream a t)) (beats.Ends (Err (errors.Io io.Fault))) p.moves tt refl refl refl refl refl (λ start r said hs items i.
+    (refl, inr (leaves_call start r said hs items a.ledger a.call i, call_well start r said hs items a.ledger a.call i, inl (p.gives.1, tt)))))
+
+pub farewell_said : (a : ConnSeen) (t : StreamSeen) (u : Unit {0}) → a.call ≡ calls.Closing → PollsSend a.stream t (Ready (Ok u)) → TakesBeat a (idle (over_stream a t)) (beats.Ends (Ok answers.Unit))
+farewell_said a t u k p = stays a (idle (over_stream a t)) (beats.Ends (Ok answers.Unit)) p.moves tt refl refl refl refl refl (λ start r said hs items i.
+    (refl, closing_fine start r said hs items a.ledger (call_at start r said hs items a.ledger a.call calls.Closing k i), λ c. p.gives.0))
+
+-- ---- a front is accepted, step by step
+
+no_copy_fail : {A : Type 0} (s : StreamOf A) → s ≡ queued_copy_fail false s
+no_copy_fail s =
+    let z : s.spare ≡ s.spare - 0 = omega arith in
+    ap (λ (u : List ℕ). record s { unsent = u }) (sym (append-nil s.unsent)) ∙ ap (λ (n : ℕ). record s { unsent = s.unsent ++ []; spare = n }) z
+
+pub accepts_by : {A : Type 0} (front : Front) (fails : Bool) (a p h b : ConnOf A) → Passes front a.stream p.stream → p ≡ record a { stream = p.stream } → h ≡ record p { heard = h.heard } → GrewBy 1 p.heard h.heard → b ≡ record h { stream = queued_copy_fail fails h.stream }
+    → Accepts front fails a b
+accepts_by {A} front fails a p h b passes pq hq grew bq =
+    let n = h.heard in
+    let t = p.stream in
+    let e : b ≡ record a { stream = queued_copy_fail fails t; heard = n } =
+    bq
+    ∙ ap (λ (x : ConnOf A). record x { stream = queued_copy_fail fails x.stream }) hq
+    ∙ ap (λ (x : ConnOf A). record x { stream = queued_copy_fail fails t; heard = n }) pq in
+    let same : b.heard ≡ n = ap (λ (x : ConnOf A). x.heard) e in
+    let before : p.heard ≡ a.heard = ap (λ (x : ConnOf A). x.heard) pq in (
+      t,
+      passes,
+      e ∙ ap (λ (m : ℕ). record a { stream = queued_copy_fail fails t; heard = m }) (sym same),
+      rw (same, ← before) grew,
+    )
+
+pub accepts_plain : {A : Type 0} (front : Front) (a p h : ConnOf A) → Passes front a.stream p.stream → p ≡ record a { stream = p.stream } → h ≡ record p { heard = h.heard } → GrewBy 1 p.heard h.heard → Accepts front false a h
+accepts_plain {A} front a p h passes pq hq grew = accepts_by front false a p h h passes pq hq grew (ap (λ (s : StreamOf A). record h { stream = s }) (no_copy_fail h.stream))
+
+pub room_after : {A : Type 0} (front : Front) (a p h : ConnOf A) → IsHeardFront a.stream.held front → Passes front a.stream p.stream → h ≡ record p { heard = h.heard } → h.stream.spare ≡ a.stream.spare
+room_after {A} front a p h f passes hq = ap (λ (x : ConnOf A). x.stream.spare) hq ∙ ap (λ (x : StreamOf A). x.spare) (passes f.0 f.1 f.2).0

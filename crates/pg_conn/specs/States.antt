@@ -1,0 +1,65 @@
+-- The states of calls: what is known of the call that runs, and what a poll of it answers.
+use Rattle.std.specs.Prelude.{◌≡◌, Bool, true, List, Option, Some, None, Result, Ok, Err}
+use Rattle.futures.specs.declared.task.Poll.{Poll}
+use Rattle.futures.specs.declared.task.Poll.TheVariants.{Ready, Pending}
+use Rattle.pg_wire.specs.declared.error.Error.{Error}
+use Rattle.pg_stream.specs.Links.{LinkSeen}
+use Rattle.pg_wire.specs.Frame.{Frame}
+use Rattle.pg_wire.specs.Frontend.{FrontendMessage}
+use Rattle.pg_call.specs.declared.kind.Kind.{Kind}
+use Rattle.pg_call.specs.declared.kind.Kind.TheVariants as kinds
+use Rattle.pg_call.specs.declared.answer.CallAnswer.TheVariants as answers
+use Rattle.pg_call.specs.declared.ledger.Ledger.{Ledger}
+use Rattle.pg_call.specs.declared.request.Request.{Request}
+use Rattle.pg_call.specs.declared.answer.CallItem.{CallItem}
+use Rattle.pg_call.specs.declared.answer.Turn.{Turn}
+use Rattle.pg_call.specs.declared.answer.Turn.TheVariants as turns
+use Rattle.pg_call.specs.Requests.{kind_of}
+use Rattle.pg_call.specs.Answers.{TurnFits}
+use Rattle.pg_call.specs.Calls.{CallIs}
+use Rattle.pg_conn.specs.Connections.{ConnOf, seen_by, begun_by, is_over}
+use Rattle.pg_conn.specs.Turns.{PollsCall}
+
+-- a call of this kind runs, which has come where it is by messages queued, frames heard and items shown
+abbrev pub IsCalling : {A : Type 0} → Kind → ConnOf A → Type 0
+IsCalling kind c = (start : Ledger) × (r : Request) × (said : List FrontendMessage) × (hs : List Frame) × (items : List CallItem) × (kind_of r ≡ kind) × CallIs start r said hs items c.ledger c.call
+
+-- the call still runs where it waits or has shown an item
+abbrev pub StaysCalling : {A : Type 0} → Kind → ConnOf A → Turn → Type 0
+StaysCalling kind b (turns.Item item) = IsCalling kind b
+StaysCalling kind b _ = Unit {0}
+
+-- what a poll answers is of the call's kind
+abbrev pub PollFits : {A : Type 0} → Kind → ConnOf A → Poll Turn → Type 0
+PollFits kind b Pending = IsCalling kind b
+PollFits kind b (Ready turn) = TurnFits kind turn × StaysCalling kind b turn
+
+-- a poll's answer as the core's
+abbrev pub turn_of : {X : Type 0} → (X → Turn) → Poll X → Poll Turn
+turn_of f Pending = Pending
+turn_of f (Ready x) = Ready (f x)
+
+-- ---- a close
+
+-- its state is over where the connection was handed out, or where its call has ended
+abbrev pub is_closed : {A : Type 0} → Option Request → Option (ConnOf A) → Bool
+is_closed request None = true
+is_closed request (Some c) = is_over request c.call
+
+-- the call of this connection is the close's
+abbrev pub IsClosing : {A : Type 0} → Option Request → Option (ConnOf A) → Type 0
+IsClosing request None = Unit {0}
+IsClosing request (Some c) = IsCalling kinds.Close (begun_by request c)
+
+abbrev pub closing_turn : {X : Type 0} → Result X Error → Turn
+closing_turn (Ok x) = turns.Ok answers.Unit
+closing_turn (Err e) = turns.Err e
+
+-- what is left of a close: the connection as it stands, or its link alone
+abbrev pub KeepsConn : {A : Type 0} → ConnOf A → Option (ConnOf A) → Poll (Result A Error) → Type 0
+KeepsConn b new (Ready (Ok link)) = (new ≡ None) × (link ≡ b.stream.link)
+KeepsConn b new _ = new ≡ Some b
+
+-- one poll of a close on this connection
+abbrev pub PollsClose : {A : Type 0} → (A → LinkSeen) → ConnOf A → Option (ConnOf A) → Poll (Result A Error) → Type 0
+PollsClose {A} seen a new answer = (b : ConnOf A) × PollsCall (seen_by seen a) (seen_by seen b) (turn_of closing_turn answer) × PollFits kinds.Close b (turn_of closing_turn answer) × KeepsConn b new answer

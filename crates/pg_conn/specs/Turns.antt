@@ -1,0 +1,162 @@
+-- How one poll of a call moves the connection on, whatever the call had done before.
+use Rattle.std.specs.Prelude.{◌≡◌, ℕ, ◌-◌, ◌<◌, ◌⊎◌, ◌==◌, ◌&&◌, Bool, true, false, count_by, List, [], ◌∷◌, ◌++◌, length, Ok, Err, Option, Some, None}
+use Rattle.futures.specs.declared.task.Poll.{Poll}
+use Rattle.futures.specs.declared.task.Poll.TheVariants.{Ready, Pending}
+use Rattle.pg_wire.specs.declared.error.Error.{Error}
+use Rattle.pg_wire.specs.declared.error.Error.TheVariants as errors
+use Rattle.pg_wire.specs.declared.error.IoCause.TheVariants as io
+use Rattle.pg_wire.specs.declared.error.ProtocolFault.TheVariants as protocol
+use Rattle.pg_wire.specs.declared.error.ServerFault.{ServerFault}
+use Rattle.pg_wire.specs.Frame.{Frame, bytes_of, backend_tags, IsWhole}
+use Rattle.pg_wire.specs.Parts.{heard, is_asynchronous}
+use Rattle.pg_wire.specs.Frontend.{FrontendMessage, Query, Sync}
+use Rattle.pg_stream.specs.declared.stream.Front.{Front}
+use Rattle.pg_stream.specs.Streams.{StreamOf, GrewBy, Moves, AllMoved, Passes, PendingCause, HeardCause}
+use Rattle.pg_call.specs.declared.kind.Kind.TheVariants as kinds
+use Rattle.pg_call.specs.declared.ledger.Ledger.{Ledger}
+use Rattle.pg_call.specs.declared.request.Request.{Request}
+use Rattle.pg_call.specs.declared.answer.CallItem.{CallItem}
+use Rattle.pg_call.specs.declared.answer.Turn.{Turn}
+use Rattle.pg_call.specs.declared.answer.Turn.TheVariants as turns
+use Rattle.pg_call.specs.declared.calling.Call.{Call}
+use Rattle.pg_call.specs.declared.calling.Call.TheVariants as calls
+use Rattle.pg_call.specs.declared.calling.Beat.{Beat}
+use Rattle.pg_call.specs.declared.calling.Beat.TheVariants as beats
+use Rattle.pg_call.specs.Requests.{Group, spelled, kind_of, is_flush, IsRefusal}
+use Rattle.pg_call.specs.Drains.{is_error}
+use Rattle.pg_call.specs.Hearing.{fails_of}
+use Rattle.pg_call.specs.Calls.{CallIs, IsAwaiting, Leaves, CallEnds, IsFrontFault}
+use Rattle.pg_conn.specs.Connections.{ConnOf, ConnSeen, idle, begun_with}
+
+-- Query and Sync end a group ("Simple Query", "Extended Query")
+abbrev pub ends_request : FrontendMessage → Bool
+ends_request (Query sql) = true
+ends_request Sync = true
+ends_request _ = false
+
+-- ---- why a call ends by an error
+
+-- an end of the link's bytes is an error only while a reply is owed
+abbrev pub IsMissed : Ledger → Error → Type 0
+IsMissed ledger (errors.Io io.End) = 0 < ledger.owed
+IsMissed ledger _ = Unit {0}
+
+-- the frame at the front, which is no asynchronous message, is refused
+abbrev pub FrontFails : ConnSeen → Ledger → Request → List Group → List Frame → Error → Type 0
+FrontFails b start r own hs e = (front : Frame) × (rest : List ℕ) × IsWhole backend_tags front × (is_asynchronous front ≡ false) × (b.stream.held ≡ bytes_of front ++ rest) × IsFrontFault start r own hs front e
+
+-- the stream fails, memory is wanting, or the front is refused
+abbrev pub FailsBy : ConnSeen → ConnSeen → Ledger → Request → List Group → List Frame → Error → Type 0
+FailsBy a b start r own hs e = (HeardCause a.stream b.stream e × IsMissed b.ledger e) ⊎ FrontFails b start r own hs e
+
+-- the call's own end, or a failure that leaves it as a drop would
+abbrev pub EndsBy : ConnSeen → ConnSeen → Ledger → Request → List FrontendMessage → List Frame → List CallItem → Error → Type 0
+EndsBy a b start r said hs items e = CallEnds start r said hs items b.ledger (Err e)
+    ⊎ ((l : Leaves start r said hs items b.ledger false) × (count_by is_error hs ≡ 0) × FailsBy a b start r l.own hs e)
+
+-- ---- a beat
+
+-- a reply is owed, or the last frame is not sent yet
+abbrev pub IsWaited : ConnSeen → Type 0
+IsWaited c = (0 < c.ledger.owed) ⊎ (c.call ≡ calls.Closing)
+
+-- what a beat says, by all that the call queued, heard and showed before
+abbrev pub Tells : ConnSeen → ConnSeen → Ledger → Request → List FrontendMessage → List Frame → List CallItem → Beat → Type 0
+Tells a b start r said hs items beats.More = CallIs start r said hs items b.ledger b.call
+Tells a b start r said hs items beats.Waits = CallIs start r said hs items b.ledger b.call × IsWaited b
+Tells a b start r said hs items (beats.Yields item) = CallIs start r said hs (items ++ item ∷ []) b.ledger b.call
+Tells a b start r said hs items (beats.Ends (Ok answer)) = (b.call ≡ calls.Idle) × CallEnds start r said hs items b.ledger (Ok answer) × (kind_of r ≡ kinds.Close → b.stream.unsent ≡ [])
+Tells a b start r said hs items (beats.Ends (Err e)) = (b.call ≡ calls.Idle) × EndsBy a b start r said hs items e
+
+abbrev pub BeatCause : ConnSeen → ConnSeen → Beat → Type 0
+BeatCause a b beats.More = AllMoved a.stream b.stream
+BeatCause a b beats.Waits = PendingCause a.stream b.stream
+BeatCause a b _ = Unit {0}
+
+-- the bytes are the spelling of messages that the call queued now, and this is what the beat says of all
+abbrev pub TellsOf : ConnSeen → ConnSeen → Ledger → Request → List FrontendMessage → List Frame → List CallItem → Beat → List ℕ → Type 0
+TellsOf a b start r said hs items beat q = (more : List FrontendMessage) × (spelled more ≡ q) × GrewBy (count_by ends_request more) a.groups b.groups × Tells a b start r (said ++ more) hs items beat
+
+-- A beat queued these bytes and took these frames, of which these were heard. Whatever the call had queued, heard and shown before,
+-- the beat tells of all of it.
+pub record Turns (a b : ConnSeen) (beat : Beat) (q : List ℕ) (fs hs : List Frame) : Type 0 where
+  pub moves : Moves a.stream b.stream q fs
+  pub hears : heard fs ≡ hs
+  pub cause : BeatCause a b beat
+  pub broken : b.broken ≡ a.broken
+  pub counted : GrewBy (length hs) a.heard b.heard
+  pub started : (b.sent ≡ a.sent) × (b.read ≡ a.read)
+  pub tells : (start : Ledger) (r : Request) (said : List FrontendMessage) (hs' : List Frame) (items : List CallItem) → CallIs start r said hs' items a.ledger a.call
+      → TellsOf a b start r said (hs' ++ hs) items beat q
+
+abbrev pub TakesBeat : ConnSeen → ConnSeen → Beat → Type 0
+TakesBeat a b beat = (q : List ℕ) × (fs : List Frame) × (hs : List Frame) × Turns a b beat q fs hs
+
+-- ---- what stands between the steps of a beat
+
+abbrev pub IsAsked : Call → Type 0
+IsAsked (calls.Asked request) = Unit {0}
+IsAsked _ = ⊥
+
+-- what is asked stands as frames
+pub record Prepares (a b : ConnSeen) : Type 0 where
+  pub beat : TakesBeat a b beats.More
+  pub asked : IsAsked b.call → ⊥
+
+abbrev pub Refuses : Call → Error → Type 0
+Refuses (calls.Asked request) e = IsRefusal request e
+Refuses _ e = ⊥
+
+-- behind the last reply that is owed a flush is done
+abbrev pub is_flushed : Ledger → Call → Bool
+is_flushed ledger (calls.Waiting waiting) = is_flush waiting.kind && ledger.owed == 0
+is_flushed ledger _ = false
+
+-- the call awaits a message, or that all is sent
+abbrev pub IsAhead : Ledger → Call → Type 0
+IsAhead ledger calls.Closing = Unit {0}
+IsAhead ledger call = IsAwaiting ledger call
+
+pub record Readies (a b : ConnSeen) : Type 0 where
+  pub beat : TakesBeat a b beats.More
+  pub ahead : IsAhead b.ledger b.call
+
+-- a front was taken, and a CopyFail queued behind it or not
+abbrev pub queued_copy_fail : {A : Type 0} → Bool → StreamOf A → StreamOf A
+queued_copy_fail fails s = record s { unsent = s.unsent ++ spelled (fails_of fails); spare = s.spare - length (spelled (fails_of fails)) }
+
+abbrev pub Accepts : {A : Type 0} → Front → Bool → ConnOf A → ConnOf A → Type 0
+Accepts {A} front fails a b = (t : StreamOf A) × Passes front a.stream t × (b ≡ record a { stream = queued_copy_fail fails t; heard = b.heard }) × GrewBy 1 a.heard b.heard
+
+-- ---- a poll
+
+abbrev pub beat_of_turn : Turn → Beat
+beat_of_turn (turns.Item item) = beats.Yields item
+beat_of_turn (turns.Ok answer) = beats.Ends (Ok answer)
+beat_of_turn (turns.Err e) = beats.Ends (Err e)
+
+-- what a poll answers
+abbrev pub beat_of : Poll Turn → Beat
+beat_of Pending = beats.Waits
+beat_of (Ready turn) = beat_of_turn turn
+
+-- the fault that a beat breaks the connection by
+abbrev pub broken_by : Beat → Option ServerFault
+broken_by (beats.Ends (Err (errors.Protocol (protocol.Server fault)))) = Some fault
+broken_by _ = None
+
+-- one poll of a call, which begins with this connection, or answers at once where the connection is broken
+abbrev pub PollsBy : Option ServerFault → ConnSeen → ConnSeen → ConnSeen → Beat → Type 0
+PollsBy None begun a b beat = TakesBeat begun (record b { broken = None }) beat × (b.broken ≡ broken_by beat)
+PollsBy (Some fault) begun a b beat = (b ≡ idle a) × (beat ≡ beats.Ends (Err (errors.Protocol (protocol.Server fault))))
+
+-- a poll within so many calls of the link
+abbrev pub PollsWithin : ℕ → ConnSeen → ConnSeen → Poll Turn → Type 0
+PollsWithin left a b answer = PollsBy a.broken (begun_with left a) a b (beat_of answer)
+
+abbrev pub PollsCall : ConnSeen → ConnSeen → Poll Turn → Type 0
+PollsCall a b answer = PollsWithin 256 a b answer
+
+-- a poll that goes on with the calls of the link that the last one left
+abbrev pub PollsMore : ConnSeen → ConnSeen → Poll Turn → Type 0
+PollsMore a b answer = PollsBy a.broken a a b (beat_of answer)

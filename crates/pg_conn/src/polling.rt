@@ -1,0 +1,396 @@
+ghost use Rattle.std.specs.Prelude.{◌≡◌, ◌≢◌, ◌-◌, ◌<◌, ◌≤◌, true, false, None, IsSome, OnOk, OnErr, IfErr};
+ghost use Rattle.pg_stream.specs.Streams.{stream_by, fuel_of, GrewBy, IsHeardFront, Passes};
+ghost use Rattle.pg_conn.specs.Connections.{seen_by, idle, begun_with, begun_by, is_over, runs, with_spare, queued_call, awaiting, closing};
+ghost use Rattle.pg_call.specs.Calls.{IsAwaiting};
+ghost use Rattle.pg_call.specs.declared.kind.Kind as declared_kind;
+ghost use Rattle.pg_conn.specs.States.{IsCalling, PollFits};
+ghost use Rattle.pg_conn.specs.Turns.{TakesBeat, Prepares, Readies, Refuses, Accepts, IsAsked, IsAhead, is_flushed, queued_copy_fail, PollsBy, PollsWithin, PollsCall, PollsMore, beat_of, broken_by};
+
+use crate::{PgConnection, Request, Turn};
+use pg_call::{Beat, Call, CallAnswer, Kind, Ledger, Reply, Waiting};
+use pg_stream::{Front, Link};
+use pg_wire::{Blob, Error, Poll, ProtocolFault, ServerFault};
+
+/// The bytes that are kept for the cleanup of a call that has queued a group: it queues two frames of 64 bytes at most.
+const RESERVE: usize = 128;
+
+/// The frame that ends a copy from the client which no one feeds. (PostgreSQL manual, "Message Formats", CopyFail.)
+const COPY_FAIL: [u8; 57] = *b"f\0\0\0\x38PgCopyIn dropped without calling finish() or fail()\0";
+
+// The fault of the server that an error tells: it breaks the connection.
+fn fault_in(error: &Error) -> Option<ServerFault>
+    ensures { result ≡ broken_by (Beat.Ends (Err error.now)) }
+{
+    match error {
+        Error::Protocol(ProtocolFault::Server(fault)) => Some(*fault),
+        _ => None,
+    }
+}
+
+impl<L> PgConnection<L> {
+    // The call ends.
+    fn stop(&mut self, answer: Result<CallAnswer, Error>) -> Beat
+        ensures beat { result ≡ Beat.Ends answer }
+        ensures now { self.new ≡ idle self.old }
+    {
+        self.running.call = Call::Idle;
+        Beat::Ends(answer)
+    }
+
+    // The frames of the call are written, and wait.
+    fn wait(&mut self, kind: Kind, frames: Blob)
+        ensures { self.new ≡ record self.old { call = Call.Waiting (record { kind = kind; frames = frames; is_copy_failed = self.old.ledger.is_copy_failed }) } }
+    {
+        let is_copy_failed = self.running.ledger.is_copy_failed;
+        self.running.call = Call::Waiting(Waiting {
+            kind,
+            frames,
+            is_copy_failed,
+        });
+    }
+
+    // The frames of the call are queued, which end one group.
+    fn await_reply(&mut self, kind: Kind)
+        ensures now { self.new ≡ awaiting kind self.new.groups self.old }
+        ensures groups { GrewBy 1 self.old.groups self.new.groups }
+    {
+        self.running.ledger = Ledger {
+            owed: 1,
+            is_copy_failed: false,
+        };
+        self.running.call = Call::Own(Reply::new(self.alloc, kind));
+        self.groups = self.groups.saturating_add(1);
+    }
+
+    // The last frame of the call is queued, which ends no group.
+    fn await_sent(&mut self)
+        ensures { self.new ≡ closing self.old }
+    {
+        self.running.call = Call::Closing;
+    }
+
+    // Whether nothing is left to do for a flush.
+    fn is_flushed(&self) -> bool
+        ensures { result ≡ is_flushed self.now.ledger self.now.call }
+    {
+        match &self.running.call {
+            Call::Waiting(waiting) => { waiting.kind.is_flush() && self.running.ledger.owed == 0 }
+            Call::Idle | Call::Asked(_) | Call::Own(_) | Call::Closing => false,
+        }
+    }
+
+    // Keeps room for the cleanup of the call, and queues its frames.
+    fn queue(&mut self) -> Result<(), Error>
+        ensures ok { OnOk result (self.new ≡ queued_call self.new.stream.spare self.old) }
+        ensures err { OnErr result (self.new ≡ with_spare self.new.stream.spare self.old) }
+        ensures memory { IfErr result (λ e. e ≡ Error.OutOfMemory) }
+        ensures spare { self.old.stream.spare ≤ self.new.stream.spare }
+        ensures reserve { OnOk result (128 ≤ self.new.stream.spare) }
+    {
+        self.stream.reserve_cleanup(RESERVE)?;
+        if let Call::Waiting(waiting) = &self.running.call {
+            self.stream.queue(&waiting.frames)?;
+        }
+        Ok(())
+    }
+
+    // Makes room for the CopyFail that a copy from the client may want, before the message that begins it is taken.
+    fn make_room(&mut self, front: Front) -> Result<(), Error>
+        ensures now { self.new ≡ with_spare self.new.stream.spare self.old }
+        ensures spare { self.old.stream.spare ≤ self.new.stream.spare }
+        ensures ok { OnOk result (front.tag ≡ 71 → 57 ≤ self.new.stream.spare) }
+        ensures err { IfErr result (λ e. e ≡ Error.OutOfMemory) }
+    {
+        if front.tag == b'G' {
+            self.stream.reserve_cleanup(COPY_FAIL.len())?;
+        }
+        Ok(())
+    }
+
+    // One more message was heard.
+    fn count_heard(&mut self)
+        ensures now { self.new ≡ record self.old { heard = self.new.heard } }
+        ensures heard { GrewBy 1 self.old.heard self.new.heard }
+    {
+        self.heard = self.heard.saturating_add(1);
+    }
+
+    // Queues a CopyFail, for which room was made.
+    fn fail_copy(&mut self)
+        requires { 57 ≤ self.old.stream.spare }
+        ensures { self.new ≡ record self.old { stream = queued_copy_fail true self.old.stream } }
+    {
+        self.stream.queue_cleanup(&COPY_FAIL);
+    }
+
+    // Allows so many calls of the link.
+    fn allow(&mut self, left: u16)
+        requires { left ≤ 256 }
+        ensures { self.new ≡ begun_with left self.old }
+    {
+        self.stream.begin_poll(256 - left);
+    }
+
+    // The message at the front is taken.
+    fn pass(&mut self, front: Front)
+        requires { IsHeardFront self.old.stream.held front }
+        ensures stream { Passes front self.old.stream self.new.stream }
+        ensures now { self.new ≡ record self.old { stream = self.new.stream } }
+    {
+        self.stream.pass(front);
+    }
+
+    // The message at the front is taken, and a CopyFail queued behind it where one is due.
+    fn accept(&mut self, front: Front, fails_copy: bool)
+        requires front { IsHeardFront self.old.stream.held front }
+        requires room { fails_copy ≡ true → 57 ≤ self.old.stream.spare }
+        ensures { Accepts front fails_copy self.old self.new }
+    {
+        self.pass(front);
+        self.count_heard();
+        if fails_copy {
+            self.fail_copy();
+        }
+    }
+}
+
+impl<L: Link> PgConnection<L> {
+    // Writes the frames of what is asked.
+    fn prepare(&mut self) -> Result<(), Error>
+        ensures ok { OnOk result (Prepares (seen_by L.seen self.old) (seen_by L.seen self.new)) }
+        ensures err { IfErr result (λ e. (self.new ≡ self.old) × Refuses self.old.call e) }
+    {
+        let Call::Asked(request) = &self.running.call else {
+            return Ok(());
+        };
+        let frames = request.encode(self.alloc)?;
+        let kind = request.kind();
+        self.wait(kind, frames);
+        Ok(())
+    }
+
+    // Queues the frames once nothing is owed before them.
+    fn ask(&mut self) -> Result<(), Error>
+        requires asked { IsAsked self.old.call → ⊥ }
+        requires flushed { is_flushed self.old.ledger self.old.call ≡ false }
+        ensures ok { OnOk result (Readies (seen_by L.seen self.old) (seen_by L.seen self.new)) }
+        ensures err { OnErr result (self.new ≡ with_spare self.new.stream.spare self.old) }
+        ensures spare { self.old.stream.spare ≤ self.new.stream.spare }
+        ensures memory { IfErr result (λ e. e ≡ Error.OutOfMemory) }
+    {
+        let Call::Waiting(waiting) = &self.running.call else {
+            return Ok(());
+        };
+        if self.running.ledger.owed > 0 {
+            return Ok(());
+        }
+        let kind = waiting.kind;
+        self.queue()?;
+        if kind.is_close() {
+            self.await_sent();
+            return Ok(());
+        }
+        self.await_reply(kind);
+        Ok(())
+    }
+
+    // Takes the message at the front, for which there is room; where it may not come, it stays.
+    fn judge_front(&mut self, front: Front) -> Beat
+        requires awaiting { IsAwaiting self.old.ledger self.old.call }
+        requires front { IsHeardFront self.old.stream.held front }
+        requires room { front.tag ≡ 71 → 57 ≤ self.old.stream.spare }
+        ensures beat { TakesBeat (seen_by L.seen self.old) (seen_by L.seen self.new) result }
+        ensures goes { result ≢ Beat.Waits }
+        ensures falls { result ≡ Beat.More → fuel_of (stream_by L.seen self.new.stream) < fuel_of (stream_by L.seen self.old.stream) }
+    {
+        match self
+            .running
+            .take(self.alloc, front.tag, self.stream.body(front))
+        {
+            Ok(taken) => {
+                self.accept(front, taken.fails_copy);
+                taken.beat
+            }
+            Err(e) => self.stop(Err(e)),
+        }
+    }
+
+    // The same, with the room made. Without memory the message stays.
+    fn take(&mut self, front: Front) -> Beat
+        requires awaiting { IsAwaiting self.old.ledger self.old.call }
+        requires front { IsHeardFront self.old.stream.held front }
+        ensures beat { TakesBeat (seen_by L.seen self.old) (seen_by L.seen self.new) result }
+        ensures falls { result ≡ Beat.More → fuel_of (stream_by L.seen self.new.stream) < fuel_of (stream_by L.seen self.old.stream) }
+    {
+        match self.make_room(front) {
+            Ok(()) => self.judge_front(front),
+            Err(e) => self.stop(Err(e)),
+        }
+    }
+
+    // Takes the next message.
+    fn hear(&mut self) -> Beat
+        requires { IsAwaiting self.old.ledger self.old.call }
+        ensures beat { TakesBeat (seen_by L.seen self.old) (seen_by L.seen self.new) result }
+        ensures falls { result ≡ Beat.More → fuel_of (stream_by L.seen self.new.stream) < fuel_of (stream_by L.seen self.old.stream) }
+    {
+        match self.stream.poll_ahead(self.alloc) {
+            Poll::Pending => Beat::Waits,
+            Poll::Ready(Err(e)) => self.stop(Err(e)),
+            Poll::Ready(Ok(front)) => self.take(front),
+        }
+    }
+
+    // Sends the last frame.
+    fn say_farewell(&mut self) -> Beat
+        requires { self.old.call ≡ Call.Closing }
+        ensures beat { TakesBeat (seen_by L.seen self.old) (seen_by L.seen self.new) result }
+        ensures goes { result ≢ Beat.More }
+    {
+        match self.stream.poll_send() {
+            Poll::Pending => Beat::Waits,
+            Poll::Ready(Err(e)) => self.stop(Err(e)),
+            Poll::Ready(Ok(())) => self.stop(Ok(CallAnswer::Unit)),
+        }
+    }
+
+    // Sends and hears what comes next.
+    fn go_ahead(&mut self) -> Beat
+        requires { IsAhead self.old.ledger self.old.call }
+        ensures beat { TakesBeat (seen_by L.seen self.old) (seen_by L.seen self.new) result }
+        ensures falls { result ≡ Beat.More → fuel_of (stream_by L.seen self.new.stream) < fuel_of (stream_by L.seen self.old.stream) }
+    {
+        match self.running.call {
+            Call::Closing => self.say_farewell(),
+            Call::Idle | Call::Asked(_) | Call::Waiting(_) | Call::Own(_) => self.hear(),
+        }
+    }
+
+    // One step of a call whose frames are written.
+    fn go_on(&mut self) -> Beat
+        requires asked { IsAsked self.old.call → ⊥ }
+        ensures beat { TakesBeat (seen_by L.seen self.old) (seen_by L.seen self.new) result }
+        ensures falls { result ≡ Beat.More → fuel_of (stream_by L.seen self.new.stream) < fuel_of (stream_by L.seen self.old.stream) }
+    {
+        if self.is_flushed() {
+            return self.stop(Ok(CallAnswer::Unit));
+        }
+        match self.ask() {
+            Ok(()) => self.go_ahead(),
+            Err(e) => self.stop(Err(e)),
+        }
+    }
+
+    // One step of the running call.
+    fn turn(&mut self) -> Beat
+        ensures beat { TakesBeat (seen_by L.seen self.old) (seen_by L.seen self.new) result }
+        ensures falls { result ≡ Beat.More → fuel_of (stream_by L.seen self.new.stream) < fuel_of (stream_by L.seen self.old.stream) }
+    {
+        match self.prepare() {
+            Ok(()) => self.go_on(),
+            Err(e) => self.stop(Err(e)),
+        }
+    }
+
+    // Steps until the call waits, shows an item or ends.
+    fn beat(&mut self) -> Beat
+        ensures beat { TakesBeat (seen_by L.seen self.old) (seen_by L.seen self.new) result }
+        ensures ends { result ≢ Beat.More }
+    {
+        loop {
+            match self.turn() {
+                Beat::More => {}
+                beat => return beat,
+            }
+        }
+    }
+}
+
+impl<L: Link> PgConnection<L> {
+    // One poll, which begins with what the connection allows of link calls.
+    fn poll_on(&mut self) -> Poll<Turn>
+        requires { self.old.broken ≡ None }
+        ensures { PollsBy None (seen_by L.seen self.old) (seen_by L.seen self.old) (seen_by L.seen self.new) (beat_of result) }
+    {
+        match self.beat() {
+            Beat::More | Beat::Waits => Poll::Pending,
+            Beat::Yields(item) => Poll::Ready(Turn::Item(item)),
+            Beat::Ends(Ok(answer)) => Poll::Ready(Turn::Ok(answer)),
+            Beat::Ends(Err(e)) => {
+                self.broken = fault_in(&e);
+                Poll::Ready(Turn::Err(e))
+            }
+        }
+    }
+
+    // The answer of every call on a connection that the server broke.
+    fn tell_fault(&mut self, fault: ServerFault) -> Poll<Turn>
+        ensures now { self.new ≡ idle self.old }
+        ensures answer { beat_of result ≡ Beat.Ends (Err (Error.Protocol (ProtocolFault.Server fault))) }
+    {
+        self.running.call = Call::Idle;
+        Poll::Ready(Turn::Err(Error::Protocol(ProtocolFault::Server(fault))))
+    }
+
+    /// Moves the running call on, by at most 256 calls of the link: it first drops what is owed to earlier calls, then sends its
+    /// frames, and takes its own reply. On a connection that the server broke it answers the fault that broke it.
+    pub fn poll_call(&mut self) -> Poll<Turn>
+        requires { runs self.old.call ≡ true }
+        ensures { PollsCall (seen_by L.seen self.old) (seen_by L.seen self.new) result }
+    {
+        match self.broken {
+            Some(fault) => self.tell_fault(fault),
+            None => {
+                self.allow(256);
+                self.poll_on()
+            }
+        }
+    }
+
+    /// The same within so many calls of the link, which it takes off.
+    pub fn poll_call_within(&mut self, left: &mut u16) -> Poll<Turn>
+        requires runs { runs self.old.call ≡ true }
+        requires left { left.old ≤ 256 }
+        ensures polls { PollsWithin left.old (seen_by L.seen self.old) (seen_by L.seen self.new) result }
+        ensures left { left.new ≤ left.old }
+        ensures rest { self.old.broken ≡ None → left.new ≡ self.new.stream.left }
+        ensures kept { IsSome self.old.broken → left.new ≡ left.old }
+    {
+        match self.broken {
+            Some(fault) => self.tell_fault(fault),
+            None => {
+                self.allow(*left);
+                let turn = self.poll_on();
+                *left = self.stream.left();
+                turn
+            }
+        }
+    }
+
+    /// The same within the calls of the link that the last poll left.
+    pub fn poll_more(&mut self) -> Poll<Turn>
+        requires { runs self.old.call ≡ true }
+        ensures { PollsMore (seen_by L.seen self.old) (seen_by L.seen self.new) result }
+    {
+        match self.broken {
+            Some(fault) => self.tell_fault(fault),
+            None => self.poll_on(),
+        }
+    }
+
+    /// The poll of a call's state, which begins the call where this is its first.
+    #[tactic(auto, using(crate::proofs::StateLaws::poll_fits))]
+    pub fn poll_with(&mut self, request: Option<Request>) -> Poll<Turn>
+        requires { is_over request self.old.call ≡ false }
+        ensures polls { PollsCall (seen_by L.seen (begun_by request self.old)) (seen_by L.seen self.new) result }
+        ensures fits { (kind : declared_kind.Kind) → IsCalling kind (begun_by request self.old) → PollFits kind self.new result }
+    {
+        match request {
+            Some(request) => {
+                self.start(request);
+                self.poll_call()
+            }
+            None => self.poll_call(),
+        }
+    }
+}

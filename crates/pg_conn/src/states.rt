@@ -1,0 +1,24 @@
+//! The states of calls. Each but `Close`, which owns it, borrows its connection, does nothing before its first poll, and abandons its call when it is dropped.
+
+mod calling;
+mod close;
+mod execute;
+mod execute_many;
+mod fetch;
+mod fetch_all;
+mod fetch_many;
+mod fetch_one;
+mod fetch_optional;
+mod flush;
+mod ping;
+
+pub use close::Close;
+pub use execute::Execute;
+pub use execute_many::ExecuteMany;
+pub use fetch::Fetch;
+pub use fetch_all::FetchAll;
+pub use fetch_many::FetchMany;
+pub use fetch_one::FetchOne;
+pub use fetch_optional::FetchOptional;
+pub use flush::Flush;
+pub use ping::Ping;

@@ -1,0 +1,496 @@
+-- One more poll of a call that is played.
+use Rattle.std.proofs.Common.{◌≡◌, ◌≢◌, ℕ, ◌+◌, ◌<◌, ◌≤◌, inl, inr, cond, Bool, true, false, List, [], ◌∷◌, ◌++◌, length, map, refl, sym, ap, ◌∙◌, subst, arith, append_assoc, append-nil, Option, Some, None, Ok, Err}
+use Rattle.std.specs.List.{count_by}
+use Rattle.std.proofs.lemmas.List.{map-append, length-append, length-map}
+use Rattle.std.proofs.lemmas.List.Sums.{sum_by-append}
+use Rattle.pg_wire.specs.declared.error.Error.{Error}
+use Rattle.pg_wire.specs.declared.error.Error.TheVariants as errors
+use Rattle.pg_wire.specs.declared.error.IoCause.TheVariants as io
+use Rattle.pg_wire.specs.declared.error.ProtocolFault.TheVariants as protocol
+use Rattle.pg_wire.specs.declared.error.ServerFault.{ServerFault}
+use Rattle.pg_wire.specs.declared.error.ServerFault.TheVariants as faults
+use Rattle.pg_wire.specs.Frame.{Frame, text_of}
+use Rattle.pg_wire.specs.Parts.{heard}
+use Rattle.pg_wire.specs.Frontend.{FrontendMessage, frontend_frame}
+use Rattle.pg_wire.proofs.PartLaws.{heard-append}
+use Rattle.pg_stream.specs.Links.{NoneFalls}
+use Rattle.pg_stream.specs.Streams.{StreamSeen, Moves, Tallies, PendingCause, GrewBy, Sends, Takes, HeardCause}
+use Rattle.pg_stream.proofs.Known.{Appends-then, Appends-refl, NoneFalls-then, NoneFalls-refl}
+use Rattle.pg_stream.proofs.StreamLemmas.{AreFrames-append, text_of-append, Tallies-then, Tallies-none}
+use Rattle.pg_call.specs.declared.request.Request.{Request}
+use Rattle.pg_call.specs.declared.kind.Kind.TheVariants as kinds
+use Rattle.pg_call.specs.declared.answer.CallItem.{CallItem}
+use Rattle.pg_call.specs.declared.answer.CallAnswer.{CallAnswer}
+use Rattle.pg_call.specs.declared.calling.Call.{Call}
+use Rattle.pg_call.specs.declared.calling.Call.TheVariants as calls
+use Rattle.pg_call.specs.declared.calling.Beat.{Beat}
+use Rattle.pg_call.specs.declared.calling.Beat.TheVariants as beats
+use Rattle.pg_call.specs.declared.ledger.Ledger.{Ledger}
+use Rattle.pg_call.specs.Requests.{spelled, kind_of}
+use Rattle.pg_call.specs.Calls.{CallIs, Leaves}
+use Rattle.pg_call.proofs.LeaveLaws.{leaves_call, call_well}
+use Rattle.pg_conn.specs.Connections.{ConnSeen, idle, begun_with, runs}
+use Rattle.pg_conn.specs.Turns.{ends_request, Tells, IsWaited, TakesBeat, BeatCause, PollsBy, broken_by}
+use Rattle.pg_report.specs.declared.outcome.Item.{Item}
+use Rattle.pg_report.specs.declared.outcome.Answer.{Answer}
+use Rattle.pg_report.specs.declared.outcome.End.{End}
+use Rattle.pg_report.specs.declared.outcome.End.TheVariants as ends
+use Rattle.pg_report.specs.declared.outcome.Outcome.{Outcome}
+use Rattle.pg_play.specs.declared.tally.Limits.{Limits}
+use Rattle.pg_play.specs.declared.tally.Tally.{Tally}
+use Rattle.pg_play.specs.Shown.{item_of, items_with, answer_of}
+use Rattle.pg_play.specs.Calls.{Flows, Adds, Finishes, Waited, Went, InPlay, IsPlayingOn, IsPlaying, EndsStarved, IsDropped, broken_after, EndsOn, HasEnded, PollGives, PlaysCall, outcome_of}
+
+-- ---- the stream, over any number of polls
+
+count-append : (t : FrontendMessage → Bool) (xs ys : List FrontendMessage) → count_by t (xs ++ ys) ≡ count_by t xs + count_by t ys
+count-append t xs ys = sum_by-append (λ (y : FrontendMessage). cond (t y) 1 0) xs ys
+
+pub spelled-append : (xs ys : List FrontendMessage) → spelled (xs ++ ys) ≡ spelled xs ++ spelled ys
+spelled-append xs ys = ap text_of (map-append frontend_frame xs ys) ∙ text_of-append (map frontend_frame xs) (map frontend_frame ys)
+
+GrewBy-then : (n m k x y z : ℕ) → GrewBy n x y → GrewBy m y z → k ≡ n + m → GrewBy k x z
+GrewBy-then n m k x y z p q e = (omega (arith, p, q), omega (arith, p, q, e), omega (arith, p, q, e))
+
+sends_then : (a b c : StreamSeen) (x y : List ℕ) → Sends a b x → Sends b c y → Sends a c (x ++ y)
+sends_then a b c x y p q = (
+  p.0 ++ q.0,
+  Appends-then a.link.taken b.link.taken c.link.taken p.0 q.0 p.1 q.1,
+  sym (append_assoc a.unsent x y) ∙ ap (λ (z : List ℕ). z ++ y) p.2 ∙ append_assoc p.0 b.unsent y ∙ ap (λ (z : List ℕ). p.0 ++ z) q.2 ∙ sym (append_assoc p.0 q.0 c.unsent),
+)
+
+takes_then : (a b c : StreamSeen) (x y : List Frame) → Takes a b x → Takes b c y → Takes a c (x ++ y)
+takes_then a b c x y p q = (
+  p.0 ++ q.0,
+  Appends-then a.link.given b.link.given c.link.given p.0 q.0 p.1 q.1,
+  sym (append_assoc a.held p.0 q.0) ∙ ap (λ (z : List ℕ). z ++ q.0) p.2 ∙ append_assoc (text_of x) b.held q.0 ∙ ap (λ (z : List ℕ). text_of x ++ z) q.2
+      ∙ sym (append_assoc (text_of x) (text_of y) c.held) ∙ ap (λ (z : List ℕ). z ++ c.held) (sym (text_of-append x y)),
+  AreFrames-append x y p.3 q.3,
+  GrewBy-then _ _ _ _ _ _ p.4 q.4 (ap (λ (z : List ℕ). length z) (text_of-append x y) ∙ length-append (text_of x) (text_of y)),
+)
+
+pub Flows-then : (a b c : StreamSeen) (s t : List ℕ) (x y : List Frame) → Flows a b s x → Flows b c t y → Flows a c (s ++ t) (x ++ y)
+Flows-then a b c s t x y f g = record {
+  counts = NoneFalls-then a.link b.link c.link f.counts g.counts;
+  sent = sends_then a b c s t f.sent g.sent;
+  read = takes_then a b c x y f.read g.read;
+}
+
+-- the allowance of a poll, and the numbers of a call, are no matter
+pub flows_begun : (a b : StreamSeen) (left : ℕ) (q : List ℕ) (fs : List Frame) → Moves (record a { left = left }) b q fs → Flows a b q fs
+flows_begun a b left q fs m = record { counts = m.counts; sent = m.sent; read = m.read }
+
+pub Flows-none : (a b : StreamSeen) → b.link ≡ a.link → b.unsent ≡ a.unsent → b.held ≡ a.held → b.taken ≡ a.taken → Flows a b [] []
+Flows-none a b l u h t = record {
+  counts = rw l (NoneFalls-refl a.link);
+  sent = ([], rw l (Appends-refl a.link.taken), append-nil a.unsent ∙ sym u);
+  read = ([], rw l (Appends-refl a.link.given), append-nil a.held ∙ sym h, tt, rw t (omega arith, omega arith, omega arith));
+}
+
+-- ---- one poll more
+
+-- a poll that waits has one more cause
+waited_more : (n : ℕ) (a b c : StreamSeen) → NoneFalls b.link c.link → b.waits ≤ c.waits → b.moves ≤ c.moves → Waited n a b → PendingCause (record b { left = 256 }) c → Waited (n + 1) a c
+waited_more n a b c m w v h p = elim p [
+  | inl x ↦ record {
+    write_waits = h.write_waits + 1;
+    read_waits = h.read_waits;
+    spent = h.spent;
+    all = omega (arith, h.all);
+    writes = omega (arith, h.writes, x.0);
+    reads = omega (arith, h.reads, m.read_waits);
+    moved = omega (arith, h.moved, m.moved);
+    waits = omega (arith, h.waits, x.1);
+    moves = omega (arith, h.moves, v);
+  }
+  | inr y ↦ elim y [
+    | inl x ↦ record {
+      write_waits = h.write_waits;
+      read_waits = h.read_waits + 1;
+      spent = h.spent;
+      all = omega (arith, h.all);
+      writes = omega (arith, h.writes, m.write_waits);
+      reads = omega (arith, h.reads, x.0.0);
+      moved = omega (arith, h.moved, m.moved);
+      waits = omega (arith, h.waits, x.0.1);
+      moves = omega (arith, h.moves, v);
+    }
+    | inr x ↦ record {
+      write_waits = h.write_waits;
+      read_waits = h.read_waits;
+      spent = h.spent + 1;
+      all = omega (arith, h.all);
+      writes = omega (arith, h.writes, m.write_waits);
+      reads = omega (arith, h.reads, m.read_waits);
+      moved = omega (arith, h.moved, x.0, x.1.0);
+      waits = omega (arith, h.waits, w);
+      moves = omega (arith, h.moves, x.0, x.1.1);
+    }
+  ]
+]
+
+waited_after : (n : ℕ) (a b c : StreamSeen) → NoneFalls b.link c.link → b.waits ≤ c.waits → b.moves ≤ c.moves → Waited n a b → Waited n a c
+waited_after n a b c m w v h = record {
+  write_waits = h.write_waits;
+  read_waits = h.read_waits;
+  spent = h.spent;
+  all = h.all;
+  writes = omega (arith, h.writes, m.write_waits);
+  reads = omega (arith, h.reads, m.read_waits);
+  moved = omega (arith, h.moved, m.moved);
+  waits = omega (arith, h.waits, w);
+  moves = omega (arith, h.moves, v);
+}
+
+waited_none : (a b : StreamSeen) → a ≡ b → Waited 0 a b
+waited_none a b e = rw (← e) (record { write_waits = 0; read_waits = 0; spent = 0; all = refl; writes = omega arith; reads = omega arith; moved = omega arith; waits = omega arith; moves = omega arith })
+
+-- what the beat of a poll has in common, from the state a in which the call began
+record AfterBeat (a c : ConnSeen) (r : Request) (waits : ℕ) (items : List CallItem) (beat : Beat) (said : List FrontendMessage) (fs : List Frame) : Type 0 where
+  went : Went a c said fs
+  broken : c.broken ≡ broken_by beat
+  tells : Tells a c a.ledger r said (heard fs) items beat
+  waited : Waited waits a.stream c.stream
+  waits_more : beat ≡ beats.Waits → Waited (waits + 1) a.stream c.stream
+  starved : beat ≡ beats.Waits → 0 < c.ledger.owed → EndsStarved a c
+
+heard_cause : (a b c : StreamSeen) (e : Error) → NoneFalls a.link b.link → HeardCause (record b { left = 256 }) c e → HeardCause a c e
+heard_cause a b c errors.OutOfMemory m h = tt
+heard_cause a b c (errors.Io io.Fault) m h = omega (arith, h, m.faults)
+heard_cause a b c (errors.Io io.End) m h = (omega (arith, h.0, m.ends), h.1)
+heard_cause a b c (errors.Protocol (protocol.Server (faults.Malformed tag))) m h = h
+heard_cause a b c (errors.Protocol (protocol.Server fault)) m h = h
+heard_cause a b c _ m h = absurd h
+
+tells_from : (a b c : ConnSeen) (start : Ledger) (r : Request) (said : List FrontendMessage) (hs : List Frame) (items : List CallItem) (beat : Beat) → NoneFalls a.stream.link b.stream.link
+    → Tells (begun_with 256 b) (record c { broken = None }) start r said hs items beat → Tells a c start r said hs items beat
+tells_from a b c start r said hs items beats.More m t = t
+tells_from a b c start r said hs items beats.Waits m t = t
+tells_from a b c start r said hs items (beats.Yields item) m t = t
+tells_from a b c start r said hs items (beats.Ends (Ok answer)) m t = t
+tells_from a b c start r said hs items (beats.Ends (Err e)) m t = (
+  t.0,
+  elim t.1 [
+    | inl ends ↦ inl ends
+    | inr x ↦ inr (
+      x.0,
+      x.1,
+      elim x.2 [
+        | inl y ↦ inl (heard_cause a.stream b.stream c.stream e m y.0, y.1)
+        | inr y ↦ inr y
+      ],
+    )
+  ],
+)
+
+cause_of : (b c : ConnSeen) (beat : Beat) → BeatCause b c beat → beat ≡ beats.Waits → PendingCause b.stream c.stream
+cause_of b c beats.Waits h e = h
+cause_of b c beats.More h e = absurd cc
+cause_of b c (beats.Yields item) h e = absurd cc
+cause_of b c (beats.Ends answer) h e = absurd cc
+
+starved_now : (a b c : ConnSeen) → NoneFalls a.stream.link b.stream.link → a.stream.moves ≤ b.stream.moves → PendingCause (record b.stream { left = 256 }) c.stream → 0 < c.ledger.owed → EndsStarved a c
+starved_now a b c m v p o = elim p [
+  | inl x ↦ inl (omega (arith, x.0, m.write_waits))
+  | inr y ↦ elim y [
+    | inl x ↦ inr (inr (x.1, x.2, o))
+    | inr x ↦ inr (inl (omega (arith, x.0, x.1.1, v)))
+  ]
+]
+
+abbrev AfterSome : ConnSeen → ConnSeen → Request → ℕ → List CallItem → Beat → Type 0
+AfterSome a c r waits items beat = (said : List FrontendMessage) × (fs : List Frame) × AfterBeat a c r waits items beat said fs
+
+tallies_begun : (a b : StreamSeen) → Tallies (record a { left = 256 }) b → Tallies a b
+tallies_begun a b t = record { write_waits = t.write_waits; read_waits = t.read_waits; moved = t.moved; waits = t.waits; moves = t.moves; writes = t.writes; reads = t.reads; moving = t.moving }
+
+went_on : (a b c : ConnSeen) (said more : List FrontendMessage) (q : List ℕ) (fs gs : List Frame) → Went a b said fs → Moves (record b.stream { left = 256 }) c.stream q gs → spelled more ≡ q → GrewBy (count_by ends_request more) b.groups c.groups
+    → GrewBy (length (heard gs)) b.heard c.heard → (c.sent ≡ b.sent) × (c.read ≡ b.read) → Went a c (said ++ more) (fs ++ gs)
+went_on a b c said more q fs gs w m e g h s = record {
+  flows = subst (λ (t : List ℕ). Flows a.stream c.stream t (fs ++ gs)) (ap (λ (t : List ℕ). spelled said ++ t) (sym e) ∙ sym (spelled-append said more)) (Flows-then a.stream b.stream c.stream (spelled said) q fs gs w.flows (flows_begun b.stream c.stream 256 q gs m));
+  tallies = Tallies-then a.stream b.stream c.stream w.tallies (tallies_begun b.stream c.stream m.tallies);
+  groups = GrewBy-then _ _ _ _ _ _ w.groups g (count-append ends_request said more);
+  heard = GrewBy-then _ _ _ _ _ _ w.heard h (ap (λ (t : List Frame). length t) (heard-append fs gs) ∙ length-append (heard fs) (heard gs));
+  started = (s.0 ∙ w.started.0, s.1 ∙ w.started.1);
+}
+
+after_beat : (a b c : ConnSeen) (r : Request) (waits : ℕ) (items : List CallItem) (beat : Beat) (said : List FrontendMessage) (fs : List Frame) → InPlay a b r waits items said fs
+    → TakesBeat (begun_with 256 b) (record c { broken = None }) beat → c.broken ≡ broken_by beat → AfterSome a c r waits items beat
+after_beat a b c r waits items beat said fs i t k =
+    let turns = t.3 in
+    let told = turns.tells a.ledger r said (heard fs) items i.call in
+    let all : heard fs ++ t.2 ≡ heard (fs ++ t.1) = ap (λ (x : List Frame). heard fs ++ x) (sym turns.hears) ∙ sym (heard-append fs t.1) in
+    let m = turns.moves in
+    let grew = subst (λ (x : List Frame). GrewBy (length x) b.heard c.heard) (sym turns.hears) turns.counted in (
+      said ++ told.0,
+      fs ++ t.1,
+      record {
+        went = went_on a b c said told.0 t.0 fs t.1 i.went m told.1 told.2 grew turns.started;
+        broken = k;
+        tells = subst (λ (x : List Frame). Tells a c a.ledger r (said ++ told.0) x items beat) all (tells_from a b c a.ledger r (said ++ told.0) (heard fs ++ t.2) items beat i.went.flows.counts told.3);
+        waited = waited_after waits a.stream b.stream c.stream m.counts m.tallies.waits.0 m.tallies.moves.0 i.waited;
+        waits_more = λ e. waited_more waits a.stream b.stream c.stream m.counts m.tallies.waits.0 m.tallies.moves.0 i.waited (cause_of (begun_with 256 b) (record c { broken = None }) beat turns.cause e);
+        starved = λ e o. starved_now a b c i.went.flows.counts i.went.tallies.moves.0 (cause_of (begun_with 256 b) (record c { broken = None }) beat turns.cause e) o;
+      },
+    )
+
+-- behind a poll, whether or not the connection was broken
+abbrev PlayBeat : Option ServerFault → ℕ → ConnSeen → ConnSeen → Request → ℕ → List Item → Beat → Type 0
+PlayBeat None most a c r waits shown beat = (items : List CallItem) × (shown ≡ map item_of items) × (length shown < most) × AfterSome a c r waits items beat
+PlayBeat (Some fault) most a c r waits shown beat = (c ≡ idle a) × (beat ≡ beats.Ends (Err (errors.Protocol (protocol.Server fault)))) × (shown ≡ [])
+
+play_beat : (o : Option ServerFault) (most : ℕ) (a b c : ConnSeen) (r : Request) (waits : ℕ) (shown : List Item) (beat : Beat) → a.broken ≡ o → IsPlayingOn o most a b r waits shown → PollsBy b.broken (begun_with 256 b) b c beat → PlayBeat o most a c r waits shown beat
+play_beat None most a b c r waits shown beat e i p =
+    let whole = subst (λ (k : Option ServerFault). PollsBy k (begun_with 256 b) b c beat) i.5.broken p in
+    (i.0, i.3, i.4, after_beat a b c r waits i.0 beat i.1 i.2 i.5 whole.0 whole.1)
+play_beat (Some fault) most a b c r waits shown beat e i p =
+    let at_a = subst (λ (d : ConnSeen). PollsBy d.broken (begun_with 256 d) d c beat) i.0 p in
+    let broke = subst (λ (k : Option ServerFault). PollsBy k (begun_with 256 a) a c beat) e at_a in
+    (broke.0, broke.1, i.1)
+
+-- ---- what each beat makes of the call
+
+abbrev IsNoClose : Request → Type 0
+IsNoClose r = kind_of r ≡ kinds.Close → ⊥
+
+waits_owed : (start : Ledger) (r : Request) (said : List FrontendMessage) (hs : List Frame) (items : List CallItem) (c : ConnSeen) (call : Call) → IsNoClose r → c.call ≡ call → CallIs start r said hs items c.ledger call → IsWaited c → 0 < c.ledger.owed
+waits_owed start r said hs items c call n e i (inl o) = o
+waits_owed start r said hs items c calls.Closing n e i (inr k) = absurd (n i.0)
+waits_owed start r said hs items c calls.Idle n e i (inr k) = absurd i
+waits_owed start r said hs items c (calls.Asked asked) n e i (inr k) = let x = sym e ∙ k in absurd cc
+waits_owed start r said hs items c (calls.Waiting w) n e i (inr k) = let x = sym e ∙ k in absurd cc
+waits_owed start r said hs items c (calls.Own reply) n e i (inr k) = let x = sym e ∙ k in absurd cc
+
+more_shown : (shown : List Item) (items : List CallItem) (item : CallItem) → shown ≡ map item_of items → shown ++ item_of item ∷ [] ≡ map item_of (items ++ item ∷ [])
+more_shown shown items item e = ap (λ (x : List Item). x ++ item_of item ∷ []) e ∙ sym (map-append item_of items (item ∷ []))
+
+goes_waits : (o : Option ServerFault) (most : ℕ) (a c : ConnSeen) (r : Request) (waits : ℕ) (shown : List Item) → PlayBeat o most a c r waits shown beats.Waits → IsPlayingOn o most a c r (waits + 1) shown
+goes_waits None most a c r waits shown h =
+    let after = h.3.2 in
+    (h.0, h.3.0, h.3.1, h.1, h.2, record { went = after.went; broken = after.broken; call = after.tells.0; waited = after.waits_more refl })
+goes_waits (Some fault) most a c r waits shown h = let e = h.1 in absurd cc
+
+-- fewer items than so many, and one more
+below_more : (shown : List Item) (item : Item) (most : ℕ) → length shown < most → length (shown ++ item ∷ []) ≢ most → length (shown ++ item ∷ []) < most
+below_more shown item most l n =
+    omega (arith, l, n, length-append shown (item ∷ []))
+
+goes_yields : (o : Option ServerFault) (most : ℕ) (a c : ConnSeen) (r : Request) (waits : ℕ) (shown : List Item) (item : CallItem) → length (shown ++ item_of item ∷ []) ≢ most → PlayBeat o most a c r waits shown (beats.Yields item)
+    → IsPlayingOn o most a c r waits (shown ++ item_of item ∷ [])
+goes_yields None most a c r waits shown item n h =
+    let after = h.3.2 in
+    (h.0 ++ item ∷ [], h.3.0, h.3.1, more_shown shown h.0 item h.1, below_more shown (item_of item) most h.2 n, record { went = after.went; broken = after.broken; call = after.tells; waited = after.waited })
+goes_yields (Some fault) most a c r waits shown item n h = let e = h.1 in absurd cc
+
+-- an end on a connection that was whole
+ended_whole : (limits : Limits) (a c : ConnSeen) (r : Request) (shown : List Item) (end : End) (said : List FrontendMessage) (fs : List Frame) → a.broken ≡ None → Went a c said fs
+    → c.broken ≡ broken_after None end → EndsOn None limits a c r said (heard fs) shown end → HasEnded limits a c r shown end
+ended_whole limits a c r shown end said fs e w k n = (
+  said,
+  fs,
+  record {
+    went = w;
+    broken = subst (λ (o : Option ServerFault). c.broken ≡ broken_after o end) (sym e) k;
+    kept = λ fault h. let x = sym e ∙ h in absurd cc;
+    ends = subst (λ (o : Option ServerFault). EndsOn o limits a c r said (heard fs) shown end) (sym e) n;
+  },
+)
+
+went_none : (a c : ConnSeen) → c ≡ idle a → Went a c [] []
+went_none a c k = rw k (record {
+  flows = Flows-none a.stream a.stream refl refl refl refl;
+  tallies = Tallies-none a.stream a.stream (NoneFalls-refl a.stream.link) refl refl;
+  groups = (omega arith, omega arith, omega arith);
+  heard = (omega arith, omega arith, omega arith);
+  started = (refl, refl);
+})
+
+-- an end on one that was broken
+ended_broken : (limits : Limits) (a c : ConnSeen) (r : Request) (fault : ServerFault) → a.broken ≡ Some fault → c ≡ idle a → HasEnded limits a c r [] (ends.Err (errors.Protocol (protocol.Server fault)))
+ended_broken limits a c r fault e k = (
+  [],
+  [],
+  record {
+    went = went_none a c k;
+    broken = ap (λ (s : ConnSeen). s.broken) k ∙ e ∙ sym (ap (λ (o : Option ServerFault). broken_after o (ends.Err (errors.Protocol (protocol.Server fault)))) e);
+    kept = λ f h. refl;
+    ends = subst (λ (o : Option ServerFault). EndsOn o limits a c r [] [] [] (ends.Err (errors.Protocol (protocol.Server fault)))) (sym e) (refl, refl, refl, refl, ap idle k);
+  },
+)
+
+below_items : (shown : List Item) (items : List CallItem) (most : ℕ) → shown ≡ map item_of items → length shown < most → length items < most
+below_items shown items most e l = omega (arith, l, ap (λ (x : List Item). length x) e, length-map items item_of)
+
+goes_ok : (limits : Limits) (o : Option ServerFault) (a c : ConnSeen) (r : Request) (waits : ℕ) (old new : List Item) (answer : CallAnswer) (told : Answer) → a.broken ≡ o → new ≡ items_with old answer → told ≡ answer_of answer
+    → PlayBeat o limits.most a c r waits old (beats.Ends (Ok answer)) → HasEnded limits a c r new (ends.Ok told)
+goes_ok limits None a c r waits old new answer told e n t h =
+    let after = h.3.2 in
+    ended_whole limits a c r new (ends.Ok told) h.3.0 h.3.1 e after.went after.broken
+    (h.0, answer, n ∙ ap (λ (x : List Item). items_with x answer) h.1, below_items old h.0 limits.most h.1 h.2, t, after.tells.1)
+goes_ok limits (Some fault) a c r waits old new answer told e n t h = let x = h.1 in absurd cc
+
+-- without memory for the items of the answer
+goes_unshown : (limits : Limits) (o : Option ServerFault) (a c : ConnSeen) (r : Request) (waits : ℕ) (old new : List Item) (answer : CallAnswer) (f : Error) → a.broken ≡ o → new ≡ [] → f ≡ errors.OutOfMemory
+    → PlayBeat o limits.most a c r waits old (beats.Ends (Ok answer)) → HasEnded limits a c r new (ends.Err f)
+goes_unshown limits None a c r waits old new answer f e n t h =
+    let after = h.3.2 in
+    rw t (ended_whole limits a c r new (ends.Err errors.OutOfMemory) h.3.0 h.3.1 e after.went after.broken (inr (h.0, n, refl, after.tells.1.0)))
+goes_unshown limits (Some fault) a c r waits old new answer f e n t h = let x = h.1 in absurd cc
+
+broken_same : (e : Error) → broken_by (beats.Ends (Err e)) ≡ broken_after None (ends.Err e)
+broken_same (errors.Protocol (protocol.Server fault)) = refl
+broken_same (errors.Protocol _) = refl
+broken_same _ = refl
+
+same_error : (e e' : Error) → beats.Ends (Err e) ≡ beats.Ends (Err e') → e ≡ e'
+same_error e e' h = cc
+
+goes_err : (limits : Limits) (o : Option ServerFault) (a c : ConnSeen) (r : Request) (waits : ℕ) (shown : List Item) (err : Error) → a.broken ≡ o → PlayBeat o limits.most a c r waits shown (beats.Ends (Err err)) → HasEnded limits a c r shown (ends.Err err)
+goes_err limits None a c r waits shown err e h =
+    let after = h.3.2 in
+    ended_whole limits a c r shown (ends.Err err) h.3.0 h.3.1 e after.went (after.broken ∙ broken_same err) (inl (h.0, h.1, h.2, after.tells.1))
+goes_err limits (Some fault) a c r waits shown err e h = rw (same_error err (errors.Protocol (protocol.Server fault)) h.1, h.2) (ended_broken limits a c r fault e h.0)
+
+-- ---- a call that is given up
+
+drops : (limits : Limits) (o : Option ServerFault) (most : ℕ) (a c : ConnSeen) (r : Request) (waits : ℕ) (items : List CallItem) (shown : List Item) (said : List FrontendMessage) (fs : List Frame) → a.broken ≡ None → shown ≡ map item_of items → InPlay a c r waits items said fs
+    → IsDropped limits a c shown → length shown ≤ limits.most → HasEnded limits a c r shown ends.Dropped
+drops limits o most a c r waits items shown said fs e k i d b =
+    ended_whole limits a c r shown ends.Dropped said fs e i.went i.broken
+    (items, k, leaves_call a.ledger r said (heard fs) items c.ledger c.call i.call, call_well a.ledger r said (heard fs) items c.ledger c.call i.call, d, b)
+
+drops_waiting : (limits : Limits) (o : Option ServerFault) (a c : ConnSeen) (r : Request) (waits : ℕ) (shown : List Item) → IsNoClose r → waits + 1 ≡ limits.polls → a.broken ≡ o → PlayBeat o limits.most a c r waits shown beats.Waits → HasEnded limits a c r shown ends.Dropped
+drops_waiting limits None a c r waits shown n k e h =
+    let after = h.3.2 in
+    let call = after.tells.0 in
+    drops limits None limits.most a c r (waits + 1) h.0 shown h.3.0 h.3.1 e h.1 (record { went = after.went; broken = after.broken; call = call; waited = after.waits_more refl })
+    (inl (subst (λ (m : ℕ). Waited m a.stream c.stream) k (after.waits_more refl), after.starved refl (waits_owed a.ledger r h.3.0 (heard h.3.1) h.0 c c.call n refl call after.tells.1))) (omega (arith, h.2))
+drops_waiting limits (Some fault) a c r waits shown n k e h = let x = h.1 in absurd cc
+
+drops_shown : (limits : Limits) (o : Option ServerFault) (a c : ConnSeen) (r : Request) (waits : ℕ) (old new : List Item) (item : CallItem) → new ≡ old ++ item_of item ∷ [] → length new ≡ limits.most → a.broken ≡ o → PlayBeat o limits.most a c r waits old (beats.Yields item)
+    → HasEnded limits a c r new ends.Dropped
+drops_shown limits None a c r waits old new item k m e h =
+    let after = h.3.2 in
+    drops limits None limits.most a c r waits (h.0 ++ item ∷ []) new h.3.0 h.3.1 e (k ∙ more_shown old h.0 item h.1) (record { went = after.went; broken = after.broken; call = after.tells; waited = after.waited }) (inr m) (omega (arith, m))
+drops_shown limits (Some fault) a c r waits old new item k m e h = let x = h.1 in absurd cc
+
+-- the items before the last one are the first ones
+leaves_fewer : (start : Ledger) (r : Request) (said : List FrontendMessage) (hs : List Frame) (items : List CallItem) (item : CallItem) (ledger : Ledger) → Leaves start r said hs (items ++ item ∷ []) ledger false → Leaves start r said hs items ledger false
+leaves_fewer start r said hs items item ledger l = record {
+  own = l.own;
+  bye = l.bye;
+  reply = l.reply;
+  said_is = l.said_is;
+  counted = l.counted;
+  failed_is = l.failed_is;
+  queued = l.queued;
+  farewells = l.farewells;
+  replied = l.replied;
+  reply_has_frames = l.reply_has_frames;
+  shows = (item ∷ l.shows.0, sym (append_assoc items (item ∷ []) l.shows.0) ∙ l.shows.1);
+  idle = λ e. absurd (some_end items item (l.idle e));
+  rests = l.rests;
+}
+  where
+    some_end : (items : List CallItem) (item : CallItem) → items ++ item ∷ [] ≡ [] → ⊥
+    some_end [] item h = absurd cc
+    some_end (i ∷ is) item h = absurd cc
+
+-- without memory for an item
+goes_unkept : (limits : Limits) (o : Option ServerFault) (a c : ConnSeen) (r : Request) (waits : ℕ) (old new : List Item) (item : CallItem) (f : Error) → new ≡ old → f ≡ errors.OutOfMemory → a.broken ≡ o → PlayBeat o limits.most a c r waits old (beats.Yields item)
+    → HasEnded limits a c r new (ends.Err f)
+goes_unkept limits None a c r waits old new item f k t e h =
+    let after = h.3.2 in
+    let more = leaves_call a.ledger r h.3.0 (heard h.3.1) (h.0 ++ item ∷ []) c.ledger c.call after.tells in
+    rw (k, t) (ended_whole limits a c r old (ends.Err errors.OutOfMemory) h.3.0 h.3.1 e after.went after.broken
+    (inl (h.0, h.1, h.2, inr (leaves_fewer a.ledger r h.3.0 (heard h.3.1) h.0 item c.ledger more, call_well a.ledger r h.3.0 (heard h.3.1) (h.0 ++ item ∷ []) c.ledger c.call after.tells, inl (tt, tt)))))
+goes_unkept limits (Some fault) a c r waits old new item f k t e h = let x = h.1 in absurd cc
+
+-- ---- one poll
+
+pub poll_goes : (limits : Limits) (a b c : ConnSeen) (r : Request) (waits : ℕ) (shown : List Item) → IsPlaying limits.most a b r waits shown → PollsBy b.broken (begun_with 256 b) b c beats.Waits → PollGives limits a c r (waits + 1) shown None
+poll_goes limits a b c r waits shown i p = goes_waits a.broken limits.most a c r waits shown (play_beat a.broken limits.most a b c r waits shown beats.Waits refl i p)
+
+pub poll_drops : (limits : Limits) (a b c : ConnSeen) (r : Request) (waits : ℕ) (shown : List Item) → IsNoClose r → waits + 1 ≡ limits.polls → IsPlaying limits.most a b r waits shown → PollsBy b.broken (begun_with 256 b) b c beats.Waits → PollGives limits a c r (waits + 1) shown (Some ends.Dropped)
+poll_drops limits a b c r waits shown n k i p = drops_waiting limits a.broken a c r waits shown n k refl (play_beat a.broken limits.most a b c r waits shown beats.Waits refl i p)
+
+pub poll_ok : (limits : Limits) (a b c : ConnSeen) (r : Request) (old new : Tally) (answer : CallAnswer) (end : End) → Finishes answer old new end → IsPlaying limits.most a b r old.waits old.items.items → PollsBy b.broken (begun_with 256 b) b c (beats.Ends (Ok answer))
+    → PollGives limits a c r new.waits new.items.items (Some end)
+poll_ok limits a b c r old new answer (ends.Ok told) f i p = goes_ok limits a.broken a c r old.waits old.items.items new.items.items answer told refl f.1 f.2 (play_beat a.broken limits.most a b c r old.waits old.items.items (beats.Ends (Ok answer)) refl i p)
+poll_ok limits a b c r old new answer (ends.Err e) f i p = goes_unshown limits a.broken a c r old.waits old.items.items new.items.items answer e refl f.1 f.2 (play_beat a.broken limits.most a b c r old.waits old.items.items (beats.Ends (Ok answer)) refl i p)
+poll_ok limits a b c r old new answer ends.Dropped f i p = absurd f
+
+pub poll_err : (limits : Limits) (a b c : ConnSeen) (r : Request) (waits : ℕ) (shown : List Item) (e : Error) → IsPlaying limits.most a b r waits shown → PollsBy b.broken (begun_with 256 b) b c (beats.Ends (Err e)) → PollGives limits a c r waits shown (Some (ends.Err e))
+poll_err limits a b c r waits shown e i p = goes_err limits a.broken a c r waits shown e refl (play_beat a.broken limits.most a b c r waits shown (beats.Ends (Err e)) refl i p)
+
+playing_at : (o : Option ServerFault) (most : ℕ) (a c : ConnSeen) (r : Request) (w w' : ℕ) (is is' : List Item) → w' ≡ w → is' ≡ is → IsPlayingOn o most a c r w is → IsPlayingOn o most a c r w' is'
+playing_at o most a c r w w' is is' x y h = subst (λ (n : ℕ). IsPlayingOn o most a c r n is') (sym x) (subst (λ (t : List Item). IsPlayingOn o most a c r w t) (sym y) h)
+
+pub poll_item : (limits : Limits) (a b c : ConnSeen) (r : Request) (old new : Tally) (item : CallItem) (end : Option End) → Adds limits item old new end → IsPlaying limits.most a b r old.waits old.items.items → PollsBy b.broken (begun_with 256 b) b c (beats.Yields item)
+    → PollGives limits a c r new.waits new.items.items end
+poll_item limits a b c r old new item None g i p =
+    playing_at a.broken limits.most a c r old.waits new.waits (old.items.items ++ item_of item ∷ []) new.items.items g.0 g.1
+    (goes_yields a.broken limits.most a c r old.waits old.items.items item (rw g.1 at g.2) (play_beat a.broken limits.most a b c r old.waits old.items.items (beats.Yields item) refl i p))
+poll_item limits a b c r old new item (Some ends.Dropped) g i p = drops_shown limits a.broken a c r old.waits old.items.items new.items.items item g.1 g.2 refl (play_beat a.broken limits.most a b c r old.waits old.items.items (beats.Yields item) refl i p)
+poll_item limits a b c r old new item (Some (ends.Err e)) g i p = goes_unkept limits a.broken a c r old.waits old.items.items new.items.items item e g.1 g.2 refl (play_beat a.broken limits.most a b c r old.waits old.items.items (beats.Yields item) refl i p)
+poll_item limits a b c r old new item (Some (ends.Ok told)) g i p = absurd g
+
+-- ---- the first poll
+
+-- a call that runs can be polled again
+call_runs : (start : Ledger) (r : Request) (said : List FrontendMessage) (hs : List Frame) (items : List CallItem) (ledger : Ledger) (call : Call) → CallIs start r said hs items ledger call → runs call ≡ true
+call_runs start r said hs items ledger (calls.Asked asked) i = refl
+call_runs start r said hs items ledger (calls.Waiting w) i = refl
+call_runs start r said hs items ledger (calls.Own reply) i = refl
+call_runs start r said hs items ledger calls.Closing i = refl
+call_runs start r said hs items ledger calls.Idle i = absurd i
+
+pub playing_runs : (most : ℕ) (a b : ConnSeen) (r : Request) (waits : ℕ) (shown : List Item) → runs a.call ≡ true → IsPlaying most a b r waits shown → runs b.call ≡ true
+playing_runs most a b r waits shown k i = by a.broken i
+  where
+    by : (o : Option ServerFault) → IsPlayingOn o most a b r waits shown → runs b.call ≡ true
+    by None i = call_runs a.ledger r i.1 (heard i.2) i.0 b.ledger b.call i.5.call
+    by (Some fault) i = ap (λ (s : ConnSeen). runs s.call) i.0 ∙ k
+
+pub play_starts : (most : ℕ) (a : ConnSeen) (r : Request) → 0 < most → a.call ≡ calls.Asked r → IsPlaying most a a r 0 []
+play_starts most a r m k = starts_on a.broken refl
+  where
+    starts_on : (o : Option ServerFault) → a.broken ≡ o → IsPlayingOn o most a a r 0 []
+    starts_on None e = (
+      [],
+      [],
+      [],
+      refl,
+      m,
+      record {
+        went = record {
+          flows = Flows-none a.stream a.stream refl refl refl refl;
+          tallies = Tallies-none a.stream a.stream (NoneFalls-refl a.stream.link) refl refl;
+          groups = (omega arith, omega arith, omega arith);
+          heard = (omega arith, omega arith, omega arith);
+          started = (refl, refl);
+        };
+        broken = e;
+        call = subst (λ (c : Call). CallIs a.ledger r [] [] [] a.ledger c) (sym k) (refl, refl, refl, refl, refl);
+        waited = waited_none a.stream a.stream refl;
+      },
+    )
+    starts_on (Some fault) e = (refl, refl)
+
+-- ---- the end
+
+ends_idle : (o : Option ServerFault) (limits : Limits) (a c : ConnSeen) (r : Request) (said : List FrontendMessage) (hs : List Frame) (shown : List Item) (end : End) → EndsOn o limits a c r said hs shown end → EndsOn o limits a (idle c) r said hs shown end
+ends_idle None limits a c r said hs shown (ends.Ok told) h = h
+ends_idle None limits a c r said hs shown (ends.Err e) h = h
+ends_idle None limits a c r said hs shown ends.Dropped h = h
+ends_idle (Some fault) limits a c r said hs shown end h = h
+
+-- the call is given up, or was over
+pub given_up : (limits : Limits) (a c : ConnSeen) (r : Request) (shown : List Item) (end : End) → HasEnded limits a c r shown end → HasEnded limits a (idle c) r shown end
+given_up limits a c r shown end h =
+    let w = h.2.went in
+    (h.0, h.1, record { went = record { flows = w.flows; tallies = w.tallies; groups = w.groups; heard = w.heard; started = w.started }; broken = h.2.broken; kept = h.2.kept; ends = ends_idle a.broken limits a c r h.0 (heard h.1) shown end h.2.ends })
+
+pub plays_call : (limits : Limits) (a c d : ConnSeen) (r : Request) (waits : ℕ) (shown : List Item) (end : End) (out : Outcome) → PollGives limits a c r waits shown (Some end) → d ≡ idle c → out ≡ outcome_of d shown end → PlaysCall limits a d r out
+plays_call limits a c d r waits shown end out g k e =
+    rw (e, k) (given_up limits a c r shown end g, refl, refl)

@@ -1,0 +1,207 @@
+-- A play against a server whose frames are replies.
+use Rattle.std.proofs.Common.{◌≡◌, ℕ, zero, suc, ◌+◌, List, [], ◌∷◌, ◌++◌, map, refl, sym, ap, ◌∙◌, subst, append_assoc, append-nil, Option, Some, None, ◌⊎◌, inl, inr, sum_by, arith}
+use Rattle.std.specs.List.{AllByRecursion}
+use Rattle.std.proofs.lemmas.List.Sums.{sum_by-append}
+use Rattle.pg_stream.specs.Links.{LinkSeen, NoneFalls}
+use Rattle.pg_wire.specs.declared.error.Error.TheVariants as errors
+use Rattle.pg_wire.specs.declared.error.ProtocolFault.TheVariants as protocol
+use Rattle.pg_wire.specs.declared.error.ServerFault.{ServerFault}
+use Rattle.pg_wire.specs.declared.error.ServerFault.TheVariants as faults
+use Rattle.pg_wire.specs.Frame.{Frame, bytes_of, text_of, backend_tags, IsWhole}
+use Rattle.pg_wire.specs.Cut.{Cuts}
+use Rattle.pg_wire.specs.Parts.{heard}
+use Rattle.pg_wire.specs.Frontend.{FrontendMessage, frontend_frame, HasFrontendFrame}
+use Rattle.pg_wire.specs.Server.{IsPrefixOf, MayHear}
+use Rattle.pg_wire.specs.Groups.{IsGroup}
+use Rattle.pg_wire.proofs.PartLaws.{heard-append}
+use Rattle.pg_wire.proofs.CutLaws.{cut_after_taken}
+use Rattle.pg_wire.proofs.RunLaws.{replies_fewer}
+use Rattle.pg_wire.proofs.SentLaws.{replies_answer, hear_fewer}
+use Rattle.pg_wire.proofs.ReplyLaws.{frames_answer}
+use Rattle.pg_call.specs.Requests.{said_in}
+use Rattle.pg_report.specs.declared.outcome.End.{End}
+use Rattle.pg_report.specs.declared.outcome.End.TheVariants as ends
+use Rattle.pg_report.specs.declared.outcome.Outcome.{Outcome}
+use Rattle.pg_script.specs.declared.step.Step.{Step}
+use Rattle.pg_play.specs.Calls.{IsUnpolled, broken_after}
+use Rattle.pg_play.specs.Places.{Place}
+use Rattle.pg_play.specs.Causes.{IsFront, HasCause}
+use Rattle.pg_play.specs.Plays.{Plays_step, Plays_from, AsksForNoCopy, NoneUnlawful, WhereLawful, Totals}
+use Rattle.pg_play.proofs.RepliesLaws.{replies_begin_no_copy, replies_to_all}
+
+-- ---- a place that is broken by an unlawful frame
+
+-- some frame stands in front that is no part of what a server might have sent
+abbrev Refutes : Place → Type 0
+Refutes at = (front : Frame) × IsFront at front × (MayHear (said_in at.groups) (heard at.frames ++ front ∷ []) → ⊥)
+
+abbrev BreaksSo : Place → Type 0
+BreaksSo at = (tag : ℕ) → at.broken ≡ Some (faults.Unlawful tag) → Refutes at
+
+front_of : (at : Place) (step : Step) (out : Outcome) (next : Place) (one : Plays_step at step out next) (tag : ℕ) → at.broken ≡ None → out.end ≡ ends.Err (errors.Protocol (protocol.Server (faults.Unlawful tag))) → Refutes next
+front_of at step out next one tag w e = elim (subst (λ (z : End). HasCause at step out one.own one.slice next z) e one.cause) [
+  | inl kept ↦ absurd (none_kept at.broken (faults.Unlawful tag) w kept)
+  | inr u ↦ (u.front, u.is_front, one.lawful tag u.front w e u.is_front)
+]
+  where
+    none_kept : (o : Option ServerFault) (fault : ServerFault) → o ≡ None → o ≡ Some fault → ⊥
+    none_kept None fault x y = absurd cc
+    none_kept (Some g) fault x y = absurd cc
+
+-- a step on a broken connection keeps it
+keeps_so : (at next : Place) (waits moves : ℕ) → next ≡ record at { seen = record at.seen { waits = waits; moves = moves } } → Refutes at → Refutes next
+keeps_so at next waits moves e r =
+    let f = r.1 in
+    subst Refutes (sym e) (r.0, record { rest = f.rest; whole = f.whole; answers = f.answers; held = f.held }, r.2)
+
+-- the end by which a connection that was whole is broken
+ends_so : (end : End) (fault : ServerFault) → broken_after None end ≡ Some fault → end ≡ ends.Err (errors.Protocol (protocol.Server fault))
+ends_so (ends.Err (errors.Protocol (protocol.Server f))) fault e = let same : f ≡ fault = cc in ap (λ (x : ServerFault). ends.Err (errors.Protocol (protocol.Server x))) same
+ends_so (ends.Err (errors.Protocol _)) fault e = absurd cc
+ends_so (ends.Err _) fault e = absurd cc
+ends_so (ends.Ok told) fault e = absurd cc
+ends_so ends.Dropped fault e = absurd cc
+
+-- a step was polled or not
+polled : (step : Step) → IsUnpolled step ⊎ (IsUnpolled step → ⊥)
+polled step = by step.polls step.most refl refl
+  where
+    by : (p m : ℕ) → step.polls ≡ p → step.most ≡ m → IsUnpolled step ⊎ (IsUnpolled step → ⊥)
+    by zero m e f = inl (inl e)
+    by (suc p) zero e f = inl (inr f)
+    by (suc p) (suc m) e f = inr (λ u. elim u [
+      | inl z ↦ absurd (suc_some p (sym e ∙ z))
+      | inr z ↦ absurd (suc_some m (sym f ∙ z))
+    ])
+      where
+        suc_some : (n : ℕ) → suc n ≡ 0 → ⊥
+        suc_some n e = cc
+
+breaks_on : (at : Place) (step : Step) (out : Outcome) (next : Place) → Plays_step at step out next → BreaksSo at → BreaksSo next
+breaks_on at step out next one so tag e = by at.broken refl
+  where
+    by : (o : Option ServerFault) → at.broken ≡ o → Refutes next
+    by None w = front_of at step out next one tag w (ends_so out.end (faults.Unlawful tag) (sym (ap (λ (x : Option ServerFault). broken_after x out.end) w) ∙ sym one.queued.broken ∙ e))
+    by (Some fault) w =
+        let same : at.broken ≡ Some (faults.Unlawful tag) = w ∙ sym (ap (λ (x : Option ServerFault). broken_after x out.end) w) ∙ sym one.queued.broken ∙ e in
+        elim (polled step) [
+          | inl u ↦ subst Refutes (sym (one.duly.unpolled u).1) (so tag same)
+          | inr n ↦ keeps_so at next next.seen.waits next.seen.moves (one.duly.kept fault w n).2 (so tag same)
+        ]
+
+-- where no place is refuted, no step is told so, and later places are none either
+unlawful_breaks : (at : Place) (step : Step) (out : Outcome) (next : Place) → Plays_step at step out next → (tag : ℕ) → out.end ≡ ends.Err (errors.Protocol (protocol.Server (faults.Unlawful tag))) → next.broken ≡ Some (faults.Unlawful tag)
+unlawful_breaks at step out next one tag e = by at.broken refl
+  where
+    by : (o : Option ServerFault) → at.broken ≡ o → next.broken ≡ Some (faults.Unlawful tag)
+    by None w = one.queued.broken ∙ ap (λ (x : Option ServerFault). broken_after x out.end) w ∙ ap (broken_after None) e
+    by (Some fault) w = elim (polled step) [
+      | inl u ↦ let x = sym e ∙ ap (λ (z : Outcome). z.end) (one.duly.unpolled u).0 in absurd cc
+      | inr n ↦ elim (one.duly.kept fault w n).0 [
+        | inl k ↦ let x = sym e ∙ k in let same : faults.Unlawful tag ≡ fault = cc in one.queued.broken ∙ ap (λ (z : Option ServerFault). broken_after z out.end) w ∙ ap (λ (z : ServerFault). Some z) (sym same)
+        | inr k ↦ let x = sym e ∙ k in absurd cc
+      ]
+    ]
+
+-- what breaks the connection stays
+broken_stays : (fault : ServerFault) (at : Place) (steps : List Step) (outs : List Outcome) (last : Place) → Plays_from at steps outs last → at.broken ≡ Some fault → last.broken ≡ Some fault
+broken_stays fault at [] [] last run w = ap (λ (p : Place). p.broken) run ∙ w
+broken_stays fault at [] (o ∷ outs) last run w = absurd run
+broken_stays fault at (s ∷ steps) [] last run w = absurd run
+broken_stays fault at (s ∷ steps) (o ∷ outs) last run w = broken_stays fault run.0 steps outs last run.2 (run.1.queued.broken ∙ ap (λ (x : Option ServerFault). broken_after x o.end) w)
+
+breaks_all : (at : Place) (steps : List Step) (outs : List Outcome) (last : Place) → Plays_from at steps outs last → BreaksSo at → BreaksSo last
+breaks_all at [] [] last run so = subst BreaksSo (sym run) so
+breaks_all at [] (o ∷ outs) last run so = absurd run
+breaks_all at (s ∷ steps) [] last run so = absurd run
+breaks_all at (s ∷ steps) (o ∷ outs) last run so = breaks_all run.0 steps outs last run.2 (breaks_on at s o run.0 run.1 so)
+
+none_by : (at : Place) (steps : List Step) (outs : List Outcome) (last : Place) → Plays_from at steps outs last → ((tag : ℕ) → last.broken ≡ Some (faults.Unlawful tag) → ⊥) → NoneUnlawful outs
+none_by at [] [] last run n = tt
+none_by at [] (o ∷ outs) last run n = absurd run
+none_by at (s ∷ steps) [] last run n = absurd run
+none_by at (s ∷ steps) (o ∷ outs) last run n = (
+  λ tag e. n tag (broken_stays (faults.Unlawful tag) run.0 steps outs last run.2 (unlawful_breaks at s o run.0 run.1 tag e)),
+  none_by run.0 steps outs last run.2 n,
+)
+
+-- ---- the frame in front is the next one heard
+
+front_heard : (at : Place) (read : List Frame) (rest : List ℕ) (front : Frame) → AllByRecursion (IsWhole backend_tags) at.frames → Cuts backend_tags (text_of at.frames ++ at.seen.held) read rest → IsFront at front → IsPrefixOf (heard at.frames ++ front ∷ []) (heard read)
+front_heard at read rest front w c f =
+    let t = cut_after_taken backend_tags (text_of at.frames ++ at.seen.held) at.seen.held at.frames read rest w refl c in
+    let u = cut_after_taken backend_tags at.seen.held f.rest (front ∷ []) t.0 rest (f.whole, tt) (f.held ∙ ap (λ (x : List ℕ). x ++ f.rest) (sym (append-nil (bytes_of front)))) t.2 in
+    let one : heard (front ∷ u.0) ≡ front ∷ heard u.0 = rw f.answers refl in
+    (heard u.0, append_assoc (heard at.frames) (front ∷ []) (heard u.0) ∙ ap (λ (x : List Frame). heard at.frames ++ x) (sym one ∙ sym (ap heard u.1)) ∙ sym (heard-append at.frames t.0) ∙ sym (ap heard t.1))
+
+taken_heard : (at : Place) (read : List Frame) (rest : List ℕ) → AllByRecursion (IsWhole backend_tags) at.frames → Cuts backend_tags (text_of at.frames ++ at.seen.held) read rest → IsPrefixOf (heard at.frames) (heard read)
+taken_heard at read rest w c =
+    let t = cut_after_taken backend_tags (text_of at.frames ++ at.seen.held) at.seen.held at.frames read rest w refl c in
+    (heard t.0, sym (heard-append at.frames t.0) ∙ sym (ap heard t.1))
+
+no_copy_front : (xs ys : List Frame) → AsksForNoCopy (xs ++ ys) → AsksForNoCopy xs
+no_copy_front [] ys h = tt
+no_copy_front (x ∷ xs) ys h = (h.0, no_copy_front xs ys h.1)
+
+pub where_lawful : (first last : Place) (steps : List Step) (outs : List Outcome) → Plays_from first steps outs last → first.broken ≡ None → AllByRecursion HasFrontendFrame last.said → AllByRecursion IsGroup last.groups → AllByRecursion (IsWhole backend_tags) last.frames
+    → (AsksForNoCopy (heard last.frames) → last.said ≡ said_in last.groups) → WhereLawful last outs
+where_lawful first last steps outs run w can groups whole plain sent read rest p c r =
+    let may = replies_answer last.said sent (heard read) can p r in
+    let taken = taken_heard last read rest whole c in
+    let alone = plain (no_copy_front (heard last.frames) taken.0 (subst AsksForNoCopy (sym taken.1) (replies_begin_no_copy last.said (heard read) may))) in
+    let can_groups = subst (AllByRecursion HasFrontendFrame) alone can in
+    let all = replies_to_all (said_in last.groups) sent (heard read) can_groups (subst (λ (x : List FrontendMessage). IsPrefixOf sent (map frontend_frame x)) alone p) r in
+    let answered = frames_answer last.groups (heard last.frames) groups can_groups (replies_fewer (map frontend_frame (said_in last.groups)) (heard last.frames) (heard read) taken all) in
+    record {
+      plain = alone;
+      answers = record { responses = answered.0; after = answered.1; answers = answered.2; have_frames = answered.3; pieces = answered.4 };
+      none_unlawful = none_by first steps outs last run (λ tag e.
+          let refuted = breaks_all first steps outs last run (λ t x. absurd (whole_first first.broken t w x)) tag e in
+          refuted.2 (hear_fewer (said_in last.groups) _ (heard read) (front_heard last read rest refuted.0 whole c refuted.1) (subst (λ (x : List FrontendMessage). MayHear x (heard read)) alone may)));
+    }
+  where
+    whole_first : (o : Option ServerFault) (tag : ℕ) → o ≡ None → o ≡ Some (faults.Unlawful tag) → ⊥
+    whole_first None tag x y = absurd cc
+    whole_first (Some g) tag x y = absurd cc
+
+-- ---- the numbers of all steps
+
+totals_none : (at : Place) → Totals at.seen.link at.seen.link []
+totals_none at = record { write_waits = 0; read_waits = 0; moves = 0; waits = omega arith; moved = omega arith; writes = omega arith; reads = omega arith; moving = omega arith }
+
+totals_more : (at next last : Place) (step : Step) (out : Outcome) (outs : List Outcome) → Plays_step at step out next → Totals next.seen.link last.seen.link outs → Totals at.seen.link last.seen.link (out ∷ outs)
+totals_more at next last step out outs one t =
+    let n = one.numbers in
+    let waits : sum_by (λ o. o.waits) (out ∷ outs) ≡ out.waits + sum_by (λ o. o.waits) outs = sum_by-append (λ (o : Outcome). o.waits) (out ∷ []) outs ∙ omega arith in
+    let moved : sum_by (λ o. o.moved) (out ∷ outs) ≡ out.moved + sum_by (λ o. o.moved) outs = sum_by-append (λ (o : Outcome). o.moved) (out ∷ []) outs ∙ omega arith in
+    record {
+      write_waits = n.write_waits + t.write_waits;
+      read_waits = n.read_waits + t.read_waits;
+      moves = n.moves + t.moves;
+      waits = omega (arith, waits, n.waits.0, t.waits);
+      moved = omega (arith, moved, n.moved.0, t.moved);
+      writes = omega (arith, n.writes, t.writes);
+      reads = omega (arith, n.reads, t.reads);
+      moving = omega (arith, n.moving, t.moving);
+    }
+
+totals_all : (at : Place) (steps : List Step) (outs : List Outcome) (last : Place) → Plays_from at steps outs last → Totals at.seen.link last.seen.link outs
+totals_all at [] [] last run = subst (λ (p : Place). Totals at.seen.link p.seen.link []) (sym run) (totals_none at)
+totals_all at [] (o ∷ outs) last run = absurd run
+totals_all at (s ∷ steps) [] last run = absurd run
+totals_all at (s ∷ steps) (o ∷ outs) last run = totals_more at run.0 last s o outs run.1 (totals_all run.0 steps outs last run.2)
+
+-- from the link as start-up found it
+pub totals_from : (first : LinkSeen) (at : Place) (steps : List Step) (outs : List Outcome) (last : Place) → NoneFalls first at.seen.link → Plays_from at steps outs last → Totals first last.seen.link outs
+totals_from first at steps outs last n run =
+    let t = totals_all at steps outs last run in
+    record {
+      write_waits = t.write_waits;
+      read_waits = t.read_waits;
+      moves = t.moves;
+      waits = t.waits;
+      moved = t.moved;
+      writes = omega (arith, n.write_waits, t.writes);
+      reads = omega (arith, n.read_waits, t.reads);
+      moving = omega (arith, n.moved, t.moving);
+    }

@@ -1,0 +1,239 @@
+-- Where the connection stands behind a call that was played.
+use Rattle.std.proofs.Common.{◌≡◌, ℕ, zero, suc, ◌+◌, ◌<◌, Bool, true, false, not, ◌&&◌, ◌||◌, ◌==◌, cond, ◌⊎◌, inl, inr, List, [], ◌∷◌, ◌++◌, length, map, refl, sym, ap, ◌∙◌, subst, arith, append-nil, take, replicate, Option, Some, None, Err, MatchBool}
+use Rattle.std.specs.List.{count_by, AllByRecursion, list_any}
+use Rattle.std.proofs.lemmas.List.{length-append}
+use Rattle.std.proofs.lemmas.List.Sums.{sum_by-append}
+use Rattle.std.proofs.lemmas.List.Concat.{flat_map-append}
+use Rattle.pg_wire.specs.declared.error.Error.{Error}
+use Rattle.pg_wire.specs.declared.error.Error.TheVariants as errors
+use Rattle.pg_wire.specs.declared.error.ProtocolFault.TheVariants as protocol
+use Rattle.pg_wire.specs.declared.error.ServerFault.{ServerFault}
+use Rattle.pg_wire.specs.Frame.{Frame}
+use Rattle.pg_wire.specs.Parts.{heard, is_ready, parts}
+use Rattle.pg_wire.specs.Frontend.{FrontendMessage, HasFrontendFrame}
+use Rattle.pg_wire.specs.Backend.{BackendMessage, backend_frame}
+use Rattle.pg_wire.specs.Groups.{IsGroup}
+use Rattle.pg_wire.proofs.PartLaws.{heard-append}
+use Rattle.pg_stream.specs.Streams.{StreamSeen}
+use Rattle.pg_call.specs.declared.request.Request.{Request}
+use Rattle.pg_call.specs.declared.answer.CallItem.{CallItem}
+use Rattle.pg_call.specs.declared.ledger.Ledger.{Ledger}
+use Rattle.pg_call.specs.declared.calling.Call.TheVariants as states
+use Rattle.pg_call.specs.Requests.{Group, said_in, spelled, kind_of, groups_of, messages_of, copy_fail}
+use Rattle.pg_call.specs.Items.{shown}
+use Rattle.pg_call.specs.Drains.{is_copy_in, before_readys, after_readys, drain_fails}
+use Rattle.pg_call.specs.Hearing.{fails_of}
+use Rattle.pg_call.specs.Calls.{CallEnds, owner_failed}
+use Rattle.pg_call.proofs.DrainLaws.{after_nil}
+use Rattle.pg_conn.specs.Connections.{ConnSeen, idle}
+use Rattle.pg_conn.specs.Turns.{FailsBy}
+use Rattle.pg_report.specs.declared.outcome.Item.{Item}
+use Rattle.pg_report.specs.declared.outcome.End.{End}
+use Rattle.pg_report.specs.declared.outcome.End.TheVariants as ends
+use Rattle.pg_script.specs.declared.step.Call.{Call}
+use Rattle.pg_script.specs.declared.step.Call.TheVariants as calls
+use Rattle.pg_play.specs.declared.tally.Limits.{Limits}
+use Rattle.pg_play.specs.Shown.{request_of, item_of}
+use Rattle.pg_play.specs.Calls.{Flows, EndsOn, broken_after}
+use Rattle.pg_play.specs.Places.{Place, readies, ended, owed, drained, is_fine, refuses_copy, unfed, queued_by, failed_next}
+use Rattle.pg_play.specs.Plays.{StandsAt, AsksForNoCopy}
+use Rattle.pg_play.proofs.CallLaws.{Flows-then, spelled-append}
+use Rattle.pg_play.proofs.PartLaws.{after_more, fails_count, fails_none}
+use Rattle.pg_play.proofs.StepLaws.{Summary, QueuedOwn, leaves_summary, fine_summary, no_close}
+
+-- ---- the summary of an end
+
+before_nil : (p : ℕ) → before_readys p [] ≡ []
+before_nil zero = refl
+before_nil (suc n) = refl
+
+and_true : (b : Bool) → b ≡ b && true
+and_true true = refl
+and_true false = refl
+
+nothing_done : (start : Ledger) (r : Request) (said : List FrontendMessage) (hs : List Frame) (ledger : Ledger) → said ≡ [] → hs ≡ [] → ledger ≡ start → Summary start r said hs [] ledger false
+nothing_done start r said hs ledger s h l = record {
+  own = [];
+  reply = [];
+  said_is = rw (s, h, before_nil start.owed) refl;
+  counted = rw (h, l) (omega arith);
+  failed_is = λ o. rw (h, l) (and_true start.is_copy_failed);
+  queued = inl refl;
+  replied = refl;
+  reply_has_frames = tt;
+  shows = (shown (kind_of r) [], refl);
+  rests = λ z. rw h (after_nil (start.owed + 0));
+}
+
+fails_plainly : (a b : ConnSeen) (start : Ledger) (r : Request) (own : List Group) (hs : List Frame) (e : Error) → FailsBy a b start r own hs e → refuses_copy (ends.Err e) ≡ false
+fails_plainly a b start r own hs (errors.Protocol (protocol.Reply tag)) (inl h) = absurd h.0
+fails_plainly a b start r own hs (errors.Protocol (protocol.Reply tag)) (inr h) = absurd h.5
+fails_plainly a b start r own hs (errors.Protocol _) h = refl
+fails_plainly a b start r own hs _ h = refl
+
+-- what is shown without Ok: the items of the summary, or none
+abbrev pub ShowsItems : End → List Item → List CallItem → Type 0
+ShowsItems end shown items = MatchBool (is_fine end) (Unit {0}) ((shown ≡ map item_of items) ⊎ (shown ≡ []))
+
+abbrev pub HasSummary : Ledger → Request → List FrontendMessage → List Frame → Ledger → End → List Item → Type 0
+HasSummary start r said hs ledger end shown = (items : List CallItem) × Summary start r said hs items ledger (refuses_copy end) × ShowsItems end shown items
+
+end_summary : (start : Ledger) (call : Call) (said : List FrontendMessage) (hs : List Frame) (items : List CallItem) (ledger : Ledger) (shown : List Item) (e : Error) → shown ≡ map item_of items → CallEnds start (request_of call) said hs items ledger (Err e)
+    → HasSummary start (request_of call) said hs ledger (ends.Err e) shown
+end_summary start call said hs items ledger shown errors.RowNotFound k h = (items, (fine_summary start call said hs items ledger h.0).0, inl k)
+end_summary start call said hs items ledger shown (errors.Database details) k h = (items, leaves_summary start call said hs items ledger false h.0, inl k)
+end_summary start call said hs items ledger shown (errors.Protocol (protocol.Reply tag)) k h = (items, leaves_summary start call said hs items ledger (tag == 71) h.0.0, inl k)
+end_summary start call said hs items ledger shown (errors.Protocol (protocol.Caller fault)) k h = ([], nothing_done start (request_of call) said hs ledger h.0 h.1 h.3, inr (k ∙ ap (map item_of) h.2))
+end_summary start call said hs items ledger shown (errors.Protocol _) k h = absurd h
+end_summary start call said hs items ledger shown _ k h = absurd h
+
+pub ends_summary : (o : Option ServerFault) (limits : Limits) (a b : ConnSeen) (call : Call) (said : List FrontendMessage) (hs : List Frame) (shown : List Item) (end : End) → EndsOn o limits a b (request_of call) said hs shown end
+    → HasSummary a.ledger (request_of call) said hs b.ledger end shown
+ends_summary None limits a b call said hs shown (ends.Ok told) h = (h.0, (fine_summary a.ledger call said hs h.0 b.ledger h.5.0).0, tt)
+ends_summary None limits a b call said hs shown (ends.Err e) (inl (items, k, l, inl h)) = end_summary a.ledger call said hs items b.ledger shown e k h
+ends_summary None limits a b call said hs shown (ends.Err e) (inl (items, k, l, inr (left, well, fails))) =
+    (items, rw (fails_plainly a b a.ledger (request_of call) left.own hs e fails) (leaves_summary a.ledger call said hs items b.ledger false left), inl k)
+ends_summary None limits a b call said hs shown (ends.Err e) (inr (items, k, z, f)) = rw z (items, (fine_summary a.ledger call said hs items b.ledger f).0, inr k)
+ends_summary None limits a b call said hs shown ends.Dropped h = (h.0, leaves_summary a.ledger call said hs h.0 b.ledger false h.2, inl h.1)
+ends_summary (Some fault) limits a b call said hs shown end h = rw h.0 ([], nothing_done a.ledger (request_of call) said hs b.ledger h.1 h.2 (ap (λ (c : ConnSeen). c.ledger) h.4), inr h.3)
+
+-- ---- what was queued
+
+owed_is : (start : StreamSeen) (at : Place) (a : ConnSeen) → StandsAt start at a → owed at ≡ a.ledger.owed
+owed_is start at a st = omega (arith, st.ledger)
+
+fails_at : (start : StreamSeen) (at : Place) (a : ConnSeen) (hs : List Frame) → StandsAt start at a → drain_fails a.ledger.is_copy_failed (before_readys a.ledger.owed hs) ≡ replicate (unfed at.is_copy_failed (drained at hs)) copy_fail
+fails_at start at a hs st =
+    fails_count a.ledger.is_copy_failed a.ledger.owed hs
+    ∙ ap (λ (k : ℕ). replicate (unfed a.ledger.is_copy_failed (take k (parts hs))) copy_fail) (sym (owed_is start at a st))
+    ∙ by a.ledger.owed refl
+  where
+    by : (p : ℕ) → a.ledger.owed ≡ p → replicate (unfed a.ledger.is_copy_failed (drained at hs)) copy_fail ≡ replicate (unfed at.is_copy_failed (drained at hs)) copy_fail
+    by zero e =
+        let none : drained at hs ≡ [] = ap (λ (k : ℕ). take k (parts hs)) (owed_is start at a st ∙ e) in
+        ap (λ (xss : List (List Frame)). replicate (unfed a.ledger.is_copy_failed xss) copy_fail) none ∙ unfed_none a.ledger.is_copy_failed at.is_copy_failed ∙ ap (λ (xss : List (List Frame)). replicate (unfed at.is_copy_failed xss) copy_fail) (sym none)
+      where
+        unfed_none : (x y : Bool) → replicate (unfed x []) copy_fail ≡ replicate (unfed y []) copy_fail
+        unfed_none true true = refl
+        unfed_none true false = refl
+        unfed_none false true = refl
+        unfed_none false false = refl
+    by (suc n) e = ap (λ (b : Bool). replicate (unfed b (drained at hs)) copy_fail) (st.failed (omega (arith, e)))
+
+pub said_is_queued : (start : StreamSeen) (at : Place) (a : ConnSeen) (r : Request) (said : List FrontendMessage) (hs : List Frame) (items : List CallItem) (ledger : Ledger) (end : End) → StandsAt start at a → (s : Summary a.ledger r said hs items ledger (refuses_copy end))
+    → said ≡ queued_by at s.own hs end
+said_is_queued start at a r said hs items ledger end st s =
+    s.said_is ∙ ap (λ (f : List FrontendMessage). (f ++ said_in s.own) ++ fails_of (refuses_copy end)) (fails_at start at a hs st)
+
+-- ---- the next place
+
+abbrev pub next_place : Place → ConnSeen → List FrontendMessage → List Group → List Frame → End → Place
+next_place at b said own fs end = record { seen = b.stream; said = at.said ++ said; groups = at.groups ++ own; frames = at.frames ++ fs; is_copy_failed = failed_next at own (heard fs) end; broken = broken_after at.broken end }
+
+pub readies-append : (xs ys : List Frame) → readies (xs ++ ys) ≡ readies xs + readies ys
+readies-append xs ys = sum_by-append (λ (y : Frame). cond (is_ready y) 1 0) xs ys
+
+pub ended_next : (at : Place) (fs : List Frame) → readies (heard (at.frames ++ fs)) ≡ ended at + readies (heard fs)
+ended_next at fs = ap readies (heard-append at.frames fs) ∙ readies-append (heard at.frames) (heard fs)
+
+all_both : {A : Type 0} (P : A → Type 0) (xs ys : List A) → AllByRecursion P xs → AllByRecursion P ys → AllByRecursion P (xs ++ ys)
+all_both P [] ys h k = k
+all_both P (x ∷ xs) ys h k = (h.0, all_both P xs ys h.1 k)
+
+all_split : {A : Type 0} (P : A → Type 0) (xs ys : List A) → AllByRecursion P (xs ++ ys) → AllByRecursion P xs × AllByRecursion P ys
+all_split P [] ys h = (tt, h)
+all_split P (x ∷ xs) ys h = let r = all_split P xs ys h.1 in ((h.0, r.0), r.1)
+
+fails_said : (n : ℕ) → AllByRecursion HasFrontendFrame (replicate n copy_fail)
+fails_said zero = tt
+fails_said (suc n) = (copy_fail_said, fails_said n)
+  where
+    copy_fail_said : HasFrontendFrame copy_fail
+    copy_fail_said = search
+
+last_said : (b : Bool) → AllByRecursion HasFrontendFrame (fails_of b)
+last_said true = fails_said 1
+last_said false = tt
+
+own_said : (p : ℕ) (call : Call) (own : List Group) (hs : List Frame) → (own ≡ []) ⊎ QueuedOwn p (request_of call) own hs → AllByRecursion HasFrontendFrame (said_in own)
+own_said p call own hs (inl e) = rw e tt
+own_said p call own hs (inr q) =
+    let all : messages_of (request_of call) ≡ said_in (groups_of (request_of call)) = ap (λ (b : List FrontendMessage). said_in (groups_of (request_of call)) ++ b) (no_close call) ∙ append-nil _ in
+    rw q.own_is (subst (AllByRecursion HasFrontendFrame) all q.can)
+
+groups_asked : (call : Call) → AllByRecursion IsGroup (groups_of (request_of call))
+groups_asked (calls.Execute query) = (inl (query.sql, refl), tt)
+groups_asked (calls.ExecuteMany query) = (inl (query.sql, refl), tt)
+groups_asked (calls.Fetch query) = (inl (query.sql, refl), tt)
+groups_asked (calls.FetchMany query) = (inl (query.sql, refl), tt)
+groups_asked (calls.FetchAll query) = (inl (query.sql, refl), tt)
+groups_asked (calls.FetchOptional query) = (inl (query.sql, refl), tt)
+groups_asked (calls.FetchOne query) = (inl (query.sql, refl), tt)
+groups_asked calls.Ping = (inr ([], tt, refl), tt)
+groups_asked calls.Flush = tt
+
+pub own_groups : (p : ℕ) (call : Call) (own : List Group) (hs : List Frame) → (own ≡ []) ⊎ QueuedOwn p (request_of call) own hs → AllByRecursion IsGroup own
+own_groups p call own hs (inl e) = rw e tt
+own_groups p call own hs (inr q) = rw q.own_is (groups_asked call)
+
+-- a call that was asked to copy heard so
+copied_heard : (hs front : List Frame) (m : BackendMessage) (tag : ℕ) → hs ≡ front ++ backend_frame m ∷ [] → tag ≡ (backend_frame m).tag → AsksForNoCopy hs → tag == 71 ≡ false
+copied_heard hs front m tag e t h =
+    let last = (all_split (λ frame. is_copy_in frame ≡ false) front (backend_frame m ∷ []) (subst AsksForNoCopy e h)).1.0 in
+    ap (λ (n : ℕ). n == 71) t ∙ only ((backend_frame m).tag == 71) last
+  where
+    only : (b : Bool) → b || false ≡ false → b ≡ false
+    only true k = k
+    only false k = refl
+
+end_copies : (start : Ledger) (r : Request) (said : List FrontendMessage) (hs : List Frame) (items : List CallItem) (ledger : Ledger) (e : Error) → CallEnds start r said hs items ledger (Err e) → AsksForNoCopy hs → refuses_copy (ends.Err e) ≡ false
+end_copies start r said hs items ledger (errors.Protocol (protocol.Reply tag)) h n = copied_heard hs h.2.front h.2.last tag h.2.hs_are h.2.tagged n
+end_copies start r said hs items ledger (errors.Protocol _) h n = refl
+end_copies start r said hs items ledger _ h n = refl
+
+pub never_copies : (o : Option ServerFault) (limits : Limits) (a b : ConnSeen) (r : Request) (said : List FrontendMessage) (hs : List Frame) (shown : List Item) (end : End) → EndsOn o limits a b r said hs shown end → AsksForNoCopy hs → refuses_copy end ≡ false
+never_copies None limits a b r said hs shown (ends.Ok told) h n = refl
+never_copies None limits a b r said hs shown (ends.Err e) (inl (items, k, l, inl h)) n = end_copies a.ledger r said hs items b.ledger e h n
+never_copies None limits a b r said hs shown (ends.Err e) (inl (items, k, l, inr (left, well, fails))) n = fails_plainly a b a.ledger r left.own hs e fails
+never_copies None limits a b r said hs shown (ends.Err e) (inr (items, k, z, f)) n = rw z refl
+never_copies None limits a b r said hs shown ends.Dropped h n = refl
+never_copies (Some fault) limits a b r said hs shown end h n = rw h.0 refl
+
+plain_next : (start : StreamSeen) (at : Place) (a : ConnSeen) (r : Request) (said : List FrontendMessage) (fs : List Frame) (items : List CallItem) (ledger : Ledger) (end : End) → StandsAt start at a → (s : Summary a.ledger r said (heard fs) items ledger (refuses_copy end))
+    → (AsksForNoCopy (heard fs) → refuses_copy end ≡ false) → AsksForNoCopy (heard (at.frames ++ fs)) → at.said ++ said ≡ said_in (at.groups ++ s.own)
+plain_next start at a r said fs items ledger end st s never h =
+    let both = all_split (λ frame. is_copy_in frame ≡ false) (heard at.frames) (heard fs) (subst AsksForNoCopy (heard-append at.frames fs) h) in
+    let fails = fails_none a.ledger.is_copy_failed a.ledger.owed (heard fs) both.1 in
+    let alone : said ≡ said_in s.own = s.said_is ∙ ap (λ (f : List FrontendMessage). (f ++ said_in s.own) ++ fails_of (refuses_copy end)) fails ∙ ap (λ (b : Bool). said_in s.own ++ fails_of b) (never both.1) ∙ append-nil (said_in s.own) in
+    ap (λ (x : List FrontendMessage). x ++ said) (st.plain both.0) ∙ ap (λ (x : List FrontendMessage). said_in at.groups ++ x) alone ∙ sym (flat_map-append (λ g. g) at.groups s.own)
+
+failed_here : (start : StreamSeen) (at : Place) (a : ConnSeen) (own : List Group) (hs : List Frame) (end : End) (ledger : Ledger) → StandsAt start at a → count_by is_ready hs + ledger.owed ≡ a.ledger.owed + length own → 0 < ledger.owed
+    → ledger.is_copy_failed ≡ owner_failed a.ledger hs own (refuses_copy end) → ledger.is_copy_failed ≡ failed_next at own hs end
+failed_here start at a [] hs end ledger st c o f = f ∙ ap (λ (b : Bool). b && not (list_any is_ready hs)) (st.failed (omega (arith, c, o)))
+failed_here start at a (g ∷ gs) hs end ledger st c o f = f
+
+between_next : (start : StreamSeen) (at : Place) (a : ConnSeen) (own : List Group) (fs : List Frame) → StandsAt start at a → after_readys (length (at.groups ++ own)) (heard (at.frames ++ fs)) ≡ after_readys (a.ledger.owed + length own) (heard fs)
+between_next start at a own fs st =
+    ap (after_readys (length (at.groups ++ own))) (heard-append at.frames fs)
+    ∙ after_more (heard at.frames) (heard fs) (length (at.groups ++ own)) (a.ledger.owed + length own) (omega (arith, st.ledger, length-append at.groups own))
+    (λ z. let n : length (at.groups ++ own) ≡ length at.groups = omega (arith, z, length-append at.groups own) in ap (λ (k : ℕ). after_readys k (heard at.frames)) n ∙ st.between (omega (arith, z)))
+
+-- the numbers of the last call are no matter
+pub flows_from : (start s t : StreamSeen) (q : List ℕ) (fs : List Frame) → s ≡ t → Flows start s q fs → Flows start t q fs
+flows_from start s t q fs e f = subst (λ (x : StreamSeen). Flows start x q fs) e f
+
+pub stands_next : (start : StreamSeen) (at : Place) (a b : ConnSeen) (call : Call) (said : List FrontendMessage) (fs : List Frame) (items : List CallItem) (end : End) → StandsAt start at a → (s : Summary a.ledger (request_of call) said (heard fs) items b.ledger (refuses_copy end))
+    → Flows a.stream b.stream (spelled said) fs → b.broken ≡ broken_after a.broken end → b.call ≡ states.Idle → (AsksForNoCopy (heard fs) → refuses_copy end ≡ false) → StandsAt start (next_place at b said s.own fs end) b
+stands_next start at a b call said fs items end st s flows broken idle never = record {
+  flows = subst (λ (q : List ℕ). Flows start b.stream q (at.frames ++ fs)) (sym (spelled-append at.said said)) (Flows-then start a.stream b.stream (spelled at.said) (spelled said) at.frames fs st.flows flows);
+  ledger = omega (arith, st.ledger, s.counted, ended_next at fs, length-append at.groups s.own);
+  failed = λ o. failed_here start at a s.own (heard fs) end b.ledger st s.counted o (s.failed_is o);
+  broken = broken ∙ ap (λ (o : Option ServerFault). broken_after o end) st.broken;
+  seen = refl;
+  idle = idle;
+  sayable = all_both HasFrontendFrame at.said said st.sayable (subst (AllByRecursion HasFrontendFrame) (sym (said_is_queued start at a (request_of call) said (heard fs) items b.ledger end st s))
+      (all_both HasFrontendFrame _ _ (all_both HasFrontendFrame _ _ (fails_said (unfed at.is_copy_failed (drained at (heard fs)))) (own_said a.ledger.owed call s.own (heard fs) s.queued)) (last_said (refuses_copy end))));
+  are_groups = all_both IsGroup at.groups s.own st.are_groups (own_groups a.ledger.owed call s.own (heard fs) s.queued);
+  between = λ z. between_next start at a s.own fs st ∙ s.rests z;
+  plain = plain_next start at a (request_of call) said fs items b.ledger end st s never;
+}

@@ -1,0 +1,364 @@
+-- A step, steps one after another, and the bytes of a link that tells them.
+use Rattle.std.proofs.Common.{◌≡◌, ◌≢◌, ℕ, zero, suc, ◌^◌, ◌≤◌, ◌<◌, Bool, true, false, ◌&&◌, cond, ◌⊎◌, inl, inr, List, [], ◌∷◌, ◌++◌, length, map, take, replicate, refl, sym, ap, ◌∙◌, subst, arith, append_assoc, append-nil, Option, Some, None}
+use Rattle.std.specs.List.{count_by, AllByRecursion}
+use Rattle.std.specs.Io.KnownBytes.{Appends}
+use Rattle.std.proofs.lemmas.List.{length-map}
+use Rattle.pg_wire.specs.declared.error.Error.TheVariants as errors
+use Rattle.pg_wire.specs.declared.error.ServerFault.{ServerFault}
+use Rattle.pg_wire.specs.declared.error.ServerFault.TheVariants as faults
+use Rattle.pg_wire.specs.Frame.{Frame, text_of, backend_tags}
+use Rattle.pg_wire.specs.Parts.{heard, is_ready}
+use Rattle.pg_wire.specs.Frontend.{FrontendMessage}
+use Rattle.pg_wire.specs.Groups.{IsGroup}
+use Rattle.pg_wire.specs.Server.{MayHear}
+use Rattle.pg_wire.proofs.PartLaws.{heard-append}
+use Rattle.pg_wire.proofs.CutLaws.{frame_unique, cut_after_taken}
+use Rattle.pg_stream.specs.Links.{LinkSeen}
+use Rattle.pg_stream.specs.Streams.{StreamSeen, fresh_stream}
+use Rattle.pg_stream.proofs.StreamLemmas.{text_of-append}
+use Rattle.pg_call.specs.declared.request.Request.{Request}
+use Rattle.pg_call.specs.declared.answer.CallItem.{CallItem}
+use Rattle.pg_call.specs.Requests.{Group, said_in, spelled, groups_of, copy_fail}
+use Rattle.pg_call.specs.Items.{items_of}
+use Rattle.pg_call.specs.Drains.{after_readys}
+use Rattle.pg_conn.specs.Connections.{ConnSeen, idle, started_call}
+use Rattle.pg_report.specs.declared.outcome.Item.{Item}
+use Rattle.pg_report.specs.declared.outcome.End.{End}
+use Rattle.pg_report.specs.declared.outcome.End.TheVariants as ends
+use Rattle.pg_report.specs.declared.outcome.Outcome.{Outcome}
+use Rattle.pg_report.specs.declared.outcome.Started.{Started}
+use Rattle.pg_script.specs.declared.step.Step.{Step}
+use Rattle.pg_play.specs.declared.tally.Limits.{Limits}
+use Rattle.pg_play.specs.Shown.{request_of, shown_by, waits_to_show, item_of}
+use Rattle.pg_play.specs.Calls.{EndsOn, Ended, PlaysCall, PlaysStep, IsUnpolled, limits_of, untouched, broken_after}
+use Rattle.pg_play.specs.Places.{Place, owed, drained, unfed, queued_by, main_frames, refuses_copy, Queues, first_place}
+use Rattle.pg_play.specs.Told.{Numbers, CountsTo, WellAtOk}
+use Rattle.pg_play.specs.Causes.{IsFront, IsUnlawful, HasCause, EndsDuly}
+use Rattle.pg_play.specs.Plays.{IsNeverUnlawful, Plays_step, Plays_from, StandsAt, PlaysOn, Begins, TellsBytes, Plays, Totals}
+use Rattle.pg_play.proofs.CallLaws.{Flows-then, Flows-none}
+use Rattle.pg_play.proofs.PartLaws.{after_more}
+use Rattle.pg_play.proofs.StepLaws.{Summary}
+use Rattle.pg_play.proofs.PlaceLaws.{ends_summary, next_place, stands_next, never_copies, own_groups}
+use Rattle.pg_play.proofs.ToldLaws.{main_after, queued_one, queued_step, numbers_step, told_step}
+use Rattle.pg_play.proofs.CauseLaws.{cause_step}
+use Rattle.pg_play.proofs.LawfulLaws.{lawful_begins}
+use Rattle.pg_play.proofs.LinkLaws.{where_lawful, totals_from}
+use Rattle.pg_play.proofs.ShownLaws.{no_items_come}
+
+-- ---- a lawful server
+
+unlawful_begins : (start : StreamSeen) (at : Place) (a b : ConnSeen) (step : Step) (said : List FrontendMessage) (fs : List Frame) (items : List CallItem) (copied : Bool) (end : End) (tag : ℕ) (front : Frame) → StandsAt start at a
+    → (s : Summary a.ledger (request_of step.call) said (heard fs) items b.ledger copied) → IsUnlawful at s.own (heard fs) (next_place at b said s.own fs end) tag → IsFront (next_place at b said s.own fs end) front
+    → MayHear (said_in (at.groups ++ s.own)) (heard (at.frames ++ fs) ++ front ∷ []) → ⊥
+unlawful_begins start at a b step said fs items copied end tag front st s u f l =
+    let one : length s.own ≡ 1 = ap (λ (g : List Group). length g) u.last in
+    let q = queued_one a.ledger.owed (request_of step.call) s.own (heard fs) s.queued one in
+    let group = subst (AllByRecursion IsGroup) u.last (own_groups a.ledger.owed step.call s.own (heard fs) s.queued) in
+    let same = frame_unique backend_tags front u.front f.rest u.is_front.rest f.whole u.is_front.whole (sym f.held ∙ u.is_front.held) in
+    let l' = subst (λ (x : Frame). MayHear (said_in (at.groups ++ s.own)) (heard (at.frames ++ fs) ++ x ∷ [])) same.0 l in
+    let behind : after_readys (length at.groups) (heard (at.frames ++ fs)) ≡ main_frames at s.own (heard fs) =
+    ap (after_readys (length at.groups)) (heard-append at.frames fs) ∙ after_more (heard at.frames) (heard fs) (length at.groups) a.ledger.owed st.ledger st.between ∙ sym (main_after start at a (request_of step.call) s.own (heard fs) st q) in
+    u.none (lawful_begins at.groups s.own u.group (heard (at.frames ++ fs)) (main_frames at s.own (heard fs)) u.front st.are_groups group.0 u.last l' u.in_own behind)
+
+never_unlawful : (start : StreamSeen) (at : Place) (a b : ConnSeen) (step : Step) (out : Outcome) (said : List FrontendMessage) (fs : List Frame) (items : List CallItem) (copied : Bool) → StandsAt start at a
+    → (s : Summary a.ledger (request_of step.call) said (heard fs) items b.ledger copied) → HasCause at step out s.own (heard fs) (next_place at b said s.own fs out.end) out.end → IsNeverUnlawful at out (next_place at b said s.own fs out.end)
+never_unlawful start at a b step out said fs items copied st s c tag front w e f l =
+    elim (subst (λ (z : End). HasCause at step out s.own (heard fs) (next_place at b said s.own fs out.end) z) e c) [
+      | inl kept ↦ none_kept at.broken (faults.Unlawful tag) w kept
+      | inr shown ↦ unlawful_begins start at a b step said fs items copied out.end tag front st s shown f l
+    ]
+  where
+    none_kept : (o : Option ServerFault) (fault : ServerFault) → o ≡ None → o ≡ Some fault → ⊥
+    none_kept None fault x y = absurd cc
+    none_kept (Some g) fault x y = absurd cc
+
+-- ---- ends that are due
+
+abbrev WithinMost : End → List Item → ℕ → Type 0
+WithinMost end shown most = (end ≢ ends.Dropped → length shown < most) × (length shown ≤ most)
+
+within_none : (end : End) (shown : List Item) (most : ℕ) → shown ≡ [] → 0 < most → WithinMost end shown most
+within_none end shown most e m = let z : length shown ≡ 0 = ap (λ (x : List Item). length x) e in (λ n. omega (arith, z, m), omega (arith, z))
+
+most_by : (o : Option ServerFault) (limits : Limits) (a b : ConnSeen) (step : Step) (said : List FrontendMessage) (hs : List Frame) (shown : List Item) (end : End) → waits_to_show step.call ≡ false → 0 < limits.most → EndsOn o limits a b (request_of step.call) said hs shown end
+    → WithinMost end shown limits.most
+most_by None limits a b step said hs shown (ends.Ok told) w m h =
+    let plain = h.2 ∙ no_items_come step.call (items_of h.5.0.reply) h.1 (map item_of h.0) w h.5.1 in
+    let size : length shown ≡ length h.0 = ap (λ (x : List Item). length x) plain ∙ length-map h.0 item_of in
+    (λ n. omega (arith, size, h.3), omega (arith, size, h.3))
+most_by None limits a b step said hs shown (ends.Err e) w m (inl (items, k, l, h)) = (λ n. l, omega (arith, l))
+most_by None limits a b step said hs shown (ends.Err e) w m (inr (items, k, z, f)) = within_none (ends.Err e) shown limits.most k m
+most_by None limits a b step said hs shown ends.Dropped w m h = (λ n. absurd (n refl), h.5)
+most_by (Some fault) limits a b step said hs shown end w m h = within_none end shown limits.most h.3 m
+
+same_place : (at : Place) (seen : StreamSeen) (said : List FrontendMessage) (groups : List Group) (frames : List Frame) (failed : Bool) (broken : Option ServerFault) (seen' : StreamSeen)
+    → seen ≡ seen' → said ≡ at.said → groups ≡ at.groups → frames ≡ at.frames → failed ≡ at.is_copy_failed → broken ≡ at.broken
+    → record { seen = seen; said = said; groups = groups; frames = frames; is_copy_failed = failed; broken = broken } ≡ record at { seen = seen' }
+same_place at seen said groups frames failed broken seen' a b c d e f = rw (a, b, c, d, e, f) refl
+
+and_true : (b : Bool) → b && true ≡ b
+and_true true = refl
+and_true false = refl
+
+-- what a step on a broken connection leaves
+kept_place : (start : StreamSeen) (at : Place) (a b : ConnSeen) (step : Step) (said : List FrontendMessage) (own : List Group) (fs : List Frame) (end : End) (fault : ServerFault) → StandsAt start at a → at.broken ≡ Some fault → said ≡ [] → own ≡ [] → fs ≡ [] → idle b ≡ idle (started_call (request_of step.call) a)
+    → next_place at b said own fs end ≡ record at { seen = record at.seen { waits = b.stream.waits; moves = b.stream.moves } }
+kept_place start at a b step said own fs end fault st w s o f i =
+    rw (o, f, s) (same_place at b.stream (at.said ++ []) (at.groups ++ []) (at.frames ++ []) (at.is_copy_failed && true) (broken_after at.broken end) (record at.seen { waits = b.stream.waits; moves = b.stream.moves })
+    seen (append-nil at.said) (append-nil at.groups) (append-nil at.frames) (and_true at.is_copy_failed) (still at.broken w))
+  where
+    stream : b.stream ≡ record a.stream { waits = 0; moves = 0 }
+    stream = ap (λ (c : ConnSeen). c.stream) i
+
+    seen : b.stream ≡ record at.seen { waits = b.stream.waits; moves = b.stream.moves }
+    seen = rw (stream, st.seen) refl
+
+    still : (o : Option ServerFault) → o ≡ Some fault → broken_after o end ≡ o
+    still None e = absurd cc
+    still (Some g) e = refl
+
+no_group : (gs : List Group) → length gs ≡ 0 → gs ≡ []
+no_group [] k = refl
+no_group (g ∷ gs) k = absurd (omega (arith, k))
+
+kept_own : (a b : ConnSeen) (r : Request) (said : List FrontendMessage) (hs : List Frame) (items : List CallItem) (copied : Bool) → (s : Summary a.ledger r said hs items b.ledger copied) → hs ≡ [] → b.ledger.owed ≡ a.ledger.owed → s.own ≡ []
+kept_own a b r said hs items copied s e o = no_group s.own (omega (arith, s.counted, o, ap (λ (x : List Frame). count_by is_ready x) e))
+
+polled_most : (step : Step) → (IsUnpolled step → ⊥) → 0 < step.most
+polled_most step n = by step.most refl
+  where
+    by : (m : ℕ) → step.most ≡ m → 0 < m
+    by zero e = absurd (n (inr e))
+    by (suc m) e = omega arith
+
+duly_step : (start : StreamSeen) (at : Place) (a b : ConnSeen) (step : Step) (out : Outcome) (said : List FrontendMessage) (fs : List Frame) (items : List CallItem) → StandsAt start at a → (IsUnpolled step → ⊥) → Ended (limits_of step) (started_call (request_of step.call) a) b (request_of step.call) out.items out.end said fs
+    → (s : Summary a.ledger (request_of step.call) said (heard fs) items b.ledger (refuses_copy out.end)) → EndsDuly at step out (next_place at b said s.own fs out.end)
+duly_step start at a b step out said fs items st n e s = record {
+  unpolled = λ u. absurd (n u);
+  kept = λ fault w m.
+      let broken : a.broken ≡ Some fault = st.broken ∙ w in
+      let k = subst (λ (o : Option ServerFault). EndsOn o (limits_of step) (started_call (request_of step.call) a) b (request_of step.call) said (heard fs) out.items out.end) broken e.ends in
+      let own = kept_own a b (request_of step.call) said (heard fs) items (refuses_copy out.end) s k.2 (ap (λ (c : ConnSeen). c.ledger.owed) k.4) in
+      (inl k.0, k.3, kept_place start at a b step said s.own fs out.end fault st w k.1 own (e.kept fault broken) k.4);
+  most = λ w. most_by a.broken (limits_of step) (started_call (request_of step.call) a) b step said (heard fs) out.items out.end w (polled_most step n) e.ends;
+}
+
+-- ---- one step
+
+polled_step : (start : StreamSeen) (at : Place) (a b : ConnSeen) (step : Step) (out : Outcome) → StandsAt start at a → (IsUnpolled step → ⊥) → step.polls < 2 ^ 32 → PlaysCall (limits_of step) (started_call (request_of step.call) a) b (request_of step.call) out
+    → (next : Place) × Plays_step at step out next × StandsAt start next b
+polled_step start at a b step out st n p h =
+    let said = h.0.0 in
+    let fs = h.0.1 in
+    let e = h.0.2 in
+    let begun = started_call (request_of step.call) a in
+    let found = ends_summary a.broken (limits_of step) begun b step.call said (heard fs) out.items out.end e.ends in
+    let s = found.1 in
+    let at_place = subst (λ (o : Option ServerFault). EndsOn o (limits_of step) begun b (request_of step.call) said (heard fs) out.items out.end) st.broken e.ends in
+    let cause = subst (λ (x : Outcome). HasCause at step x s.own (heard fs) (next_place at b said s.own fs out.end) out.end) (sym h.1) (cause_step at.broken start at a b step said fs out.items out.end found.0 st refl p at_place s) in
+    let went = e.went in (
+      next_place at b said s.own fs out.end,
+      record {
+        own = s.own;
+        slice = heard fs;
+        queued = queued_step a.broken (limits_of step) start at a b step out said fs out.items found.0 st e.ends s;
+        told = told_step a.broken (limits_of step) start at a b step out said fs found.0 st e.ends s found.2;
+        numbers = subst (λ (x : Outcome). Numbers at x s.own (heard fs) (next_place at b said s.own fs out.end)) (sym h.1) (numbers_step start at a b step.call said fs out.items out.end found.0 st went s);
+        cause = cause;
+        duly = duly_step start at a b step out said fs found.0 st n e s;
+        lawful = never_unlawful start at a b step out said fs found.0 (refuses_copy out.end) st s cause;
+      },
+      stands_next start at a b step.call said fs found.0 out.end st s (record { counts = went.flows.counts; sent = went.flows.sent; read = went.flows.read }) e.broken (sym (ap (λ (c : ConnSeen). c.call) h.2))
+          (never_copies a.broken (limits_of step) begun b (request_of step.call) said (heard fs) out.items out.end e.ends),
+    )
+
+-- a step that does nothing, and is no failure of the server
+abbrev IsQuiet : End → Type 0
+IsQuiet end = (end ≡ ends.Dropped) ⊎ (end ≡ ends.Err errors.OutOfMemory)
+
+quiet_copies : (end : End) → IsQuiet end → refuses_copy end ≡ false
+quiet_copies end (inl e) = ap refuses_copy e
+quiet_copies end (inr e) = ap refuses_copy e
+
+quiet_breaks : (o : Option ServerFault) (end : End) → IsQuiet end → broken_after o end ≡ o
+quiet_breaks None end (inl e) = ap (broken_after None) e
+quiet_breaks None end (inr e) = ap (broken_after None) e
+quiet_breaks (Some fault) end q = refl
+
+quiet_queues : (end : End) (whole : List Group) → IsQuiet end → Queues end whole []
+quiet_queues end whole (inl e) = subst (λ (z : End). Queues z whole []) (sym e) (whole, refl)
+quiet_queues end whole (inr e) = subst (λ (z : End). Queues z whole []) (sym e) (whole, refl)
+
+take_none : {A : Type 0} (n : ℕ) → take {A = A} n [] ≡ []
+take_none zero = refl
+take_none (suc n) = refl
+
+quiet_said : (at : Place) (end : End) → IsQuiet end → queued_by at [] [] end ≡ []
+quiet_said at end q =
+    let none : drained at [] ≡ [] = take_none (owed at) in
+    ap (λ (xss : List (List Frame)). (replicate (unfed at.is_copy_failed xss) copy_fail ++ []) ++ cond (refuses_copy end) (copy_fail ∷ []) []) none
+    ∙ ap (λ (b : Bool). (replicate (unfed at.is_copy_failed []) copy_fail ++ []) ++ cond b (copy_fail ∷ []) []) (quiet_copies end q) ∙ empty at.is_copy_failed
+  where
+    empty : (f : Bool) → (replicate (unfed f []) copy_fail ++ []) ++ [] ≡ []
+    empty true = refl
+    empty false = refl
+
+quiet_well : (end : End) (step : Step) (out : Outcome) (at : Place) → IsQuiet end → WellAtOk end step out [] [] at
+quiet_well end step out at (inl e) = subst (λ (z : End). WellAtOk z step out [] [] at) (sym e) tt
+quiet_well end step out at (inr e) = subst (λ (z : End). WellAtOk z step out [] [] at) (sym e) tt
+
+quiet_lawful : (at : Place) (out : Outcome) → IsQuiet out.end → IsNeverUnlawful at out at
+quiet_lawful at out (inl e) tag front w x f l = let y = sym e ∙ x in absurd cc
+quiet_lawful at out (inr e) tag front w x f l = let y = sym e ∙ x in absurd cc
+
+zero_counts : CountsTo 0 0
+zero_counts = (omega arith, omega arith)
+
+quiet_numbers : (at : Place) (end : End) → Numbers at (untouched end) [] [] at
+quiet_numbers at end = record {
+  groups = zero_counts;
+  heard = zero_counts;
+  cache = refl;
+  write_waits = 0;
+  read_waits = 0;
+  moves = 0;
+  waits = zero_counts;
+  moved = zero_counts;
+  writes = omega arith;
+  reads = omega arith;
+  moving = omega arith;
+}
+
+quiet_step : (at : Place) (step : Step) (out : Outcome) (end : End) → out ≡ untouched end → IsQuiet end → HasCause at step out [] [] at end → EndsDuly at step out at → Plays_step at step out at
+quiet_step at step out end k q c d =
+    let ends_so : out.end ≡ end = ap (λ (x : Outcome). x.end) k in
+    let shows_none : out.items ≡ [] = ap (λ (x : Outcome). x.items) k in
+    let quiet : IsQuiet out.end = subst IsQuiet (sym ends_so) q in
+    record {
+      own = [];
+      slice = [];
+      queued = record {
+        asks = quiet_queues out.end (groups_of (request_of step.call)) quiet;
+        can = λ n. absurd (n refl);
+        said = sym (ap (λ (x : List FrontendMessage). at.said ++ x) (quiet_said at out.end quiet) ∙ append-nil at.said);
+        groups = sym (append-nil at.groups);
+        taken = sym (append-nil (heard at.frames));
+        failed = sym (and_true at.is_copy_failed);
+        broken = sym (quiet_breaks at.broken out.end quiet);
+        in_turn = λ n. absurd (n refl);
+      };
+      told = record {
+        response = [];
+        says = (refl, tt);
+        shows = (shown_by step.call [], ap (λ (x : List Item). x ++ shown_by step.call []) shows_none);
+        with_answer = λ w n. shows_none;
+        well = quiet_well out.end step out at quiet;
+        error = inl tt;
+      };
+      numbers = subst (λ (x : Outcome). Numbers at x [] [] at) (sym k) (quiet_numbers at end);
+      cause = subst (λ (z : End). HasCause at step out [] [] at z) (sym ends_so) c;
+      duly = d;
+      lawful = quiet_lawful at out quiet;
+    }
+
+quiet_most : (step : Step) (out : Outcome) (end : End) → out ≡ untouched end → (out.end ≢ ends.Dropped → 0 < step.most) → WithinMost out.end out.items step.most
+quiet_most step out end k m = let z : length out.items ≡ 0 = ap (λ (x : Outcome). length x.items) k in (λ n. omega (arith, z, m n), omega (arith, z))
+
+unpolled_step : (at : Place) (step : Step) (out : Outcome) → IsUnpolled step → out ≡ untouched ends.Dropped → Plays_step at step out at
+unpolled_step at step out u k = quiet_step at step out ends.Dropped k (inl refl) (inl u) (record {
+  unpolled = λ v. (k, refl);
+  kept = λ fault w n. absurd (n u);
+  most = λ w. quiet_most step out ends.Dropped k (λ n. absurd (n (ap (λ (x : Outcome). x.end) k)));
+})
+
+unmade_step : (at : Place) (step : Step) (out : Outcome) → (IsUnpolled step → ⊥) → out ≡ untouched (ends.Err errors.OutOfMemory) → Plays_step at step out at
+unmade_step at step out n k = quiet_step at step out (ends.Err errors.OutOfMemory) k (inr refl) tt (record {
+  unpolled = λ u. absurd (n u);
+  kept = λ fault w m. (inr (ap (λ (x : Outcome). x.end) k), ap (λ (x : Outcome). x.items) k, refl);
+  most = λ w. quiet_most step out (ends.Err errors.OutOfMemory) k (λ z. polled_most step n);
+})
+
+pub plays_step : (start : StreamSeen) (at : Place) (a b : ConnSeen) (step : Step) (out : Outcome) → StandsAt start at a → PlaysStep a b step out → (next : Place) × Plays_step at step out next × StandsAt start next b
+plays_step start at a b step out st (inl h) = (at, unpolled_step at step out h.0 h.2, subst (StandsAt start at) (sym h.1) st)
+plays_step start at a b step out st (inr (n, p, inl h)) = (at, unmade_step at step out n h.1, subst (StandsAt start at) (sym h.0) st)
+plays_step start at a b step out st (inr (n, p, inr h)) = polled_step start at a b step out st n p h
+
+-- ---- steps one after another
+
+pub plays_more : (at mid next : Place) (steps : List Step) (outs : List Outcome) (step : Step) (out : Outcome) → Plays_from at steps outs mid → Plays_step mid step out next → Plays_from at (steps ++ step ∷ []) (outs ++ out ∷ []) next
+plays_more at mid next [] [] step out run one = (next, subst (λ (m : Place). Plays_step m step out next) run one, refl)
+plays_more at mid next [] (o ∷ outs) step out run one = absurd run
+plays_more at mid next (s ∷ steps) [] step out run one = absurd run
+plays_more at mid next (s ∷ steps) (o ∷ outs) step out run one = (run.0, run.1, plays_more run.0 mid next steps outs step out run.2 one)
+
+pub plays_on : (a b c : ConnSeen) (steps : List Step) (outs : List Outcome) (step : Step) (out : Outcome) → PlaysOn a b steps outs → PlaysStep b c step out → PlaysOn a c (steps ++ step ∷ []) (outs ++ out ∷ [])
+plays_on a b c steps outs step out run call start at st =
+    let so_far = run start at st in
+    let one = plays_step start so_far.0 b c step out so_far.2 call in
+    (one.0, plays_more at so_far.0 one.0 steps outs step out so_far.1 one.1, one.2)
+
+pub plays_none : (a : ConnSeen) → PlaysOn a a [] []
+plays_none a start at st = (at, refl, st)
+
+-- ---- from the end of start-up on
+
+stands_first : (link : LinkSeen) (a : ConnSeen) → Begins link a → StandsAt a.stream (first_place a.stream) a
+stands_first link a g = rw g.fresh (record {
+  flows = Flows-none a.stream a.stream refl refl refl refl;
+  ledger = refl;
+  failed = λ o. absurd (omega (arith, o));
+  broken = refl;
+  seen = refl;
+  idle = refl;
+  sayable = tt;
+  are_groups = tt;
+  between = λ z. refl;
+  plain = λ h. refl;
+})
+
+tells_new : (x y : Option (List ℕ)) (old new bytes : List ℕ) → x ≡ Some old → y ≡ Some new → Appends x y bytes → new ≡ old ++ bytes
+tells_new None y old new bytes e f h = absurd cc
+tells_new (Some x) None old new bytes e f h = absurd h
+tells_new (Some x) (Some y) old new bytes e f h =
+    let p : x ≡ old = cc in
+    let q : y ≡ new = cc in
+    sym q ∙ h ∙ ap (λ (z : List ℕ). z ++ bytes) p
+
+tells_bytes : (link : LinkSeen) (a b : ConnSeen) (started : Started) (at : Place) → (g : Begins link a) → StandsAt a.stream at b → started.sent ≡ a.sent → started.read ≡ a.read → TellsBytes link b.stream.link started at
+tells_bytes link a b started at g st s r =
+    let all = Flows-then (fresh_stream link) a.stream b.stream g.message (spelled at.said) g.greeting at.frames g.flows st.flows in
+    let sent = all.sent in
+    let read = all.read in
+    let bytes : read.0 ≡ text_of g.greeting ++ (text_of at.frames ++ b.stream.held) =
+    read.2 ∙ ap (λ (z : List ℕ). z ++ b.stream.held) (text_of-append g.greeting at.frames) ∙ append_assoc (text_of g.greeting) (text_of at.frames) b.stream.held in
+    record {
+      message = g.message;
+      greeting = g.greeting;
+      message_is = sym (s ∙ ap (λ (c : ConnSeen). c.sent) g.fresh);
+      greeting_is = subst (CountsTo (length (text_of g.greeting))) (sym (r ∙ ap (λ (c : ConnSeen). c.read) g.fresh)) (omega (arith, g.flows.read.4.1), omega (arith, g.flows.read.4.2));
+      sent = λ old new e k. (sent.0, tells_new link.taken b.stream.link.taken old new sent.0 e k sent.1, (b.stream.unsent, sym sent.2));
+      gave = λ old new e k. (
+        text_of at.frames ++ b.stream.held,
+        tells_new link.given b.stream.link.given old new read.0 e k read.1 ∙ ap (λ (z : List ℕ). old ++ z) bytes ∙ sym (append_assoc old (text_of g.greeting) (text_of at.frames ++ b.stream.held)),
+        ap (λ (x : StreamSeen). text_of at.frames ++ x.held) st.seen,
+        λ frames rest c. let t = cut_after_taken backend_tags (text_of at.frames ++ b.stream.held) b.stream.held at.frames frames rest st.flows.read.3 refl c in (t.0, sym t.1),
+      );
+    }
+
+pub plays_begun : (link last : LinkSeen) (a b : ConnSeen) (started : Started) (steps : List Step) (outs : List Outcome) → Begins link a → PlaysOn a b steps outs → started.sent ≡ a.sent → started.read ≡ a.read → last ≡ b.stream.link → Plays link last started steps outs
+plays_begun link last a b started steps outs g run s r l =
+    let p = run a.stream (first_place a.stream) (stands_first link a g) in
+    let st = p.2 in
+    rw l (record {
+      begins = a.stream;
+      begun = g.flows.counts;
+      place = p.0;
+      plays = p.1;
+      bytes = tells_bytes link a b started p.0 g st s r;
+      can = st.sayable;
+      groups = st.are_groups;
+      at_link = sym (ap (λ (x : StreamSeen). x.link) st.seen);
+      totals = subst (λ (x : LinkSeen). Totals link x outs) (sym (ap (λ (x : StreamSeen). x.link) st.seen)) (totals_from link (first_place a.stream) steps outs p.0 g.flows.counts p.1);
+      lawful = where_lawful (first_place a.stream) p.0 steps outs p.1 refl st.sayable st.are_groups st.flows.read.3 st.plain;
+      plain = st.plain;
+    })

@@ -1,0 +1,14 @@
+use Rattle.std.proofs.Common.{◌≡◌, ◌<◌, ◌+◌, ◌-◌, ◌^◌, true, length}
+use Rattle.pg_conn.specs.Connections.{seen_by, started_call, runs}
+use Rattle.pg_play.specs.Calls.{IsPlaying}
+use Rattle.pg_play.proofs.stepping.play_call.Given as goal
+
+abbrev pub invariant-loop-end : goal.invariant-loop-end
+invariant-loop-end g l = record {
+  playing : IsPlaying l.fn.limits.most (seen_by g.L.Link.seen (started_call l.fn.request l.fn.conn)) (seen_by g.L.Link.seen l.conn) l.fn.request l.tally.waits l.tally.items.items;
+  runs : runs l.conn.call ≡ true;
+  some : l.tally.waits < l.fn.limits.polls;
+}
+
+abbrev pub decreases-loop-end : goal.decreases-loop-end
+decreases-loop-end g l = (l.fn.limits.polls - l.tally.waits) + (2 ^ 64 - length l.tally.items.items)

@@ -1,0 +1,162 @@
+-- Internal: what a play of one call says, in the words of the connection.
+use Rattle.std.specs.Prelude.{◌≡◌, ◌≢◌, ℕ, ◌+◌, ◌*◌, ◌^◌, ◌<◌, ◌≤◌, ◌⊎◌, false, count_by, List, [], ◌∷◌, ◌++◌, length, map, Option, Some, None, Ok}
+use Rattle.pg_wire.specs.declared.error.Error.{Error}
+use Rattle.pg_wire.specs.declared.error.Error.TheVariants as errors
+use Rattle.pg_wire.specs.declared.error.ProtocolFault.TheVariants as protocol
+use Rattle.pg_wire.specs.declared.error.ServerFault.{ServerFault}
+use Rattle.pg_wire.specs.Frame.{Frame}
+use Rattle.pg_wire.specs.Parts.{heard}
+use Rattle.pg_wire.specs.Frontend.{FrontendMessage}
+use Rattle.pg_request.specs.declared.progress.CacheStep.TheVariants as cache
+use Rattle.pg_stream.specs.Links.{NoneFalls, RoseBy, Rose}
+use Rattle.pg_stream.specs.Streams.{StreamSeen, Sends, Takes, Tallies, GrewBy, HasNone}
+use Rattle.pg_call.specs.declared.request.Request.{Request}
+use Rattle.pg_call.specs.declared.answer.CallItem.{CallItem}
+use Rattle.pg_call.specs.declared.answer.CallAnswer.{CallAnswer}
+use Rattle.pg_call.specs.Requests.{spelled}
+use Rattle.pg_call.specs.Drains.{is_error}
+use Rattle.pg_call.specs.Calls.{CallIs, CallEnds, IsFine, Leaves}
+use Rattle.pg_conn.specs.Connections.{ConnSeen, idle, started_call}
+use Rattle.pg_conn.specs.Turns.{ends_request, EndsBy}
+use Rattle.pg_report.specs.declared.outcome.Item.{Item}
+use Rattle.pg_report.specs.declared.outcome.End.{End}
+use Rattle.pg_report.specs.declared.outcome.End.TheVariants as ends
+use Rattle.pg_report.specs.declared.outcome.Outcome.{Outcome}
+use Rattle.pg_script.specs.declared.step.Step.{Step}
+use Rattle.pg_play.specs.declared.tally.Limits.{Limits}
+use Rattle.pg_play.specs.declared.tally.Tally.{Tally}
+use Rattle.pg_play.specs.Shown.{request_of, item_of, items_with, answer_of}
+
+-- ---- the link's bytes, over any number of polls
+
+-- these bytes were queued, and these frames taken off all bytes that the link gave
+pub record Flows (a b : StreamSeen) (queued : List ℕ) (frames : List Frame) : Type 0 where
+  pub counts : NoneFalls a.link b.link
+  pub sent : Sends a b queued
+  pub read : Takes a b frames
+
+-- ---- the tally of a call
+
+-- one more item
+abbrev pub Adds : Limits → CallItem → Tally → Tally → Option End → Type 0
+Adds limits item old new None = (new.waits ≡ old.waits) × (new.items.items ≡ old.items.items ++ item_of item ∷ []) × (length new.items.items ≢ limits.most)
+Adds limits item old new (Some ends.Dropped) = (new.waits ≡ old.waits) × (new.items.items ≡ old.items.items ++ item_of item ∷ []) × (length new.items.items ≡ limits.most)
+Adds limits item old new (Some (ends.Err e)) = (new.waits ≡ old.waits) × (new.items.items ≡ old.items.items) × (e ≡ errors.OutOfMemory)
+Adds limits item old new (Some (ends.Ok answer)) = ⊥
+
+-- the answer, and the items that come with it
+abbrev pub Finishes : CallAnswer → Tally → Tally → End → Type 0
+Finishes answer old new (ends.Ok told) = (new.waits ≡ old.waits) × (new.items.items ≡ items_with old.items.items answer) × (told ≡ answer_of answer)
+Finishes answer old new (ends.Err e) = (new.waits ≡ old.waits) × (new.items.items ≡ []) × (e ≡ errors.OutOfMemory)
+Finishes answer old new ends.Dropped = ⊥
+
+-- ---- a call that is played, from the connection a on which it began
+
+-- so many polls had to wait: for the link to take, for it to give, or after 256 moves
+pub record Waited (n : ℕ) (a b : StreamSeen) : Type 0 where
+  pub write_waits : ℕ
+  pub read_waits : ℕ
+  pub spent : ℕ
+  pub all : write_waits + read_waits + spent ≡ n
+  pub writes : RoseBy write_waits a.link.write_waits b.link.write_waits
+  pub reads : RoseBy read_waits a.link.read_waits b.link.read_waits
+  pub moved : RoseBy (256 * spent) a.link.moved b.link.moved
+  pub waits : RoseBy (write_waits + read_waits) a.waits b.waits
+  pub moves : RoseBy (256 * spent) a.moves b.moves
+
+-- what it queued and took, and what is counted of it
+pub record Went (a b : ConnSeen) (said : List FrontendMessage) (fs : List Frame) : Type 0 where
+  pub flows : Flows a.stream b.stream (spelled said) fs
+  pub tallies : Tallies a.stream b.stream
+  pub groups : GrewBy (count_by ends_request said) a.groups b.groups
+  pub heard : GrewBy (length (heard fs)) a.heard b.heard
+  pub started : (b.sent ≡ a.sent) × (b.read ≡ a.read)
+
+-- it runs still, and has shown these items
+pub record InPlay (a b : ConnSeen) (r : Request) (waits : ℕ) (items : List CallItem) (said : List FrontendMessage) (fs : List Frame) : Type 0 where
+  pub went : Went a b said fs
+  pub broken : b.broken ≡ None
+  pub call : CallIs a.ledger r said (heard fs) items b.ledger b.call
+  pub waited : Waited waits a.stream b.stream
+
+-- on a connection that is whole, or is broken, with fewer items than it may show
+abbrev pub IsPlayingOn : Option ServerFault → ℕ → ConnSeen → ConnSeen → Request → ℕ → List Item → Type 0
+IsPlayingOn None most a b r waits shown = (items : List CallItem) × (said : List FrontendMessage) × (fs : List Frame) × (shown ≡ map item_of items) × (length shown < most) × InPlay a b r waits items said fs
+IsPlayingOn (Some fault) most a b r waits shown = (b ≡ a) × (shown ≡ [])
+
+abbrev pub IsPlaying : ℕ → ConnSeen → ConnSeen → Request → ℕ → List Item → Type 0
+IsPlaying most a b r waits shown = IsPlayingOn a.broken most a b r waits shown
+
+-- the last poll waited: for the link to take; after 256 moves; or for it to give, with all sent, no whole frame held, and a reply owed
+abbrev pub EndsStarved : ConnSeen → ConnSeen → Type 0
+EndsStarved a b =
+    Rose a.stream.link.write_waits b.stream.link.write_waits
+    ⊎ (RoseBy 256 a.stream.moves b.stream.moves
+    ⊎ ((b.stream.unsent ≡ []) × HasNone b.stream.held × (0 < b.ledger.owed)))
+
+-- why a call was dropped
+abbrev pub IsDropped : Limits → ConnSeen → ConnSeen → List Item → Type 0
+IsDropped limits a b shown = (Waited limits.polls a.stream b.stream × EndsStarved a b) ⊎ (length shown ≡ limits.most)
+
+-- the fault that broke the connection is kept
+abbrev pub broken_after : Option ServerFault → End → Option ServerFault
+broken_after None (ends.Err (errors.Protocol (protocol.Server fault))) = Some fault
+broken_after old _ = old
+
+-- an end by an error: the call's own, or want of memory for the items that come with the answer
+abbrev pub EndsByError : ℕ → ConnSeen → ConnSeen → Request → List FrontendMessage → List Frame → List Item → Error → Type 0
+EndsByError most a b r said hs shown e =
+    ((items : List CallItem) × (shown ≡ map item_of items) × (length shown < most) × EndsBy a b a.ledger r said hs items e)
+    ⊎ ((items : List CallItem) × (shown ≡ []) × (e ≡ errors.OutOfMemory) × IsFine a.ledger r said hs items b.ledger)
+
+-- what the end of a call says of all that it queued, heard and showed
+abbrev pub EndsOn : Option ServerFault → Limits → ConnSeen → ConnSeen → Request → List FrontendMessage → List Frame → List Item → End → Type 0
+EndsOn None limits a b r said hs shown (ends.Ok told) =
+    (items : List CallItem) × (answer : CallAnswer) × (shown ≡ items_with (map item_of items) answer) × (length items < limits.most) × (told ≡ answer_of answer) × CallEnds a.ledger r said hs items b.ledger (Ok answer)
+EndsOn None limits a b r said hs shown (ends.Err e) = EndsByError limits.most a b r said hs shown e
+EndsOn None limits a b r said hs shown ends.Dropped =
+    (items : List CallItem) × (shown ≡ map item_of items) × Leaves a.ledger r said hs items b.ledger false × (count_by is_error hs ≡ 0) × IsDropped limits a b shown × (length shown ≤ limits.most)
+EndsOn (Some fault) limits a b r said hs shown end =
+    (end ≡ ends.Err (errors.Protocol (protocol.Server fault))) × (said ≡ []) × (hs ≡ []) × (shown ≡ []) × (idle b ≡ idle a)
+
+-- it was played to this end
+pub record Ended (limits : Limits) (a b : ConnSeen) (r : Request) (shown : List Item) (end : End) (said : List FrontendMessage) (fs : List Frame) : Type 0 where
+  pub went : Went a b said fs
+  pub broken : b.broken ≡ broken_after a.broken end
+  pub kept : (fault : ServerFault) → a.broken ≡ Some fault → fs ≡ []
+  pub ends : EndsOn a.broken limits a b r said (heard fs) shown end
+
+abbrev pub HasEnded : Limits → ConnSeen → ConnSeen → Request → List Item → End → Type 0
+HasEnded limits a b r shown end = (said : List FrontendMessage) × (fs : List Frame) × Ended limits a b r shown end said fs
+
+-- whatever came before, a poll goes on by so much
+abbrev pub PollGives : Limits → ConnSeen → ConnSeen → Request → ℕ → List Item → Option End → Type 0
+PollGives limits a b r waits shown None = IsPlaying limits.most a b r waits shown
+PollGives limits a b r waits shown (Some end) = HasEnded limits a b r shown end
+
+-- ---- the whole step
+
+-- a step that isn't polled at all
+abbrev pub IsUnpolled : Step → Type 0
+IsUnpolled step = (step.polls ≡ 0) ⊎ (step.most ≡ 0)
+
+abbrev pub limits_of : Step → Limits
+limits_of step = record { polls = step.polls; most = step.most }
+
+-- nothing was done
+abbrev pub untouched : End → Outcome
+untouched end = record { items = []; end = end; groups = 0; heard = 0; cache = cache.Same; waits = 0; moved = 0 }
+
+-- the numbers of an outcome are the connection's
+abbrev pub outcome_of : ConnSeen → List Item → End → Outcome
+outcome_of b shown end = record { items = shown; end = end; groups = b.groups; heard = b.heard; cache = cache.Same; waits = b.stream.waits; moved = b.stream.moves }
+
+-- a call that was polled, on the connection as it began
+abbrev pub PlaysCall : Limits → ConnSeen → ConnSeen → Request → Outcome → Type 0
+PlaysCall limits a b r out = HasEnded limits a b r out.items out.end × (out ≡ outcome_of b out.items out.end) × (idle b ≡ b)
+
+-- a step: not polled; without memory for what it asks; or played
+abbrev pub PlaysStep : ConnSeen → ConnSeen → Step → Outcome → Type 0
+PlaysStep a b step out =
+    (IsUnpolled step × (b ≡ a) × (out ≡ untouched ends.Dropped))
+    ⊎ ((IsUnpolled step → ⊥) × (step.polls < 2 ^ 32) × (((b ≡ a) × (out ≡ untouched (ends.Err errors.OutOfMemory))) ⊎ PlaysCall (limits_of step) (started_call (request_of step.call) a) b (request_of step.call) out))

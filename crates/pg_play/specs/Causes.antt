@@ -1,0 +1,125 @@
+-- Each end other than Ok has its cause, and some ends are due.
+use Rattle.std.specs.Prelude.{◌≡◌, ◌≢◌, ℕ, ◌+◌, ◌*◌, ◌≤◌, ◌<◌, ◌⊎◌, true, false, List, [], ◌∷◌, ◌++◌, length, Some}
+use Rattle.std.specs.List.{AllByRecursion}
+use Rattle.pg_wire.specs.declared.error.Error.{Error}
+use Rattle.pg_wire.specs.declared.error.Error.TheVariants as errors
+use Rattle.pg_wire.specs.declared.error.IoCause.TheVariants as io
+use Rattle.pg_wire.specs.declared.error.ProtocolFault.TheVariants as protocol
+use Rattle.pg_wire.specs.declared.error.ServerFault.{ServerFault}
+use Rattle.pg_wire.specs.declared.error.ServerFault.TheVariants as faults
+use Rattle.pg_wire.specs.Frame.{Frame, bytes_of, backend_tags, IsWhole}
+use Rattle.pg_wire.specs.Parts.{is_asynchronous}
+use Rattle.pg_wire.specs.Backend.{BackendMessage, backend_frame, HasBackendFrame, ErrorResponse}
+use Rattle.pg_wire.specs.Refusals.{BeginsCopyResponse}
+use Rattle.pg_stream.specs.Links.{Rose}
+use Rattle.pg_stream.specs.Streams.{HeaderFault, HasNone, IsMalformedFront}
+use Rattle.pg_call.specs.declared.judging.Part.{Part}
+use Rattle.pg_call.specs.Requests.{Group, kind_of, groups_of, IsRefusal}
+use Rattle.pg_call.specs.Replies.{awaits_first, part_after, may_copy}
+use Rattle.pg_report.specs.declared.outcome.End.{End}
+use Rattle.pg_report.specs.declared.outcome.End.TheVariants as ends
+use Rattle.pg_report.specs.declared.outcome.Outcome.{Outcome}
+use Rattle.pg_script.specs.declared.step.Step.{Step}
+use Rattle.pg_play.specs.Shown.{request_of, items_in, is_row, wants_row, waits_to_show}
+use Rattle.pg_play.specs.Calls.{IsUnpolled, untouched}
+use Rattle.pg_play.specs.Places.{Place, ended, main_frames}
+use Rattle.pg_play.specs.Told.{HasNoError, Carry}
+
+-- ---- the frame that breaks the connection
+
+-- it stands whole in front of what was read and not taken, and is no asynchronous message
+pub record IsFront (next : Place) (front : Frame) : Type 0 where
+  pub rest : List ℕ
+  pub whole : IsWhole backend_tags front
+  pub answers : is_asynchronous front ≡ false
+  pub held : next.seen.held ≡ bytes_of front ++ rest
+
+-- no message has this frame
+abbrev pub HasNoMessage : Frame → Type 0
+HasNoMessage frame = (m : BackendMessage) → HasBackendFrame m → backend_frame m ≡ frame → ⊥
+
+-- behind what has come of the response, the front begins no response of any server to the group, copies allowed
+pub record IsUnlawful (at : Place) (own : List Group) (slice : List Frame) (next : Place) (tag : ℕ) : Type 0 where
+  pub front : Frame
+  pub is_front : IsFront next front
+  pub tagged : tag ≡ front.tag
+  pub group : Group
+  pub last : own ≡ group ∷ []
+  pub in_own : ended next ≡ length at.groups
+  pub none : BeginsCopyResponse group (main_frames at own slice ++ front ∷ []) → ⊥
+
+-- a fault of the server: a header, or the frame in front, shows it
+abbrev pub ShowsFault : Place → List Group → List Frame → Place → ServerFault → Type 0
+ShowsFault at own slice next (faults.Malformed tag) = IsMalformedFront next.seen.held tag ⊎ ((front : Frame) × IsFront next front × (tag ≡ front.tag) × HasNoMessage front)
+ShowsFault at own slice next (faults.Unlawful tag) = IsUnlawful at own slice next tag
+ShowsFault at own slice next fault = HeaderFault next.seen.held fault
+
+-- the last frame heard begins a copy, which the response to the own group may begin there, and which nobody has asked for
+pub record IsAskedToCopy (at : Place) (step : Step) (own : List Group) (slice : List Frame) (tag : ℕ) : Type 0 where
+  pub front : List Frame
+  pub last : BackendMessage
+  pub slice_is : slice ≡ front ++ backend_frame last ∷ []
+  pub last_has_frame : HasBackendFrame last
+  pub tagged : tag ≡ (backend_frame last).tag
+  pub whole : own ≡ groups_of (request_of step.call)
+  pub before : List BackendMessage
+  pub part : Part
+  pub says : Carry (main_frames at own slice) (before ++ last ∷ [])
+  pub so_far : part_after (awaits_first (kind_of (request_of step.call))) before ≡ Some part
+  pub copies : may_copy part last ≡ true
+
+-- the response to the own group came to its end without an error and without a row
+pub record HasNoRow (at : Place) (step : Step) (own : List Group) (slice : List Frame) (next : Place) : Type 0 where
+  pub wants : wants_row step.call ≡ true
+  pub no_error : HasNoError slice
+  pub answered : ended next ≡ length next.groups
+  pub whole : own ≡ groups_of (request_of step.call)
+  pub response : List BackendMessage
+  pub says : Carry (main_frames at own slice) response
+  pub no_row : AllByRecursion (λ item. is_row item ≡ false) (items_in response)
+
+-- ---- why a step failed
+
+abbrev pub Causes : Place → Step → List Group → List Frame → Place → Error → Type 0
+Causes at step own slice next errors.OutOfMemory = Unit {0}
+Causes at step own slice next (errors.Io io.Fault) = Rose at.seen.link.faults next.seen.link.faults
+Causes at step own slice next (errors.Io io.End) = Rose at.seen.link.ends next.seen.link.ends × (next.seen.unsent ≡ []) × (ended next < length next.groups)
+Causes at step own slice next (errors.Database details) = (front : List Frame) × (slice ≡ front ++ backend_frame (ErrorResponse details) ∷ []) × HasBackendFrame (ErrorResponse details)
+Causes at step own slice next (errors.Protocol (protocol.Server fault)) = (at.broken ≡ Some fault) ⊎ ShowsFault at own slice next fault
+Causes at step own slice next (errors.Protocol (protocol.Reply tag)) = IsAskedToCopy at step own slice tag
+Causes at step own slice next (errors.Protocol (protocol.Caller fault)) = (own ≡ []) × (slice ≡ []) × IsRefusal (request_of step.call) (errors.Protocol (protocol.Caller fault))
+Causes at step own slice next errors.RowNotFound = HasNoRow at step own slice next
+Causes at step own slice next _ = ⊥
+
+-- ---- why a step was dropped
+
+-- where no write waited in the step, and fewer than 256 moves were made: all was sent, no whole frame is held, and a reply is owed
+abbrev pub IsStarved : Place → Outcome → Place → Type 0
+IsStarved at out next =
+    Rose at.seen.link.write_waits next.seen.link.write_waits
+    ⊎ ((256 ≤ out.moved)
+    ⊎ ((next.seen.unsent ≡ []) × HasNone next.seen.held × (ended next < length next.groups)))
+
+-- it waited in each of its polls: for the link, or after 256 moves
+abbrev pub WaitedOften : Step → Outcome → Type 0
+WaitedOften step out = (waited : ℕ) × (spent : ℕ) × (waited + spent ≡ step.polls) × (waited ≤ out.waits) × (256 * spent ≤ out.moved)
+
+-- a step is dropped unpolled, after so many waits, or with so many items
+abbrev pub IsDropped : Place → Step → Outcome → Place → Type 0
+IsDropped at step out next = IsUnpolled step ⊎ ((WaitedOften step out × IsStarved at out next) ⊎ (length out.items ≡ step.most))
+
+abbrev pub HasCause : Place → Step → Outcome → List Group → List Frame → Place → End → Type 0
+HasCause at step out own slice next (ends.Ok answer) = Unit {0}
+HasCause at step out own slice next (ends.Err e) = Causes at step own slice next e
+HasCause at step out own slice next ends.Dropped = IsDropped at step out next
+
+-- ---- ends that are due
+
+pub record EndsDuly (at : Place) (step : Step) (out : Outcome) (next : Place) : Type 0 where
+  -- an unpolled step does nothing
+  pub unpolled : IsUnpolled step → (out ≡ untouched ends.Dropped) × (next ≡ at)
+  -- a broken connection answers its fault, and does nothing else
+  pub kept : (fault : ServerFault) → at.broken ≡ Some fault → (IsUnpolled step → ⊥)
+      → ((out.end ≡ ends.Err (errors.Protocol (protocol.Server fault))) ⊎ (out.end ≡ ends.Err errors.OutOfMemory)) × (out.items ≡ []) × (next ≡ record at { seen = record at.seen { waits = next.seen.waits; moves = next.seen.moves } })
+  -- a call that shows items as they come shows fewer than it may, or is dropped
+  pub most : waits_to_show step.call ≡ false → (out.end ≢ ends.Dropped → length out.items < step.most) × (length out.items ≤ step.most)

@@ -1,0 +1,151 @@
+-- The theorem of a play.
+use Rattle.std.specs.Prelude.{◌≡◌, ◌≢◌, ℕ, ◌+◌, ◌<◌, false, List, [], ◌∷◌, ◌++◌, length, map, flat_map, Some, None, sum_by, ◌≤◌}
+use Rattle.std.specs.List.{AllByRecursion}
+use Rattle.pg_wire.specs.declared.error.Error.TheVariants as errors
+use Rattle.pg_wire.specs.declared.error.ProtocolFault.TheVariants as protocol
+use Rattle.pg_wire.specs.declared.error.ServerFault.TheVariants as faults
+use Rattle.pg_wire.specs.Frame.{Frame, backend_tags, text_of}
+use Rattle.pg_wire.specs.Cut.{Cuts}
+use Rattle.pg_wire.specs.Parts.{heard, parts}
+use Rattle.pg_wire.specs.Pieces.{PiecesOf}
+use Rattle.pg_wire.specs.Backend.{BackendMessage, backend_frame, HasBackendFrame}
+use Rattle.pg_wire.specs.Frontend.{frontend_frame, HasFrontendFrame}
+use Rattle.pg_wire.specs.Server.{Server, fresh_server, IsPrefixOf, MayHear, AreReplies}
+use Rattle.pg_wire.specs.Groups.{IsGroup, AnswerGroups}
+use Rattle.pg_stream.specs.Links.{LinkSeen, NoneFalls, RoseBy}
+use Rattle.pg_stream.specs.Streams.{StreamSeen, fresh_stream}
+use Rattle.pg_call.specs.declared.calling.Call.TheVariants as calls
+use Rattle.pg_call.specs.Requests.{Group, said_in, spelled}
+use Rattle.pg_call.specs.Drains.{is_copy_in, after_readys}
+use Rattle.pg_conn.specs.Connections.{ConnSeen, fresh_connection}
+use Rattle.pg_report.specs.declared.outcome.End.TheVariants as ends
+use Rattle.pg_report.specs.declared.outcome.Outcome.{Outcome}
+use Rattle.pg_report.specs.declared.outcome.Started.{Started}
+use Rattle.pg_script.specs.declared.step.Step.{Step}
+use Rattle.pg_play.specs.Calls.{Flows}
+use Rattle.pg_play.specs.Places.{Place, Queued, ended, first_place}
+use Rattle.pg_play.specs.Told.{Told, Numbers, CountsTo}
+use Rattle.pg_play.specs.Causes.{HasCause, EndsDuly, IsFront}
+
+-- where all that was heard, the frame in front too, are replies of a server to the groups, no step is told that they are unlawful
+abbrev pub IsNeverUnlawful : Place → Outcome → Place → Type 0
+IsNeverUnlawful at out next = (tag : ℕ) (front : Frame) → at.broken ≡ None → out.end ≡ ends.Err (errors.Protocol (protocol.Server (faults.Unlawful tag))) → IsFront next front
+    → MayHear (said_in next.groups) (heard next.frames ++ front ∷ []) → ⊥
+
+-- what a step queued and heard, why it ended so, and what its outcome tells
+pub record Plays_step (at : Place) (step : Step) (out : Outcome) (next : Place) : Type 0 where
+  pub own : List Group
+  pub slice : List Frame
+  pub queued : Queued at step out own slice next
+  pub told : Told at step out own slice next
+  pub numbers : Numbers at out own slice next
+  pub cause : HasCause at step out own slice next out.end
+  pub duly : EndsDuly at step out next
+  pub lawful : IsNeverUnlawful at out next
+
+-- one outcome for each step, each from the place where the one before it ended
+abbrev pub Plays_from : Place → List Step → List Outcome → Place → Type 0
+Plays_from at [] [] last = last ≡ at
+Plays_from at (step ∷ steps) (out ∷ outs) last = (next : Place) × Plays_step at step out next × Plays_from next steps outs last
+Plays_from at [] (out ∷ outs) last = ⊥
+Plays_from at (step ∷ steps) [] last = ⊥
+
+-- no frame begins a copy from the client
+abbrev pub AsksForNoCopy : List Frame → Type 0
+AsksForNoCopy frames = AllByRecursion (λ frame. is_copy_in frame ≡ false) frames
+
+-- Internal: the connection stands at this place.
+pub record StandsAt (start : StreamSeen) (at : Place) (c : ConnSeen) : Type 0 where
+  pub flows : Flows start c.stream (spelled at.said) at.frames
+  -- replies are owed for the groups that have had none
+  pub ledger : ended at + c.ledger.owed ≡ length at.groups
+  pub failed : 0 < c.ledger.owed → c.ledger.is_copy_failed ≡ at.is_copy_failed
+  pub broken : c.broken ≡ at.broken
+  pub seen : c.stream ≡ at.seen
+  pub idle : c.call ≡ calls.Idle
+  pub sayable : AllByRecursion HasFrontendFrame at.said
+  pub are_groups : AllByRecursion IsGroup at.groups
+  -- where nothing is owed, nothing was heard behind the last response
+  pub between : c.ledger.owed ≡ 0 → after_readys (length at.groups) (heard at.frames) ≡ []
+  pub plain : AsksForNoCopy (heard at.frames) → at.said ≡ said_in at.groups
+
+-- Internal: whatever place it began at, the play stands at a later one.
+abbrev pub PlaysOn : ConnSeen → ConnSeen → List Step → List Outcome → Type 0
+PlaysOn a b steps outs = (start : StreamSeen) (at : Place) → StandsAt start at a → (last : Place) × Plays_from at steps outs last × StandsAt start last b
+
+-- ---- start-up
+
+-- Behind a start-up over this link: what it queued and took, and a connection that owes nothing.
+pub record Begins (link : LinkSeen) (a : ConnSeen) : Type 0 where
+  pub message : List ℕ
+  pub greeting : List Frame
+  pub flows : Flows (fresh_stream link) a.stream message greeting
+  pub fresh : a ≡ fresh_connection a.stream (length message)
+
+-- ---- the headline
+
+-- The link's bytes, where it tells them, from the end of start-up on.
+pub record TellsBytes (first last : LinkSeen) (started : Started) (at : Place) : Type 0 where
+  -- start-up's message, and the frames that it took
+  pub message : List ℕ
+  pub greeting : List Frame
+  pub message_is : length message ≡ started.sent
+  pub greeting_is : CountsTo (length (text_of greeting)) started.read
+  -- what the link took is a front of the messages queued
+  pub sent : (old new : List ℕ) → first.taken ≡ Some old → last.taken ≡ Some new → (bytes : List ℕ) × (new ≡ old ++ bytes) × IsPrefixOf bytes (message ++ spelled at.said)
+  -- the frames taken are the first of those in all bytes that it gave
+  pub gave : (old new : List ℕ) → first.given ≡ Some old → last.given ≡ Some new
+      → (bytes : List ℕ) × (new ≡ old ++ text_of greeting ++ bytes) × (bytes ≡ text_of at.frames ++ at.seen.held) × ((frames : List Frame) (rest : List ℕ) → Cuts backend_tags bytes frames rest → IsPrefixOf at.frames frames)
+
+-- ---- the numbers of all steps
+
+-- in sum the steps waited, and moved bytes, at most as often as the link counts
+pub record Totals (first last : LinkSeen) (outs : List Outcome) : Type 0 where
+  pub write_waits : ℕ
+  pub read_waits : ℕ
+  pub moves : ℕ
+  pub waits : sum_by (λ out. out.waits) outs ≤ write_waits + read_waits
+  pub moved : sum_by (λ out. out.moved) outs ≤ moves
+  pub writes : RoseBy write_waits first.write_waits last.write_waits
+  pub reads : RoseBy read_waits first.read_waits last.read_waits
+  pub moving : RoseBy moves first.moved last.moved
+
+-- ---- a server whose frames are replies
+
+-- no step is told that the server is unlawful
+abbrev pub NoneUnlawful : List Outcome → Type 0
+NoneUnlawful outs = AllByRecursion (λ out. (tag : ℕ) → out.end ≢ ends.Err (errors.Protocol (protocol.Server (faults.Unlawful tag)))) outs
+
+-- The responses heard, each whole but for the last: response k answers group k.
+pub record AnswersGroups (groups : List Group) (frames : List Frame) : Type 0 where
+  pub responses : List (List BackendMessage)
+  pub after : Server
+  pub answers : AnswerGroups fresh_server groups responses after
+  pub have_frames : AllByRecursion HasBackendFrame (flat_map (λ response. response) responses)
+  pub pieces : PiecesOf (parts frames) (map (map backend_frame) responses)
+
+-- Where the frames heard of all that was read are replies to the first of the messages queued, as to those whose frames were sent, then
+-- the groups alone were said, response k answers group k, and no step is told that the server is unlawful.
+pub record IsLawful (at : Place) (outs : List Outcome) : Type 0 where
+  pub plain : at.said ≡ said_in at.groups
+  pub answers : AnswersGroups at.groups (heard at.frames)
+  pub none_unlawful : NoneUnlawful outs
+
+abbrev pub WhereLawful : Place → List Outcome → Type 0
+WhereLawful at outs = (sent read : List Frame) (rest : List ℕ) → IsPrefixOf sent (map frontend_frame at.said) → Cuts backend_tags (text_of at.frames ++ at.seen.held) read rest → AreReplies sent (heard read) → IsLawful at outs
+
+-- The steps were played behind a start-up, from the place where nothing is said and taken yet.
+pub record Plays (first last : LinkSeen) (started : Started) (steps : List Step) (outs : List Outcome) : Type 0 where
+  pub begins : StreamSeen
+  pub begun : NoneFalls first begins.link
+  pub place : Place
+  pub plays : Plays_from (first_place begins) steps outs place
+  pub bytes : TellsBytes first last started place
+  -- each message queued has a frame, and the groups are closed request groups
+  pub can : AllByRecursion HasFrontendFrame place.said
+  pub groups : AllByRecursion IsGroup place.groups
+  pub at_link : place.seen.link ≡ last
+  pub totals : Totals first last outs
+  pub lawful : WhereLawful place outs
+  -- the groups alone are said, where no server asks for a copy
+  pub plain : AsksForNoCopy (heard place.frames) → place.said ≡ said_in place.groups

@@ -1,0 +1,96 @@
+ghost use Rattle.std.specs.Prelude.{◌≡◌, ◌∷◌, ◌<◌, ◌-◌, ◌^◌, [], None, IfOk, OnErr, length};
+ghost use Rattle.pg_report.specs.declared.outcome.Item.TheVariants as items;
+ghost use Rattle.pg_play.specs.Calls.{Adds, Finishes};
+
+use crate::showing::{item_of, row_of, rows_of};
+use pg_conn::{CallAnswer, CallItem};
+use pg_report::{Answer, End, Item};
+use pg_rows::PgRow;
+use pg_wire::Error;
+use std::alloc::{AllocError, Global};
+
+/// When a call is dropped: after so many polls that answered `Pending`, or so many items.
+#[derive(Clone, Copy, Debug, PartialEq, Eq)]
+pub(crate) struct Limits {
+    pub(crate) polls: u32,
+    pub(crate) most: u32,
+}
+
+/// What a call has shown so far, and how often it has waited.
+#[derive(Drop)]
+pub(crate) struct Tally {
+    pub(crate) items: Vec<Item>,
+    pub(crate) waits: u32,
+}
+
+impl Tally {
+    pub(crate) fn new(alloc: Global) -> Self
+        ensures items { result.items.items ≡ [] }
+        ensures waits { result.waits ≡ 0 }
+    {
+        Tally {
+            items: Vec::new(alloc),
+            waits: 0,
+        }
+    }
+
+    /// One more item, which ends the call where it is the last that it may show, or where there is no memory for it.
+    pub(crate) fn add(&mut self, alloc: Global, item: CallItem, limits: Limits) -> Option<End>
+        ensures adds { Adds limits item self.old self.new result }
+        ensures falls { result ≡ None → (2 ^ 64 - length self.new.items.items) < (2 ^ 64 - length self.old.items.items) }
+    {
+        let Ok(item) = item_of(alloc, item) else {
+            return Some(End::Err(Error::OutOfMemory));
+        };
+        match self.items.push(item) {
+            Err(_) => Some(End::Err(Error::OutOfMemory)),
+            Ok(()) => {
+                if self.items.len() == limits.most as usize {
+                    Some(End::Dropped)
+                } else {
+                    None
+                }
+            }
+        }
+    }
+
+    // The rows that come with an answer; without memory for them none is shown.
+    fn show(&mut self, alloc: Global, rows: Result<Vec<Item>, AllocError>) -> End
+        ensures waits { self.new.waits ≡ self.old.waits }
+        ensures ok { IfOk rows (λ items. (self.new.items.items ≡ items.items) × (result ≡ End.Ok Answer.Unit)) }
+        ensures err { OnErr rows ((self.new.items.items ≡ []) × (result ≡ End.Err Error.OutOfMemory)) }
+    {
+        match rows {
+            Ok(items) => {
+                self.items = items;
+                End::Ok(Answer::Unit)
+            }
+            Err(_) => {
+                self.items = Vec::new(alloc);
+                End::Err(Error::OutOfMemory)
+            }
+        }
+    }
+
+    /// What a call answers, and the rows that it shows with its answer.
+    pub(crate) fn finish(&mut self, alloc: Global, answer: CallAnswer) -> End
+        ensures { Finishes answer self.old self.new result }
+    {
+        match answer {
+            CallAnswer::Unit => End::Ok(Answer::Unit),
+            CallAnswer::Total(total) => End::Ok(Answer::Total(total.rows_affected())),
+            CallAnswer::Rows(rows) => self.show(alloc, rows_of(alloc, rows.as_slice())),
+            CallAnswer::OneRow(None) => self.show(alloc, Ok(Vec::new(alloc))),
+            CallAnswer::OneRow(Some(row)) => self.show(alloc, one_row(alloc, &row)),
+        }
+    }
+}
+
+// One row alone.
+fn one_row(alloc: Global, row: &PgRow) -> Result<Vec<Item>, AllocError>
+    ensures { IfOk result (λ told. told.items ≡ items.Row row.now ∷ []) }
+{
+    let mut items = Vec::new(alloc);
+    items.push(row_of(alloc, row)?)?;
+    Ok(items)
+}

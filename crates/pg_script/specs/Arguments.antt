@@ -1,0 +1,55 @@
+-- What stands behind a word, read from its tokens.
+use Rattle.std.specs.Prelude.{◌∷◌, [], List, ℕ, ℤ, pos, Option, Some, None, nat_le, if◌then◌else◌}
+use Rattle.std.specs.Str.{is_utf8}
+use Rattle.pg_request.specs.Queries.{QueryText}
+use Rattle.pg_script.specs.declared.token.Token.{Token}
+use Rattle.pg_script.specs.declared.token.Token.TheVariants.{Space, Word, Number, Text}
+use Rattle.pg_script.specs.declared.token.Keyword.TheVariants as words
+use Rattle.pg_script.specs.Reading.{◌>>=◌}
+
+-- UTF-8
+abbrev pub text_in : List ℕ → Option (List ℕ)
+text_in s = if is_utf8 s then Some s else None
+
+-- nothing, which leaves a value as it is
+abbrev pub alone : {A : Type 0} → A → List Token → Option A
+alone x [] = Some x
+alone x _ = None
+
+abbrev pub bytes_arg : List Token → Option (List ℕ)
+bytes_arg (Space ∷ Text s ∷ []) = Some s
+bytes_arg _ = None
+
+abbrev pub text_arg : List Token → Option (List ℕ)
+text_arg ts = bytes_arg ts >>= text_in
+
+abbrev pub pair_arg : List Token → Option (List ℕ × List ℕ)
+pair_arg (Space ∷ Text s ∷ Space ∷ Text t ∷ []) = do
+  name ← text_in s
+  value ← text_in t
+  Some (name, value)
+pair_arg _ = None
+
+-- a number, and the tokens behind it
+abbrev pub number_arg : List Token → Option (ℕ × List Token)
+number_arg (Space ∷ Number n ∷ rest) = Some (n, rest)
+number_arg _ = None
+
+abbrev pub last_number : List Token → Option ℕ
+last_number (Space ∷ Number n ∷ []) = Some n
+last_number _ = None
+
+-- a number up to 3
+abbrev pub digit_in : ℕ → Option ℤ
+digit_in n = if nat_le n 3 then Some (pos n) else None
+
+-- the word `none`, or a number up to 3
+abbrev pub digits_arg : List Token → Option (Option ℤ)
+digits_arg (Space ∷ Word words.None ∷ []) = Some None
+digits_arg (Space ∷ Number n ∷ []) = digit_in n >>= λ digit. Some (Some digit)
+digits_arg _ = None
+
+-- a text of SQL behind the word `raw`
+abbrev pub raw_arg : List Token → Option QueryText
+raw_arg (Space ∷ Word words.Raw ∷ rest) = text_arg rest >>= λ sql. Some (record { sql = sql })
+raw_arg _ = None

@@ -1,9 +1,0 @@
-use Rattle.std.proofs.Common.{rules}
-use Rattle.pg_stream.specs.Streams.{GrewBy}
-use Rattle.pg_stream.proofs.StreamLemmas.{passes}
-use Rattle.pg_stream.proofs.stream.PgStream.pass.Goals as goal
-
-pub returns : goal.returns
-returns g c =
-    let grew : GrewBy c.args.front.total c.self.inside.taken c.saturating_add-self-inside.result = search rules in
-    rw (← c.self.view_is, c.advance.ensures.items) (passes _ c.args.front _ grew)

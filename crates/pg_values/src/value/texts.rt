@@ -1,0 +1,121 @@
+ghost use Rattle.pg_values.specs.Values.{ReadsBy, IsNoValue, IsTextOf, AreBytesOf, AreHexOf};
+ghost use Rattle.std.specs.Prelude.{◌≡◌, Ok, IfOk, IfErr};
+ghost use Rattle.hex.specs.Hex.{decode_of};
+ghost use Rattle.pg_values.specs.Builtin.{type_under};
+ghost use Rattle.pg_values.specs.Encoding.{Image};
+ghost use Rattle.pg_values.specs.Encoded.{plain};
+
+use crate::argument_buffer::PgArgumentBuffer;
+use crate::decode::Decode;
+use crate::encode::{Encode, IsNull, PgHasArrayType, Typed};
+use crate::format::{PgValueFormat, PgValueRef};
+use crate::type_info::PgTypeInfo;
+use hex::FromHexError;
+use pg_wire::{Blob, Error, Oid, Text};
+use std::alloc::Global;
+
+impl Typed for Text {
+    ghost described = { type_under 25 };
+
+    fn type_info(alloc: Global) -> Result<PgTypeInfo, Error> {
+        Ok(PgTypeInfo::under_oid(alloc, Oid(25))?)
+    }
+}
+
+impl PgHasArrayType for Text {
+    ghost array_described = { type_under 1009 };
+
+    fn array_type_info(alloc: Global) -> Result<PgTypeInfo, Error> {
+        Ok(PgTypeInfo::under_oid(alloc, Oid(1009))?)
+    }
+}
+
+impl Encode for Text {
+    ghost encoding = { λ t. Image (plain t) };
+
+    fn encode(self, out: &mut PgArgumentBuffer) -> Result<IsNull, Error> {
+        out.push_bytes(self.as_bytes())?;
+        Ok(IsNull::No)
+    }
+}
+
+impl Typed for Blob {
+    ghost described = { type_under 17 };
+
+    fn type_info(alloc: Global) -> Result<PgTypeInfo, Error> {
+        Ok(PgTypeInfo::under_oid(alloc, Oid(17))?)
+    }
+}
+
+impl PgHasArrayType for Blob {
+    ghost array_described = { type_under 1001 };
+
+    fn array_type_info(alloc: Global) -> Result<PgTypeInfo, Error> {
+        Ok(PgTypeInfo::under_oid(alloc, Oid(1001))?)
+    }
+}
+
+impl Encode for Blob {
+    ghost encoding = { λ b. Image (plain b) };
+
+    fn encode(self, out: &mut PgArgumentBuffer) -> Result<IsNull, Error> {
+        out.push_bytes(self.as_bytes())?;
+        Ok(IsNull::No)
+    }
+}
+
+fn text(alloc: Global, bytes: &[u8]) -> Result<Text, Error>
+    ensures value { IfOk result (IsTextOf bytes.now) }
+    ensures cause { IfErr result (IsNoValue (IsTextOf bytes.now)) }
+{
+    match str::from_utf8(bytes) {
+        Ok(text) => Ok(Text::from_str(alloc, text)?),
+        Err(_) => Err(Error::Decode),
+    }
+}
+
+impl Decode for Text {
+    ghost reads = { ReadsBy IsTextOf IsTextOf };
+
+    fn decode(alloc: Global, value: PgValueRef<'_>) -> Result<Self, Error> {
+        match value.value {
+            Some(bytes) => text(alloc, bytes),
+            None => Err(Error::Decode),
+        }
+    }
+}
+
+fn bytes_of(alloc: Global, digits: &[u8]) -> Result<Blob, Error>
+    ensures value { IfOk result (λ b. decode_of digits.now ≡ Ok b) }
+    ensures cause { IfErr result (IsNoValue (λ b. decode_of digits.now ≡ Ok b)) }
+{
+    match hex::decode(alloc, digits) {
+        Ok(bytes) => Ok(Blob::from_vec(bytes)),
+        Err(FromHexError::OutOfMemory) => Err(Error::OutOfMemory),
+        Err(_) => Err(Error::Decode),
+    }
+}
+
+fn hex_text(alloc: Global, bytes: &[u8]) -> Result<Blob, Error>
+    ensures value { IfOk result (AreHexOf bytes.now) }
+    ensures cause { IfErr result (IsNoValue (AreHexOf bytes.now)) }
+{
+    match bytes {
+        [b'\\', b'x', digits @ ..] => bytes_of(alloc, digits),
+        _ => Err(Error::Decode),
+    }
+}
+
+impl Decode for Blob {
+    ghost reads = { ReadsBy AreBytesOf AreHexOf };
+
+    fn decode(alloc: Global, value: PgValueRef<'_>) -> Result<Self, Error> {
+        let Some(bytes) = value.value else {
+            return Err(Error::Decode);
+        };
+        match value.format {
+            PgValueFormat::Binary => Ok(Blob::from_slice(alloc, bytes)?),
+            PgValueFormat::Text => hex_text(alloc, bytes),
+        }
+    }
+}
