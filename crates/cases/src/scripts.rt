@@ -30,7 +30,7 @@ const SENT_ONE: &str =
 // Each script, its status and what it writes. The pieces and reports are worked by hand from the protocol.
 #[test]
 fn scripts_end_as_they_should(rt: HostRuntime) -> Result<(), Fail> {
-    let rows: [(&[&str], u8, &[&str]); 9] = [
+    let rows: [(&[&str], u8, &[&str]); 10] = [
         // one execute, in two pieces
         (
             &[USER, GREETING, ONE_ROW, STEP],
@@ -83,6 +83,12 @@ fn scripts_end_as_they_should(rt: HostRuntime) -> Result<(), Fail> {
         (&[USER, GREETING, "step 9"], 2, &["bad script: line 3"]),
         // a line of no form
         (&[USER, "", "hello"], 2, &["bad script: line 3"]),
+        // a zero byte in the user
+        (
+            &[r#"user "a\x00b""#, GREETING],
+            1,
+            &["start error Configuration Nul 1", "sent -"],
+        ),
         // a second user
         (&[USER, r#"user "v""#], 2, &["bad script: line 2"]),
     ];
