@@ -45,7 +45,7 @@ fn run_one(alloc: Global, conn: &mut PgConnection<MemoryLink>) -> Result<Option<
 // A connection over the link, whose start-up ends with its first poll.
 fn connected(alloc: Global, link: MemoryLink) -> Result<Option<PgConnection<MemoryLink>>, Error> {
     let options = options(alloc)?;
-    match establish(alloc, &options, b"", link) {
+    match establish(alloc, &options, b"n", link) {
         Ok(mut start) => match start.poll() {
             Poll::Ready(Ok(conn)) => Ok(Some(conn)),
             _ => Ok(None),

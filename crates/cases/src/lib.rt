@@ -4,8 +4,12 @@
 #[cfg(test)]
 mod calls;
 #[cfg(test)]
+mod live;
+#[cfg(test)]
 mod running;
 #[cfg(test)]
 mod scripts;
+#[cfg(test)]
+mod starting;
 #[cfg(test)]
 mod words;

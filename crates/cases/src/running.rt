@@ -32,12 +32,28 @@ fn only(alloc: Global, call: u64) -> Result<Sequence<u64>, AllocError> {
     Ok(calls)
 }
 
-/// Runs the program on words and on the text of its input.
+/// Runs the program on words and on the text of its input, with a dial that has no links.
 pub(crate) fn run(
     alloc: Global,
     words: &[&str],
     text: &str,
     outside: Outside,
+) -> Result<Ended, AllocError> {
+    let mut dial = MemoryDial::new(
+        VecDeque::new(alloc),
+        VecDeque::new(alloc),
+        Sequence::new(alloc),
+    );
+    run_over(alloc, words, text, outside, &mut dial)
+}
+
+/// Runs the program on words and on the text of its input, with this dial.
+pub(crate) fn run_over(
+    alloc: Global,
+    words: &[&str],
+    text: &str,
+    outside: Outside,
+    dial: &mut MemoryDial,
 ) -> Result<Ended, AllocError> {
     let mut owned = Vec::new(alloc);
     for word in words {
@@ -46,12 +62,7 @@ pub(crate) fn run(
     let bytes = Blob::from_slice(alloc, text.as_bytes())?;
     let mut source = MemorySource::new(bytes, outside.most, only(alloc, outside.failing_read)?);
     let mut sink = MemorySink::new(alloc, only(alloc, outside.failing_write)?);
-    let mut dial = MemoryDial::new(
-        VecDeque::new(alloc),
-        VecDeque::new(alloc),
-        Sequence::new(alloc),
-    );
-    let ran = top(alloc, &owned, &mut source, &mut sink, &mut dial);
+    let ran = top(alloc, &owned, &mut source, &mut sink, dial);
     Ok(Ended {
         status: ran.status,
         sink,

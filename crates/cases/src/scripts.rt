@@ -30,7 +30,7 @@ const SENT_ONE: &str =
 // Each script, its status and what it writes. The pieces and reports are worked by hand from the protocol.
 #[test]
 fn scripts_end_as_they_should(rt: HostRuntime) -> Result<(), Fail> {
-    let rows: [(&[&str], u8, &[&str]); 10] = [
+    let rows: [(&[&str], u8, &[&str]); 9] = [
         // one execute, in two pieces
         (
             &[USER, GREETING, ONE_ROW, STEP],
@@ -64,12 +64,6 @@ fn scripts_end_as_they_should(rt: HostRuntime) -> Result<(), Fail> {
                 r#"step 1 groups 1 heard 1 cache same waits 0 moved 2 error Database ERROR "42601" "boom""#,
                 SENT_ONE,
             ],
-        ),
-        // another authentication
-        (
-            &[USER, r#"server "R\x00\x00\x00\x08\x00\x00\x00\x03""#],
-            1,
-            &["start error Protocol server Unlawful 52", SENT_START],
         ),
         // no step
         (&[USER, GREETING], 0, &[START_OK, SENT_START]),

@@ -21,5 +21,5 @@ pub use keyed_hash::hmac;
 pub use md5_text::md5_password;
 pub use nonce::{is_nonce, make_nonce, nonce_of};
 pub use salted::hi;
-pub use scram::{ScramAnswer, scram_client_first, scram_proof, scram_verifier};
+pub use scram::{ScramAnswer, check_plain, scram_client_first, scram_proof, scram_verifier};
 pub use tls::{MaybeUpgradeTls, TlsPlan};

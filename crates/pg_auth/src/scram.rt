@@ -15,6 +15,7 @@ ghost use Rattle.pg_wire.specs.declared.error.ProtocolFault.TheVariants.{Server}
 pub use answer::{ScramAnswer, scram_proof};
 pub use client_first::scram_client_first;
 use pg_wire::{Error, ProtocolFault, ServerFault};
+pub use plain::check_plain;
 pub use server_final::scram_verifier;
 
 // The fault of a text that is not in its message's format. It came in an `R` message.

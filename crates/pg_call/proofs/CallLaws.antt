@@ -41,7 +41,7 @@ use Rattle.pg_call.specs.Items.{item_of, items_of, yields, shown, tally_of, answ
 use Rattle.pg_call.specs.Replies.{awaits_first, goes_on, part_after, may_copy, MayNotCome, IsFault}
 use Rattle.pg_call.specs.Drains.{is_error, is_copy_in, before_readys, after_readys, failed_behind, fails_for, drain_fails}
 use Rattle.pg_call.specs.Hearing.{framed, added_all, gone_on, HearsMessage, Hears, marked, ledger_behind, fails_of, DrainsBy, Drains, Follows}
-use Rattle.pg_call.specs.Calls.{IsDraining, IsReplying, owes_own, owes_none, CallIs, owner_failed, Leaves, IsFine, EndsFine, CallEnds, IsFrontFault, CallTakes, TakesMessage, RefusesMessage}
+use Rattle.pg_call.specs.Calls.{IsDraining, IsReplying, owes_own, owes_none, CallIs, owner_failed, Leaves, IsFine, EndsFine, CallEnds, IsFrontFault, CallTakes, StaysIn, TakesMessage, RefusesMessage}
 use Rattle.pg_call.proofs.DrainLaws.{count-push, count-same, after_below, after_from, before_below, before_from, failed-push, fails-push, still_failed, no_more_failed}
 use Rattle.pg_call.proofs.ItemLaws.{items-push, tally-more}
 use Rattle.pg_call.proofs.RefusedLaws.{group_refused}
@@ -491,3 +491,23 @@ own_oks tag body a b reply reply' heard taken k h f start r said hs items i =
     let same : (backend_frame h.0).tag ≡ tag = ap (λ (g : Frame). g.tag) h.1.1 in
     let t = own_takes start r said hs items reply reply' h.0 heard a.ledger b taken h.1.0 h.2 (rw same f) j.0 j.1 j.2 in
     subst (λ (g : Frame). CallTakes start r (said ++ fails_of taken.fails_copy) (hs ++ g ∷ []) items b.ledger b.call taken.beat) h.1.1 t
+
+-- ---- where a message leaves the call
+
+drained_stays : (f : Frame) (a b : Running) (w : Waiting) (beat : Beat) (fails : Bool) → a.call ≡ calls.Waiting w → DrainsBy f w.is_copy_failed a b beat fails → StaysIn a.call fails b.call
+drained_stays f a b w beats.More fails k d = rw (d.1, k) tt
+drained_stays f a b w beats.Waits fails k d = absurd d
+drained_stays f a b w (beats.Yields item) fails k d = absurd d
+drained_stays f a b w (beats.Ends answer) fails k d = rw d.3 tt
+
+pub drains_stay : (tag : ℕ) (body : List ℕ) (a b : Running) (w : Waiting) (result : Result Taken Error) → a.call ≡ calls.Waiting w → IfOk result (Drains tag body w.is_copy_failed (as_call a.ledger (calls.Waiting w)) b)
+    → IfOk result (λ taken. StaysIn a.call taken.fails_copy b.call)
+drains_stay tag body a b w (Ok taken) k d = rw k (drained_stays (framed tag body) (as_call a.ledger (calls.Waiting w)) b w taken.beat taken.fails_copy refl d)
+drains_stay tag body a b w (Err e) k d = tt
+
+pub own_stays : (tag : ℕ) (a b : Running) (reply reply' : Reply) (heard : Heard) (taken : Taken) → a.call ≡ calls.Own reply → Follows tag heard (as_call a.ledger (calls.Own reply')) b taken → StaysIn a.call taken.fails_copy b.call
+own_stays tag a b reply reply' heards.More taken k f = rw (k, f.0, f.1) refl
+own_stays tag a b reply reply' (heards.Yields item) taken k f = rw (k, f.0, f.1) refl
+own_stays tag a b reply reply' (heards.Failed error) taken k f = rw f.0 tt
+own_stays tag a b reply reply' heards.Closed taken k f = rw f.0 tt
+own_stays tag a b reply reply' heards.Copies taken k f = rw f.0 tt

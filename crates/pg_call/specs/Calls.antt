@@ -173,6 +173,14 @@ CallTakes start r said hs items ledger call beats.Waits = ⊥
 CallTakes start r said hs items ledger call (beats.Yields item) = CallIs start r said hs (items ++ item ∷ []) ledger call
 CallTakes start r said hs items ledger call (beats.Ends answer) = (call ≡ calls.Idle) × CallEnds start r said hs items ledger answer × OnOk answer (kind_of r ≡ kinds.Close → ⊥)
 
+-- The message ends the call, or leaves it where it stands: behind the replies of earlier calls, or in its own, for which no CopyFail
+-- is due then.
+abbrev pub StaysIn : Call → Bool → Call → Type 0
+StaysIn before fails calls.Idle = Unit {0}
+StaysIn (calls.Waiting old) fails (calls.Waiting new) = Unit {0}
+StaysIn (calls.Own old) fails (calls.Own new) = fails ≡ false
+StaysIn before fails behind = ⊥
+
 -- whatever the call had queued, heard and shown before this message, this is what it has now
 abbrev pub TakesMessage : ℕ → List ℕ → Running → Running → Taken → Type 0
 TakesMessage tag body a b taken = (start : Ledger) (r : Request) (said : List FrontendMessage) (hs : List Frame) (items : List CallItem)

@@ -1,6 +1,6 @@
 ghost use Rattle.std.specs.Prelude.{◌≡◌, ◌≢◌, ◌<◌, true, false, IfOk, IfErr, OnErr};
 ghost use Rattle.pg_wire.specs.Decoding.{IsRefused};
-ghost use Rattle.pg_call.specs.Calls.{IsAwaiting, TakesMessage, RefusesMessage};
+ghost use Rattle.pg_call.specs.Calls.{IsAwaiting, StaysIn, TakesMessage, RefusesMessage};
 ghost use Rattle.pg_call.specs.Hearing.{Drains, Closes, RefusesCopy, Follows, IsReplied, marked};
 
 use crate::{Beat, Call, CallAnswer, CallItem, Heard, Ledger, Taken};
@@ -146,6 +146,7 @@ impl Running {
         ensures ok { IfOk result (TakesMessage tag body.now self.old self.new) }
         ensures copy { IfOk result (λ taken. taken.fails_copy ≡ true → tag ≡ 71) }
         ensures goes { IfOk result (λ taken. taken.beat ≢ Beat.Waits) }
+        ensures stays { IfOk result (λ taken. StaysIn self.old.call taken.fails_copy self.new.call) }
         ensures err { IfErr result (RefusesMessage tag body.now self.old) }
         ensures ledger { OnErr result (self.new.ledger ≡ self.old.ledger) }
     {

@@ -1,3 +1,4 @@
 pub mod TurnLaws
-pub mod GreetLemmas
 pub mod StateLaws
+pub mod RefusalLaws
+pub mod LedgerLaws

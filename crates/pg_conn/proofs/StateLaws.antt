@@ -1,5 +1,5 @@
 -- What a poll answers is of the call's kind.
-use Rattle.std.proofs.Common.{◌≡◌, ◌∙◌, [], ◌∷◌, ◌++◌, refl, sym, subst, Result, Err, Option, Some, None}
+use Rattle.std.proofs.Common.{◌≡◌, ◌∙◌, ℕ, [], ◌∷◌, ◌++◌, refl, sym, subst, arith, Result, Err, Option, Some, None}
 use Rattle.futures.specs.declared.task.Poll.{Poll}
 use Rattle.futures.specs.declared.task.Poll.TheVariants.{Ready, Pending}
 use Rattle.pg_wire.specs.declared.error.ServerFault.{ServerFault}
@@ -18,21 +18,21 @@ use Rattle.pg_call.specs.Items.{items_of, tally_of}
 use Rattle.pg_call.specs.Answers.{TurnFits, AnswerFits}
 use Rattle.pg_call.proofs.FitLaws.{shown_fits, finished_fits}
 use Rattle.pg_conn.specs.Connections.{ConnOf, ConnSeen, seen_by, started_call, begun_with, begun_by}
-use Rattle.pg_conn.specs.Turns.{TakesBeat, PollsBy, PollsCall, beat_of}
+use Rattle.pg_conn.specs.Turns.{HasRoom, TakesBeat, PollsBy, PollsWithin, PollsCall, beat_of}
 use Rattle.pg_conn.specs.States.{IsCalling, PollFits, turn_of, closing_turn, KeepsConn, PollsClose}
 
 -- a call that was started
 pub started_calling : {A : Type 0} (r : Request) (c : ConnOf A) → IsCalling (kind_of r) (started_call r c)
-started_calling r c = (c.ledger, r, [], [], [], refl, (refl, refl, refl, refl, refl))
+started_calling r c = (c.ledger, r, [], [], [], refl, (refl, refl, refl, refl, refl), omega arith)
 
 fits_beat : (a b : ConnSeen) (kind : Kind) (answer : Poll Turn) → TakesBeat a b (beat_of answer) → IsCalling kind a → PollFits kind b answer
 fits_beat a b kind Pending t i =
     let told = t.3.tells i.0 i.1 i.2 i.3 i.4 i.6 in
-    (i.0, i.1, i.2 ++ told.0, i.3 ++ t.2, i.4, i.5, told.3.0)
+    (i.0, i.1, i.2 ++ told.0, i.3 ++ t.2, i.4, i.5, told.3.0, t.3.room i.7)
 fits_beat a b kind (Ready (turns.Item item)) t i =
     let told = t.3.tells i.0 i.1 i.2 i.3 i.4 i.6 in (
       subst (λ (k : Kind). TurnFits k (turns.Item item)) i.5 (shown_fits i.0 i.1 (i.2 ++ told.0) (i.3 ++ t.2) i.4 item b.ledger b.call told.3),
-      (i.0, i.1, i.2 ++ told.0, i.3 ++ t.2, i.4 ++ item ∷ [], i.5, told.3),
+      (i.0, i.1, i.2 ++ told.0, i.3 ++ t.2, i.4 ++ item ∷ [], i.5, told.3, t.3.room i.7),
     )
 fits_beat a b kind (Ready (turns.Ok answer)) t i =
     let told = t.3.tells i.0 i.1 i.2 i.3 i.4 i.6 in
@@ -47,7 +47,7 @@ fits_fault b kind fault (Ready (turns.Ok answer)) e = absurd cc
 fits_fault b kind fault (Ready (turns.Err error)) e = (tt, tt)
 
 fits_by : (o : Option ServerFault) (begun a b : ConnSeen) (kind : Kind) (answer : Poll Turn) → PollsBy o begun a b (beat_of answer) → IsCalling kind begun → PollFits kind b answer
-fits_by None begun a b kind answer p i = as_broken b kind answer (fits_beat begun _ kind answer p.0 i)
+fits_by None begun a b kind answer p i = as_broken b kind answer (fits_beat begun _ kind answer p.turns i)
   where
     as_broken : (b : ConnSeen) (kind : Kind) (answer : Poll Turn) → PollFits kind (record b { broken = None }) answer → PollFits kind b answer
     as_broken b kind Pending f = f
@@ -65,6 +65,18 @@ unseen seen b kind (Ready (turns.Err e)) f = f
 
 pub poll_fits : {A : Type 0} (seen : A → LinkSeen) (a b : ConnOf A) (kind : Kind) (answer : Poll Turn) → PollsCall (seen_by seen a) (seen_by seen b) answer → IsCalling kind a → PollFits kind b answer
 poll_fits seen a b kind answer p i = unseen seen b kind answer (fits_by a.broken (begun_with 256 (seen_by seen a)) (seen_by seen a) (seen_by seen b) kind answer p i)
+
+-- ---- the room for cleanup
+
+pub keeps_room : (left : ℕ) (a b : ConnSeen) (answer : Poll Turn) → HasRoom a → PollsWithin left a b answer → HasRoom b
+keeps_room left a b answer h p = by a.broken p
+  where
+    by : (o : Option ServerFault) → PollsBy o (begun_with left a) a b (beat_of answer) → HasRoom b
+    by None p = p.turns.3.room h
+    by (Some fault) p = subst (λ (c : ConnSeen). HasRoom c) (sym p.0) (omega arith)
+
+pub starts_with_room : (a : ConnSeen) (request : Request) → HasRoom (started_call request a)
+starts_with_room a request = omega arith
 
 -- ---- a close
 

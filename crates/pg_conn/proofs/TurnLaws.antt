@@ -1,5 +1,5 @@
 -- How the beats of a call follow one another.
-use Rattle.std.proofs.Common.{◌≡◌, ◌≢◌, ℕ, ◌+◌, ◌-◌, ◌<◌, ◌≤◌, cond, inl, inr, Bool, true, false, ◌&&◌, ◌==◌, List, [], ◌∷◌, ◌++◌, length, map, refl, sym, ap, ◌∙◌, subst, append_assoc, append-nil, length-append, arith, Ok, Err, Option, Some, None}
+use Rattle.std.proofs.Common.{◌≡◌, ◌≢◌, ◌⊎◌, ℕ, ◌+◌, ◌-◌, ◌<◌, ◌≤◌, cond, inl, inr, Bool, true, false, ◌&&◌, ◌==◌, List, [], ◌∷◌, ◌++◌, length, map, refl, sym, ap, ◌∙◌, subst, append_assoc, append-nil, length-append, arith, Ok, Err, Option, Some, None}
 use Rattle.std.specs.List.{count_by}
 use Rattle.std.proofs.lemmas.Bool.{eqb-true}
 use Rattle.std.proofs.lemmas.List.{map-append}
@@ -9,6 +9,7 @@ use Rattle.pg_wire.specs.declared.error.Error.{Error}
 use Rattle.pg_wire.specs.declared.error.Error.TheVariants as errors
 use Rattle.pg_wire.specs.declared.error.IoCause.TheVariants as io
 use Rattle.pg_wire.specs.declared.error.ProtocolFault.TheVariants as protocol
+use Rattle.pg_wire.specs.declared.error.ServerFault.{ServerFault}
 use Rattle.pg_wire.specs.declared.error.ServerFault.TheVariants as faults
 use Rattle.pg_wire.specs.Frame.{Frame, text_of}
 use Rattle.pg_wire.specs.Frontend.{FrontendMessage, frontend_frame}
@@ -35,16 +36,16 @@ use Rattle.pg_call.specs.declared.calling.Taken.{Taken}
 use Rattle.pg_call.specs.declared.running.Running.{Running}
 use Rattle.pg_call.specs.Requests.{Group, spelled, kind_of, messages_of, is_flush, is_close, query_of, CanBeSaid, IsRefusal, RefusesQuery}
 use Rattle.pg_call.specs.Hearing.{framed, fails_of}
-use Rattle.pg_call.specs.Calls.{CallIs, IsAwaiting, CallEnds, CallTakes, TakesMessage, RefusesMessage}
+use Rattle.pg_call.specs.Calls.{CallIs, IsAwaiting, CallEnds, CallTakes, StaysIn, TakesMessage, RefusesMessage}
 use Rattle.pg_call.proofs.LeaveLaws.{leaves_call, call_well, closing_fine, flush_fine, draining_none, replying_from, closing_from}
 use Rattle.pg_conn.specs.Connections.{ConnOf, ConnSeen, seen_by, idle, with_spare, queued_call, awaiting, closing, frames_in}
-use Rattle.pg_conn.specs.Turns.{ends_request, IsMissed, FailsBy, EndsBy, Tells, BeatCause, Turns, TakesBeat, IsAsked, Prepares, Refuses, is_flushed, IsAhead, Readies, Accepts, queued_copy_fail}
+use Rattle.pg_conn.specs.Turns.{ends_request, IsMissed, FailsBy, EndsBy, Tells, BeatCause, Turns, TakesBeat, IsAsked, cleanup_of, HasRoom, IsSayable, Prepares, Refuses, Refused, Polled, broken_by, is_flushed, IsAhead, Readies, Accepts, queued_copy_fail}
 
 -- the bytes of messages, one after another
 pub spelled-append : (xs ys : List FrontendMessage) → spelled (xs ++ ys) ≡ spelled xs ++ spelled ys
 spelled-append xs ys = ap text_of (map-append frontend_frame xs ys) ∙ text_of-append (map frontend_frame xs) (map frontend_frame ys)
 
-counts-append : (xs ys : List FrontendMessage) → count_by ends_request (xs ++ ys) ≡ count_by ends_request xs + count_by ends_request ys
+pub counts-append : (xs ys : List FrontendMessage) → count_by ends_request (xs ++ ys) ≡ count_by ends_request xs + count_by ends_request ys
 counts-append xs ys = sum_by-append (λ (m : FrontendMessage). cond (ends_request m) 1 0) xs ys
 
 grew-then : (x y z a b c : ℕ) → GrewBy x a b → GrewBy y b c → z ≡ x + y → GrewBy z a c
@@ -96,6 +97,8 @@ Turns-then a b c beat q q' fs fs' hs hs' s t = record {
   broken = t.broken ∙ s.broken;
   counted = grew-then (length hs) (length hs') (length (hs ++ hs')) a.heard b.heard c.heard s.counted t.counted (length-append hs hs');
   started = (t.started.0 ∙ s.started.0, t.started.1 ∙ s.started.1);
+  asked = λ i. s.asked (t.asked i);
+  room = λ h. t.room (s.room h);
   tells = λ start r said heards items i.
       let one = s.tells start r said heards items i in
       let two = t.tells start r (said ++ one.0) (heards ++ hs) items one.3 in (
@@ -112,11 +115,21 @@ TakesBeat-then a b c beat s t = (s.0 ++ t.0, s.1 ++ t.1, s.2 ++ t.2, Turns-then 
 
 -- ---- beats that move nothing of the link
 
+-- a call is asked only where it was, and wants no more room
+abbrev Keeps : Call → Call → Type 0
+Keeps before behind = (IsAsked behind → IsAsked before) × (cleanup_of behind ≤ cleanup_of before)
+
+keeps : (call : Call) → Keeps call call
+keeps call = (λ i. i, omega arith)
+
+keeps_idle : (call : Call) → Keeps call calls.Idle
+keeps_idle call = (λ i. absurd i, omega arith)
+
 -- the stream has moved by nothing, and nothing was heard
-stays : (a b : ConnSeen) (beat : Beat) → Moves a.stream b.stream [] [] → BeatCause a b beat → b.broken ≡ a.broken → b.heard ≡ a.heard → b.groups ≡ a.groups → b.sent ≡ a.sent → b.read ≡ a.read
+stays : (a b : ConnSeen) (beat : Beat) → Moves a.stream b.stream [] [] → BeatCause a b beat → Keeps a.call b.call → b.broken ≡ a.broken → b.heard ≡ a.heard → b.groups ≡ a.groups → b.sent ≡ a.sent → b.read ≡ a.read
     → ((start : Ledger) (r : Request) (said : List FrontendMessage) (hs : List Frame) (items : List CallItem) → CallIs start r said hs items a.ledger a.call → Tells a b start r said hs items beat)
     → TakesBeat a b beat
-stays a b beat m c k h g s t tells = (
+stays a b beat m c keep k h g s t tells = (
   [],
   [],
   [],
@@ -127,12 +140,14 @@ stays a b beat m c k h g s t tells = (
     broken = k;
     counted = rw h (grew-none a.heard);
     started = (s, t);
+    asked = keep.0;
+    room = λ r. omega (arith, r, keep.1, m.spare);
     tells = λ start r said hs items i. ([], refl, rw g (grew-none a.groups), rw (append-nil said, append-nil hs) (tells start r said hs items i));
   },
 )
 
 pub TakesBeat-none : (a : ConnSeen) → TakesBeat a a beats.More
-TakesBeat-none a = stays a a beats.More (Moves-none a.stream) (AllMoved-none a.stream) refl refl refl refl refl (λ start r said hs items i. i)
+TakesBeat-none a = stays a a beats.More (Moves-none a.stream) (AllMoved-none a.stream) (keeps a.call) refl refl refl refl refl (λ start r said hs items i. i)
 
 call_at : (start : Ledger) (r : Request) (said : List FrontendMessage) (hs : List Frame) (items : List CallItem) (l : Ledger) (k k' : Call) → k ≡ k' → CallIs start r said hs items l k → CallIs start r said hs items l k'
 call_at start r said hs items l k k' e i = subst (λ (c : Call). CallIs start r said hs items l c) e i
@@ -145,18 +160,25 @@ asked_waits start r asked said hs items ledger frames f can i =
 
 pub prepared : (a : ConnSeen) (asked : Request) (frames : List ℕ) → a.call ≡ calls.Asked asked → frames ≡ spelled (messages_of asked) → CanBeSaid asked
     → TakesBeat a (record a { call = calls.Waiting (record { kind = kind_of asked; frames = frames; is_copy_failed = a.ledger.is_copy_failed }) }) beats.More
-prepared a asked frames e f can = stays a _ beats.More (Moves-none a.stream) (AllMoved-none a.stream) refl refl refl refl refl (λ start r said hs items i. asked_waits start r asked said hs items a.ledger frames f can (call_at start r said hs items a.ledger a.call (calls.Asked asked) e i))
+prepared a asked frames e f can = stays a _ beats.More (Moves-none a.stream) (AllMoved-none a.stream) (λ i. absurd i, omega arith) refl refl refl refl refl (λ start r said hs items i. asked_waits start r asked said hs items a.ledger frames f can (call_at start r said hs items a.ledger a.call (calls.Asked asked) e i))
 
 pub prepares : (a : ConnSeen) (asked : Request) (frames : List ℕ) → a.call ≡ calls.Asked asked → frames ≡ spelled (messages_of asked) → CanBeSaid asked
     → Prepares a (record a { call = calls.Waiting (record { kind = kind_of asked; frames = frames; is_copy_failed = a.ledger.is_copy_failed }) })
-prepares a asked frames e f can = record { beat = prepared a asked frames e f can; asked = λ w. w }
+prepares a asked frames e f can = record { beat = prepared a asked frames e f can; asked = λ w. w; sayable = subst IsSayable (sym e) can }
 
 pub prepares_none : (a : ConnSeen) → (IsAsked a.call → ⊥) → Prepares a a
-prepares_none a n = record { beat = TakesBeat-none a; asked = n }
+prepares_none a n = record { beat = TakesBeat-none a; asked = n; sayable = not_asked_sayable a.call n }
+  where
+    not_asked_sayable : (call : Call) → (IsAsked call → ⊥) → IsSayable call
+    not_asked_sayable (calls.Asked request) n = absurd (n tt)
+    not_asked_sayable calls.Idle n = tt
+    not_asked_sayable (calls.Waiting w) n = tt
+    not_asked_sayable (calls.Own reply) n = tt
+    not_asked_sayable calls.Closing n = tt
 
 -- memory is wanting
 pub starved : (a : ConnSeen) (n : ℕ) → Moves a.stream (with_spare n a).stream [] [] → TakesBeat a (idle (with_spare n a)) (beats.Ends (Err errors.OutOfMemory))
-starved a n m = stays a (idle (with_spare n a)) (beats.Ends (Err errors.OutOfMemory)) m tt refl refl refl refl refl (λ start r said hs items i. (refl, inr (leaves_call start r said hs items a.ledger a.call i, call_well start r said hs items a.ledger a.call i, inl (tt, tt))))
+starved a n m = stays a (idle (with_spare n a)) (beats.Ends (Err errors.OutOfMemory)) m tt (keeps_idle a.call) refl refl refl refl refl (λ start r said hs items i. (refl, inr (leaves_call start r said hs items a.ledger a.call i, call_well start r said hs items a.ledger a.call i, inl (tt, tt))))
 
 -- a request that has no frame
 refusal_by : (a : ConnSeen) (asked : Request) (e : Error) (o : Option QueryText) → query_of asked ≡ o → RefusesQuery o e → (start : Ledger) (r : Request) (said : List FrontendMessage) (hs : List Frame) (items : List CallItem) → CallIs start r said hs items a.ledger (calls.Asked asked)
@@ -171,11 +193,14 @@ pub refused : (a : ConnSeen) (e : Error) → Refuses a.call e → TakesBeat a (i
 refused a e h = by a.call refl h
   where
     by : (call : Call) → a.call ≡ call → Refuses call e → TakesBeat a (idle a) (beats.Ends (Err e))
-    by (calls.Asked asked) k h = stays a (idle a) (beats.Ends (Err e)) (Moves-none a.stream) tt refl refl refl refl refl (λ start r said hs items i. (refl, refusal_by a asked e (query_of asked) refl h start r said hs items (call_at start r said hs items a.ledger a.call (calls.Asked asked) k i)))
+    by (calls.Asked asked) k h = stays a (idle a) (beats.Ends (Err e)) (Moves-none a.stream) tt (keeps_idle a.call) refl refl refl refl refl (λ start r said hs items i. (refl, refusal_by a asked e (query_of asked) refl h start r said hs items (call_at start r said hs items a.ledger a.call (calls.Asked asked) k i)))
     by calls.Idle k h = absurd h
     by (calls.Waiting w) k h = absurd h
     by (calls.Own reply) k h = absurd h
     by calls.Closing k h = absurd h
+
+pub refused_now : (a : ConnSeen) (e : Error) → Refuses a.call e → Refused a (idle a) (beats.Ends (Err e))
+refused_now a e h = (h, refl)
 
 -- ---- what waited is queued
 
@@ -208,10 +233,10 @@ flush_false true n z e = let w : true && 0 == 0 ≡ false = rw z at e in absurd 
 flush_false false n z e = refl
 
 -- the state b stands where what waited was queued
-queues_waiting : (a b : ConnSeen) (w : Waiting) → a.call ≡ calls.Waiting w → Moves a.stream b.stream w.frames [] → AllMoved a.stream b.stream → b.broken ≡ a.broken → b.heard ≡ a.heard → b.sent ≡ a.sent → b.read ≡ a.read
+queues_waiting : (a b : ConnSeen) (w : Waiting) → a.call ≡ calls.Waiting w → Moves a.stream b.stream w.frames [] → AllMoved a.stream b.stream → (IsAsked b.call → ⊥) → HasRoom b → b.broken ≡ a.broken → b.heard ≡ a.heard → b.sent ≡ a.sent → b.read ≡ a.read
     → ((start : Ledger) (r : Request) (said : List FrontendMessage) (hs : List Frame) (items : List CallItem) → CallIs start r said hs items a.ledger (calls.Waiting w) → GrewBy (count_by ends_request (messages_of r)) a.groups b.groups × CallIs start r (said ++ messages_of r) hs items b.ledger b.call)
     → TakesBeat a b beats.More
-queues_waiting a b w k m moved broken h s t tells = (
+queues_waiting a b w k m moved asked room broken h s t tells = (
   w.frames,
   [],
   [],
@@ -222,6 +247,8 @@ queues_waiting a b w k m moved broken h s t tells = (
     broken = broken;
     counted = rw h (grew-none a.heard);
     started = (s, t);
+    asked = λ i. absurd (asked i);
+    room = λ r. room;
     tells = λ start r said hs items i.
         let j = call_at start r said hs items a.ledger a.call (calls.Waiting w) k i in
         let g = tells start r said hs items j in
@@ -229,12 +256,12 @@ queues_waiting a b w k m moved broken h s t tells = (
   },
 )
 
-pub asks_reply : (a : ConnSeen) (n g : ℕ) (w : Waiting) → a.call ≡ calls.Waiting w → a.ledger.owed ≡ 0 → is_flushed a.ledger a.call ≡ false → is_close w.kind ≡ false → Moves a.stream (queued_call n a).stream w.frames [] × AllMoved a.stream (queued_call n a).stream → GrewBy 1 a.groups g
+pub asks_reply : (a : ConnSeen) (n g : ℕ) (w : Waiting) → a.call ≡ calls.Waiting w → a.ledger.owed ≡ 0 → is_flushed a.ledger a.call ≡ false → is_close w.kind ≡ false → Moves a.stream (queued_call n a).stream w.frames [] × AllMoved a.stream (queued_call n a).stream → 128 ≤ n → GrewBy 1 a.groups g
     → Readies a (awaiting w.kind g (queued_call n a))
-asks_reply a n g w k z f c m grew =
+asks_reply a n g w k z f c m room grew =
     let flush : is_flush w.kind ≡ false = flush_false (is_flush w.kind) a.ledger.owed z (subst (λ (x : Call). is_flushed a.ledger x ≡ false) k f) in
     record {
-      beat = queues_waiting a (awaiting w.kind g (queued_call n a)) w k m.0 m.1 refl refl refl refl (λ start r said hs items i.
+      beat = queues_waiting a (awaiting w.kind g (queued_call n a)) w k m.0 m.1 (λ i. i) room refl refl refl refl (λ start r said hs items i.
           let one = groups_said r (rw i.0 at flush) (rw i.0 at c) in
           (rw one grew, replying_from start r said hs items a.ledger w flush c z i));
       ahead = tt;
@@ -243,7 +270,7 @@ asks_reply a n g w k z f c m grew =
 pub asks_nothing : (a : ConnSeen) (n : ℕ) (w : Waiting) → a.call ≡ calls.Waiting w → a.ledger.owed ≡ 0 → is_close w.kind ≡ true → Moves a.stream (queued_call n a).stream w.frames [] × AllMoved a.stream (queued_call n a).stream
     → Readies a (closing (queued_call n a))
 asks_nothing a n w k z c m = record {
-  beat = queues_waiting a (closing (queued_call n a)) w k m.0 m.1 refl refl refl refl (λ start r said hs items i.
+  beat = queues_waiting a (closing (queued_call n a)) w k m.0 m.1 (λ i. i) (omega arith) refl refl refl refl (λ start r said hs items i.
       let none = groups_farewell r (rw i.0 at c) in
       (rw none (grew-none a.groups), closing_from start r said hs items a.ledger w c z i));
   ahead = tt;
@@ -279,9 +306,28 @@ flushed_by start r said hs items ledger calls.Closing f i = absurd cc
 flushed_by start r said hs items ledger calls.Idle f i = absurd i
 
 pub flushed : (a : ConnSeen) → is_flushed a.ledger a.call ≡ true → TakesBeat a (idle a) (beats.Ends (Ok answers.Unit))
-flushed a f = stays a (idle a) (beats.Ends (Ok answers.Unit)) (Moves-none a.stream) tt refl refl refl refl refl (λ start r said hs items i.
+flushed a f = stays a (idle a) (beats.Ends (Ok answers.Unit)) (Moves-none a.stream) tt (keeps_idle a.call) refl refl refl refl refl (λ start r said hs items i.
     let e = flushed_by start r said hs items a.ledger a.call f i in
     (refl, e.0, λ k. absurd (e.1 k)))
+
+-- ---- a poll
+
+-- a beat on a connection that is whole, which is broken or not behind it
+pub polled : {A : Type 0} (seen : A → LinkSeen) (a m b : ConnOf A) (beat : Beat) → a.broken ≡ None → TakesBeat (seen_by seen a) (seen_by seen m) beat → IsSayable a.call ⊎ Refused (seen_by seen a) (seen_by seen m) beat → (IsAsked m.call → ⊥)
+    → b ≡ record m { broken = broken_by beat } → Polled (seen_by seen a) (seen_by seen b) beat
+polled {A} seen a m b beat whole takes says asked is =
+    let same : m.broken ≡ None = takes.3.broken ∙ whole in
+    let after : ConnSeen = seen_by seen m in
+    subst (λ (x : ConnOf A). Polled (seen_by seen a) (seen_by seen x) beat) (sym is) (record {
+      turns = subst (λ (o : Option ServerFault). TakesBeat (seen_by seen a) (record after { broken = o }) beat) same takes;
+      broken = refl;
+      says = subst (λ (o : Option ServerFault). IsSayable a.call ⊎ Refused (seen_by seen a) (record after { broken = o }) beat) same says;
+      asked = asked;
+    })
+
+pub polled_whole : {A : Type 0} (seen : A → LinkSeen) (a m : ConnOf A) (beat : Beat) → a.broken ≡ None → TakesBeat (seen_by seen a) (seen_by seen m) beat → IsSayable a.call ⊎ Refused (seen_by seen a) (seen_by seen m) beat → (IsAsked m.call → ⊥)
+    → broken_by beat ≡ None → Polled (seen_by seen a) (seen_by seen m) beat
+polled_whole {A} seen a m beat whole takes says asked none = polled seen a m m beat whole takes says asked (ap (λ (o : Option ServerFault). record m { broken = o }) (takes.3.broken ∙ whole ∙ sym none))
 
 -- ---- messages
 
@@ -298,10 +344,10 @@ awaiting_owed start r said hs items ledger calls.Closing h i = absurd h
 awaiting_owed start r said hs items ledger calls.Idle h i = absurd i
 
 -- asynchronous messages alone were taken
-asides : (a b : ConnSeen) (beat : Beat) (aside : List Frame) → AreAsynchronous aside → Moves a.stream b.stream [] aside → BeatCause a b beat → b.broken ≡ a.broken → b.heard ≡ a.heard → b.groups ≡ a.groups → b.sent ≡ a.sent → b.read ≡ a.read
+asides : (a b : ConnSeen) (beat : Beat) (aside : List Frame) → AreAsynchronous aside → Moves a.stream b.stream [] aside → BeatCause a b beat → Keeps a.call b.call → b.broken ≡ a.broken → b.heard ≡ a.heard → b.groups ≡ a.groups → b.sent ≡ a.sent → b.read ≡ a.read
     → ((start : Ledger) (r : Request) (said : List FrontendMessage) (hs : List Frame) (items : List CallItem) → CallIs start r said hs items a.ledger a.call → Tells a b start r said hs items beat)
     → TakesBeat a b beat
-asides a b beat aside n m c k h g s t tells = (
+asides a b beat aside n m c keep k h g s t tells = (
   [],
   aside,
   [],
@@ -312,6 +358,8 @@ asides a b beat aside n m c k h g s t tells = (
     broken = k;
     counted = rw h (grew-none a.heard);
     started = (s, t);
+    asked = keep.0;
+    room = λ r. omega (arith, r, keep.1, m.spare);
     tells = λ start r said hs items i. ([], refl, rw g (grew-none a.groups), rw (append-nil said, append-nil hs) (tells start r said hs items i));
   },
 )
@@ -320,28 +368,28 @@ abbrev pub over_stream : ConnSeen → StreamSeen → ConnSeen
 over_stream a t = record a { stream = t }
 
 pub hears_nothing : (a : ConnSeen) (t : StreamSeen) → IsAwaiting a.ledger a.call → PollsAhead a.stream t Pending → TakesBeat a (over_stream a t) beats.Waits
-hears_nothing a t w p = asides a (over_stream a t) beats.Waits p.0 p.1 p.2 p.3 refl refl refl refl refl (λ start r said hs items i. (i, inl (awaiting_owed start r said hs items a.ledger a.call w i)))
+hears_nothing a t w p = asides a (over_stream a t) beats.Waits p.0 p.1 p.2 p.3 (keeps a.call) refl refl refl refl refl (λ start r said hs items i. (i, inl (awaiting_owed start r said hs items a.ledger a.call w i)))
 
 missed : (ledger : Ledger) (e : Error) → 0 < ledger.owed → IsMissed ledger e
 missed ledger (errors.Io io.End) h = h
 missed ledger _ h = tt
 
 pub hears_fault : (a : ConnSeen) (t : StreamSeen) (e : Error) → IsAwaiting a.ledger a.call → PollsAhead a.stream t (Ready (Err e)) → TakesBeat a (idle (over_stream a t)) (beats.Ends (Err e))
-hears_fault a t e w p = asides a (idle (over_stream a t)) (beats.Ends (Err e)) p.0 p.1 p.2 tt refl refl refl refl refl (λ start r said hs items i.
+hears_fault a t e w p = asides a (idle (over_stream a t)) (beats.Ends (Err e)) p.0 p.1 p.2 tt (keeps_idle a.call) refl refl refl refl refl (λ start r said hs items i.
     (refl, inr (leaves_call start r said hs items a.ledger a.call i, call_well start r said hs items a.ledger a.call i, inl (p.3, missed a.ledger e (awaiting_owed start r said hs items a.ledger a.call w i)))))
 
 pub hears_front : (a : ConnSeen) (t : StreamSeen) (front : Front) → PollsAhead a.stream t (Ready (Ok front)) → TakesBeat a (over_stream a t) beats.More
-hears_front a t front p = asides a (over_stream a t) beats.More p.0 p.1 p.2 p.4 refl refl refl refl refl (λ start r said hs items i. i)
+hears_front a t front p = asides a (over_stream a t) beats.More p.0 p.1 p.2 p.4 (keeps a.call) refl refl refl refl refl (λ start r said hs items i. i)
 
 -- the cleanup reserve has grown
 pub makes_room : (a : ConnSeen) (n : ℕ) → Moves a.stream (with_spare n a).stream [] [] × AllMoved a.stream (with_spare n a).stream → TakesBeat a (with_spare n a) beats.More
-makes_room a n m = stays a (with_spare n a) beats.More m.0 m.1 refl refl refl refl refl (λ start r said hs items i. i)
+makes_room a n m = stays a (with_spare n a) beats.More m.0 m.1 (keeps a.call) refl refl refl refl refl (λ start r said hs items i. i)
 
 -- ---- a message that is refused
 
 pub front_refused : (a : ConnSeen) (front : Front) (body rest : List ℕ) (e : Error) → IsHeardFront a.stream.held front → IsFrontOf a.stream.held front (framed front.tag body) rest
     → RefusesMessage front.tag body (record { ledger = a.ledger; call = a.call }) e → TakesBeat a (idle a) (beats.Ends (Err e))
-front_refused a front body rest e f of refuses = stays a (idle a) (beats.Ends (Err e)) (Moves-none a.stream) tt refl refl refl refl refl (λ start r said hs items i.
+front_refused a front body rest e f of refuses = stays a (idle a) (beats.Ends (Err e)) (Moves-none a.stream) tt (keeps_idle a.call) refl refl refl refl refl (λ start r said hs items i.
     let x = refuses start r said hs items i in
     (refl, inr (x.0, x.1, inr (framed front.tag body, rest, of.whole, heard_front a.stream.held front (framed front.tag body) rest f of, of.parts, x.2))))
   where
@@ -363,7 +411,7 @@ taken_cause a b beats.Waits n h = absurd (n refl)
 taken_cause a b (beats.Yields item) n h = tt
 taken_cause a b (beats.Ends answer) n h = tt
 
-no_groups : (fails : Bool) → count_by ends_request (fails_of fails) ≡ 0
+pub no_groups : (fails : Bool) → count_by ends_request (fails_of fails) ≡ 0
 no_groups true = refl
 no_groups false = refl
 
@@ -377,6 +425,29 @@ not_asked calls.Idle n h = h
 not_asked (calls.Waiting w) n h = h
 not_asked (calls.Own reply) n h = h
 not_asked calls.Closing n h = h
+
+-- a message asks no call, and queues what it has room for
+stays_asked : (before : Call) (fails : Bool) (behind : Call) → StaysIn before fails behind → IsAsked behind → IsAsked before
+stays_asked calls.Idle fails (calls.Asked request) s i = absurd s
+stays_asked (calls.Asked request) fails behind s i = tt
+stays_asked (calls.Waiting w) fails (calls.Asked request) s i = absurd s
+stays_asked (calls.Own reply) fails (calls.Asked request) s i = absurd s
+stays_asked calls.Closing fails (calls.Asked request) s i = absurd s
+stays_asked before fails calls.Idle s i = absurd i
+stays_asked before fails (calls.Waiting w) s i = absurd i
+stays_asked before fails (calls.Own reply) s i = absurd i
+stays_asked before fails calls.Closing s i = absurd i
+
+stays_room : (before : Call) (fails : Bool) (behind : Call) (n : ℕ) → StaysIn before fails behind → cleanup_of before ≤ n → cleanup_of behind ≤ n - length (spelled (fails_of fails))
+stays_room (calls.Own old) fails (calls.Own new) n s h = rw s (omega (arith, h))
+stays_room calls.Idle fails (calls.Own new) n s h = absurd s
+stays_room (calls.Asked request) fails (calls.Own new) n s h = absurd s
+stays_room (calls.Waiting w) fails (calls.Own new) n s h = absurd s
+stays_room calls.Closing fails (calls.Own new) n s h = absurd s
+stays_room before fails calls.Idle n s h = omega arith
+stays_room before fails (calls.Asked request) n s h = omega arith
+stays_room before fails (calls.Waiting w) n s h = omega arith
+stays_room before fails calls.Closing n s h = omega arith
 
 -- ---- over a link
 
@@ -403,13 +474,13 @@ asks_closing {A} seen a q b w k z c le is closes =
     let n = q.stream.spare in
     subst (λ (x : ConnOf A). Readies (seen_by seen a) (seen_by seen x)) (sym (closes ∙ ap (λ (x : ConnOf A). closing x) is)) (asks_nothing (seen_by seen a) n w k z c (queued_moves seen a n w k le))
 
-pub asks_own : {A : Type 0} (seen : A → LinkSeen) (a q b : ConnOf A) (w : Waiting) → a.call ≡ calls.Waiting w → a.ledger.owed ≡ 0 → is_flushed a.ledger a.call ≡ false → is_close w.kind ≡ false → a.stream.spare ≤ q.stream.spare → q ≡ queued_call q.stream.spare a
+pub asks_own : {A : Type 0} (seen : A → LinkSeen) (a q b : ConnOf A) (w : Waiting) → a.call ≡ calls.Waiting w → a.ledger.owed ≡ 0 → is_flushed a.ledger a.call ≡ false → is_close w.kind ≡ false → a.stream.spare ≤ q.stream.spare → 128 ≤ q.stream.spare → q ≡ queued_call q.stream.spare a
     → b ≡ awaiting w.kind b.groups q → GrewBy 1 q.groups b.groups → Readies (seen_by seen a) (seen_by seen b)
-asks_own {A} seen a q b w k z f c le is awaits grew =
+asks_own {A} seen a q b w k z f c le room is awaits grew =
     let n = q.stream.spare in
     let g = b.groups in
     let same : q.groups ≡ a.groups = ap (λ (x : ConnOf A). x.groups) is in
-    subst (λ (x : ConnOf A). Readies (seen_by seen a) (seen_by seen x)) (sym (awaits ∙ ap (λ (x : ConnOf A). awaiting w.kind g x) is)) (asks_reply (seen_by seen a) n g w k z f c (queued_moves seen a n w k le) (rw same at grew))
+    subst (λ (x : ConnOf A). Readies (seen_by seen a) (seen_by seen x)) (sym (awaits ∙ ap (λ (x : ConnOf A). awaiting w.kind g x) is)) (asks_reply (seen_by seen a) n g w k z f c (queued_moves seen a n w k le) room (rw same at grew))
 
 pub with_room : {A : Type 0} (seen : A → LinkSeen) (a r : ConnOf A) → r ≡ with_spare r.stream.spare a → a.stream.spare ≤ r.stream.spare → TakesBeat (seen_by seen a) (seen_by seen r) beats.More
 with_room {A} seen a r room le =
@@ -435,9 +506,9 @@ taken_moves seen a t front body rest fails f of room p =
     )
 
 pub takes_message : {A : Type 0} (seen : A → LinkSeen) (a b : ConnOf A) (new : Running) (front : Front) (body rest : List ℕ) (taken : Taken) → IsHeardFront a.stream.held front → IsFrontOf a.stream.held front (framed front.tag body) rest
-    → TakesMessage front.tag body (record { ledger = a.ledger; call = a.call }) new taken → (taken.fails_copy ≡ true → 57 ≤ a.stream.spare) → (taken.beat ≢ beats.Waits) → Accepts front taken.fails_copy (record a { ledger = new.ledger; call = new.call }) b
+    → TakesMessage front.tag body (record { ledger = a.ledger; call = a.call }) new taken → StaysIn a.call taken.fails_copy new.call → (taken.fails_copy ≡ true → 57 ≤ a.stream.spare) → (taken.beat ≢ beats.Waits) → Accepts front taken.fails_copy (record a { ledger = new.ledger; call = new.call }) b
     → TakesBeat (seen_by seen a) (seen_by seen b) taken.beat
-takes_message {A} seen a b new front body rest taken f of takes room goes acc =
+takes_message {A} seen a b new front body rest taken f of takes stays_in room goes acc =
     let t = acc.0 in
     let fails = taken.fails_copy in
     let frame = framed front.tag body in
@@ -456,6 +527,8 @@ takes_message {A} seen a b new front body rest taken f of takes room goes acc =
         broken = refl;
         counted = acc.3;
         started = (refl, refl);
+        asked = stays_asked a.call taken.fails_copy new.call stays_in;
+        room = λ h. omega (arith, spare, stays_room a.call taken.fails_copy new.call a.stream.spare stays_in h);
         tells = λ start r said hs items i.
             let none = no_groups fails in
             (fails_of fails, refl, rw none (grew-none a.groups), told (seen_by seen a) c start r (said ++ fails_of fails) (hs ++ frame ∷ []) items taken.beat (takes start r said hs items i));
@@ -465,18 +538,18 @@ takes_message {A} seen a b new front body rest taken f of takes room goes acc =
 -- ---- the last frame is sent
 
 pub farewell_waits : (a : ConnSeen) (t : StreamSeen) → a.call ≡ calls.Closing → PollsSend a.stream t Pending → TakesBeat a (over_stream a t) beats.Waits
-farewell_waits a t k p = stays a (over_stream a t) beats.Waits p.moves (sent_cause a.stream t p.gives) refl refl refl refl refl (λ start r said hs items i. (i, inr k))
+farewell_waits a t k p = stays a (over_stream a t) beats.Waits p.moves (sent_cause a.stream t p.gives) (keeps a.call) refl refl refl refl refl (λ start r said hs items i. (i, inr k))
   where
     sent_cause : (s t : StreamSeen) → SendGives s t Pending → PendingCause s t
     sent_cause s t (inl w) = inl w
     sent_cause s t (inr f) = inr (inr f)
 
 pub farewell_fails : (a : ConnSeen) (t : StreamSeen) (e : Error) → a.call ≡ calls.Closing → PollsSend a.stream t (Ready (Err e)) → TakesBeat a (idle (over_stream a t)) (beats.Ends (Err e))
-farewell_fails a t e k p = rw p.gives.0 (stays a (idle (over_stream a t)) (beats.Ends (Err (errors.Io io.Fault))) p.moves tt refl refl refl refl refl (λ start r said hs items i.
+farewell_fails a t e k p = rw p.gives.0 (stays a (idle (over_stream a t)) (beats.Ends (Err (errors.Io io.Fault))) p.moves tt (keeps_idle a.call) refl refl refl refl refl (λ start r said hs items i.
     (refl, inr (leaves_call start r said hs items a.ledger a.call i, call_well start r said hs items a.ledger a.call i, inl (p.gives.1, tt)))))
 
 pub farewell_said : (a : ConnSeen) (t : StreamSeen) (u : Unit {0}) → a.call ≡ calls.Closing → PollsSend a.stream t (Ready (Ok u)) → TakesBeat a (idle (over_stream a t)) (beats.Ends (Ok answers.Unit))
-farewell_said a t u k p = stays a (idle (over_stream a t)) (beats.Ends (Ok answers.Unit)) p.moves tt refl refl refl refl refl (λ start r said hs items i.
+farewell_said a t u k p = stays a (idle (over_stream a t)) (beats.Ends (Ok answers.Unit)) p.moves tt (keeps_idle a.call) refl refl refl refl refl (λ start r said hs items i.
     (refl, closing_fine start r said hs items a.ledger (call_at start r said hs items a.ledger a.call calls.Closing k i), λ c. p.gives.0))
 
 -- ---- a front is accepted, step by step

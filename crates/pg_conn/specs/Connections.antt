@@ -33,8 +33,8 @@ abbrev pub seen_by : {A : Type 0} → (A → LinkSeen) → ConnOf A → ConnSeen
 seen_by f c = record { stream = stream_by f c.stream; ledger = c.ledger; call = c.call; broken = c.broken; groups = c.groups; heard = c.heard; sent = c.sent; read = c.read }
 
 -- behind start-up, before any call
-abbrev pub fresh_connection : {A : Type 0} → StreamOf A → ℕ → ConnOf A
-fresh_connection stream sent = record { stream = stream; ledger = owes_none; call = calls.Idle; broken = None; groups = 0; heard = 0; sent = sent; read = stream.taken }
+abbrev pub fresh_connection : {A : Type 0} → StreamOf A → ℕ → ℕ → ConnOf A
+fresh_connection stream sent read = record { stream = stream; ledger = owes_none; call = calls.Idle; broken = None; groups = 0; heard = 0; sent = sent; read = read }
 
 -- a call has begun, and its numbers are counted from zero
 abbrev pub started_call : {A : Type 0} → Request → ConnOf A → ConnOf A

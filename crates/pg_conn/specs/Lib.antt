@@ -1,6 +1,7 @@
 pub mod Connections
 pub mod Turns
-pub mod Startups
 pub mod States
-pub mod Establishing
+pub mod Connecting
 pub mod Dials
+pub mod SocketDials
+pub mod Ledgers

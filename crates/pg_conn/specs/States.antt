@@ -18,11 +18,11 @@ use Rattle.pg_call.specs.Requests.{kind_of}
 use Rattle.pg_call.specs.Answers.{TurnFits}
 use Rattle.pg_call.specs.Calls.{CallIs}
 use Rattle.pg_conn.specs.Connections.{ConnOf, seen_by, begun_by, is_over}
-use Rattle.pg_conn.specs.Turns.{PollsCall}
+use Rattle.pg_conn.specs.Turns.{HasRoom, PollsCall}
 
--- a call of this kind runs, which has come where it is by messages queued, frames heard and items shown
+-- a call of this kind runs, which has come where it is by messages queued, frames heard and items shown, and has room for its cleanup
 abbrev pub IsCalling : {A : Type 0} → Kind → ConnOf A → Type 0
-IsCalling kind c = (start : Ledger) × (r : Request) × (said : List FrontendMessage) × (hs : List Frame) × (items : List CallItem) × (kind_of r ≡ kind) × CallIs start r said hs items c.ledger c.call
+IsCalling kind c = (start : Ledger) × (r : Request) × (said : List FrontendMessage) × (hs : List Frame) × (items : List CallItem) × (kind_of r ≡ kind) × CallIs start r said hs items c.ledger c.call × HasRoom c
 
 -- the call still runs where it waits or has shown an item
 abbrev pub StaysCalling : {A : Type 0} → Kind → ConnOf A → Turn → Type 0

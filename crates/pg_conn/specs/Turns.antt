@@ -1,5 +1,5 @@
 -- How one poll of a call moves the connection on, whatever the call had done before.
-use Rattle.std.specs.Prelude.{◌≡◌, ℕ, ◌-◌, ◌<◌, ◌⊎◌, ◌==◌, ◌&&◌, Bool, true, false, count_by, List, [], ◌∷◌, ◌++◌, length, Ok, Err, Option, Some, None}
+use Rattle.std.specs.Prelude.{◌≡◌, ℕ, ◌-◌, ◌<◌, ◌≤◌, ◌⊎◌, ◌==◌, ◌&&◌, Bool, true, false, count_by, List, [], ◌∷◌, ◌++◌, length, Ok, Err, Option, Some, None}
 use Rattle.futures.specs.declared.task.Poll.{Poll}
 use Rattle.futures.specs.declared.task.Poll.TheVariants.{Ready, Pending}
 use Rattle.pg_wire.specs.declared.error.Error.{Error}
@@ -22,11 +22,11 @@ use Rattle.pg_call.specs.declared.calling.Call.{Call}
 use Rattle.pg_call.specs.declared.calling.Call.TheVariants as calls
 use Rattle.pg_call.specs.declared.calling.Beat.{Beat}
 use Rattle.pg_call.specs.declared.calling.Beat.TheVariants as beats
-use Rattle.pg_call.specs.Requests.{Group, spelled, kind_of, is_flush, IsRefusal}
+use Rattle.pg_call.specs.Requests.{Group, spelled, kind_of, is_flush, CanBeSaid, IsRefusal}
 use Rattle.pg_call.specs.Drains.{is_error}
 use Rattle.pg_call.specs.Hearing.{fails_of}
 use Rattle.pg_call.specs.Calls.{CallIs, IsAwaiting, Leaves, CallEnds, IsFrontFault}
-use Rattle.pg_conn.specs.Connections.{ConnOf, ConnSeen, idle, begun_with}
+use Rattle.pg_conn.specs.Connections.{ConnOf, ConnSeen, idle, started_call, begun, begun_with}
 
 -- Query and Sync end a group ("Simple Query", "Extended Query")
 abbrev pub ends_request : FrontendMessage → Bool
@@ -55,6 +55,20 @@ EndsBy a b start r said hs items e = CallEnds start r said hs items b.ledger (Er
     ⊎ ((l : Leaves start r said hs items b.ledger false) × (count_by is_error hs ≡ 0) × FailsBy a b start r l.own hs e)
 
 -- ---- a beat
+
+-- the call was not polled yet
+abbrev pub IsAsked : Call → Type 0
+IsAsked (calls.Asked request) = Unit {0}
+IsAsked _ = ⊥
+
+-- the bytes of cleanup that a call may queue: two frames of 64 bytes at most, once it has queued a group
+abbrev pub cleanup_of : Call → ℕ
+cleanup_of (calls.Own reply) = 128
+cleanup_of _ = 0
+
+-- there is room for them, which takes no memory
+abbrev pub HasRoom : {A : Type 0} → ConnOf A → Type 0
+HasRoom c = cleanup_of c.call ≤ c.stream.spare
 
 -- a reply is owed, or the last frame is not sent yet
 abbrev pub IsWaited : ConnSeen → Type 0
@@ -86,6 +100,8 @@ pub record Turns (a b : ConnSeen) (beat : Beat) (q : List ℕ) (fs hs : List Fra
   pub broken : b.broken ≡ a.broken
   pub counted : GrewBy (length hs) a.heard b.heard
   pub started : (b.sent ≡ a.sent) × (b.read ≡ a.read)
+  pub asked : IsAsked b.call → IsAsked a.call
+  pub room : HasRoom a → HasRoom b
   pub tells : (start : Ledger) (r : Request) (said : List FrontendMessage) (hs' : List Frame) (items : List CallItem) → CallIs start r said hs' items a.ledger a.call
       → TellsOf a b start r said (hs' ++ hs) items beat q
 
@@ -94,14 +110,16 @@ TakesBeat a b beat = (q : List ℕ) × (fs : List Frame) × (hs : List Frame) ×
 
 -- ---- what stands between the steps of a beat
 
-abbrev pub IsAsked : Call → Type 0
-IsAsked (calls.Asked request) = Unit {0}
-IsAsked _ = ⊥
+-- frames can say what is asked
+abbrev pub IsSayable : Call → Type 0
+IsSayable (calls.Asked request) = CanBeSaid request
+IsSayable _ = Unit {0}
 
 -- what is asked stands as frames
 pub record Prepares (a b : ConnSeen) : Type 0 where
   pub beat : TakesBeat a b beats.More
   pub asked : IsAsked b.call → ⊥
+  pub sayable : IsSayable a.call
 
 abbrev pub Refuses : Call → Error → Type 0
 Refuses (calls.Asked request) e = IsRefusal request e
@@ -145,9 +163,23 @@ abbrev pub broken_by : Beat → Option ServerFault
 broken_by (beats.Ends (Err (errors.Protocol (protocol.Server fault)))) = Some fault
 broken_by _ = None
 
+-- what was asked is refused, and nothing else is done
+abbrev pub Refused : ConnSeen → ConnSeen → Beat → Type 0
+Refused a b (beats.Ends (Err e)) = Refuses a.call e × (b ≡ idle a)
+Refused a b _ = ⊥
+
+-- one poll of a call that begins with this connection, which is whole
+pub record Polled (begun b : ConnSeen) (beat : Beat) : Type 0 where
+  pub turns : TakesBeat begun (record b { broken = None }) beat
+  pub broken : b.broken ≡ broken_by beat
+  -- frames can say what is asked, or this poll refuses it
+  pub says : IsSayable begun.call ⊎ Refused begun (record b { broken = None }) beat
+  -- and behind it no call is merely asked
+  pub asked : IsAsked b.call → ⊥
+
 -- one poll of a call, which begins with this connection, or answers at once where the connection is broken
 abbrev pub PollsBy : Option ServerFault → ConnSeen → ConnSeen → ConnSeen → Beat → Type 0
-PollsBy None begun a b beat = TakesBeat begun (record b { broken = None }) beat × (b.broken ≡ broken_by beat)
+PollsBy None begun a b beat = Polled begun b beat
 PollsBy (Some fault) begun a b beat = (b ≡ idle a) × (beat ≡ beats.Ends (Err (errors.Protocol (protocol.Server fault))))
 
 -- a poll within so many calls of the link
@@ -160,3 +192,7 @@ PollsCall a b answer = PollsWithin 256 a b answer
 -- a poll that goes on with the calls of the link that the last one left
 abbrev pub PollsMore : ConnSeen → ConnSeen → Poll Turn → Type 0
 PollsMore a b answer = PollsBy a.broken a a b (beat_of answer)
+
+-- the first poll of a request that refuses it, and does nothing else
+abbrev pub RefusesAtOnce : Request → ConnSeen → ConnSeen → Poll Turn → Type 0
+RefusesAtOnce request a b answer = (e : Error) × (answer ≡ Ready (turns.Err e)) × IsRefusal request e × (b ≡ idle (begun (started_call request a)))

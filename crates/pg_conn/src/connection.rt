@@ -4,6 +4,7 @@ ghost use Rattle.pg_conn.specs.Connections.{fresh_connection, idle, left_by, run
 
 use crate::{CacheStep, Progress, Request};
 use pg_call::{Call, Running};
+use pg_startup::Ready;
 use pg_stream::PgStream;
 use pg_wire::{Error, ServerFault};
 use std::alloc::Global;
@@ -31,11 +32,16 @@ impl<L> Model for PgConnection<L> {
 }
 
 impl<L> PgConnection<L> {
-    /// A connection over a stream whose start-up has ended: what it sent and read is told by `started`.
-    pub(crate) fn over(alloc: Global, stream: PgStream<L>, sent: u64) -> Self
-        ensures { result ≡ fresh_connection stream sent }
+    /// The connection that a start-up has come to.
+    pub(crate) fn over(alloc: Global, ready: Ready<L>) -> Self
+        ensures { result ≡ fresh_connection ready.stream ready.sent ready.read }
     {
-        let read = stream.taken();
+        let Ready {
+            stream,
+            session: _,
+            sent,
+            read,
+        } = ready;
         PgConnection {
             alloc,
             stream,
@@ -96,7 +102,7 @@ impl<L> PgConnection<L> {
         stream.into_link()
     }
 
-    /// The bytes sent and the bytes of the frames read up to the end of start-up.
+    /// The bytes sent and the bytes read up to the end of start-up.
     pub fn started(&self) -> (u64, u64)
         ensures { result ≡ (self.now.sent, self.now.read) }
     {

@@ -1,7 +1,14 @@
 //! What follows from the definitions of this crate, each law as the contract of a function that does nothing.
-ghost use Rattle.std.specs.Prelude.{◌≡◌, Some};
-ghost use Rattle.pg_conn.specs.Connections.{ConnSeen, left_by, idle};
+ghost use Rattle.std.specs.Prelude.{◌≡◌, ℕ, [], None, Some};
+ghost use Rattle.futures.specs.declared.task.Poll.{Poll};
+ghost use Rattle.pg_call.specs.declared.answer.Turn.{Turn};
+ghost use Rattle.pg_call.specs.declared.kind.Kind.{Kind};
 ghost use Rattle.pg_call.specs.declared.request.Request.{Request};
+ghost use Rattle.pg_call.specs.Requests.{CanBeSaid};
+ghost use Rattle.pg_conn.specs.Connections.{ConnSeen, started_call, left_by, idle};
+ghost use Rattle.pg_conn.specs.Ledgers.{Owes, OwesSome};
+ghost use Rattle.pg_conn.specs.States.{IsCalling};
+ghost use Rattle.pg_conn.specs.Turns.{HasRoom, PollsCall, PollsMore, PollsWithin, RefusesAtOnce};
 
 /// The state of a call that is dropped before its first poll leaves the connection as it was: it has queued and taken nothing.
 pub fn an_unpolled_call_does_nothing()
@@ -11,4 +18,27 @@ pub fn an_unpolled_call_does_nothing()
 /// A call that is given up leaves all but itself as it is: what it queued stays queued, and its reply stays owed.
 pub fn a_dropped_call_stays_owed()
     ensures { (c : ConnSeen) → ((idle c).ledger ≡ c.ledger) × ((idle c).stream ≡ c.stream) }
+{}
+
+/// A request that no frame can say, for a zero byte in its text or for its length, is refused by its first poll, which does nothing
+/// else. Only the fault of a broken connection comes before that refusal, and want of memory in its place.
+pub fn what_no_frame_says_is_refused_at_once()
+    ensures { (a b : ConnSeen) (request : Request) (answer : Poll Turn) → a.broken ≡ None → PollsCall (started_call request a) b answer → (CanBeSaid request → ⊥) → RefusesAtOnce request a b answer }
+{}
+
+/// The reply ledger law: behind each poll of a call one reply more is owed for each Query and Sync message that it queued, and one less
+/// for each ReadyForQuery message that it took. A start and a drop of a call change nothing of that.
+pub fn replies_owed_are_requests_less_readies()
+    ensures polls { (kind : Kind) (left : ℕ) (a b : ConnSeen) (answer : Poll Turn) → IsCalling kind a → PollsWithin left a b answer → OwesSome a b }
+    ensures more { (kind : Kind) (a b : ConnSeen) (answer : Poll Turn) → IsCalling kind a → PollsMore a b answer → OwesSome a b }
+    ensures starts { (a : ConnSeen) (request : Request) → Owes a (started_call request a) [] [] }
+    ensures leaves { (a : ConnSeen) → Owes a (idle a) [] [] }
+{}
+
+/// A running call that has queued a group has room for its cleanup, which takes no memory then: 128 bytes. Each call begins so, and each
+/// poll keeps it so.
+pub fn a_call_has_room_for_its_cleanup()
+    ensures polls { (left : ℕ) (a b : ConnSeen) (answer : Poll Turn) → HasRoom a → PollsWithin left a b answer → HasRoom b }
+    ensures more { (a b : ConnSeen) (answer : Poll Turn) → HasRoom a → PollsMore a b answer → HasRoom b }
+    ensures starts { (a : ConnSeen) (request : Request) → HasRoom (started_call request a) }
 {}

@@ -1,18 +1,17 @@
 //! A connection to a PostgreSQL server, and the calls that run on it.
 //!
-//! It opens no socket and waits for nothing: a caller hands in a `Link` and polls. Begin with `establish`, which gives a
-//! `PgConnection`, and with its call `execute`.
+//! A connection opens no socket and waits for nothing: a caller hands in a `Link`, such as one that a `SocketDial` opens, and polls.
+//! Begin with `establish`, which gives a `PgConnection`, and with its call `execute`.
 #![tactic(auto)]
 
 mod connection;
 mod dial;
 mod establishing;
 pub mod laws;
-mod parameters;
 mod polling;
 mod postgres;
+mod socket_dial;
 mod starting;
-mod startup;
 mod states;
 
 pub use connection::PgConnection;
@@ -22,6 +21,7 @@ pub use pg_call::{CallAnswer, CallItem, PgQueryResult, Request, Turn};
 pub use pg_request::{CacheStep, Progress, Query};
 pub use pg_rows::PgRow;
 pub use postgres::Postgres;
+pub use socket_dial::SocketDial;
 pub use starting::Establish;
 pub use states::{
     Close, Execute, ExecuteMany, Fetch, FetchAll, FetchMany, FetchOne, FetchOptional, Flush, Ping,

@@ -1,10 +1,10 @@
-ghost use Rattle.std.specs.Prelude.{◌≡◌, ◌≢◌, ◌-◌, ◌<◌, ◌≤◌, true, false, None, IsSome, OnOk, OnErr, IfErr};
+ghost use Rattle.std.specs.Prelude.{◌≡◌, ◌≢◌, ◌-◌, ◌<◌, ◌≤◌, ◌⊎◌, true, false, None, IsSome, OnOk, OnErr, IfErr};
 ghost use Rattle.pg_stream.specs.Streams.{stream_by, fuel_of, GrewBy, IsHeardFront, Passes};
 ghost use Rattle.pg_conn.specs.Connections.{seen_by, idle, begun_with, begun_by, is_over, runs, with_spare, queued_call, awaiting, closing};
 ghost use Rattle.pg_call.specs.Calls.{IsAwaiting};
 ghost use Rattle.pg_call.specs.declared.kind.Kind as declared_kind;
 ghost use Rattle.pg_conn.specs.States.{IsCalling, PollFits};
-ghost use Rattle.pg_conn.specs.Turns.{TakesBeat, Prepares, Readies, Refuses, Accepts, IsAsked, IsAhead, is_flushed, queued_copy_fail, PollsBy, PollsWithin, PollsCall, PollsMore, beat_of, broken_by};
+ghost use Rattle.pg_conn.specs.Turns.{TakesBeat, Prepares, Readies, Refuses, Accepts, IsAsked, IsSayable, Refused, IsAhead, is_flushed, queued_copy_fail, PollsBy, PollsWithin, PollsCall, PollsMore, beat_of, broken_by};
 
 use crate::{PgConnection, Request, Turn};
 use pg_call::{Beat, Call, CallAnswer, Kind, Ledger, Reply, Waiting};
@@ -281,27 +281,30 @@ impl<L: Link> PgConnection<L> {
         }
     }
 
-    // One step of the running call.
-    fn turn(&mut self) -> Beat
-        ensures beat { TakesBeat (seen_by L.seen self.old) (seen_by L.seen self.new) result }
-        ensures falls { result ≡ Beat.More → fuel_of (stream_by L.seen self.new.stream) < fuel_of (stream_by L.seen self.old.stream) }
-    {
-        match self.prepare() {
-            Ok(()) => self.go_on(),
-            Err(e) => self.stop(Err(e)),
-        }
-    }
-
     // Steps until the call waits, shows an item or ends.
-    fn beat(&mut self) -> Beat
+    fn run(&mut self) -> Beat
+        requires asked { IsAsked self.old.call → ⊥ }
         ensures beat { TakesBeat (seen_by L.seen self.old) (seen_by L.seen self.new) result }
         ensures ends { result ≢ Beat.More }
     {
         loop {
-            match self.turn() {
+            match self.go_on() {
                 Beat::More => {}
                 beat => return beat,
             }
+        }
+    }
+
+    // The same, once the frames of what is asked are written. Where no frame can say it, it is refused before anything is done.
+    fn beat(&mut self) -> Beat
+        ensures beat { TakesBeat (seen_by L.seen self.old) (seen_by L.seen self.new) result }
+        ensures says { IsSayable self.old.call ⊎ Refused (seen_by L.seen self.old) (seen_by L.seen self.new) result }
+        ensures asked { IsAsked self.new.call → ⊥ }
+        ensures ends { result ≢ Beat.More }
+    {
+        match self.prepare() {
+            Ok(()) => self.run(),
+            Err(e) => self.stop(Err(e)),
         }
     }
 }

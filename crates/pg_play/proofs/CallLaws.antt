@@ -39,7 +39,9 @@ use Rattle.pg_report.specs.declared.outcome.Outcome.{Outcome}
 use Rattle.pg_play.specs.declared.tally.Limits.{Limits}
 use Rattle.pg_play.specs.declared.tally.Tally.{Tally}
 use Rattle.pg_play.specs.Shown.{item_of, items_with, answer_of}
-use Rattle.pg_play.specs.Calls.{Flows, Adds, Finishes, Waited, Went, InPlay, IsPlayingOn, IsPlaying, EndsStarved, IsDropped, broken_after, EndsOn, HasEnded, PollGives, PlaysCall, outcome_of}
+use Rattle.pg_startup.specs.Flows.{Flows}
+use Rattle.pg_startup.proofs.FlowLaws.{GrewBy-then, Flows-then, Flows-none, flows_begun}
+use Rattle.pg_play.specs.Calls.{Adds, Finishes, Waited, Went, InPlay, IsPlayingOn, IsPlaying, EndsStarved, IsDropped, broken_after, EndsOn, HasEnded, PollGives, PlaysCall, outcome_of}
 
 -- ---- the stream, over any number of polls
 
@@ -48,44 +50,6 @@ count-append t xs ys = sum_by-append (λ (y : FrontendMessage). cond (t y) 1 0) 
 
 pub spelled-append : (xs ys : List FrontendMessage) → spelled (xs ++ ys) ≡ spelled xs ++ spelled ys
 spelled-append xs ys = ap text_of (map-append frontend_frame xs ys) ∙ text_of-append (map frontend_frame xs) (map frontend_frame ys)
-
-GrewBy-then : (n m k x y z : ℕ) → GrewBy n x y → GrewBy m y z → k ≡ n + m → GrewBy k x z
-GrewBy-then n m k x y z p q e = (omega (arith, p, q), omega (arith, p, q, e), omega (arith, p, q, e))
-
-sends_then : (a b c : StreamSeen) (x y : List ℕ) → Sends a b x → Sends b c y → Sends a c (x ++ y)
-sends_then a b c x y p q = (
-  p.0 ++ q.0,
-  Appends-then a.link.taken b.link.taken c.link.taken p.0 q.0 p.1 q.1,
-  sym (append_assoc a.unsent x y) ∙ ap (λ (z : List ℕ). z ++ y) p.2 ∙ append_assoc p.0 b.unsent y ∙ ap (λ (z : List ℕ). p.0 ++ z) q.2 ∙ sym (append_assoc p.0 q.0 c.unsent),
-)
-
-takes_then : (a b c : StreamSeen) (x y : List Frame) → Takes a b x → Takes b c y → Takes a c (x ++ y)
-takes_then a b c x y p q = (
-  p.0 ++ q.0,
-  Appends-then a.link.given b.link.given c.link.given p.0 q.0 p.1 q.1,
-  sym (append_assoc a.held p.0 q.0) ∙ ap (λ (z : List ℕ). z ++ q.0) p.2 ∙ append_assoc (text_of x) b.held q.0 ∙ ap (λ (z : List ℕ). text_of x ++ z) q.2
-      ∙ sym (append_assoc (text_of x) (text_of y) c.held) ∙ ap (λ (z : List ℕ). z ++ c.held) (sym (text_of-append x y)),
-  AreFrames-append x y p.3 q.3,
-  GrewBy-then _ _ _ _ _ _ p.4 q.4 (ap (λ (z : List ℕ). length z) (text_of-append x y) ∙ length-append (text_of x) (text_of y)),
-)
-
-pub Flows-then : (a b c : StreamSeen) (s t : List ℕ) (x y : List Frame) → Flows a b s x → Flows b c t y → Flows a c (s ++ t) (x ++ y)
-Flows-then a b c s t x y f g = record {
-  counts = NoneFalls-then a.link b.link c.link f.counts g.counts;
-  sent = sends_then a b c s t f.sent g.sent;
-  read = takes_then a b c x y f.read g.read;
-}
-
--- the allowance of a poll, and the numbers of a call, are no matter
-pub flows_begun : (a b : StreamSeen) (left : ℕ) (q : List ℕ) (fs : List Frame) → Moves (record a { left = left }) b q fs → Flows a b q fs
-flows_begun a b left q fs m = record { counts = m.counts; sent = m.sent; read = m.read }
-
-pub Flows-none : (a b : StreamSeen) → b.link ≡ a.link → b.unsent ≡ a.unsent → b.held ≡ a.held → b.taken ≡ a.taken → Flows a b [] []
-Flows-none a b l u h t = record {
-  counts = rw l (NoneFalls-refl a.link);
-  sent = ([], rw l (Appends-refl a.link.taken), append-nil a.unsent ∙ sym u);
-  read = ([], rw l (Appends-refl a.link.given), append-nil a.held ∙ sym h, tt, rw t (omega arith, omega arith, omega arith));
-}
 
 -- ---- one poll more
 
@@ -242,7 +206,7 @@ PlayBeat (Some fault) most a c r waits shown beat = (c ≡ idle a) × (beat ≡ 
 play_beat : (o : Option ServerFault) (most : ℕ) (a b c : ConnSeen) (r : Request) (waits : ℕ) (shown : List Item) (beat : Beat) → a.broken ≡ o → IsPlayingOn o most a b r waits shown → PollsBy b.broken (begun_with 256 b) b c beat → PlayBeat o most a c r waits shown beat
 play_beat None most a b c r waits shown beat e i p =
     let whole = subst (λ (k : Option ServerFault). PollsBy k (begun_with 256 b) b c beat) i.5.broken p in
-    (i.0, i.3, i.4, after_beat a b c r waits i.0 beat i.1 i.2 i.5 whole.0 whole.1)
+    (i.0, i.3, i.4, after_beat a b c r waits i.0 beat i.1 i.2 i.5 whole.turns whole.broken)
 play_beat (Some fault) most a b c r waits shown beat e i p =
     let at_a = subst (λ (d : ConnSeen). PollsBy d.broken (begun_with 256 d) d c beat) i.0 p in
     let broke = subst (λ (k : Option ServerFault). PollsBy k (begun_with 256 a) a c beat) e at_a in

@@ -34,10 +34,12 @@ use Rattle.pg_script.specs.declared.step.Call.{Call}
 use Rattle.pg_script.specs.declared.step.Call.TheVariants as calls
 use Rattle.pg_play.specs.declared.tally.Limits.{Limits}
 use Rattle.pg_play.specs.Shown.{request_of, item_of}
-use Rattle.pg_play.specs.Calls.{Flows, EndsOn, broken_after}
+use Rattle.pg_startup.specs.Flows.{Flows}
+use Rattle.pg_play.specs.Calls.{EndsOn, broken_after}
 use Rattle.pg_play.specs.Places.{Place, readies, ended, owed, drained, is_fine, refuses_copy, unfed, queued_by, failed_next}
 use Rattle.pg_play.specs.Plays.{StandsAt, AsksForNoCopy}
-use Rattle.pg_play.proofs.CallLaws.{Flows-then, spelled-append}
+use Rattle.pg_startup.proofs.FlowLaws.{Flows-then}
+use Rattle.pg_play.proofs.CallLaws.{spelled-append}
 use Rattle.pg_play.proofs.PartLaws.{after_more, fails_count, fails_none}
 use Rattle.pg_play.proofs.StepLaws.{Summary, QueuedOwn, leaves_summary, fine_summary, no_close}
 

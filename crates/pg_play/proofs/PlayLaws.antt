@@ -14,8 +14,10 @@ use Rattle.pg_wire.specs.Server.{MayHear}
 use Rattle.pg_wire.proofs.PartLaws.{heard-append}
 use Rattle.pg_wire.proofs.CutLaws.{frame_unique, cut_after_taken}
 use Rattle.pg_stream.specs.Links.{LinkSeen}
-use Rattle.pg_stream.specs.Streams.{StreamSeen, fresh_stream}
-use Rattle.pg_stream.proofs.StreamLemmas.{text_of-append}
+use Rattle.pg_stream.specs.Streams.{StreamSeen, GrewBy}
+use Rattle.pg_stream.proofs.Known.{Appends-then, NoneFalls-then}
+use Rattle.pg_startup.specs.Handshake.{ReadyOf, HasBegun}
+use Rattle.pg_startup.specs.Establishing.{EstablishSeen}
 use Rattle.pg_call.specs.declared.request.Request.{Request}
 use Rattle.pg_call.specs.declared.answer.CallItem.{CallItem}
 use Rattle.pg_call.specs.Requests.{Group, said_in, spelled, groups_of, copy_fail}
@@ -34,8 +36,9 @@ use Rattle.pg_play.specs.Calls.{EndsOn, Ended, PlaysCall, PlaysStep, IsUnpolled,
 use Rattle.pg_play.specs.Places.{Place, owed, drained, unfed, queued_by, main_frames, refuses_copy, Queues, first_place}
 use Rattle.pg_play.specs.Told.{Numbers, CountsTo, WellAtOk}
 use Rattle.pg_play.specs.Causes.{IsFront, IsUnlawful, HasCause, EndsDuly}
-use Rattle.pg_play.specs.Plays.{IsNeverUnlawful, Plays_step, Plays_from, StandsAt, PlaysOn, Begins, TellsBytes, Plays, Totals}
-use Rattle.pg_play.proofs.CallLaws.{Flows-then, Flows-none}
+use Rattle.pg_play.specs.Plays.{IsNeverUnlawful, Plays_step, Plays_from, StandsAt, PlaysOn, TellsBytes, Plays, Totals}
+use Rattle.pg_play.specs.Starts.{Opening, IsOf, HasOpened}
+use Rattle.pg_startup.proofs.FlowLaws.{Flows-none}
 use Rattle.pg_play.proofs.PartLaws.{after_more}
 use Rattle.pg_play.proofs.StepLaws.{Summary}
 use Rattle.pg_play.proofs.PlaceLaws.{ends_summary, next_place, stands_next, never_copies, own_groups}
@@ -302,9 +305,9 @@ plays_none a start at st = (at, refl, st)
 
 -- ---- from the end of start-up on
 
-stands_first : (link : LinkSeen) (a : ConnSeen) → Begins link a → StandsAt a.stream (first_place a.stream) a
-stands_first link a g = rw g.fresh (record {
-  flows = Flows-none a.stream a.stream refl refl refl refl;
+stands_first : (opening : Opening) (link : LinkSeen) (a : ConnSeen) → HasOpened opening link a → StandsAt a.stream (first_place a.stream) a
+stands_first opening link a g = rw g.fresh (record {
+  flows = Flows-none g.ready.stream g.ready.stream refl refl refl refl;
   ledger = refl;
   failed = λ o. absurd (omega (arith, o));
   broken = refl;
@@ -324,41 +327,56 @@ tells_new (Some x) (Some y) old new bytes e f h =
     let q : y ≡ new = cc in
     sym q ∙ h ∙ ap (λ (z : List ℕ). z ++ bytes) p
 
-tells_bytes : (link : LinkSeen) (a b : ConnSeen) (started : Started) (at : Place) → (g : Begins link a) → StandsAt a.stream at b → started.sent ≡ a.sent → started.read ≡ a.read → TellsBytes link b.stream.link started at
-tells_bytes link a b started at g st s r =
-    let all = Flows-then (fresh_stream link) a.stream b.stream g.message (spelled at.said) g.greeting at.frames g.flows st.flows in
-    let sent = all.sent in
-    let read = all.read in
-    let bytes : read.0 ≡ text_of g.greeting ++ (text_of at.frames ++ b.stream.held) =
-    read.2 ∙ ap (λ (z : List ℕ). z ++ b.stream.held) (text_of-append g.greeting at.frames) ∙ append_assoc (text_of g.greeting) (text_of at.frames) b.stream.held in
+counts_to : (n m k : ℕ) → GrewBy n 0 m → k ≡ m → CountsTo n k
+counts_to n m k g e = (omega (arith, g.1, e), omega (arith, g.2, e))
+
+-- the bytes behind a handshake, which its stream begins with
+tells_over : (opening : Opening) (link : LinkSeen) (e : EstablishSeen) (ready : ReadyOf LinkSeen) (b : ConnSeen) (started : Started) (at : Place) → IsOf opening e → HasBegun e.client e.plan e.message link ready → StandsAt ready.stream at b → started.sent ≡ ready.sent → started.read ≡ ready.read → TellsBytes opening link b.stream.link started at
+tells_over opening link e ready b started at of g st s r =
+    let sent = st.flows.sent in
+    let read = st.flows.read in
+    let gone : g.said ++ spelled at.said ≡ (g.taken ++ sent.0) ++ b.stream.unsent =
+    ap (λ (z : List ℕ). z ++ spelled at.said) g.unsent ∙ append_assoc g.taken ready.stream.unsent (spelled at.said) ∙ ap (λ (z : List ℕ). g.taken ++ z) sent.2 ∙ sym (append_assoc g.taken sent.0 b.stream.unsent) in
+    let come : g.given ++ read.0 ≡ g.read ++ (text_of at.frames ++ b.stream.held) =
+    ap (λ (z : List ℕ). z ++ read.0) g.held ∙ append_assoc g.read ready.stream.held read.0 ∙ ap (λ (z : List ℕ). g.read ++ z) read.2 in
     record {
-      message = g.message;
-      greeting = g.greeting;
-      message_is = sym (s ∙ ap (λ (c : ConnSeen). c.sent) g.fresh);
-      greeting_is = subst (CountsTo (length (text_of g.greeting))) (sym (r ∙ ap (λ (c : ConnSeen). c.read) g.fresh)) (omega (arith, g.flows.read.4.1), omega (arith, g.flows.read.4.2));
-      sent = λ old new e k. (sent.0, tells_new link.taken b.stream.link.taken old new sent.0 e k sent.1, (b.stream.unsent, sym sent.2));
-      gave = λ old new e k. (
+      plan = e.plan;
+      planned = of.planned;
+      said = g.said;
+      read = g.read;
+      session = ready.session;
+      handshake = rw (← of.client, ← of.message) g.handshake;
+      said_is = counts_to (length g.said) ready.sent started.sent g.sent_counted s;
+      read_is = counts_to (length g.read) ready.read started.read g.read_counted r;
+      sent = λ old new x y. (g.taken ++ sent.0, tells_new link.taken b.stream.link.taken old new (g.taken ++ sent.0) x y (Appends-then link.taken ready.stream.link.taken b.stream.link.taken g.taken sent.0 g.took sent.1), (b.stream.unsent, sym gone));
+      gave = λ old new x y. (
         text_of at.frames ++ b.stream.held,
-        tells_new link.given b.stream.link.given old new read.0 e k read.1 ∙ ap (λ (z : List ℕ). old ++ z) bytes ∙ sym (append_assoc old (text_of g.greeting) (text_of at.frames ++ b.stream.held)),
+        tells_new link.given b.stream.link.given old new (g.given ++ read.0) x y (Appends-then link.given ready.stream.link.given b.stream.link.given g.given read.0 g.gave read.1)
+            ∙ ap (λ (z : List ℕ). old ++ z) come ∙ sym (append_assoc old g.read (text_of at.frames ++ b.stream.held)),
         ap (λ (x : StreamSeen). text_of at.frames ++ x.held) st.seen,
-        λ frames rest c. let t = cut_after_taken backend_tags (text_of at.frames ++ b.stream.held) b.stream.held at.frames frames rest st.flows.read.3 refl c in (t.0, sym t.1),
+        λ frames rest c. let t = cut_after_taken backend_tags (text_of at.frames ++ b.stream.held) b.stream.held at.frames frames rest read.3 refl c in (t.0, sym t.1),
       );
     }
 
-pub plays_begun : (link last : LinkSeen) (a b : ConnSeen) (started : Started) (steps : List Step) (outs : List Outcome) → Begins link a → PlaysOn a b steps outs → started.sent ≡ a.sent → started.read ≡ a.read → last ≡ b.stream.link → Plays link last started steps outs
-plays_begun link last a b started steps outs g run s r l =
-    let p = run a.stream (first_place a.stream) (stands_first link a g) in
+tells_bytes : (opening : Opening) (link : LinkSeen) (a b : ConnSeen) (started : Started) (at : Place) → HasOpened opening link a → StandsAt a.stream at b → started.sent ≡ a.sent → started.read ≡ a.read → TellsBytes opening link b.stream.link started at
+tells_bytes opening link a b started at g st s r =
+    tells_over opening link g.e g.ready b started at g.of g.begun (subst (λ (x : StreamSeen). StandsAt x at b) (ap (λ (c : ConnSeen). c.stream) g.fresh) st) (s ∙ ap (λ (c : ConnSeen). c.sent) g.fresh) (r ∙ ap (λ (c : ConnSeen). c.read) g.fresh)
+
+pub plays_begun : (opening : Opening) (link last : LinkSeen) (a b : ConnSeen) (started : Started) (steps : List Step) (outs : List Outcome) → HasOpened opening link a → PlaysOn a b steps outs → started.sent ≡ a.sent → started.read ≡ a.read → last ≡ b.stream.link → Plays opening link last started steps outs
+plays_begun opening link last a b started steps outs g run s r l =
+    let p = run a.stream (first_place a.stream) (stands_first opening link a g) in
     let st = p.2 in
     rw l (record {
       begins = a.stream;
-      begun = g.flows.counts;
+      begun = g.counts;
+      counts = NoneFalls-then link a.stream.link b.stream.link g.counts st.flows.counts;
       place = p.0;
       plays = p.1;
-      bytes = tells_bytes link a b started p.0 g st s r;
+      bytes = tells_bytes opening link a b started p.0 g st s r;
       can = st.sayable;
       groups = st.are_groups;
       at_link = sym (ap (λ (x : StreamSeen). x.link) st.seen);
-      totals = subst (λ (x : LinkSeen). Totals link x outs) (sym (ap (λ (x : StreamSeen). x.link) st.seen)) (totals_from link (first_place a.stream) steps outs p.0 g.flows.counts p.1);
+      totals = subst (λ (x : LinkSeen). Totals link x outs) (sym (ap (λ (x : StreamSeen). x.link) st.seen)) (totals_from link (first_place a.stream) steps outs p.0 g.counts p.1);
       lawful = where_lawful (first_place a.stream) p.0 steps outs p.1 refl st.sayable st.are_groups st.flows.read.3 st.plain;
       plain = st.plain;
     })

@@ -1,61 +1,152 @@
 -- A start-up, poll by poll.
-use Rattle.std.proofs.Common.{◌≡◌, ℕ, List, [], ◌++◌, refl, subst, arith, append-nil, Some, Result, Ok, Err, IfOk}
+use Rattle.std.proofs.Common.{◌≡◌, ℕ, List, ◌+◌, ◌*◌, ◌<◌, ◌≤◌, ◌⊎◌, inl, inr, Bool, false, true, refl, sym, ap, subst, ◌∙◌, arith, Some, None, Option, Result, Ok, Err}
 use Rattle.futures.specs.declared.task.Poll.{Poll}
 use Rattle.futures.specs.declared.task.Poll.TheVariants.{Ready, Pending}
 use Rattle.pg_wire.specs.declared.error.Error.{Error}
-use Rattle.pg_wire.specs.Frame.{Frame}
-use Rattle.pg_stream.specs.Links.{LinkSeen}
-use Rattle.pg_stream.specs.Streams.{StreamOf, Moves, fresh_stream, stream_by}
-use Rattle.pg_stream.proofs.Known.{Appends-refl, NoneFalls-refl}
+use Rattle.pg_wire.specs.declared.error.Error.TheVariants as errors
+use Rattle.pg_stream.specs.Links.{LinkPlan, LinkSeen, NoneFalls, RoseBy, Rose}
+use Rattle.pg_stream.specs.Streams.{fresh_stream}
+use Rattle.pg_stream.proofs.Known.{NoneFalls-refl, NoneFalls-then}
+use Rattle.pg_options.specs.Options.{ConnectOptions}
+use Rattle.pg_auth.specs.declared.tls.TlsPlan.{TlsPlan}
+use Rattle.pg_auth.specs.declared.tls.TlsPlan.TheVariants.{Plain, Ask}
+use Rattle.pg_startup.specs.Startups.{startup_of}
+use Rattle.pg_startup.specs.declared.starting.Phase.{Phase}
+use Rattle.pg_startup.specs.declared.starting.Phase.TheVariants as phases
+use Rattle.pg_startup.specs.Handshake.{ReadyOf, ready_by}
+use Rattle.pg_startup.specs.Establishing.{EstablishOf, EstablishSeen, establish_by, phase_by, ready_seen, kept_link, HasLink, IsKept, IsServersTurn, PollsStart, StartFails, StartWaits, FirstPhase, Begins, RefusesStart}
+use Rattle.pg_startup.proofs.AskingLaws.{fails_from}
+use Rattle.pg_startup.proofs.GreetLaws.{heard_cause_after}
+use Rattle.pg_startup.proofs.EstablishLaws.{begins_under_way}
 use Rattle.pg_conn.specs.Connections.{ConnOf, seen_by}
-use Rattle.pg_conn.specs.Establishing.{EstablishOf, PollsEstablish, beginning, begun_stream}
-use Rattle.pg_play.specs.Calls.{Flows}
-use Rattle.pg_play.specs.Plays.{Begins}
-use Rattle.pg_play.specs.Starts.{IsStarting, StartsOn}
-use Rattle.pg_play.proofs.CallLaws.{Flows-then, flows_begun}
+use Rattle.pg_conn.specs.Connecting.{PollsConnect, connected}
+use Rattle.pg_play.specs.Starts.{Opening, IsOf, IsPending, HasWaited, HasFailed, HasOpened, Hands, StartEnds, StartsOn, StartsAs}
 
--- one poll more
-further : {A : Type 0} (seen : A → LinkSeen) (link : LinkSeen) (s t : StreamOf A) (message : List ℕ) (greeting frames : List Frame) → Flows (fresh_stream link) (stream_by seen s) message greeting → Moves (stream_by seen (begun_stream s)) (stream_by seen t) [] frames
-    → Flows (fresh_stream link) (stream_by seen t) message (greeting ++ frames)
-further seen link s t message greeting frames f m =
-    subst (λ (q : List ℕ). Flows (fresh_stream link) (stream_by seen t) q (greeting ++ frames)) (append-nil message)
-    (Flows-then (fresh_stream link) (stream_by seen s) (stream_by seen t) message [] greeting frames f (flows_begun (stream_by seen s) (stream_by seen t) 256 [] frames m))
+-- ---- a poll more
 
-starts_by : {A : Type 0} (seen : A → LinkSeen) (link : LinkSeen) (a b : EstablishOf A) (answer : Poll (Result (ConnOf A) Error)) → (i : IsStarting seen link a) → PollsEstablish seen i.stream b a.sent answer → StartsOn seen link b answer
-starts_by seen link a b Pending i (t, g, k) = rw k (record {
-  stream = t;
-  message = i.message;
-  greeting = i.greeting ++ g.0;
-  is = refl;
-  sent = i.sent;
-  flows = further seen link i.stream t i.message i.greeting g.0 i.flows g.1;
-})
-starts_by seen link a b (Ready (Ok conn)) i (t, g, k) = rw (k.1, i.sent) (record {
-  message = i.message;
-  greeting = i.greeting ++ g.0;
-  flows = further seen link i.stream t i.message i.greeting g.0 i.flows g.1;
-  fresh = refl;
-})
-starts_by seen link a b (Ready (Err error)) i p = tt
+-- why a poll waited is one more wait, or 256 more moves
+waited_more : (n now : ℕ) (first a b : LinkSeen) (phase : Phase LinkSeen) → HasWaited n first a → NoneFalls a b → StartWaits 256 now a b phase → HasWaited (n + 1) first b
+waited_more n now first a b phase h m p = elim p [
+  | inl w ↦ record { write_waits = h.write_waits + 1; read_waits = h.read_waits; spent = h.spent; all = omega (arith, h.all); writes = omega (arith, h.writes, w); reads = omega (arith, h.reads, m.read_waits); moved = omega (arith, h.moved, m.moved) }
+  | inr q ↦ elim q [
+    | inl w ↦ record { write_waits = h.write_waits; read_waits = h.read_waits + 1; spent = h.spent; all = omega (arith, h.all); writes = omega (arith, h.writes, m.write_waits); reads = omega (arith, h.reads, w.0); moved = omega (arith, h.moved, m.moved) }
+    | inr s ↦ record { write_waits = h.write_waits; read_waits = h.read_waits; spent = h.spent + 1; all = omega (arith, h.all); writes = omega (arith, h.writes, m.write_waits); reads = omega (arith, h.reads, m.read_waits); moved = omega (arith, h.moved, s.0, s.1.1) }
+  ]
+]
 
-pub starts_on : {A : Type 0} (seen : A → LinkSeen) (link : LinkSeen) (a b : EstablishOf A) (answer : Poll (Result (ConnOf A) Error)) → ((s : StreamOf A) → a.stream ≡ Some s → PollsEstablish seen s b a.sent answer) → IsStarting seen link a → StartsOn seen link b answer
-starts_on seen link a b answer polls i = starts_by seen link a b answer i (polls i.stream i.is)
+-- who is next, where nothing else was waited for
+next_by : (now : ℕ) (first a b : LinkSeen) (phase : Phase LinkSeen) → NoneFalls first a → StartWaits 256 now a b phase → (Rose first.write_waits b.write_waits → ⊥) → (RoseBy 256 first.moved b.moved → ⊥) → IsServersTurn phase
+next_by now first a b phase m p no_write no_moves = elim p [
+  | inl w ↦ absurd (no_write (omega (arith, m.write_waits, w)))
+  | inr q ↦ elim q [
+    | inl w ↦ w.1
+    | inr s ↦ absurd (no_moves (omega (arith, m.moved, s.0, s.1.1)))
+  ]
+]
 
-pub starts_first : {A : Type 0} (seen : A → LinkSeen) (link : A) (e : EstablishOf A) → (message : List ℕ) × (e ≡ beginning link message) → IsStarting seen (seen link) e
-starts_first seen link e (message, k) = rw k (record {
-  stream = record (fresh_stream link) { unsent = message };
-  message = message;
-  greeting = [];
-  is = refl;
-  sent = refl;
-  flows = record {
-    counts = NoneFalls-refl (seen link);
-    sent = ([], Appends-refl (seen link).taken, refl);
-    read = ([], Appends-refl (seen link).given, refl, tt, (omega arith, omega arith, omega arith));
-  };
-})
+of_same : (opening : Opening) (a b : EstablishSeen) → IsOf opening a → b.client ≡ a.client → b.plan ≡ a.plan → b.message ≡ a.message → IsOf opening b
+of_same opening a b of client plan message = record { none = of.none; planned = of.planned ∙ ap Ok (sym plan); client = client ∙ of.client; message = message ∙ of.message }
+
+fails_first : (first a : LinkSeen) (e : EstablishSeen) (phase : Phase LinkSeen) (error : Error) → NoneFalls first a → StartFails first a e phase error → StartFails first first e phase error
+fails_first first a e (phases.Asking asking) error m h = fails_from asking.is_required first first a asking.link error m h
+fails_first first a e (phases.Greeting greeting) error m (inl h) = inl h
+fails_first first a e (phases.Greeting greeting) error m (inr (is, inl h)) = inr (is, inl (heard_cause_after (fresh_stream first) (fresh_stream a) greeting.stream error m h))
+fails_first first a e (phases.Greeting greeting) error m (inr (is, inr h)) = inr (is, inr h)
+fails_first first a e phases.Gone error m h = absurd h
+
+starts_by : {A : Type 0} (seen : A → LinkSeen) (opening : Opening) (first last : LinkSeen) (n now : ℕ) (a b : EstablishOf A) (ready : Poll (Result (ReadyOf A) Error)) → IsPending opening first last n (establish_by seen a) → PollsStart 256 now (establish_by seen a) (establish_by seen b) (ready_seen seen ready) → StartsOn seen opening first n b (connected ready)
+starts_by seen opening first last n now a b Pending i p =
+    let on = p.on first last i.starting i.kept in
+    let waits = on.1.1 in (
+      waits.0,
+      record {
+        of = of_same opening (establish_by seen a) (establish_by seen b) i.of p.client p.plan p.message;
+        starting = on.1.0;
+        kept = waits.1;
+        counts = NoneFalls-then first last waits.0 i.counts waits.2;
+        waited = waited_more n now first last waits.0 (phase_by seen b.phase) i.waited waits.2 waits.3;
+        next = λ some no_write no_moves. next_by now first last waits.0 (phase_by seen b.phase) i.counts waits.3 no_write no_moves;
+      },
+    )
+starts_by seen opening first last n now a b (Ready (Ok ready)) i p =
+    let on = p.on first last i.starting i.kept in
+    record {
+      e = establish_by seen b;
+      of = of_same opening (establish_by seen a) (establish_by seen b) i.of p.client p.plan p.message;
+      ready = ready_by seen ready;
+      begun = on.3;
+      counts = NoneFalls-then first last (seen ready.stream.link) i.counts on.2;
+      fresh = refl;
+    }
+starts_by seen opening first last n now a b (Ready (Err error)) i p =
+    let on = p.on first last i.starting i.kept in
+    let fails = on.1 in (
+      fails.0,
+      record {
+        of = of_same opening (establish_by seen a) (establish_by seen b) i.of p.client p.plan p.message;
+        kept = fails.1;
+        counts = NoneFalls-then first last fails.0 i.counts fails.2;
+        fails = fails_first first last (establish_by seen b) (phase_by seen b.phase) error i.counts fails.3;
+      },
+    )
+
+pub starts_on : {A : Type 0} (seen : A → LinkSeen) (a b : EstablishOf A) (answer : Poll (Result (ConnOf A) Error)) → (now : ℕ) × PollsConnect seen 256 now a b answer → (opening : Opening) (first last : LinkSeen) (n : ℕ) → IsPending opening first last n (establish_by seen a) → StartsOn seen opening first n b answer
+starts_on seen a b answer (now, (ready, polls, is)) opening first last n i = rw is (starts_by seen opening first last n now a b ready i polls)
+
+-- ---- its beginning
+
+waited_none : (a : LinkSeen) → HasWaited 0 a a
+waited_none a = record { write_waits = 0; read_waits = 0; spent = 0; all = omega arith; writes = omega arith; reads = omega arith; moved = omega arith }
+
+pub pending_first : {A : Type 0} (seen : A → LinkSeen) (opening : Opening) (link : A) (e : EstablishOf A) → Begins opening.options opening.nonce opening.made link e → IsPending opening (seen link) (seen link) 0 (establish_by seen e)
+pending_first seen opening link e (none, (plan, planned, is)) =
+    let way = begins_under_way seen link _ plan _ e is in
+    record {
+      of = record { none = none; planned = planned ∙ ap Ok (sym is.1); client = is.0; message = is.2 };
+      starting = way.0;
+      kept = way.1;
+      counts = NoneFalls-refl (seen link);
+      waited = waited_none (seen link);
+      next = λ some. absurd (omega (arith, some));
+    }
+
+-- ---- its end
+
+same_link : {A : Type 0} (seen : A → LinkSeen) (phase : Phase A) (link : A) (last : LinkSeen) → kept_link phase ≡ Some link → HasLink (phase_by seen phase) last → last ≡ seen link
+same_link {A} seen (phases.Asking asking) link last e h = h ∙ ap seen (some_is asking.link e)
+  where
+    some_is : (x : A) → Some x ≡ Some link → x ≡ link
+    some_is x e = cc
+same_link {A} seen (phases.Greeting greeting) link last e h = h ∙ ap seen (some_is greeting.stream.link e)
+  where
+    some_is : (x : A) → Some x ≡ Some link → x ≡ link
+    some_is x e = cc
+same_link seen phases.Gone link last e h = absurd h
 
 -- what was handed over
-pub handed : {A E : Type 0} (seen : A → LinkSeen) (link : LinkSeen) (b : EstablishOf A) (answer : Result (ConnOf A) Error) (r : Result (ConnOf A) E) → StartsOn seen link b (Ready answer) → IfOk r (λ conn. answer ≡ Ok conn) → IfOk r (λ conn. Begins link (seen_by seen conn))
-handed seen link b answer (Err e) s h = tt
-handed seen link b answer (Ok conn) s h = subst (λ (x : Result (ConnOf _) Error). StartsOn seen link b (Ready x)) h s
+pub handed : {A : Type 0} (seen : A → LinkSeen) (opening : Opening) (polls n : ℕ) (first : LinkSeen) (e : EstablishOf A) (answer : Result (ConnOf A) Error) (result : Result (ConnOf A) (Error × A)) → StartsOn seen opening first n e (Ready answer) → Hands e answer result → StartsAs seen opening polls first result
+handed seen opening polls n first e (Ok conn) result s h = rw h s
+handed seen opening polls n first e (Err error) result (last, s) (link, kept, h) =
+    let at = same_link seen e.phase link last kept s.kept in
+    rw h (inr (inr (establish_by seen e, subst (λ (x : LinkSeen). HasFailed opening first x (establish_by seen e) error) at s)))
+
+-- none of its polls has answered
+pub starved : {A : Type 0} (seen : A → LinkSeen) (opening : Opening) (polls : ℕ) (first last : LinkSeen) (e : EstablishOf A) (link : A) → IsPending opening first last polls (establish_by seen e) → kept_link e.phase ≡ Some link → StartEnds opening polls first (seen link) errors.StartupPending
+starved seen opening polls first last e link i kept =
+    let at = same_link seen e.phase link last kept i.kept in
+    inl (refl, (establish_by seen e, subst (λ (x : LinkSeen). IsPending opening first x polls (establish_by seen e)) at i))
+
+-- it was refused at once
+pub refused_start : {A : Type 0} (seen : A → LinkSeen) (opening : Opening) (polls : ℕ) (link : A) (refused : Error × A) → RefusesStart opening.options opening.made refused.0 → refused.1 ≡ link → StartsAs seen opening polls (seen link) (Err refused)
+refused_start seen opening polls link refused r e = inr (inl (ap seen e, r))
+
+-- a start-up that begins keeps its link
+kept_first : {A : Type 0} (link : A) (tls : TlsPlan) (message : List ℕ) (phase : Phase A) → FirstPhase link tls message phase → IsKept phase
+kept_first link Plain message phase (g, says, is) = rw is tt
+kept_first link (Ask required wish) message phase is = rw is tt
+
+pub begins_kept : {A : Type 0} (o : ConnectOptions) (nonce : List ℕ) (made : LinkPlan) (link : A) (e : EstablishOf A) → Begins o nonce made link e → IsKept e.phase
+begins_kept o nonce made link e (none, (tls, planned, is)) = kept_first link tls (startup_of o) e.phase is.4
+
+pub begins_open : {A : Type 0} (o : ConnectOptions) (nonce : List ℕ) (made : LinkPlan) (link : A) (e : EstablishOf A) → Begins o nonce made link e → e.is_finished ≡ false
+begins_open o nonce made link e (none, (tls, planned, is)) = is.3

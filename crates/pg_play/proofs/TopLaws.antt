@@ -1,35 +1,92 @@
 -- How the program ends.
-use Rattle.std.proofs.Common.{◌≡◌, List, ℕ, String, Global, Bool, true, false, Result, Ok, Err, IfOk, length, subst, refl, codes, inl, inr}
+use Rattle.std.proofs.Common.{◌≡◌, ◌≤◌, List, ℕ, String, Global, Bool, true, false, Result, Ok, Err, IfOk, length, subst, refl, ap, ◌∙◌, codes, inl, inr}
+use Rattle.std.specs.Prelude.{IfErr, unwrap_or}
 use Rattle.pg_wire.specs.declared.error.Error.{Error}
-use Rattle.pg_stream.specs.Links.{LinkSeen}
-use Rattle.pg_stream.specs.Memory.{seen_of, untouched}
+use Rattle.pg_options.specs.Options.{ConnectOptions}
+use Rattle.pg_stream.specs.Links.{LinkPlan, LinkSeen}
+use Rattle.pg_stream.specs.Memory.{seen_of, plan_of, untouched}
 use Rattle.pg_stream.specs.declared.memory.MemoryLink.{MemoryLink}
 use Rattle.pg_script.specs.declared.script.Script.{Script}
+use Rattle.pg_script.specs.declared.live.LiveScript.{LiveScript}
+use Rattle.pg_auth.specs.Nonce.{nonce_of}
 use Rattle.pg_script.specs.declared.step.Step.{Step}
 use Rattle.pg_report.specs.declared.outcome.Outcome.{Outcome}
 use Rattle.pg_report.specs.declared.outcome.Started.{Started}
+use Rattle.pg_play.specs.Connecting.{options_of}
+use Rattle.pg_play.specs.Starts.{Opening, opening_of, StartEnds}
 use Rattle.pg_play.specs.Plays.{Plays}
 use Rattle.pg_play.specs.declared.played.Played.{Played}
 use Rattle.pg_stream.specs.Outside.{SourceSeen, SinkSeen, Sent}
 use Rattle.pg_play.specs.declared.ending.Ending.{Ending}
-use Rattle.pg_play.specs.Top.{HasOutcomes, PlaysSteps, IsPlay, TopIs, RunIs, TellsEnding, Writes, status_of, status_after, played_of}
+use Rattle.pg_play.specs.declared.ending.Ending.TheVariants as endings
+use Rattle.pg_play.specs.Top.{HasOutcomes, PlaysSteps, IsPlay, IsLivePlay, LiveEndingIs, DialedIs, start_status, plan_said, nonce_said, polls_said, TopIs, RunIs, TellsEnding, Writes, status_of, status_after, played_of, live_of}
 
 sent_by : (own : ℕ) (text : List ℕ) (x y : SinkSeen) (whole : Bool) → Sent x y whole text → Writes own text x y (status_after whole own)
 sent_by own text x y true s = inl (s, refl)
 sent_by own text x y false s = inr (s, refl)
 
 -- the want of memory is told
-pub starved : (words : List (String Global)) (a b : SourceSeen) (x y : SinkSeen) (whole : Bool) (e : Ending) → RunIs words a b e → Sent x y whole (codes "out of memory\n") → TopIs words a b x y (status_after whole 5) (played_of e)
-starved words a b x y whole e r s = record { ending = e; runs = r; shown = refl; written = inr (sent_by 5 (codes "out of memory\n") x y whole s) }
+pub starved : {A : Type 0} (seen : A → LinkSeen) (words : List (String Global)) (a b : SourceSeen) (x y : SinkSeen) (f g : ℕ) (whole : Bool) (e : Ending A) → RunIs seen words a b f g e → Sent x y whole (codes "out of memory\n") → TopIs seen words a b x y f g (status_after whole 5) (played_of e) (live_of e)
+starved seen words a b x y f g whole e r s = record { ending = e; runs = r; shown = refl; shown_live = refl; written = inr (sent_by 5 (codes "out of memory\n") x y whole s) }
 
-pub ended : (words : List (String Global)) (a b : SourceSeen) (x y : SinkSeen) (whole : Bool) (e : Ending) (text : List ℕ) → RunIs words a b e → TellsEnding e text → Sent x y whole text → TopIs words a b x y (status_after whole (status_of e)) (played_of e)
-ended words a b x y whole e text r t s = record { ending = e; runs = r; shown = refl; written = inl (text, t, sent_by (status_of e) text x y whole s) }
+pub ended : {A : Type 0} (seen : A → LinkSeen) (words : List (String Global)) (a b : SourceSeen) (x y : SinkSeen) (f g : ℕ) (whole : Bool) (e : Ending A) (text : List ℕ) → RunIs seen words a b f g e → TellsEnding e text → Sent x y whole text → TopIs seen words a b x y f g (status_after whole (status_of e)) (played_of e) (live_of e)
+ended seen words a b x y f g whole e text r t s = record { ending = e; runs = r; shown = refl; shown_live = refl; written = inl (text, t, sent_by (status_of e) text x y whole s) }
 
 -- ---- what was played
 
-steps_by : (first link : LinkSeen) (start : Result Started Error) (steps : List Step) (outs : List Outcome) → first ≡ untouched → IfOk start (λ started. Plays first link started steps outs) → PlaysSteps steps start outs link
-steps_by first link (Ok started) steps outs u h = subst (λ (x : LinkSeen). Plays x link started steps outs) u h
-steps_by first link (Err e) steps outs u h = tt
+plays_by : (opening : Opening) (polls : ℕ) (first last : LinkSeen) (start : Result Started Error) (steps : List Step) (outs : List Outcome) → IfOk start (λ started. Plays opening first last started steps outs) → IfErr start (StartEnds opening polls first last) → PlaysSteps opening polls steps start outs first last
+plays_by opening polls first last (Ok started) steps outs h k = h
+plays_by opening polls first last (Err e) steps outs h k = k
 
-pub is_play : (script : Script) (p : Played MemoryLink) (first : LinkSeen) (steps : List Step) → first ≡ untouched → steps ≡ script.steps → HasOutcomes (length steps) p.start (length p.outcomes) → IfOk p.start (λ started. Plays first (seen_of p.link) started steps p.outcomes) → IsPlay script p
-is_play script p first steps u e h k = (subst (λ (x : List Step). HasOutcomes (length x) p.start (length p.outcomes)) e h, subst (λ (x : List Step). PlaysSteps x p.start p.outcomes (seen_of p.link)) e (steps_by first (seen_of p.link) p.start steps p.outcomes u k))
+-- the link is the one that was made
+same_plan : (opening : Opening) (polls : ℕ) (first last : LinkSeen) (start : Result Started Error) (steps : List Step) (outs : List Outcome) → PlaysSteps opening polls steps start outs first last → last.plan ≡ first.plan
+same_plan opening polls first last (Ok started) steps outs h = h.counts.plan
+same_plan opening polls first last (Err e) steps outs (inl (is, (s, h))) = h.counts.plan
+same_plan opening polls first last (Err e) steps outs (inr (inl (same, h))) = ap (λ (x : LinkSeen). x.plan) same
+same_plan opening polls first last (Err e) steps outs (inr (inr (s, h))) = h.counts.plan
+
+plays_same : (o p : ConnectOptions) (n m : List ℕ) (k l : ℕ) (s t : List Step) (x y : LinkSeen) (u v : LinkPlan) (start : Result Started Error) (outs : List Outcome) (last : LinkSeen) → o ≡ p → n ≡ m → k ≡ l → s ≡ t → x ≡ y → u ≡ v
+    → PlaysSteps (opening_of o n u) k s start outs x last → PlaysSteps (opening_of p m v) l t start outs y last
+plays_same o p n m k l s t x y u v start outs last a b c d e f h = rw (← a, ← b, ← c, ← d, ← e, ← f) h
+
+pub is_play : (script : Script) (p : Played MemoryLink) (link : MemoryLink) (o : ConnectOptions) (nonce : List ℕ) (polls : ℕ) (steps : List Step) → plan_of link ≡ plan_said script → seen_of link ≡ untouched (plan_of link) → o ≡ options_of script → nonce ≡ nonce_said script → polls ≡ polls_said script → steps ≡ script.steps
+    → HasOutcomes (length steps) p.start (length p.outcomes) → IfOk p.start (λ started. Plays (opening_of o nonce (plan_of link)) (seen_of link) (seen_of p.link) started steps p.outcomes) → IfErr p.start (StartEnds (opening_of o nonce (plan_of link)) polls (seen_of link) (seen_of p.link)) → IsPlay script p
+is_play script p link o nonce polls steps made seen e f g d outcomes plays fails =
+    let run = plays_by (opening_of o nonce (plan_of link)) polls (seen_of link) (seen_of p.link) p.start steps p.outcomes plays fails in
+    record {
+      outcomes = subst (λ (x : List Step). HasOutcomes (length x) p.start (length p.outcomes)) d outcomes;
+      made = same_plan (opening_of o nonce (plan_of link)) polls (seen_of link) (seen_of p.link) p.start steps p.outcomes run ∙ made;
+      plays = plays_same o (options_of script) nonce (nonce_said script) polls (polls_said script) steps script.steps (seen_of link) (untouched (plan_said script)) (plan_of link) (plan_said script) p.start p.outcomes (seen_of p.link) e f g d (seen ∙ ap untouched made) made run;
+    }
+
+-- ---- what was played over a link that was dialled
+
+is_live_play : {A : Type 0} (seen : A → LinkSeen) (o : ConnectOptions) (script : LiveScript) (p : Played A) (first : LinkSeen) (words nonce : List ℕ) (polls : ℕ) (steps : List Step) → length words ≡ 128 → nonce ≡ nonce_of words → polls ≡ unwrap_or script.start_polls 1000 → steps ≡ script.steps
+    → HasOutcomes (length steps) p.start (length p.outcomes) → IfOk p.start (λ started. Plays (opening_of o nonce first.plan) first (seen p.link) started steps p.outcomes) → IfErr p.start (StartEnds (opening_of o nonce first.plan) polls first (seen p.link)) → IsLivePlay seen o script p
+is_live_play seen o script p first words nonce polls steps drawn f g d outcomes plays fails =
+    let run = plays_by (opening_of o nonce first.plan) polls first (seen p.link) p.start steps p.outcomes plays fails in
+    record {
+      link = first;
+      words = words;
+      drawn = drawn;
+      outcomes = subst (λ (x : List Step). HasOutcomes (length x) p.start (length p.outcomes)) d outcomes;
+      plays = plays_same o o nonce (nonce_of words) polls (unwrap_or script.start_polls 1000) steps script.steps first first first.plan first.plan p.start p.outcomes (seen p.link) refl f g d refl refl run;
+    }
+
+live_ends : {A : Type 0} (seen : A → LinkSeen) (o : ConnectOptions) (script : LiveScript) (f g : ℕ) (p : Played A) (e : Ending A) → IsLivePlay seen o script p → LiveEndingIs e p → DialedIs seen o script f g e
+live_ends seen o script f g p (endings.Live q) h (same, low) = (rw same h, rw same low)
+live_ends seen o script f g p endings.NoMemory h k = k
+live_ends seen o script f g p (endings.Played q) h k = k
+live_ends seen o script f g p (endings.Shown q) h k = k
+live_ends seen o script f g p endings.Help h k = k
+live_ends seen o script f g p endings.Version h k = k
+live_ends seen o script f g p endings.BadWords h k = k
+live_ends seen o script f g p (endings.Refused q) h k = k
+live_ends seen o script f g p (endings.BadScript q) h k = k
+live_ends seen o script f g p endings.ReadFailed h k = absurd k
+live_ends seen o script f g p endings.DialFailed h k = absurd k
+
+pub dialed : {A : Type 0} (seen : A → LinkSeen) (o : ConnectOptions) (script : LiveScript) (f g : ℕ) (p : Played A) (e : Ending A) (first : LinkSeen) (words nonce : List ℕ) (polls : ℕ) (steps : List Step) → length words ≡ 128 → nonce ≡ nonce_of words → polls ≡ unwrap_or script.start_polls 1000 → steps ≡ script.steps
+    → HasOutcomes (length steps) p.start (length p.outcomes) → IfOk p.start (λ started. Plays (opening_of o nonce first.plan) first (seen p.link) started steps p.outcomes) → IfErr p.start (StartEnds (opening_of o nonce first.plan) polls first (seen p.link)) → LiveEndingIs e p → DialedIs seen o script f g e
+dialed seen o script f g p e first words nonce polls steps drawn n k s outcomes plays fails ends =
+    live_ends seen o script f g p e (is_live_play seen o script p first words nonce polls steps drawn n k s outcomes plays fails) ends

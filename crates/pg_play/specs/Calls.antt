@@ -23,17 +23,10 @@ use Rattle.pg_report.specs.declared.outcome.End.{End}
 use Rattle.pg_report.specs.declared.outcome.End.TheVariants as ends
 use Rattle.pg_report.specs.declared.outcome.Outcome.{Outcome}
 use Rattle.pg_script.specs.declared.step.Step.{Step}
+use Rattle.pg_startup.specs.Flows.{Flows}
 use Rattle.pg_play.specs.declared.tally.Limits.{Limits}
 use Rattle.pg_play.specs.declared.tally.Tally.{Tally}
 use Rattle.pg_play.specs.Shown.{request_of, item_of, items_with, answer_of}
-
--- ---- the link's bytes, over any number of polls
-
--- these bytes were queued, and these frames taken off all bytes that the link gave
-pub record Flows (a b : StreamSeen) (queued : List ℕ) (frames : List Frame) : Type 0 where
-  pub counts : NoneFalls a.link b.link
-  pub sent : Sends a b queued
-  pub read : Takes a b frames
 
 -- ---- the tally of a call
 

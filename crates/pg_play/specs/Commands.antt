@@ -9,6 +9,8 @@ use Rattle.pg_options.specs.ToUrl.{url_of_options}
 use Rattle.pg_report.specs.Options.{option_lines}
 use Rattle.pg_play.specs.declared.command.Command.{Command}
 use Rattle.pg_play.specs.declared.command.Command.TheVariants as commands
+use Rattle.pg_play.specs.declared.command.Argued.{Argued}
+use Rattle.pg_play.specs.declared.command.Argued.TheVariants as argued
 
 abbrev pub plain_command : List ℕ → Command
 plain_command word =
@@ -16,6 +18,12 @@ plain_command word =
     else if bytes_eq word (codes "--help") then commands.Help
     else if bytes_eq word (codes "--version") then commands.Version
     else commands.Unknown
+
+abbrev pub argued_command : List ℕ → Argued
+argued_command word =
+    if bytes_eq word (codes "options") then argued.Options
+    else if bytes_eq word (codes "live") then argued.Live
+    else argued.Unknown
 
 -- the lines of options with their URL, or why they have none
 abbrev pub lines_of_options : ConnectOptions → Result (List ℕ) Error

@@ -14,8 +14,10 @@ switches_said (pair ∷ pairs) options = Some (options_with options (pair ∷ pa
 abbrev pub options_of : Script → ConnectOptions
 options_of script = record defaults {
   username = unwrap_or script.user defaults.username;
+  password = option_or script.password defaults.password;
   database = option_or script.database defaults.database;
   application_name = option_or script.application defaults.application_name;
+  ssl_mode = unwrap_or script.ssl_mode defaults.ssl_mode;
   extra_float_digits = unwrap_or script.digits defaults.extra_float_digits;
   options = switches_said script.options defaults.options;
 }

@@ -1,5 +1,5 @@
 -- The theorem of a play.
-use Rattle.std.specs.Prelude.{◌≡◌, ◌≢◌, ℕ, ◌+◌, ◌<◌, false, List, [], ◌∷◌, ◌++◌, length, map, flat_map, Some, None, sum_by, ◌≤◌}
+use Rattle.std.specs.Prelude.{◌≡◌, ◌≢◌, ℕ, ◌+◌, ◌<◌, false, List, [], ◌∷◌, ◌++◌, length, map, flat_map, Some, None, Ok, sum_by, ◌≤◌}
 use Rattle.std.specs.List.{AllByRecursion}
 use Rattle.pg_wire.specs.declared.error.Error.TheVariants as errors
 use Rattle.pg_wire.specs.declared.error.ProtocolFault.TheVariants as protocol
@@ -13,16 +13,23 @@ use Rattle.pg_wire.specs.Frontend.{frontend_frame, HasFrontendFrame}
 use Rattle.pg_wire.specs.Server.{Server, fresh_server, IsPrefixOf, MayHear, AreReplies}
 use Rattle.pg_wire.specs.Groups.{IsGroup, AnswerGroups}
 use Rattle.pg_stream.specs.Links.{LinkSeen, NoneFalls, RoseBy}
-use Rattle.pg_stream.specs.Streams.{StreamSeen, fresh_stream}
+use Rattle.pg_stream.specs.Streams.{StreamSeen}
 use Rattle.pg_call.specs.declared.calling.Call.TheVariants as calls
 use Rattle.pg_call.specs.Requests.{Group, said_in, spelled}
 use Rattle.pg_call.specs.Drains.{is_copy_in, after_readys}
-use Rattle.pg_conn.specs.Connections.{ConnSeen, fresh_connection}
+use Rattle.pg_conn.specs.Connections.{ConnSeen}
 use Rattle.pg_report.specs.declared.outcome.End.TheVariants as ends
 use Rattle.pg_report.specs.declared.outcome.Outcome.{Outcome}
 use Rattle.pg_report.specs.declared.outcome.Started.{Started}
 use Rattle.pg_script.specs.declared.step.Step.{Step}
-use Rattle.pg_play.specs.Calls.{Flows}
+use Rattle.pg_auth.specs.Tls.{tls_plan}
+use Rattle.pg_auth.specs.declared.tls.TlsPlan.{TlsPlan}
+use Rattle.pg_startup.specs.declared.stage.Session.{Session}
+use Rattle.pg_startup.specs.Startups.{startup_of}
+use Rattle.pg_startup.specs.Exchange.{client_of}
+use Rattle.pg_startup.specs.Flows.{Flows}
+use Rattle.pg_startup.specs.Handshake.{IsHandshake}
+use Rattle.pg_play.specs.Starts.{Opening}
 use Rattle.pg_play.specs.Places.{Place, Queued, ended, first_place}
 use Rattle.pg_play.specs.Told.{Told, Numbers, CountsTo}
 use Rattle.pg_play.specs.Causes.{HasCause, EndsDuly, IsFront}
@@ -73,29 +80,24 @@ pub record StandsAt (start : StreamSeen) (at : Place) (c : ConnSeen) : Type 0 wh
 abbrev pub PlaysOn : ConnSeen → ConnSeen → List Step → List Outcome → Type 0
 PlaysOn a b steps outs = (start : StreamSeen) (at : Place) → StandsAt start at a → (last : Place) × Plays_from at steps outs last × StandsAt start last b
 
--- ---- start-up
-
--- Behind a start-up over this link: what it queued and took, and a connection that owes nothing.
-pub record Begins (link : LinkSeen) (a : ConnSeen) : Type 0 where
-  pub message : List ℕ
-  pub greeting : List Frame
-  pub flows : Flows (fresh_stream link) a.stream message greeting
-  pub fresh : a ≡ fresh_connection a.stream (length message)
-
 -- ---- the headline
 
--- The link's bytes, where it tells them, from the end of start-up on.
-pub record TellsBytes (first last : LinkSeen) (started : Started) (at : Place) : Type 0 where
-  -- start-up's message, and the frames that it took
-  pub message : List ℕ
-  pub greeting : List Frame
-  pub message_is : length message ≡ started.sent
-  pub greeting_is : CountsTo (length (text_of greeting)) started.read
+-- The link's bytes, where it tells them: those of the handshake that start-up was, and behind them those of the steps.
+pub record TellsBytes (opening : Opening) (first last : LinkSeen) (started : Started) (at : Place) : Type 0 where
+  -- what both sides said up to the end of start-up
+  pub plan : TlsPlan
+  pub planned : tls_plan opening.options.ssl_mode opening.made.can_upgrade opening.made.is_local ≡ Ok plan
+  pub said : List ℕ
+  pub read : List ℕ
+  pub session : Session
+  pub handshake : IsHandshake (client_of opening.options opening.nonce) plan (startup_of opening.options) said read session
+  pub said_is : CountsTo (length said) started.sent
+  pub read_is : CountsTo (length read) started.read
   -- what the link took is a front of the messages queued
-  pub sent : (old new : List ℕ) → first.taken ≡ Some old → last.taken ≡ Some new → (bytes : List ℕ) × (new ≡ old ++ bytes) × IsPrefixOf bytes (message ++ spelled at.said)
+  pub sent : (old new : List ℕ) → first.taken ≡ Some old → last.taken ≡ Some new → (bytes : List ℕ) × (new ≡ old ++ bytes) × IsPrefixOf bytes (said ++ spelled at.said)
   -- the frames taken are the first of those in all bytes that it gave
   pub gave : (old new : List ℕ) → first.given ≡ Some old → last.given ≡ Some new
-      → (bytes : List ℕ) × (new ≡ old ++ text_of greeting ++ bytes) × (bytes ≡ text_of at.frames ++ at.seen.held) × ((frames : List Frame) (rest : List ℕ) → Cuts backend_tags bytes frames rest → IsPrefixOf at.frames frames)
+      → (bytes : List ℕ) × (new ≡ old ++ read ++ bytes) × (bytes ≡ text_of at.frames ++ at.seen.held) × ((frames : List Frame) (rest : List ℕ) → Cuts backend_tags bytes frames rest → IsPrefixOf at.frames frames)
 
 -- ---- the numbers of all steps
 
@@ -135,12 +137,13 @@ abbrev pub WhereLawful : Place → List Outcome → Type 0
 WhereLawful at outs = (sent read : List Frame) (rest : List ℕ) → IsPrefixOf sent (map frontend_frame at.said) → Cuts backend_tags (text_of at.frames ++ at.seen.held) read rest → AreReplies sent (heard read) → IsLawful at outs
 
 -- The steps were played behind a start-up, from the place where nothing is said and taken yet.
-pub record Plays (first last : LinkSeen) (started : Started) (steps : List Step) (outs : List Outcome) : Type 0 where
+pub record Plays (opening : Opening) (first last : LinkSeen) (started : Started) (steps : List Step) (outs : List Outcome) : Type 0 where
   pub begins : StreamSeen
   pub begun : NoneFalls first begins.link
+  pub counts : NoneFalls first last
   pub place : Place
   pub plays : Plays_from (first_place begins) steps outs place
-  pub bytes : TellsBytes first last started place
+  pub bytes : TellsBytes opening first last started place
   -- each message queued has a frame, and the groups are closed request groups
   pub can : AllByRecursion HasFrontendFrame place.said
   pub groups : AllByRecursion IsGroup place.groups

@@ -1,33 +1,89 @@
 -- A start-up that is played.
-use Rattle.std.specs.Prelude.{◌≡◌, ℕ, false, length, List, Result, Ok, Err, Some, None, IsSome}
+use Rattle.std.specs.Prelude.{◌≡◌, ◌⊎◌, ℕ, ◌+◌, ◌*◌, ◌<◌, ◌≤◌, false, List, Result, Ok, Err, Some, None}
 use Rattle.futures.specs.declared.task.Poll.{Poll}
 use Rattle.futures.specs.declared.task.Poll.TheVariants.{Ready, Pending}
 use Rattle.pg_wire.specs.declared.error.Error.{Error}
-use Rattle.pg_wire.specs.Frame.{Frame}
-use Rattle.pg_stream.specs.Links.{LinkSeen}
-use Rattle.pg_stream.specs.Streams.{StreamOf, fresh_stream, stream_by}
-use Rattle.pg_conn.specs.Connections.{ConnOf, seen_by}
-use Rattle.pg_conn.specs.Establishing.{EstablishOf}
-use Rattle.pg_play.specs.Calls.{Flows}
-use Rattle.pg_play.specs.Plays.{Begins}
+use Rattle.pg_wire.specs.declared.error.Error.TheVariants as errors
+use Rattle.pg_options.specs.Options.{ConnectOptions}
+use Rattle.pg_stream.specs.Links.{LinkPlan, LinkSeen, NoneFalls, RoseBy, Rose}
+use Rattle.pg_auth.specs.Tls.{tls_plan}
+use Rattle.pg_startup.specs.Nuls.{first_nul_in}
+use Rattle.pg_startup.specs.Startups.{startup_of, startup_texts}
+use Rattle.pg_startup.specs.Exchange.{client_of}
+use Rattle.pg_startup.specs.Handshake.{ReadyOf, HasBegun}
+use Rattle.pg_startup.specs.Establishing.{EstablishOf, EstablishSeen, establish_by, HasLink, IsServersTurn, IsStarting, kept_link, StartFails, RefusesStart}
+use Rattle.pg_conn.specs.Connections.{ConnOf, ConnSeen, seen_by, fresh_connection}
 
--- what is left of a start-up behind a poll that answered so
-abbrev pub IsLeft : {A : Type 0} → EstablishOf A → Poll (Result (ConnOf A) Error) → Type 0
-IsLeft e Pending = (e.is_finished ≡ false) × IsSome e.stream
-IsLeft e (Ready (Ok conn)) = e.stream ≡ None
-IsLeft e (Ready (Err error)) = IsSome e.stream
+-- What a start-up is to do: the options and the nonce of the client, and what its link is made of.
+pub record Opening : Type 0 where
+  pub options : ConnectOptions
+  pub nonce : List ℕ
+  pub made : LinkPlan
 
--- Over this link it has queued its message, and taken these frames.
-pub record IsStarting {A : Type 0} (seen : A → LinkSeen) (link : LinkSeen) (e : EstablishOf A) : Type 0 where
-  pub stream : StreamOf A
-  pub message : List ℕ
-  pub greeting : List Frame
-  pub is : e.stream ≡ Some stream
-  pub sent : e.sent ≡ length message
-  pub flows : Flows (fresh_stream link) (stream_by seen stream) message greeting
+abbrev pub opening_of : ConnectOptions → List ℕ → LinkPlan → Opening
+opening_of o client_nonce link_plan = record { options = o; nonce = client_nonce; made = link_plan }
 
--- what a poll makes of it
-abbrev pub StartsOn : {A : Type 0} → (A → LinkSeen) → LinkSeen → EstablishOf A → Poll (Result (ConnOf A) Error) → Type 0
-StartsOn seen link e Pending = IsStarting seen link e
-StartsOn seen link e (Ready (Ok conn)) = Begins link (seen_by seen conn)
-StartsOn seen link e (Ready (Err error)) = Unit {0}
+-- it does that
+pub record IsOf (opening : Opening) (e : EstablishSeen) : Type 0 where
+  pub none : first_nul_in (startup_texts opening.options) ≡ None
+  pub planned : tls_plan opening.options.ssl_mode opening.made.can_upgrade opening.made.is_local ≡ Ok e.plan
+  pub client : e.client ≡ client_of opening.options opening.nonce
+  pub message : e.message ≡ startup_of opening.options
+
+-- Each of so many polls has its wait of the link, or 256 moves of it.
+pub record HasWaited (n : ℕ) (a b : LinkSeen) : Type 0 where
+  pub write_waits : ℕ
+  pub read_waits : ℕ
+  pub spent : ℕ
+  pub all : n ≤ write_waits + read_waits + spent
+  pub writes : RoseBy write_waits a.write_waits b.write_waits
+  pub reads : RoseBy read_waits a.read_waits b.read_waits
+  pub moved : RoseBy (256 * spent) a.moved b.moved
+
+-- Over a link that it began with, so many polls have answered `Pending`. Where no write waited and the link moved less often than one poll
+-- may, the server is next, or its half of the TLS handshake.
+pub record IsPending (opening : Opening) (first last : LinkSeen) (n : ℕ) (e : EstablishSeen) : Type 0 where
+  pub of : IsOf opening e
+  pub starting : IsStarting first e
+  pub kept : HasLink e.phase last
+  pub counts : NoneFalls first last
+  pub waited : HasWaited n first last
+  pub next : 0 < n → (Rose first.write_waits last.write_waits → ⊥) → (RoseBy 256 first.moved last.moved → ⊥) → IsServersTurn e.phase
+
+-- The error has its cause, over the link as it began and as it stands.
+pub record HasFailed (opening : Opening) (first last : LinkSeen) (e : EstablishSeen) (error : Error) : Type 0 where
+  pub of : IsOf opening e
+  pub kept : HasLink e.phase last
+  pub counts : NoneFalls first last
+  pub fails : StartFails first first e e.phase error
+
+-- Why a start-up of so many polls ends with an error: none of them has answered; or it is refused before its link is touched; or it fails.
+abbrev pub StartEnds : Opening → ℕ → LinkSeen → LinkSeen → Error → Type 0
+StartEnds opening polls first last error = ((error ≡ errors.StartupPending) × ((e : EstablishSeen) × IsPending opening first last polls e))
+    ⊎ ((last ≡ first) × RefusesStart opening.options opening.made error)
+    ⊎ ((e : EstablishSeen) × HasFailed opening first last e error)
+
+-- The exchange is over, and the connection owes nothing.
+pub record HasOpened (opening : Opening) (first : LinkSeen) (a : ConnSeen) : Type 0 where
+  pub e : EstablishSeen
+  pub of : IsOf opening e
+  pub ready : ReadyOf LinkSeen
+  pub begun : HasBegun e.client e.plan e.message first ready
+  pub counts : NoneFalls first a.stream.link
+  pub fresh : a ≡ fresh_connection ready.stream ready.sent ready.read
+
+-- what a poll makes of a start-up of which so many have answered `Pending`
+abbrev pub StartsOn : {A : Type 0} → (A → LinkSeen) → Opening → LinkSeen → ℕ → EstablishOf A → Poll (Result (ConnOf A) Error) → Type 0
+StartsOn seen opening first n e Pending = (last : LinkSeen) × IsPending opening first last (n + 1) (establish_by seen e)
+StartsOn seen opening first n e (Ready (Ok conn)) = HasOpened opening first (seen_by seen conn)
+StartsOn seen opening first n e (Ready (Err error)) = (last : LinkSeen) × HasFailed opening first last (establish_by seen e) error
+
+-- the connection, or the error with the link that is kept
+abbrev pub Hands : {A : Type 0} → EstablishOf A → Result (ConnOf A) Error → Result (ConnOf A) (Error × A) → Type 0
+Hands e (Ok conn) result = result ≡ Ok conn
+Hands {A} e (Err error) result = (link : A) × (kept_link e.phase ≡ Some link) × (result ≡ Err (error, link))
+
+-- what comes of a start-up
+abbrev pub StartsAs : {A : Type 0} → (A → LinkSeen) → Opening → ℕ → LinkSeen → Result (ConnOf A) (Error × A) → Type 0
+StartsAs seen opening polls first (Ok conn) = HasOpened opening first (seen_by seen conn)
+StartsAs seen opening polls first (Err (error, link)) = StartEnds opening polls first (seen link) error

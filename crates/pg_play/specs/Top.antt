@@ -1,26 +1,36 @@
 -- The program, from the bytes that it reads to the bytes that it writes.
-use Rattle.std.specs.Prelude.{ℕ, ◌≡◌, ◌≢◌, ◌≤◌, ◌++◌, ◌∷◌, ◌⊎◌, [], List, Option, Some, None, Result, Ok, Err, Bool, true, false, String, string_bytes, bytes_eq, codes, take, length}
+use Rattle.std.specs.Prelude.{ℕ, ◌≡◌, ◌≢◌, ◌≤◌, ◌++◌, ◌∷◌, ◌⊎◌, [], List, Option, Some, None, Result, Ok, Err, Bool, true, false, String, string_bytes, codes, take, length, replicate, unwrap_or}
 use Rattle.std.specs.declared.alloc.Global.{Global}
 use Rattle.std.specs.Fmt.{decimal}
 use Rattle.std.specs.Io.KnownBytes.{Appends, Consumes, IsAtEnd}
 use Rattle.pg_wire.specs.declared.error.Error.{Error}
 use Rattle.pg_wire.specs.declared.error.Error.TheVariants as errors
-use Rattle.pg_stream.specs.Links.{LinkSeen, Rose}
+use Rattle.pg_stream.specs.Links.{LinkPlan, LinkSeen, Rose}
 use Rattle.pg_stream.specs.Outside.{SourceSeen, SinkSeen}
-use Rattle.pg_stream.specs.Memory.{seen_of, untouched}
+use Rattle.pg_stream.specs.Memory.{seen_of, plan_of, untouched}
 use Rattle.pg_stream.specs.declared.memory.MemoryLink.{MemoryLink}
 use Rattle.pg_script.specs.declared.script.Script.{Script}
 use Rattle.pg_script.specs.declared.step.Step.{Step}
 use Rattle.pg_script.specs.declared.error.ReadError.TheVariants as reads
-use Rattle.pg_script.specs.Grammar.{Says}
+use Rattle.pg_script.specs.declared.live.LiveScript.{LiveScript}
+use Rattle.pg_script.specs.Grammar.{Says, SaysLive}
 use Rattle.pg_report.specs.declared.outcome.Outcome.{Outcome}
 use Rattle.pg_report.specs.declared.outcome.Started.{Started}
-use Rattle.pg_report.specs.Report.{report}
+use Rattle.pg_report.specs.Report.{report, live_report}
 use Rattle.pg_report.specs.Errors.{error_text}
-use Rattle.pg_play.specs.Commands.{plain_command, lines_of_url}
+use Rattle.pg_options.specs.Options.{ConnectOptions, no_settings}
+use Rattle.pg_options.specs.FromUrl.{options_of_text}
+use Rattle.pg_auth.specs.Nonce.{nonce_of}
+use Rattle.pg_conn.specs.declared.dial.DialFailed.{DialFailed}
+use Rattle.pg_conn.specs.declared.dial.DialFailed.TheVariants as failed
+use Rattle.pg_play.specs.Commands.{plain_command, argued_command, lines_of_url}
+use Rattle.pg_play.specs.declared.command.Argued.{Argued}
+use Rattle.pg_play.specs.declared.command.Argued.TheVariants as argued
 use Rattle.pg_play.specs.declared.command.Command.{Command}
 use Rattle.pg_play.specs.declared.command.Command.TheVariants as commands
 use Rattle.pg_play.specs.declared.ending.TheConstants.{HELP, VERSION}
+use Rattle.pg_play.specs.Connecting.{options_of}
+use Rattle.pg_play.specs.Starts.{Opening, opening_of, StartEnds}
 use Rattle.pg_play.specs.Plays.{Plays}
 use Rattle.pg_play.specs.declared.played.Played.{Played}
 use Rattle.pg_play.specs.declared.ending.Ending.{Ending}
@@ -31,23 +41,43 @@ abbrev pub HasOutcomes : ℕ → Result Started Error → ℕ → Type 0
 HasOutcomes steps (Ok _) outcomes = outcomes ≡ steps
 HasOutcomes steps (Err _) outcomes = outcomes ≡ 0
 
--- behind a start-up over a link in memory that was not called yet, the headline: each step tells what it queued, heard and showed
-abbrev pub PlaysSteps : List Step → Result Started Error → List Outcome → LinkSeen → Type 0
-PlaysSteps steps (Ok started) outcomes link = Plays untouched link started steps outcomes
-PlaysSteps steps (Err _) outcomes link = Unit {0}
+-- behind a start-up the headline: each step tells what it queued, heard and showed; and a start-up that fails has its cause
+abbrev pub PlaysSteps : Opening → ℕ → List Step → Result Started Error → List Outcome → LinkSeen → LinkSeen → Type 0
+PlaysSteps opening polls steps (Ok started) outcomes first last = Plays opening first last started steps outcomes
+PlaysSteps opening polls steps (Err e) outcomes first last = StartEnds opening polls first last e
 
-abbrev pub IsPlay : Script → Played MemoryLink → Type 0
-IsPlay script p = HasOutcomes (length script.steps) p.start (length p.outcomes) × PlaysSteps script.steps p.start p.outcomes (seen_of p.link)
+-- the link that a script says, of its read and write events and its flags
+abbrev pub plan_said : Script → LinkPlan
+plan_said script = record { reads = script.events; writes = script.writes; can_upgrade = script.can_upgrade; is_local = script.is_local }
+
+-- the nonce that it says, or 64 times `n`
+abbrev pub nonce_said : Script → List ℕ
+nonce_said script = unwrap_or script.nonce (replicate 64 110)
+
+-- the polls of start-up that it says, or 1000
+abbrev pub polls_said : Script → ℕ
+polls_said script = unwrap_or script.start_polls 1000
+
+-- what a script says was played over the link that it says, which was not called before
+pub record IsPlay (script : Script) (p : Played MemoryLink) : Type 0 where
+  pub outcomes : HasOutcomes (length script.steps) p.start (length p.outcomes)
+  pub made : plan_of p.link ≡ plan_said script
+  pub plays : PlaysSteps (opening_of (options_of script) (nonce_said script) (plan_said script)) (polls_said script) script.steps p.start p.outcomes (untouched (plan_said script)) (seen_of p.link)
 
 abbrev pub start_status : Result Started Error → ℕ
 start_status (Ok _) = 0
 start_status (Err errors.OutOfMemory) = 5
 start_status (Err _) = 1
 
-abbrev pub EndingIs : Ending → Played MemoryLink → Type 0
+abbrev pub EndingIs : {A : Type 0} → Ending A → Played MemoryLink → Type 0
 EndingIs (endings.Played q) p = (q ≡ p) × (start_status p.start ≤ 1)
 EndingIs endings.NoMemory p = Unit {0}
 EndingIs _ p = ⊥
+
+abbrev pub LiveEndingIs : {A : Type 0} → Ending A → Played A → Type 0
+LiveEndingIs (endings.Live q) p = (q ≡ p) × (start_status p.start ≤ 1)
+LiveEndingIs endings.NoMemory p = Unit {0}
+LiveEndingIs _ p = ⊥
 
 -- the source was read to its end, and this was played from its text
 abbrev pub PlaysText : SourceSeen → SourceSeen → Played MemoryLink → Type 0
@@ -57,13 +87,13 @@ PlaysText a b p = (text : List ℕ) × (script : Script) × Consumes a.left b.le
 abbrev pub BadText : SourceSeen → SourceSeen → ℕ → Type 0
 BadText a b n = (text : List ℕ) × Consumes a.left b.left text × Says (Err (reads.BadLine n)) text × (n ≢ 0 → IsAtEnd b.left)
 
-abbrev pub PlayedOrStarved : Script → Ending → Type 0
+abbrev pub PlayedOrStarved : {A : Type 0} → Script → Ending A → Type 0
 PlayedOrStarved script (endings.Played p) = IsPlay script p × (start_status p.start ≤ 1)
 PlayedOrStarved script endings.NoMemory = Unit {0}
 PlayedOrStarved script _ = ⊥
 
 -- what the source made of it
-abbrev pub ScriptIs : SourceSeen → SourceSeen → Ending → Type 0
+abbrev pub ScriptIs : {A : Type 0} → SourceSeen → SourceSeen → Ending A → Type 0
 ScriptIs a b (endings.Played p) = PlaysText a b p × (start_status p.start ≤ 1)
 ScriptIs a b (endings.BadScript n) = BadText a b n
 ScriptIs a b endings.ReadFailed = Rose a.faults b.faults
@@ -71,29 +101,72 @@ ScriptIs a b endings.NoMemory = Unit {0}
 ScriptIs a b _ = ⊥
 
 -- what one word made of it
-abbrev pub WordIs : Command → SourceSeen → SourceSeen → Ending → Type 0
+abbrev pub WordIs : {A : Type 0} → Command → SourceSeen → SourceSeen → Ending A → Type 0
 WordIs commands.Script a b e = ScriptIs a b e
 WordIs commands.Help a b e = (e ≡ endings.Help) × (b ≡ a)
 WordIs commands.Version a b e = (e ≡ endings.Version) × (b ≡ a)
 WordIs commands.Unknown a b e = (e ≡ endings.BadWords) × (b ≡ a)
 
 -- what a URL made of it
-abbrev pub OptionsIs : List ℕ → Ending → Type 0
+abbrev pub OptionsIs : {A : Type 0} → List ℕ → Ending A → Type 0
 OptionsIs url (endings.Shown text) = lines_of_url url ≡ Ok (string_bytes text)
 OptionsIs url (endings.Refused e) = lines_of_url url ≡ Err e
 OptionsIs url endings.NoMemory = Unit {0}
 OptionsIs url _ = ⊥
 
--- what a word and its argument made of it
-abbrev pub ArgumentIs : Bool → List ℕ → Ending → Type 0
-ArgumentIs true argument e = OptionsIs argument e
-ArgumentIs false argument e = e ≡ endings.BadWords
+-- ---- a play over a link that is dialled
 
--- what the words and the source made of it
-abbrev pub RunIs : List (String Global) → SourceSeen → SourceSeen → Ending → Type 0
-RunIs (word ∷ []) a b e = WordIs (plain_command (string_bytes word)) a b e
-RunIs (word ∷ argument ∷ []) a b e = ArgumentIs (bytes_eq (string_bytes word) (codes "options")) (string_bytes argument) e × (b ≡ a)
-RunIs _ a b e = (e ≡ endings.BadWords) × (b ≡ a)
+-- what a script says was played over a link that these options were dialled for, with a nonce of 128 random words
+pub record IsLivePlay {A : Type 0} (seen : A → LinkSeen) (o : ConnectOptions) (script : LiveScript) (p : Played A) : Type 0 where
+  -- the link as it was dialled
+  pub link : LinkSeen
+  pub words : List ℕ
+  pub drawn : length words ≡ 128
+  pub outcomes : HasOutcomes (length script.steps) p.start (length p.outcomes)
+  pub plays : PlaysSteps (opening_of o (nonce_of words) link.plan) (unwrap_or script.start_polls 1000) script.steps p.start p.outcomes link (seen p.link)
+
+abbrev pub IsUndialed : {A : Type 0} → DialFailed → Ending A → Type 0
+IsUndialed failed.Fault e = e ≡ endings.DialFailed
+IsUndialed failed.OutOfMemory e = e ≡ endings.NoMemory
+
+-- the dial gave a link and words, or failed
+abbrev pub DialedIs : {A : Type 0} → (A → LinkSeen) → ConnectOptions → LiveScript → ℕ → ℕ → Ending A → Type 0
+DialedIs seen o script f g (endings.Live p) = IsLivePlay seen o script p × (start_status p.start ≤ 1)
+DialedIs seen o script f g endings.DialFailed = Rose f g
+DialedIs seen o script f g endings.NoMemory = Unit {0}
+DialedIs seen o script f g _ = ⊥
+
+abbrev pub LivePlaysText : {A : Type 0} → (A → LinkSeen) → ConnectOptions → SourceSeen → SourceSeen → Played A → Type 0
+LivePlaysText seen o a b p = (text : List ℕ) × (script : LiveScript) × Consumes a.left b.left text × IsAtEnd b.left × SaysLive (Ok script) text × IsLivePlay seen o script p
+
+abbrev pub BadLiveText : SourceSeen → SourceSeen → ℕ → Type 0
+BadLiveText a b n = (text : List ℕ) × Consumes a.left b.left text × SaysLive (Err (reads.BadLine n)) text × (n ≢ 0 → IsAtEnd b.left)
+
+-- what the source and the dial made of options
+abbrev pub LiveIs : {A : Type 0} → (A → LinkSeen) → ConnectOptions → SourceSeen → SourceSeen → ℕ → ℕ → Ending A → Type 0
+LiveIs seen o a b f g (endings.Live p) = LivePlaysText seen o a b p × (start_status p.start ≤ 1)
+LiveIs seen o a b f g (endings.BadScript n) = BadLiveText a b n
+LiveIs seen o a b f g endings.ReadFailed = Rose a.faults b.faults
+LiveIs seen o a b f g endings.DialFailed = Rose f g
+LiveIs seen o a b f g endings.NoMemory = Unit {0}
+LiveIs seen o a b f g _ = ⊥
+
+-- the options that a URL alone says, or why it says none
+abbrev pub LiveUrlIs : {A : Type 0} → (A → LinkSeen) → Result ConnectOptions Error → SourceSeen → SourceSeen → ℕ → ℕ → Ending A → Type 0
+LiveUrlIs seen (Ok o) a b f g e = LiveIs seen o a b f g e ⊎ (e ≡ endings.NoMemory)
+LiveUrlIs seen (Err error) a b f g e = (e ≡ endings.Refused error) ⊎ (e ≡ endings.NoMemory)
+
+-- what a word and its argument made of it
+abbrev pub ArgumentIs : {A : Type 0} → (A → LinkSeen) → Argued → List ℕ → SourceSeen → SourceSeen → ℕ → ℕ → Ending A → Type 0
+ArgumentIs seen argued.Options argument a b f g e = OptionsIs argument e × (b ≡ a) × (g ≡ f)
+ArgumentIs seen argued.Live argument a b f g e = LiveUrlIs seen (options_of_text no_settings argument) a b f g e
+ArgumentIs seen argued.Unknown argument a b f g e = (e ≡ endings.BadWords) × (b ≡ a) × (g ≡ f)
+
+-- what the words, the source and the dial made of it
+abbrev pub RunIs : {A : Type 0} → (A → LinkSeen) → List (String Global) → SourceSeen → SourceSeen → ℕ → ℕ → Ending A → Type 0
+RunIs seen (word ∷ []) a b f g e = WordIs (plain_command (string_bytes word)) a b e × (g ≡ f)
+RunIs seen (word ∷ argument ∷ []) a b f g e = ArgumentIs seen (argued_command (string_bytes word)) (string_bytes argument) a b f g e
+RunIs seen _ a b f g e = (e ≡ endings.BadWords) × (b ≡ a) × (g ≡ f)
 
 abbrev pub refused_text : Error → List ℕ
 refused_text error = codes "error " ++ error_text error ++ 10 ∷ []
@@ -105,8 +178,9 @@ bad_script_text n = codes "bad script: line " ++ decimal n ++ 10 ∷ []
 abbrev pub Reports : Played MemoryLink → List ℕ → Type 0
 Reports p text = (sent : List ℕ) × ((seen_of p.link).taken ≡ Some sent) × (text ≡ report p.start p.outcomes sent)
 
-abbrev pub TellsEnding : Ending → List ℕ → Type 0
+abbrev pub TellsEnding : {A : Type 0} → Ending A → List ℕ → Type 0
 TellsEnding (endings.Played p) text = Reports p text
+TellsEnding (endings.Live p) text = text ≡ live_report p.start p.outcomes
 TellsEnding (endings.Shown lines) text = text ≡ string_bytes lines
 TellsEnding endings.Help text = text ≡ HELP.now
 TellsEnding endings.Version text = text ≡ VERSION.now
@@ -114,10 +188,12 @@ TellsEnding endings.BadWords text = text ≡ codes "bad words\n"
 TellsEnding (endings.Refused e) text = text ≡ refused_text e
 TellsEnding (endings.BadScript n) text = text ≡ bad_script_text n
 TellsEnding endings.ReadFailed text = text ≡ codes "read failed\n"
+TellsEnding endings.DialFailed text = text ≡ codes "dial failed\n"
 TellsEnding endings.NoMemory text = text ≡ codes "out of memory\n"
 
-abbrev pub status_of : Ending → ℕ
+abbrev pub status_of : {A : Type 0} → Ending A → ℕ
 status_of (endings.Played p) = start_status p.start
+status_of (endings.Live p) = start_status p.start
 status_of (endings.Shown lines) = 0
 status_of endings.Help = 0
 status_of endings.Version = 0
@@ -126,10 +202,15 @@ status_of (endings.Refused e) = 2
 status_of (endings.BadScript n) = 2
 status_of endings.ReadFailed = 3
 status_of endings.NoMemory = 5
+status_of endings.DialFailed = 6
 
-abbrev pub played_of : Ending → Option (Played MemoryLink)
+abbrev pub played_of : {A : Type 0} → Ending A → Option (Played MemoryLink)
 played_of (endings.Played p) = Some p
 played_of _ = None
+
+abbrev pub live_of : {A : Type 0} → Ending A → Option (Played A)
+live_of (endings.Live p) = Some p
+live_of _ = None
 
 abbrev pub WritesAll : SinkSeen → SinkSeen → List ℕ → Type 0
 WritesAll x y text = Appends x.taken y.taken text × (y.faults ≡ x.faults)
@@ -147,14 +228,15 @@ abbrev pub Writes : ℕ → List ℕ → SinkSeen → SinkSeen → ℕ → Type 
 Writes own text x y status = (WritesAll x y text × (status ≡ own)) ⊎ (WritesFront x y text × (status ≡ 4))
 
 -- the ending's text, or that memory was refused for it
-abbrev pub WritesEnding : Ending → SinkSeen → SinkSeen → ℕ → Type 0
+abbrev pub WritesEnding : {A : Type 0} → Ending A → SinkSeen → SinkSeen → ℕ → Type 0
 WritesEnding e x y status =
     ((text : List ℕ) × TellsEnding e text × Writes (status_of e) text x y status) ⊎
     Writes 5 (codes "out of memory\n") x y status
 
 -- what the words asked was run on what was read, and is told
-pub record TopIs (words : List (String Global)) (a b : SourceSeen) (x y : SinkSeen) (status : ℕ) (played : Option (Played MemoryLink)) : Type 0 where
-  pub ending : Ending
-  pub runs : RunIs words a b ending
+pub record TopIs {A : Type 0} (seen : A → LinkSeen) (words : List (String Global)) (a b : SourceSeen) (x y : SinkSeen) (f g : ℕ) (status : ℕ) (played : Option (Played MemoryLink)) (live : Option (Played A)) : Type 0 where
+  pub ending : Ending A
+  pub runs : RunIs seen words a b f g ending
   pub shown : played ≡ played_of ending
+  pub shown_live : live ≡ live_of ending
   pub written : WritesEnding ending x y status

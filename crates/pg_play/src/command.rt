@@ -1,5 +1,5 @@
 ghost use Rattle.std.specs.Prelude.{◌≡◌};
-ghost use Rattle.pg_play.specs.Commands.{plain_command};
+ghost use Rattle.pg_play.specs.Commands.{plain_command, argued_command};
 
 /// What a command line of one word asks for.
 #[derive(Clone, Copy, Debug, PartialEq, Eq)]
@@ -8,6 +8,28 @@ pub(crate) enum Command {
     Help,
     Version,
     Unknown,
+}
+
+/// What a command line of a word and its argument asks for.
+#[derive(Clone, Copy, Debug, PartialEq, Eq)]
+pub(crate) enum Argued {
+    Options,
+    Live,
+    Unknown,
+}
+
+impl Argued {
+    pub(crate) fn of(word: &str) -> Self
+        ensures { result ≡ argued_command word.now }
+    {
+        if word == "options" {
+            Argued::Options
+        } else if word == "live" {
+            Argued::Live
+        } else {
+            Argued::Unknown
+        }
+    }
 }
 
 impl Command {

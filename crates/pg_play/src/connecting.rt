@@ -3,7 +3,7 @@ ghost use Rattle.std.specs.Option.{option_or};
 ghost use Rattle.pg_options.specs.Answering.{Makes};
 ghost use Rattle.pg_play.specs.Connecting.{switches_said, options_of};
 
-use pg_options::{PgConnectOptions, PgSettings};
+use pg_options::{PgConnectOptions, PgSettings, PgSslMode};
 use pg_script::Script;
 use pg_wire::{Error, Text};
 use std::alloc::Global;
@@ -13,6 +13,18 @@ fn with_user(options: PgConnectOptions, user: &Option<Text>) -> Result<PgConnect
 {
     match user {
         Some(user) => options.username(user.as_str()),
+        None => Ok(options),
+    }
+}
+
+fn with_password(
+    options: PgConnectOptions,
+    password: &Option<Text>,
+) -> Result<PgConnectOptions, Error>
+    ensures { Makes result (record options { password = option_or password.now options.password }) }
+{
+    match password {
+        Some(password) => options.password(password.as_str()),
         None => Ok(options),
     }
 }
@@ -62,14 +74,25 @@ fn with_digits(options: PgConnectOptions, digits: Option<Option<i8>>) -> PgConne
     }
 }
 
+fn with_ssl_mode(options: PgConnectOptions, mode: Option<PgSslMode>) -> PgConnectOptions
+    ensures { result ≡ record options { ssl_mode = unwrap_or mode options.ssl_mode } }
+{
+    match mode {
+        Some(mode) => options.ssl_mode(mode),
+        None => options,
+    }
+}
+
 /// The connect options that a script says.
 pub(crate) fn options_of(alloc: Global, script: &Script) -> Result<PgConnectOptions, Error>
     ensures { Makes result (options_of script.now) }
 {
     let plain = PgConnectOptions::new_without_pgpass(alloc, &PgSettings::empty())?;
     let with_user = with_user(plain, &script.user)?;
-    let with_database = with_database(with_user, &script.database)?;
+    let with_password = with_password(with_user, &script.password)?;
+    let with_database = with_database(with_password, &script.database)?;
     let with_name = with_application(with_database, &script.application)?;
-    let with_digits = with_digits(with_name, script.digits);
+    let with_mode = with_ssl_mode(with_name, script.ssl_mode);
+    let with_digits = with_digits(with_mode, script.digits);
     with_switches(with_digits, script.options.as_slice())
 }

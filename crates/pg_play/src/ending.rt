@@ -1,8 +1,8 @@
 ghost use Rattle.std.specs.Prelude.{◌≡◌, IfOk, string_bytes};
-ghost use Rattle.pg_play.specs.Top.{EndingIs, TellsEnding, bad_script_text, refused_text, start_status, status_of, played_of};
+ghost use Rattle.pg_play.specs.Top.{EndingIs, LiveEndingIs, TellsEnding, bad_script_text, refused_text, start_status, status_of, played_of, live_of};
 
 use crate::played::Played;
-use pg_report::{Started, put_error, report};
+use pg_report::{Started, live_report, put_error, report};
 use pg_stream::MemoryLink;
 use pg_wire::Error;
 use std::alloc::{AllocError, Global};
@@ -11,6 +11,7 @@ use std::fmt::Write;
 /// How the program is called.
 pub(crate) const HELP: &str = "zapoteboom WORD
 script       reads a script from standard input, plays it in memory and writes the report
+live URL     dials the server of a URL, plays the steps of a script there and writes the report
 options URL  writes the connect options that a URL says
 --help       writes this text
 --version    writes the name and the version
@@ -21,8 +22,10 @@ pub(crate) const VERSION: &str = "zapoteboom 0.1.0\n";
 
 /// How the program ends, before its text is written.
 #[derive(Drop)]
-pub(crate) enum Ending {
+pub(crate) enum Ending<L> {
     Played(Played<MemoryLink>),
+    /// What was played over a link that was dialled.
+    Live(Played<L>),
     /// The lines of connect options.
     Shown(String),
     Help,
@@ -32,6 +35,7 @@ pub(crate) enum Ending {
     Refused(Error),
     BadScript(u64),
     ReadFailed,
+    DialFailed,
     NoMemory,
 }
 
@@ -46,8 +50,8 @@ fn start_status(start: &Result<Started, Error>) -> u8
     }
 }
 
-impl Ending {
-    /// What was played. A start-up without memory counts as none.
+impl<L: Drop> Ending<L> {
+    /// What was played in memory. A start-up without memory counts as none.
     pub(crate) fn of(played: Played<MemoryLink>) -> Self
         ensures { EndingIs result played }
     {
@@ -57,24 +61,38 @@ impl Ending {
         }
     }
 
+    /// What was played over a link that was dialled. A start-up without memory counts as none.
+    pub(crate) fn of_live(played: Played<L>) -> Self
+        ensures { LiveEndingIs result played }
+    {
+        match start_status(&played.start) {
+            5 => Ending::NoMemory,
+            _ => Ending::Live(played),
+        }
+    }
+
     pub(crate) fn status(&self) -> u8
         ensures { result ≡ status_of self.now }
     {
         match self {
             Ending::Played(played) => start_status(&played.start),
+            Ending::Live(played) => start_status(&played.start),
             Ending::Shown(_) | Ending::Help | Ending::Version => 0,
             Ending::BadWords | Ending::Refused(_) | Ending::BadScript(_) => 2,
             Ending::ReadFailed => 3,
             Ending::NoMemory => 5,
+            Ending::DialFailed => 6,
         }
     }
 
-    pub(crate) fn played(self) -> Option<Played<MemoryLink>>
-        ensures { result ≡ played_of self }
+    /// What was played in memory, and what over a link that was dialled.
+    pub(crate) fn played(self) -> (Option<Played<MemoryLink>>, Option<Played<L>>)
+        ensures { result ≡ (played_of self, live_of self) }
     {
         match self {
-            Ending::Played(played) => Some(played),
-            _ => None,
+            Ending::Played(played) => (Some(played), None),
+            Ending::Live(played) => (None, Some(played)),
+            _ => (None, None),
         }
     }
 
@@ -89,6 +107,7 @@ impl Ending {
                 played.outcomes.as_slice(),
                 played.link.taken(),
             ),
+            Ending::Live(played) => live_report(alloc, &played.start, played.outcomes.as_slice()),
             Ending::Shown(lines) => String::from_str(alloc, lines.as_str()),
             Ending::Help => String::from_str(alloc, HELP),
             Ending::Version => String::from_str(alloc, VERSION),
@@ -96,6 +115,7 @@ impl Ending {
             Ending::Refused(error) => refused(alloc, error),
             Ending::BadScript(line) => bad_script(alloc, *line),
             Ending::ReadFailed => String::from_str(alloc, "read failed\n"),
+            Ending::DialFailed => String::from_str(alloc, "dial failed\n"),
             Ending::NoMemory => String::from_str(alloc, "out of memory\n"),
         }
     }

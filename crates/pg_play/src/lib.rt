@@ -1,7 +1,8 @@
 //! Plays of scripts, and the top call of the program.
 //!
 //! `play` runs a start-up and then steps over any link. `top` is the whole program, but for its source, sink and dial: it
-//! reads a script, plays it over a link in memory and writes the report, or it shows the connect options that a URL says.
+//! reads a script, plays it over a link in memory, or its steps over a link that it dials, and writes the report; or it shows the
+//! connect options that a URL says.
 #![tactic(auto)]
 
 mod asking;
@@ -9,6 +10,7 @@ mod command;
 mod connecting;
 mod ending;
 pub mod laws;
+mod live;
 mod played;
 mod playing;
 mod program;

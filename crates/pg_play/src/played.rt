@@ -21,6 +21,7 @@ pub struct Ran<L> {
     /// | 3 | the source failed |
     /// | 4 | the sink failed |
     /// | 5 | memory ran out |
+    /// | 6 | the dial failed |
     pub status: u8,
     pub played: Option<Played<MemoryLink>>,
     pub live: Option<Played<L>>,

@@ -1,7 +1,9 @@
-ghost use Rattle.std.specs.Prelude.{◌≡◌, ◌≤◌, [], length, vec_capacity, Err, IfOk};
+ghost use Rattle.std.specs.Prelude.{◌≡◌, ◌≤◌, [], length, vec_capacity, Err, IfOk, IfErr};
+ghost use Rattle.pg_auth.specs.Nonce.{IsNonce};
 ghost use Rattle.pg_stream.specs.Links.{LinkSeen};
 ghost use Rattle.pg_conn.specs.Connections.{seen_by};
-ghost use Rattle.pg_play.specs.Plays.{Begins, Plays};
+ghost use Rattle.pg_play.specs.Plays.{Plays};
+ghost use Rattle.pg_play.specs.Starts.{Opening, HasOpened, StartEnds, opening_of};
 ghost use Rattle.pg_play.specs.Top.{HasOutcomes};
 
 use crate::played::Played;
@@ -18,6 +20,7 @@ use std::alloc::Global;
 // What came of a start-up that failed.
 fn failed<L>(alloc: Global, error: Error, link: L) -> Played<L>
     ensures start { result.start ≡ Err error }
+    ensures link { result.link ≡ link }
     ensures outcomes { result.outcomes ≡ [] }
 {
     Played {
@@ -37,7 +40,8 @@ fn play_steps<L: Link>(
     requires none { outcomes.items ≡ [] }
     requires room { length steps.now ≤ vec_capacity outcomes }
     ensures outcomes { HasOutcomes (length steps.now) result.start (length result.outcomes) }
-    ensures plays { (link : LinkSeen) → Begins link (seen_by L.seen conn) → IfOk result.start (λ started. Plays link (L.seen result.link) started steps.now result.outcomes) }
+    ensures started { IfErr result.start (λ e. ⊥) }
+    ensures plays { (opening : Opening) (link : LinkSeen) → HasOpened opening link (seen_by L.seen conn) → IfOk result.start (λ started. Plays opening link (L.seen result.link) started steps.now result.outcomes) }
 {
     let (sent, read) = conn.started();
     for step in steps {
@@ -51,7 +55,7 @@ fn play_steps<L: Link>(
     }
 }
 
-/// Runs a start-up, and then steps in order, over a link. Start-up is polled `start_polls` times at most, and a step's call as
+/// Runs a start-up, and then steps in order, over a link. The nonce is the client's for SCRAM. Start-up is polled `start_polls` times at most, and a step's call as
 /// often as the step says; a call that has not ended by then is dropped, and the next step follows.
 ///
 /// Room for all outcomes is taken before start-up. Where it is refused, start-up is `OutOfMemory`.
@@ -63,10 +67,13 @@ pub fn play<L: Link>(
     steps: &[Step],
     link: L,
 ) -> Played<L>
+    requires { IsNonce nonce.now }
     // Behind a start-up every step has its outcome, in order, and behind a failed one there is none.
     ensures outcomes { HasOutcomes (length steps.now) result.start (length result.outcomes) }
-    // From there on each outcome tells what its step queued and heard, why it ended so, and what it showed.
-    ensures plays { IfOk result.start (λ started. Plays (L.seen link) (L.seen result.link) started steps.now result.outcomes) }
+    // A start-up that fails has its cause.
+    ensures start { IfErr result.start (StartEnds (opening_of options.now nonce.now (L.seen link).plan) start_polls (L.seen link) (L.seen result.link)) }
+    // Else the handshake was made, and from there on each outcome tells what its step queued and heard, why it ended so, and what it showed.
+    ensures plays { IfOk result.start (λ started. Plays (opening_of options.now nonce.now (L.seen link).plan) (L.seen link) (L.seen result.link) started steps.now result.outcomes) }
 {
     let Ok(outcomes) = Vec::with_capacity(alloc, steps.len()) else {
         return failed(alloc, Error::OutOfMemory, link);

@@ -26,7 +26,7 @@ fn lines_of_url(alloc: Global, url: &str) -> Result<String, Error>
 }
 
 /// Shows the options that a URL alone says. All is computed before anything is written.
-pub(crate) fn show_options(alloc: Global, url: &str) -> Ending
+pub(crate) fn show_options<L>(alloc: Global, url: &str) -> Ending<L>
     ensures { OptionsIs url.now result }
 {
     match lines_of_url(alloc, url) {

@@ -1,8 +1,9 @@
-ghost use Rattle.std.specs.Prelude.{◌≡◌, false, None, Ok, IsSome, IfOk};
+ghost use Rattle.std.specs.Prelude.{◌≡◌, ℕ, false, Some};
+ghost use Rattle.pg_auth.specs.Nonce.{IsNonce};
+ghost use Rattle.pg_startup.specs.Establishing.{IsKept, IsLeft, kept_link, establish_by};
+ghost use Rattle.pg_startup.specs.declared.starting.Phase.TheVariants as phases;
 ghost use Rattle.pg_stream.specs.Links.{LinkSeen};
-ghost use Rattle.pg_conn.specs.Connections.{seen_by};
-ghost use Rattle.pg_play.specs.Plays.{Begins};
-ghost use Rattle.pg_play.specs.Starts.{IsLeft, IsStarting, StartsOn};
+ghost use Rattle.pg_play.specs.Starts.{Opening, opening_of, IsPending, Hands, StartsAs, StartsOn};
 
 use pg_conn::{Establish, PgConnection, establish};
 use pg_options::PgConnectOptions;
@@ -12,7 +13,8 @@ use std::alloc::Global;
 
 // The link of a start-up that has handed out no connection.
 fn link_of<L>(establish: Establish<L>) -> L
-    requires { IsSome establish.stream }
+    requires { IsKept establish.phase }
+    ensures { kept_link establish.phase ≡ Some result }
 {
     match establish.into_link() {
         Some(link) => link,
@@ -22,7 +24,7 @@ fn link_of<L>(establish: Establish<L>) -> L
 
 // Lets go of a start-up that has handed out its connection.
 fn end<L>(establish: Establish<L>)
-    requires { establish.stream ≡ None }
+    requires { establish.phase ≡ phases.Gone }
 {
     match establish.into_link() {
         Some(_) => unreachable!(),
@@ -32,10 +34,9 @@ fn end<L>(establish: Establish<L>)
 
 // One poll, behind which what is left of the start-up is known.
 fn poll_once<L: Link>(establish: &mut Establish<L>) -> Poll<Result<PgConnection<L>, Error>>
-    requires goes { establish.old.is_finished ≡ false }
-    requires some { IsSome establish.old.stream }
+    requires { establish.old.is_finished ≡ false }
     ensures left { IsLeft establish.new result }
-    ensures starts { (link : LinkSeen) → IsStarting L.seen link establish.old → StartsOn L.seen link establish.new result }
+    ensures starts { (opening : Opening) (first last : LinkSeen) (n : ℕ) → IsPending opening first last n (establish_by L.seen establish.old) → StartsOn L.seen opening first n establish.new result }
 {
     establish.poll()
 }
@@ -46,7 +47,7 @@ fn hand_over<L>(
     answer: Result<PgConnection<L>, Error>,
 ) -> Result<PgConnection<L>, (Error, L)>
     requires { IsLeft establish (Poll.Ready answer) }
-    ensures { IfOk result (λ conn. answer ≡ Ok conn) }
+    ensures { Hands establish answer result }
 {
     match answer {
         Ok(conn) => {
@@ -63,8 +64,8 @@ fn poll_start<L: Link>(
     polls: u32,
 ) -> Result<PgConnection<L>, (Error, L)>
     requires goes { establish.is_finished ≡ false }
-    requires some { IsSome establish.stream }
-    ensures { (link : LinkSeen) → IsStarting L.seen link establish → IfOk result (λ conn. Begins link (seen_by L.seen conn)) }
+    requires kept { IsKept establish.phase }
+    ensures { (opening : Opening) (first last : LinkSeen) → IsPending opening first last 0 (establish_by L.seen establish) → StartsAs L.seen opening polls first result }
 {
     for _ in 0..polls {
         match poll_once(&mut establish) {
@@ -83,7 +84,8 @@ pub(crate) fn start_up<L: Link>(
     polls: u32,
     link: L,
 ) -> Result<PgConnection<L>, (Error, L)>
-    ensures { IfOk result (λ conn. Begins (L.seen link) (seen_by L.seen conn)) }
+    requires { IsNonce nonce.now }
+    ensures { StartsAs L.seen (opening_of options.now nonce.now (L.seen link).plan) polls (L.seen link) result }
 {
     match establish(alloc, options, nonce, link) {
         Ok(establish) => poll_start(establish, polls),

@@ -22,3 +22,7 @@ sent_line sent = codes "sent " ++ hex_or_dash sent ++ 10 ∷ []
 
 unfoldable pub report : Result Started Error → List Outcome → List ℕ → List ℕ
 report start outcomes sent = start_line start ++ steps_from 1 outcomes ++ sent_line sent
+
+-- of a link that tells no bytes
+unfoldable pub live_report : Result Started Error → List Outcome → List ℕ
+live_report start outcomes = start_line start ++ steps_from 1 outcomes

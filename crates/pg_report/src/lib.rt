@@ -23,7 +23,7 @@ mod outcome;
 mod steps;
 
 pub use errors::put_error;
-pub use lines::report;
+pub use lines::{live_report, report};
 pub use options::option_lines;
 pub use outcome::{Answer, End, Item, Outcome, Started};
 

@@ -1,5 +1,5 @@
 ghost use Rattle.std.specs.Prelude.{◌≡◌, ◌++◌, OnOk, IfOk, string_bytes};
-ghost use Rattle.pg_report.specs.Report.{start_line, steps_from, sent_line, report};
+ghost use Rattle.pg_report.specs.Report.{start_line, steps_from, sent_line, report, live_report};
 
 use crate::bytes::{put_hex_or_dash, put_named_number, put_number};
 use crate::errors::put_error;
@@ -62,5 +62,20 @@ pub fn report(
     put_start(&mut out, start)?;
     put_steps(&mut out, outcomes)?;
     put_sent(&mut out, sent)?;
+    Ok(out)
+}
+
+/// The report of what was played over a link that tells no bytes: the same without the last line.
+#[tactic(auto, unfolding(crate::specs::Report::live_report))]
+pub fn live_report(
+    alloc: Global,
+    start: &Result<Started, Error>,
+    outcomes: &[Outcome],
+) -> Result<String, AllocError>
+    ensures { IfOk result (λ t. string_bytes t ≡ live_report start.now outcomes.now) }
+{
+    let mut out = String::new(alloc);
+    put_start(&mut out, start)?;
+    put_steps(&mut out, outcomes)?;
     Ok(out)
 }

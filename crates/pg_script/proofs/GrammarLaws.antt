@@ -5,7 +5,7 @@ use Rattle.std.specs.Str.{is_utf8}
 use Rattle.std.proofs.lemmas.Bool.Decides.{nat_tests}
 use Rattle.pg_request.specs.Queries.{QueryText}
 use Rattle.pg_script.specs.declared.token.Token.{Token}
-use Rattle.pg_script.specs.declared.token.Token.TheVariants.{Space, Word, Number, Text}
+use Rattle.pg_script.specs.declared.token.Token.TheVariants.{Space, Word, Number, SslMode, Text}
 use Rattle.pg_script.specs.declared.token.Keyword.{Keyword}
 use Rattle.pg_script.specs.declared.token.Keyword.TheVariants as words
 use Rattle.pg_script.specs.declared.step.Call.{Call}
@@ -13,10 +13,13 @@ use Rattle.pg_script.specs.declared.step.Call.TheVariants as calls
 use Rattle.pg_script.specs.declared.line.Line.{Line}
 use Rattle.pg_script.specs.declared.line.Line.TheVariants as lines
 use Rattle.pg_script.specs.Reading.{◌>>=◌}
-use Rattle.pg_script.specs.Arguments.{alone, bytes_arg, text_in, text_arg, pair_arg, number_arg, last_number, digits_arg, raw_arg}
-use Rattle.pg_script.specs.Lines.{call_with, call_arg, take_of, take_line, most_arg, step_line, line_with, line_from}
+use Rattle.pg_script.specs.Arguments.{alone, bytes_arg, text_in, text_arg, nonce_arg, mode_arg, pair_arg, number_arg, last_number, digits_arg, raw_arg}
+use Rattle.pg_script.specs.Lines.{call_with, call_arg, take_of, take_line, most_arg, step_line, link_line, line_with, line_from}
 use Rattle.pg_script.specs.Grammar.{raw_tokens, tokens_of, call_tokens, IsUnicode, QueryFits, LineFits, CallFits}
+use Rattle.pg_options.specs.declared.ssl_mode.PgSslMode.{PgSslMode}
+use Rattle.pg_script.specs.Nonces.{IsNonce, is_nonce, nonce_in}
 use Rattle.pg_script.proofs.Apart.{apart}
+use Rattle.pg_script.proofs.NonceLaws.{nonce_lawful, nonce_passes}
 
 pub bind_some : {A B : Type 0} (o : Option A) (f : A → Option B) (y : B) → (o >>= f) ≡ Some y → (x : A) × (o ≡ Some x) × (f x ≡ Some y)
 bind_some (Some x) f y e = (x, refl, e)
@@ -57,6 +60,23 @@ text_takes ts s e =
     let b = bind_some (bytes_arg ts) text_in s e in
     let u = utf8_takes (is_utf8 b.0) b.0 s b.2 in
     ((bytes_takes ts b.0 b.1).0 ∙ ap text_tokens u.1, subst IsUnicode u.1 u.0)
+
+nonce_takes_in : (good : Bool) (s t : List ℕ) → is_nonce s ≡ good → cond good (Some s) None ≡ Some t → IsNonce s × (s ≡ t)
+nonce_takes_in true s t is e = (nonce_lawful s is, cc)
+nonce_takes_in false s t is e = absurd cc
+
+nonce_takes : Takes nonce_arg text_tokens IsNonce
+nonce_takes ts s e =
+    let b = bind_some (bytes_arg ts) nonce_in s e in
+    let n = nonce_takes_in (is_nonce b.0) b.0 s refl b.2 in
+    ((bytes_takes ts b.0 b.1).0 ∙ ap text_tokens n.1, subst IsNonce n.1 n.0)
+
+abbrev mode_tokens : PgSslMode → List Token
+mode_tokens mode = Space ∷ SslMode mode ∷ []
+
+mode_takes : Takes mode_arg mode_tokens anything
+mode_takes (Space ∷ SslMode m ∷ []) mode e = (cc, tt)
+mode_takes _ mode e = absurd cc
 
 abbrev pair_tokens : List ℕ × List ℕ → List Token
 pair_tokens p = Space ∷ Text p.0 ∷ Space ∷ Text p.1 ∷ []
@@ -237,12 +257,21 @@ step_takes ts l e =
     let all = step_is ts b.0.1 d.0.1 b.0.0 d.0.0 f.0 (number_takes ts b.0 b.1) (most_takes b.0.1 d.0 d.1) t.0 in
     same_line (Word words.Step ∷ ts) (lines.Step b.0.0 d.0.0 f.0) l (some_is (lines.Step b.0.0 d.0.0 f.0) l f.2) (all, t.1)
 
+link_takes : (ts : List Token) (l : Line) → link_line ts ≡ Some l → IsLine (Word words.Link ∷ ts) l
+link_takes (Space ∷ Word words.Upgrade ∷ []) l e = same_line (Word words.Link ∷ Space ∷ Word words.Upgrade ∷ []) lines.LinkUpgrade l (some_is lines.LinkUpgrade l e) (refl, tt)
+link_takes (Space ∷ Word words.Local ∷ []) l e = same_line (Word words.Link ∷ Space ∷ Word words.Local ∷ []) lines.LinkLocal l (some_is lines.LinkLocal l e) (refl, tt)
+link_takes _ l e = absurd cc
+
 with_takes : (k : Keyword) (rest : List Token) (l : Line) → line_with k rest ≡ Some l → IsLine (Word k ∷ rest) l
 with_takes words.User rest l e = made IsLine text_arg text_tokens IsUnicode (λ s. lines.User s) words.User text_takes (λ s f. (refl, f)) rest l e
+with_takes words.Password rest l e = made IsLine text_arg text_tokens IsUnicode (λ s. lines.Password s) words.Password text_takes (λ s f. (refl, f)) rest l e
 with_takes words.Database rest l e = made IsLine text_arg text_tokens IsUnicode (λ s. lines.Database s) words.Database text_takes (λ s f. (refl, f)) rest l e
 with_takes words.Application rest l e = made IsLine text_arg text_tokens IsUnicode (λ s. lines.Application s) words.Application text_takes (λ s f. (refl, f)) rest l e
 with_takes words.Option rest l e = made IsLine pair_arg pair_tokens ArePair (λ p. lines.Option p.0 p.1) words.Option pair_takes (λ p f. (refl, f)) rest l e
+with_takes words.SslMode rest l e = made IsLine mode_arg mode_tokens anything (λ m. lines.SslMode m) words.SslMode mode_takes (λ m f. (refl, tt)) rest l e
 with_takes words.Digits rest l e = made IsLine digits_arg digits_tokens AreDigits (λ d. lines.Digits d) words.Digits digits_take digits_line rest l e
+with_takes words.Link rest l e = link_takes rest l e
+with_takes words.Nonce rest l e = made IsLine nonce_arg text_tokens IsNonce (λ s. lines.Nonce s) words.Nonce nonce_takes (λ s f. (refl, f)) rest l e
 with_takes words.Server rest l e = made IsLine bytes_arg text_tokens anything (λ s. lines.Server s) words.Server bytes_takes (λ s f. (refl, tt)) rest l e
 with_takes words.Wait rest l e = bare IsLine lines.Wait words.Wait (refl, tt) rest l e
 with_takes words.End rest l e = bare IsLine lines.End words.End (refl, tt) rest l e
@@ -263,12 +292,17 @@ from_takes _ l e = absurd cc
 pub from_again : (l : Line) → LineFits l → line_from (tokens_of l) ≡ Some l
 from_again lines.Blank f = absurd f
 from_again (lines.User name) f = rw f refl
+from_again (lines.Password text) f = rw f refl
 from_again (lines.Database name) f = rw f refl
 from_again (lines.Application name) f = rw f refl
 from_again (lines.Option name value) f = rw (f.0, f.1) refl
+from_again (lines.SslMode mode) f = refl
 from_again (lines.Digits None) f = refl
 from_again (lines.Digits (Some (pos n))) f = let small : nat_le n 3 ≡ true = grind (arith, nat_tests, f) in rw small refl
 from_again (lines.Digits (Some (negsuc n))) f = absurd f
+from_again lines.LinkUpgrade f = refl
+from_again lines.LinkLocal f = refl
+from_again (lines.Nonce bytes) f = rw (nonce_passes bytes f) refl
 from_again (lines.Server bytes) f = refl
 from_again lines.Wait f = refl
 from_again lines.End f = refl

@@ -3,20 +3,24 @@ use Rattle.std.proofs.Common.{ℕ, ◌≡◌, ◌+◌, ◌-◌, ◌*◌, ◌/◌
 use Rattle.std.proofs.lemmas.List.{append-nil}
 use Rattle.std.proofs.lemmas.Bool.Decides.{nat_tests}
 use Rattle.pg_script.specs.declared.token.Token.{Token}
-use Rattle.pg_script.specs.declared.token.Token.TheVariants.{Space, Word, Number, Text}
+use Rattle.pg_script.specs.declared.token.Token.TheVariants.{Space, Word, Number, SslMode, Text}
 use Rattle.pg_script.specs.declared.token.Keyword.{Keyword}
 use Rattle.pg_script.specs.declared.lexer.Mode.{Mode}
 use Rattle.pg_script.specs.declared.lexer.Mode.TheVariants as modes
+use Rattle.pg_options.specs.declared.ssl_mode.PgSslMode.{PgSslMode}
+use Rattle.pg_options.specs.SslModes.{ssl_mode_from}
 use Rattle.pg_script.specs.Reading.{◌>>=◌, run}
-use Rattle.pg_script.specs.Words.{spelling_of, number_of, token_of, digits_after, is_digit}
+use Rattle.pg_script.specs.Words.{spelling_of, number_of, keyword_of, all_words, token_of, digits_after, is_digit}
 use Rattle.pg_script.specs.Lexing.{LexerState, step, finish, tokens_in}
 use Rattle.std.specs.Prelude.{◌&&◌, not}
 use Rattle.std.specs.List.{list_all}
-use Rattle.pg_script.specs.Grammar.{IsCharacter, IsText, IsNumber, SpellsAll}
+use Rattle.pg_script.specs.Grammar.{IsCharacter, IsText, IsNumber, SpellsToken, SpellsAll}
 use Rattle.pg_script.proofs.Apart.{is_word, apart}
 use Rattle.pg_script.proofs.WordLaws.{goes_on, is_one_word, word_law}
 use Rattle.pg_script.proofs.GrammarLaws.{bind_some}
-use Rattle.pg_script.proofs.SpellingLaws.{guarded, unless, number_of-again, ordinary_tests, hex_value-again, byte_halves}
+use Rattle.pg_script.proofs.LexerTakes.{first_is}
+use Rattle.pg_script.proofs.ModeLaws.{mode_word, mode_utf8}
+use Rattle.pg_script.proofs.SpellingLaws.{none_some, guarded, unless, number_of-again, ordinary_tests, hex_value-again, byte_halves}
 
 abbrev at : List Token → List ℕ → Mode → LexerState
 at ts held mode = record { tokens = ts; held = held; mode = mode }
@@ -123,21 +127,16 @@ number_token : (w : List ℕ) (n : ℕ) → number_of w ≡ Some n → token_of 
 unfolding token_of
 number_token w n e = rw e refl
 
--- ---- where a word ends
+no_keyword_in : (w : List ℕ) (m : PgSslMode) (o : Option Keyword) → keyword_of w ≡ o → ssl_mode_from w ≡ Some m → o ≡ None
+unfolding keyword_of
+no_keyword_in w m None is e = refl
+no_keyword_in w m (Some k) is e = absurd (none_some m (sym (ap ssl_mode_from (first_is all_words w k is) ∙ (word_law k).no_mode) ∙ e))
 
-ends_line : (ts : List Token) (w : List ℕ) (t : Token) (b : ℕ) (bs : List ℕ) → w ≡ b ∷ bs → token_of w ≡ Some t → lexed (at ts w modes.Word) [] ≡ Some (ts ++ t ∷ [])
-unfolding run finish
-ends_line ts w t b bs e k = rw e (let k' : token_of (b ∷ bs) ≡ Some t = rw e at k in rw k' refl)
+mode_token : (w : List ℕ) (m : PgSslMode) → ssl_mode_from w ≡ Some m → token_of w ≡ Some (SslMode m)
+unfolding token_of
+mode_token w m e = rw (no_number w (word_head w (mode_word w m e)), no_keyword_in w m (keyword_of w) refl e, mode_utf8 w m e, e) refl
 
-ends_space : (ts : List Token) (w y : List ℕ) (t : Token) (b : ℕ) (bs : List ℕ) → w ≡ b ∷ bs → token_of w ≡ Some t → lexed (at ts w modes.Word) (32 ∷ y) ≡ lexed (at ((ts ++ t ∷ []) ++ Space ∷ []) [] modes.Word) y
-unfolding run step
-ends_space ts w y t b bs e k = rw e (let k' : token_of (b ∷ bs) ≡ Some t = rw e at k in rw k' refl)
-
-ends_quote : (ts : List Token) (w y : List ℕ) (t : Token) (b : ℕ) (bs : List ℕ) → w ≡ b ∷ bs → token_of w ≡ Some t → lexed (at ts w modes.Word) (34 ∷ y) ≡ lexed (at (ts ++ t ∷ []) [] modes.Text) y
-unfolding run step
-ends_quote ts w y t b bs e k = rw e (let k' : token_of (b ∷ bs) ≡ Some t = rw e at k in rw k' refl)
-
--- a word or a number at the front of a line
+-- a word, a number or a mode at the front of a line
 pub record IsFront (t : Token) (w : List ℕ) : Type 0 where
   pub runs : (ts : List Token) (y : List ℕ) → lexed (at ts [] modes.Word) (w ++ y) ≡ lexed (at ts w modes.Word) y
   pub head : ℕ
@@ -145,10 +144,8 @@ pub record IsFront (t : Token) (w : List ℕ) : Type 0 where
   pub is : w ≡ head ∷ rest
   pub token : token_of w ≡ Some t
 
-word_front : (k : Keyword) (w : List ℕ) → w ≡ spelling_of k → IsFront (Word k) w
-word_front k w e =
-    let h = word_head (spelling_of k) (word_law k).shape in
-    subst (IsFront (Word k)) (sym e) (record { runs = λ ts y. word_runs (spelling_of k) ts [] y h.goes; head = h.head; rest = h.rest; is = h.is; token = word_token k })
+head_front : (t : Token) (w : List ℕ) → HasHead w → token_of w ≡ Some t → IsFront t w
+head_front t w h e = record { runs = λ ts y. word_runs w ts [] y h.goes; head = h.head; rest = h.rest; is = h.is; token = e }
 
 number_front : (n : ℕ) (w : List ℕ) → IsNumber n w → IsFront (Number n) w
 number_front n w h =
@@ -156,28 +153,57 @@ number_front n w h =
     let s = number_shape w n e in
     record { runs = λ ts y. word_runs w ts [] y (digits_go w 0 s.3.0 s.3.1); head = s.0; rest = s.1; is = s.2; token = number_token w n e }
 
+front : (t : Token) (w : List ℕ) → is_word t ≡ true → SpellsToken t w → IsFront t w
+front (Word k) w i h = subst (IsFront (Word k)) (sym h) (head_front (Word k) (spelling_of k) (word_head (spelling_of k) (word_law k).shape) (word_token k))
+front (Number n) w i h = number_front n w h
+front (SslMode m) w i h = head_front (SslMode m) w (word_head w (mode_word w m h)) (mode_token w m h)
+front _ w i h = absurd cc
+
+-- ---- where a word ends: at the end, a space or a text
+
+ends_line : (ts : List Token) (w : List ℕ) (t : Token) (b : ℕ) (bs : List ℕ) → w ≡ b ∷ bs → token_of w ≡ Some t → lexed (at ts w modes.Word) [] ≡ lexed (at (ts ++ t ∷ []) [] modes.Word) []
+unfolding run finish
+ends_line ts w t b bs e k = rw e (let k' : token_of (b ∷ bs) ≡ Some t = rw e at k in rw k' refl)
+
+ends_space : (ts : List Token) (w y : List ℕ) (t : Token) (b : ℕ) (bs : List ℕ) → w ≡ b ∷ bs → token_of w ≡ Some t → lexed (at ts w modes.Word) (32 ∷ y) ≡ lexed (at (ts ++ t ∷ []) [] modes.Word) (32 ∷ y)
+unfolding run step
+ends_space ts w y t b bs e k = rw e (let k' : token_of (b ∷ bs) ≡ Some t = rw e at k in rw k' refl)
+
+ends_quote : (ts : List Token) (w y : List ℕ) (t : Token) (b : ℕ) (bs : List ℕ) → w ≡ b ∷ bs → token_of w ≡ Some t → lexed (at ts w modes.Word) (34 ∷ y) ≡ lexed (at (ts ++ t ∷ []) [] modes.Word) (34 ∷ y)
+unfolding run step
+ends_quote ts w y t b bs e k = rw e (let k' : token_of (b ∷ bs) ≡ Some t = rw e at k in rw k' refl)
+
+behind_nothing : (ts : List Token) (t : Token) (w y : List ℕ) → IsFront t w → y ≡ [] → lexed (at ts w modes.Word) y ≡ lexed (at (ts ++ t ∷ []) [] modes.Word) y
+behind_nothing ts t w y f e = rw e (ends_line ts w t f.head f.rest f.is f.token)
+
+behind_space : (ts : List Token) (t : Token) (w x y z : List ℕ) → IsFront t w → x ≡ 32 ∷ [] → y ≡ x ++ z → lexed (at ts w modes.Word) y ≡ lexed (at (ts ++ t ∷ []) [] modes.Word) y
+behind_space ts t w x y z f d e = rw (e, d) (ends_space ts w z t f.head f.rest f.is f.token)
+
+behind_quote : (ts : List Token) (t : Token) (w x y z q : List ℕ) → IsFront t w → x ≡ 34 ∷ q ++ 34 ∷ [] → y ≡ x ++ z → lexed (at ts w modes.Word) y ≡ lexed (at (ts ++ t ∷ []) [] modes.Word) y
+behind_quote ts t w x y z q f d e = rw (e, d) (ends_quote ts w ((q ++ 34 ∷ []) ++ z) t f.head f.rest f.is f.token)
+
 -- ---- lines
 
 tail_apart : (t : Token) (ts : List Token) → apart (t ∷ ts) ≡ true → apart ts ≡ true
 tail_apart t [] a = refl
 tail_apart t (u ∷ ts) a = (both (not (is_word t && is_word u)) (apart (u ∷ ts)) a).1
 
+beside : (a b : Bool) → a ≡ true → (not (a && true) && b) ≡ true → ⊥
+beside true b i e = cc
+beside false b i e = cc
+
+ends : (before us : List Token) (t : Token) (w y : List ℕ) → IsFront t w → is_word t ≡ true → apart (t ∷ us) ≡ true → SpellsAll us y → lexed (at before w modes.Word) y ≡ lexed (at (before ++ t ∷ []) [] modes.Word) y
+ends before [] t w y f i a h = behind_nothing before t w y f h
+ends before (Space ∷ us) t w y f i a h = behind_space before t w h.0 y h.1 f h.2 h.4
+ends before (Text s ∷ us) t w y f i a h = behind_quote before t w h.0 y h.1 h.2.0 f h.2.2 h.4
+ends before (u ∷ us) t w y f i a h = absurd (beside (is_word t) (apart (u ∷ us)) i a)
+
 joined : (before ts : List Token) (t : Token) (o : Option (List Token)) → o ≡ Some ((before ++ t ∷ []) ++ ts) → o ≡ Some (before ++ t ∷ ts)
 joined before ts t o e = e ∙ ap (λ (z : List Token). Some z) (append_assoc before (t ∷ []) ts)
 
--- behind a word: the end, a space or a text
-front_end : (before : List Token) (t : Token) (w y : List ℕ) → IsFront t w → y ≡ [] → lexed (at before [] modes.Word) (w ++ y) ≡ Some (before ++ t ∷ [])
-front_end before t w y f e = rw e (f.runs before [] ∙ ends_line before w t f.head f.rest f.is f.token)
-
-front_space : (before ts : List Token) (t : Token) (w x y z : List ℕ) → IsFront t w → x ≡ 32 ∷ [] → y ≡ x ++ z → lexed (at ((before ++ t ∷ []) ++ Space ∷ []) [] modes.Word) z ≡ Some (((before ++ t ∷ []) ++ Space ∷ []) ++ ts)
-    → lexed (at before [] modes.Word) (w ++ y) ≡ Some (before ++ t ∷ Space ∷ ts)
-front_space before ts t w x y z f d e h = rw (e, d) (f.runs before (32 ∷ z) ∙ ends_space before w z t f.head f.rest f.is f.token
-    ∙ h ∙ ap (λ (us : List Token). Some us) (append_assoc (before ++ t ∷ []) (Space ∷ []) ts ∙ append_assoc before (t ∷ []) (Space ∷ ts)))
-
-front_text : (before ts : List Token) (t : Token) (s w x y z q : List ℕ) → IsFront t w → IsText s q → x ≡ 34 ∷ q ++ 34 ∷ [] → y ≡ x ++ z → lexed (at ((before ++ t ∷ []) ++ Text s ∷ []) [] modes.Word) z ≡ Some (((before ++ t ∷ []) ++ Text s ∷ []) ++ ts)
-    → lexed (at before [] modes.Word) (w ++ y) ≡ Some (before ++ t ∷ Text s ∷ ts)
-front_text before ts t s w x y z q f k d e h = rw (e, d) (f.runs before (34 ∷ ((q ++ 34 ∷ []) ++ z)) ∙ ends_quote before w ((q ++ 34 ∷ []) ++ z) t f.head f.rest f.is f.token
-    ∙ quoted_runs s (before ++ t ∷ []) q z k ∙ h ∙ ap (λ (us : List Token). Some us) (append_assoc (before ++ t ∷ []) (Text s ∷ []) ts ∙ append_assoc before (t ∷ []) (Text s ∷ ts)))
+clear_word : (before ts : List Token) (t : Token) (w y line : List ℕ) → IsFront t w → is_word t ≡ true → apart (t ∷ ts) ≡ true → SpellsAll ts y → line ≡ w ++ y → lexed (at (before ++ t ∷ []) [] modes.Word) y ≡ Some ((before ++ t ∷ []) ++ ts)
+    → lexed (at before [] modes.Word) line ≡ Some (before ++ t ∷ ts)
+clear_word before ts t w y line f i a h e k = rw e (f.runs before y ∙ ends before ts t w y f i a h ∙ joined before ts t _ k)
 
 clear_text : (before ts : List Token) (s x y z q : List ℕ) → IsText s q → x ≡ 34 ∷ q ++ 34 ∷ [] → y ≡ x ++ z → lexed (at (before ++ Text s ∷ []) [] modes.Word) z ≡ Some ((before ++ Text s ∷ []) ++ ts)
     → lexed (at before [] modes.Word) y ≡ Some (before ++ Text s ∷ ts)
@@ -193,16 +219,7 @@ unfolding run finish
 clear [] before line h a = rw h (ap (λ (us : List Token). Some us) (sym (append-nil before)))
 clear (Space ∷ ts) before line h a = clear_space before ts h.0 line h.1 h.2 h.4 (clear ts (before ++ Space ∷ []) h.1 h.3 (tail_apart Space ts a))
 clear (Text s ∷ ts) before line h a = clear_text before ts s h.0 line h.1 h.2.0 h.2.1 h.2.2 h.4 (clear ts (before ++ Text s ∷ []) h.1 h.3 (tail_apart (Text s) ts a))
-clear (Word k ∷ []) before line h a = rw h.4 (front_end before (Word k) h.0 h.1 (word_front k h.0 h.2) h.3)
-clear (Word k ∷ Space ∷ ts) before line h a = rw h.4 (front_space before ts (Word k) h.0 h.3.0 h.1 h.3.1 (word_front k h.0 h.2) h.3.2 h.3.4 (clear ts ((before ++ Word k ∷ []) ++ Space ∷ []) h.3.1 h.3.3 (tail_apart Space ts a)))
-clear (Word k ∷ Text s ∷ ts) before line h a = rw h.4 (front_text before ts (Word k) s h.0 h.3.0 h.1 h.3.1 h.3.2.0 (word_front k h.0 h.2) h.3.2.1 h.3.2.2 h.3.4 (clear ts ((before ++ Word k ∷ []) ++ Text s ∷ []) h.3.1 h.3.3 (tail_apart (Text s) ts a)))
-clear (Word k ∷ Word j ∷ ts) before line h a = absurd cc
-clear (Word k ∷ Number j ∷ ts) before line h a = absurd cc
-clear (Number k ∷ []) before line h a = rw h.4 (front_end before (Number k) h.0 h.1 (number_front k h.0 h.2) h.3)
-clear (Number k ∷ Space ∷ ts) before line h a = rw h.4 (front_space before ts (Number k) h.0 h.3.0 h.1 h.3.1 (number_front k h.0 h.2) h.3.2 h.3.4 (clear ts ((before ++ Number k ∷ []) ++ Space ∷ []) h.3.1 h.3.3 (tail_apart Space ts a)))
-clear (Number k ∷ Text s ∷ ts) before line h a = rw h.4 (front_text before ts (Number k) s h.0 h.3.0 h.1 h.3.1 h.3.2.0 (number_front k h.0 h.2) h.3.2.1 h.3.2.2 h.3.4 (clear ts ((before ++ Number k ∷ []) ++ Text s ∷ []) h.3.1 h.3.3 (tail_apart (Text s) ts a)))
-clear (Number k ∷ Word j ∷ ts) before line h a = absurd cc
-clear (Number k ∷ Number j ∷ ts) before line h a = absurd cc
+clear (t ∷ ts) before line h a = clear_word before ts t h.0 h.1 line (front t h.0 refl h.2) refl a h.3 h.4 (clear ts (before ++ t ∷ []) h.1 h.3 (tail_apart t ts a))
 
 -- what is spelled so is read
 pub lexer_again : (ts : List Token) (line : List ℕ) → SpellsAll ts line → apart ts ≡ true → tokens_in line ≡ Some ts

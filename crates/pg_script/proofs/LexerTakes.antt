@@ -1,25 +1,25 @@
 -- What the lexer reads is spelling_of so.
-use Rattle.std.proofs.Common.{ℕ, ◌≡◌, ◌+◌, ◌*◌, ◌∷◌, ◌++◌, [], List, Option, Some, None, true, cond, nat_eq, nat_le, refl, sym, ap, ◌∙◌, subst, append_assoc, arith, inl, inr}
+use Rattle.std.proofs.Common.{ℕ, ◌≡◌, ◌+◌, ◌*◌, ◌∷◌, ◌++◌, [], List, Option, Some, None, true, cond, nat_eq, nat_le, refl, sym, ap, ◌∙◌, subst, append_assoc, inl, inr}
 use Rattle.std.specs.Prelude.{◌&&◌, bytes_eq}
+use Rattle.std.specs.Str.{is_utf8}
 use Rattle.std.proofs.lemmas.List.{append-nil}
 use Rattle.std.proofs.lemmas.Bool.{eqb-true}
-use Rattle.std.proofs.lemmas.Slice.Eq.{bytes_eq-Decides}
 use Rattle.pg_script.specs.declared.token.Token.{Token}
 use Rattle.pg_script.specs.declared.token.Token.TheVariants as tokens
 use Rattle.pg_script.specs.declared.token.Keyword.{Keyword}
 use Rattle.pg_script.specs.declared.lexer.Mode.{Mode}
 use Rattle.pg_script.specs.declared.lexer.Mode.TheVariants as modes
+use Rattle.pg_options.specs.declared.ssl_mode.PgSslMode.{PgSslMode}
+use Rattle.pg_options.specs.SslModes.{ssl_mode_from}
 use Rattle.pg_script.specs.Reading.{run}
-use Rattle.pg_script.specs.Words.{spelling_of, number_of, number_else, keyword_of, keyword_among, all_words, token_of}
+use Rattle.pg_script.specs.Arguments.{text_in}
+use Rattle.pg_script.specs.Words.{spelling_of, number_of, first_of, keyword_of, keyword_among, all_words, mode_of, token_of}
 use Rattle.pg_script.specs.Lexing.{LexerState, start_state, hex_value, word_in, with_byte, with_mode, step_word, step_text, step_escape, step_digit, step_in, step, finish_in, finish, tokens_in}
 use Rattle.pg_script.specs.Grammar.{IsCharacter, IsText, SpellsToken, SpellsAll}
 use Rattle.pg_script.proofs.GrammarLaws.{bind_some, some_is}
-use Rattle.pg_script.proofs.SpellingLaws.{chosen, none_some, number_of-takes, ordinary_from, hex_pair-takes}
+use Rattle.pg_script.proofs.SpellingLaws.{chosen, none_some, guarded, bytes_eq-is, number_of-takes, ordinary_from, hex_pair-takes}
 
 -- ---- words
-
-bytes_eq-is : (a b : List ℕ) → bytes_eq a b ≡ true → a ≡ b
-bytes_eq-is a b e = grind (arith, bytes_eq-Decides)
 
 first_next : (j : Keyword) (ks : List Keyword) (w : List ℕ) (k : Keyword) → (keyword_among ks w ≡ Some k → w ≡ spelling_of k) → cond (bytes_eq w (spelling_of j)) (Some j) (keyword_among ks w) ≡ Some k → w ≡ spelling_of k
 first_next j ks w k h e = elim (chosen (bytes_eq w (spelling_of j)) (Some j) (keyword_among ks w) (Some k) e) [
@@ -27,20 +27,26 @@ first_next j ks w k h e = elim (chosen (bytes_eq w (spelling_of j)) (Some j) (ke
   | inr p ↦ h p.1
 ]
 
-first_is : (ks : List Keyword) (w : List ℕ) (k : Keyword) → keyword_among ks w ≡ Some k → w ≡ spelling_of k
+pub first_is : (ks : List Keyword) (w : List ℕ) (k : Keyword) → keyword_among ks w ≡ Some k → w ≡ spelling_of k
 first_is [] w k e = absurd cc
 first_is (j ∷ ks) w k e = first_next j ks w k (first_is ks w k) e
 
-word_is : (o : Option ℕ) (w : List ℕ) (t : Token) → number_of w ≡ o → number_else o (keyword_of w) ≡ Some t → SpellsToken t w
+mode_is : (w : List ℕ) (m : PgSslMode) → mode_of w ≡ Some m → ssl_mode_from w ≡ Some m
+mode_is w m e =
+    let b = bind_some (text_in w) ssl_mode_from m e in
+    ap ssl_mode_from (some_is w b.0 (guarded (is_utf8 w) (Some w) b.0 b.1).1) ∙ b.2
+
+word_is : (o : Option ℕ) (p : Option Keyword) (w : List ℕ) (t : Token) → number_of w ≡ o → keyword_of w ≡ p → first_of o p (mode_of w) ≡ Some t → SpellsToken t w
 unfolding keyword_of
-word_is (Some n) w t is e = subst (λ (u : Token). SpellsToken u w) (some_is (tokens.Number n) t e) (number_of-takes w n is)
-word_is None w t is e =
-    let b = bind_some (keyword_of w) (λ k. Some (tokens.Word k)) t e in
-    subst (λ (u : Token). SpellsToken u w) (some_is (tokens.Word b.0) t b.2) (first_is all_words w b.0 b.1)
+word_is (Some n) p w t is also e = subst (λ (u : Token). SpellsToken u w) (some_is (tokens.Number n) t e) (number_of-takes w n is)
+word_is None (Some k) w t is also e = subst (λ (u : Token). SpellsToken u w) (some_is (tokens.Word k) t e) (first_is all_words w k also)
+word_is None None w t is also e =
+    let b = bind_some (mode_of w) (λ (m : PgSslMode). Some (tokens.SslMode m)) t e in
+    subst (λ (u : Token). SpellsToken u w) (some_is (tokens.SslMode b.0) t b.2) (mode_is w b.0 b.1)
 
 token_is : (w : List ℕ) (t : Token) → token_of w ≡ Some t → SpellsToken t w
 unfolding token_of
-token_is w t e = word_is (number_of w) w t refl e
+token_is w t e = word_is (number_of w) (keyword_of w) w t refl refl e
 
 -- ---- one more at the end
 

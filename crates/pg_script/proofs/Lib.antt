@@ -4,8 +4,11 @@ pub mod LineLaws
 pub mod ReadLaws
 pub mod Apart
 pub mod WordLaws
+pub mod NonceLaws
 pub mod GrammarLaws
 pub mod SpellingLaws
+pub mod ModeLaws
 pub mod LexerTakes
 pub mod LexerAgain
 pub mod ScriptLaws
+pub mod LiveLaws

@@ -1,12 +1,13 @@
 -- Numbers and characters: what is read is what the grammar spells.
 use Rattle.std.proofs.Common.{ℕ, ◌≡◌, ◌+◌, ◌-◌, ◌*◌, ◌/◌, ◌%◌, ◌^◌, ◌<◌, ◌∷◌, [], List, Option, Some, None, Bool, true, false, cond, nat_eq, nat_lt, nat_le, length, refl, sym, ap, ◌∙◌, subst, arith, inl, inr}
-use Rattle.std.specs.Prelude.{◌⊎◌, ◌&&◌}
+use Rattle.std.specs.Prelude.{◌⊎◌, ◌&&◌, bytes_eq}
 use Rattle.std.specs.Char.{digit_value, digit_char}
 use Rattle.std.specs.Int.{IsInRange}
 use Rattle.std.specs.Str.Parse.{AllDigits, digits_value_after}
 use Rattle.std.proofs.lemmas.Str.{digit_value_digit}
 use Rattle.std.proofs.lemmas.Str.Parse.{digit_from_value}
 use Rattle.std.proofs.lemmas.Bool.Decides.{nat_tests}
+use Rattle.std.proofs.lemmas.Slice.Eq.{bytes_eq-Decides}
 use Rattle.pg_script.specs.Reading.{◌>>=◌}
 use Rattle.pg_script.specs.Words.{number_of, digits_after, is_digit}
 use Rattle.pg_script.specs.Lexing.{hex_value}
@@ -28,6 +29,9 @@ guarded false o m e = absurd cc
 pub unless : {A : Type 0} (b : Bool) (o : Option A) (m : A) → cond b None o ≡ Some m → (b ≡ false) × (o ≡ Some m)
 unless true o m e = absurd cc
 unless false o m e = (refl, e)
+
+pub bytes_eq-is : (a b : List ℕ) → bytes_eq a b ≡ true → a ≡ b
+bytes_eq-is a b e = grind (arith, bytes_eq-Decides)
 
 -- ---- numbers
 

@@ -1,9 +1,10 @@
 -- The words of a script, which the lexer reads as themselves: one line a word.
-use Rattle.std.proofs.Common.{ℕ, ◌≡◌, List, [], ◌∷◌, Bool, true, false, nat_eq, Some, refl}
+use Rattle.std.proofs.Common.{ℕ, ◌≡◌, List, [], ◌∷◌, Bool, true, false, nat_eq, Some, None, refl}
 use Rattle.std.specs.Prelude.{◌&&◌, not}
 use Rattle.std.specs.List.{list_all}
 use Rattle.pg_script.specs.declared.token.Keyword.{Keyword}
 use Rattle.pg_script.specs.declared.token.Keyword.TheVariants as words
+use Rattle.pg_options.specs.SslModes.{ssl_mode_from}
 use Rattle.pg_script.specs.Words.{spelling_of, keyword_of, is_digit}
 
 -- a byte that ends no word
@@ -18,32 +19,39 @@ is_one_word (b ∷ bs) = not (is_digit b) && (not (nat_eq b 35) && list_all goes
 pub record IsOneWord (k : Keyword) : Type 0 where
   pub shape : is_one_word (spelling_of k) ≡ true
   pub read : keyword_of (spelling_of k) ≡ Some k
+  pub no_mode : ssl_mode_from (spelling_of k) ≡ None
 
 pub word_law : (k : Keyword) → IsOneWord k
-unfolding keyword_of
-word_law words.User = record { shape = refl; read = refl }
-word_law words.Database = record { shape = refl; read = refl }
-word_law words.Application = record { shape = refl; read = refl }
-word_law words.Option = record { shape = refl; read = refl }
-word_law words.Digits = record { shape = refl; read = refl }
-word_law words.None = record { shape = refl; read = refl }
-word_law words.Server = record { shape = refl; read = refl }
-word_law words.Wait = record { shape = refl; read = refl }
-word_law words.End = record { shape = refl; read = refl }
-word_law words.Fail = record { shape = refl; read = refl }
-word_law words.Take = record { shape = refl; read = refl }
-word_law words.Hold = record { shape = refl; read = refl }
-word_law words.Break = record { shape = refl; read = refl }
-word_law words.Start = record { shape = refl; read = refl }
-word_law words.Step = record { shape = refl; read = refl }
-word_law words.Most = record { shape = refl; read = refl }
-word_law words.Raw = record { shape = refl; read = refl }
-word_law words.Execute = record { shape = refl; read = refl }
-word_law words.ExecuteMany = record { shape = refl; read = refl }
-word_law words.Fetch = record { shape = refl; read = refl }
-word_law words.FetchMany = record { shape = refl; read = refl }
-word_law words.FetchAll = record { shape = refl; read = refl }
-word_law words.FetchOptional = record { shape = refl; read = refl }
-word_law words.FetchOne = record { shape = refl; read = refl }
-word_law words.Ping = record { shape = refl; read = refl }
-word_law words.Flush = record { shape = refl; read = refl }
+unfolding keyword_of ssl_mode_from
+word_law words.User = record { shape = refl; read = refl; no_mode = refl }
+word_law words.Password = record { shape = refl; read = refl; no_mode = refl }
+word_law words.Database = record { shape = refl; read = refl; no_mode = refl }
+word_law words.Application = record { shape = refl; read = refl; no_mode = refl }
+word_law words.Option = record { shape = refl; read = refl; no_mode = refl }
+word_law words.SslMode = record { shape = refl; read = refl; no_mode = refl }
+word_law words.Digits = record { shape = refl; read = refl; no_mode = refl }
+word_law words.None = record { shape = refl; read = refl; no_mode = refl }
+word_law words.Link = record { shape = refl; read = refl; no_mode = refl }
+word_law words.Upgrade = record { shape = refl; read = refl; no_mode = refl }
+word_law words.Local = record { shape = refl; read = refl; no_mode = refl }
+word_law words.Nonce = record { shape = refl; read = refl; no_mode = refl }
+word_law words.Server = record { shape = refl; read = refl; no_mode = refl }
+word_law words.Wait = record { shape = refl; read = refl; no_mode = refl }
+word_law words.End = record { shape = refl; read = refl; no_mode = refl }
+word_law words.Fail = record { shape = refl; read = refl; no_mode = refl }
+word_law words.Take = record { shape = refl; read = refl; no_mode = refl }
+word_law words.Hold = record { shape = refl; read = refl; no_mode = refl }
+word_law words.Break = record { shape = refl; read = refl; no_mode = refl }
+word_law words.Start = record { shape = refl; read = refl; no_mode = refl }
+word_law words.Step = record { shape = refl; read = refl; no_mode = refl }
+word_law words.Most = record { shape = refl; read = refl; no_mode = refl }
+word_law words.Raw = record { shape = refl; read = refl; no_mode = refl }
+word_law words.Execute = record { shape = refl; read = refl; no_mode = refl }
+word_law words.ExecuteMany = record { shape = refl; read = refl; no_mode = refl }
+word_law words.Fetch = record { shape = refl; read = refl; no_mode = refl }
+word_law words.FetchMany = record { shape = refl; read = refl; no_mode = refl }
+word_law words.FetchAll = record { shape = refl; read = refl; no_mode = refl }
+word_law words.FetchOptional = record { shape = refl; read = refl; no_mode = refl }
+word_law words.FetchOne = record { shape = refl; read = refl; no_mode = refl }
+word_law words.Ping = record { shape = refl; read = refl; no_mode = refl }
+word_law words.Flush = record { shape = refl; read = refl; no_mode = refl }

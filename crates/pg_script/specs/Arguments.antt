@@ -3,9 +3,11 @@ use Rattle.std.specs.Prelude.{◌∷◌, [], List, ℕ, ℤ, pos, Option, Some, 
 use Rattle.std.specs.Str.{is_utf8}
 use Rattle.pg_request.specs.Queries.{QueryText}
 use Rattle.pg_script.specs.declared.token.Token.{Token}
-use Rattle.pg_script.specs.declared.token.Token.TheVariants.{Space, Word, Number, Text}
+use Rattle.pg_script.specs.declared.token.Token.TheVariants.{Space, Word, Number, SslMode, Text}
 use Rattle.pg_script.specs.declared.token.Keyword.TheVariants as words
+use Rattle.pg_options.specs.declared.ssl_mode.PgSslMode.{PgSslMode}
 use Rattle.pg_script.specs.Reading.{◌>>=◌}
+use Rattle.pg_script.specs.Nonces.{nonce_in}
 
 -- UTF-8
 abbrev pub text_in : List ℕ → Option (List ℕ)
@@ -22,6 +24,13 @@ bytes_arg _ = None
 
 abbrev pub text_arg : List Token → Option (List ℕ)
 text_arg ts = bytes_arg ts >>= text_in
+
+abbrev pub nonce_arg : List Token → Option (List ℕ)
+nonce_arg ts = bytes_arg ts >>= nonce_in
+
+abbrev pub mode_arg : List Token → Option PgSslMode
+mode_arg (Space ∷ SslMode mode ∷ []) = Some mode
+mode_arg _ = None
 
 abbrev pub pair_arg : List Token → Option (List ℕ × List ℕ)
 pair_arg (Space ∷ Text s ∷ Space ∷ Text t ∷ []) = do

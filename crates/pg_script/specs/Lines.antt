@@ -11,7 +11,7 @@ use Rattle.pg_script.specs.declared.line.Line.{Line}
 use Rattle.pg_script.specs.declared.line.Line.TheVariants as lines
 use Rattle.pg_script.specs.Lexing.{tokens_in}
 use Rattle.pg_script.specs.Reading.{◌>>=◌}
-use Rattle.pg_script.specs.Arguments.{alone, bytes_arg, text_arg, pair_arg, number_arg, last_number, digits_arg, raw_arg}
+use Rattle.pg_script.specs.Arguments.{alone, bytes_arg, text_arg, nonce_arg, mode_arg, pair_arg, number_arg, last_number, digits_arg, raw_arg}
 
 -- ---- calls
 
@@ -55,12 +55,22 @@ step_line ts = do
   call ← call_arg most.1
   Some (lines.Step polls.0 most.0 call)
 
+-- what is said of the link
+abbrev pub link_line : List Token → Option Line
+link_line (Space ∷ Word words.Upgrade ∷ []) = Some lines.LinkUpgrade
+link_line (Space ∷ Word words.Local ∷ []) = Some lines.LinkLocal
+link_line _ = None
+
 abbrev pub line_with : Keyword → List Token → Option Line
 line_with words.User rest = text_arg rest >>= λ name. Some (lines.User name)
+line_with words.Password rest = text_arg rest >>= λ password. Some (lines.Password password)
 line_with words.Database rest = text_arg rest >>= λ name. Some (lines.Database name)
 line_with words.Application rest = text_arg rest >>= λ name. Some (lines.Application name)
 line_with words.Option rest = pair_arg rest >>= λ pair. Some (lines.Option pair.0 pair.1)
+line_with words.SslMode rest = mode_arg rest >>= λ mode. Some (lines.SslMode mode)
 line_with words.Digits rest = digits_arg rest >>= λ digits. Some (lines.Digits digits)
+line_with words.Link rest = link_line rest
+line_with words.Nonce rest = nonce_arg rest >>= λ nonce. Some (lines.Nonce nonce)
 line_with words.Server rest = bytes_arg rest >>= λ bytes. Some (lines.Server bytes)
 line_with words.Wait rest = alone lines.Wait rest
 line_with words.End rest = alone lines.End rest

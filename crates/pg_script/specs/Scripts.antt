@@ -1,5 +1,5 @@
 -- A script, read line by line.
-use Rattle.std.specs.Prelude.{◌≡◌, ◌+◌, ◌∷◌, ◌++◌, [], List, ℕ, Option, Some, None, Result, Ok, Err, nat_eq, nat_lt, length, replicate, unwrap_or, if◌then◌else◌}
+use Rattle.std.specs.Prelude.{Bool, true, false, ◌≡◌, ◌+◌, ◌∷◌, ◌++◌, [], List, ℕ, Option, Some, None, Result, Ok, Err, nat_eq, nat_lt, length, replicate, unwrap_or, if◌then◌else◌}
 use Rattle.pg_stream.specs.declared.events.ReadEvent.{ReadEvent}
 use Rattle.pg_stream.specs.declared.events.ReadEvent.TheVariants as reads
 use Rattle.pg_stream.specs.declared.events.WriteEvent.{WriteEvent}
@@ -7,14 +7,32 @@ use Rattle.pg_stream.specs.declared.events.WriteEvent.TheVariants as writes
 use Rattle.pg_script.specs.declared.step.Step.{Step}
 use Rattle.pg_script.specs.declared.line.Line.{Line}
 use Rattle.pg_script.specs.declared.line.Line.TheVariants as lines
+use Rattle.pg_script.specs.declared.kind.Kind.{Kind}
+use Rattle.pg_script.specs.declared.kind.Kind.TheVariants as kinds
 use Rattle.pg_script.specs.declared.script.Script.{Script}
+use Rattle.pg_script.specs.declared.live.LiveScript.{LiveScript}
 use Rattle.pg_script.specs.declared.error.ReadError.{ReadError}
 use Rattle.pg_script.specs.declared.error.ReadError.TheVariants as errors
 use Rattle.pg_script.specs.Reading.{◌>>=◌}
 use Rattle.pg_script.specs.Lines.{line_in}
 
 abbrev pub empty_script : Script
-empty_script = record { user = None; database = None; application = None; options = []; digits = None; start_polls = None; events = []; writes = []; steps = [] }
+empty_script = record {
+  user = None;
+  password = None;
+  database = None;
+  application = None;
+  options = [];
+  ssl_mode = None;
+  digits = None;
+  can_upgrade = false;
+  is_local = false;
+  nonce = None;
+  start_polls = None;
+  events = [];
+  writes = [];
+  steps = [];
+}
 
 abbrev pub with_event : Script → ReadEvent → Option Script
 with_event s e = Some (record s { events = s.events ++ e ∷ [] })
@@ -37,10 +55,15 @@ set_once (Some _) value = None
 abbrev pub add : Script → Line → Option Script
 add s lines.Blank = Some s
 add s (lines.User name) = set_once s.user name >>= λ user. Some (record s { user = user })
+add s (lines.Password text) = set_once s.password text >>= λ password. Some (record s { password = password })
 add s (lines.Database name) = set_once s.database name >>= λ database. Some (record s { database = database })
 add s (lines.Application name) = set_once s.application name >>= λ application. Some (record s { application = application })
 add s (lines.Option name value) = with_option s name value
+add s (lines.SslMode mode) = set_once s.ssl_mode mode >>= λ ssl_mode. Some (record s { ssl_mode = ssl_mode })
 add s (lines.Digits digits) = set_once s.digits digits >>= λ digits. Some (record s { digits = digits })
+add s lines.LinkUpgrade = Some (record s { can_upgrade = true })
+add s lines.LinkLocal = Some (record s { is_local = true })
+add s (lines.Nonce bytes) = set_once s.nonce bytes >>= λ nonce. Some (record s { nonce = nonce })
 add s (lines.Server bytes) = with_event s (reads.Piece bytes)
 add s lines.Wait = with_event s reads.Wait
 add s lines.End = with_event s reads.End
@@ -51,8 +74,19 @@ add s lines.Break = with_writes s (writes.Fail ∷ [])
 add s (lines.Start polls) = set_once s.start_polls polls >>= λ start_polls. Some (record s { start_polls = start_polls })
 add s (lines.Step polls most call) = with_step s (record { call = call; polls = polls; most = unwrap_or most 4294967295 })
 
-unfoldable pub add_line : Script → List ℕ → Option Script
-add_line s line = line_in line >>= add s
+-- the lines that a script of this kind may have
+abbrev pub allows : Kind → Line → Bool
+allows kinds.Memory l = true
+allows kinds.Live lines.Blank = true
+allows kinds.Live (lines.Start polls) = true
+allows kinds.Live (lines.Step polls most call) = true
+allows kinds.Live _ = false
+
+abbrev pub add_allowed : Kind → Script → Line → Option Script
+add_allowed kind s l = if allows kind l then add s l else None
+
+unfoldable pub add_line : Kind → Script → List ℕ → Option Script
+add_line kind s line = line_in line >>= add_allowed kind s
 
 -- the bytes between line feeds
 abbrev pub onto_first : ℕ → List (List ℕ) → List (List ℕ)
@@ -73,13 +107,13 @@ abbrev pub read_next : ℕ → Option Script → (Script → Result Script ℕ) 
 read_next n None rest = Err (n + 1)
 read_next n (Some s) rest = rest s
 
-unfoldable pub read_from : ℕ → Script → List (List ℕ) → Result Script ℕ
-read_from n s [] = Ok s
-read_from n s (l ∷ ls) = read_next n (add_line s l) (λ t. read_from (n + 1) t ls)
+unfoldable pub read_from : Kind → ℕ → Script → List (List ℕ) → Result Script ℕ
+read_from kind n s [] = Ok s
+read_from kind n s (l ∷ ls) = read_next n (add_line kind s l) (λ t. read_from kind (n + 1) t ls)
 
 -- the script, or 0 for a text that is too long, or its first bad line
-abbrev pub read_text : List ℕ → Result Script ℕ
-read_text text = if nat_lt 67108864 (length text) then Err 0 else read_from 0 empty_script (lines_of text)
+abbrev pub read_text : Kind → List ℕ → Result Script ℕ
+read_text kind text = if nat_lt 67108864 (length text) then Err 0 else read_from kind 0 empty_script (lines_of text)
 
 abbrev pub FailsAt : ReadError → Result Script ℕ → Type 0
 FailsAt (errors.BadLine n) read = read ≡ Err n
@@ -89,3 +123,14 @@ FailsAt errors.OutOfMemory read = Unit {0}
 abbrev pub ReadsAs : Result Script ReadError → Result Script ℕ → Type 0
 ReadsAs (Ok s) read = read ≡ Ok s
 ReadsAs (Err e) read = FailsAt e read
+
+-- the script of a live run, as a script that says nothing else
+abbrev pub whole : LiveScript → Script
+whole l = record empty_script { start_polls = l.start_polls; steps = l.steps }
+
+abbrev pub live_part : Script → LiveScript
+live_part s = record { start_polls = s.start_polls; steps = s.steps }
+
+abbrev pub as_script : Result LiveScript ReadError → Result Script ReadError
+as_script (Ok l) = Ok (whole l)
+as_script (Err e) = Err e

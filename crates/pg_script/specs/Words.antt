@@ -4,16 +4,25 @@ use Rattle.pg_script.specs.declared.token.Keyword.{Keyword}
 use Rattle.pg_script.specs.declared.token.Keyword.TheVariants as words
 use Rattle.pg_script.specs.declared.token.Token.{Token}
 use Rattle.pg_script.specs.declared.token.Token.TheVariants as tokens
+use Rattle.pg_options.specs.declared.ssl_mode.PgSslMode.{PgSslMode}
+use Rattle.pg_options.specs.SslModes.{ssl_mode_from}
 use Rattle.pg_script.specs.Reading.{◌>>=◌}
+use Rattle.pg_script.specs.Arguments.{text_in}
 
 -- how a word is spelled
 abbrev pub spelling_of : Keyword → List ℕ
 spelling_of words.User = codes "user"
+spelling_of words.Password = codes "password"
 spelling_of words.Database = codes "database"
 spelling_of words.Application = codes "application"
 spelling_of words.Option = codes "option"
+spelling_of words.SslMode = codes "sslmode"
 spelling_of words.Digits = codes "digits"
 spelling_of words.None = codes "none"
+spelling_of words.Link = codes "link"
+spelling_of words.Upgrade = codes "upgrade"
+spelling_of words.Local = codes "local"
+spelling_of words.Nonce = codes "nonce"
 spelling_of words.Server = codes "server"
 spelling_of words.Wait = codes "wait"
 spelling_of words.End = codes "end"
@@ -36,7 +45,8 @@ spelling_of words.Ping = codes "ping"
 spelling_of words.Flush = codes "flush"
 
 abbrev pub all_words : List Keyword
-all_words = words.User ∷ words.Database ∷ words.Application ∷ words.Option ∷ words.Digits ∷ words.None ∷ words.Server ∷ words.Wait ∷ words.End ∷ words.Fail ∷ words.Take ∷ words.Hold ∷ words.Break
+all_words = words.User ∷ words.Password ∷ words.Database ∷ words.Application ∷ words.Option ∷ words.SslMode ∷ words.Digits ∷ words.None ∷ words.Link ∷ words.Upgrade ∷ words.Local ∷ words.Nonce
+    ∷ words.Server ∷ words.Wait ∷ words.End ∷ words.Fail ∷ words.Take ∷ words.Hold ∷ words.Break
     ∷ words.Start ∷ words.Step ∷ words.Most ∷ words.Raw ∷ words.Execute ∷ words.ExecuteMany ∷ words.Fetch ∷ words.FetchMany
     ∷ words.FetchAll ∷ words.FetchOptional ∷ words.FetchOne ∷ words.Ping ∷ words.Flush ∷ []
 
@@ -61,10 +71,15 @@ keyword_among (k ∷ ks) word = if bytes_eq word (spelling_of k) then Some k els
 unfoldable pub keyword_of : List ℕ → Option Keyword
 keyword_of = keyword_among all_words
 
-abbrev pub number_else : Option ℕ → Option Keyword → Option Token
-number_else (Some n) word = Some (tokens.Number n)
-number_else None word = word >>= λ k. Some (tokens.Word k)
+-- the mode with this name in any ASCII case
+abbrev pub mode_of : List ℕ → Option PgSslMode
+mode_of word = text_in word >>= ssl_mode_from
 
--- a number or a word
+abbrev pub first_of : Option ℕ → Option Keyword → Option PgSslMode → Option Token
+first_of (Some n) word mode = Some (tokens.Number n)
+first_of None (Some k) mode = Some (tokens.Word k)
+first_of None None mode = mode >>= λ m. Some (tokens.SslMode m)
+
+-- a number, a word or the name of a mode
 unfoldable pub token_of : List ℕ → Option Token
-token_of word = number_else (number_of word) (keyword_of word)
+token_of word = first_of (number_of word) (keyword_of word) (mode_of word)

@@ -1,10 +1,12 @@
 ghost use Rattle.std.specs.Prelude.{◌≡◌, option_map};
 ghost use Rattle.std.specs.Str.{is_utf8};
 ghost use Rattle.pg_script.specs.Reading.{Gives};
-ghost use Rattle.pg_script.specs.Arguments.{text_in, alone, bytes_arg, text_arg, pair_arg, number_arg, last_number, digit_in, digits_arg, raw_arg};
+ghost use Rattle.pg_script.specs.Arguments.{text_in, alone, bytes_arg, text_arg, nonce_arg, mode_arg, pair_arg, number_arg, last_number, digit_in, digits_arg, raw_arg};
 
 use crate::error::LineError;
+use crate::nonce::Nonce;
 use crate::token::{Keyword, Token};
+use pg_options::PgSslMode;
 use pg_request::Query;
 use pg_wire::Text;
 use std::alloc::Global;
@@ -18,7 +20,8 @@ pub(crate) fn is_utf8(bytes: &[u8]) -> bool
     }
 }
 
-fn text_in(bytes: &[u8]) -> Option<&str>
+/// The text that some bytes are.
+pub(crate) fn text_in(bytes: &[u8]) -> Option<&str>
     ensures { option_map (λ t. t.now) result ≡ text_in bytes.now }
 {
     match str::from_utf8(bytes) {
@@ -63,6 +66,24 @@ pub(crate) fn text_arg(alloc: Global, tokens: &[Token]) -> Result<Text, LineErro
 {
     let bytes = bytes_arg(tokens)?;
     text_of(alloc, bytes)
+}
+
+/// The same, where a nonce is meant.
+pub(crate) fn nonce_arg(alloc: Global, tokens: &[Token]) -> Result<Nonce, LineError>
+    ensures { Gives (λ n. n) result (nonce_arg tokens.now) }
+{
+    let bytes = bytes_arg(tokens)?;
+    Nonce::new(alloc, bytes)
+}
+
+/// The name of a mode, and nothing more.
+pub(crate) fn mode_arg(tokens: &[Token]) -> Result<PgSslMode, LineError>
+    ensures { Gives (λ m. m) result (mode_arg tokens.now) }
+{
+    match tokens {
+        [Token::Space, Token::SslMode(mode)] => Ok(*mode),
+        _ => Err(LineError::Bad),
+    }
 }
 
 /// Two texts, and nothing more.

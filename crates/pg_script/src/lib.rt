@@ -5,10 +5,13 @@
 //!
 //! | Line | Means |
 //! |---|---|
-//! | `user TEXT`, `database TEXT`, `application TEXT` | the texts of start-up; each at most once |
+//! | `user TEXT`, `password TEXT`, `database TEXT`, `application TEXT` | the texts of start-up; each at most once |
 //! | `option TEXT TEXT` | an option of the server and its value |
+//! | `sslmode MODE` | `disable`, `allow`, `prefer`, `require`, `verify-ca` or `verify-full`, in any ASCII case; at most once |
 //! | `digits none`, `digits N` | `extra_float_digits`, left out or from 0 to 3; at most once |
 //! | `start N` | the polls that start-up has at most; at most once |
+//! | `nonce TEXT` | the client's nonce of SCRAM: 64 to 127 printable ASCII characters without a space and a comma; at most once |
+//! | `link upgrade`, `link local` | the link can be made a TLS one; it stays within the machine; each may be repeated |
 //! | `server TEXT`, `wait`, `end`, `fail` | what the link's next read does: it gives these bytes, gives nothing yet, ends, or fails |
 //! | `take N K`, `hold`, `break` | what its next writes do: K of them take at most N bytes each; one takes nothing yet; one fails |
 //! | `step N CALL`, `step N most M CALL` | a call, dropped after N polls that answered `Pending` or after M items |
@@ -22,14 +25,19 @@
 //! script. A number is one to ten digits, at most 4294967295; of `take` both are at least 1, and K is at most 1000000. Without
 //! `most` a step has 4294967295 of it. Any other line is bad, and nothing is required.
 //!
-//! Begin with `Script`, and with `read_script`, whose contract is this grammar. A line is read in two steps: the lexer cuts it
-//! into tokens, and `line_in` finds what they say.
+//! The script of a live run, which has a real link, may have the lines `start` and `step` alone, and those that are passed over.
+//!
+//! Begin with `Script`, and with `read_script`, whose contract is this grammar; `read_live` reads the script of a live run. A line
+//! is read in two steps: the lexer cuts it into tokens, and `line_in` finds what they say.
 #![tactic(auto)]
 
 mod arguments;
 mod error;
+mod kind;
 mod lexer;
 mod line;
+mod live;
+mod nonce;
 mod reader;
 mod script;
 mod step;
@@ -37,7 +45,9 @@ mod token;
 mod words;
 
 pub use error::ReadError;
-pub use reader::read_script;
+pub use live::LiveScript;
+pub use nonce::Nonce;
+pub use reader::{read_live, read_script};
 pub use script::Script;
 pub use step::{Call, Step};
 

@@ -1,14 +1,17 @@
 ghost use Rattle.std.specs.Prelude.{◌≡◌};
 ghost use Rattle.pg_script.specs.Reading.{Gives};
-ghost use Rattle.pg_script.specs.Lines.{call_with, call_arg, take_line, most_arg, step_line, line_with, line_from, line_in};
+ghost use Rattle.pg_script.specs.Lines.{call_with, call_arg, take_line, most_arg, step_line, link_line, line_with, line_from, line_in};
 
 use crate::arguments::{
-    alone, bytes_arg, digits_arg, is_utf8, last_number, number_arg, pair_arg, raw_arg, text_arg,
+    alone, bytes_arg, digits_arg, is_utf8, last_number, mode_arg, nonce_arg, number_arg, pair_arg,
+    raw_arg, text_arg,
 };
 use crate::error::LineError;
 use crate::lexer::tokens_in;
+use crate::nonce::Nonce;
 use crate::step::Call;
 use crate::token::{Keyword, Token};
+use pg_options::PgSslMode;
 use pg_wire::{Blob, Text};
 use std::alloc::Global;
 
@@ -21,10 +24,15 @@ pub(crate) enum Line {
     /// An empty line, or a comment.
     Blank,
     User(Text),
+    Password(Text),
     Database(Text),
     Application(Text),
     Option(Text, Text),
+    SslMode(PgSslMode),
     Digits(Option<i8>),
+    LinkUpgrade,
+    LinkLocal,
+    Nonce(Nonce),
     Server(Blob),
     Wait,
     End,
@@ -103,18 +111,32 @@ fn step_line(alloc: Global, tokens: &[Token]) -> Result<Line, LineError>
     Ok(Line::Step { polls, most, call })
 }
 
+fn link_line(tokens: &[Token]) -> Result<Line, LineError>
+    ensures { Gives (λ l. l) result (link_line tokens.now) }
+{
+    match tokens {
+        [Token::Space, Token::Word(Keyword::Upgrade)] => Ok(Line::LinkUpgrade),
+        [Token::Space, Token::Word(Keyword::Local)] => Ok(Line::LinkLocal),
+        _ => Err(LineError::Bad),
+    }
+}
+
 fn line_with(alloc: Global, word: Keyword, rest: &[Token]) -> Result<Line, LineError>
     ensures { Gives (λ l. l) result (line_with word rest.now) }
 {
     match word {
         Keyword::User => Ok(Line::User(text_arg(alloc, rest)?)),
+        Keyword::Password => Ok(Line::Password(text_arg(alloc, rest)?)),
         Keyword::Database => Ok(Line::Database(text_arg(alloc, rest)?)),
         Keyword::Application => Ok(Line::Application(text_arg(alloc, rest)?)),
         Keyword::Option => {
             let (name, value) = pair_arg(alloc, rest)?;
             Ok(Line::Option(name, value))
         }
+        Keyword::SslMode => Ok(Line::SslMode(mode_arg(rest)?)),
         Keyword::Digits => Ok(Line::Digits(digits_arg(rest)?)),
+        Keyword::Link => link_line(rest),
+        Keyword::Nonce => Ok(Line::Nonce(nonce_arg(alloc, rest)?)),
         Keyword::Server => {
             let bytes = bytes_arg(rest)?;
             Ok(Line::Server(Blob::from_slice(alloc, bytes)?))

@@ -1,10 +1,13 @@
 ghost use Rattle.std.specs.Prelude.{◌≡◌, ◌∷◌, [], replicate};
 ghost use Rattle.pg_script.specs.Reading.{Gives};
-ghost use Rattle.pg_script.specs.Scripts.{add, add_line, empty_script, with_event, with_writes, with_step, with_option, set_once};
+ghost use Rattle.pg_script.specs.Scripts.{add, add_allowed, add_line, empty_script, with_event, with_writes, with_step, with_option, set_once};
 
 use crate::error::LineError;
+use crate::kind::Kind;
 use crate::line::{Line, line_in};
+use crate::nonce::Nonce;
 use crate::step::Step;
+use pg_options::PgSslMode;
 use pg_stream::{ReadEvent, WriteEvent};
 use pg_wire::{Sequence, Text};
 use std::alloc::Global;
@@ -13,12 +16,20 @@ use std::alloc::Global;
 #[derive(Debug, Drop)]
 pub struct Script {
     pub user: Option<Text>,
+    pub password: Option<Text>,
     pub database: Option<Text>,
     pub application: Option<Text>,
     /// Names of options of the server and their values, in order.
     pub options: Sequence<(Text, Text)>,
+    pub ssl_mode: Option<PgSslMode>,
     /// `extra_float_digits`, where the script says it.
     pub digits: Option<Option<i8>>,
+    /// Whether the link can be made a TLS one.
+    pub can_upgrade: bool,
+    /// Whether the link stays within the machine.
+    pub is_local: bool,
+    /// The client's nonce, where the script says it.
+    pub nonce: Option<Nonce>,
     /// The polls that start-up has at most, where the script says them.
     pub start_polls: Option<u32>,
     /// What the link's reads give, in order.
@@ -47,10 +58,15 @@ impl Script {
     {
         Script {
             user: None,
+            password: None,
             database: None,
             application: None,
             options: Sequence::new(alloc),
+            ssl_mode: None,
             digits: None,
+            can_upgrade: false,
+            is_local: false,
+            nonce: None,
             start_polls: None,
             events: Sequence::new(alloc),
             writes: Sequence::new(alloc),
@@ -101,10 +117,21 @@ impl Script {
         match line {
             Line::Blank => Ok(()),
             Line::User(name) => set_once(&mut self.user, name),
+            Line::Password(text) => set_once(&mut self.password, text),
             Line::Database(name) => set_once(&mut self.database, name),
             Line::Application(name) => set_once(&mut self.application, name),
             Line::Option(name, value) => self.push_option(name, value),
+            Line::SslMode(mode) => set_once(&mut self.ssl_mode, mode),
             Line::Digits(digits) => set_once(&mut self.digits, digits),
+            Line::LinkUpgrade => {
+                self.can_upgrade = true;
+                Ok(())
+            }
+            Line::LinkLocal => {
+                self.is_local = true;
+                Ok(())
+            }
+            Line::Nonce(nonce) => set_once(&mut self.nonce, nonce),
             Line::Server(bytes) => self.push_event(ReadEvent::Piece(bytes)),
             Line::Wait => self.push_event(ReadEvent::Wait),
             Line::End => self.push_event(ReadEvent::End),
@@ -123,12 +150,27 @@ impl Script {
         }
     }
 
+    fn add_allowed(&mut self, kind: Kind, line: Line) -> Result<(), LineError>
+        ensures { Gives (λ _. self.new) result (add_allowed kind self.old line) }
+    {
+        if kind.allows(&line) {
+            self.add(line)
+        } else {
+            Err(LineError::Bad)
+        }
+    }
+
     /// Adds what a line says; a bad line is refused.
     #[tactic(auto, unfolding(crate::specs::Scripts::add_line))]
-    pub(crate) fn add_line(&mut self, alloc: Global, line: &[u8]) -> Result<(), LineError>
-        ensures { Gives (λ _. self.new) result (add_line self.old line.now) }
+    pub(crate) fn add_line(
+        &mut self,
+        alloc: Global,
+        kind: Kind,
+        line: &[u8],
+    ) -> Result<(), LineError>
+        ensures { Gives (λ _. self.new) result (add_line kind self.old line.now) }
     {
         let line = line_in(alloc, line)?;
-        self.add(line)
+        self.add_allowed(kind, line)
     }
 }

@@ -1,4 +1,5 @@
-use crate::{Call, ReadError, read_script};
+use crate::{Call, ReadError, read_live, read_script};
+use pg_options::PgSslMode;
 use pg_stream::{ReadEvent, WriteEvent};
 use pg_wire::Text;
 use std::test::Fail;
@@ -56,6 +57,37 @@ fn reads_options(rt: HostRuntime) -> Result<(), Fail> {
     Ok(())
 }
 
+#[test]
+fn reads_what_secures_a_link(rt: HostRuntime) -> Result<(), Fail> {
+    let text =
+        b"link upgrade\npassword \"p\"\nsslmode VERIFY-full\nlink upgrade\nnonce \"0123456789012345678901234567890123456789012345678901234567890123\"";
+    let script = read_script(rt.alloc(), text)?;
+    assert_eq!(rt; text_or(&script.password, "-"), "p");
+    assert_eq!(rt; script.ssl_mode, Some(PgSslMode::VerifyFull));
+    assert_eq!(rt; (script.can_upgrade, script.is_local), (true, false));
+    let nonce = script.nonce.as_ref().map(|nonce| nonce.as_bytes().len());
+    assert_eq!(rt; nonce, Some(64));
+    Ok(())
+}
+
+#[test]
+fn reads_a_live_script(rt: HostRuntime) -> Result<(), Fail> {
+    let live = read_live(rt.alloc(), b"# live\nstart 5\n\nstep 1 ping\nstep 2 flush")?;
+    assert_eq!(rt; live.start_polls, Some(5));
+    assert_eq!(rt; live.steps.len(), 2);
+    let rows: [(&[u8], u64); 4] = [
+        (b"start 1\nuser \"u\"", 2),
+        (b"server \"\"\nwait", 1),
+        (b"link local", 1),
+        (b"start 1\nstart 1", 2),
+    ];
+    for (text, line) in &rows {
+        let error = read_live(rt.alloc(), text).err();
+        assert_eq!(rt; error, Some(ReadError::BadLine(*line)));
+    }
+    Ok(())
+}
+
 // The name of a call, and its text.
 fn parts(call: &Call) -> (&str, &str) {
     match call {
@@ -101,13 +133,14 @@ fn reads_each_call_in_order(rt: HostRuntime) -> Result<(), Fail> {
 
 #[test]
 fn tells_the_first_bad_line(rt: HostRuntime) -> Result<(), Fail> {
-    let rows: [(&[u8], Option<u64>); 37] = [
+    let rows: [(&[u8], Option<u64>); 46] = [
         (b"", None),
         (b"\n#\n", None),
         (b"server \"\\xff\"", None),
         (b"user \"\xc3\xa9\"", Some(1)),
         (b"user \"\\xc3\\xa9\"", None),
         (b"take 4294967295 1\n", None),
+        (b"sslmode Allow\nlink local\nlink local", None),
         // lines that are in no form
         (b"user \"u\"\nwait\nstep\n", Some(3)),
         (b"\n\nstep 1", Some(3)),
@@ -125,6 +158,9 @@ fn tells_the_first_bad_line(rt: HostRuntime) -> Result<(), Fail> {
         (b"raw \"\"", Some(1)),
         (b"option \"a\"", Some(1)),
         (b"server \"\\xFF\"", Some(1)),
+        (b"sslmode \"allow\"", Some(1)),
+        (b"sslmode maybe", Some(1)),
+        (b"link local upgrade", Some(1)),
         // numbers out of bounds
         (b"step 4294967296 ping", Some(1)),
         (b"step 00000000001 ping", Some(1)),
@@ -133,6 +169,19 @@ fn tells_the_first_bad_line(rt: HostRuntime) -> Result<(), Fail> {
         (b"take 1 0", Some(1)),
         (b"hold\ntake 1 1000001", Some(2)),
         (b"digits 4", Some(1)),
+        // nonces: too short, with a comma, with a space
+        (
+            b"nonce \"012345678901234567890123456789012345678901234567890123456789012\"",
+            Some(1),
+        ),
+        (
+            b"nonce \"0123456789012345678901234567890,23456789012345678901234567890123\"",
+            Some(1),
+        ),
+        (
+            b"nonce \"0123456789012345678901234567890 23456789012345678901234567890123\"",
+            Some(1),
+        ),
         // bytes that are no text
         (b"#\xff", Some(1)),
         (b"user \"\\xff\"", Some(1)),
@@ -140,6 +189,8 @@ fn tells_the_first_bad_line(rt: HostRuntime) -> Result<(), Fail> {
         (b"step 1 fetch_one raw \"\\xff\"", Some(1)),
         // once too often
         (b"user \"u\"\nuser \"u\"", Some(2)),
+        (b"password \"\"\npassword \"\"", Some(2)),
+        (b"sslmode allow\nsslmode allow", Some(2)),
         (b"start 1\nstart 1", Some(2)),
         (b"start 1\nhold\nstart 2", Some(3)),
         (b"digits none\ndigits none", Some(2)),

@@ -1,14 +1,21 @@
+use pg_options::PgSslMode;
 use pg_wire::Blob;
 
 /// The words of a script.
 #[derive(Clone, Copy, Debug, PartialEq, Eq)]
 pub(crate) enum Keyword {
     User,
+    Password,
     Database,
     Application,
     Option,
+    SslMode,
     Digits,
     None,
+    Link,
+    Upgrade,
+    Local,
+    Nonce,
     Server,
     Wait,
     End,
@@ -37,6 +44,8 @@ pub(crate) enum Token {
     Space,
     Word(Keyword),
     Number(u32),
+    /// The name of a mode, in any ASCII case.
+    SslMode(PgSslMode),
     /// The bytes that a quoted text means.
     Text(Blob),
 }

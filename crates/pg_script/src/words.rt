@@ -1,16 +1,24 @@
 ghost use Rattle.std.specs.Prelude.{◌≡◌};
-ghost use Rattle.pg_script.specs.Words.{spelling_of, number_of, keyword_among, keyword_of, token_of};
+ghost use Rattle.pg_script.specs.Words.{spelling_of, number_of, keyword_among, keyword_of, mode_of, token_of};
 
+use crate::arguments::text_in;
 use crate::token::{Keyword, Token};
+use pg_options::PgSslMode;
 
 /// All words of a script.
-const WORDS: [Keyword; 26] = [
+const WORDS: [Keyword; 32] = [
     Keyword::User,
+    Keyword::Password,
     Keyword::Database,
     Keyword::Application,
     Keyword::Option,
+    Keyword::SslMode,
     Keyword::Digits,
     Keyword::None,
+    Keyword::Link,
+    Keyword::Upgrade,
+    Keyword::Local,
+    Keyword::Nonce,
     Keyword::Server,
     Keyword::Wait,
     Keyword::End,
@@ -39,11 +47,17 @@ fn spelling_of(word: Keyword) -> &'static [u8]
 {
     match word {
         Keyword::User => b"user",
+        Keyword::Password => b"password",
         Keyword::Database => b"database",
         Keyword::Application => b"application",
         Keyword::Option => b"option",
+        Keyword::SslMode => b"sslmode",
         Keyword::Digits => b"digits",
         Keyword::None => b"none",
+        Keyword::Link => b"link",
+        Keyword::Upgrade => b"upgrade",
+        Keyword::Local => b"local",
+        Keyword::Nonce => b"nonce",
         Keyword::Server => b"server",
         Keyword::Wait => b"wait",
         Keyword::End => b"end",
@@ -103,16 +117,27 @@ fn keyword_of(word: &[u8]) -> Option<Keyword>
     keyword_among(&WORDS, word)
 }
 
-/// A number or a word.
+// The mode whose name these bytes are.
+fn mode_of(word: &[u8]) -> Option<PgSslMode>
+    ensures { result ≡ mode_of word.now }
+{
+    let name = text_in(word)?;
+    PgSslMode::from_name(name)
+}
+
+/// A number, a word or the name of a mode.
 #[tactic(auto, unfolding(crate::specs::Words::token_of))]
 pub(crate) fn token_of(word: &[u8]) -> Option<Token>
     ensures { result ≡ token_of word.now }
 {
     match number_of(word) {
         Some(number) => Some(Token::Number(number)),
-        None => {
-            let keyword = keyword_of(word)?;
-            Some(Token::Word(keyword))
-        }
+        None => match keyword_of(word) {
+            Some(keyword) => Some(Token::Word(keyword)),
+            None => {
+                let mode = mode_of(word)?;
+                Some(Token::SslMode(mode))
+            }
+        },
     }
 }

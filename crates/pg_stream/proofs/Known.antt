@@ -1,5 +1,5 @@
 -- Known bytes that grow, step after step.
-use Rattle.std.proofs.Common.{ℕ, List, [], ◌++◌, sym, ap, ◌∙◌, append_assoc, Option, Some, None, arith}
+use Rattle.std.proofs.Common.{ℕ, List, [], ◌++◌, refl, sym, ap, ◌∙◌, append_assoc, Option, Some, None, arith}
 use Rattle.std.specs.Io.KnownBytes.{Keeps, Appends}
 use Rattle.std.proofs.lemmas.List.{append-nil}
 use Rattle.pg_stream.specs.Links.{LinkSeen, NoneFalls}
@@ -20,7 +20,7 @@ Appends-refl None = tt
 Appends-refl (Some s) = sym (append-nil s)
 
 pub NoneFalls-refl : (a : LinkSeen) → NoneFalls a a
-NoneFalls-refl a = record { moved = omega arith; read_waits = omega arith; write_waits = omega arith; ends = omega arith; faults = omega arith; upgrade_faults = omega arith }
+NoneFalls-refl a = record { plan = refl; moved = omega arith; read_waits = omega arith; write_waits = omega arith; ends = omega arith; faults = omega arith; upgrade_faults = omega arith }
 
 pub NoneFalls-then : (a b c : LinkSeen) → NoneFalls a b → NoneFalls b c → NoneFalls a c
-NoneFalls-then a b c p q = record { moved = omega arith; read_waits = omega arith; write_waits = omega arith; ends = omega arith; faults = omega arith; upgrade_faults = omega arith }
+NoneFalls-then a b c p q = record { plan = q.plan ∙ p.plan; moved = omega arith; read_waits = omega arith; write_waits = omega arith; ends = omega arith; faults = omega arith; upgrade_faults = omega arith }

@@ -8,3 +8,5 @@ pub mod Versions
 pub mod VersionReading
 pub mod Outgoing
 pub mod Parameters
+pub mod Sockets
+pub mod SocketLinks

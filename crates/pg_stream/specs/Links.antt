@@ -1,6 +1,8 @@
 -- What is seen of a link: the bytes that it gave and took, where it tells them, and its counts.
-use Rattle.std.specs.Prelude.{ℕ, ◌+◌, ◌-◌, ◌^◌, ◌<◌, ◌≤◌, min, List, [], ◌∷◌, take, length, Option, Some, None}
+use Rattle.std.specs.Prelude.{◌≡◌, ℕ, Bool, ◌+◌, ◌-◌, ◌^◌, ◌<◌, ◌≤◌, min, List, [], ◌∷◌, take, length, Option, Some, None}
 use Rattle.std.specs.Io.KnownBytes.{Keeps, Appends}
+use Rattle.pg_stream.specs.declared.events.ReadEvent.{ReadEvent}
+use Rattle.pg_stream.specs.declared.events.WriteEvent.{WriteEvent}
 use Rattle.pg_stream.specs.declared.link.LinkRead.{LinkRead}
 use Rattle.pg_stream.specs.declared.link.LinkRead.TheVariants as reads
 use Rattle.pg_stream.specs.declared.link.LinkWrite.{LinkWrite}
@@ -8,7 +10,16 @@ use Rattle.pg_stream.specs.declared.link.LinkWrite.TheVariants as writes
 use Rattle.pg_stream.specs.declared.link.LinkUpgrade.{LinkUpgrade}
 use Rattle.pg_stream.specs.declared.link.LinkUpgrade.TheVariants as upgrades
 
+-- What a link is made of: the events that a link in memory answers by, and whether it can be asked for TLS, and has both ends on this
+-- machine. A link over a socket has no events.
+pub record LinkPlan : Type 0 where
+  pub reads : List ReadEvent
+  pub writes : List WriteEvent
+  pub can_upgrade : Bool
+  pub is_local : Bool
+
 pub record LinkSeen : Type 0 where
+  pub plan : LinkPlan
   -- all bytes that reads gave, and that writes took
   pub given : Option (List ℕ)
   pub taken : Option (List ℕ)
@@ -31,8 +42,9 @@ RoseBy n before now = min (before + n) (2 ^ 64 - 1) ≤ now
 abbrev pub Rose : ℕ → ℕ → Type 0
 Rose before now = RoseBy 1 before now
 
--- no count falls
+-- no count falls, and the link is the one that was made
 pub record NoneFalls (a b : LinkSeen) : Type 0 where
+  pub plan : b.plan ≡ a.plan
   pub moved : a.moved ≤ b.moved
   pub read_waits : a.read_waits ≤ b.read_waits
   pub write_waits : a.write_waits ≤ b.write_waits

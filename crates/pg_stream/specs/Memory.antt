@@ -1,5 +1,5 @@
 -- What is seen of a link in memory: all bytes, the places of its waits, and its counts.
-use Rattle.std.specs.Prelude.{◌≡◌, ℕ, ◌++◌, ◌⊎◌, min, max, drop, Bool, List, [], ◌∷◌, Option, Some, None, IfSome}
+use Rattle.std.specs.Prelude.{◌≡◌, ℕ, ◌++◌, ◌⊎◌, min, max, drop, List, [], ◌∷◌, Option, Some, None, IfSome}
 use Rattle.pg_stream.specs.declared.events.ReadEvent.{ReadEvent}
 use Rattle.pg_stream.specs.declared.events.WriteEvent.{WriteEvent}
 use Rattle.pg_stream.specs.declared.events.WriteEvent.TheVariants.{Take, Wait, Fail}
@@ -8,11 +8,16 @@ use Rattle.pg_stream.specs.declared.link.LinkRead.TheVariants as reads
 use Rattle.pg_stream.specs.declared.link.LinkWrite.{LinkWrite}
 use Rattle.pg_stream.specs.declared.link.LinkWrite.TheVariants as writes
 use Rattle.pg_stream.specs.declared.memory.MemoryLink.{MemoryLink}
-use Rattle.pg_stream.specs.Links.{LinkSeen}
+use Rattle.pg_stream.specs.Links.{LinkPlan, LinkSeen}
 use Rattle.pg_stream.specs.Events.{pieces_in, given_by, places_by, ahead_of, IsRead, IsFull}
+
+-- what a link in memory was made with
+abbrev pub plan_of : MemoryLink → LinkPlan
+plan_of m = record { reads = m.reads.events; writes = m.writes; can_upgrade = m.can_upgrade; is_local = m.is_local }
 
 abbrev pub seen_of : MemoryLink → LinkSeen
 seen_of m = record {
+  plan = plan_of m;
   given = Some (given_by m.reads);
   taken = Some m.taken.items;
   wait_places = Some (places_by m.reads);
@@ -25,8 +30,9 @@ seen_of m = record {
 }
 
 -- what is seen of a link that was not called yet
-abbrev pub untouched : LinkSeen
-untouched = record {
+abbrev pub untouched : LinkPlan → LinkSeen
+untouched made = record {
+  plan = made;
   given = Some [];
   taken = Some [];
   wait_places = Some [];
@@ -37,16 +43,6 @@ untouched = record {
   faults = 0;
   upgrade_faults = 0;
 }
-
--- What a link in memory was made with.
-pub record Plan : Type 0 where
-  pub reads : List ReadEvent
-  pub writes : List WriteEvent
-  pub can_upgrade : Bool
-  pub is_local : Bool
-
-abbrev pub plan_of : MemoryLink → Plan
-plan_of m = record { reads = m.reads.events; writes = m.writes; can_upgrade = m.can_upgrade; is_local = m.is_local }
 
 -- the bytes of all its pieces
 abbrev pub pieces_of : MemoryLink → List ℕ

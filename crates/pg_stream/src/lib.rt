@@ -1,6 +1,7 @@
 //! A stream of frames over a link that gives and takes bytes in any pieces.
 //!
-//! It holds no socket and never waits: everything from outside comes through `Link`. Begin with `Link` and `PgStream`.
+//! The stream holds no socket and never waits: everything from outside comes through `Link`. Begin with `Link` and `PgStream`;
+//! `SocketLink` is the link over a real socket.
 #![tactic(auto)]
 
 mod asynchronous;
@@ -16,10 +17,14 @@ mod outgoing;
 mod outside;
 mod parameters;
 mod read_list;
+mod socket;
+mod socket_link;
 mod standard;
 mod stream;
+mod tcp_link;
 #[cfg(test)]
 mod tests;
+mod unix_link;
 mod version;
 
 pub use events::{ReadEvent, WriteEvent};
@@ -30,6 +35,9 @@ pub use memory::MemoryLink;
 pub use memory_sink::MemorySink;
 pub use memory_source::MemorySource;
 pub use outside::{Sink, SinkWrite, Source, SourceRead};
+pub use socket_link::SocketLink;
 pub use standard::{StdSink, StdSource};
 pub use stream::{CALLS_MAX, Front, LinkCalls, PgStream};
+pub use tcp_link::TcpLink;
+pub use unix_link::UnixLink;
 pub use version::parse_server_version;

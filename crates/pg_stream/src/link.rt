@@ -35,12 +35,12 @@ pub struct TlsWish {
     pub verify_host: bool,
 }
 
-/// A two-way stream of bytes that gives and takes them in any pieces, and never waits.
+/// A two-way stream of bytes that gives and takes them in any pieces, and answers `NotYet` where it would have to wait.
 ///
 /// It counts its answers in `u64`s that never fall: each answer raises its own count, and one that stands at the type's end
 /// counts as risen. A link in memory also tells the bytes themselves; one over a socket does not.
 pub trait Link {
-    /// The bytes that it gave and took, where it tells them, and its counts.
+    /// What it is made of, which no call changes; the bytes that it gave and took, where it tells them; and its counts.
     ghost seen: { Self → LinkSeen };
 
     fn read(&mut self, into: &mut [u8]) -> LinkRead
@@ -52,10 +52,12 @@ pub trait Link {
         ensures { Writes (seen self.old) (seen self.new) result from.now };
 
     /// Whether `upgrade` can be asked for TLS.
-    fn can_upgrade(&self) -> bool;
+    fn can_upgrade(&self) -> bool
+        ensures { result ≡ (seen self.now).plan.can_upgrade };
 
     /// Whether both ends are on this machine, as over a Unix socket.
-    fn is_local(&self) -> bool;
+    fn is_local(&self) -> bool
+        ensures { result ≡ (seen self.now).plan.is_local };
 
     fn upgrade(&mut self, wish: TlsWish) -> LinkUpgrade
         ensures { Upgrades (seen self.old) (seen self.new) result };

@@ -37,7 +37,7 @@ impl MemoryLink {
         is_local: bool,
     ) -> Self
         ensures plan { plan_of result ≡ record { reads = reads; writes = writes; can_upgrade = can_upgrade; is_local = is_local } }
-        ensures seen { seen_of result ≡ untouched }
+        ensures seen { seen_of result ≡ untouched (plan_of result) }
         ensures reads { reads_ahead result ≡ reads }
         ensures writes { writes_ahead result ≡ writes }
     {

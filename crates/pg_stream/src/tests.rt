@@ -7,6 +7,8 @@ use pg_wire::{Blob, Poll, Sequence};
 use std::alloc::{AllocError, Global};
 use std::test::Fail;
 
+mod sockets;
+
 fn piece(alloc: Global, bytes: &[u8]) -> Result<ReadEvent, AllocError> {
     Ok(ReadEvent::Piece(Blob::from_slice(alloc, bytes)?))
 }

@@ -1,15 +1,15 @@
 -- What is read from left to right is an array of the grammar, and each such array is read.
-use Rattle.std.proofs.Common.{◌≡◌, ℕ, zero, suc, ◌+◌, ◌-◌, ◌<◌, ◌≤◌, ◌^◌, ◌⊎◌, inl, inr, Bool, true, false, cond, eqb, ltb, leb, List, [], ◌∷◌, ◌++◌, length, Option, Some, None, refl, sym, ap, subst, ◌∙◌, append_assoc, append-nil, flat_map, arith, eqb-true}
+use Rattle.std.proofs.Common.{◌≡◌, ℕ, zero, suc, ◌<◌, ◌≤◌, ◌^◌, inl, inr, Bool, cond, eqb, ltb, leb, List, [], ◌∷◌, ◌++◌, length, Option, Some, None, refl, sym, ap, subst, ◌∙◌, append_assoc, append-nil, flat_map, arith, eqb-true}
 use Rattle.std.specs.List.{AllByRecursion}
 use Rattle.std.proofs.lemmas.Bool.{ltb-true, leb-true, lt-ltb, le-leb}
 use Rattle.pg_wire.specs.Bytes.{number32, value, AreBytes}
 use Rattle.pg_wire.specs.Frontend.{FitsValue}
-use Rattle.pg_wire.specs.Reading.{◌>>=◌, Reader, number32_at, value_at, many_at}
+use Rattle.pg_wire.specs.Reading.{◌>>=◌, number32_at, value_at, many_at}
 use Rattle.pg_wire.proofs.ReaderLaws.{some_is, bind_some, guard_some, rest_bytes, number32_exact}
 use Rattle.pg_wire.proofs.ListLaws.{value_exact}
 use Rattle.pg_wire.proofs.MessageLaws.{chosen}
 use Rattle.pg_values.specs.Arrays.{ReadsEach, array_front, IsEmptyArray, HasElements, AreElements, IsArray}
-use Rattle.pg_values.specs.ArrayReading.{dimensions_at, count_at, head_at, ReadsElements, ReadsArray}
+use Rattle.pg_values.specs.ArrayReading.{dimensions_at, count_at, head_at, ReadsArray}
 
 abbrev Values : Type 0
 Values = List (Option (List ℕ))

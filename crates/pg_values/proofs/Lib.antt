@@ -1,10 +1,4 @@
-pub mod LevelLaws
-pub mod JoinLaws
-pub mod AddLaws
-pub mod ArgumentLaws
 pub mod NumeralLaws
-pub mod PatchLaws
-pub mod ElementLaws
 pub mod ReadLaws
 pub mod ArrayLaws
 pub mod TextLoops

@@ -1,5 +1,5 @@
 -- Numerals are text.
-use Rattle.std.proofs.Common.{◌≡◌, ℕ, zero, suc, ◌+◌, ◌<◌, ◌≤◌, Bool, true, false, cond, eqb, List, [], ◌∷◌, drop, get_or, refl, arith, eqb-true}
+use Rattle.std.proofs.Common.{◌≡◌, ℕ, zero, suc, ◌<◌, Bool, true, false, cond, eqb, List, [], ◌∷◌, drop, refl, arith, eqb-true}
 use Rattle.std.specs.Str.{IsAscii, IsUtf8}
 use Rattle.std.specs.Str.Parse.{IsNumeral, AllDigits, without_leading_sign, without_leading_plus}
 use Rattle.std.proofs.lemmas.Fmt.{IsAscii-from_digits}

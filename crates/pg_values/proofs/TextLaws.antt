@@ -1,5 +1,5 @@
 -- What is read of a text from left to right is what the grammar says, and each text of the grammar is read.
-use Rattle.std.proofs.Common.{◌≡◌, ℕ, zero, suc, ◌+◌, ◌-◌, ◌<◌, ◌≤◌, ◌⊎◌, inl, inr, Bool, true, false, cond, not, eqb, ltb, leb, List, [], ◌∷◌, ◌++◌, length, Option, Some, None, refl, sym, ap, subst, ◌∙◌, append_assoc, append-nil, arith, eqb-true, ne_eqb, eq-eqb}
+use Rattle.std.proofs.Common.{◌≡◌, ℕ, zero, suc, ◌+◌, ◌≤◌, ◌⊎◌, inl, inr, Bool, true, false, cond, eqb, List, [], ◌∷◌, ◌++◌, length, Option, Some, None, refl, sym, ap, subst, ◌∙◌, append_assoc, arith, eqb-true, ne_eqb, eq-eqb}
 use Rattle.std.specs.Prelude.{◌≢◌, ◌||◌, ◌&&◌, IsTrue, IsUtf8, bytes_eq}
 use Rattle.std.specs.List.{AllByRecursion}
 use Rattle.std.specs.Str.{is_utf8}
@@ -7,12 +7,11 @@ use Rattle.std.proofs.lemmas.List.{length-append}
 use Rattle.std.proofs.lemmas.Str.{IsUtf8-from_is_utf8, is_utf8-from_IsUtf8}
 use Rattle.std.proofs.lemmas.Slice.Eq.{bytes_eq-Decides}
 use Rattle.pg_values.proofs.TextLoops.{not_true}
-use Rattle.pg_wire.specs.Reading.{◌>>=◌, Reader}
 use Rattle.pg_wire.proofs.ReaderLaws.{some_is, bind_some, guard_some}
 use Rattle.pg_wire.proofs.MessageLaws.{chosen}
 use Rattle.pg_values.specs.declared.style.Style.{Style}
 use Rattle.pg_values.specs.declared.style.Style.TheVariants as styles
-use Rattle.pg_values.specs.Texts.{opening, closing, null_text, is_plain, IsKept, IsCharacter, IsQuoted, SpellsItem, SpellsItems, SpellsRest, ArrayTextOf, RecordTextOf}
+use Rattle.pg_values.specs.Texts.{closing, null_text, is_plain, IsKept, IsCharacter, IsQuoted, SpellsItem, SpellsItems, SpellsRest, ArrayTextOf, RecordTextOf}
 use Rattle.pg_values.specs.TextReading.{kept_at, character_at, with_byte, quoted_at, plain_at, plain_item, quoted_item, if_text, quoted_text_at, plain_text_at, item_at, after_item, more_items, items_in}
 
 abbrev Char : Type 0

@@ -6,7 +6,7 @@ use Rattle.pg_wire.specs.Reading.{◌>>=◌}
 use Rattle.pg_wire.proofs.LoopLaws.{with_front}
 use Rattle.pg_values.specs.declared.style.Style.{Style}
 use Rattle.pg_values.specs.Texts.{is_plain}
-use Rattle.pg_values.specs.TextReading.{character_at, with_byte, quoted_at, plain_at, item_at, after_item, more_items, items_in}
+use Rattle.pg_values.specs.TextReading.{character_at, quoted_at, plain_at, item_at, after_item, items_in}
 
 abbrev Read : Type 0
 Read = Option (List ℕ × List ℕ)

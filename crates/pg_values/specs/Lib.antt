@@ -1,12 +1,3 @@
-pub mod Types
-pub mod Builtin
-pub mod Kinds
-pub mod TypeFalls
-pub mod BuiltinRows
-pub mod Encoded
-pub mod Arguments
-pub mod Encoding
-pub mod Images
 pub mod Values
 pub mod Arrays
 pub mod ArrayReading

@@ -1,10 +1,10 @@
 -- Reading the text of an array or a record from left to right, as the private readers do. The grammar itself is in Texts.
-use Rattle.std.specs.Prelude.{ℕ, ◌≡◌, ◌+◌, zero, suc, ◌==◌, ◌||◌, ◌&&◌, if◌then◌else◌, bytes_eq, Bool, List, [], ◌∷◌, ◌++◌, length, Option, Some, None}
+use Rattle.std.specs.Prelude.{ℕ, zero, suc, ◌==◌, ◌||◌, ◌&&◌, if◌then◌else◌, bytes_eq, List, [], ◌∷◌, length, Option, Some, None}
 use Rattle.std.specs.Str.{is_utf8}
 use Rattle.pg_wire.specs.Reading.{◌>>=◌, Reader}
 use Rattle.pg_values.specs.declared.style.Style.{Style}
 use Rattle.pg_values.specs.declared.style.Style.TheVariants as styles
-use Rattle.pg_values.specs.Texts.{opening, closing, null_text, is_plain}
+use Rattle.pg_values.specs.Texts.{closing, null_text, is_plain}
 
 -- a kept byte behind a quote or a backslash, or the end of the quotes
 abbrev pub kept_at : Style → ℕ → ℕ → List ℕ → Option (Option ℕ × List ℕ)

@@ -1,5 +1,5 @@
 -- The text forms of arrays and of records (PostgreSQL manual, "Array Input and Output Syntax" and "Composite Type Input and Output Syntax").
-use Rattle.std.specs.Prelude.{ℕ, ◌≡◌, ◌≢◌, ◌≤◌, ◌==◌, ◌||◌, ◌&&◌, not, nat_le, Bool, List, [], ◌∷◌, ◌++◌, ◌⊎◌, Option, Some, None, IsTrue, IsUtf8, codes}
+use Rattle.std.specs.Prelude.{ℕ, ◌≡◌, ◌≢◌, ◌==◌, ◌||◌, ◌&&◌, not, nat_le, Bool, List, [], ◌∷◌, ◌++◌, ◌⊎◌, Option, Some, None, IsTrue, IsUtf8}
 use Rattle.std.specs.List.{AllByRecursion}
 use Rattle.pg_values.specs.Arrays.{ReadsEach}
 use Rattle.pg_values.specs.declared.style.Style.{Style}

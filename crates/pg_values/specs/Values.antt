@@ -1,14 +1,14 @@
 -- Which bytes are a value, in the binary and in the text format (PostgreSQL manual, "Formats and Format Codes", and the input and output
 -- forms in "Data Types").
 use Rattle.std.specs.Prelude.{ℕ, ℤ, ◌≡◌, ◌<◌, ◌^◌, pos, Bool, true, false, List, [], ◌∷◌, Option, Some, None, Ok, FitsSigned, IsUtf8}
-use Rattle.std.specs.Int.{Width, w8, w16, w32, to_be_bytes, cast_unsigned}
+use Rattle.std.specs.Int.{Width, w8, to_be_bytes, cast_unsigned}
 use Rattle.std.specs.Str.Parse.{IsNumeral, digits_value, signed_digits_value, without_leading_plus, without_leading_sign}
 use Rattle.hex.specs.Hex.{decode_of}
 use Rattle.pg_wire.specs.declared.error.Error.{Error}
 use Rattle.pg_wire.specs.declared.error.Error.TheVariants as errors
 use Rattle.pg_values.specs.declared.format.PgValueFormat.{PgValueFormat}
 use Rattle.pg_values.specs.declared.format.PgValueFormat.TheVariants as formats
-use Rattle.pg_values.specs.Images.{bool_bytes, signed8_bytes, oid_bytes}
+use Rattle.pg_arguments.specs.Images.{bool_bytes, oid_bytes}
 
 -- what holds of some bytes by their format; a null is no value
 abbrev pub ReadsBy : {X : Type 0} → (List ℕ → X → Type 0) → (List ℕ → X → Type 0) → PgValueFormat → Option (List ℕ) → X → Type 0

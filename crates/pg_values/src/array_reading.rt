@@ -9,7 +9,7 @@ ghost use Rattle.pg_values.specs.declared.format.PgValueFormat.TheVariants as fo
 use crate::decode::Decode;
 use crate::format::{PgValueFormat, PgValueRef};
 use crate::text_reading::read_array;
-use crate::type_info::{PgTypeInfo, PgTypeKind};
+use pg_arguments::{PgTypeInfo, PgTypeKind};
 use pg_wire::{Error, Text};
 use std::alloc::Global;
 

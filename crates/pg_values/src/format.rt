@@ -1,6 +1,6 @@
 ghost use Rattle.std.specs.Prelude.{◌≡◌};
 
-use crate::type_info::PgTypeInfo;
+use pg_arguments::PgTypeInfo;
 use pg_wire::Blob;
 
 /// How a value is written (PostgreSQL manual, "Formats and Format Codes").

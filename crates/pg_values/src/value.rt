@@ -1,4 +1,4 @@
-// The Rust types that have a type of PostgreSQL.
+// The Rust types whose values can be read.
 
 mod bool;
 mod numbers;

@@ -1,11 +1,10 @@
 //! The program: it does what its words say, over standard input and standard output.
 #![tactic(auto)]
 
-use pg_conn::MemoryDial;
+use pg_conn::SocketDial;
 use pg_play::top;
 use pg_stream::{StdSink, StdSource, send};
-use pg_wire::Sequence;
-use std::collections::VecDeque;
+use rand::rngs::SysRng;
 use std::io::ErrorKind;
 use std::process::ExitCode;
 use std::{env, io};
@@ -25,16 +24,6 @@ fn words(rt: &HostRuntime) -> io::Result<Vec<String>> {
     Ok(words)
 }
 
-// A dial without links, for no word dials yet.
-fn no_dial(rt: &HostRuntime) -> MemoryDial {
-    let alloc = rt.alloc();
-    MemoryDial::new(
-        VecDeque::new(alloc),
-        VecDeque::new(alloc),
-        Sequence::new(alloc),
-    )
-}
-
 fn main(rt: HostRuntime) -> ExitCode {
     let mut source = StdSource::new(rt.reader());
     let mut sink = StdSink::new(io::writer(&rt));
@@ -46,7 +35,7 @@ fn main(rt: HostRuntime) -> ExitCode {
         };
         return ExitCode::from(status);
     };
-    let mut dial = no_dial(&rt);
+    let mut dial = SocketDial::new(rt.alloc(), &rt, SysRng::new(&rt));
     let ran = top(rt.alloc(), &words, &mut source, &mut sink, &mut dial);
     ExitCode::from(ran.status)
 }

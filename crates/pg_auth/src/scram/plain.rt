@@ -17,8 +17,8 @@ fn first_outside(text: &str) -> Option<usize>
     text.as_bytes().iter().position(|byte| is_outside(*byte))
 }
 
-// Refuses a text with a byte outside printable ASCII, which SASLprep (RFC 4013) could change.
-pub(super) fn check_plain(text: &str, part: ConfigPart) -> Result<(), Error>
+/// Refuses a text with a byte outside printable ASCII, which SASLprep (RFC 4013) could change, with the place of the first one.
+pub fn check_plain(text: &str, part: ConfigPart) -> Result<(), Error>
     ensures ok { OnOk result (IsPlain text.now) }
     ensures err { IfErr result (λ e. (place : ℕ) × (first_outside text.now ≡ Some place) × (e ≡ Configuration part place)) }
 {

@@ -1,11 +1,12 @@
-use Rattle.std.proofs.Common.{◌≡◌, false, IsSome}
+use Rattle.std.proofs.Common.{◌≡◌, false}
 use Rattle.pg_stream.specs.Links.{LinkSeen}
-use Rattle.pg_play.specs.Starts.{IsStarting}
+use Rattle.pg_startup.specs.Establishing.{IsKept, establish_by}
+use Rattle.pg_play.specs.Starts.{Opening, IsPending}
 use Rattle.pg_play.proofs.starting.poll_start.Given as goal
 
 abbrev pub invariant-loop : goal.invariant-loop
 invariant-loop g l = record {
   goes : l.establish.is_finished ≡ false;
-  some : IsSome l.establish.stream;
-  starts : (link : LinkSeen) → IsStarting g.L.Link.seen link l.fn.establish → IsStarting g.L.Link.seen link l.establish;
+  kept : IsKept l.establish.phase;
+  pends : (opening : Opening) (first last : LinkSeen) → IsPending opening first last 0 (establish_by g.L.Link.seen l.fn.establish) → (now : LinkSeen) × IsPending opening first now l.counter (establish_by g.L.Link.seen l.establish);
 }

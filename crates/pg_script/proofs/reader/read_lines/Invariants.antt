@@ -5,7 +5,7 @@ use Rattle.pg_script.proofs.reader.read_lines.Given as goal
 abbrev pub invariant-loop-script : goal.invariant-loop-script
 invariant-loop-script l = record {
   short : l.number + length l.rest ≤ 67108864;
-  reads : read_from l.number l.script (lines_of l.rest) ≡ read_from 0 empty_script (lines_of l.text);
+  reads : read_from l.kind l.number l.script (lines_of l.rest) ≡ read_from l.kind 0 empty_script (lines_of l.text);
 }
 
 abbrev pub decreases-loop-script : goal.decreases-loop-script

@@ -1,7 +1,5 @@
 use Rattle.std.proofs.Common.{arith}
 use Rattle.pg_wire.proofs.ReaderLaws.{are_bytes}
-use Rattle.pg_values.specs.Arrays.{OfItems, IsArray}
-use Rattle.pg_values.specs.ArrayReading.{ReadsArray}
 use Rattle.pg_values.specs.declared.format.PgValueFormat.TheVariants as formats
 use Rattle.pg_values.proofs.ReadLaws.{none_of, on_ok, on_err}
 use Rattle.pg_values.proofs.ArrayLaws.{reads_is, is_reads}

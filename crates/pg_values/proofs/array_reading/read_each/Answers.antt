@@ -1,6 +1,6 @@
 use Rattle.std.proofs.lemmas.Result.{err_from_is_err_and}
 use Rattle.pg_values.specs.declared.format.PgValueFormat.TheVariants as formats
-use Rattle.pg_values.proofs.ReadLaws.{reads_next, bad_element, all_elements}
+use Rattle.pg_values.proofs.ReadLaws.{reads_next, bad_element}
 use Rattle.pg_values.proofs.array_reading.read_each.Goals as goal
 
 pub returns-in_err-decode-clause-cause : goal.returns-in_err-decode-clause-cause

@@ -1,5 +1,4 @@
 use Rattle.std.proofs.Common.{sym}
-use Rattle.pg_values.specs.ArrayReading.{head_at, ReadsElements, ReadsArray}
 use Rattle.pg_values.specs.declared.format.PgValueFormat.TheVariants as formats
 use Rattle.pg_values.proofs.ReadLaws.{no_elements_no_array, on_err}
 use Rattle.pg_values.proofs.array_reading.read_parts.Goals as goal

@@ -1,4 +1,4 @@
-use Rattle.pg_call.proofs.CallLaws.{drains_ok, drains_err, own_oks, own_errs}
+use Rattle.pg_call.proofs.CallLaws.{drains_ok, drains_err, drains_stay, own_oks, own_errs, own_stays}
 use Rattle.pg_call.proofs.running.Running.take.Goals as goal
 
 pub returns-in-Waiting-clause-ok : goal.returns-in-Waiting-clause-ok
@@ -12,3 +12,9 @@ returns-in-Ok-clause-ok c = own_oks c.args.tag c.args.body.now c.args.self.now c
 
 pub returns-in-Err-clause-err : goal.returns-in-Err-clause-err
 returns-in-Err-clause-err c = own_errs c.args.tag c.args.body.now c.args.self.now c.in-Own.reply c.in-Err.e c.in-Own.is c.in-Err.ensures.err
+
+pub returns-in-Waiting-clause-stays : goal.returns-in-Waiting-clause-stays
+returns-in-Waiting-clause-stays c = drains_stay c.args.tag c.args.body.now c.args.self.now c.drain.new.self c.in-Waiting.waiting c.drain.result c.in-Waiting.is c.drain.ensures.ok
+
+pub returns-in-Ok-clause-stays : goal.returns-in-Ok-clause-stays
+returns-in-Ok-clause-stays c = own_stays c.args.tag c.args.self.now c.follow.new.self c.in-Own.reply c.take.new.self c.in-Ok.heard c.follow.result c.in-Own.is c.follow.ensures

@@ -1,17 +1,27 @@
-use Rattle.pg_call.specs.declared.calling.Beat.TheVariants as beats
+use Rattle.std.proofs.Common.{inl, inr}
 use Rattle.pg_conn.specs.Connections.{seen_by}
-use Rattle.pg_conn.proofs.TurnLaws.{TakesBeat-none, TakesBeat-then}
+use Rattle.pg_conn.proofs.TurnLaws.{refused, refused_now, TakesBeat-then}
 use Rattle.pg_conn.proofs.connection.PgConnection.beat.Goals as goal
 
-pub loop-beat-init : goal.loop-beat-init
-loop-beat-init g c = TakesBeat-none _
-
-pub loop-beat-preserved : goal.loop-beat-preserved
-loop-beat-preserved g c =
-    TakesBeat-then (seen_by g.L.Link.seen c.args.self.now) (seen_by g.L.Link.seen c.loop-beat.self) (seen_by g.L.Link.seen c.turn.new.self) beats.More c.loop-beat.invariant c.in-More.ensures.beat
-
-pub returns-in_default : goal.returns-in_default
-returns-in_default g c = record {
-  beat = TakesBeat-then (seen_by g.L.Link.seen c.args.self.now) (seen_by g.L.Link.seen c.loop-beat.self) (seen_by g.L.Link.seen c.turn.new.self) c.turn.result c.loop-beat.invariant c.turn.ensures.beat;
-  ends = c.in_default.not-More;
+pub returns-in-Ok : goal.returns-in-Ok
+returns-in-Ok g c = record {
+  beat = TakesBeat-then (seen_by g.L.Link.seen c.args.self.now) (seen_by g.L.Link.seen c.prepare.new.self) (seen_by g.L.Link.seen c.run.new.self) c.run.result c.in-Ok.ensures.ok.beat c.run.ensures.beat;
+  says = inl c.in-Ok.ensures.ok.sayable;
+  asked = λ i. c.in-Ok.ensures.ok.asked (c.run.ensures.beat.3.asked i);
+  ends = c.run.ensures.ends;
 }
+
+pub returns-in-Err-clause-beat : goal.returns-in-Err-clause-beat
+returns-in-Err-clause-beat g c =
+    let s = c.stop.ensures in
+    let e = c.in-Err.ensures.err in
+    rw (s.now, s.beat, e.0) (refused (seen_by g.L.Link.seen c.args.self.now) c.in-Err.e e.1)
+
+pub returns-in-Err-clause-says : goal.returns-in-Err-clause-says
+returns-in-Err-clause-says g c =
+    let s = c.stop.ensures in
+    let e = c.in-Err.ensures.err in
+    rw (s.now, s.beat, e.0) (inr (refused_now (seen_by g.L.Link.seen c.args.self.now) c.in-Err.e e.1))
+
+pub returns-in-Err-clause-asked : goal.returns-in-Err-clause-asked
+returns-in-Err-clause-asked g c = rw c.stop.ensures.now (λ i. i)

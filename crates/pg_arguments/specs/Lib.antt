@@ -1,0 +1,12 @@
+pub mod Types
+pub mod Builtin
+pub mod Kinds
+pub mod TypeFalls
+pub mod BuiltinRows
+pub mod Encoded
+pub mod Arguments
+pub mod Encoding
+pub mod Images
+pub mod Arrays
+pub mod Iterated
+pub mod VecAnswers

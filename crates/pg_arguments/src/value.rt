@@ -1,0 +1,6 @@
+// The Rust types that have a type of PostgreSQL.
+
+mod bool;
+mod numbers;
+mod optional;
+mod texts;

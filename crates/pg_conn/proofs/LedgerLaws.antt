@@ -1,0 +1,205 @@
+-- What is owed between any two polls follows from where the call stands before and behind each.
+use Rattle.std.proofs.Common.{◌≡◌, ◌⊎◌, inl, inr, ℕ, ◌+◌, Bool, true, false, not, ◌&&◌, ◌||◌, ◌==◌, cond, List, [], ◌∷◌, ◌++◌, length, codes, refl, sym, ap, ◌∙◌, subst, arith, Result, Ok, Err, Option, Some, None}
+use Rattle.std.specs.List.{count_by}
+use Rattle.std.proofs.lemmas.Bool.{eqb-true}
+use Rattle.std.proofs.lemmas.List.Sums.{sum_by-append, sum_by-cons}
+use Rattle.futures.specs.declared.task.Poll.{Poll}
+use Rattle.pg_wire.specs.declared.error.Error.{Error}
+use Rattle.pg_wire.specs.declared.error.Error.TheVariants as errors
+use Rattle.pg_wire.specs.declared.error.ProtocolFault.TheVariants as protocol
+use Rattle.pg_wire.specs.declared.error.ServerFault.{ServerFault}
+use Rattle.pg_wire.specs.Frame.{Frame, is_known}
+use Rattle.pg_wire.specs.Parts.{heard, is_asynchronous, is_ready}
+use Rattle.pg_wire.specs.Frontend.{FrontendMessage}
+use Rattle.pg_stream.specs.Streams.{Sends}
+use Rattle.pg_stream.proofs.StreamLemmas.{Moves-none}
+use Rattle.pg_call.specs.declared.kind.Kind.{Kind}
+use Rattle.pg_call.specs.declared.kind.Kind.TheVariants as kinds
+use Rattle.pg_call.specs.declared.request.Request.{Request}
+use Rattle.pg_call.specs.declared.request.Request.TheVariants as requests
+use Rattle.pg_call.specs.declared.answer.CallItem.{CallItem}
+use Rattle.pg_call.specs.declared.answer.CallAnswer.{CallAnswer}
+use Rattle.pg_call.specs.declared.answer.Turn.{Turn}
+use Rattle.pg_call.specs.declared.ledger.Ledger.{Ledger}
+use Rattle.pg_call.specs.declared.calling.Call.{Call}
+use Rattle.pg_call.specs.declared.calling.Call.TheVariants as calls
+use Rattle.pg_call.specs.declared.calling.Beat.{Beat}
+use Rattle.pg_call.specs.declared.calling.Beat.TheVariants as beats
+use Rattle.pg_call.specs.Requests.{Group, said_in, spelled, kind_of, groups_of, messages_of, farewell, CanBeSaid, copy_fail}
+use Rattle.pg_call.specs.Drains.{before_readys, is_copy_in, failed_behind, fails_for, drain_fails}
+use Rattle.pg_call.specs.Hearing.{fails_of}
+use Rattle.pg_call.specs.Calls.{CallIs, IsDraining, Leaves, IsFine, CallEnds}
+use Rattle.pg_conn.specs.Connections.{ConnSeen, idle, started_call, begun_with}
+use Rattle.pg_conn.specs.Turns.{ends_request, Tells, TakesBeat, PollsBy, PollsWithin, beat_of}
+use Rattle.pg_conn.specs.States.{IsCalling}
+use Rattle.pg_conn.specs.Ledgers.{Owes, OwesSome}
+use Rattle.pg_conn.proofs.TurnLaws.{counts-append, no_groups}
+
+-- ---- ReadyForQuery is no asynchronous message
+
+readies-cons : (f : Frame) (fs : List Frame) → count_by is_ready (f ∷ fs) ≡ cond (is_ready f) 1 0 + count_by is_ready fs
+readies-cons f fs = sum_by-cons (λ (g : Frame). cond (is_ready g) 1 0) f fs
+
+readies-append : (xs ys : List Frame) → count_by is_ready (xs ++ ys) ≡ count_by is_ready xs + count_by is_ready ys
+readies-append xs ys = sum_by-append (λ (g : Frame). cond (is_ready g) 1 0) xs ys
+
+alone : (b : Bool) → b || false ≡ true → b ≡ true
+alone true k = refl
+alone false k = absurd cc
+
+asynchronous_unready : (f : Frame) → is_asynchronous f ≡ true → is_ready f ≡ false
+asynchronous_unready f e = by (is_ready f) refl
+  where
+    by : (b : Bool) → is_ready f ≡ b → b ≡ false
+    by false z = refl
+    by true z =
+        let w : is_known (codes "NSA") 90 ≡ true = subst (λ (t : ℕ). is_known (codes "NSA") t ≡ true) (eqb-true f.tag 90 (alone (f.tag == 90) z)) e in
+        absurd cc
+
+not_counted : (f : Frame) (fs : List Frame) → is_ready f ≡ false → count_by is_ready (f ∷ fs) ≡ count_by is_ready fs
+not_counted f fs z =
+    let none : ◌≡◌ {A = ℕ} (cond (is_ready f) 1 0) 0 = ap (λ (b : Bool). cond b 1 0) z in
+    omega (arith, readies-cons f fs, none)
+
+one_more : (f : Frame) (xs ys : List Frame) → count_by is_ready xs ≡ count_by is_ready ys → count_by is_ready (f ∷ xs) ≡ count_by is_ready (f ∷ ys)
+one_more f xs ys h = omega (arith, readies-cons f xs, readies-cons f ys, h)
+
+readies_heard : (fs : List Frame) → count_by is_ready (heard fs) ≡ count_by is_ready fs
+readies_heard [] = refl
+readies_heard (f ∷ fs) = by (is_asynchronous f) refl (readies_heard fs)
+  where
+    by : (b : Bool) → is_asynchronous f ≡ b → count_by is_ready (heard fs) ≡ count_by is_ready fs → count_by is_ready (heard (f ∷ fs)) ≡ count_by is_ready (f ∷ fs)
+    by true e h = rw e (h ∙ sym (not_counted f fs (asynchronous_unready f e)))
+    by false e h = rw e (one_more f (heard fs) fs h)
+
+-- ---- which messages ask for a reply
+
+copy_fails_ask_none : (failed : Bool) (fs : List Frame) → count_by ends_request (drain_fails failed fs) ≡ 0
+copy_fails_ask_none failed [] = refl
+copy_fails_ask_none failed (f ∷ fs) =
+    let both = counts-append (fails_for failed f) (drain_fails (failed_behind failed f) fs) in
+    omega (arith, both, one (is_copy_in f && not failed), copy_fails_ask_none (failed_behind failed f) fs)
+  where
+    one : (b : Bool) → count_by ends_request (cond b (copy_fail ∷ []) []) ≡ 0
+    one true = refl
+    one false = refl
+
+groups_ask : (r : Request) → count_by ends_request (said_in (groups_of r)) ≡ length (groups_of r)
+groups_ask (requests.Execute query) = refl
+groups_ask (requests.ExecuteMany query) = refl
+groups_ask (requests.Fetch query) = refl
+groups_ask (requests.FetchMany query) = refl
+groups_ask (requests.FetchAll query) = refl
+groups_ask (requests.FetchOptional query) = refl
+groups_ask (requests.FetchOne query) = refl
+groups_ask requests.Ping = refl
+groups_ask requests.Flush = refl
+groups_ask requests.Close = refl
+
+farewell_asks_none : (kind : Kind) → count_by ends_request (farewell kind) ≡ 0
+farewell_asks_none (kinds.Run how) = refl
+farewell_asks_none kinds.Ping = refl
+farewell_asks_none kinds.Flush = refl
+farewell_asks_none kinds.Close = refl
+
+-- ---- the ledger, wherever the call stands
+
+abbrev Counts : Ledger → List FrontendMessage → List Frame → Ledger → Type 0
+Counts start said hs ledger = count_by is_ready hs + ledger.owed ≡ start.owed + count_by ends_request said
+
+drained_counts : (start : Ledger) (said : List FrontendMessage) (hs : List Frame) (items : List CallItem) (ledger : Ledger) (failed : Bool) → IsDraining start said hs items ledger failed → Counts start said hs ledger
+drained_counts start said hs items ledger failed d =
+    let none : count_by ends_request said ≡ 0 = ap (count_by ends_request) d.said_is ∙ copy_fails_ask_none start.is_copy_failed hs in
+    omega (arith, d.counted, none)
+
+call_counts : (start : Ledger) (r : Request) (said : List FrontendMessage) (hs : List Frame) (items : List CallItem) (ledger : Ledger) (call : Call) → CallIs start r said hs items ledger call → Counts start said hs ledger
+call_counts start r said hs items ledger (calls.Asked asked) i = rw (i.1, i.2, i.3) (omega arith)
+call_counts start r said hs items ledger (calls.Waiting w) i = drained_counts start said hs items ledger w.is_copy_failed i.3
+call_counts start r said hs items ledger (calls.Own reply) i =
+    let fails = drain_fails start.is_copy_failed (before_readys start.owed hs) in
+    let asked : count_by ends_request said ≡ count_by ends_request fails + count_by ends_request (said_in (groups_of r)) = ap (count_by ends_request) i.2.said_is ∙ counts-append fails (said_in (groups_of r)) in
+    let one = ap (λ (l : Ledger). l.owed) i.0 in
+    omega (arith, asked, copy_fails_ask_none start.is_copy_failed (before_readys start.owed hs), groups_ask r, i.2.one, i.2.counted, one)
+call_counts start r said hs items ledger calls.Closing i =
+    let c = i.2 in
+    let d = drained_counts start c.drained hs items ledger c.failed c.draining in
+    let asked : count_by ends_request said ≡ count_by ends_request c.drained + count_by ends_request (farewell kinds.Close) = ap (count_by ends_request) c.said_is ∙ counts-append c.drained (farewell kinds.Close) in
+    omega (arith, d, asked, farewell_asks_none kinds.Close)
+call_counts start r said hs items ledger calls.Idle i = absurd i
+
+own_asks : (r : Request) (own : List Group) (hs : List Frame) (owed : ℕ) → (own ≡ []) ⊎ ((own ≡ groups_of r) × (length own ≡ 1) × CanBeSaid r × (count_by is_ready hs ≡ owed)) → count_by ends_request (said_in own) ≡ length own
+own_asks r own hs owed (inl e) = rw e refl
+own_asks r own hs owed (inr q) = rw q.0 (groups_ask r)
+
+bye_asks_none : (r : Request) (bye : List FrontendMessage) → (bye ≡ []) ⊎ ((bye ≡ farewell (kind_of r)) × CanBeSaid r) → count_by ends_request bye ≡ 0
+bye_asks_none r bye (inl e) = rw e refl
+bye_asks_none r bye (inr q) = rw q.0 (farewell_asks_none (kind_of r))
+
+left_counts : (start : Ledger) (r : Request) (said : List FrontendMessage) (hs : List Frame) (items : List CallItem) (ledger : Ledger) (copied : Bool) → Leaves start r said hs items ledger copied → Counts start said hs ledger
+left_counts start r said hs items ledger copied l =
+    let fails = drain_fails start.is_copy_failed (before_readys start.owed hs) in
+    let own = said_in l.own in
+    let all = ap (count_by ends_request) l.said_is in
+    let three = counts-append (fails ++ (own ++ l.bye)) (fails_of copied) in
+    let two = counts-append fails (own ++ l.bye) in
+    let one = counts-append own l.bye in
+    omega (arith, all, three, two, one, copy_fails_ask_none start.is_copy_failed (before_readys start.owed hs), own_asks r l.own hs start.owed l.queued, bye_asks_none r l.bye l.farewells, no_groups copied, l.counted)
+
+fine_counts : (start : Ledger) (r : Request) (said : List FrontendMessage) (hs : List Frame) (items : List CallItem) (ledger : Ledger) → IsFine start r said hs items ledger → Counts start said hs ledger
+fine_counts start r said hs items ledger f =
+    let fails = drain_fails start.is_copy_failed (before_readys start.owed hs) in
+    let all = ap (count_by ends_request) f.said_is in
+    let two = counts-append fails (messages_of r) in
+    let one = counts-append (said_in (groups_of r)) (farewell (kind_of r)) in
+    omega (arith, all, two, one, copy_fails_ask_none start.is_copy_failed (before_readys start.owed hs), groups_ask r, farewell_asks_none (kind_of r), f.counted, f.owes)
+
+ends_count : (start : Ledger) (r : Request) (said : List FrontendMessage) (hs : List Frame) (items : List CallItem) (ledger : Ledger) (answer : Result CallAnswer Error) → CallEnds start r said hs items ledger answer → Counts start said hs ledger
+ends_count start r said hs items ledger (Ok answer) h = fine_counts start r said hs items ledger h.0
+ends_count start r said hs items ledger (Err errors.RowNotFound) h = fine_counts start r said hs items ledger h.0
+ends_count start r said hs items ledger (Err (errors.Database error)) h = left_counts start r said hs items ledger false h.0
+ends_count start r said hs items ledger (Err (errors.Protocol (protocol.Reply tag))) h = left_counts start r said hs items ledger (tag == 71) h.0.0
+ends_count start r said hs items ledger (Err (errors.Protocol (protocol.Caller fault))) h = rw (h.0, h.1, h.3) (omega arith)
+ends_count start r said hs items ledger (Err (errors.Protocol _)) h = absurd h
+ends_count start r said hs items ledger (Err _) h = absurd h
+
+told_counts : (a b : ConnSeen) (start : Ledger) (r : Request) (said : List FrontendMessage) (hs : List Frame) (items : List CallItem) (beat : Beat) → Tells a b start r said hs items beat → Counts start said hs b.ledger
+told_counts a b start r said hs items beats.More t = call_counts start r said hs items b.ledger b.call t
+told_counts a b start r said hs items beats.Waits t = call_counts start r said hs items b.ledger b.call t.0
+told_counts a b start r said hs items (beats.Yields item) t = call_counts start r said hs (items ++ item ∷ []) b.ledger b.call t
+told_counts a b start r said hs items (beats.Ends (Ok answer)) t = ends_count start r said hs items b.ledger (Ok answer) t.1
+told_counts a b start r said hs items (beats.Ends (Err e)) t = elim t.1 [
+  | inl ends ↦ ends_count start r said hs items b.ledger (Err e) ends
+  | inr f ↦ left_counts start r said hs items b.ledger false f.0
+]
+
+-- ---- a poll
+
+owes_beat : (a b : ConnSeen) (kind : Kind) (beat : Beat) → TakesBeat a b beat → IsCalling kind a → OwesSome a b
+owes_beat a b kind beat t i =
+    let told = t.3.tells i.0 i.1 i.2 i.3 i.4 i.6 in
+    let before = call_counts i.0 i.1 i.2 i.3 i.4 a.ledger a.call i.6 in
+    let behind = told_counts a b i.0 i.1 (i.2 ++ told.0) (i.3 ++ t.2) i.4 beat told.3 in
+    let same : count_by is_ready t.1 ≡ count_by is_ready t.2 = sym (readies_heard t.1) ∙ ap (count_by is_ready) t.3.hears in (
+      told.0,
+      t.1,
+      record {
+        sent = subst (Sends a.stream b.stream) (sym told.1) t.3.moves.sent;
+        read = t.3.moves.read;
+        owed = omega (arith, before, behind, same, readies-append i.3 t.2, counts-append i.2 told.0);
+      },
+    )
+
+pub owes_idle : (a : ConnSeen) → Owes a (idle a) [] []
+owes_idle a = let m = Moves-none a.stream in record { sent = m.sent; read = m.read; owed = omega arith }
+
+pub owes_started : (a : ConnSeen) (request : Request) → Owes a (started_call request a) [] []
+owes_started a request = let m = Moves-none a.stream in record { sent = m.sent; read = m.read; owed = omega arith }
+
+pub owes_poll : (kind : Kind) (left : ℕ) (a b : ConnSeen) (answer : Poll Turn) → IsCalling kind a → PollsWithin left a b answer → OwesSome a b
+owes_poll kind left a b answer i p = by a.broken p
+  where
+    by : (o : Option ServerFault) → PollsBy o (begun_with left a) a b (beat_of answer) → OwesSome a b
+    by None p =
+        let some = owes_beat (begun_with left a) (record b { broken = None }) kind (beat_of answer) p.turns i in
+        (some.0, some.1, record { sent = some.2.sent; read = some.2.read; owed = some.2.owed })
+    by (Some fault) p = subst (OwesSome a) (sym p.0) ([], [], owes_idle a)

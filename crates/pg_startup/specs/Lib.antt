@@ -1,0 +1,10 @@
+pub mod Nuls
+pub mod Startups
+pub mod Exchange
+pub mod Refusals
+pub mod Replies
+pub mod Asking
+pub mod Flows
+pub mod Greeting
+pub mod Handshake
+pub mod Establishing
