@@ -226,8 +226,15 @@ fn the_last_frame_ends_the_session(rt: HostRuntime) -> Result<(), Fail> {
 #[test]
 fn a_dial_in_memory_gives_its_lists(rt: HostRuntime) -> Result<(), Fail> {
     let alloc = rt.alloc();
+    let link = MemoryLink::new(
+        alloc,
+        Sequence::new(alloc),
+        Sequence::new(alloc),
+        false,
+        false,
+    );
     let mut links = VecDeque::new(alloc);
-    links.push_back(link(alloc)?)?;
+    links.push_back(link)?;
     let mut words = VecDeque::new(alloc);
     words.push_back(7)?;
     let mut failing = Sequence::new(alloc);

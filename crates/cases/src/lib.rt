@@ -6,6 +6,10 @@ mod calls;
 #[cfg(test)]
 mod live;
 #[cfg(test)]
+mod names;
+#[cfg(test)]
+mod rows;
+#[cfg(test)]
 mod running;
 #[cfg(test)]
 mod scripts;

@@ -1,9 +1,12 @@
 use pg_conn::MemoryDial;
 use pg_play::top;
-use pg_stream::{MemorySink, MemorySource};
+use pg_stream::{MemoryLink, MemorySink, MemorySource, ReadEvent};
 use pg_wire::{Blob, Sequence};
 use std::alloc::{AllocError, Global};
 use std::collections::VecDeque;
+
+const SERVER: &[u8] =
+    b"R\x00\x00\x00\x08\x00\x00\x00\x00Z\x00\x00\x00\x05IC\x00\x00\x00\x0dSELECT 1\x00Z\x00\x00\x00\x05I";
 
 /// What a run of the program gave: its status, and the text that it wrote.
 #[derive(Drop)]
@@ -32,6 +35,26 @@ fn only(alloc: Global, call: u64) -> Result<Sequence<u64>, AllocError> {
     Ok(calls)
 }
 
+// A dial with one link, over which a server accepts the user and answers one query. A call of its with this number fails.
+pub(crate) fn dial(alloc: Global, failing: u64) -> Result<MemoryDial, AllocError> {
+    let mut reads = Sequence::new(alloc);
+    reads.push(ReadEvent::Piece(Blob::from_slice(alloc, SERVER)?))?;
+    let link = MemoryLink::new(alloc, reads, Sequence::new(alloc), false, false);
+    let mut links = VecDeque::new(alloc);
+    links.push_back(link)?;
+    let mut calls = Sequence::new(alloc);
+    calls.push(failing)?;
+    Ok(MemoryDial::new(links, VecDeque::new(alloc), calls))
+}
+
+pub(crate) fn no_links(alloc: Global) -> MemoryDial {
+    MemoryDial::new(
+        VecDeque::new(alloc),
+        VecDeque::new(alloc),
+        Sequence::new(alloc),
+    )
+}
+
 /// Runs the program on words and on the text of its input, with a dial that has no links.
 pub(crate) fn run(
     alloc: Global,
@@ -39,11 +62,7 @@ pub(crate) fn run(
     text: &str,
     outside: Outside,
 ) -> Result<Ended, AllocError> {
-    let mut dial = MemoryDial::new(
-        VecDeque::new(alloc),
-        VecDeque::new(alloc),
-        Sequence::new(alloc),
-    );
+    let mut dial = no_links(alloc);
     run_over(alloc, words, text, outside, &mut dial)
 }
 

@@ -6,3 +6,4 @@ pub mod CommaLemmas
 pub mod PlainLemmas
 pub mod ServerFirstLaws
 pub mod VerifierLaws
+pub mod SignatureLaws

@@ -11,8 +11,6 @@ mod md5_text;
 mod nonce;
 mod salted;
 mod scram;
-#[cfg(test)]
-mod tests;
 mod tls;
 mod xor;
 

@@ -83,17 +83,17 @@ tells_from a b c start r said hs items (beats.Ends (Err e)) m t = (
   ],
 )
 
-cause_after : (a b c : ConnSeen) (beat : Beat) → NoneFalls a.stream.link b.stream.link → a.stream.waits ≤ b.stream.waits → AllMoved a.stream b.stream → b.stream.left ≤ a.stream.left → c.stream.left ≤ b.stream.left → BeatCause b c beat → BeatCause a c beat
-cause_after a b c beats.More m n h k l t = AllMoved-then a.stream b.stream c.stream h k t l
-cause_after a b c beats.Waits m n h k l t = PendingCause-after a.stream b.stream c.stream m n h k l t
-cause_after a b c (beats.Yields item) m n h k l t = tt
-cause_after a b c (beats.Ends answer) m n h k l t = tt
+cause_after : (a b c : ConnSeen) (beat : Beat) → NoneFalls a.stream.link b.stream.link → AllMoved a.stream b.stream → b.stream.left ≤ a.stream.left → c.stream.left ≤ b.stream.left → BeatCause b c beat → BeatCause a c beat
+cause_after a b c beats.More m h k l t = AllMoved-then a.stream b.stream c.stream h k t l
+cause_after a b c beats.Waits m h k l t = PendingCause-after a.stream b.stream c.stream m h k l t
+cause_after a b c (beats.Yields item) m h k l t = t ∙ h.2
+cause_after a b c (beats.Ends answer) m h k l t = t ∙ h.2
 
 pub Turns-then : (a b c : ConnSeen) (beat : Beat) (q q' : List ℕ) (fs fs' hs hs' : List Frame) → Turns a b beats.More q fs hs → Turns b c beat q' fs' hs' → Turns a c beat (q ++ q') (fs ++ fs') (hs ++ hs')
 Turns-then a b c beat q q' fs fs' hs hs' s t = record {
   moves = Moves-then a.stream b.stream c.stream q q' fs fs' s.moves t.moves;
   hears = heard-append fs fs' ∙ ap (λ (x : List Frame). x ++ heard fs') s.hears ∙ ap (λ (x : List Frame). hs ++ x) t.hears;
-  cause = cause_after a b c beat s.moves.counts s.moves.tallies.waits.0 s.cause s.moves.left t.moves.left t.cause;
+  cause = cause_after a b c beat s.moves.counts s.cause s.moves.left t.moves.left t.cause;
   broken = t.broken ∙ s.broken;
   counted = grew-then (length hs) (length hs') (length (hs ++ hs')) a.heard b.heard c.heard s.counted t.counted (length-append hs hs');
   started = (t.started.0 ∙ s.started.0, t.started.1 ∙ s.started.1);
@@ -178,7 +178,7 @@ prepares_none a n = record { beat = TakesBeat-none a; asked = n; sayable = not_a
 
 -- memory is wanting
 pub starved : (a : ConnSeen) (n : ℕ) → Moves a.stream (with_spare n a).stream [] [] → TakesBeat a (idle (with_spare n a)) (beats.Ends (Err errors.OutOfMemory))
-starved a n m = stays a (idle (with_spare n a)) (beats.Ends (Err errors.OutOfMemory)) m tt (keeps_idle a.call) refl refl refl refl refl (λ start r said hs items i. (refl, inr (leaves_call start r said hs items a.ledger a.call i, call_well start r said hs items a.ledger a.call i, inl (tt, tt))))
+starved a n m = stays a (idle (with_spare n a)) (beats.Ends (Err errors.OutOfMemory)) m refl (keeps_idle a.call) refl refl refl refl refl (λ start r said hs items i. (refl, inr (leaves_call start r said hs items a.ledger a.call i, call_well start r said hs items a.ledger a.call i, inl (tt, tt))))
 
 -- a request that has no frame
 refusal_by : (a : ConnSeen) (asked : Request) (e : Error) (o : Option QueryText) → query_of asked ≡ o → RefusesQuery o e → (start : Ledger) (r : Request) (said : List FrontendMessage) (hs : List Frame) (items : List CallItem) → CallIs start r said hs items a.ledger (calls.Asked asked)
@@ -193,7 +193,7 @@ pub refused : (a : ConnSeen) (e : Error) → Refuses a.call e → TakesBeat a (i
 refused a e h = by a.call refl h
   where
     by : (call : Call) → a.call ≡ call → Refuses call e → TakesBeat a (idle a) (beats.Ends (Err e))
-    by (calls.Asked asked) k h = stays a (idle a) (beats.Ends (Err e)) (Moves-none a.stream) tt (keeps_idle a.call) refl refl refl refl refl (λ start r said hs items i. (refl, refusal_by a asked e (query_of asked) refl h start r said hs items (call_at start r said hs items a.ledger a.call (calls.Asked asked) k i)))
+    by (calls.Asked asked) k h = stays a (idle a) (beats.Ends (Err e)) (Moves-none a.stream) refl (keeps_idle a.call) refl refl refl refl refl (λ start r said hs items i. (refl, refusal_by a asked e (query_of asked) refl h start r said hs items (call_at start r said hs items a.ledger a.call (calls.Asked asked) k i)))
     by calls.Idle k h = absurd h
     by (calls.Waiting w) k h = absurd h
     by (calls.Own reply) k h = absurd h
@@ -306,7 +306,7 @@ flushed_by start r said hs items ledger calls.Closing f i = absurd cc
 flushed_by start r said hs items ledger calls.Idle f i = absurd i
 
 pub flushed : (a : ConnSeen) → is_flushed a.ledger a.call ≡ true → TakesBeat a (idle a) (beats.Ends (Ok answers.Unit))
-flushed a f = stays a (idle a) (beats.Ends (Ok answers.Unit)) (Moves-none a.stream) tt (keeps_idle a.call) refl refl refl refl refl (λ start r said hs items i.
+flushed a f = stays a (idle a) (beats.Ends (Ok answers.Unit)) (Moves-none a.stream) refl (keeps_idle a.call) refl refl refl refl refl (λ start r said hs items i.
     let e = flushed_by start r said hs items a.ledger a.call f i in
     (refl, e.0, λ k. absurd (e.1 k)))
 
@@ -375,7 +375,7 @@ missed ledger (errors.Io io.End) h = h
 missed ledger _ h = tt
 
 pub hears_fault : (a : ConnSeen) (t : StreamSeen) (e : Error) → IsAwaiting a.ledger a.call → PollsAhead a.stream t (Ready (Err e)) → TakesBeat a (idle (over_stream a t)) (beats.Ends (Err e))
-hears_fault a t e w p = asides a (idle (over_stream a t)) (beats.Ends (Err e)) p.0 p.1 p.2 tt (keeps_idle a.call) refl refl refl refl refl (λ start r said hs items i.
+hears_fault a t e w p = asides a (idle (over_stream a t)) (beats.Ends (Err e)) p.0 p.1 p.2 p.5 (keeps_idle a.call) refl refl refl refl refl (λ start r said hs items i.
     (refl, inr (leaves_call start r said hs items a.ledger a.call i, call_well start r said hs items a.ledger a.call i, inl (p.3, missed a.ledger e (awaiting_owed start r said hs items a.ledger a.call w i)))))
 
 pub hears_front : (a : ConnSeen) (t : StreamSeen) (front : Front) → PollsAhead a.stream t (Ready (Ok front)) → TakesBeat a (over_stream a t) beats.More
@@ -389,7 +389,7 @@ makes_room a n m = stays a (with_spare n a) beats.More m.0 m.1 (keeps a.call) re
 
 pub front_refused : (a : ConnSeen) (front : Front) (body rest : List ℕ) (e : Error) → IsHeardFront a.stream.held front → IsFrontOf a.stream.held front (framed front.tag body) rest
     → RefusesMessage front.tag body (record { ledger = a.ledger; call = a.call }) e → TakesBeat a (idle a) (beats.Ends (Err e))
-front_refused a front body rest e f of refuses = stays a (idle a) (beats.Ends (Err e)) (Moves-none a.stream) tt (keeps_idle a.call) refl refl refl refl refl (λ start r said hs items i.
+front_refused a front body rest e f of refuses = stays a (idle a) (beats.Ends (Err e)) (Moves-none a.stream) refl (keeps_idle a.call) refl refl refl refl refl (λ start r said hs items i.
     let x = refuses start r said hs items i in
     (refl, inr (x.0, x.1, inr (framed front.tag body, rest, of.whole, heard_front a.stream.held front (framed front.tag body) rest f of, of.parts, x.2))))
   where
@@ -408,8 +408,8 @@ told a b start r said hs items (beats.Ends (Err e)) h = (h.0, inl h.1)
 taken_cause : (a b : ConnSeen) (beat : Beat) → (beat ≢ beats.Waits) → AllMoved a.stream b.stream → BeatCause a b beat
 taken_cause a b beats.More n h = h
 taken_cause a b beats.Waits n h = absurd (n refl)
-taken_cause a b (beats.Yields item) n h = tt
-taken_cause a b (beats.Ends answer) n h = tt
+taken_cause a b (beats.Yields item) n h = h.2
+taken_cause a b (beats.Ends answer) n h = h.2
 
 pub no_groups : (fails : Bool) → count_by ends_request (fails_of fails) ≡ 0
 no_groups true = refl
@@ -545,11 +545,11 @@ farewell_waits a t k p = stays a (over_stream a t) beats.Waits p.moves (sent_cau
     sent_cause s t (inr f) = inr (inr f)
 
 pub farewell_fails : (a : ConnSeen) (t : StreamSeen) (e : Error) → a.call ≡ calls.Closing → PollsSend a.stream t (Ready (Err e)) → TakesBeat a (idle (over_stream a t)) (beats.Ends (Err e))
-farewell_fails a t e k p = rw p.gives.0 (stays a (idle (over_stream a t)) (beats.Ends (Err (errors.Io io.Fault))) p.moves tt (keeps_idle a.call) refl refl refl refl refl (λ start r said hs items i.
+farewell_fails a t e k p = rw p.gives.0 (stays a (idle (over_stream a t)) (beats.Ends (Err (errors.Io io.Fault))) p.moves p.gives.2 (keeps_idle a.call) refl refl refl refl refl (λ start r said hs items i.
     (refl, inr (leaves_call start r said hs items a.ledger a.call i, call_well start r said hs items a.ledger a.call i, inl (p.gives.1, tt)))))
 
 pub farewell_said : (a : ConnSeen) (t : StreamSeen) (u : Unit {0}) → a.call ≡ calls.Closing → PollsSend a.stream t (Ready (Ok u)) → TakesBeat a (idle (over_stream a t)) (beats.Ends (Ok answers.Unit))
-farewell_said a t u k p = stays a (idle (over_stream a t)) (beats.Ends (Ok answers.Unit)) p.moves tt (keeps_idle a.call) refl refl refl refl refl (λ start r said hs items i.
+farewell_said a t u k p = stays a (idle (over_stream a t)) (beats.Ends (Ok answers.Unit)) p.moves p.gives.1.2 (keeps_idle a.call) refl refl refl refl refl (λ start r said hs items i.
     (refl, closing_fine start r said hs items a.ledger (call_at start r said hs items a.ledger a.call calls.Closing k i), λ c. p.gives.0))
 
 -- ---- a front is accepted, step by step

@@ -11,7 +11,7 @@ use Rattle.pg_wire.specs.Frame.{Frame, bytes_of, backend_tags, IsWhole}
 use Rattle.pg_wire.specs.Parts.{heard, is_asynchronous}
 use Rattle.pg_wire.specs.Frontend.{FrontendMessage, Query, Sync}
 use Rattle.pg_stream.specs.declared.stream.Front.{Front}
-use Rattle.pg_stream.specs.Streams.{StreamOf, GrewBy, Moves, AllMoved, Passes, PendingCause, HeardCause}
+use Rattle.pg_stream.specs.Streams.{StreamOf, GrewBy, Moves, AllMoved, NoneWaited, Passes, PendingCause, HeardCause}
 use Rattle.pg_call.specs.declared.kind.Kind.TheVariants as kinds
 use Rattle.pg_call.specs.declared.ledger.Ledger.{Ledger}
 use Rattle.pg_call.specs.declared.request.Request.{Request}
@@ -85,7 +85,7 @@ Tells a b start r said hs items (beats.Ends (Err e)) = (b.call ≡ calls.Idle) �
 abbrev pub BeatCause : ConnSeen → ConnSeen → Beat → Type 0
 BeatCause a b beats.More = AllMoved a.stream b.stream
 BeatCause a b beats.Waits = PendingCause a.stream b.stream
-BeatCause a b _ = Unit {0}
+BeatCause a b _ = NoneWaited a.stream b.stream
 
 -- the bytes are the spelling of messages that the call queued now, and this is what the beat says of all
 abbrev pub TellsOf : ConnSeen → ConnSeen → Ledger → Request → List FrontendMessage → List Frame → List CallItem → Beat → List ℕ → Type 0

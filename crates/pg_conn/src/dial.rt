@@ -1,6 +1,8 @@
-ghost use Rattle.std.specs.Prelude.{◌≡◌, ℕ};
-ghost use Rattle.pg_conn.specs.Dials.{CountsFault, GivesLink, GivesWord};
+ghost use Rattle.std.specs.Prelude.{◌≡◌, IfOk};
+ghost use Rattle.pg_stream.specs.Memory.{seen_of};
+ghost use Rattle.pg_conn.specs.Dials.{AreUncalled, CountsLink, CountsWord, DialSeen, GivesLink, GivesWord, IsUncalled, nothing_seen};
 
+use crate::dial_counts::DialCounts;
 use pg_options::PgConnectOptions;
 use pg_stream::{Link, MemoryLink};
 use pg_wire::Sequence;
@@ -17,20 +19,21 @@ pub enum DialFailed {
 
 /// What opens links to a server, and draws random words.
 ///
-/// It counts its faults in a `u64` that never falls: each raises it, and one that stands at the type's end counts as risen.
+/// It counts the links and the words that it hands out, and its faults, each in a `u64` that stops at the type's end.
 pub trait Dial {
     type L: Link;
 
-    /// The answers `Fault` of both calls.
-    ghost faults: { Self → ℕ };
+    /// Its counts: links, words, and the answers `Fault` of both calls.
+    ghost seen: { Self → DialSeen };
 
-    /// Opens a link to the server that the options name.
+    /// Opens a link to the server that the options name. It was not called yet.
     fn dial(&mut self, options: &PgConnectOptions) -> Result<Self::L, DialFailed>
-        ensures { CountsFault (faults self.old) (faults self.new) result };
+        ensures counts { CountsLink (seen self.old) (seen self.new) result }
+        ensures uncalled { IfOk result (λ link. IsUncalled (Self.L.seen link)) };
 
     /// Draws a random word.
     fn word(&mut self) -> Result<u32, DialFailed>
-        ensures { CountsFault (faults self.old) (faults self.new) result };
+        ensures { CountsWord (seen self.old) (seen self.new) result };
 }
 
 /// A dial in memory: it gives its links and words in order, `Fault` behind its links, and 0 behind its words.
@@ -40,28 +43,32 @@ pub struct MemoryDial {
     words: VecDeque<u32>,
     failing: Sequence<u64>,
     calls: u64,
-    faults: u64,
+    counts: DialCounts,
 }
 
 impl Model for MemoryDial {
-    ghost use Rattle.pg_conn.specs.Dials.{MemoryDialState};
+    ghost use Rattle.pg_conn.specs.Dials.{AreUncalled, MemoryDialState};
 
     ghost Value = { MemoryDialState };
 
-    ghost view = { λ d. record { links = d.links.items; words = d.words.items; failing = d.failing; calls = d.calls; faults = d.faults } };
+    ghost view = { λ d. record { links = d.links.items; words = d.words.items; failing = d.failing; calls = d.calls; seen = d.counts } };
+
+    ghost invariant = { λ d. AreUncalled d.links.items };
 }
 
 impl MemoryDial {
-    /// The calls with the numbers in `failing` answer `Fault`; the first is 1, and calls of both kinds count.
+    /// The calls with the numbers in `failing` answer `Fault`; the first is 1, and calls of both kinds count. The links were not
+    /// called yet.
     pub fn new(links: VecDeque<MemoryLink>, words: VecDeque<u32>, failing: Sequence<u64>) -> Self
-        ensures { result ≡ record { links = links.items; words = words.items; failing = failing; calls = 0; faults = 0 } }
+        requires { AreUncalled links.items }
+        ensures { result ≡ record { links = links.items; words = words.items; failing = failing; calls = 0; seen = nothing_seen } }
     {
         MemoryDial {
             links,
             words,
             failing,
             calls: 0,
-            faults: 0,
+            counts: DialCounts::new(),
         }
     }
 
@@ -69,7 +76,7 @@ impl MemoryDial {
     fn fails(&mut self) -> bool
         ensures links { self.new.links ≡ self.old.links }
         ensures words { self.new.words ≡ self.old.words }
-        ensures faults { self.new.faults ≡ self.old.faults }
+        ensures seen { self.new.seen ≡ self.old.seen }
     {
         self.calls = self.calls.saturating_add(1);
         self.failing.as_slice().contains(&self.calls)
@@ -79,29 +86,32 @@ impl MemoryDial {
 impl Dial for MemoryDial {
     type L = MemoryLink;
 
-    ghost faults = { λ d. d.faults };
+    ghost seen = { λ d. d.seen };
 
     fn dial(&mut self, _options: &PgConnectOptions) -> Result<MemoryLink, DialFailed>
-        ensures faults { CountsFault self.old.faults self.new.faults result }
+        ensures counts { CountsLink self.old.seen self.new.seen result }
+        ensures uncalled { IfOk result (λ link. IsUncalled (seen_of link)) }
         ensures link { GivesLink self.old self.new result }
     {
         if !self.fails() {
             if let Some(link) = self.links.pop_front() {
+                self.counts.count_link();
                 return Ok(link);
             }
         }
-        self.faults = self.faults.saturating_add(1);
+        self.counts.count_fault();
         Err(DialFailed::Fault)
     }
 
     fn word(&mut self) -> Result<u32, DialFailed>
-        ensures faults { CountsFault self.old.faults self.new.faults result }
+        ensures seen { CountsWord self.old.seen self.new.seen result }
         ensures word { GivesWord self.old self.new result }
     {
         if !self.fails() {
+            self.counts.count_word();
             return Ok(self.words.pop_front().unwrap_or(0));
         }
-        self.faults = self.faults.saturating_add(1);
+        self.counts.count_fault();
         Err(DialFailed::Fault)
     }
 }

@@ -6,6 +6,7 @@
 
 mod connection;
 mod dial;
+mod dial_counts;
 mod establishing;
 pub mod laws;
 mod polling;

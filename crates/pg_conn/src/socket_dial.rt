@@ -1,8 +1,10 @@
 ghost use Rattle.std.specs.Prelude.{◌≡◌, IfOk};
 ghost use Rattle.std.specs.IoError.{error_kind};
-ghost use Rattle.pg_conn.specs.Dials.{CountsFault};
+ghost use Rattle.pg_stream.specs.SocketLinks.{seen_of_socket};
+ghost use Rattle.pg_conn.specs.Dials.{CountsLink, CountsWord, IsUncalled, failed_by, nothing_seen};
 ghost use Rattle.pg_conn.specs.SocketDials.{failure_of};
 
+use crate::dial_counts::DialCounts;
 use crate::{Dial, DialFailed};
 use pg_options::PgConnectOptions;
 use pg_stream::{SocketLink, TcpLink, UnixLink};
@@ -26,7 +28,7 @@ pub struct SocketDial<N, R> {
     alloc: Global,
     net: N,
     random: R,
-    faults: u64,
+    counts: DialCounts,
 }
 
 impl<N, R> Model for SocketDial<N, R> {
@@ -34,61 +36,67 @@ impl<N, R> Model for SocketDial<N, R> {
 
     ghost Value = { SocketDialOf R };
 
-    ghost view = { λ d. record { random = d.random; faults = d.faults } };
+    ghost view = { λ d. record { random = d.random; seen = d.counts } };
 }
 
 impl<N, R> SocketDial<N, R> {
     pub fn new(alloc: Global, net: N, random: R) -> Self
-        ensures { result ≡ record { random = random; faults = 0 } }
+        ensures { result ≡ record { random = random; seen = nothing_seen } }
     {
         SocketDial {
             alloc,
             net,
             random,
-            faults: 0,
+            counts: DialCounts::new(),
         }
     }
 
-    // Counts an answer, where it is a fault.
-    fn counted<T>(&mut self, answer: Result<T, DialFailed>) -> Result<T, DialFailed>
-        ensures answer { result ≡ answer }
-        ensures faults { CountsFault self.old.faults self.new.faults result }
+    // Counts a failure, where it is a fault.
+    fn failed(&mut self, failure: DialFailed) -> DialFailed
+        ensures failure { result ≡ failure }
+        ensures seen { self.new.seen ≡ failed_by self.old.seen failure }
         ensures random { self.new.random ≡ self.old.random }
     {
-        match answer {
-            Err(DialFailed::Fault) => {
-                self.faults = self.faults.saturating_add(1);
-                Err(DialFailed::Fault)
-            }
-            other => other,
+        match failure {
+            DialFailed::Fault => self.counts.count_fault(),
+            DialFailed::OutOfMemory => {}
         }
+        failure
     }
 }
 
 impl<N: Net<Stream = TcpStream>, R: TryRng> Dial for SocketDial<N, R> {
     type L = SocketLink;
 
-    ghost faults = { λ d. d.faults };
+    ghost seen = { λ d. d.seen };
 
     /// Tries the host's addresses in turn. An address has ten seconds to answer.
     fn dial(&mut self, options: &PgConnectOptions) -> Result<SocketLink, DialFailed>
-        ensures faults { CountsFault self.old.faults self.new.faults result }
+        ensures counts { CountsLink self.old.seen self.new.seen result }
+        ensures uncalled { IfOk result (λ link. IsUncalled (seen_of_socket link)) }
         ensures random { self.new.random ≡ self.old.random }
     {
-        let opened = open(self.alloc, &self.net, options);
-        self.counted(opened)
+        match open(self.alloc, &self.net, options) {
+            Ok(link) => {
+                self.counts.count_link();
+                Ok(link)
+            }
+            Err(failure) => Err(self.failed(failure)),
+        }
     }
 
     /// Draws from the random source. What it fails at is a fault.
     fn word(&mut self) -> Result<u32, DialFailed>
-        ensures faults { CountsFault self.old.faults self.new.faults result }
+        ensures seen { CountsWord self.old.seen self.new.seen result }
         ensures word { IfOk result (λ x. R.may_next_u32 self.old.random x self.new.random) }
     {
-        let drawn = match self.random.try_next_u32() {
-            Ok(word) => Ok(word),
-            Err(_) => Err(DialFailed::Fault),
-        };
-        self.counted(drawn)
+        match self.random.try_next_u32() {
+            Ok(word) => {
+                self.counts.count_word();
+                Ok(word)
+            }
+            Err(_) => Err(self.failed(DialFailed::Fault)),
+        }
     }
 }
 
@@ -97,7 +105,9 @@ fn open<N: Net<Stream = TcpStream>>(
     alloc: Global,
     net: &N,
     options: &PgConnectOptions,
-) -> Result<SocketLink, DialFailed> {
+) -> Result<SocketLink, DialFailed>
+    ensures { IfOk result (λ link. IsUncalled (seen_of_socket link)) }
+{
     match options.fetch_socket(alloc) {
         Ok(Some(file)) => open_unix(net, file.as_str()).map_err(failure),
         Ok(None) => open_tcp(net, options.get_host(), options.get_port()).map_err(failure),
@@ -105,13 +115,17 @@ fn open<N: Net<Stream = TcpStream>>(
     }
 }
 
-fn open_unix<N: Net>(net: &N, file: &str) -> io::Result<SocketLink> {
+fn open_unix<N: Net>(net: &N, file: &str) -> io::Result<SocketLink>
+    ensures { IfOk result (λ link. IsUncalled (seen_of_socket link)) }
+{
     let stream = UnixStream::connect(net, file)?;
     Ok(SocketLink::Unix(UnixLink::new(stream)?))
 }
 
 // The frames of one poll are sent together, so nothing is gained by holding them back.
-fn open_tcp<N: Net<Stream = TcpStream>>(net: &N, host: &str, port: u16) -> io::Result<SocketLink> {
+fn open_tcp<N: Net<Stream = TcpStream>>(net: &N, host: &str, port: u16) -> io::Result<SocketLink>
+    ensures { IfOk result (λ link. IsUncalled (seen_of_socket link)) }
+{
     let stream = connect(net, host, port)?;
     stream.set_nodelay(true)?;
     Ok(SocketLink::Tcp(TcpLink::new(stream)?))

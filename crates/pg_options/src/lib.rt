@@ -10,8 +10,6 @@ mod numbers;
 mod options;
 mod settings;
 mod ssl_mode;
-#[cfg(test)]
-mod tests;
 mod url_key;
 mod url_text;
 

@@ -41,7 +41,7 @@ use Rattle.pg_play.specs.declared.tally.Tally.{Tally}
 use Rattle.pg_play.specs.Shown.{item_of, items_with, answer_of}
 use Rattle.pg_startup.specs.Flows.{Flows}
 use Rattle.pg_startup.proofs.FlowLaws.{GrewBy-then, Flows-then, Flows-none, flows_begun}
-use Rattle.pg_play.specs.Calls.{Adds, Finishes, Waited, Went, InPlay, IsPlayingOn, IsPlaying, EndsStarved, IsDropped, broken_after, EndsOn, HasEnded, PollGives, PlaysCall, outcome_of}
+use Rattle.pg_play.specs.Calls.{Adds, Finishes, Waited, Went, InPlay, IsPlayingOn, IsPlaying, EndsStarved, IsDropped, broken_after, HasWaitedFew, EndsOn, HasEnded, PollGives, PlaysCall, outcome_of}
 
 -- ---- the stream, over any number of polls
 
@@ -116,6 +116,8 @@ record AfterBeat (a c : ConnSeen) (r : Request) (waits : ℕ) (items : List Call
   tells : Tells a c a.ledger r said (heard fs) items beat
   waited : Waited waits a.stream c.stream
   waits_more : beat ≡ beats.Waits → Waited (waits + 1) a.stream c.stream
+  few : beat ≢ beats.Waits → c.stream.waits ≤ a.stream.waits + waits
+  few_more : beat ≡ beats.Waits → c.stream.waits ≤ a.stream.waits + (waits + 1)
   starved : beat ≡ beats.Waits → 0 < c.ledger.owed → EndsStarved a c
 
 heard_cause : (a b c : StreamSeen) (e : Error) → NoneFalls a.link b.link → HeardCause (record b { left = 256 }) c e → HeardCause a c e
@@ -152,6 +154,17 @@ cause_of b c beats.Waits h e = h
 cause_of b c beats.More h e = absurd cc
 cause_of b c (beats.Yields item) h e = absurd cc
 cause_of b c (beats.Ends answer) h e = absurd cc
+
+none_waited : (b c : ConnSeen) (beat : Beat) → BeatCause b c beat → beat ≢ beats.Waits → c.stream.waits ≡ b.stream.waits
+none_waited b c beats.More h n = h.2
+none_waited b c beats.Waits h n = absurd (n refl)
+none_waited b c (beats.Yields item) h n = h
+none_waited b c (beats.Ends answer) h n = h
+
+one_waited : (b c : StreamSeen) → PendingCause b c → c.waits ≤ b.waits + 1
+one_waited b c (inl x) = x.1.1
+one_waited b c (inr (inl x)) = x.0.1.1
+one_waited b c (inr (inr x)) = omega (arith, x.1.2)
 
 starved_now : (a b c : ConnSeen) → NoneFalls a.stream.link b.stream.link → a.stream.moves ≤ b.stream.moves → PendingCause (record b.stream { left = 256 }) c.stream → 0 < c.ledger.owed → EndsStarved a c
 starved_now a b c m v p o = elim p [
@@ -194,6 +207,8 @@ after_beat a b c r waits items beat said fs i t k =
         tells = subst (λ (x : List Frame). Tells a c a.ledger r (said ++ told.0) x items beat) all (tells_from a b c a.ledger r (said ++ told.0) (heard fs ++ t.2) items beat i.went.flows.counts told.3);
         waited = waited_after waits a.stream b.stream c.stream m.counts m.tallies.waits.0 m.tallies.moves.0 i.waited;
         waits_more = λ e. waited_more waits a.stream b.stream c.stream m.counts m.tallies.waits.0 m.tallies.moves.0 i.waited (cause_of (begun_with 256 b) (record c { broken = None }) beat turns.cause e);
+        few = λ n. omega (arith, i.few, none_waited (begun_with 256 b) (record c { broken = None }) beat turns.cause n);
+        few_more = λ e. omega (arith, i.few, one_waited (begun_with 256 b).stream c.stream (cause_of (begun_with 256 b) (record c { broken = None }) beat turns.cause e));
         starved = λ e o. starved_now a b c i.went.flows.counts i.went.tallies.moves.0 (cause_of (begun_with 256 b) (record c { broken = None }) beat turns.cause e) o;
       },
     )
@@ -231,7 +246,7 @@ more_shown shown items item e = ap (λ (x : List Item). x ++ item_of item ∷ []
 goes_waits : (o : Option ServerFault) (most : ℕ) (a c : ConnSeen) (r : Request) (waits : ℕ) (shown : List Item) → PlayBeat o most a c r waits shown beats.Waits → IsPlayingOn o most a c r (waits + 1) shown
 goes_waits None most a c r waits shown h =
     let after = h.3.2 in
-    (h.0, h.3.0, h.3.1, h.1, h.2, record { went = after.went; broken = after.broken; call = after.tells.0; waited = after.waits_more refl })
+    (h.0, h.3.0, h.3.1, h.1, h.2, record { went = after.went; broken = after.broken; call = after.tells.0; waited = after.waits_more refl; few = after.few_more refl })
 goes_waits (Some fault) most a c r waits shown h = let e = h.1 in absurd cc
 
 -- fewer items than so many, and one more
@@ -243,19 +258,20 @@ goes_yields : (o : Option ServerFault) (most : ℕ) (a c : ConnSeen) (r : Reques
     → IsPlayingOn o most a c r waits (shown ++ item_of item ∷ [])
 goes_yields None most a c r waits shown item n h =
     let after = h.3.2 in
-    (h.0 ++ item ∷ [], h.3.0, h.3.1, more_shown shown h.0 item h.1, below_more shown (item_of item) most h.2 n, record { went = after.went; broken = after.broken; call = after.tells; waited = after.waited })
+    (h.0 ++ item ∷ [], h.3.0, h.3.1, more_shown shown h.0 item h.1, below_more shown (item_of item) most h.2 n, record { went = after.went; broken = after.broken; call = after.tells; waited = after.waited; few = after.few (λ e. absurd cc) })
 goes_yields (Some fault) most a c r waits shown item n h = let e = h.1 in absurd cc
 
 -- an end on a connection that was whole
 ended_whole : (limits : Limits) (a c : ConnSeen) (r : Request) (shown : List Item) (end : End) (said : List FrontendMessage) (fs : List Frame) → a.broken ≡ None → Went a c said fs
-    → c.broken ≡ broken_after None end → EndsOn None limits a c r said (heard fs) shown end → HasEnded limits a c r shown end
-ended_whole limits a c r shown end said fs e w k n = (
+    → c.broken ≡ broken_after None end → HasWaitedFew limits.polls a.stream c.stream end → EndsOn None limits a c r said (heard fs) shown end → HasEnded limits a c r shown end
+ended_whole limits a c r shown end said fs e w k few n = (
   said,
   fs,
   record {
     went = w;
     broken = subst (λ (o : Option ServerFault). c.broken ≡ broken_after o end) (sym e) k;
     kept = λ fault h. let x = sym e ∙ h in absurd cc;
+    few = few;
     ends = subst (λ (o : Option ServerFault). EndsOn o limits a c r said (heard fs) shown end) (sym e) n;
   },
 )
@@ -270,14 +286,15 @@ went_none a c k = rw k (record {
 })
 
 -- an end on one that was broken
-ended_broken : (limits : Limits) (a c : ConnSeen) (r : Request) (fault : ServerFault) → a.broken ≡ Some fault → c ≡ idle a → HasEnded limits a c r [] (ends.Err (errors.Protocol (protocol.Server fault)))
-ended_broken limits a c r fault e k = (
+ended_broken : (limits : Limits) (a c : ConnSeen) (r : Request) (fault : ServerFault) → 0 < limits.polls → a.broken ≡ Some fault → c ≡ idle a → HasEnded limits a c r [] (ends.Err (errors.Protocol (protocol.Server fault)))
+ended_broken limits a c r fault l e k = (
   [],
   [],
   record {
     went = went_none a c k;
     broken = ap (λ (s : ConnSeen). s.broken) k ∙ e ∙ sym (ap (λ (o : Option ServerFault). broken_after o (ends.Err (errors.Protocol (protocol.Server fault)))) e);
     kept = λ f h. refl;
+    few = (0, omega (arith, ap (λ (s : ConnSeen). s.stream.waits) k), (λ d. l, omega arith));
     ends = subst (λ (o : Option ServerFault). EndsOn o limits a c r [] [] [] (ends.Err (errors.Protocol (protocol.Server fault)))) (sym e) (refl, refl, refl, refl, ap idle k);
   },
 )
@@ -285,21 +302,25 @@ ended_broken limits a c r fault e k = (
 below_items : (shown : List Item) (items : List CallItem) (most : ℕ) → shown ≡ map item_of items → length shown < most → length items < most
 below_items shown items most e l = omega (arith, l, ap (λ (x : List Item). length x) e, length-map items item_of)
 
-goes_ok : (limits : Limits) (o : Option ServerFault) (a c : ConnSeen) (r : Request) (waits : ℕ) (old new : List Item) (answer : CallAnswer) (told : Answer) → a.broken ≡ o → new ≡ items_with old answer → told ≡ answer_of answer
+-- an end that isn't a drop
+ends_few : (limits : Limits) (a c : StreamSeen) (waits : ℕ) (end : End) → waits < limits.polls → c.waits ≤ a.waits + waits → HasWaitedFew limits.polls a c end
+ends_few limits a c waits end l few = (waits, few, (λ d. l, omega (arith, l)))
+
+goes_ok : (limits : Limits) (o : Option ServerFault) (a c : ConnSeen) (r : Request) (waits : ℕ) (old new : List Item) (answer : CallAnswer) (told : Answer) → waits < limits.polls → a.broken ≡ o → new ≡ items_with old answer → told ≡ answer_of answer
     → PlayBeat o limits.most a c r waits old (beats.Ends (Ok answer)) → HasEnded limits a c r new (ends.Ok told)
-goes_ok limits None a c r waits old new answer told e n t h =
+goes_ok limits None a c r waits old new answer told l e n t h =
     let after = h.3.2 in
-    ended_whole limits a c r new (ends.Ok told) h.3.0 h.3.1 e after.went after.broken
+    ended_whole limits a c r new (ends.Ok told) h.3.0 h.3.1 e after.went after.broken (ends_few limits a.stream c.stream waits (ends.Ok told) l (after.few (λ d. absurd cc)))
     (h.0, answer, n ∙ ap (λ (x : List Item). items_with x answer) h.1, below_items old h.0 limits.most h.1 h.2, t, after.tells.1)
-goes_ok limits (Some fault) a c r waits old new answer told e n t h = let x = h.1 in absurd cc
+goes_ok limits (Some fault) a c r waits old new answer told l e n t h = let x = h.1 in absurd cc
 
 -- without memory for the items of the answer
-goes_unshown : (limits : Limits) (o : Option ServerFault) (a c : ConnSeen) (r : Request) (waits : ℕ) (old new : List Item) (answer : CallAnswer) (f : Error) → a.broken ≡ o → new ≡ [] → f ≡ errors.OutOfMemory
+goes_unshown : (limits : Limits) (o : Option ServerFault) (a c : ConnSeen) (r : Request) (waits : ℕ) (old new : List Item) (answer : CallAnswer) (f : Error) → waits < limits.polls → a.broken ≡ o → new ≡ [] → f ≡ errors.OutOfMemory
     → PlayBeat o limits.most a c r waits old (beats.Ends (Ok answer)) → HasEnded limits a c r new (ends.Err f)
-goes_unshown limits None a c r waits old new answer f e n t h =
+goes_unshown limits None a c r waits old new answer f l e n t h =
     let after = h.3.2 in
-    rw t (ended_whole limits a c r new (ends.Err errors.OutOfMemory) h.3.0 h.3.1 e after.went after.broken (inr (h.0, n, refl, after.tells.1.0)))
-goes_unshown limits (Some fault) a c r waits old new answer f e n t h = let x = h.1 in absurd cc
+    rw t (ended_whole limits a c r new (ends.Err errors.OutOfMemory) h.3.0 h.3.1 e after.went after.broken (ends_few limits a.stream c.stream waits (ends.Err errors.OutOfMemory) l (after.few (λ d. absurd cc))) (inr (h.0, n, refl, after.tells.1.0)))
+goes_unshown limits (Some fault) a c r waits old new answer f l e n t h = let x = h.1 in absurd cc
 
 broken_same : (e : Error) → broken_by (beats.Ends (Err e)) ≡ broken_after None (ends.Err e)
 broken_same (errors.Protocol (protocol.Server fault)) = refl
@@ -309,34 +330,34 @@ broken_same _ = refl
 same_error : (e e' : Error) → beats.Ends (Err e) ≡ beats.Ends (Err e') → e ≡ e'
 same_error e e' h = cc
 
-goes_err : (limits : Limits) (o : Option ServerFault) (a c : ConnSeen) (r : Request) (waits : ℕ) (shown : List Item) (err : Error) → a.broken ≡ o → PlayBeat o limits.most a c r waits shown (beats.Ends (Err err)) → HasEnded limits a c r shown (ends.Err err)
-goes_err limits None a c r waits shown err e h =
+goes_err : (limits : Limits) (o : Option ServerFault) (a c : ConnSeen) (r : Request) (waits : ℕ) (shown : List Item) (err : Error) → waits < limits.polls → a.broken ≡ o → PlayBeat o limits.most a c r waits shown (beats.Ends (Err err)) → HasEnded limits a c r shown (ends.Err err)
+goes_err limits None a c r waits shown err l e h =
     let after = h.3.2 in
-    ended_whole limits a c r shown (ends.Err err) h.3.0 h.3.1 e after.went (after.broken ∙ broken_same err) (inl (h.0, h.1, h.2, after.tells.1))
-goes_err limits (Some fault) a c r waits shown err e h = rw (same_error err (errors.Protocol (protocol.Server fault)) h.1, h.2) (ended_broken limits a c r fault e h.0)
+    ended_whole limits a c r shown (ends.Err err) h.3.0 h.3.1 e after.went (after.broken ∙ broken_same err) (ends_few limits a.stream c.stream waits (ends.Err err) l (after.few (λ d. absurd cc))) (inl (h.0, h.1, h.2, after.tells.1))
+goes_err limits (Some fault) a c r waits shown err l e h = rw (same_error err (errors.Protocol (protocol.Server fault)) h.1, h.2) (ended_broken limits a c r fault (omega (arith, l)) e h.0)
 
 -- ---- a call that is given up
 
 drops : (limits : Limits) (o : Option ServerFault) (most : ℕ) (a c : ConnSeen) (r : Request) (waits : ℕ) (items : List CallItem) (shown : List Item) (said : List FrontendMessage) (fs : List Frame) → a.broken ≡ None → shown ≡ map item_of items → InPlay a c r waits items said fs
-    → IsDropped limits a c shown → length shown ≤ limits.most → HasEnded limits a c r shown ends.Dropped
-drops limits o most a c r waits items shown said fs e k i d b =
-    ended_whole limits a c r shown ends.Dropped said fs e i.went i.broken
+    → waits ≤ limits.polls → IsDropped limits a c shown → length shown ≤ limits.most → HasEnded limits a c r shown ends.Dropped
+drops limits o most a c r waits items shown said fs e k i l d b =
+    ended_whole limits a c r shown ends.Dropped said fs e i.went i.broken (waits, i.few, (λ n. absurd (n refl), l))
     (items, k, leaves_call a.ledger r said (heard fs) items c.ledger c.call i.call, call_well a.ledger r said (heard fs) items c.ledger c.call i.call, d, b)
 
 drops_waiting : (limits : Limits) (o : Option ServerFault) (a c : ConnSeen) (r : Request) (waits : ℕ) (shown : List Item) → IsNoClose r → waits + 1 ≡ limits.polls → a.broken ≡ o → PlayBeat o limits.most a c r waits shown beats.Waits → HasEnded limits a c r shown ends.Dropped
 drops_waiting limits None a c r waits shown n k e h =
     let after = h.3.2 in
     let call = after.tells.0 in
-    drops limits None limits.most a c r (waits + 1) h.0 shown h.3.0 h.3.1 e h.1 (record { went = after.went; broken = after.broken; call = call; waited = after.waits_more refl })
+    drops limits None limits.most a c r (waits + 1) h.0 shown h.3.0 h.3.1 e h.1 (record { went = after.went; broken = after.broken; call = call; waited = after.waits_more refl; few = after.few_more refl }) (omega (arith, k))
     (inl (subst (λ (m : ℕ). Waited m a.stream c.stream) k (after.waits_more refl), after.starved refl (waits_owed a.ledger r h.3.0 (heard h.3.1) h.0 c c.call n refl call after.tells.1))) (omega (arith, h.2))
 drops_waiting limits (Some fault) a c r waits shown n k e h = let x = h.1 in absurd cc
 
-drops_shown : (limits : Limits) (o : Option ServerFault) (a c : ConnSeen) (r : Request) (waits : ℕ) (old new : List Item) (item : CallItem) → new ≡ old ++ item_of item ∷ [] → length new ≡ limits.most → a.broken ≡ o → PlayBeat o limits.most a c r waits old (beats.Yields item)
+drops_shown : (limits : Limits) (o : Option ServerFault) (a c : ConnSeen) (r : Request) (waits : ℕ) (old new : List Item) (item : CallItem) → waits < limits.polls → new ≡ old ++ item_of item ∷ [] → length new ≡ limits.most → a.broken ≡ o → PlayBeat o limits.most a c r waits old (beats.Yields item)
     → HasEnded limits a c r new ends.Dropped
-drops_shown limits None a c r waits old new item k m e h =
+drops_shown limits None a c r waits old new item l k m e h =
     let after = h.3.2 in
-    drops limits None limits.most a c r waits (h.0 ++ item ∷ []) new h.3.0 h.3.1 e (k ∙ more_shown old h.0 item h.1) (record { went = after.went; broken = after.broken; call = after.tells; waited = after.waited }) (inr m) (omega (arith, m))
-drops_shown limits (Some fault) a c r waits old new item k m e h = let x = h.1 in absurd cc
+    drops limits None limits.most a c r waits (h.0 ++ item ∷ []) new h.3.0 h.3.1 e (k ∙ more_shown old h.0 item h.1) (record { went = after.went; broken = after.broken; call = after.tells; waited = after.waited; few = after.few (λ d. absurd cc) }) (omega (arith, l)) (inr m) (omega (arith, m))
+drops_shown limits (Some fault) a c r waits old new item l k m e h = let x = h.1 in absurd cc
 
 -- the items before the last one are the first ones
 leaves_fewer : (start : Ledger) (r : Request) (said : List FrontendMessage) (hs : List Frame) (items : List CallItem) (item : CallItem) (ledger : Ledger) → Leaves start r said hs (items ++ item ∷ []) ledger false → Leaves start r said hs items ledger false
@@ -361,14 +382,14 @@ leaves_fewer start r said hs items item ledger l = record {
     some_end (i ∷ is) item h = absurd cc
 
 -- without memory for an item
-goes_unkept : (limits : Limits) (o : Option ServerFault) (a c : ConnSeen) (r : Request) (waits : ℕ) (old new : List Item) (item : CallItem) (f : Error) → new ≡ old → f ≡ errors.OutOfMemory → a.broken ≡ o → PlayBeat o limits.most a c r waits old (beats.Yields item)
+goes_unkept : (limits : Limits) (o : Option ServerFault) (a c : ConnSeen) (r : Request) (waits : ℕ) (old new : List Item) (item : CallItem) (f : Error) → waits < limits.polls → new ≡ old → f ≡ errors.OutOfMemory → a.broken ≡ o → PlayBeat o limits.most a c r waits old (beats.Yields item)
     → HasEnded limits a c r new (ends.Err f)
-goes_unkept limits None a c r waits old new item f k t e h =
+goes_unkept limits None a c r waits old new item f l k t e h =
     let after = h.3.2 in
     let more = leaves_call a.ledger r h.3.0 (heard h.3.1) (h.0 ++ item ∷ []) c.ledger c.call after.tells in
-    rw (k, t) (ended_whole limits a c r old (ends.Err errors.OutOfMemory) h.3.0 h.3.1 e after.went after.broken
+    rw (k, t) (ended_whole limits a c r old (ends.Err errors.OutOfMemory) h.3.0 h.3.1 e after.went after.broken (ends_few limits a.stream c.stream waits (ends.Err errors.OutOfMemory) l (after.few (λ d. absurd cc)))
     (inl (h.0, h.1, h.2, inr (leaves_fewer a.ledger r h.3.0 (heard h.3.1) h.0 item c.ledger more, call_well a.ledger r h.3.0 (heard h.3.1) (h.0 ++ item ∷ []) c.ledger c.call after.tells, inl (tt, tt)))))
-goes_unkept limits (Some fault) a c r waits old new item f k t e h = let x = h.1 in absurd cc
+goes_unkept limits (Some fault) a c r waits old new item f l k t e h = let x = h.1 in absurd cc
 
 -- ---- one poll
 
@@ -378,26 +399,26 @@ poll_goes limits a b c r waits shown i p = goes_waits a.broken limits.most a c r
 pub poll_drops : (limits : Limits) (a b c : ConnSeen) (r : Request) (waits : ℕ) (shown : List Item) → IsNoClose r → waits + 1 ≡ limits.polls → IsPlaying limits.most a b r waits shown → PollsBy b.broken (begun_with 256 b) b c beats.Waits → PollGives limits a c r (waits + 1) shown (Some ends.Dropped)
 poll_drops limits a b c r waits shown n k i p = drops_waiting limits a.broken a c r waits shown n k refl (play_beat a.broken limits.most a b c r waits shown beats.Waits refl i p)
 
-pub poll_ok : (limits : Limits) (a b c : ConnSeen) (r : Request) (old new : Tally) (answer : CallAnswer) (end : End) → Finishes answer old new end → IsPlaying limits.most a b r old.waits old.items.items → PollsBy b.broken (begun_with 256 b) b c (beats.Ends (Ok answer))
+pub poll_ok : (limits : Limits) (a b c : ConnSeen) (r : Request) (old new : Tally) (answer : CallAnswer) (end : End) → old.waits < limits.polls → Finishes answer old new end → IsPlaying limits.most a b r old.waits old.items.items → PollsBy b.broken (begun_with 256 b) b c (beats.Ends (Ok answer))
     → PollGives limits a c r new.waits new.items.items (Some end)
-poll_ok limits a b c r old new answer (ends.Ok told) f i p = goes_ok limits a.broken a c r old.waits old.items.items new.items.items answer told refl f.1 f.2 (play_beat a.broken limits.most a b c r old.waits old.items.items (beats.Ends (Ok answer)) refl i p)
-poll_ok limits a b c r old new answer (ends.Err e) f i p = goes_unshown limits a.broken a c r old.waits old.items.items new.items.items answer e refl f.1 f.2 (play_beat a.broken limits.most a b c r old.waits old.items.items (beats.Ends (Ok answer)) refl i p)
-poll_ok limits a b c r old new answer ends.Dropped f i p = absurd f
+poll_ok limits a b c r old new answer (ends.Ok told) l f i p = goes_ok limits a.broken a c r old.waits old.items.items new.items.items answer told l refl f.1 f.2 (play_beat a.broken limits.most a b c r old.waits old.items.items (beats.Ends (Ok answer)) refl i p)
+poll_ok limits a b c r old new answer (ends.Err e) l f i p = goes_unshown limits a.broken a c r old.waits old.items.items new.items.items answer e l refl f.1 f.2 (play_beat a.broken limits.most a b c r old.waits old.items.items (beats.Ends (Ok answer)) refl i p)
+poll_ok limits a b c r old new answer ends.Dropped l f i p = absurd f
 
-pub poll_err : (limits : Limits) (a b c : ConnSeen) (r : Request) (waits : ℕ) (shown : List Item) (e : Error) → IsPlaying limits.most a b r waits shown → PollsBy b.broken (begun_with 256 b) b c (beats.Ends (Err e)) → PollGives limits a c r waits shown (Some (ends.Err e))
-poll_err limits a b c r waits shown e i p = goes_err limits a.broken a c r waits shown e refl (play_beat a.broken limits.most a b c r waits shown (beats.Ends (Err e)) refl i p)
+pub poll_err : (limits : Limits) (a b c : ConnSeen) (r : Request) (waits : ℕ) (shown : List Item) (e : Error) → waits < limits.polls → IsPlaying limits.most a b r waits shown → PollsBy b.broken (begun_with 256 b) b c (beats.Ends (Err e)) → PollGives limits a c r waits shown (Some (ends.Err e))
+poll_err limits a b c r waits shown e l i p = goes_err limits a.broken a c r waits shown e l refl (play_beat a.broken limits.most a b c r waits shown (beats.Ends (Err e)) refl i p)
 
 playing_at : (o : Option ServerFault) (most : ℕ) (a c : ConnSeen) (r : Request) (w w' : ℕ) (is is' : List Item) → w' ≡ w → is' ≡ is → IsPlayingOn o most a c r w is → IsPlayingOn o most a c r w' is'
 playing_at o most a c r w w' is is' x y h = subst (λ (n : ℕ). IsPlayingOn o most a c r n is') (sym x) (subst (λ (t : List Item). IsPlayingOn o most a c r w t) (sym y) h)
 
-pub poll_item : (limits : Limits) (a b c : ConnSeen) (r : Request) (old new : Tally) (item : CallItem) (end : Option End) → Adds limits item old new end → IsPlaying limits.most a b r old.waits old.items.items → PollsBy b.broken (begun_with 256 b) b c (beats.Yields item)
+pub poll_item : (limits : Limits) (a b c : ConnSeen) (r : Request) (old new : Tally) (item : CallItem) (end : Option End) → old.waits < limits.polls → Adds limits item old new end → IsPlaying limits.most a b r old.waits old.items.items → PollsBy b.broken (begun_with 256 b) b c (beats.Yields item)
     → PollGives limits a c r new.waits new.items.items end
-poll_item limits a b c r old new item None g i p =
+poll_item limits a b c r old new item None l g i p =
     playing_at a.broken limits.most a c r old.waits new.waits (old.items.items ++ item_of item ∷ []) new.items.items g.0 g.1
     (goes_yields a.broken limits.most a c r old.waits old.items.items item (rw g.1 at g.2) (play_beat a.broken limits.most a b c r old.waits old.items.items (beats.Yields item) refl i p))
-poll_item limits a b c r old new item (Some ends.Dropped) g i p = drops_shown limits a.broken a c r old.waits old.items.items new.items.items item g.1 g.2 refl (play_beat a.broken limits.most a b c r old.waits old.items.items (beats.Yields item) refl i p)
-poll_item limits a b c r old new item (Some (ends.Err e)) g i p = goes_unkept limits a.broken a c r old.waits old.items.items new.items.items item e g.1 g.2 refl (play_beat a.broken limits.most a b c r old.waits old.items.items (beats.Yields item) refl i p)
-poll_item limits a b c r old new item (Some (ends.Ok told)) g i p = absurd g
+poll_item limits a b c r old new item (Some ends.Dropped) l g i p = drops_shown limits a.broken a c r old.waits old.items.items new.items.items item l g.1 g.2 refl (play_beat a.broken limits.most a b c r old.waits old.items.items (beats.Yields item) refl i p)
+poll_item limits a b c r old new item (Some (ends.Err e)) l g i p = goes_unkept limits a.broken a c r old.waits old.items.items new.items.items item e l g.1 g.2 refl (play_beat a.broken limits.most a b c r old.waits old.items.items (beats.Yields item) refl i p)
+poll_item limits a b c r old new item (Some (ends.Ok told)) l g i p = absurd g
 
 -- ---- the first poll
 
@@ -437,6 +458,7 @@ play_starts most a r m k = starts_on a.broken refl
         broken = e;
         call = subst (λ (c : Call). CallIs a.ledger r [] [] [] a.ledger c) (sym k) (refl, refl, refl, refl, refl);
         waited = waited_none a.stream a.stream refl;
+        few = omega arith;
       },
     )
     starts_on (Some fault) e = (refl, refl)
@@ -453,7 +475,7 @@ ends_idle (Some fault) limits a c r said hs shown end h = h
 pub given_up : (limits : Limits) (a c : ConnSeen) (r : Request) (shown : List Item) (end : End) → HasEnded limits a c r shown end → HasEnded limits a (idle c) r shown end
 given_up limits a c r shown end h =
     let w = h.2.went in
-    (h.0, h.1, record { went = record { flows = w.flows; tallies = w.tallies; groups = w.groups; heard = w.heard; started = w.started }; broken = h.2.broken; kept = h.2.kept; ends = ends_idle a.broken limits a c r h.0 (heard h.1) shown end h.2.ends })
+    (h.0, h.1, record { went = record { flows = w.flows; tallies = w.tallies; groups = w.groups; heard = w.heard; started = w.started }; broken = h.2.broken; kept = h.2.kept; few = h.2.few; ends = ends_idle a.broken limits a c r h.0 (heard h.1) shown end h.2.ends })
 
 pub plays_call : (limits : Limits) (a c d : ConnSeen) (r : Request) (waits : ℕ) (shown : List Item) (end : End) (out : Outcome) → PollGives limits a c r waits shown (Some end) → d ≡ idle c → out ≡ outcome_of d shown end → PlaysCall limits a d r out
 plays_call limits a c d r waits shown end out g k e =

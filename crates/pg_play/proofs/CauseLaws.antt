@@ -112,7 +112,7 @@ begins_none (CopyInResponse format columns) e = refl
 begins_none (CopyOutResponse format columns) e = refl
 begins_none _ e = absurd cc
 
-copies_begin : (part : Part) (m : BackendMessage) → may_copy part m ≡ true → begins_copy m ≡ true
+pub copies_begin : (part : Part) (m : BackendMessage) → may_copy part m ≡ true → begins_copy m ≡ true
 copies_begin First m e = e
 copies_begin Further m e = e
 copies_begin (Rows columns) m e = absurd cc

@@ -8,6 +8,7 @@ pub mod CauseLaws
 pub mod LawfulLaws
 pub mod RepliesLaws
 pub mod LinkLaws
+pub mod CompleteLaws
 pub mod PlayLaws
 pub mod StartLaws
 pub mod TopLaws

@@ -3,6 +3,7 @@ use Rattle.std.proofs.Common.{◌≡◌, ℕ, zero, suc, ◌+◌, List, [], ◌�
 use Rattle.std.specs.List.{AllByRecursion}
 use Rattle.std.proofs.lemmas.List.Sums.{sum_by-append}
 use Rattle.pg_stream.specs.Links.{LinkSeen, NoneFalls}
+use Rattle.pg_stream.specs.Streams.{HeaderFault, IsMalformedFront}
 use Rattle.pg_wire.specs.declared.error.Error.TheVariants as errors
 use Rattle.pg_wire.specs.declared.error.ProtocolFault.TheVariants as protocol
 use Rattle.pg_wire.specs.declared.error.ServerFault.{ServerFault}
@@ -11,7 +12,7 @@ use Rattle.pg_wire.specs.Frame.{Frame, bytes_of, text_of, backend_tags, IsWhole}
 use Rattle.pg_wire.specs.Cut.{Cuts}
 use Rattle.pg_wire.specs.Parts.{heard}
 use Rattle.pg_wire.specs.Frontend.{FrontendMessage, frontend_frame, HasFrontendFrame}
-use Rattle.pg_wire.specs.Server.{IsPrefixOf, MayHear}
+use Rattle.pg_wire.specs.Server.{IsPrefixOf, AreReplies, MayHear}
 use Rattle.pg_wire.specs.Groups.{IsGroup}
 use Rattle.pg_wire.proofs.PartLaws.{heard-append}
 use Rattle.pg_wire.proofs.CutLaws.{cut_after_taken}
@@ -25,34 +26,47 @@ use Rattle.pg_report.specs.declared.outcome.Outcome.{Outcome}
 use Rattle.pg_script.specs.declared.step.Step.{Step}
 use Rattle.pg_play.specs.Calls.{IsUnpolled, broken_after}
 use Rattle.pg_play.specs.Places.{Place}
-use Rattle.pg_play.specs.Causes.{IsFront, HasCause}
+use Rattle.pg_play.specs.Causes.{IsFront, HasNoMessage, ShowsFault, HasCause}
 use Rattle.pg_play.specs.Plays.{Plays_step, Plays_from, AsksForNoCopy, NoneUnlawful, WhereLawful, Totals}
-use Rattle.pg_play.proofs.RepliesLaws.{replies_begin_no_copy, replies_to_all}
+use Rattle.pg_play.proofs.RepliesLaws.{StartsNoCopy, all_prefix, replies_start_no_copy, asks_for_none, replies_to_all}
 
--- ---- a place that is broken by an unlawful frame
+-- ---- a place that is broken
 
--- some frame stands in front that is no part of what a server might have sent
-abbrev Refutes : Place → Type 0
-Refutes at = (front : Frame) × IsFront at front × (MayHear (said_in at.groups) (heard at.frames ++ front ∷ []) → ⊥)
+-- what stands in front is nothing that a server might have sent
+abbrev pub Refutes : ServerFault → Place → Type 0
+Refutes (faults.Unlawful tag) at = (front : Frame) × IsFront at front × (MayHear (said_in at.groups) (heard at.frames ++ front ∷ []) → ⊥)
+Refutes (faults.Malformed tag) at = IsMalformedFront at.seen.held tag ⊎ ((front : Frame) × IsFront at front × HasNoMessage front)
+Refutes fault at = HeaderFault at.seen.held fault
 
-abbrev BreaksSo : Place → Type 0
-BreaksSo at = (tag : ℕ) → at.broken ≡ Some (faults.Unlawful tag) → Refutes at
+abbrev pub BreaksSo : Place → Type 0
+BreaksSo at = (fault : ServerFault) → at.broken ≡ Some fault → Refutes fault at
 
-front_of : (at : Place) (step : Step) (out : Outcome) (next : Place) (one : Plays_step at step out next) (tag : ℕ) → at.broken ≡ None → out.end ≡ ends.Err (errors.Protocol (protocol.Server (faults.Unlawful tag))) → Refutes next
-front_of at step out next one tag w e = elim (subst (λ (z : End). HasCause at step out one.own one.slice next z) e one.cause) [
-  | inl kept ↦ absurd (none_kept at.broken (faults.Unlawful tag) w kept)
-  | inr u ↦ (u.front, u.is_front, one.lawful tag u.front w e u.is_front)
+none_broken : (o : Option ServerFault) (fault : ServerFault) → o ≡ None → o ≡ Some fault → ⊥
+none_broken None fault x y = absurd cc
+none_broken (Some g) fault x y = absurd cc
+
+shown_refutes : (at : Place) (step : Step) (out : Outcome) (next : Place) (one : Plays_step at step out next) (fault : ServerFault) → at.broken ≡ None → out.end ≡ ends.Err (errors.Protocol (protocol.Server fault)) → ShowsFault at one.own one.slice next fault → Refutes fault next
+shown_refutes at step out next one (faults.Unlawful tag) w e u = (u.front, u.is_front, one.lawful tag u.front w e u.is_front)
+shown_refutes at step out next one (faults.Malformed tag) w e (inl m) = inl m
+shown_refutes at step out next one (faults.Malformed tag) w e (inr m) = inr (m.0, m.1, m.3)
+shown_refutes at step out next one fault w e h = h
+
+ends_refute : (at : Place) (step : Step) (out : Outcome) (next : Place) (one : Plays_step at step out next) (fault : ServerFault) → at.broken ≡ None → out.end ≡ ends.Err (errors.Protocol (protocol.Server fault)) → Refutes fault next
+ends_refute at step out next one fault w e = elim (subst (λ (z : End). HasCause at step out one.own one.slice next z) e one.cause) [
+  | inl kept ↦ absurd (none_broken at.broken fault w kept)
+  | inr shown ↦ shown_refutes at step out next one fault w e shown
 ]
-  where
-    none_kept : (o : Option ServerFault) (fault : ServerFault) → o ≡ None → o ≡ Some fault → ⊥
-    none_kept None fault x y = absurd cc
-    none_kept (Some g) fault x y = absurd cc
 
--- a step on a broken connection keeps it
-keeps_so : (at next : Place) (waits moves : ℕ) → next ≡ record at { seen = record at.seen { waits = waits; moves = moves } } → Refutes at → Refutes next
-keeps_so at next waits moves e r =
+-- a step on a broken connection keeps what stands in front
+keeps_so : (fault : ServerFault) (at next : Place) (waits moves : ℕ) → next ≡ record at { seen = record at.seen { waits = waits; moves = moves } } → Refutes fault at → Refutes fault next
+keeps_so (faults.Unlawful tag) at next waits moves e r =
     let f = r.1 in
-    subst Refutes (sym e) (r.0, record { rest = f.rest; whole = f.whole; answers = f.answers; held = f.held }, r.2)
+    subst (Refutes (faults.Unlawful tag)) (sym e) (r.0, record { rest = f.rest; whole = f.whole; answers = f.answers; held = f.held }, r.2)
+keeps_so (faults.Malformed tag) at next waits moves e (inl m) = subst (Refutes (faults.Malformed tag)) (sym e) (inl m)
+keeps_so (faults.Malformed tag) at next waits moves e (inr r) =
+    let f = r.1 in
+    subst (Refutes (faults.Malformed tag)) (sym e) (inr (r.0, record { rest = f.rest; whole = f.whole; answers = f.answers; held = f.held }, r.2))
+keeps_so fault at next waits moves e r = subst (Refutes fault) (sym e) r
 
 -- the end by which a connection that was whole is broken
 ends_so : (end : End) (fault : ServerFault) → broken_after None end ≡ Some fault → end ≡ ends.Err (errors.Protocol (protocol.Server fault))
@@ -78,27 +92,39 @@ polled step = by step.polls step.most refl refl
         suc_some n e = cc
 
 breaks_on : (at : Place) (step : Step) (out : Outcome) (next : Place) → Plays_step at step out next → BreaksSo at → BreaksSo next
-breaks_on at step out next one so tag e = by at.broken refl
+breaks_on at step out next one so fault e = by at.broken refl
   where
-    by : (o : Option ServerFault) → at.broken ≡ o → Refutes next
-    by None w = front_of at step out next one tag w (ends_so out.end (faults.Unlawful tag) (sym (ap (λ (x : Option ServerFault). broken_after x out.end) w) ∙ sym one.queued.broken ∙ e))
-    by (Some fault) w =
-        let same : at.broken ≡ Some (faults.Unlawful tag) = w ∙ sym (ap (λ (x : Option ServerFault). broken_after x out.end) w) ∙ sym one.queued.broken ∙ e in
+    by : (o : Option ServerFault) → at.broken ≡ o → Refutes fault next
+    by None w = ends_refute at step out next one fault w (ends_so out.end fault (sym (ap (λ (x : Option ServerFault). broken_after x out.end) w) ∙ sym one.queued.broken ∙ e))
+    by (Some kept) w =
+        let same : at.broken ≡ Some fault = w ∙ sym (ap (λ (x : Option ServerFault). broken_after x out.end) w) ∙ sym one.queued.broken ∙ e in
         elim (polled step) [
-          | inl u ↦ subst Refutes (sym (one.duly.unpolled u).1) (so tag same)
-          | inr n ↦ keeps_so at next next.seen.waits next.seen.moves (one.duly.kept fault w n).2 (so tag same)
+          | inl u ↦ subst (Refutes fault) (sym (one.duly.unpolled u).1) (so fault same)
+          | inr n ↦ keeps_so fault at next next.seen.waits next.seen.moves (one.duly.kept kept w n).2 (so fault same)
         ]
 
--- where no place is refuted, no step is told so, and later places are none either
-unlawful_breaks : (at : Place) (step : Step) (out : Outcome) (next : Place) → Plays_step at step out next → (tag : ℕ) → out.end ≡ ends.Err (errors.Protocol (protocol.Server (faults.Unlawful tag))) → next.broken ≡ Some (faults.Unlawful tag)
-unlawful_breaks at step out next one tag e = by at.broken refl
+breaks_all : (at : Place) (steps : List Step) (outs : List Outcome) (last : Place) → Plays_from at steps outs last → BreaksSo at → BreaksSo last
+breaks_all at [] [] last run so = subst BreaksSo (sym run) so
+breaks_all at [] (o ∷ outs) last run so = absurd run
+breaks_all at (s ∷ steps) [] last run so = absurd run
+breaks_all at (s ∷ steps) (o ∷ outs) last run so = breaks_all run.0 steps outs last run.2 (breaks_on at s o run.0 run.1 so)
+
+-- from a place that is whole
+pub breaks_first : (at : Place) (steps : List Step) (outs : List Outcome) (last : Place) → Plays_from at steps outs last → at.broken ≡ None → BreaksSo last
+breaks_first at steps outs last run w = breaks_all at steps outs last run (λ fault x. absurd (none_broken at.broken fault w x))
+
+-- ---- an end by a fault of the server
+
+-- it breaks the connection
+fault_breaks : (at : Place) (step : Step) (out : Outcome) (next : Place) → Plays_step at step out next → (fault : ServerFault) → out.end ≡ ends.Err (errors.Protocol (protocol.Server fault)) → next.broken ≡ Some fault
+fault_breaks at step out next one fault e = by at.broken refl
   where
-    by : (o : Option ServerFault) → at.broken ≡ o → next.broken ≡ Some (faults.Unlawful tag)
+    by : (o : Option ServerFault) → at.broken ≡ o → next.broken ≡ Some fault
     by None w = one.queued.broken ∙ ap (λ (x : Option ServerFault). broken_after x out.end) w ∙ ap (broken_after None) e
-    by (Some fault) w = elim (polled step) [
+    by (Some kept) w = elim (polled step) [
       | inl u ↦ let x = sym e ∙ ap (λ (z : Outcome). z.end) (one.duly.unpolled u).0 in absurd cc
-      | inr n ↦ elim (one.duly.kept fault w n).0 [
-        | inl k ↦ let x = sym e ∙ k in let same : faults.Unlawful tag ≡ fault = cc in one.queued.broken ∙ ap (λ (z : Option ServerFault). broken_after z out.end) w ∙ ap (λ (z : ServerFault). Some z) (sym same)
+      | inr n ↦ elim (one.duly.kept kept w n).0 [
+        | inl k ↦ let x = sym e ∙ k in let same : fault ≡ kept = cc in one.queued.broken ∙ ap (λ (z : Option ServerFault). broken_after z out.end) w ∙ ap (λ (z : ServerFault). Some z) (sym same)
         | inr k ↦ let x = sym e ∙ k in absurd cc
       ]
     ]
@@ -110,59 +136,69 @@ broken_stays fault at [] (o ∷ outs) last run w = absurd run
 broken_stays fault at (s ∷ steps) [] last run w = absurd run
 broken_stays fault at (s ∷ steps) (o ∷ outs) last run w = broken_stays fault run.0 steps outs last run.2 (run.1.queued.broken ∙ ap (λ (x : Option ServerFault). broken_after x o.end) w)
 
-breaks_all : (at : Place) (steps : List Step) (outs : List Outcome) (last : Place) → Plays_from at steps outs last → BreaksSo at → BreaksSo last
-breaks_all at [] [] last run so = subst BreaksSo (sym run) so
-breaks_all at [] (o ∷ outs) last run so = absurd run
-breaks_all at (s ∷ steps) [] last run so = absurd run
-breaks_all at (s ∷ steps) (o ∷ outs) last run so = breaks_all run.0 steps outs last run.2 (breaks_on at s o run.0 run.1 so)
+pub breaks_last : (at : Place) (step : Step) (out : Outcome) (next : Place) → Plays_step at step out next → (steps : List Step) (outs : List Outcome) (last : Place) → Plays_from next steps outs last
+    → (fault : ServerFault) → out.end ≡ ends.Err (errors.Protocol (protocol.Server fault)) → last.broken ≡ Some fault
+breaks_last at step out next one steps outs last run fault e = broken_stays fault next steps outs last run (fault_breaks at step out next one fault e)
 
+-- where the last place isn't broken so, no step is told so
 none_by : (at : Place) (steps : List Step) (outs : List Outcome) (last : Place) → Plays_from at steps outs last → ((tag : ℕ) → last.broken ≡ Some (faults.Unlawful tag) → ⊥) → NoneUnlawful outs
 none_by at [] [] last run n = tt
 none_by at [] (o ∷ outs) last run n = absurd run
 none_by at (s ∷ steps) [] last run n = absurd run
 none_by at (s ∷ steps) (o ∷ outs) last run n = (
-  λ tag e. n tag (broken_stays (faults.Unlawful tag) run.0 steps outs last run.2 (unlawful_breaks at s o run.0 run.1 tag e)),
+  λ tag e. n tag (breaks_last at s o run.0 run.1 steps outs last run.2 (faults.Unlawful tag) e),
   none_by run.0 steps outs last run.2 n,
 )
 
--- ---- the frame in front is the next one heard
+-- ---- the frame in front is the next one read
 
-front_heard : (at : Place) (read : List Frame) (rest : List ℕ) (front : Frame) → AllByRecursion (IsWhole backend_tags) at.frames → Cuts backend_tags (text_of at.frames ++ at.seen.held) read rest → IsFront at front → IsPrefixOf (heard at.frames ++ front ∷ []) (heard read)
-front_heard at read rest front w c f =
+pub front_read : (at : Place) (read : List Frame) (rest : List ℕ) (front : Frame) (after : List ℕ) → AllByRecursion (IsWhole backend_tags) at.frames → Cuts backend_tags (text_of at.frames ++ at.seen.held) read rest → IsWhole backend_tags front → at.seen.held ≡ bytes_of front ++ after → IsPrefixOf (at.frames ++ front ∷ []) read
+front_read at read rest front after w c f h =
     let t = cut_after_taken backend_tags (text_of at.frames ++ at.seen.held) at.seen.held at.frames read rest w refl c in
-    let u = cut_after_taken backend_tags at.seen.held f.rest (front ∷ []) t.0 rest (f.whole, tt) (f.held ∙ ap (λ (x : List ℕ). x ++ f.rest) (sym (append-nil (bytes_of front)))) t.2 in
-    let one : heard (front ∷ u.0) ≡ front ∷ heard u.0 = rw f.answers refl in
-    (heard u.0, append_assoc (heard at.frames) (front ∷ []) (heard u.0) ∙ ap (λ (x : List Frame). heard at.frames ++ x) (sym one ∙ sym (ap heard u.1)) ∙ sym (heard-append at.frames t.0) ∙ sym (ap heard t.1))
+    let u = cut_after_taken backend_tags at.seen.held after (front ∷ []) t.0 rest (f, tt) (h ∙ ap (λ (x : List ℕ). x ++ after) (sym (append-nil (bytes_of front)))) t.2 in
+    (u.0, append_assoc at.frames (front ∷ []) u.0 ∙ ap (λ (x : List Frame). at.frames ++ x) (sym u.1) ∙ sym t.1)
 
-taken_heard : (at : Place) (read : List Frame) (rest : List ℕ) → AllByRecursion (IsWhole backend_tags) at.frames → Cuts backend_tags (text_of at.frames ++ at.seen.held) read rest → IsPrefixOf (heard at.frames) (heard read)
+prefix_heard : (xs ys : List Frame) → IsPrefixOf xs ys → IsPrefixOf (heard xs) (heard ys)
+prefix_heard xs ys p = (heard p.0, sym (heard-append xs p.0) ∙ ap heard p.1)
+
+pub front_heard : (at : Place) (read : List Frame) (rest : List ℕ) (front : Frame) → AllByRecursion (IsWhole backend_tags) at.frames → Cuts backend_tags (text_of at.frames ++ at.seen.held) read rest → IsFront at front → IsPrefixOf (heard at.frames ++ front ∷ []) (heard read)
+front_heard at read rest front w c f =
+    let one : heard (front ∷ []) ≡ front ∷ [] = rw f.answers refl in
+    subst (λ (x : List Frame). IsPrefixOf x (heard read)) (heard-append at.frames (front ∷ []) ∙ ap (λ (x : List Frame). heard at.frames ++ x) one) (prefix_heard (at.frames ++ front ∷ []) read (front_read at read rest front f.rest w c f.whole f.held))
+
+pub taken_heard : (at : Place) (read : List Frame) (rest : List ℕ) → AllByRecursion (IsWhole backend_tags) at.frames → Cuts backend_tags (text_of at.frames ++ at.seen.held) read rest → IsPrefixOf (heard at.frames) (heard read)
 taken_heard at read rest w c =
     let t = cut_after_taken backend_tags (text_of at.frames ++ at.seen.held) at.seen.held at.frames read rest w refl c in
-    (heard t.0, sym (heard-append at.frames t.0) ∙ sym (ap heard t.1))
+    prefix_heard at.frames read (t.0, sym t.1)
 
-no_copy_front : (xs ys : List Frame) → AsksForNoCopy (xs ++ ys) → AsksForNoCopy xs
-no_copy_front [] ys h = tt
-no_copy_front (x ∷ xs) ys h = (h.0, no_copy_front xs ys h.1)
+-- ---- where the frames heard are replies
+
+-- the groups alone are said, and all that was read may answer them
+pub hears_groups : (last : Place) (sent read : List Frame) (rest : List ℕ) → AllByRecursion HasFrontendFrame last.said → AllByRecursion (IsWhole backend_tags) last.frames → (AsksForNoCopy (heard last.frames) → last.said ≡ said_in last.groups)
+    → IsPrefixOf sent (map frontend_frame last.said) → Cuts backend_tags (text_of last.frames ++ last.seen.held) read rest → AreReplies sent (heard read) → (last.said ≡ said_in last.groups) × MayHear (said_in last.groups) (heard read)
+hears_groups last sent read rest can whole plain p c r =
+    let may = replies_answer last.said sent (heard read) can p r in
+    let none = all_prefix StartsNoCopy (heard last.frames) (heard read) (taken_heard last read rest whole c) (replies_start_no_copy last.said (heard read) may) in
+    let alone = plain (asks_for_none (heard last.frames) none) in
+    (alone, subst (λ (x : List FrontendMessage). MayHear x (heard read)) alone may)
+
+pub unlawful_refuted : (last : Place) (read : List Frame) (rest : List ℕ) (tag : ℕ) → AllByRecursion (IsWhole backend_tags) last.frames → Cuts backend_tags (text_of last.frames ++ last.seen.held) read rest → MayHear (said_in last.groups) (heard read) → Refutes (faults.Unlawful tag) last → ⊥
+unlawful_refuted last read rest tag whole c may r = r.2 (hear_fewer (said_in last.groups) _ (heard read) (front_heard last read rest r.0 whole c r.1) may)
 
 pub where_lawful : (first last : Place) (steps : List Step) (outs : List Outcome) → Plays_from first steps outs last → first.broken ≡ None → AllByRecursion HasFrontendFrame last.said → AllByRecursion IsGroup last.groups → AllByRecursion (IsWhole backend_tags) last.frames
     → (AsksForNoCopy (heard last.frames) → last.said ≡ said_in last.groups) → WhereLawful last outs
 where_lawful first last steps outs run w can groups whole plain sent read rest p c r =
-    let may = replies_answer last.said sent (heard read) can p r in
+    let hears = hears_groups last sent read rest can whole plain p c r in
+    let alone = hears.0 in
     let taken = taken_heard last read rest whole c in
-    let alone = plain (no_copy_front (heard last.frames) taken.0 (subst AsksForNoCopy (sym taken.1) (replies_begin_no_copy last.said (heard read) may))) in
     let can_groups = subst (AllByRecursion HasFrontendFrame) alone can in
     let all = replies_to_all (said_in last.groups) sent (heard read) can_groups (subst (λ (x : List FrontendMessage). IsPrefixOf sent (map frontend_frame x)) alone p) r in
     let answered = frames_answer last.groups (heard last.frames) groups can_groups (replies_fewer (map frontend_frame (said_in last.groups)) (heard last.frames) (heard read) taken all) in
     record {
       plain = alone;
       answers = record { responses = answered.0; after = answered.1; answers = answered.2; have_frames = answered.3; pieces = answered.4 };
-      none_unlawful = none_by first steps outs last run (λ tag e.
-          let refuted = breaks_all first steps outs last run (λ t x. absurd (whole_first first.broken t w x)) tag e in
-          refuted.2 (hear_fewer (said_in last.groups) _ (heard read) (front_heard last read rest refuted.0 whole c refuted.1) (subst (λ (x : List FrontendMessage). MayHear x (heard read)) alone may)));
+      none_unlawful = none_by first steps outs last run (λ tag e. unlawful_refuted last read rest tag whole c hears.1 (breaks_first first steps outs last run w (faults.Unlawful tag) e));
     }
-  where
-    whole_first : (o : Option ServerFault) (tag : ℕ) → o ≡ None → o ≡ Some (faults.Unlawful tag) → ⊥
-    whole_first None tag x y = absurd cc
-    whole_first (Some g) tag x y = absurd cc
 
 -- ---- the numbers of all steps
 

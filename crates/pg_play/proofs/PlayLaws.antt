@@ -13,9 +13,9 @@ use Rattle.pg_wire.specs.Groups.{IsGroup}
 use Rattle.pg_wire.specs.Server.{MayHear}
 use Rattle.pg_wire.proofs.PartLaws.{heard-append}
 use Rattle.pg_wire.proofs.CutLaws.{frame_unique, cut_after_taken}
-use Rattle.pg_stream.specs.Links.{LinkSeen}
+use Rattle.pg_stream.specs.Links.{LinkSeen, NoneFalls}
 use Rattle.pg_stream.specs.Streams.{StreamSeen, GrewBy}
-use Rattle.pg_stream.proofs.Known.{Appends-then, NoneFalls-then}
+use Rattle.pg_stream.proofs.Known.{Appends-then, NoneFalls-refl, NoneFalls-then}
 use Rattle.pg_startup.specs.Handshake.{ReadyOf, HasBegun}
 use Rattle.pg_startup.specs.Establishing.{EstablishSeen}
 use Rattle.pg_call.specs.declared.request.Request.{Request}
@@ -32,7 +32,7 @@ use Rattle.pg_report.specs.declared.outcome.Started.{Started}
 use Rattle.pg_script.specs.declared.step.Step.{Step}
 use Rattle.pg_play.specs.declared.tally.Limits.{Limits}
 use Rattle.pg_play.specs.Shown.{request_of, shown_by, waits_to_show, item_of}
-use Rattle.pg_play.specs.Calls.{EndsOn, Ended, PlaysCall, PlaysStep, IsUnpolled, limits_of, untouched, broken_after}
+use Rattle.pg_play.specs.Calls.{HasWaitedFew, WaitsFew, EndsOn, Ended, PlaysCall, PlaysStep, IsUnpolled, limits_of, untouched, broken_after}
 use Rattle.pg_play.specs.Places.{Place, owed, drained, unfed, queued_by, main_frames, refuses_copy, Queues, first_place}
 use Rattle.pg_play.specs.Told.{Numbers, CountsTo, WellAtOk}
 use Rattle.pg_play.specs.Causes.{IsFront, IsUnlawful, HasCause, EndsDuly}
@@ -46,6 +46,7 @@ use Rattle.pg_play.proofs.ToldLaws.{main_after, queued_one, queued_step, numbers
 use Rattle.pg_play.proofs.CauseLaws.{cause_step}
 use Rattle.pg_play.proofs.LawfulLaws.{lawful_begins}
 use Rattle.pg_play.proofs.LinkLaws.{where_lawful, totals_from}
+use Rattle.pg_play.proofs.CompleteLaws.{where_faultless}
 use Rattle.pg_play.proofs.ShownLaws.{no_items_come}
 
 -- ---- a lawful server
@@ -127,22 +128,29 @@ no_group (g ∷ gs) k = absurd (omega (arith, k))
 kept_own : (a b : ConnSeen) (r : Request) (said : List FrontendMessage) (hs : List Frame) (items : List CallItem) (copied : Bool) → (s : Summary a.ledger r said hs items b.ledger copied) → hs ≡ [] → b.ledger.owed ≡ a.ledger.owed → s.own ≡ []
 kept_own a b r said hs items copied s e o = no_group s.own (omega (arith, s.counted, o, ap (λ (x : List Frame). count_by is_ready x) e))
 
+some_of : (n : ℕ) → (n ≡ 0 → ⊥) → 0 < n
+some_of zero none = absurd (none refl)
+some_of (suc n) none = omega arith
+
 polled_most : (step : Step) → (IsUnpolled step → ⊥) → 0 < step.most
-polled_most step n = by step.most refl
-  where
-    by : (m : ℕ) → step.most ≡ m → 0 < m
-    by zero e = absurd (n (inr e))
-    by (suc m) e = omega arith
+polled_most step n = some_of step.most (λ e. n (inr e))
+
+-- an outcome counts the waits of the stream
+few_step : (a b : ConnSeen) (r : Request) (polls : ℕ) (out : Outcome) → out.waits ≡ b.stream.waits → HasWaitedFew polls (started_call r a).stream b.stream out.end → WaitsFew polls out.waits out.end
+few_step a b r polls out k few =
+    let waits : b.stream.waits ≤ few.0 = omega (arith, few.1) in
+    (λ d. let l = few.2.0 d in omega (arith, k, waits, l), omega (arith, k, waits, few.2.1))
 
 duly_step : (start : StreamSeen) (at : Place) (a b : ConnSeen) (step : Step) (out : Outcome) (said : List FrontendMessage) (fs : List Frame) (items : List CallItem) → StandsAt start at a → (IsUnpolled step → ⊥) → Ended (limits_of step) (started_call (request_of step.call) a) b (request_of step.call) out.items out.end said fs
-    → (s : Summary a.ledger (request_of step.call) said (heard fs) items b.ledger (refuses_copy out.end)) → EndsDuly at step out (next_place at b said s.own fs out.end)
-duly_step start at a b step out said fs items st n e s = record {
+    → (s : Summary a.ledger (request_of step.call) said (heard fs) items b.ledger (refuses_copy out.end)) → out.waits ≡ b.stream.waits → EndsDuly at step out (next_place at b said s.own fs out.end)
+duly_step start at a b step out said fs items st n e s k = record {
   unpolled = λ u. absurd (n u);
   kept = λ fault w m.
       let broken : a.broken ≡ Some fault = st.broken ∙ w in
       let k = subst (λ (o : Option ServerFault). EndsOn o (limits_of step) (started_call (request_of step.call) a) b (request_of step.call) said (heard fs) out.items out.end) broken e.ends in
       let own = kept_own a b (request_of step.call) said (heard fs) items (refuses_copy out.end) s k.2 (ap (λ (c : ConnSeen). c.ledger.owed) k.4) in
       (inl k.0, k.3, kept_place start at a b step said s.own fs out.end fault st w k.1 own (e.kept fault broken) k.4);
+  few = few_step a b (request_of step.call) step.polls out k e.few;
   most = λ w. most_by a.broken (limits_of step) (started_call (request_of step.call) a) b step said (heard fs) out.items out.end w (polled_most step n) e.ends;
 }
 
@@ -167,8 +175,9 @@ polled_step start at a b step out st n p h =
         queued = queued_step a.broken (limits_of step) start at a b step out said fs out.items found.0 st e.ends s;
         told = told_step a.broken (limits_of step) start at a b step out said fs found.0 st e.ends s found.2;
         numbers = subst (λ (x : Outcome). Numbers at x s.own (heard fs) (next_place at b said s.own fs out.end)) (sym h.1) (numbers_step start at a b step.call said fs out.items out.end found.0 st went s);
+        counts = subst (λ (x : StreamSeen). NoneFalls x.link b.stream.link) st.seen went.flows.counts;
         cause = cause;
-        duly = duly_step start at a b step out said fs found.0 st n e s;
+        duly = duly_step start at a b step out said fs found.0 st n e s (ap (λ (x : Outcome). x.waits) h.1);
         lawful = never_unlawful start at a b step out said fs found.0 (refuses_copy out.end) st s cause;
       },
       stands_next start at a b step.call said fs found.0 out.end st s (record { counts = went.flows.counts; sent = went.flows.sent; read = went.flows.read }) e.broken (sym (ap (λ (c : ConnSeen). c.call) h.2))
@@ -259,6 +268,7 @@ quiet_step at step out end k q c d =
         error = inl tt;
       };
       numbers = subst (λ (x : Outcome). Numbers at x [] [] at) (sym k) (quiet_numbers at end);
+      counts = NoneFalls-refl at.seen.link;
       cause = subst (λ (z : End). HasCause at step out [] [] at z) (sym ends_so) c;
       duly = d;
       lawful = quiet_lawful at out quiet;
@@ -267,10 +277,14 @@ quiet_step at step out end k q c d =
 quiet_most : (step : Step) (out : Outcome) (end : End) → out ≡ untouched end → (out.end ≢ ends.Dropped → 0 < step.most) → WithinMost out.end out.items step.most
 quiet_most step out end k m = let z : length out.items ≡ 0 = ap (λ (x : Outcome). length x.items) k in (λ n. omega (arith, z, m n), omega (arith, z))
 
+quiet_few : (step : Step) (out : Outcome) (end : End) → out ≡ untouched end → (out.end ≢ ends.Dropped → 0 < step.polls) → WaitsFew step.polls out.waits out.end
+quiet_few step out end k m = let z : out.waits ≡ 0 = ap (λ (x : Outcome). x.waits) k in (λ n. omega (arith, z, m n), omega (arith, z))
+
 unpolled_step : (at : Place) (step : Step) (out : Outcome) → IsUnpolled step → out ≡ untouched ends.Dropped → Plays_step at step out at
 unpolled_step at step out u k = quiet_step at step out ends.Dropped k (inl refl) (inl u) (record {
   unpolled = λ v. (k, refl);
   kept = λ fault w n. absurd (n u);
+  few = quiet_few step out ends.Dropped k (λ n. absurd (n (ap (λ (x : Outcome). x.end) k)));
   most = λ w. quiet_most step out ends.Dropped k (λ n. absurd (n (ap (λ (x : Outcome). x.end) k)));
 })
 
@@ -278,6 +292,7 @@ unmade_step : (at : Place) (step : Step) (out : Outcome) → (IsUnpolled step �
 unmade_step at step out n k = quiet_step at step out (ends.Err errors.OutOfMemory) k (inr refl) tt (record {
   unpolled = λ u. absurd (n u);
   kept = λ fault w m. (inr (ap (λ (x : Outcome). x.end) k), ap (λ (x : Outcome). x.items) k, refl);
+  few = quiet_few step out (ends.Err errors.OutOfMemory) k (λ z. some_of step.polls (λ e. n (inl e)));
   most = λ w. quiet_most step out (ends.Err errors.OutOfMemory) k (λ z. polled_most step n);
 })
 
@@ -378,5 +393,6 @@ plays_begun opening link last a b started steps outs g run s r l =
       at_link = sym (ap (λ (x : StreamSeen). x.link) st.seen);
       totals = subst (λ (x : LinkSeen). Totals link x outs) (sym (ap (λ (x : StreamSeen). x.link) st.seen)) (totals_from link (first_place a.stream) steps outs p.0 g.counts p.1);
       lawful = where_lawful (first_place a.stream) p.0 steps outs p.1 refl st.sayable st.are_groups st.flows.read.3 st.plain;
+      complete = where_faultless link (first_place a.stream) p.0 steps outs p.1 g.counts refl st.sayable st.flows.read.3 st.plain;
       plain = st.plain;
     })

@@ -1,7 +1,7 @@
 -- Replies of a server that never copies begin no copy, and what is heard of them answers the groups one by one.
-use Rattle.std.proofs.Common.{◌≡◌, ℕ, Bool, true, false, cond, ◌⊎◌, inl, inr, List, [], ◌∷◌, ◌++◌, length, map, flat_map, refl, sym, ap, ap₂, ◌∙◌, subst, Option, Some, None}
+use Rattle.std.proofs.Common.{◌≡◌, ℕ, Bool, true, false, cond, ◌⊎◌, inl, inr, ◌||◌, nat_eq, codes, List, [], ◌∷◌, ◌++◌, length, map, flat_map, refl, sym, ap, ap₂, ◌∙◌, subst, Option, Some, None}
 use Rattle.std.specs.List.{AllByRecursion}
-use Rattle.pg_wire.specs.Frame.{Frame}
+use Rattle.pg_wire.specs.Frame.{Frame, is_known}
 use Rattle.pg_wire.specs.Frontend.{FrontendMessage, frontend_frame, HasFrontendFrame, Query, Parse, DescribeStatement, DescribePortal, Bind, Execute, CloseStatement, ClosePortal, Sync, Terminate, CopyData, CopyDone, CopyFail}
 use Rattle.pg_wire.specs.Backend.{FieldDescription, Values, BackendMessage, backend_frame, HasBackendFrame, DataRow}
 use Rattle.pg_wire.specs.Server.{Server, Statement, ServerStep, Steps, Skips, ServerRun, AreReplies, MayHear, IsPrefixOf, fresh_server, IsSegment, EndsInError, IsQueryResponse, IsPortalResult, DescribesFields, Fails, StepsParse, StepsDescribe, StepsDescribePortal, StepsBind, StepsExecute, StepsClose, StepsSync, statement_at, portal_at}
@@ -10,11 +10,18 @@ use Rattle.pg_wire.proofs.RunLaws.{prefix_trans}
 use Rattle.pg_wire.proofs.Unique.{frontend_frame_unique}
 use Rattle.std.proofs.lemmas.List.{map-append}
 use Rattle.std.proofs.lemmas.List.Concat.{flat_map-append}
-use Rattle.pg_call.specs.Drains.{is_copy_in}
+use Rattle.pg_stream.specs.Asynchronous.{IsSaid}
 use Rattle.pg_play.specs.Plays.{AsksForNoCopy}
 
+-- a copy begins, from the client or to it
+abbrev pub starts_copy : Frame → Bool
+starts_copy frame = is_known (codes "GH") frame.tag
+
+abbrev pub StartsNoCopy : Frame → Type 0
+StartsNoCopy frame = starts_copy frame ≡ false
+
 abbrev NoCopy : BackendMessage → Type 0
-NoCopy m = is_copy_in (backend_frame m) ≡ false
+NoCopy m = StartsNoCopy (backend_frame m)
 
 abbrev NoCopies : List BackendMessage → Type 0
 NoCopies rs = AllByRecursion NoCopy rs
@@ -23,9 +30,13 @@ both : (xs ys : List BackendMessage) → NoCopies xs → NoCopies ys → NoCopie
 both [] ys h k = k
 both (x ∷ xs) ys h k = (h.0, both xs ys h.1 k)
 
-front_of : (xs ys : List BackendMessage) → NoCopies (xs ++ ys) → NoCopies xs
-front_of [] ys h = tt
-front_of (x ∷ xs) ys h = (h.0, front_of xs ys h.1)
+all_first : {A : Type 0} (P : A → Type 0) (xs ys : List A) → AllByRecursion P (xs ++ ys) → AllByRecursion P xs
+all_first P [] ys h = tt
+all_first P (x ∷ xs) ys h = (h.0, all_first P xs ys h.1)
+
+-- what is known of all of a list is known of its first ones
+pub all_prefix : {A : Type 0} (P : A → Type 0) (xs ys : List A) → IsPrefixOf xs ys → AllByRecursion P ys → AllByRecursion P xs
+all_prefix P xs ys p h = all_first P xs p.0 (subst (AllByRecursion P) (sym p.1) h)
 
 rows_none : (rows : List Values) → NoCopies (map DataRow rows)
 rows_none [] = tt
@@ -37,7 +48,7 @@ segment_none rs (inr (inl t)) = subst NoCopies (sym t.4) (refl, both (map DataRo
 segment_none rs (inr (inr e)) = subst NoCopies (sym e) (refl, tt)
 
 error_none : (P : List BackendMessage → Type 0) → ((rs : List BackendMessage) → P rs → NoCopies rs) → (rs : List BackendMessage) → EndsInError P rs → NoCopies rs
-error_none P f rs e = subst NoCopies (sym e.5) (both e.0 _ (front_of e.0 e.1 (f (e.0 ++ e.1) e.3)) (refl, tt))
+error_none P f rs e = subst NoCopies (sym e.5) (both e.0 _ (all_first NoCopy e.0 e.1 (f (e.0 ++ e.1) e.3)) (refl, tt))
 
 segments_none : (rss : List (List BackendMessage)) → AllByRecursion IsSegment rss → NoCopies (flat_map (λ rs. rs) rss)
 segments_none [] h = tt
@@ -58,8 +69,8 @@ fails_none : (old new : Server) (rs : List BackendMessage) → Fails old rs new 
 fails_none old new rs f = subst NoCopies (sym f.1) (refl, tt)
 
 describes_none : (fields : List FieldDescription) (a : BackendMessage) → DescribesFields fields a → NoCopy a
-describes_none fields a (inl e) = ap (λ (m : BackendMessage). is_copy_in (backend_frame m)) e
-describes_none fields a (inr e) = ap (λ (m : BackendMessage). is_copy_in (backend_frame m)) e.1
+describes_none fields a (inl e) = ap (λ (m : BackendMessage). starts_copy (backend_frame m)) e
+describes_none fields a (inr e) = ap (λ (m : BackendMessage). starts_copy (backend_frame m)) e.1
 
 parse_none : (old new : Server) (name sql : List ℕ) (rs : List BackendMessage) → StepsParse old name sql rs new → NoCopies rs
 parse_none old new name sql rs (inl h) = subst NoCopies (sym h.2) (refl, tt)
@@ -131,17 +142,31 @@ run_none old new [] (rs ∷ rss) h = absurd h
 run_none old new (m ∷ ms) [] h = absurd h
 run_none old new (m ∷ ms) (rs ∷ rss) h = both rs (flat_map (λ rs. rs) rss) (step_none old h.0 m rs h.1) (run_none h.0 new ms rss h.2)
 
-heard_none : (heard : List Frame) (rest : List Frame) (rs : List BackendMessage) → heard ++ rest ≡ map backend_frame rs → NoCopies rs → AsksForNoCopy heard
-heard_none [] rest rs e h = tt
-heard_none (f ∷ fs) rest [] e h = absurd cc
-heard_none (f ∷ fs) rest (r ∷ rs) e h =
-    let head : f ≡ backend_frame r = cc in
-    let tails : fs ++ rest ≡ map backend_frame rs = cc in
-    (ap is_copy_in head ∙ h.0, heard_none fs rest rs tails h.1)
+-- what is known of each message of the replies is known of each frame heard of them
+heard_of : (P : BackendMessage → Type 0) (Q : Frame → Type 0) → ((m : BackendMessage) → P m → Q (backend_frame m)) → (heard : List Frame) (rest : List Frame) (rs : List BackendMessage) → heard ++ rest ≡ map backend_frame rs → AllByRecursion P rs → AllByRecursion Q heard
+heard_of P Q f [] rest rs e h = tt
+heard_of P Q f (x ∷ xs) rest [] e h = absurd cc
+heard_of P Q f (x ∷ xs) rest (r ∷ rs) e h =
+    let head : x ≡ backend_frame r = cc in
+    let tails : xs ++ rest ≡ map backend_frame rs = cc in
+    (subst Q (sym head) (f r h.0), heard_of P Q f xs rest rs tails h.1)
 
 -- no reply of a server that never copies begins a copy
-pub replies_begin_no_copy : (ms : List FrontendMessage) (heard : List Frame) → MayHear ms heard → AsksForNoCopy heard
-replies_begin_no_copy ms heard l = heard_none heard l.heard_is.0 (flat_map (λ rs. rs) l.replies) l.heard_is.1 (run_none fresh_server l.after (ms ++ l.more) l.replies l.run)
+pub replies_start_no_copy : (ms : List FrontendMessage) (heard : List Frame) → MayHear ms heard → AllByRecursion StartsNoCopy heard
+replies_start_no_copy ms heard l = heard_of NoCopy StartsNoCopy (λ m h. h) heard l.heard_is.0 (flat_map (λ rs. rs) l.replies) l.heard_is.1 (run_none fresh_server l.after (ms ++ l.more) l.replies l.run)
+
+-- nor does it ask for one
+pub asks_for_none : (frames : List Frame) → AllByRecursion StartsNoCopy frames → AsksForNoCopy frames
+asks_for_none [] h = tt
+asks_for_none (f ∷ fs) h = (first_false (nat_eq f.tag 71) (nat_eq f.tag 72) h.0, asks_for_none fs h.1)
+  where
+    first_false : (a b : Bool) → (a || (b || false)) ≡ false → (a || false) ≡ false
+    first_false false b e = refl
+    first_false true b e = absurd cc
+
+-- each frame heard is a message in its format
+pub replies_are_said : (ms : List FrontendMessage) (heard : List Frame) → MayHear ms heard → AllByRecursion IsSaid heard
+replies_are_said ms heard l = heard_of HasBackendFrame IsSaid (λ m h. (m, (h, refl))) heard l.heard_is.0 (flat_map (λ rs. rs) l.replies) l.heard_is.1 l.replies_have_frames
 
 said_first : (xs ys : List FrontendMessage) → AllByRecursion HasFrontendFrame xs → AllByRecursion HasFrontendFrame ys → IsPrefixOf (map frontend_frame xs) (map frontend_frame ys) → IsPrefixOf xs ys
 said_first [] ys h k p = (ys, refl)

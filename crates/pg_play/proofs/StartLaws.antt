@@ -48,10 +48,10 @@ of_same : (opening : Opening) (a b : EstablishSeen) → IsOf opening a → b.cli
 of_same opening a b of client plan message = record { none = of.none; planned = of.planned ∙ ap Ok (sym plan); client = client ∙ of.client; message = message ∙ of.message }
 
 fails_first : (first a : LinkSeen) (e : EstablishSeen) (phase : Phase LinkSeen) (error : Error) → NoneFalls first a → StartFails first a e phase error → StartFails first first e phase error
-fails_first first a e (phases.Asking asking) error m h = fails_from asking.is_required first first a asking.link error m h
+fails_first first a e (phases.Asking asking) error m h = (h.0, fails_from asking.is_required first first a asking.link error m h.1)
 fails_first first a e (phases.Greeting greeting) error m (inl h) = inl h
-fails_first first a e (phases.Greeting greeting) error m (inr (is, inl h)) = inr (is, inl (heard_cause_after (fresh_stream first) (fresh_stream a) greeting.stream error m h))
-fails_first first a e (phases.Greeting greeting) error m (inr (is, inr h)) = inr (is, inr h)
+fails_first first a e (phases.Greeting greeting) error m (inr (is, none, inl h)) = inr (is, none, inl (heard_cause_after (fresh_stream first) (fresh_stream a) greeting.stream error m h))
+fails_first first a e (phases.Greeting greeting) error m (inr (is, none, inr h)) = inr (is, none, inr h)
 fails_first first a e phases.Gone error m h = absurd h
 
 starts_by : {A : Type 0} (seen : A → LinkSeen) (opening : Opening) (first last : LinkSeen) (n now : ℕ) (a b : EstablishOf A) (ready : Poll (Result (ReadyOf A) Error)) → IsPending opening first last n (establish_by seen a) → PollsStart 256 now (establish_by seen a) (establish_by seen b) (ready_seen seen ready) → StartsOn seen opening first n b (connected ready)

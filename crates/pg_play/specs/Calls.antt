@@ -71,6 +71,7 @@ pub record InPlay (a b : ConnSeen) (r : Request) (waits : ℕ) (items : List Cal
   pub broken : b.broken ≡ None
   pub call : CallIs a.ledger r said (heard fs) items b.ledger b.call
   pub waited : Waited waits a.stream b.stream
+  pub few : b.stream.waits ≤ a.stream.waits + waits
 
 -- on a connection that is whole, or is broken, with fewer items than it may show
 abbrev pub IsPlayingOn : Option ServerFault → ℕ → ConnSeen → ConnSeen → Request → ℕ → List Item → Type 0
@@ -112,11 +113,20 @@ EndsOn None limits a b r said hs shown ends.Dropped =
 EndsOn (Some fault) limits a b r said hs shown end =
     (end ≡ ends.Err (errors.Protocol (protocol.Server fault))) × (said ≡ []) × (hs ≡ []) × (shown ≡ []) × (idle b ≡ idle a)
 
+-- a call waits in fewer polls than it may have, or is dropped
+abbrev pub WaitsFew : ℕ → ℕ → End → Type 0
+WaitsFew polls waits end = (end ≢ ends.Dropped → waits < polls) × (waits ≤ polls)
+
+-- the link waited no more often than the call did, which is few
+abbrev pub HasWaitedFew : ℕ → StreamSeen → StreamSeen → End → Type 0
+HasWaitedFew polls a b end = (waits : ℕ) × (b.waits ≤ a.waits + waits) × WaitsFew polls waits end
+
 -- it was played to this end
 pub record Ended (limits : Limits) (a b : ConnSeen) (r : Request) (shown : List Item) (end : End) (said : List FrontendMessage) (fs : List Frame) : Type 0 where
   pub went : Went a b said fs
   pub broken : b.broken ≡ broken_after a.broken end
   pub kept : (fault : ServerFault) → a.broken ≡ Some fault → fs ≡ []
+  pub few : HasWaitedFew limits.polls a.stream b.stream end
   pub ends : EndsOn a.broken limits a b r said (heard fs) shown end
 
 abbrev pub HasEnded : Limits → ConnSeen → ConnSeen → Request → List Item → End → Type 0

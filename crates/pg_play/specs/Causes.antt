@@ -21,7 +21,7 @@ use Rattle.pg_report.specs.declared.outcome.End.TheVariants as ends
 use Rattle.pg_report.specs.declared.outcome.Outcome.{Outcome}
 use Rattle.pg_script.specs.declared.step.Step.{Step}
 use Rattle.pg_play.specs.Shown.{request_of, items_in, is_row, wants_row, waits_to_show}
-use Rattle.pg_play.specs.Calls.{IsUnpolled, untouched}
+use Rattle.pg_play.specs.Calls.{IsUnpolled, WaitsFew, untouched}
 use Rattle.pg_play.specs.Places.{Place, ended, main_frames}
 use Rattle.pg_play.specs.Told.{HasNoError, Carry}
 
@@ -121,5 +121,7 @@ pub record EndsDuly (at : Place) (step : Step) (out : Outcome) (next : Place) : 
   -- a broken connection answers its fault, and does nothing else
   pub kept : (fault : ServerFault) → at.broken ≡ Some fault → (IsUnpolled step → ⊥)
       → ((out.end ≡ ends.Err (errors.Protocol (protocol.Server fault))) ⊎ (out.end ≡ ends.Err errors.OutOfMemory)) × (out.items ≡ []) × (next ≡ record at { seen = record at.seen { waits = next.seen.waits; moves = next.seen.moves } })
+  -- a call waits fewer times than it has polls, or is dropped
+  pub few : WaitsFew step.polls out.waits out.end
   -- a call that shows items as they come shows fewer than it may, or is dropped
   pub most : waits_to_show step.call ≡ false → (out.end ≢ ends.Dropped → length out.items < step.most) × (length out.items ≤ step.most)

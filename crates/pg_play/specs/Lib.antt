@@ -3,9 +3,11 @@ pub mod Calls
 pub mod Places
 pub mod Told
 pub mod Causes
+pub mod Complete
 pub mod Plays
 pub mod Starts
 pub mod Top
 pub mod Refuted
+pub mod Noticed
 pub mod Commands
 pub mod Connecting

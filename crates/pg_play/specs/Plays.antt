@@ -33,6 +33,7 @@ use Rattle.pg_play.specs.Starts.{Opening}
 use Rattle.pg_play.specs.Places.{Place, Queued, ended, first_place}
 use Rattle.pg_play.specs.Told.{Told, Numbers, CountsTo}
 use Rattle.pg_play.specs.Causes.{HasCause, EndsDuly, IsFront}
+use Rattle.pg_play.specs.Complete.{WhereFaultless}
 
 -- where all that was heard, the frame in front too, are replies of a server to the groups, no step is told that they are unlawful
 abbrev pub IsNeverUnlawful : Place → Outcome → Place → Type 0
@@ -46,6 +47,7 @@ pub record Plays_step (at : Place) (step : Step) (out : Outcome) (next : Place) 
   pub queued : Queued at step out own slice next
   pub told : Told at step out own slice next
   pub numbers : Numbers at out own slice next
+  pub counts : NoneFalls at.seen.link next.seen.link
   pub cause : HasCause at step out own slice next out.end
   pub duly : EndsDuly at step out next
   pub lawful : IsNeverUnlawful at out next
@@ -150,5 +152,7 @@ pub record Plays (opening : Opening) (first last : LinkSeen) (started : Started)
   pub at_link : place.seen.link ≡ last
   pub totals : Totals first last outs
   pub lawful : WhereLawful place outs
+  -- where neither the link nor the server failed, no step ends by a fault of theirs
+  pub complete : WhereFaultless first place steps outs
   -- the groups alone are said, where no server asks for a copy
   pub plain : AsksForNoCopy (heard place.frames) → place.said ≡ said_in place.groups

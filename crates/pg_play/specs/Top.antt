@@ -21,6 +21,7 @@ use Rattle.pg_report.specs.Errors.{error_text}
 use Rattle.pg_options.specs.Options.{ConnectOptions, no_settings}
 use Rattle.pg_options.specs.FromUrl.{options_of_text}
 use Rattle.pg_auth.specs.Nonce.{nonce_of}
+use Rattle.pg_conn.specs.Dials.{DialSeen, IsUncalled, failed_by, one_more}
 use Rattle.pg_conn.specs.declared.dial.DialFailed.{DialFailed}
 use Rattle.pg_conn.specs.declared.dial.DialFailed.TheVariants as failed
 use Rattle.pg_play.specs.Commands.{plain_command, argued_command, lines_of_url}
@@ -120,6 +121,7 @@ OptionsIs url _ = ⊥
 pub record IsLivePlay {A : Type 0} (seen : A → LinkSeen) (o : ConnectOptions) (script : LiveScript) (p : Played A) : Type 0 where
   -- the link as it was dialled
   pub link : LinkSeen
+  pub uncalled : IsUncalled link
   pub words : List ℕ
   pub drawn : length words ≡ 128
   pub outcomes : HasOutcomes (length script.steps) p.start (length p.outcomes)
@@ -129,10 +131,24 @@ abbrev pub IsUndialed : {A : Type 0} → DialFailed → Ending A → Type 0
 IsUndialed failed.Fault e = e ≡ endings.DialFailed
 IsUndialed failed.OutOfMemory e = e ≡ endings.NoMemory
 
+-- one link was handed out, and no call failed
+abbrev pub DialedOnce : DialSeen → DialSeen → Type 0
+DialedOnce f g = (g.links ≡ one_more f.links) × (g.faults ≡ f.faults)
+
+-- no link was handed out and no word drawn, or a word failed behind one link
+abbrev pub FailedToDial : DialSeen → DialSeen → Type 0
+FailedToDial f g = (g ≡ failed_by f failed.Fault) ⊎ ((g.links ≡ one_more f.links) × (g.faults ≡ one_more f.faults))
+
+-- words were drawn, and nothing else was asked of the dial
+abbrev pub DrawsWords : {A : Type 0} → DialSeen → DialSeen → Result A DialFailed → Type 0
+DrawsWords f g (Ok _) = (g.links ≡ f.links) × (g.faults ≡ f.faults)
+DrawsWords f g (Err failed.Fault) = (g.links ≡ f.links) × (g.faults ≡ one_more f.faults)
+DrawsWords f g (Err failed.OutOfMemory) = Unit {0}
+
 -- the dial gave a link and words, or failed
-abbrev pub DialedIs : {A : Type 0} → (A → LinkSeen) → ConnectOptions → LiveScript → ℕ → ℕ → Ending A → Type 0
-DialedIs seen o script f g (endings.Live p) = IsLivePlay seen o script p × (start_status p.start ≤ 1)
-DialedIs seen o script f g endings.DialFailed = Rose f g
+abbrev pub DialedIs : {A : Type 0} → (A → LinkSeen) → ConnectOptions → LiveScript → DialSeen → DialSeen → Ending A → Type 0
+DialedIs seen o script f g (endings.Live p) = IsLivePlay seen o script p × (start_status p.start ≤ 1) × DialedOnce f g
+DialedIs seen o script f g endings.DialFailed = FailedToDial f g
 DialedIs seen o script f g endings.NoMemory = Unit {0}
 DialedIs seen o script f g _ = ⊥
 
@@ -143,27 +159,27 @@ abbrev pub BadLiveText : SourceSeen → SourceSeen → ℕ → Type 0
 BadLiveText a b n = (text : List ℕ) × Consumes a.left b.left text × SaysLive (Err (reads.BadLine n)) text × (n ≢ 0 → IsAtEnd b.left)
 
 -- what the source and the dial made of options
-abbrev pub LiveIs : {A : Type 0} → (A → LinkSeen) → ConnectOptions → SourceSeen → SourceSeen → ℕ → ℕ → Ending A → Type 0
-LiveIs seen o a b f g (endings.Live p) = LivePlaysText seen o a b p × (start_status p.start ≤ 1)
-LiveIs seen o a b f g (endings.BadScript n) = BadLiveText a b n
-LiveIs seen o a b f g endings.ReadFailed = Rose a.faults b.faults
-LiveIs seen o a b f g endings.DialFailed = Rose f g
+abbrev pub LiveIs : {A : Type 0} → (A → LinkSeen) → ConnectOptions → SourceSeen → SourceSeen → DialSeen → DialSeen → Ending A → Type 0
+LiveIs seen o a b f g (endings.Live p) = LivePlaysText seen o a b p × (start_status p.start ≤ 1) × DialedOnce f g
+LiveIs seen o a b f g (endings.BadScript n) = BadLiveText a b n × (g ≡ f)
+LiveIs seen o a b f g endings.ReadFailed = Rose a.faults b.faults × (g ≡ f)
+LiveIs seen o a b f g endings.DialFailed = FailedToDial f g
 LiveIs seen o a b f g endings.NoMemory = Unit {0}
 LiveIs seen o a b f g _ = ⊥
 
 -- the options that a URL alone says, or why it says none
-abbrev pub LiveUrlIs : {A : Type 0} → (A → LinkSeen) → Result ConnectOptions Error → SourceSeen → SourceSeen → ℕ → ℕ → Ending A → Type 0
+abbrev pub LiveUrlIs : {A : Type 0} → (A → LinkSeen) → Result ConnectOptions Error → SourceSeen → SourceSeen → DialSeen → DialSeen → Ending A → Type 0
 LiveUrlIs seen (Ok o) a b f g e = LiveIs seen o a b f g e ⊎ (e ≡ endings.NoMemory)
-LiveUrlIs seen (Err error) a b f g e = (e ≡ endings.Refused error) ⊎ (e ≡ endings.NoMemory)
+LiveUrlIs seen (Err error) a b f g e = ((e ≡ endings.Refused error) ⊎ (e ≡ endings.NoMemory)) × (b ≡ a) × (g ≡ f)
 
 -- what a word and its argument made of it
-abbrev pub ArgumentIs : {A : Type 0} → (A → LinkSeen) → Argued → List ℕ → SourceSeen → SourceSeen → ℕ → ℕ → Ending A → Type 0
+abbrev pub ArgumentIs : {A : Type 0} → (A → LinkSeen) → Argued → List ℕ → SourceSeen → SourceSeen → DialSeen → DialSeen → Ending A → Type 0
 ArgumentIs seen argued.Options argument a b f g e = OptionsIs argument e × (b ≡ a) × (g ≡ f)
 ArgumentIs seen argued.Live argument a b f g e = LiveUrlIs seen (options_of_text no_settings argument) a b f g e
 ArgumentIs seen argued.Unknown argument a b f g e = (e ≡ endings.BadWords) × (b ≡ a) × (g ≡ f)
 
 -- what the words, the source and the dial made of it
-abbrev pub RunIs : {A : Type 0} → (A → LinkSeen) → List (String Global) → SourceSeen → SourceSeen → ℕ → ℕ → Ending A → Type 0
+abbrev pub RunIs : {A : Type 0} → (A → LinkSeen) → List (String Global) → SourceSeen → SourceSeen → DialSeen → DialSeen → Ending A → Type 0
 RunIs seen (word ∷ []) a b f g e = WordIs (plain_command (string_bytes word)) a b e × (g ≡ f)
 RunIs seen (word ∷ argument ∷ []) a b f g e = ArgumentIs seen (argued_command (string_bytes word)) (string_bytes argument) a b f g e
 RunIs seen _ a b f g e = (e ≡ endings.BadWords) × (b ≡ a) × (g ≡ f)
@@ -234,7 +250,7 @@ WritesEnding e x y status =
     Writes 5 (codes "out of memory\n") x y status
 
 -- what the words asked was run on what was read, and is told
-pub record TopIs {A : Type 0} (seen : A → LinkSeen) (words : List (String Global)) (a b : SourceSeen) (x y : SinkSeen) (f g : ℕ) (status : ℕ) (played : Option (Played MemoryLink)) (live : Option (Played A)) : Type 0 where
+pub record TopIs {A : Type 0} (seen : A → LinkSeen) (words : List (String Global)) (a b : SourceSeen) (x y : SinkSeen) (f g : DialSeen) (status : ℕ) (played : Option (Played MemoryLink)) (live : Option (Played A)) : Type 0 where
   pub ending : Ending A
   pub runs : RunIs seen words a b f g ending
   pub shown : played ≡ played_of ending

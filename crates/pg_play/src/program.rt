@@ -109,7 +109,7 @@ fn run_with_argument<S: Source, D: Dial>(
 ) -> Ending<D::L>
 where
     D::L: Drop,
-    ensures { ArgumentIs D.L.seen (argued_command word.now) argument.now (S.seen source.old) (S.seen source.new) (D.faults dial.old) (D.faults dial.new) result }
+    ensures { ArgumentIs D.L.seen (argued_command word.now) argument.now (S.seen source.old) (S.seen source.new) (D.seen dial.old) (D.seen dial.new) result }
 {
     match Argued::of(word) {
         Argued::Options => show_options(alloc, argument),
@@ -127,7 +127,7 @@ fn run<S: Source, D: Dial>(
 ) -> Ending<D::L>
 where
     D::L: Drop,
-    ensures { RunIs D.L.seen words.now (S.seen source.old) (S.seen source.new) (D.faults dial.old) (D.faults dial.new) result }
+    ensures { RunIs D.L.seen words.now (S.seen source.old) (S.seen source.new) (D.seen dial.old) (D.seen dial.new) result }
 {
     match words {
         [word] => run_word(alloc, word.as_str(), source),
@@ -171,7 +171,7 @@ pub fn top<S: Source, K: Sink, D: Dial>(
 ) -> Ran<D::L>
 where
     D::L: Drop,
-    ensures { TopIs D.L.seen words.now (S.seen source.old) (S.seen source.new) (K.seen sink.old) (K.seen sink.new) (D.faults dial.old) (D.faults dial.new) result.status result.played result.live }
+    ensures { TopIs D.L.seen words.now (S.seen source.old) (S.seen source.new) (K.seen sink.old) (K.seen sink.new) (D.seen dial.old) (D.seen dial.new) result.status result.played result.live }
 {
     let ending = run(alloc, words, source, dial);
     match ending.text(alloc) {

@@ -26,6 +26,3 @@ pub use errors::put_error;
 pub use lines::{live_report, report};
 pub use options::option_lines;
 pub use outcome::{Answer, End, Item, Outcome, Started};
-
-#[cfg(test)]
-mod tests;

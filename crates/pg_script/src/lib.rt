@@ -50,6 +50,3 @@ pub use nonce::Nonce;
 pub use reader::{read_live, read_script};
 pub use script::Script;
 pub use step::{Call, Step};
-
-#[cfg(test)]
-mod tests;

@@ -31,7 +31,7 @@ use Rattle.pg_startup.specs.Exchange.{ClientSeen, Proof, proofs_text, Leads}
 use Rattle.pg_startup.specs.Asking.{AskingOf, AskingSeen, asking_by, Agrees, AskingWaits, AllCallsMoved, AllCallsMade, PollsAsking}
 use Rattle.pg_startup.specs.Flows.{Flows}
 use Rattle.pg_startup.specs.Handshake.{ReadyOf, ready_by, IsQuestion, HasBegun}
-use Rattle.pg_startup.specs.Greeting.{GreetingSeen, GreetingOf, greeting_by, fresh_greeting, SaysMore, Greets, GreetCause, IsFrontRefused, PollsGreeting, with_left}
+use Rattle.pg_startup.specs.Greeting.{GreetingSeen, GreetingOf, greeting_by, fresh_greeting, SaysMore, Greets, IsFrontRefused, PollsGreeting, with_left}
 use Rattle.pg_startup.specs.Establishing.{EstablishOf, EstablishSeen, establish_by, phase_by, HasLink, IsStarting, IsUnderWay, IsGreeting, IsOpen, IsBegun, WaitsOn, FailsOn, StartWaits, StartFails, SettledAs, SettlesOn, GreetsIn, GoneAs, GoesOn, Opens, Settles, FirstPhase, IsBeginning, Begins, IsPrepared, PreparedSeen, PollsStart, IsReady, Hands, IsGreetingPhase, saturated, asked_in, answered_in}
 use Rattle.pg_startup.proofs.FlowLaws.{Flows-then, flows_begun, flows_queued, GrewBy-then}
 use Rattle.pg_startup.proofs.GreetLaws.{leads_then, proofs_text-append, heard_cause_after}
@@ -70,7 +70,8 @@ greeted first left mid now a e phase g h Pending is i m moved ((on, cause), k) =
     let on' = on in
     rw (is, k) (
       greeting_on e.client e.plan e.message first mid g h on'.0 on'.1 i on'.2,
-      (h.stream.link, refl, NoneFalls-then a g.stream.link h.stream.link m on'.2.moves.counts, waits_by left mid a g h m moved on'.2.moves.counts on'.2.moves.left cause),
+      (h.stream.link, refl, NoneFalls-then a g.stream.link h.stream.link m on'.2.moves.counts, waits_by left mid a g h m moved on'.2.moves.counts on'.2.moves.left cause.1),
+      cause.0,
     )
 greeted first left mid now a e phase g h (Ready (Ok session)) is i m moved ((on, cause), k) =
     (h, is, greeting_on e.client e.plan e.message first mid g h on.0 on.1 i on.2, NoneFalls-then a g.stream.link h.stream.link m on.2.moves.counts, cause.1)
@@ -78,10 +79,10 @@ greeted first left mid now a e phase g h (Ready (Err error)) is i m moved ((on, 
   h.stream.link,
   refl,
   NoneFalls-then a g.stream.link h.stream.link m on.2.moves.counts,
-  inr (greeting_on e.client e.plan e.message first mid g h on.0 on.1 i on.2, by cause),
+  inr (greeting_on e.client e.plan e.message first mid g h on.0 on.1 i on.2, cause.0, by cause.1),
 )
   where
-    by : GreetCause e.client (with_left mid g) h (Ready (Err error)) → HeardCause (fresh_stream a) h.stream error ⊎ IsFrontRefused e.client h error
+    by : HeardCause (with_left mid g).stream h.stream error ⊎ IsFrontRefused e.client h error → HeardCause (fresh_stream a) h.stream error ⊎ IsFrontRefused e.client h error
     by (inl p) = inl (heard_cause_after (fresh_stream a) (with_left mid g).stream h.stream error m p)
     by (inr p) = inr p
 
@@ -126,6 +127,7 @@ asking_waits left now e q r is (fewer, same, (waits, on)) = (
       let at : link ≡ q.link = subst (λ (x : Phase LinkSeen). HasLink x link) is kept in (
         (under'.0 ∙ sym (ap (λ (x : Bool). Ask x q.wish) same.1) ∙ sym (ap (λ (x : TlsWish). Ask r.is_required x) same.2), on first under'.1),
         (r.link, refl, rw at same.0, rw at (asked_waits left now q.link r.link r refl waits)),
+        tt,
       ),
 )
 
@@ -135,7 +137,8 @@ asking_fails left now e q r error is (fewer, same, fails) = (
   λ first link under kept.
       let under' : IsUnderWay e.client e.plan e.message first (phases.Asking q) = subst (λ (x : Phase LinkSeen). IsUnderWay e.client e.plan e.message first x) is under in
       let at : link ≡ q.link = subst (λ (x : Phase LinkSeen). HasLink x link) is kept in
-      (r.link, refl, rw at same.0, rw (at, same.1) (fails first under'.1)),
+      let plan : e.plan ≡ Ask r.is_required r.wish = under'.0 ∙ sym (ap (λ (x : Bool). Ask x q.wish) same.1) ∙ sym (ap (λ (x : TlsWish). Ask r.is_required x) same.2) in
+      (r.link, refl, rw at same.0, (plan, rw (at, same.1) (fails first under'.1))),
 )
 
 -- a question that is answered, and a session that begins
@@ -243,7 +246,7 @@ pub record Questioned (plan : TlsPlan) (first settled : LinkSeen) : Type 0 where
   pub asked_length : length asked ≡ asked_in plan
   pub answered_length : length answered ≡ answered_in plan
 
-questioned : (tls : TlsPlan) (first settled : LinkSeen) → Settles tls first settled → Questioned tls first settled
+pub questioned : (tls : TlsPlan) (first settled : LinkSeen) → Settles tls first settled → Questioned tls first settled
 questioned Plain first settled e = rw e (record { asked = []; answered = []; question = (refl, refl); took = Appends-refl first.taken; gave = Appends-refl first.given; asked_length = refl; answered_length = refl })
 questioned (Ask required wish) first settled (inl (before, asked, u)) = record {
   asked = ssl_request;

@@ -139,21 +139,26 @@ greets_one seen c a d b front p stage said answers =
       omega (arith, p.2.fuel, one.2),
     )
 
+-- no session has begun
+pub none_begun : (told begun : Option Session) → told ≡ begun → ((x : Session) → told ≡ Some x → ⊥) → begun ≡ None
+none_begun told None e n = refl
+none_begun told (Some x) e n = absurd (n x e)
+
 -- the message at the front is refused, and stays
-pub greets_refused : {A : Type 0} (seen : A → LinkSeen) (c : ClientSeen) (a b : GreetingOf A) (front : Front) (e : Error) → PollsAhead (stream_by seen a.stream) (stream_by seen b.stream) (Ready (Ok front)) → b.stage ≡ a.stage → b.said ≡ a.said → RefusesFront c front b e
+pub greets_refused : {A : Type 0} (seen : A → LinkSeen) (c : ClientSeen) (a b : GreetingOf A) (front : Front) (e : Error) → session_at a.stage ≡ None → PollsAhead (stream_by seen a.stream) (stream_by seen b.stream) (Ready (Ok front)) → b.stage ≡ a.stage → b.said ≡ a.said → RefusesFront c front b e
     → GreetsOnce c (greeting_by seen a) (greeting_by seen b) (Some (Ready (Err e)))
-greets_refused seen c a b front e p stage said (frame, rest, is, refused) = (
+greets_refused seen c a b front e none p stage said (frame, rest, is, refused) = (
   ([], p.0, greets_aside c (greeting_by seen a) (greeting_by seen b) p.0 p.1 p.2 stage said),
-  inr (frame, rest, is.whole, is_heard b.stream.held front frame rest p.5 is, is.parts, refused),
+  (ap session_at stage ∙ none, inr (frame, rest, is.whole, is_heard b.stream.held front frame rest p.5 is, is.parts, refused)),
 )
 
-pub greets_failed : {A : Type 0} (seen : A → LinkSeen) (c : ClientSeen) (a b : GreetingOf A) (e : Error) → PollsAhead (stream_by seen a.stream) (stream_by seen b.stream) (Ready (Err e)) → b.stage ≡ a.stage → b.said ≡ a.said
+pub greets_failed : {A : Type 0} (seen : A → LinkSeen) (c : ClientSeen) (a b : GreetingOf A) (e : Error) → session_at a.stage ≡ None → PollsAhead (stream_by seen a.stream) (stream_by seen b.stream) (Ready (Err e)) → b.stage ≡ a.stage → b.said ≡ a.said
     → GreetsOnce c (greeting_by seen a) (greeting_by seen b) (Some (Ready (Err e)))
-greets_failed seen c a b e p stage said = (([], p.0, greets_aside c (greeting_by seen a) (greeting_by seen b) p.0 p.1 p.2 stage said), inl p.3)
+greets_failed seen c a b e none p stage said = (([], p.0, greets_aside c (greeting_by seen a) (greeting_by seen b) p.0 p.1 p.2 stage said), (ap session_at stage ∙ none, inl p.3))
 
-pub greets_waits : {A : Type 0} (seen : A → LinkSeen) (c : ClientSeen) (a b : GreetingOf A) → PollsAhead (stream_by seen a.stream) (stream_by seen b.stream) Pending → b.stage ≡ a.stage → b.said ≡ a.said
+pub greets_waits : {A : Type 0} (seen : A → LinkSeen) (c : ClientSeen) (a b : GreetingOf A) → session_at a.stage ≡ None → PollsAhead (stream_by seen a.stream) (stream_by seen b.stream) Pending → b.stage ≡ a.stage → b.said ≡ a.said
     → GreetsOnce c (greeting_by seen a) (greeting_by seen b) (Some Pending)
-greets_waits seen c a b p stage said = (([], p.0, greets_aside c (greeting_by seen a) (greeting_by seen b) p.0 p.1 p.2 stage said), p.3)
+greets_waits seen c a b none p stage said = (([], p.0, greets_aside c (greeting_by seen a) (greeting_by seen b) p.0 p.1 p.2 stage said), (ap session_at stage ∙ none, p.3))
 
 -- ---- step after step
 
@@ -186,10 +191,10 @@ from_last c a b d answer i (on, cause) = (
 )
   where
     by : (r : Poll (Result Session Error)) → GreetCause c b d r → GreetCause c a d r
-    by Pending p = PendingCause-after a.stream b.stream d.stream i.on.2.moves.counts i.on.2.moves.tallies.waits.0 i.moved i.on.2.moves.left on.2.moves.left p
+    by Pending (none, p) = (none, PendingCause-after a.stream b.stream d.stream i.on.2.moves.counts i.moved i.on.2.moves.left on.2.moves.left p)
     by (Ready (Ok session)) p = (AllMoved-then a.stream b.stream d.stream i.moved i.on.2.moves.left p.0 on.2.moves.left, p.1)
-    by (Ready (Err e)) (inl p) = inl (heard_cause_after a.stream b.stream d.stream e i.on.2.moves.counts p)
-    by (Ready (Err e)) (inr p) = inr p
+    by (Ready (Err e)) (none, inl p) = (none, inl (heard_cause_after a.stream b.stream d.stream e i.on.2.moves.counts p))
+    by (Ready (Err e)) (none, inr p) = (none, inr p)
 
 -- the session had begun
 pub greets_over : (c : ClientSeen) (a : GreetingSeen) (session : Session) → Some session ≡ session_at a.stage → GreetsOnce c a a (Some (Ready (Ok session)))

@@ -4,3 +4,9 @@ pub mod FlowLaws
 pub mod AskingLaws
 pub mod GreetLaws
 pub mod EstablishLaws
+pub mod FramingLaws
+pub mod ExchangeLaws
+pub mod SignatureLaws
+pub mod RefusedLaws
+pub mod LawfulLaws
+pub mod WitnessLaws

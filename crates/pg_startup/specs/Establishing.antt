@@ -24,7 +24,7 @@ use Rattle.pg_startup.specs.Exchange.{ClientSeen, Proof, client_of, proofs_text,
 use Rattle.pg_startup.specs.Handshake.{ReadyOf, ready_by, HasBegun}
 use Rattle.pg_startup.specs.Asking.{AskingOf, AskingSeen, asking_by, HasAsked, Agrees, AskingFails, AllCallsMade, AllCallsMoved}
 use Rattle.pg_startup.specs.Flows.{Flows}
-use Rattle.pg_startup.specs.Greeting.{GreetingOf, GreetingSeen, greeting_by, fresh_greeting, SaysMore, IsFrontRefused, PollsGreeting}
+use Rattle.pg_startup.specs.Greeting.{GreetingOf, GreetingSeen, greeting_by, fresh_greeting, session_at, SaysMore, IsFrontRefused, PollsGreeting}
 
 -- A start-up over a link, or over what is seen of one.
 pub record EstablishOf (A : Type 0) : Type 0 where
@@ -115,11 +115,12 @@ IsServersTurn phases.Gone = ⊥
 abbrev pub StartWaits : ℕ → ℕ → LinkSeen → LinkSeen → Phase LinkSeen → Type 0
 StartWaits left now a b phase = Rose a.write_waits b.write_waits ⊎ (Rose a.read_waits b.read_waits × IsServersTurn phase) ⊎ AllCallsMade left now a b
 
--- why it fails: the question for TLS does, or the stream, or the message at the front is refused; want of memory is free
+-- why it fails: the question for TLS does; or, before the session has begun, the stream does, or the message at the front is refused; want of
+-- memory is free
 abbrev pub StartFails : LinkSeen → LinkSeen → EstablishSeen → Phase LinkSeen → Error → Type 0
-StartFails first a e (phases.Asking asking) error = AskingFails asking.is_required first a asking.link error
+StartFails first a e (phases.Asking asking) error = (e.plan ≡ Ask asking.is_required asking.wish) × AskingFails asking.is_required first a asking.link error
 StartFails first a e (phases.Greeting greeting) error = (error ≡ errors.OutOfMemory)
-    ⊎ (IsGreeting e.client e.plan e.message first greeting × (HeardCause (fresh_stream a) greeting.stream error ⊎ IsFrontRefused e.client greeting error))
+    ⊎ (IsGreeting e.client e.plan e.message first greeting × (session_at greeting.stage ≡ None) × (HeardCause (fresh_stream a) greeting.stream error ⊎ IsFrontRefused e.client greeting error))
 StartFails first a e phases.Gone error = ⊥
 
 -- the bytes of the question for TLS and of its answer
@@ -134,13 +135,19 @@ answered_in (Ask required wish) = 1
 abbrev pub saturated : ℕ → ℕ
 saturated n = min n (2 ^ 64 - 1)
 
+-- the session has not begun
+abbrev pub IsUnbegun : Phase LinkSeen → Type 0
+IsUnbegun (phases.Asking asking) = Unit {0}
+IsUnbegun (phases.Greeting greeting) = session_at greeting.stage ≡ None
+IsUnbegun phases.Gone = ⊥
+
 -- the exchange is over
 abbrev pub IsReady : LinkSeen → EstablishSeen → ReadyOf LinkSeen → Type 0
 IsReady first e ready = HasBegun e.client e.plan e.message first ready
 
--- it waits: what stands behind is under way
+-- it waits: what stands behind is under way, and the session has not begun
 abbrev pub WaitsOn : LinkSeen → ℕ → ℕ → LinkSeen → EstablishSeen → Phase LinkSeen → Type 0
-WaitsOn first left now a e phase = IsUnderWay e.client e.plan e.message first phase × ((b : LinkSeen) × HasLink phase b × NoneFalls a b × StartWaits left now a b phase)
+WaitsOn first left now a e phase = IsUnderWay e.client e.plan e.message first phase × ((b : LinkSeen) × HasLink phase b × NoneFalls a b × StartWaits left now a b phase) × IsUnbegun phase
 
 -- it fails, and keeps its link
 abbrev pub FailsOn : LinkSeen → LinkSeen → EstablishSeen → Phase LinkSeen → Error → Type 0

@@ -68,11 +68,11 @@ GreetsOn c a b = (said : List Proof) × (frames : List Frame) × Greets c a b sa
 abbrev pub IsFrontRefused : ClientSeen → GreetingSeen → Error → Type 0
 IsFrontRefused c b e = (front : Frame) × (rest : List ℕ) × IsWhole backend_tags front × (is_asynchronous front ≡ false) × (b.stream.held ≡ bytes_of front ++ rest) × RefusesMessage c b.stage front e
 
--- why a poll answers so
+-- why a poll answers so: once the session has begun, it is the answer
 abbrev pub GreetCause : ClientSeen → GreetingSeen → GreetingSeen → Poll (Result Session Error) → Type 0
-GreetCause c a b Pending = PendingCause a.stream b.stream
+GreetCause c a b Pending = (session_at b.stage ≡ None) × PendingCause a.stream b.stream
 GreetCause c a b (Ready (Ok session)) = AllMoved a.stream b.stream × (b.stage ≡ stages.Begun session)
-GreetCause c a b (Ready (Err e)) = HeardCause a.stream b.stream e ⊎ IsFrontRefused c b e
+GreetCause c a b (Ready (Err e)) = (session_at b.stage ≡ None) × (HeardCause a.stream b.stream e ⊎ IsFrontRefused c b e)
 
 -- one message taken, or the answer
 abbrev pub GreetsOnce : ClientSeen → GreetingSeen → GreetingSeen → Option (Poll (Result Session Error)) → Type 0

@@ -8,3 +8,4 @@ pub mod Flows
 pub mod Greeting
 pub mod Handshake
 pub mod Establishing
+pub mod Lawful

@@ -9,6 +9,7 @@ mod client;
 mod establishing;
 mod greeting;
 mod hearing;
+pub mod laws;
 mod nul;
 mod parameters;
 mod reply;

@@ -94,19 +94,27 @@ pub record Moves (a b : StreamSeen) (queued : List ℕ) (frames : List Frame) : 
   pub spare : a.spare ≤ b.spare + length queued
   pub parameters : SetsByAll frames a.parameters b.parameters
 
--- a write waited, a read waited, a call moved bytes: the link and the stream count it
+-- no link call waited
+abbrev pub NoneWaited : StreamSeen → StreamSeen → Type 0
+NoneWaited a b = b.waits ≡ a.waits
+
+-- one did
+abbrev pub OneWaited : StreamSeen → StreamSeen → Type 0
+OneWaited a b = GrewBy 1 a.waits b.waits
+
+-- one write waited and no other call, one read did, or a call moved bytes: the link and the stream count it
 abbrev pub WriteWaited : StreamSeen → StreamSeen → Type 0
-WriteWaited a b = Rose a.link.write_waits b.link.write_waits × Rose a.waits b.waits
+WriteWaited a b = Rose a.link.write_waits b.link.write_waits × OneWaited a b
 
 abbrev pub ReadWaited : StreamSeen → StreamSeen → Type 0
-ReadWaited a b = Rose a.link.read_waits b.link.read_waits × Rose a.waits b.waits
+ReadWaited a b = Rose a.link.read_waits b.link.read_waits × OneWaited a b
 
 abbrev pub OneMoved : StreamSeen → StreamSeen → Type 0
-OneMoved a b = Rose a.link.moved b.link.moved × Rose a.moves b.moves
+OneMoved a b = Rose a.link.moved b.link.moved × Rose a.moves b.moves × NoneWaited a b
 
 -- each link call moved bytes
 abbrev pub AllMoved : StreamSeen → StreamSeen → Type 0
-AllMoved a b = RoseBy (a.left - b.left) a.link.moved b.link.moved × RoseBy (a.left - b.left) a.moves b.moves
+AllMoved a b = RoseBy (a.left - b.left) a.link.moved b.link.moved × RoseBy (a.left - b.left) a.moves b.moves × NoneWaited a b
 
 -- the calls that were allowed are made, and each moved bytes
 abbrev pub IsSpent : StreamSeen → StreamSeen → Type 0
@@ -120,7 +128,7 @@ HasNone bytes = BeginsNoFrame backend_tags bytes
 abbrev pub WriteCause : StreamSeen → StreamSeen → LinkWrite → Type 0
 WriteCause a b (writes.Moved n) = OneMoved a b
 WriteCause a b writes.NotYet = WriteWaited a b
-WriteCause a b writes.Failed = Rose a.link.faults b.link.faults
+WriteCause a b writes.Failed = Rose a.link.faults b.link.faults × NoneWaited a b
 
 pub record SendsOnce (a b : StreamSeen) (answer : LinkWrite) : Type 0 where
   pub moves : Moves a b [] []
@@ -132,8 +140,8 @@ pub record SendsOnce (a b : StreamSeen) (answer : LinkWrite) : Type 0 where
 abbrev pub ReadCause : StreamSeen → StreamSeen → LinkRead → Type 0
 ReadCause a b (reads.Moved n) = OneMoved a b
 ReadCause a b reads.NotYet = ReadWaited a b × (b.held ≡ a.held)
-ReadCause a b reads.End = Rose a.link.ends b.link.ends × (b.held ≡ a.held)
-ReadCause a b reads.Failed = Rose a.link.faults b.link.faults × (b.held ≡ a.held)
+ReadCause a b reads.End = Rose a.link.ends b.link.ends × (b.held ≡ a.held) × NoneWaited a b
+ReadCause a b reads.Failed = Rose a.link.faults b.link.faults × (b.held ≡ a.held) × NoneWaited a b
 
 pub record ReadsOnce (a b : StreamSeen) (answer : LinkRead) : Type 0 where
   pub moves : Moves a b [] []
@@ -147,7 +155,7 @@ pub record ReadsOnce (a b : StreamSeen) (answer : LinkRead) : Type 0 where
 abbrev pub SendGives : StreamSeen → StreamSeen → Poll (Result (Unit {0}) Error) → Type 0
 SendGives a b Pending = WriteWaited a b ⊎ IsSpent a b
 SendGives a b (Ready (Ok u)) = (b.unsent ≡ []) × AllMoved a b
-SendGives a b (Ready (Err e)) = (e ≡ errors.Io Fault) × Rose a.link.faults b.link.faults
+SendGives a b (Ready (Err e)) = (e ≡ errors.Io Fault) × Rose a.link.faults b.link.faults × NoneWaited a b
 
 -- A poll that sends: all of what is unsent, or a front of it and the cause.
 pub record PollsSend (a b : StreamSeen) (answer : Poll (Result (Unit {0}) Error)) : Type 0 where
@@ -218,13 +226,13 @@ TakesHeard front a b (Err e) = TakesFront front a b (Err e)
 abbrev pub PollsFront : StreamSeen → StreamSeen → Poll (Result Front Error) → Type 0
 PollsFront a b Pending = Moves a b [] [] × PendingCause a b × (b.spare ≡ a.spare)
 PollsFront a b (Ready (Ok front)) = Moves a b [] [] × (b.unsent ≡ []) × AllMoved a b × IsFront b.held front × (b.spare ≡ a.spare)
-PollsFront a b (Ready (Err e)) = Moves a b [] [] × ErrorCause a b e × (b.spare ≡ a.spare)
+PollsFront a b (Ready (Err e)) = Moves a b [] [] × ErrorCause a b e × (b.spare ≡ a.spare) × NoneWaited a b
 
 -- A poll for the next frame of all bytes given. Each other answer has its cause, and the cleanup reserve stays.
 abbrev pub PollsFrame : StreamSeen → StreamSeen → Poll (Result Frame Error) → Type 0
 PollsFrame a b Pending = Moves a b [] [] × PendingCause a b × (b.spare ≡ a.spare)
 PollsFrame a b (Ready (Ok frame)) = Moves a b [] (frame ∷ []) × (b.unsent ≡ []) × AllMoved a b × (b.spare ≡ a.spare)
-PollsFrame a b (Ready (Err e)) = Moves a b [] [] × ErrorCause a b e × (b.spare ≡ a.spare)
+PollsFrame a b (Ready (Err e)) = Moves a b [] [] × ErrorCause a b e × (b.spare ≡ a.spare) × NoneWaited a b
 
 abbrev pub AreAsynchronous : List Frame → Type 0
 AreAsynchronous frames = AllByRecursion IsAside frames
@@ -251,13 +259,13 @@ IsHeardFront held front = (frame : Frame) × (rest : List ℕ) × IsFrontOf held
 abbrev pub PollsAhead : StreamSeen → StreamSeen → Poll (Result Front Error) → Type 0
 PollsAhead a b Pending = (aside : List Frame) × AreAsynchronous aside × Moves a b [] aside × PendingCause a b × (b.spare ≡ a.spare)
 PollsAhead a b (Ready (Ok front)) = (aside : List Frame) × AreAsynchronous aside × Moves a b [] aside × (b.unsent ≡ []) × AllMoved a b × IsHeardFront b.held front × (b.spare ≡ a.spare)
-PollsAhead a b (Ready (Err e)) = (aside : List Frame) × AreAsynchronous aside × Moves a b [] aside × HeardCause a b e × (b.spare ≡ a.spare)
+PollsAhead a b (Ready (Err e)) = (aside : List Frame) × AreAsynchronous aside × Moves a b [] aside × HeardCause a b e × (b.spare ≡ a.spare) × NoneWaited a b
 
 -- A poll for the next frame that is no asynchronous message.
 abbrev pub PollsHeard : StreamSeen → StreamSeen → Poll (Result Frame Error) → Type 0
 PollsHeard a b Pending = (aside : List Frame) × AreAsynchronous aside × Moves a b [] aside × PendingCause a b × (b.spare ≡ a.spare)
 PollsHeard a b (Ready (Ok frame)) = (aside : List Frame) × AreAsynchronous aside × Moves a b [] (aside ++ frame ∷ []) × (is_asynchronous frame ≡ false) × (b.unsent ≡ []) × AllMoved a b × (b.spare ≡ a.spare)
-PollsHeard a b (Ready (Err e)) = (aside : List Frame) × AreAsynchronous aside × Moves a b [] aside × HeardCause a b e × (b.spare ≡ a.spare)
+PollsHeard a b (Ready (Err e)) = (aside : List Frame) × AreAsynchronous aside × Moves a b [] aside × HeardCause a b e × (b.spare ≡ a.spare) × NoneWaited a b
 
 -- the frame at the front is taken aside where it is an asynchronous message
 abbrev pub PassesAside : {A : Type 0} → Front → StreamOf A → StreamOf A → Result Bool Error → Type 0

@@ -22,8 +22,6 @@ mod socket_link;
 mod standard;
 mod stream;
 mod tcp_link;
-#[cfg(test)]
-mod tests;
 mod unix_link;
 mod version;
 

@@ -4,6 +4,16 @@ use Rattle.std.specs.Prelude.{Vec, ℕ, ◌≡◌, ◌<◌, ◌≤◌, ◌^◌, 
 use Rattle.std.specs.List.{AllByRecursion}
 use Rattle.pg_wire.specs.Bytes.{number32, value}
 use Rattle.pg_wire.specs.Frontend.{FitsValue}
+use Rattle.pg_arguments.specs.Types.{TypeParts, TypePart, PartKind, Array}
+
+-- the type of the elements, where a type says that it is an array
+abbrev pub element_by : PartKind → TypePart → TypeParts → TypeParts
+element_by Array part rest = rest
+element_by _ part rest = part ∷ rest
+
+abbrev pub element_type : TypeParts → TypeParts
+element_type [] = []
+element_type (part ∷ rest) = element_by part.kind part rest
 
 -- each value is read as its element
 abbrev pub ReadsEach : {X : Type 0} → (Option (List ℕ) → X → Type 0) → List (Option (List ℕ)) → List X → Type 0

@@ -1,6 +1,6 @@
 ghost use Rattle.std.specs.Prelude.{◌≡◌, [], Some, option_map, IfOk, IfErr};
 ghost use Rattle.pg_wire.specs.Reading.{number32_at, value_at};
-ghost use Rattle.pg_values.specs.Arrays.{OfItems, IsArray, ReadsEach};
+ghost use Rattle.pg_values.specs.Arrays.{OfItems, IsArray, ReadsEach, element_type};
 ghost use Rattle.pg_values.specs.Texts.{IsTextArray};
 ghost use Rattle.pg_values.specs.ArrayReading.{dimensions_at, count_at, head_at, ReadsElements, ReadsArray};
 ghost use Rattle.pg_values.specs.Values.{IsNoValue};
@@ -112,7 +112,9 @@ fn read_elements<T: Decode>(
 }
 
 // The type of the elements, where it is told.
-pub(crate) fn element_of(of: &PgTypeInfo) -> &PgTypeInfo {
+pub(crate) fn element_of(of: &PgTypeInfo) -> &PgTypeInfo
+    ensures { result.now ≡ element_type of.now }
+{
     match of.kind() {
         PgTypeKind::Array(element) => element,
         _ => of,

@@ -31,7 +31,7 @@ cut_grows tags bytes more h =
 
 -- ---- a header that begins no frame begins none when more bytes follow it
 
-unknown_no_frame : (tags rest : List ℕ) (tag : ℕ) → BeginsUnknown tags rest tag → BeginsNoFrame tags rest
+pub unknown_no_frame : (tags rest : List ℕ) (tag : ℕ) → BeginsUnknown tags rest tag → BeginsNoFrame tags rest
 unknown_no_frame tags rest tag h m after w e =
     let known : is_known tags m.tag ≡ true = w.known in
     let first : get_or rest 0 0 ≡ m.tag = ap (λ (b : List ℕ). get_or b 0 0) e in
@@ -40,7 +40,7 @@ unknown_no_frame tags rest tag h m after w e =
     let same : is_known tags m.tag ≡ is_known tags tag = ap (is_known tags) (sym first ∙ tag_is) in
     absurd cc
 
-short_no_frame : (tags rest : List ℕ) (tag size : ℕ) → BeginsShort tags rest tag size → BeginsNoFrame tags rest
+pub short_no_frame : (tags rest : List ℕ) (tag size : ℕ) → BeginsShort tags rest tag size → BeginsNoFrame tags rest
 short_no_frame tags rest tag size h m after w e =
     let size_is : length_at_front rest ≡ length m.body + 4 = ap length_at_front e ∙ from_be_bytes-to_be_bytes_4 (length m.body + 4) w.fits in
     absurd (omega (arith, h.3, h.4, size_is))

@@ -35,3 +35,4 @@ pub mod FieldLaws
 pub mod UntilLaws
 pub mod DetailLaws
 pub mod RequestLaws
+pub mod BoundLaws

@@ -1,5 +1,6 @@
 -- What an Authentication message asks for, and the names of mechanisms.
 use Rattle.std.proofs.Common.{◌≡◌, ◌≢◌, ℕ, zero, suc, Bool, true, false, cond, eqb, List, [], ◌∷◌, ◌++◌, length, get_or, Option, Some, None, refl, sym, ap, subst, ◌∙◌, arith, flat_map, ne_eqb}
+use Rattle.std.specs.Prelude.{IsTrue, IsFalse}
 use Rattle.std.specs.List.{AllByRecursion}
 use Rattle.std.proofs.lemmas.List.{length-append}
 use Rattle.pg_wire.specs.Bytes.{ended, HasNoNul, AreBytes}
@@ -8,16 +9,14 @@ use Rattle.pg_wire.specs.Backend as backend
 use Rattle.pg_wire.specs.Backend.{BackendMessage, backend_frame, HasBackendFrame, IsChallenge, AreMechanisms}
 use Rattle.pg_wire.specs.Decoding.{Says}
 use Rattle.pg_wire.specs.Reading.{◌>>=◌, number32_at, ended_at, listed_at, whole, mechanisms_in}
-use Rattle.pg_wire.specs.Requests.{IsAsked, IsRequest, AreNames}
+use Rattle.pg_wire.specs.Requests.{IsName, is_method, AsksFor, IsAsked, IsRequest, AreNames}
 use Rattle.pg_wire.specs.declared.message.authentication.Authentication.{Authentication}
+use Rattle.pg_wire.specs.declared.message.authentication.Authentication.TheVariants as requests
 use Rattle.pg_wire.proofs.ReaderLaws.{some_is, bind_some, IsExact, number32_exact, ended_exact, whole_takes, whole_again}
 use Rattle.pg_wire.proofs.UntilLaws.{IsItem, listed_exact}
 
 abbrev Names : Type 0
 Names = List (List ℕ)
-
-abbrev IsName : List ℕ → Type 0
-IsName name = HasNoNul name × (name ≢ [])
 
 begins_name : (name : List ℕ) → IsName name → get_or (ended name) 0 0 ≢ 0
 begins_name [] h = absurd (h.1 refl)
@@ -46,13 +45,13 @@ are_mechanisms : (bytes : List ℕ) (names : Names) → eqb (length names) 0 ≡
 are_mechanisms bytes [] some h e = absurd cc
 are_mechanisms bytes (first ∷ others) some h e = (first, others, h, e)
 
-found : (bytes : List ℕ) (names : Names) → AreBytes bytes → mechanisms_in bytes ≡ Some names → AreMechanisms bytes × (bytes ≡ names_bytes names)
+found : (bytes : List ℕ) (names : Names) → AreBytes bytes → mechanisms_in bytes ≡ Some names → AreMechanisms bytes × AllByRecursion IsName names × (bytes ≡ names_bytes names)
 unfolding mechanisms_in
 found bytes names h e =
     let a = bind_some (whole (listed_at ended_at) bytes) (λ (ns : Names). cond (eqb (length ns) 0) None (Some ns)) names e in
     let g = unless_some (eqb (length a.0) 0) a.0 names a.2 in
     let t = whole_takes (AllByRecursion IsName) names_bytes (listed_at ended_at) names_exact bytes a.0 h a.1 in
-    (are_mechanisms bytes a.0 g.0 t.0 t.1, t.1 ∙ ap names_bytes g.1)
+    (are_mechanisms bytes a.0 g.0 t.0 t.1, subst (AllByRecursion IsName) g.1 t.0, t.1 ∙ ap names_bytes g.1)
 
 refused : (bytes : List ℕ) → mechanisms_in bytes ≡ None → AreMechanisms bytes → ⊥
 unfolding mechanisms_in
@@ -66,6 +65,44 @@ refused bytes e m =
 pub are_names : (bytes : List ℕ) (r : Option Names) → AreBytes bytes → mechanisms_in bytes ≡ r → AreNames bytes r
 are_names bytes (Some names) h e = found bytes names h e
 are_names bytes None h e = refused bytes e
+
+-- ---- one reading
+
+-- the bytes of names are those of no others
+pub same_names : (x y : Names) → AllByRecursion IsName x → AllByRecursion IsName y → names_bytes x ≡ names_bytes y → x ≡ y
+same_names x y h k e =
+    some_is x y (sym (whole_again (AllByRecursion IsName) names_bytes (listed_at ended_at) names_exact x h) ∙ ap (whole (listed_at ended_at)) e ∙ whole_again (AllByRecursion IsName) names_bytes (listed_at ended_at) names_exact y k)
+
+other_method : (code number : ℕ) → code ≡ number → IsTrue (is_method number) → IsFalse (is_method code) → ⊥
+other_method code number e t f = absurd cc
+
+-- a code and its bytes are asked by one request
+pub one_request : (r s : Authentication) (code : ℕ) (bytes : List ℕ) → AsksFor r code bytes → AsksFor s code bytes → r ≡ s
+one_request requests.Ok requests.Ok code bytes p q = refl
+one_request requests.Ok (requests.Other n) code bytes p q = absurd (other_method code 0 p.0 refl q.1)
+one_request requests.Ok _ code bytes p q = absurd (omega (arith, p.0, q.0))
+one_request requests.CleartextPassword requests.CleartextPassword code bytes p q = refl
+one_request requests.CleartextPassword (requests.Other n) code bytes p q = absurd (other_method code 3 p.0 refl q.1)
+one_request requests.CleartextPassword _ code bytes p q = absurd (omega (arith, p.0, q.0))
+one_request (requests.Md5Password salt) (requests.Md5Password again) code bytes p q = ap requests.Md5Password (sym p.1 ∙ q.1)
+one_request (requests.Md5Password salt) (requests.Other n) code bytes p q = absurd (other_method code 5 p.0 refl q.1)
+one_request (requests.Md5Password salt) _ code bytes p q = absurd (omega (arith, p.0, q.0))
+one_request (requests.Sasl names) (requests.Sasl again) code bytes p q = ap requests.Sasl (same_names names again p.1 q.1 (sym p.2 ∙ q.2))
+one_request (requests.Sasl names) (requests.Other n) code bytes p q = absurd (other_method code 10 p.0 refl q.1)
+one_request (requests.Sasl names) _ code bytes p q = absurd (omega (arith, p.0, q.0))
+one_request (requests.SaslContinue text) (requests.SaslContinue again) code bytes p q = ap requests.SaslContinue (sym p.1 ∙ q.1)
+one_request (requests.SaslContinue text) (requests.Other n) code bytes p q = absurd (other_method code 11 p.0 refl q.1)
+one_request (requests.SaslContinue text) _ code bytes p q = absurd (omega (arith, p.0, q.0))
+one_request (requests.SaslFinal text) (requests.SaslFinal again) code bytes p q = ap requests.SaslFinal (sym p.1 ∙ q.1)
+one_request (requests.SaslFinal text) (requests.Other n) code bytes p q = absurd (other_method code 12 p.0 refl q.1)
+one_request (requests.SaslFinal text) _ code bytes p q = absurd (omega (arith, p.0, q.0))
+one_request (requests.Other n) (requests.Other k) code bytes p q = ap requests.Other (sym p.0 ∙ q.0)
+one_request (requests.Other n) requests.Ok code bytes p q = absurd (other_method code 0 q.0 refl p.1)
+one_request (requests.Other n) requests.CleartextPassword code bytes p q = absurd (other_method code 3 q.0 refl p.1)
+one_request (requests.Other n) (requests.Md5Password salt) code bytes p q = absurd (other_method code 5 q.0 refl p.1)
+one_request (requests.Other n) (requests.Sasl names) code bytes p q = absurd (other_method code 10 q.0 refl p.1)
+one_request (requests.Other n) (requests.SaslContinue text) code bytes p q = absurd (other_method code 11 q.0 refl p.1)
+one_request (requests.Other n) (requests.SaslFinal text) code bytes p q = absurd (other_method code 12 q.0 refl p.1)
 
 -- ---- the message
 

@@ -54,6 +54,3 @@ pub use severity::PgSeverity;
 pub use statement_id::StatementId;
 pub use status::TransactionStatus;
 pub use text::Text;
-
-#[cfg(test)]
-mod tests;

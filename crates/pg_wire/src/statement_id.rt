@@ -29,6 +29,13 @@ impl StatementId {
     /// The first statement with a name.
     pub const NAMED_START: StatementId = StatementId { number: 1 };
 
+    /// The statement of this number.
+    pub fn from_number(number: u32) -> StatementId
+        ensures { result ≡ number }
+    {
+        StatementId { number }
+    }
+
     pub fn number(&self) -> u32
         ensures { result ≡ self.now }
     {

@@ -8,6 +8,8 @@ mod arrays;
 #[cfg(test)]
 mod iterators;
 #[cfg(test)]
+mod round_trips;
+#[cfg(test)]
 mod scalars;
 #[cfg(test)]
 mod short_texts;

@@ -54,9 +54,10 @@ fn booleans(rt: HostRuntime) {
 
 #[test]
 fn characters(rt: HostRuntime) {
-    let rows: [(&[u8], Option<i8>, Option<i8>); 4] = [
+    let rows: [(&[u8], Option<i8>, Option<i8>); 5] = [
         (b"", None, Some(0)),
         (b"A", Some(65), Some(65)),
+        (b"\x7f", Some(i8::MAX), Some(i8::MAX)),
         (b"\x80", Some(i8::MIN), Some(i8::MIN)),
         (b"AB", None, None),
     ];
@@ -65,10 +66,12 @@ fn characters(rt: HostRuntime) {
 
 #[test]
 fn small_integers(rt: HostRuntime) {
-    let rows: [(&[u8], Option<i16>, Option<i16>); 6] = [
+    let rows: [(&[u8], Option<i16>, Option<i16>); 8] = [
         (b"\x80\x00", Some(i16::MIN), None),
+        (b"\x7f\xff", Some(i16::MAX), None),
         (b"\x80\x00\x00", None, None),
         (b"-32768", None, Some(i16::MIN)),
+        (b"32767", None, Some(i16::MAX)),
         (b"32768", None, None),
         (b"+7", Some(11063), Some(7)),
         (b"", None, None),
@@ -78,9 +81,11 @@ fn small_integers(rt: HostRuntime) {
 
 #[test]
 fn integers(rt: HostRuntime) {
-    let rows: [(&[u8], Option<i32>, Option<i32>); 4] = [
+    let rows: [(&[u8], Option<i32>, Option<i32>); 6] = [
+        (b"\x80\x00\x00\x00", Some(i32::MIN), None),
         (b"\x7f\xff\xff\xff", Some(i32::MAX), None),
         (b"-2147483648", None, Some(i32::MIN)),
+        (b"2147483647", None, Some(i32::MAX)),
         (b"2147483648", None, None),
         (b"1 ", None, None),
     ];
@@ -89,8 +94,10 @@ fn integers(rt: HostRuntime) {
 
 #[test]
 fn big_integers(rt: HostRuntime) {
-    let rows: [(&[u8], Option<i64>, Option<i64>); 4] = [
+    let rows: [(&[u8], Option<i64>, Option<i64>); 6] = [
         (b"\x80\x00\x00\x00\x00\x00\x00\x00", Some(i64::MIN), None),
+        (b"\x7f\xff\xff\xff\xff\xff\xff\xff", Some(i64::MAX), None),
+        (b"-9223372036854775808", None, Some(i64::MIN)),
         (b"9223372036854775807", None, Some(i64::MAX)),
         (b"9223372036854775808", None, None),
         (b"\x00\x00\x00\x00", None, None),
@@ -100,8 +107,10 @@ fn big_integers(rt: HostRuntime) {
 
 #[test]
 fn oids(rt: HostRuntime) {
-    let rows: [(&[u8], Option<Oid>, Option<Oid>); 4] = [
+    let rows: [(&[u8], Option<Oid>, Option<Oid>); 6] = [
+        (b"\x00\x00\x00\x00", Some(Oid(0)), None),
         (b"\xff\xff\xff\xff", Some(Oid(u32::MAX)), None),
+        (b"0", None, Some(Oid(0))),
         (b"4294967295", None, Some(Oid(u32::MAX))),
         (b"4294967296", None, None),
         (b"-1", None, None),

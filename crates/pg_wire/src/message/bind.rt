@@ -2,7 +2,7 @@ ghost use Rattle.std.specs.Prelude.{◌≡◌, ◌∷◌, ◌++◌, [], List, �
 ghost use Rattle.pg_wire.specs.Bytes.{number16, number32, ended, value};
 ghost use Rattle.pg_wire.specs.Encoding.{Allows, Refuses};
 ghost use Rattle.pg_wire.specs.Frame.{bytes_of, frontend_tags, IsWhole};
-ghost use Rattle.pg_wire.specs.Frontend.{frontend_frame, Bind, bind_body, name_under, statement_name};
+ghost use Rattle.pg_wire.specs.Frontend.{frontend_frame, HasFrontendFrame, Bind, bind_body, name_under, statement_name};
 
 use crate::appending::{append_header, check_body, check_count};
 use crate::{Blob, Error, StatementId};
@@ -47,6 +47,7 @@ pub fn encode_bind(
 ) -> Result<(), Error>
     ensures ok { OnOk result (out.new ≡ out.old ++ bytes_of (record { tag = 66; body = bind_body (name_under statement_name statement) count params.now })) }
     ensures values { OnOk result ((values : List (Option (List ℕ))) → length values ≡ count → flat_map value values ≡ params.now → out.new ≡ out.old ++ bytes_of (frontend_frame (Bind (name_under statement_name statement) values))) }
+    ensures fits { OnOk result ((values : List (Option (List ℕ))) → length values ≡ count → flat_map value values ≡ params.now → HasFrontendFrame (Bind (name_under statement_name statement) values)) }
     ensures whole { OnOk result (IsWhole frontend_tags (record { tag = 66; body = bind_body (name_under statement_name statement) count params.now })) }
     ensures err { OnErr result (out.new ≡ out.old) }
     ensures allowed { OnOk result (Allows count (Unit {0}) (length (bind_body (name_under statement_name statement) count params.now))) }

@@ -2,4 +2,4 @@ use Rattle.std.proofs.Common.{◌≡◌}
 use Rattle.pg_play.proofs.live.draw_nonce.Given as goal
 
 abbrev pub invariant-loop-word : goal.invariant-loop-word
-invariant-loop-word g l = g.D.Dial.faults l.dial ≡ g.D.Dial.faults l.initial.dial
+invariant-loop-word g l = ((g.D.Dial.seen l.dial).links ≡ (g.D.Dial.seen l.initial.dial).links) × ((g.D.Dial.seen l.dial).faults ≡ (g.D.Dial.seen l.initial.dial).faults)

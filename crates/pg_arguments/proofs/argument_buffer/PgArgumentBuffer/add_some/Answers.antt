@@ -18,8 +18,8 @@ returns-then-length-gt-IMAGE_MAX-clause-kept g c =
 
 pub returns-then-length-gt-IMAGE_MAX-clause-cause : goal.returns-then-length-gt-IMAGE_MAX-clause-cause
 returns-then-length-gt-IMAGE_MAX-clause-cause g c =
-    too_long (g.T.Encode.encoding c.args.value) c.args.self.now c.push_bytes.new.self c.encode.new.out _ c.in_ok-push_bytes.ensures.ok (rw c.in-No.is at c.in_ok-encode.ensures.encoding)
-    (omega (arith, c.len.ensures, c.len-place.ensures)) c.if-length-gt-IMAGE_MAX.true
+    too_long (g.T.Encode.encoding c.args.value) c.args.self.now c.push_bytes.new.self c.encode.new.out (c.len.result - c.len-place.result - 4) c.in_ok-push_bytes.ensures.ok (rw c.in-No.is at c.in_ok-encode.ensures.encoding)
+    (omega (arith, c.len.ensures, c.len-place.ensures)) (omega (arith, c.if-length-gt-IMAGE_MAX.true))
 
 pub returns-in-Yes-clause-ok : goal.returns-in-Yes-clause-ok
 returns-in-Yes-clause-ok g c =
@@ -29,5 +29,5 @@ pub returns-else-length-gt-IMAGE_MAX-clause-ok : goal.returns-else-length-gt-IMA
 returns-else-length-gt-IMAGE_MAX-clause-ok g c =
     let size : length c.encode.new.out.bytes - length c.args.self.now.bytes - 4 ≡ c.len.result - c.len-place.result - 4 = omega (arith, c.len.ensures, c.len-place.ensures) in
     let added = adds_image (g.T.Encode.encoding c.args.value) c.args.self.now c.push_bytes.new.self c.encode.new.out _ c.in_ok-push_bytes.ensures.ok (rw c.in-No.is at c.in_ok-encode.ensures.encoding)
-    size c.if-length-gt-IMAGE_MAX.false c.rewrite.ensures.inside in
+    size (omega (arith, c.if-length-gt-IMAGE_MAX.false)) c.rewrite.ensures.inside in
     rw (c.rewrite.ensures.bytes, c.len-place.ensures) (rw c.len-place.ensures at added)
