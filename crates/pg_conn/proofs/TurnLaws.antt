@@ -18,7 +18,7 @@ use Rattle.pg_wire.proofs.PartLaws.{heard-append}
 use Rattle.pg_stream.specs.Links.{LinkSeen, NoneFalls}
 use Rattle.pg_stream.specs.declared.stream.Front.{Front}
 use Rattle.pg_stream.specs.Streams.{StreamOf, StreamSeen, GrewBy, stream_by, Moves, AllMoved, Passes, IsFrontOf, IsHeardFront, AreAsynchronous, PollsAhead, PollsSend, SendGives, PendingCause, HeardCause}
-use Rattle.pg_stream.proofs.StreamLemmas.{Moves-none, Moves-then, AllMoved-none, AllMoved-then, PendingCause-after, ErrorCause-after, text_of-append, queues_by, took_frame}
+use Rattle.pg_stream.proofs.StreamLemmas.{NoneWaited-none, NoneWaited-then, Moves-none, Moves-then, AllMoved-none, AllMoved-then, PendingCause-after, ErrorCause-after, text_of-append, queues_by, took_frame}
 use Rattle.pg_request.specs.Queries.{QueryText}
 use Rattle.pg_call.specs.declared.kind.Kind.{Kind}
 use Rattle.pg_call.specs.declared.kind.Kind.TheVariants as kinds
@@ -86,8 +86,8 @@ tells_from a b c start r said hs items (beats.Ends (Err e)) m t = (
 cause_after : (a b c : ConnSeen) (beat : Beat) → NoneFalls a.stream.link b.stream.link → AllMoved a.stream b.stream → b.stream.left ≤ a.stream.left → c.stream.left ≤ b.stream.left → BeatCause b c beat → BeatCause a c beat
 cause_after a b c beats.More m h k l t = AllMoved-then a.stream b.stream c.stream h k t l
 cause_after a b c beats.Waits m h k l t = PendingCause-after a.stream b.stream c.stream m h k l t
-cause_after a b c (beats.Yields item) m h k l t = t ∙ h.2
-cause_after a b c (beats.Ends answer) m h k l t = t ∙ h.2
+cause_after a b c (beats.Yields item) m h k l t = NoneWaited-then a.stream b.stream c.stream h.2 t
+cause_after a b c (beats.Ends answer) m h k l t = NoneWaited-then a.stream b.stream c.stream h.2 t
 
 pub Turns-then : (a b c : ConnSeen) (beat : Beat) (q q' : List ℕ) (fs fs' hs hs' : List Frame) → Turns a b beats.More q fs hs → Turns b c beat q' fs' hs' → Turns a c beat (q ++ q') (fs ++ fs') (hs ++ hs')
 Turns-then a b c beat q q' fs fs' hs hs' s t = record {
@@ -178,7 +178,7 @@ prepares_none a n = record { beat = TakesBeat-none a; asked = n; sayable = not_a
 
 -- memory is wanting
 pub starved : (a : ConnSeen) (n : ℕ) → Moves a.stream (with_spare n a).stream [] [] → TakesBeat a (idle (with_spare n a)) (beats.Ends (Err errors.OutOfMemory))
-starved a n m = stays a (idle (with_spare n a)) (beats.Ends (Err errors.OutOfMemory)) m refl (keeps_idle a.call) refl refl refl refl refl (λ start r said hs items i. (refl, inr (leaves_call start r said hs items a.ledger a.call i, call_well start r said hs items a.ledger a.call i, inl (tt, tt))))
+starved a n m = stays a (idle (with_spare n a)) (beats.Ends (Err errors.OutOfMemory)) m (NoneWaited-none a.stream) (keeps_idle a.call) refl refl refl refl refl (λ start r said hs items i. (refl, inr (leaves_call start r said hs items a.ledger a.call i, call_well start r said hs items a.ledger a.call i, inl (tt, tt))))
 
 -- a request that has no frame
 refusal_by : (a : ConnSeen) (asked : Request) (e : Error) (o : Option QueryText) → query_of asked ≡ o → RefusesQuery o e → (start : Ledger) (r : Request) (said : List FrontendMessage) (hs : List Frame) (items : List CallItem) → CallIs start r said hs items a.ledger (calls.Asked asked)
@@ -193,7 +193,7 @@ pub refused : (a : ConnSeen) (e : Error) → Refuses a.call e → TakesBeat a (i
 refused a e h = by a.call refl h
   where
     by : (call : Call) → a.call ≡ call → Refuses call e → TakesBeat a (idle a) (beats.Ends (Err e))
-    by (calls.Asked asked) k h = stays a (idle a) (beats.Ends (Err e)) (Moves-none a.stream) refl (keeps_idle a.call) refl refl refl refl refl (λ start r said hs items i. (refl, refusal_by a asked e (query_of asked) refl h start r said hs items (call_at start r said hs items a.ledger a.call (calls.Asked asked) k i)))
+    by (calls.Asked asked) k h = stays a (idle a) (beats.Ends (Err e)) (Moves-none a.stream) (NoneWaited-none a.stream) (keeps_idle a.call) refl refl refl refl refl (λ start r said hs items i. (refl, refusal_by a asked e (query_of asked) refl h start r said hs items (call_at start r said hs items a.ledger a.call (calls.Asked asked) k i)))
     by calls.Idle k h = absurd h
     by (calls.Waiting w) k h = absurd h
     by (calls.Own reply) k h = absurd h
@@ -306,7 +306,7 @@ flushed_by start r said hs items ledger calls.Closing f i = absurd cc
 flushed_by start r said hs items ledger calls.Idle f i = absurd i
 
 pub flushed : (a : ConnSeen) → is_flushed a.ledger a.call ≡ true → TakesBeat a (idle a) (beats.Ends (Ok answers.Unit))
-flushed a f = stays a (idle a) (beats.Ends (Ok answers.Unit)) (Moves-none a.stream) refl (keeps_idle a.call) refl refl refl refl refl (λ start r said hs items i.
+flushed a f = stays a (idle a) (beats.Ends (Ok answers.Unit)) (Moves-none a.stream) (NoneWaited-none a.stream) (keeps_idle a.call) refl refl refl refl refl (λ start r said hs items i.
     let e = flushed_by start r said hs items a.ledger a.call f i in
     (refl, e.0, λ k. absurd (e.1 k)))
 
@@ -389,7 +389,7 @@ makes_room a n m = stays a (with_spare n a) beats.More m.0 m.1 (keeps a.call) re
 
 pub front_refused : (a : ConnSeen) (front : Front) (body rest : List ℕ) (e : Error) → IsHeardFront a.stream.held front → IsFrontOf a.stream.held front (framed front.tag body) rest
     → RefusesMessage front.tag body (record { ledger = a.ledger; call = a.call }) e → TakesBeat a (idle a) (beats.Ends (Err e))
-front_refused a front body rest e f of refuses = stays a (idle a) (beats.Ends (Err e)) (Moves-none a.stream) refl (keeps_idle a.call) refl refl refl refl refl (λ start r said hs items i.
+front_refused a front body rest e f of refuses = stays a (idle a) (beats.Ends (Err e)) (Moves-none a.stream) (NoneWaited-none a.stream) (keeps_idle a.call) refl refl refl refl refl (λ start r said hs items i.
     let x = refuses start r said hs items i in
     (refl, inr (x.0, x.1, inr (framed front.tag body, rest, of.whole, heard_front a.stream.held front (framed front.tag body) rest f of, of.parts, x.2))))
   where

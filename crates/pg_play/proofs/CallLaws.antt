@@ -1,5 +1,5 @@
 -- One more poll of a call that is played.
-use Rattle.std.proofs.Common.{◌≡◌, ◌≢◌, ℕ, ◌+◌, ◌<◌, ◌≤◌, inl, inr, cond, Bool, true, false, List, [], ◌∷◌, ◌++◌, length, map, refl, sym, ap, ◌∙◌, subst, arith, append_assoc, append-nil, Option, Some, None, Ok, Err}
+use Rattle.std.proofs.Common.{◌≡◌, ◌≢◌, ◌⊎◌, ℕ, ◌+◌, ◌<◌, ◌≤◌, inl, inr, cond, Bool, true, false, List, [], ◌∷◌, ◌++◌, length, map, refl, sym, ap, ◌∙◌, subst, arith, append_assoc, Option, Some, None, Ok, Err}
 use Rattle.std.specs.List.{count_by}
 use Rattle.std.proofs.lemmas.List.{map-append, length-append, length-map}
 use Rattle.std.proofs.lemmas.List.Sums.{sum_by-append}
@@ -14,8 +14,8 @@ use Rattle.pg_wire.specs.Parts.{heard}
 use Rattle.pg_wire.specs.Frontend.{FrontendMessage, frontend_frame}
 use Rattle.pg_wire.proofs.PartLaws.{heard-append}
 use Rattle.pg_stream.specs.Links.{NoneFalls}
-use Rattle.pg_stream.specs.Streams.{StreamSeen, Moves, Tallies, PendingCause, GrewBy, Sends, Takes, HeardCause}
-use Rattle.pg_stream.proofs.Known.{Appends-then, Appends-refl, NoneFalls-then, NoneFalls-refl}
+use Rattle.pg_stream.specs.Streams.{StreamSeen, Moves, Tallies, NoneWaited, PendingCause, GrewBy, HeardCause}
+use Rattle.pg_stream.proofs.Known.{NoneFalls-refl}
 use Rattle.pg_stream.proofs.StreamLemmas.{AreFrames-append, text_of-append, Tallies-then, Tallies-none}
 use Rattle.pg_call.specs.declared.request.Request.{Request}
 use Rattle.pg_call.specs.declared.kind.Kind.TheVariants as kinds
@@ -41,6 +41,7 @@ use Rattle.pg_play.specs.declared.tally.Tally.{Tally}
 use Rattle.pg_play.specs.Shown.{item_of, items_with, answer_of}
 use Rattle.pg_startup.specs.Flows.{Flows}
 use Rattle.pg_startup.proofs.FlowLaws.{GrewBy-then, Flows-then, Flows-none, flows_begun}
+use Rattle.pg_play.proofs.WaitLaws.{waits_none, waits_on}
 use Rattle.pg_play.specs.Calls.{Adds, Finishes, Waited, Went, InPlay, IsPlayingOn, IsPlaying, EndsStarved, IsDropped, broken_after, HasWaitedFew, EndsOn, HasEnded, PollGives, PlaysCall, outcome_of}
 
 -- ---- the stream, over any number of polls
@@ -156,15 +157,22 @@ cause_of b c (beats.Yields item) h e = absurd cc
 cause_of b c (beats.Ends answer) h e = absurd cc
 
 none_waited : (b c : ConnSeen) (beat : Beat) → BeatCause b c beat → beat ≢ beats.Waits → c.stream.waits ≡ b.stream.waits
-none_waited b c beats.More h n = h.2
+none_waited b c beats.More h n = h.2.0
 none_waited b c beats.Waits h n = absurd (n refl)
-none_waited b c (beats.Yields item) h n = h
-none_waited b c (beats.Ends answer) h n = h
+none_waited b c (beats.Yields item) h n = h.0
+none_waited b c (beats.Ends answer) h n = h.0
+
+-- a beat waits or not
+waits_or_not : (b c : ConnSeen) (beat : Beat) → BeatCause b c beat → NoneWaited b.stream c.stream ⊎ PendingCause b.stream c.stream
+waits_or_not b c beats.More h = inl h.2
+waits_or_not b c beats.Waits h = inr h
+waits_or_not b c (beats.Yields item) h = inl h
+waits_or_not b c (beats.Ends answer) h = inl h
 
 one_waited : (b c : StreamSeen) → PendingCause b c → c.waits ≤ b.waits + 1
 one_waited b c (inl x) = x.1.1
 one_waited b c (inr (inl x)) = x.0.1.1
-one_waited b c (inr (inr x)) = omega (arith, x.1.2)
+one_waited b c (inr (inr x)) = omega (arith, x.1.2.0)
 
 starved_now : (a b c : ConnSeen) → NoneFalls a.stream.link b.stream.link → a.stream.moves ≤ b.stream.moves → PendingCause (record b.stream { left = 256 }) c.stream → 0 < c.ledger.owed → EndsStarved a c
 starved_now a b c m v p o = elim p [
@@ -182,10 +190,11 @@ tallies_begun : (a b : StreamSeen) → Tallies (record a { left = 256 }) b → T
 tallies_begun a b t = record { write_waits = t.write_waits; read_waits = t.read_waits; moved = t.moved; waits = t.waits; moves = t.moves; writes = t.writes; reads = t.reads; moving = t.moving }
 
 went_on : (a b c : ConnSeen) (said more : List FrontendMessage) (q : List ℕ) (fs gs : List Frame) → Went a b said fs → Moves (record b.stream { left = 256 }) c.stream q gs → spelled more ≡ q → GrewBy (count_by ends_request more) b.groups c.groups
-    → GrewBy (length (heard gs)) b.heard c.heard → (c.sent ≡ b.sent) × (c.read ≡ b.read) → Went a c (said ++ more) (fs ++ gs)
-went_on a b c said more q fs gs w m e g h s = record {
+    → GrewBy (length (heard gs)) b.heard c.heard → (c.sent ≡ b.sent) × (c.read ≡ b.read) → NoneWaited b.stream c.stream ⊎ PendingCause (record b.stream { left = 256 }) c.stream → Went a c (said ++ more) (fs ++ gs)
+went_on a b c said more q fs gs w m e g h s waited = record {
   flows = subst (λ (t : List ℕ). Flows a.stream c.stream t (fs ++ gs)) (ap (λ (t : List ℕ). spelled said ++ t) (sym e) ∙ sym (spelled-append said more)) (Flows-then a.stream b.stream c.stream (spelled said) q fs gs w.flows (flows_begun b.stream c.stream 256 q gs m));
   tallies = Tallies-then a.stream b.stream c.stream w.tallies (tallies_begun b.stream c.stream m.tallies);
+  waits = waits_on a.stream b.stream c.stream fs gs w.waits (AreFrames-append fs gs w.flows.read.3 m.read.3) m.counts m.read waited;
   groups = GrewBy-then _ _ _ _ _ _ w.groups g (count-append ends_request said more);
   heard = GrewBy-then _ _ _ _ _ _ w.heard h (ap (λ (t : List Frame). length t) (heard-append fs gs) ∙ length-append (heard fs) (heard gs));
   started = (s.0 ∙ w.started.0, s.1 ∙ w.started.1);
@@ -202,7 +211,7 @@ after_beat a b c r waits items beat said fs i t k =
       said ++ told.0,
       fs ++ t.1,
       record {
-        went = went_on a b c said told.0 t.0 fs t.1 i.went m told.1 told.2 grew turns.started;
+        went = went_on a b c said told.0 t.0 fs t.1 i.went m told.1 told.2 grew turns.started (waits_or_not (begun_with 256 b) (record c { broken = None }) beat turns.cause);
         broken = k;
         tells = subst (λ (x : List Frame). Tells a c a.ledger r (said ++ told.0) x items beat) all (tells_from a b c a.ledger r (said ++ told.0) (heard fs ++ t.2) items beat i.went.flows.counts told.3);
         waited = waited_after waits a.stream b.stream c.stream m.counts m.tallies.waits.0 m.tallies.moves.0 i.waited;
@@ -280,6 +289,7 @@ went_none : (a c : ConnSeen) → c ≡ idle a → Went a c [] []
 went_none a c k = rw k (record {
   flows = Flows-none a.stream a.stream refl refl refl refl;
   tallies = Tallies-none a.stream a.stream (NoneFalls-refl a.stream.link) refl refl;
+  waits = waits_none a.stream;
   groups = (omega arith, omega arith, omega arith);
   heard = (omega arith, omega arith, omega arith);
   started = (refl, refl);
@@ -451,6 +461,7 @@ play_starts most a r m k = starts_on a.broken refl
         went = record {
           flows = Flows-none a.stream a.stream refl refl refl refl;
           tallies = Tallies-none a.stream a.stream (NoneFalls-refl a.stream.link) refl refl;
+          waits = waits_none a.stream;
           groups = (omega arith, omega arith, omega arith);
           heard = (omega arith, omega arith, omega arith);
           started = (refl, refl);
@@ -475,7 +486,7 @@ ends_idle (Some fault) limits a c r said hs shown end h = h
 pub given_up : (limits : Limits) (a c : ConnSeen) (r : Request) (shown : List Item) (end : End) → HasEnded limits a c r shown end → HasEnded limits a (idle c) r shown end
 given_up limits a c r shown end h =
     let w = h.2.went in
-    (h.0, h.1, record { went = record { flows = w.flows; tallies = w.tallies; groups = w.groups; heard = w.heard; started = w.started }; broken = h.2.broken; kept = h.2.kept; few = h.2.few; ends = ends_idle a.broken limits a c r h.0 (heard h.1) shown end h.2.ends })
+    (h.0, h.1, record { went = record { flows = w.flows; tallies = w.tallies; waits = w.waits; groups = w.groups; heard = w.heard; started = w.started }; broken = h.2.broken; kept = h.2.kept; few = h.2.few; ends = ends_idle a.broken limits a c r h.0 (heard h.1) shown end h.2.ends })
 
 pub plays_call : (limits : Limits) (a c d : ConnSeen) (r : Request) (waits : ℕ) (shown : List Item) (end : End) (out : Outcome) → PollGives limits a c r waits shown (Some end) → d ≡ idle c → out ≡ outcome_of d shown end → PlaysCall limits a d r out
 plays_call limits a c d r waits shown end out g k e =

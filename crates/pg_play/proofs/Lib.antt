@@ -1,3 +1,4 @@
+pub mod WaitLaws
 pub mod CallLaws
 pub mod PartLaws
 pub mod StepLaws
@@ -9,6 +10,7 @@ pub mod LawfulLaws
 pub mod RepliesLaws
 pub mod LinkLaws
 pub mod CompleteLaws
+pub mod WaitPlaceLaws
 pub mod PlayLaws
 pub mod StartLaws
 pub mod TopLaws

@@ -36,7 +36,8 @@ use Rattle.pg_play.specs.Calls.{HasWaitedFew, WaitsFew, EndsOn, Ended, PlaysCall
 use Rattle.pg_play.specs.Places.{Place, owed, drained, unfed, queued_by, main_frames, refuses_copy, Queues, first_place}
 use Rattle.pg_play.specs.Told.{Numbers, CountsTo, WellAtOk}
 use Rattle.pg_play.specs.Causes.{IsFront, IsUnlawful, HasCause, EndsDuly}
-use Rattle.pg_play.specs.Plays.{IsNeverUnlawful, Plays_step, Plays_from, StandsAt, PlaysOn, TellsBytes, Plays, Totals}
+use Rattle.pg_play.specs.WaitPlaces.{LastPlaces}
+use Rattle.pg_play.specs.Plays.{IsNeverUnlawful, Plays_step, Plays_from, places_in, TakesInTime, StandsAt, PlaysOn, TellsBytes, Plays, Totals}
 use Rattle.pg_play.specs.Starts.{Opening, IsOf, HasOpened}
 use Rattle.pg_startup.proofs.FlowLaws.{Flows-none}
 use Rattle.pg_play.proofs.PartLaws.{after_more}
@@ -47,6 +48,7 @@ use Rattle.pg_play.proofs.CauseLaws.{cause_step}
 use Rattle.pg_play.proofs.LawfulLaws.{lawful_begins}
 use Rattle.pg_play.proofs.LinkLaws.{where_lawful, totals_from}
 use Rattle.pg_play.proofs.CompleteLaws.{where_faultless}
+use Rattle.pg_play.proofs.WaitPlaceLaws.{places_step, places_quiet, places_last, given_next, takes_all}
 use Rattle.pg_play.proofs.ShownLaws.{no_items_come}
 
 -- ---- a lawful server
@@ -175,6 +177,7 @@ polled_step start at a b step out st n p h =
         queued = queued_step a.broken (limits_of step) start at a b step out said fs out.items found.0 st e.ends s;
         told = told_step a.broken (limits_of step) start at a b step out said fs found.0 st e.ends s found.2;
         numbers = subst (λ (x : Outcome). Numbers at x s.own (heard fs) (next_place at b said s.own fs out.end)) (sym h.1) (numbers_step start at a b step.call said fs out.items out.end found.0 st went s);
+        waits = places_step start at a b (request_of step.call) step.polls out said s.own fs st p (ap (λ (x : Outcome). x.waits) h.1) e.few went.waits;
         counts = subst (λ (x : StreamSeen). NoneFalls x.link b.stream.link) st.seen went.flows.counts;
         cause = cause;
         duly = duly_step start at a b step out said fs found.0 st n e s (ap (λ (x : Outcome). x.waits) h.1);
@@ -268,6 +271,7 @@ quiet_step at step out end k q c d =
         error = inl tt;
       };
       numbers = subst (λ (x : Outcome). Numbers at x [] [] at) (sym k) (quiet_numbers at end);
+      waits = places_quiet at out (ap (λ (x : Outcome). x.waits) k);
       counts = NoneFalls-refl at.seen.link;
       cause = subst (λ (z : End). HasCause at step out [] [] at z) (sym ends_so) c;
       duly = d;
@@ -377,7 +381,17 @@ tells_bytes : (opening : Opening) (link : LinkSeen) (a b : ConnSeen) (started : 
 tells_bytes opening link a b started at g st s r =
     tells_over opening link g.e g.ready b started at g.of g.begun (subst (λ (x : StreamSeen). StandsAt x at b) (ap (λ (c : ConnSeen). c.stream) g.fresh) st) (s ∙ ap (λ (c : ConnSeen). c.sent) g.fresh) (r ∙ ap (λ (c : ConnSeen). c.read) g.fresh)
 
+-- what was given behind the handshake and before a wait
+in_time : (opening : Opening) (link : LinkSeen) (a : ConnSeen) (steps : List Step) (outs : List Outcome) (last : Place) (g : HasOpened opening link a) (run : Plays_from (first_place a.stream) steps outs last) (old new : List ℕ) → link.given ≡ Some old → last.seen.link.given ≡ Some new
+    → TakesInTime (old ++ g.begun.read) new (first_place a.stream) steps outs last run
+in_time opening link a steps outs last g run old new x y =
+    let gave : Appends link.given a.stream.link.given g.begun.given = subst (λ (c : ConnSeen). Appends link.given c.stream.link.given g.begun.given) (sym g.fresh) g.begun.gave in
+    let held : g.begun.given ≡ g.begun.read ++ a.stream.held = subst (λ (c : ConnSeen). g.begun.given ≡ g.begun.read ++ c.stream.held) (sym g.fresh) g.begun.held in
+    let behind : old ++ g.begun.given ≡ (old ++ g.begun.read) ++ a.stream.held = ap (λ (z : List ℕ). old ++ z) held ∙ sym (append_assoc old g.begun.read a.stream.held) in
+    takes_all (old ++ g.begun.read) (old ++ g.begun.given) new (first_place a.stream) steps outs last run (given_next link.given a.stream.link.given old g.begun.given x gave) behind y
+
 pub plays_begun : (opening : Opening) (link last : LinkSeen) (a b : ConnSeen) (started : Started) (steps : List Step) (outs : List Outcome) → HasOpened opening link a → PlaysOn a b steps outs → started.sent ≡ a.sent → started.read ≡ a.read → last ≡ b.stream.link → Plays opening link last started steps outs
+unfolding tells_bytes tells_over
 plays_begun opening link last a b started steps outs g run s r l =
     let p = run a.stream (first_place a.stream) (stands_first opening link a g) in
     let st = p.2 in
@@ -392,6 +406,9 @@ plays_begun opening link last a b started steps outs g run s r l =
       groups = st.are_groups;
       at_link = sym (ap (λ (x : StreamSeen). x.link) st.seen);
       totals = subst (λ (x : LinkSeen). Totals link x outs) (sym (ap (λ (x : StreamSeen). x.link) st.seen)) (totals_from link (first_place a.stream) steps outs p.0 g.counts p.1);
+      waits = subst (λ (x : LinkSeen). LastPlaces link x outs (places_in (first_place a.stream) steps outs p.0 p.1)) (sym (ap (λ (x : StreamSeen). x.link) st.seen))
+          (places_last link (first_place a.stream) steps outs p.0 p.1 g.begun.given g.counts (subst (λ (c : ConnSeen). Appends link.given c.stream.link.given g.begun.given) (sym g.fresh) g.begun.gave));
+      in_time = λ old new x y. in_time opening link a steps outs p.0 g p.1 old new x (sym (ap (λ (s : StreamSeen). s.link.given) st.seen) ∙ y);
       lawful = where_lawful (first_place a.stream) p.0 steps outs p.1 refl st.sayable st.are_groups st.flows.read.3 st.plain;
       complete = where_faultless link (first_place a.stream) p.0 steps outs p.1 g.counts refl st.sayable st.flows.read.3 st.plain;
       plain = st.plain;

@@ -8,8 +8,8 @@ use Rattle.pg_wire.specs.Frame.{Frame}
 use Rattle.pg_wire.specs.Parts.{heard}
 use Rattle.pg_wire.specs.Frontend.{FrontendMessage}
 use Rattle.pg_request.specs.declared.progress.CacheStep.TheVariants as cache
-use Rattle.pg_stream.specs.Links.{NoneFalls, RoseBy, Rose}
-use Rattle.pg_stream.specs.Streams.{StreamSeen, Sends, Takes, Tallies, GrewBy, HasNone}
+use Rattle.pg_stream.specs.Links.{RoseBy, Rose}
+use Rattle.pg_stream.specs.Streams.{StreamSeen, Tallies, GrewBy, HasNone}
 use Rattle.pg_call.specs.declared.request.Request.{Request}
 use Rattle.pg_call.specs.declared.answer.CallItem.{CallItem}
 use Rattle.pg_call.specs.declared.answer.CallAnswer.{CallAnswer}
@@ -27,6 +27,7 @@ use Rattle.pg_startup.specs.Flows.{Flows}
 use Rattle.pg_play.specs.declared.tally.Limits.{Limits}
 use Rattle.pg_play.specs.declared.tally.Tally.{Tally}
 use Rattle.pg_play.specs.Shown.{request_of, item_of, items_with, answer_of}
+use Rattle.pg_play.specs.Waits.{WaitsAt}
 
 -- ---- the tally of a call
 
@@ -61,6 +62,7 @@ pub record Waited (n : ℕ) (a b : StreamSeen) : Type 0 where
 pub record Went (a b : ConnSeen) (said : List FrontendMessage) (fs : List Frame) : Type 0 where
   pub flows : Flows a.stream b.stream (spelled said) fs
   pub tallies : Tallies a.stream b.stream
+  pub waits : WaitsAt a.stream b.stream fs
   pub groups : GrewBy (count_by ends_request said) a.groups b.groups
   pub heard : GrewBy (length (heard fs)) a.heard b.heard
   pub started : (b.sent ≡ a.sent) × (b.read ≡ a.read)

@@ -1,7 +1,9 @@
 pub mod Shown
+pub mod Waits
 pub mod Calls
 pub mod Places
 pub mod Told
+pub mod WaitPlaces
 pub mod Causes
 pub mod Complete
 pub mod Plays

@@ -34,6 +34,7 @@ use Rattle.pg_play.specs.Places.{Place, Queued, ended, first_place}
 use Rattle.pg_play.specs.Told.{Told, Numbers, CountsTo}
 use Rattle.pg_play.specs.Causes.{HasCause, EndsDuly, IsFront}
 use Rattle.pg_play.specs.Complete.{WhereFaultless}
+use Rattle.pg_play.specs.WaitPlaces.{WaitPlaces, LastPlaces}
 
 -- where all that was heard, the frame in front too, are replies of a server to the groups, no step is told that they are unlawful
 abbrev pub IsNeverUnlawful : Place → Outcome → Place → Type 0
@@ -47,6 +48,7 @@ pub record Plays_step (at : Place) (step : Step) (out : Outcome) (next : Place) 
   pub queued : Queued at step out own slice next
   pub told : Told at step out own slice next
   pub numbers : Numbers at out own slice next
+  pub waits : WaitPlaces at out next
   pub counts : NoneFalls at.seen.link next.seen.link
   pub cause : HasCause at step out own slice next out.end
   pub duly : EndsDuly at step out next
@@ -58,6 +60,24 @@ Plays_from at [] [] last = last ≡ at
 Plays_from at (step ∷ steps) (out ∷ outs) last = (next : Place) × Plays_step at step out next × Plays_from next steps outs last
 Plays_from at [] (out ∷ outs) last = ⊥
 Plays_from at (step ∷ steps) [] last = ⊥
+
+-- the places at which the reads of all steps waited, in order
+abbrev pub places_in : (at : Place) (steps : List Step) (outs : List Outcome) (last : Place) → Plays_from at steps outs last → List ℕ
+places_in at [] [] last run = []
+places_in at (step ∷ steps) (out ∷ outs) last run = run.1.waits.places ++ places_in run.0 steps outs last run.2
+places_in at [] (out ∷ outs) last run = absurd run
+places_in at (step ∷ steps) [] last run = absurd run
+
+-- so many bytes are the first ones and some behind them, and the whole frames among those behind are taken
+abbrev pub AreTakenBefore : List ℕ → List ℕ → List Frame → ℕ → Type 0
+AreTakenBefore start given taken place = (bytes : List ℕ) × (place ≡ length start + length bytes) × IsPrefixOf (start ++ bytes) given × ((frames : List Frame) (rest : List ℕ) → Cuts backend_tags bytes frames rest → IsPrefixOf frames taken)
+
+-- the whole frames before each place of a step are taken by the end of that step
+abbrev pub TakesInTime : (start given : List ℕ) (at : Place) (steps : List Step) (outs : List Outcome) (last : Place) → Plays_from at steps outs last → Type 0
+TakesInTime start given at [] [] last run = Unit {0}
+TakesInTime start given at (step ∷ steps) (out ∷ outs) last run = AllByRecursion (AreTakenBefore start given run.0.frames) run.1.waits.places × TakesInTime start given run.0 steps outs last run.2
+TakesInTime start given at [] (out ∷ outs) last run = ⊥
+TakesInTime start given at (step ∷ steps) [] last run = ⊥
 
 -- no frame begins a copy from the client
 abbrev pub AsksForNoCopy : List Frame → Type 0
@@ -151,6 +171,9 @@ pub record Plays (opening : Opening) (first last : LinkSeen) (started : Started)
   pub groups : AllByRecursion IsGroup place.groups
   pub at_link : place.seen.link ≡ last
   pub totals : Totals first last outs
+  pub waits : LastPlaces first last outs (places_in (first_place begins) steps outs place plays)
+  -- the whole frames that the link gave behind the handshake and before a wait are taken by the end of the wait's step
+  pub in_time : (old new : List ℕ) → first.given ≡ Some old → last.given ≡ Some new → TakesInTime (old ++ bytes.read) new (first_place begins) steps outs place plays
   pub lawful : WhereLawful place outs
   -- where neither the link nor the server failed, no step ends by a fault of theirs
   pub complete : WhereFaultless first place steps outs

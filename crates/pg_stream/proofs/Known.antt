@@ -1,8 +1,8 @@
 -- Known bytes that grow, step after step.
-use Rattle.std.proofs.Common.{ℕ, List, [], ◌++◌, refl, sym, ap, ◌∙◌, append_assoc, Option, Some, None, arith}
+use Rattle.std.proofs.Common.{ℕ, List, [], ◌∷◌, ◌++◌, length, refl, sym, ap, ◌∙◌, append_assoc, Option, Some, None, arith}
 use Rattle.std.specs.Io.KnownBytes.{Keeps, Appends}
 use Rattle.std.proofs.lemmas.List.{append-nil}
-use Rattle.pg_stream.specs.Links.{LinkSeen, NoneFalls}
+use Rattle.pg_stream.specs.Links.{LinkSeen, StillTold, NoneFalls, AddsPlace}
 
 pub Appends-then : (a b c : Option (List ℕ)) (x y : List ℕ) → Appends a b x → Appends b c y → Appends a c (x ++ y)
 Appends-then None b c x y p q = tt
@@ -19,8 +19,42 @@ pub Appends-refl : (a : Option (List ℕ)) → Appends a a []
 Appends-refl None = tt
 Appends-refl (Some s) = sym (append-nil s)
 
+pub Keeps-refl : (a : Option (List ℕ)) → Keeps a a
+Keeps-refl None = tt
+Keeps-refl (Some s) = refl
+
+pub Keeps-then : (a b c : Option (List ℕ)) → Keeps a b → Keeps b c → Keeps a c
+Keeps-then None b c p q = tt
+Keeps-then (Some s) None c p q = absurd p
+Keeps-then (Some s) (Some t) None p q = absurd q
+Keeps-then (Some s) (Some t) (Some u) p q = q ∙ p
+
+pub Appends-keeps : (a b c : Option (List ℕ)) (x : List ℕ) → Appends a b x → Keeps b c → Appends a c x
+Appends-keeps None b c x p k = tt
+Appends-keeps (Some s) None c x p k = absurd p
+Appends-keeps (Some s) (Some t) None x p k = absurd k
+Appends-keeps (Some s) (Some t) (Some u) x p k = k ∙ p
+
+-- a place is added to those that stayed
+pub AddsPlace-after : (given a b c : Option (List ℕ)) → Keeps a b → AddsPlace given b c → AddsPlace given a c
+AddsPlace-after None a b c k p = tt
+AddsPlace-after (Some g) None b c k p = tt
+AddsPlace-after (Some g) (Some s) None c k p = absurd k
+AddsPlace-after (Some g) (Some s) (Some t) None k p = absurd p
+AddsPlace-after (Some g) (Some s) (Some t) (Some u) k p = p ∙ ap (λ (z : List ℕ). z ++ length g ∷ []) k
+
+StillTold-refl : (a : Option (List ℕ)) → StillTold a a
+StillTold-refl None = tt
+StillTold-refl (Some s) = tt
+
+StillTold-then : (a b c : Option (List ℕ)) → StillTold a b → StillTold b c → StillTold a c
+StillTold-then None b c p q = tt
+StillTold-then (Some s) None c p q = absurd p
+StillTold-then (Some s) (Some t) None p q = absurd q
+StillTold-then (Some s) (Some t) (Some u) p q = tt
+
 pub NoneFalls-refl : (a : LinkSeen) → NoneFalls a a
-NoneFalls-refl a = record { plan = refl; moved = omega arith; read_waits = omega arith; write_waits = omega arith; ends = omega arith; faults = omega arith; upgrade_faults = omega arith }
+NoneFalls-refl a = record { plan = refl; places = StillTold-refl a.wait_places; moved = omega arith; read_waits = omega arith; write_waits = omega arith; ends = omega arith; faults = omega arith; upgrade_faults = omega arith }
 
 pub NoneFalls-then : (a b c : LinkSeen) → NoneFalls a b → NoneFalls b c → NoneFalls a c
-NoneFalls-then a b c p q = record { plan = q.plan ∙ p.plan; moved = omega arith; read_waits = omega arith; write_waits = omega arith; ends = omega arith; faults = omega arith; upgrade_faults = omega arith }
+NoneFalls-then a b c p q = record { plan = q.plan ∙ p.plan; places = StillTold-then a.wait_places b.wait_places c.wait_places p.places q.places; moved = omega arith; read_waits = omega arith; write_waits = omega arith; ends = omega arith; faults = omega arith; upgrade_faults = omega arith }

@@ -19,7 +19,7 @@ use Rattle.pg_stream.specs.Streams.{GrewBy, NoneWaited, OneWaited, StreamSeen, S
 use Rattle.pg_stream.specs.Parameters.{ParametersSeen, SetsBy, SetsByAll}
 use Rattle.pg_stream.specs.Asynchronous.{IsAside, TakesAside}
 use Rattle.pg_stream.proofs.ParameterLaws.{sets_heard}
-use Rattle.pg_stream.proofs.Known.{Appends-then, Appends-from_keeps, Appends-refl, NoneFalls-refl, NoneFalls-then}
+use Rattle.pg_stream.proofs.Known.{Keeps-refl, Keeps-then, AddsPlace-after, Appends-then, Appends-from_keeps, Appends-refl, NoneFalls-refl, NoneFalls-then}
 
 pub AreFrames-append : (xs ys : List Frame) → AreFrames xs → AreFrames ys → AreFrames (xs ++ ys)
 AreFrames-append [] ys p q = q
@@ -110,27 +110,33 @@ Moves-none a = record {
   parameters = refl;
 }
 
+pub NoneWaited-none : (a : StreamSeen) → NoneWaited a a
+NoneWaited-none a = (refl, Keeps-refl a.link.wait_places)
+
+pub NoneWaited-then : (a b c : StreamSeen) → NoneWaited a b → NoneWaited b c → NoneWaited a c
+NoneWaited-then a b c p q = (q.0 ∙ p.0, Keeps-then a.link.wait_places b.link.wait_places c.link.wait_places p.1 q.1)
+
 pub AllMoved-none : (a : StreamSeen) → AllMoved a a
-AllMoved-none a = (omega arith, omega arith, refl)
+AllMoved-none a = (omega arith, omega arith, NoneWaited-none a)
 
 pub AllMoved-more : (a b c : StreamSeen) → AllMoved a b → b.left ≤ a.left → c.left + 1 ≡ b.left → OneMoved b c → AllMoved a c
-AllMoved-more a b c p le e r = (omega (arith, p.0, r.0), omega (arith, p.1, r.1), r.2 ∙ p.2)
+AllMoved-more a b c p le e r = (omega (arith, p.0, r.0), omega (arith, p.1, r.1), NoneWaited-then a b c p.2 r.2)
 
 pub AllMoved-then : (a b c : StreamSeen) → AllMoved a b → b.left ≤ a.left → AllMoved b c → c.left ≤ b.left → AllMoved a c
-AllMoved-then a b c p h q k = (omega (arith, p.0, q.0, h, k), omega (arith, p.1, q.1, h, k), q.2 ∙ p.2)
+AllMoved-then a b c p h q k = (omega (arith, p.0, q.0, h, k), omega (arith, p.1, q.1, h, k), NoneWaited-then a b c p.2 q.2)
 
 -- a count that rose in the last step rose over all
 pub Rose-after : (n m k : ℕ) → n ≤ m → Rose m k → Rose n k
 Rose-after n m k le r = omega (arith, le, r)
 
 OneWaited-after : (a b c : StreamSeen) → NoneWaited a b → OneWaited b c → OneWaited a c
-OneWaited-after a b c n w = subst (λ (k : ℕ). GrewBy 1 k c.waits) n w
+OneWaited-after a b c n w = subst (λ (k : ℕ). GrewBy 1 k c.waits) n.0 w
 
 pub WriteWaited-after : (a b c : StreamSeen) → NoneFalls a.link b.link → NoneWaited a b → WriteWaited b c → WriteWaited a c
-WriteWaited-after a b c m n w = (Rose-after _ _ _ m.write_waits w.0, OneWaited-after a b c n w.1)
+WriteWaited-after a b c m n w = (Rose-after _ _ _ m.write_waits w.0, OneWaited-after a b c n w.1, Keeps-then a.link.wait_places b.link.wait_places c.link.wait_places n.1 w.2)
 
 pub ReadWaited-after : (a b c : StreamSeen) → NoneFalls a.link b.link → NoneWaited a b → ReadWaited b c → ReadWaited a c
-ReadWaited-after a b c m n w = (Rose-after _ _ _ m.read_waits w.0, OneWaited-after a b c n w.1)
+ReadWaited-after a b c m n w = (Rose-after _ _ _ m.read_waits w.0, OneWaited-after a b c n w.1, AddsPlace-after c.link.given a.link.wait_places b.link.wait_places c.link.wait_places n.1 w.2)
 
 pub PendingCause-after : (a b c : StreamSeen) → NoneFalls a.link b.link → AllMoved a b → b.left ≤ a.left → c.left ≤ b.left → PendingCause b c → PendingCause a c
 PendingCause-after a b c m s h k p = elim p [
@@ -151,7 +157,7 @@ ErrorCause-after a b c _ m p = absurd p
 pub PollsFront-after : (a b c : StreamSeen) (r : Poll (Result Front Error)) → Moves a b [] [] → b.spare ≡ a.spare → AllMoved a b → PollsFront b c r → PollsFront a c r
 PollsFront-after a b c Pending m k s p = (Moves-then a b c [] [] [] [] m p.0, PendingCause-after a b c m.counts s m.left p.0.left p.1, p.2 ∙ k)
 PollsFront-after a b c (Ready (Ok front)) m k s p = (Moves-then a b c [] [] [] [] m p.0, p.1, AllMoved-then a b c s m.left p.2 p.0.left, p.3, p.4 ∙ k)
-PollsFront-after a b c (Ready (Err e)) m k s p = (Moves-then a b c [] [] [] [] m p.0, ErrorCause-after a b c e m.counts p.1, p.2 ∙ k, p.3 ∙ s.2)
+PollsFront-after a b c (Ready (Err e)) m k s p = (Moves-then a b c [] [] [] [] m p.0, ErrorCause-after a b c e m.counts p.1, p.2 ∙ k, NoneWaited-then a b c s.2 p.3)
 
 -- ---- one link call
 
@@ -174,7 +180,7 @@ sends_moved a link n m w some grew =
       held = refl;
       spare = refl;
       left = omega arith;
-      cause = (w.takes.3, grew.2, refl);
+      cause = (w.takes.3, grew.2, (refl, w.places));
     }
 
 pub reads_moved : (a : StreamSeen) (link : LinkSeen) (into : List ℕ) (n m : ℕ) → Reads a.link link (reads.Moved n) into → length into ≤ 8192 → 0 < a.left → GrewBy 1 a.moves m
@@ -186,7 +192,7 @@ reads_moved a link into n m r fits some grew =
       unsent = refl;
       spare = refl;
       left = omega arith;
-      cause = (r.gives.4, grew.2, refl);
+      cause = (r.gives.4, grew.2, (refl, r.gives.3));
     }
 
 pub reads_waited : (a : StreamSeen) (link : LinkSeen) (into : List ℕ) (m : ℕ) → Reads a.link link reads.NotYet into → 0 < a.left → GrewBy 1 a.waits m
@@ -198,7 +204,7 @@ reads_waited a link into m r some grew =
       unsent = refl;
       spare = refl;
       left = omega arith;
-      cause = ((r.gives.2, grew), refl);
+      cause = ((r.gives.2, grew, r.gives.1), refl);
     }
 
 -- ---- the frame at the front
@@ -273,6 +279,9 @@ pub record ReadsOn (a b : StreamSeen) : Type 0 where
   pub spare : b.spare ≡ a.spare
   pub moved : AllMoved a b
 
+pub reads_none : (a : StreamSeen) → a.unsent ≡ [] → ReadsOn a a
+reads_none a e = record { moves = Moves-none a; unsent = e; spare = refl; moved = AllMoved-none a }
+
 pub reads_on : (a b c : StreamSeen) (n : ℕ) → ReadsOn a b → ReadsOnce b c (reads.Moved n) → ReadsOn a c
 reads_on a b c n i r = record {
   moves = Moves-then a b c [] [] [] [] i.moves r.moves;
@@ -289,10 +298,10 @@ read_waits a b c i none r = (
 )
 
 pub read_ends : (a b c : StreamSeen) → ReadsOn a b → ReadsOnce b c reads.End → PollsFront a c (Ready (Err (errors.Io End)))
-read_ends a b c i r = (Moves-then a b c [] [] [] [] i.moves r.moves, (Rose-after _ _ _ i.moves.counts.ends r.cause.0, r.unsent ∙ i.unsent), r.spare ∙ i.spare, r.cause.2 ∙ i.moved.2)
+read_ends a b c i r = (Moves-then a b c [] [] [] [] i.moves r.moves, (Rose-after _ _ _ i.moves.counts.ends r.cause.0, r.unsent ∙ i.unsent), r.spare ∙ i.spare, NoneWaited-then a b c i.moved.2 r.cause.2)
 
 pub read_fails : (a b c : StreamSeen) → ReadsOn a b → ReadsOnce b c reads.Failed → PollsFront a c (Ready (Err (errors.Io Fault)))
-read_fails a b c i r = (Moves-then a b c [] [] [] [] i.moves r.moves, Rose-after _ _ _ i.moves.counts.faults r.cause.0, r.spare ∙ i.spare, r.cause.2 ∙ i.moved.2)
+read_fails a b c i r = (Moves-then a b c [] [] [] [] i.moves r.moves, Rose-after _ _ _ i.moves.counts.faults r.cause.0, r.spare ∙ i.spare, NoneWaited-then a b c i.moved.2 r.cause.2)
 
 -- ---- frames taken aside, and the next one that isn't
 
@@ -376,7 +385,7 @@ heard_then {A} seen a b c front (Ok frame) p t =
     )
 heard_then {A} seen a b c front (Err e) p t =
     let same : stream_by seen c ≡ stream_by seen b = ap (stream_by seen) t.0 in
-    (p.0, p.1, subst (λ (s : StreamSeen). Moves (stream_by seen a) s [] p.0) (sym same) p.2, subst (HeardCause (stream_by seen a) (stream_by seen c)) (sym t.1) tt, ap (λ (s : StreamSeen). s.spare) same ∙ p.6, ap (λ (s : StreamSeen). s.waits) same ∙ p.4.2)
+    (p.0, p.1, subst (λ (s : StreamSeen). Moves (stream_by seen a) s [] p.0) (sym same) p.2, subst (HeardCause (stream_by seen a) (stream_by seen c)) (sym t.1) tt, ap (λ (s : StreamSeen). s.spare) same ∙ p.6, subst (NoneWaited (stream_by seen a)) (sym same) p.4.2)
 
 -- the same of whatever frame stands there
 pub frame_then : {A : Type 0} (seen : A → LinkSeen) (a b c : StreamOf A) (front : Front) (r : Result Frame Error) → PollsFront (stream_by seen a) (stream_by seen b) (Ready (Ok front)) → TakesFront front b c r
@@ -390,17 +399,17 @@ frame_then {A} seen a b c front (Ok frame) p t =
     )
 frame_then {A} seen a b c front (Err e) p t =
     let same : stream_by seen c ≡ stream_by seen b = ap (stream_by seen) t.0 in
-    (subst (λ (s : StreamSeen). Moves (stream_by seen a) s [] []) (sym same) p.0, subst (ErrorCause (stream_by seen a) (stream_by seen c)) (sym t.1) tt, ap (λ (s : StreamSeen). s.spare) same ∙ p.4, ap (λ (s : StreamSeen). s.waits) same ∙ p.2.2)
+    (subst (λ (s : StreamSeen). Moves (stream_by seen a) s [] []) (sym same) p.0, subst (ErrorCause (stream_by seen a) (stream_by seen c)) (sym t.1) tt, ap (λ (s : StreamSeen). s.spare) same ∙ p.4, subst (NoneWaited (stream_by seen a)) (sym same) p.2.2)
 
 -- an asynchronous message that is refused
 pub refused_once : {A : Type 0} (seen : A → LinkSeen) (a b c : StreamOf A) (front : Front) (e : Error) → PollsFront (stream_by seen a) (stream_by seen b) (Ready (Ok front)) → PassesAside front b c (Err e)
     → AheadOnce (stream_by seen a) (stream_by seen c) (Some (Ready (Err e)))
 refused_once {A} seen a b c front errors.OutOfMemory p q =
     let same : stream_by seen c ≡ stream_by seen b = ap (stream_by seen) q in
-    ([], tt, subst (λ (s : StreamSeen). Moves (stream_by seen a) s [] []) (sym same) p.0, tt, ap (λ (s : StreamSeen). s.spare) same ∙ p.4, ap (λ (s : StreamSeen). s.waits) same ∙ p.2.2)
+    ([], tt, subst (λ (s : StreamSeen). Moves (stream_by seen a) s [] []) (sym same) p.0, tt, ap (λ (s : StreamSeen). s.spare) same ∙ p.4, subst (NoneWaited (stream_by seen a)) (sym same) p.2.2)
 refused_once {A} seen a b c front (errors.Protocol (protocol.Server (faults.Malformed tag))) p q =
     let same : stream_by seen c ≡ stream_by seen b = ap (stream_by seen) q.0 in
-    ([], tt, subst (λ (s : StreamSeen). Moves (stream_by seen a) s [] []) (sym same) p.0, subst (λ (s : StreamOf A). IsMalformedFront s.held tag) (sym q.0) q.1, ap (λ (s : StreamSeen). s.spare) same ∙ p.4, ap (λ (s : StreamSeen). s.waits) same ∙ p.2.2)
+    ([], tt, subst (λ (s : StreamSeen). Moves (stream_by seen a) s [] []) (sym same) p.0, subst (λ (s : StreamOf A). IsMalformedFront s.held tag) (sym q.0) q.1, ap (λ (s : StreamSeen). s.spare) same ∙ p.4, subst (NoneWaited (stream_by seen a)) (sym same) p.2.2)
 refused_once {A} seen a b c front _ p q = absurd q
 
 HeardCause-from : (a b : StreamSeen) (e : Error) → ErrorCause a b e → HeardCause a b e
@@ -437,7 +446,7 @@ hears_last a b c Pending i p =
 hears_last a b c (Ready (Ok front)) i p =
     (i.aside ++ p.0, AreAsynchronous-append i.aside p.0 i.asynchronous p.1, Moves-then a b c [] [] i.aside p.0 i.moves p.2, p.3, AllMoved-then a b c i.moved i.moves.left p.4 p.2.left, p.5, p.6 ∙ i.spare)
 hears_last a b c (Ready (Err e)) i p =
-    (i.aside ++ p.0, AreAsynchronous-append i.aside p.0 i.asynchronous p.1, Moves-then a b c [] [] i.aside p.0 i.moves p.2, HeardCause-after a b c e i.moves.counts p.3, p.4 ∙ i.spare, p.5 ∙ i.moved.2)
+    (i.aside ++ p.0, AreAsynchronous-append i.aside p.0 i.asynchronous p.1, Moves-then a b c [] [] i.aside p.0 i.moves p.2, HeardCause-after a b c e i.moves.counts p.3, p.4 ∙ i.spare, NoneWaited-then a b c i.moved.2 p.5)
 
 -- a message at the front that was taken
 pub took_frame : {A : Type 0} (seen : A → LinkSeen) (a b : StreamOf A) (front : Front) (frame : Frame) (rest : List ℕ) → IsFrontOf a.held front frame rest → is_asynchronous frame ≡ false → Passes front a b
@@ -470,7 +479,7 @@ queues_by {A} seen a b bytes spare room e =
       spare = room;
       parameters = refl;
     } in
-    let all : AllMoved s t = (omega arith, omega arith, refl) in
+    let all : AllMoved s t = (omega arith, omega arith, (refl, Keeps-refl s.link.wait_places)) in
     subst (λ (u : StreamOf A). Moves s (stream_by seen u) bytes [] × AllMoved s (stream_by seen u)) (sym e) (moves, all)
 
 pub queues : {A : Type 0} (seen : A → LinkSeen) (a b : StreamOf A) (bytes : List ℕ) → b ≡ record a { unsent = a.unsent ++ bytes } → Moves (stream_by seen a) (stream_by seen b) bytes [] × AllMoved (stream_by seen a) (stream_by seen b)

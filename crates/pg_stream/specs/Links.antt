@@ -42,9 +42,16 @@ RoseBy n before now = min (before + n) (2 ^ 64 - 1) ≤ now
 abbrev pub Rose : ℕ → ℕ → Type 0
 Rose before now = RoseBy 1 before now
 
+-- what was told is told still, the same or more
+abbrev pub StillTold : Option (List ℕ) → Option (List ℕ) → Type 0
+StillTold None now = Unit {0}
+StillTold (Some before) None = ⊥
+StillTold (Some before) (Some now) = Unit {0}
+
 -- no count falls, and the link is the one that was made
 pub record NoneFalls (a b : LinkSeen) : Type 0 where
   pub plan : b.plan ≡ a.plan
+  pub places : StillTold a.wait_places b.wait_places
   pub moved : a.moved ≤ b.moved
   pub read_waits : a.read_waits ≤ b.read_waits
   pub write_waits : a.write_waits ≤ b.write_waits
@@ -52,7 +59,7 @@ pub record NoneFalls (a b : LinkSeen) : Type 0 where
   pub faults : a.faults ≤ b.faults
   pub upgrade_faults : a.upgrade_faults ≤ b.upgrade_faults
 
--- one more place of a wait, which is the number of bytes given so far
+-- one more place of a wait, which is the number of bytes given by now
 abbrev pub AddsPlace : Option (List ℕ) → Option (List ℕ) → Option (List ℕ) → Type 0
 AddsPlace None old new = Unit {0}
 AddsPlace (Some given) old new = Appends old new (length given ∷ [])
@@ -60,7 +67,7 @@ AddsPlace (Some given) old new = Appends old new (length given ∷ [])
 -- what a read's answer says of the bytes given, and which count rose
 abbrev pub ReadGives : LinkSeen → LinkSeen → LinkRead → List ℕ → Type 0
 ReadGives a b (reads.Moved n) into = (0 < n) × (n ≤ length into) × Appends a.given b.given (take n into) × Keeps a.wait_places b.wait_places × Rose a.moved b.moved
-ReadGives a b reads.NotYet into = Keeps a.given b.given × AddsPlace a.given a.wait_places b.wait_places × Rose a.read_waits b.read_waits
+ReadGives a b reads.NotYet into = Keeps a.given b.given × AddsPlace b.given a.wait_places b.wait_places × Rose a.read_waits b.read_waits
 ReadGives a b reads.End into = Keeps a.given b.given × Keeps a.wait_places b.wait_places × Rose a.ends b.ends
 ReadGives a b reads.Failed into = Keeps a.given b.given × Keeps a.wait_places b.wait_places × Rose a.faults b.faults
 

@@ -1,7 +1,7 @@
 -- What is seen of a stream, and how its calls move it on.
 use Rattle.std.specs.Prelude.{◌≡◌, ℕ, ◌+◌, ◌-◌, ◌*◌, ◌≤◌, length, ◌⊎◌, List, [], ◌∷◌, ◌++◌, Bool, true, false, Option, Some, None, Result, Ok, Err}
 use Rattle.std.specs.List.{AllByRecursion}
-use Rattle.std.specs.Io.KnownBytes.{Appends}
+use Rattle.std.specs.Io.KnownBytes.{Keeps, Appends}
 use Rattle.futures.specs.declared.task.Poll.{Poll}
 use Rattle.futures.specs.declared.task.Poll.TheVariants.{Ready, Pending}
 use Rattle.pg_wire.specs.declared.error.Error.{Error}
@@ -19,7 +19,7 @@ use Rattle.pg_stream.specs.declared.link.LinkRead.TheVariants as reads
 use Rattle.pg_stream.specs.declared.link.LinkWrite.{LinkWrite}
 use Rattle.pg_stream.specs.declared.link.LinkWrite.TheVariants as writes
 use Rattle.pg_wire.specs.Backend.{BackendMessage}
-use Rattle.pg_stream.specs.Links.{LinkSeen, NoneFalls, RoseBy, Rose}
+use Rattle.pg_stream.specs.Links.{LinkSeen, NoneFalls, RoseBy, Rose, AddsPlace}
 use Rattle.pg_stream.specs.Parameters.{ParametersSeen, no_parameters, Carries, SetsBy, SetsByAll}
 use Rattle.pg_stream.specs.Asynchronous.{IsAside}
 
@@ -94,9 +94,13 @@ pub record Moves (a b : StreamSeen) (queued : List ℕ) (frames : List Frame) : 
   pub spare : a.spare ≤ b.spare + length queued
   pub parameters : SetsByAll frames a.parameters b.parameters
 
+-- no read waited, so the link has no further place of a wait
+abbrev pub KeepsPlaces : StreamSeen → StreamSeen → Type 0
+KeepsPlaces a b = Keeps a.link.wait_places b.link.wait_places
+
 -- no link call waited
 abbrev pub NoneWaited : StreamSeen → StreamSeen → Type 0
-NoneWaited a b = b.waits ≡ a.waits
+NoneWaited a b = (b.waits ≡ a.waits) × KeepsPlaces a b
 
 -- one did
 abbrev pub OneWaited : StreamSeen → StreamSeen → Type 0
@@ -104,10 +108,11 @@ OneWaited a b = GrewBy 1 a.waits b.waits
 
 -- one write waited and no other call, one read did, or a call moved bytes: the link and the stream count it
 abbrev pub WriteWaited : StreamSeen → StreamSeen → Type 0
-WriteWaited a b = Rose a.link.write_waits b.link.write_waits × OneWaited a b
+WriteWaited a b = Rose a.link.write_waits b.link.write_waits × OneWaited a b × KeepsPlaces a b
 
+-- the read that waited is the last call, so its place is the number of bytes given by now
 abbrev pub ReadWaited : StreamSeen → StreamSeen → Type 0
-ReadWaited a b = Rose a.link.read_waits b.link.read_waits × OneWaited a b
+ReadWaited a b = Rose a.link.read_waits b.link.read_waits × OneWaited a b × AddsPlace b.link.given a.link.wait_places b.link.wait_places
 
 abbrev pub OneMoved : StreamSeen → StreamSeen → Type 0
 OneMoved a b = Rose a.link.moved b.link.moved × Rose a.moves b.moves × NoneWaited a b

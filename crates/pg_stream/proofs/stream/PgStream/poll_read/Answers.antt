@@ -1,6 +1,9 @@
 use Rattle.pg_stream.specs.Streams.{stream_by}
-use Rattle.pg_stream.proofs.StreamLemmas.{reads_on, read_waits, read_ends, read_fails}
+use Rattle.pg_stream.proofs.StreamLemmas.{reads_none, reads_on, read_waits, read_ends, read_fails}
 use Rattle.pg_stream.proofs.stream.PgStream.poll_read.Goals as goal
+
+pub loop-front-init : goal.loop-front-init
+loop-front-init g c = reads_none (stream_by g.L.Link.seen c.args.self.now) c.requires
 
 pub loop-front-preserved : goal.loop-front-preserved
 loop-front-preserved g c =
