@@ -12,7 +12,7 @@ use Rattle.pg_wire.specs.Bytes.{number32}
 use Rattle.pg_arguments.proofs.JoinLaws.{joined-assoc, joined_nil, joined_first}
 use Rattle.pg_arguments.proofs.PatchLaws.{patch_values, known_there, fits_there, as_long}
 
-wires-push : (values : List (Option Encoded)) (v : Option Encoded) → wires (values ++ v ∷ []) ≡ joined (wires values) (wire v)
+pub wires-push : (values : List (Option Encoded)) (v : Option Encoded) → wires (values ++ v ∷ []) ≡ joined (wires values) (wire v)
 wires-push [] v = joined_nil (wire v) ∙ sym (joined_first (wire v))
 wires-push (x ∷ xs) v = ap (joined (wire x)) (wires-push xs v) ∙ sym (joined-assoc (wire x) (wires xs) (wire v))
 

@@ -8,8 +8,10 @@ use Rattle.pg_arguments.specs.Types.{TypeParts}
 use Rattle.pg_arguments.specs.Encoded.{Encoded, joined, wire, wires}
 use Rattle.pg_arguments.specs.Encoding.{Encoding, Refused, value_of, Extends, Appends, AddsValue, RefusesValue, RefusesEncoding}
 use Rattle.pg_arguments.specs.Arrays.{array_head, array_encoding, more_elements, elements, AddsElements, RefusesElements}
-use Rattle.pg_arguments.proofs.JoinLaws.{joined-assoc, joined_nil, joined_first}
+use Rattle.pg_arguments.proofs.JoinLaws.{joined-assoc, joined_nil}
 use Rattle.pg_arguments.proofs.AddLaws.{extends_by}
+use Rattle.std.proofs.lemmas.Option.{same_Some}
+use Rattle.pg_arguments.proofs.ArgumentLaws.{wires-push}
 
 -- the elements with one more behind them
 abbrev pub one_more : Option (List (Option Encoded)) → Option (Option Encoded) → Option (List (Option Encoded))
@@ -31,14 +33,10 @@ pub elements_push : {X : Type 0} (encoding : X → Encoding) (xs : List X) (x : 
 elements_push encoding [] x = single_element (value_of (encoding x))
 elements_push encoding (y ∷ xs) x = ap (more_elements (value_of (encoding y))) (elements_push encoding xs x) ∙ one_behind (value_of (encoding y)) (value_of (encoding x)) (elements encoding xs)
 
-wires_push : (values : List (Option Encoded)) (v : Option Encoded) → wires (values ++ v ∷ []) ≡ joined (wires values) (wire v)
-wires_push [] v = joined_nil (wire v) ∙ sym (joined_first (wire v))
-wires_push (x ∷ xs) v = ap (joined (wire x)) (wires_push xs v) ∙ sym (joined-assoc (wire x) (wires xs) (wire v))
-
 adds_more : (vs : Option (List (Option Encoded))) (v : Option (Option Encoded)) (old mid new : Encoded) → AddsElements vs old mid → AddsValue v mid new → AddsElements (one_more vs v) old new
 adds_more None v old mid new a b = absurd a
 adds_more (Some vs) None old mid new a b = absurd b
-adds_more (Some vs) (Some v) old mid new a b = b.0 ∙ ap (λ (x : Encoded). joined x (wire v)) a ∙ joined-assoc old (wires vs) (wire v) ∙ ap (joined old) (sym (wires_push vs v))
+adds_more (Some vs) (Some v) old mid new a b = b.0 ∙ ap (λ (x : Encoded). joined x (wire v)) a ∙ joined-assoc old (wires vs) (wire v) ∙ ap (joined old) (sym (wires-push vs v))
 
 pub adds_next : {X : Type 0} (encoding : X → Encoding) (xs : List X) (x : X) (old mid new : Encoded) → AddsElements (elements encoding xs) old mid → AddsValue (value_of (encoding x)) mid new
     → AddsElements (elements encoding (xs ++ x ∷ [])) old new
@@ -67,17 +65,14 @@ element_refuses encoding all xs x ys _ at r = absurd r
 
 -- ---- the whole array
 
-some_is_same : {A : Type 0} (x y : A) → Some x ≡ Some y → x ≡ y
-some_is_same x y e = cc
-
 more_is : (v : Option (Option Encoded)) (rest : Option (List (Option Encoded))) (vs : List (Option Encoded)) → more_elements v rest ≡ Some vs
     → (a : Option Encoded) × (more : List (Option Encoded)) × (rest ≡ Some more) × (vs ≡ a ∷ more)
 more_is None rest vs e = absurd cc
 more_is (Some v) None vs e = absurd cc
-more_is (Some v) (Some more) vs e = (v, more, refl, sym (some_is_same (v ∷ more) vs e))
+more_is (Some v) (Some more) vs e = (v, more, refl, sym (same_Some (v ∷ more) vs e))
 
 pub length_elements : {X : Type 0} (encoding : X → Encoding) (xs : List X) (vs : List (Option Encoded)) → elements encoding xs ≡ Some vs → length vs ≡ length xs
-length_elements {X} encoding [] vs e = ap length (sym (some_is_same [] vs e))
+length_elements {X} encoding [] vs e = ap length (sym (same_Some [] vs e))
 length_elements {X} encoding (x ∷ xs) vs e =
     let m = more_is (value_of (encoding x)) (elements encoding xs) vs e in
     ap length m.3 ∙ ap suc (length_elements encoding xs m.1 m.2)

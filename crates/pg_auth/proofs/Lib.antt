@@ -1,4 +1,3 @@
-pub mod Choices
 pub mod XorLemmas
 pub mod BlockLemmas
 pub mod NonceLemmas

@@ -3,7 +3,7 @@ use Rattle.std.proofs.Common.{◌≡◌, ℕ, zero, suc, if◌then◌else◌, �
 use Rattle.std.specs.Prelude.{not, cond, ◌&&◌, ◌/◌, ◌%◌}
 use Rattle.std.specs.List.{AllByRecursion, AllPass, list_all}
 use Rattle.std.specs.Result.{result_ok}
-use Rattle.std.specs.Char.{is_ascii_digit, digit_value}
+use Rattle.std.specs.Char.{is_ascii_digit}
 use Rattle.std.specs.Str.Parse.{digits_value_after}
 use Rattle.std.proofs.lemmas.List.{append_assoc, append-nil}
 use Rattle.std.proofs.lemmas.List.Sums.{AllPass-from_list_all, list_all-from_AllPass}
@@ -12,10 +12,13 @@ use Rattle.base64.specs.Engines.{standard}
 use Rattle.base64.specs.Rfc4648.{encode_symbols, encode_group, padding_len}
 use Rattle.base64.specs.GeneralPurpose.{IsBytes, decode_of, encode_of}
 use Rattle.base64.proofs.EngineFacts.{decode_of_strict, decode_of-encode_of, front_bytes}
-use Rattle.pg_auth.proofs.Choices.{and_true, chosen, guarded}
 use Rattle.pg_auth.specs.Nonce.{is_printable, ArePrintable}
 use Rattle.pg_auth.specs.Scram.{ServerFirst, IsServerFirst, IsCount, AreExtensions}
 use Rattle.pg_auth.specs.Reading.{◌>>=◌, before_comma, behind_comma, attribute_at, digits_after, count_at, are_printable, salt_at, fields_at, said, server_first_at}
+use Rattle.pg_wire.proofs.Tests.{both_true, negated, guarded}
+use Rattle.std.proofs.lemmas.Option.{cond_some, same_Some}
+use Rattle.pg_wire.proofs.ReaderLaws.{bind_some}
+use Rattle.pg_wire.proofs.CompletionLaws.{digit_is}
 
 -- ---- no comma
 
@@ -42,15 +45,11 @@ HasNone-digits (b ∷ x) h = (digit_not_comma b (h 0 0 (omega arith)), HasNone-d
 
 index_passes : (p : ℕ → Bool) (xs : List ℕ) → list_all p xs ≡ true → p 0 ≡ true → (k : ℕ) → p (slice_index xs k) ≡ true
 index_passes p [] all z k = z
-index_passes p (x ∷ xs) all z zero = (and_true (p x) (list_all p xs) all).0
-index_passes p (x ∷ xs) all z (suc k) = index_passes p xs (and_true (p x) (list_all p xs) all).1 z k
-
-not_false : (b : Bool) → not b ≡ true → b ≡ false
-not_false true e = absurd cc
-not_false false e = refl
+index_passes p (x ∷ xs) all z zero = (both_true (p x) (list_all p xs) all).0
+index_passes p (x ∷ xs) all z (suc k) = index_passes p xs (both_true (p x) (list_all p xs) all).1 z k
 
 no_symbol : (k : ℕ) → nat_eq (slice_index standard.encode_table k) 44 ≡ false
-no_symbol k = not_false (nat_eq (slice_index standard.encode_table k) 44) (index_passes (λ b. not (nat_eq b 44)) standard.encode_table refl refl k)
+no_symbol k = negated (nat_eq (slice_index standard.encode_table k) 44) (index_passes (λ b. not (nat_eq b 44)) standard.encode_table refl refl k)
 
 HasNone-symbols : (t m : List ℕ) → ((k : ℕ) → nat_eq (slice_index t k) 44 ≡ false) → HasNone (encode_symbols t m)
 unfolding encode_symbols
@@ -108,8 +107,8 @@ unfolding attribute_at
 attribute_is name [] value rest e = absurd cc
 attribute_is name (n ∷ []) value rest e = absurd cc
 attribute_is name (n ∷ sign ∷ text) value rest e =
-    let taken = chosen (nat_eq n name && nat_eq sign 61) (before_comma text, behind_comma text) (value, rest) e in
-    let tests = and_true (nat_eq n name) (nat_eq sign 61) taken.0 in
+    let taken = cond_some (nat_eq n name && nat_eq sign 61) (before_comma text, behind_comma text) (value, rest) e in
+    let tests = both_true (nat_eq n name) (nat_eq sign 61) taken.0 in
     let named : n ≡ name = grind (arith, nat_tests, tests.0) in
     let signed : sign ≡ 61 = grind (arith, nat_tests, tests.1) in
     let s = splits text in
@@ -131,15 +130,11 @@ attribute_last name value tail h (inr e) = (e.0, rw e.1 (attribute_front name va
 
 -- ---- fields
 
-bound : {A B : Type 0} (o : Option A) (f : A → Option B) (y : B) → (o >>= f) ≡ Some y → (x : A) × (o ≡ Some x) × (f x ≡ Some y)
-bound None f y e = absurd cc
-bound (Some x) f y e = (x, refl, e)
-
 printable_is : (text nonce : List ℕ) → are_printable text ≡ Some nonce → (text ≡ nonce) × (0 < length text) × ArePrintable text
 unfolding are_printable
 printable_is text nonce e =
-    let taken = chosen (nat_lt 0 (length text) && list_all is_printable text) text nonce e in
-    let tests = and_true (nat_lt 0 (length text)) (list_all is_printable text) taken.0 in
+    let taken = cond_some (nat_lt 0 (length text) && list_all is_printable text) text nonce e in
+    let tests = both_true (nat_lt 0 (length text)) (list_all is_printable text) taken.0 in
     let some : 0 < length text = grind (arith, nat_tests, tests.0) in
     (taken.1, some, AllPass-from_list_all is_printable text tests.1)
 
@@ -148,9 +143,6 @@ unfolding are_printable
 printable_of nonce some all =
     let test : nat_lt 0 (length nonce) ≡ true = grind (arith, nat_tests) in
     rw (test, list_all-from_AllPass is_printable nonce all) refl
-
-digit_is : (b : ℕ) → is_ascii_digit b ≡ true → digit_value b ≡ b - 48
-digit_is b e = grind (arith, nat_tests)
 
 digits_by : (n b m : ℕ) (rest : List ℕ) (t : Bool) → is_ascii_digit b ≡ t → cond t (digits_after (n * 10 + (b - 48)) rest) None ≡ Some m → (is_ascii_digit b ≡ true) × (digits_after (n * 10 + (b - 48)) rest ≡ Some m)
 digits_by n b m rest true t e = (t, e)
@@ -166,16 +158,16 @@ digits_is n (b ∷ ds) m e =
 digits_of : (n : ℕ) (ds : List ℕ) → list_all is_ascii_digit ds ≡ true → digits_after n ds ≡ Some (digits_value_after 10 n ds)
 digits_of n [] all = refl
 digits_of n (b ∷ ds) all =
-    let both = and_true (is_ascii_digit b) (list_all is_ascii_digit ds) all in
+    let both = both_true (is_ascii_digit b) (list_all is_ascii_digit ds) all in
     rw (both.0, digit_is b both.0) (digits_of (n * 10 + (b - 48)) ds both.1)
 
 count_is : (ds : List ℕ) (n : ℕ) → count_at ds ≡ Some n → IsCount ds n
 unfolding count_at
 count_is ds n e =
     let sized = guarded (nat_lt 0 (length ds) && nat_le (length ds) 10) (digits_after 0 ds >>= λ m. if nat_lt m (2 ^ 32) then Some m else None) n e in
-    let sizes = and_true (nat_lt 0 (length ds)) (nat_le (length ds) 10) sized.0 in
-    let read = bound (digits_after 0 ds) (λ m. if nat_lt m (2 ^ 32) then Some m else None) n sized.1 in
-    let small = chosen (nat_lt read.0 (2 ^ 32)) read.0 n read.2 in
+    let sizes = both_true (nat_lt 0 (length ds)) (nat_le (length ds) 10) sized.0 in
+    let read = bind_some (digits_after 0 ds) (λ m. if nat_lt m (2 ^ 32) then Some m else None) n sized.1 in
+    let small = cond_some (nat_lt read.0 (2 ^ 32)) read.0 n read.2 in
     let digits = digits_is 0 ds read.0 read.1 in
     let fits : read.0 < 2 ^ 32 = grind (arith, nat_tests, small.0) in
     record {
@@ -194,11 +186,8 @@ count_of ds n is =
     let fits : nat_lt n (2 ^ 32) ≡ true = grind (arith, nat_tests, is.fits) in
     rw (some, short, digits_of 0 ds (list_all-from_AllPass is_ascii_digit ds is.decimal), is.value, fits) refl
 
-some_is : {A : Type 0} (x y : A) → Some x ≡ Some y → x ≡ y
-some_is x y e = cc
-
 ok_is : {A E : Type 0} (r : Result A E) (x : A) → result_ok r ≡ Some x → r ≡ Ok x
-ok_is (Ok y) x e = ap Ok (some_is y x e)
+ok_is (Ok y) x e = ap Ok (same_Some y x e)
 ok_is (Err f) x e = absurd cc
 
 back_bytes : (a b : List ℕ) → IsBytes (a ++ b) → IsBytes b
@@ -261,12 +250,12 @@ fields_from text r s i n c er es ei en ec =
 fields_are : (text : List ℕ) (f : List ℕ × List ℕ × ℕ) → fields_at text ≡ Some f → Fields text f.0 f.1 f.2
 unfolding fields_at
 fields_are text f e =
-    let r = bound (attribute_at 114 text) _ f e in
-    let s = bound (attribute_at 115 r.0.1) _ f r.2 in
-    let i = bound (attribute_at 105 s.0.1) _ f s.2 in
-    let n = bound (are_printable r.0.0) _ f i.2 in
-    let c = bound (count_at i.0.0) _ f n.2 in
-    subst (λ (t : List ℕ × List ℕ × ℕ). Fields text t.0 t.1 t.2) (some_is (n.0, s.0.0, c.0) f c.2) (fields_from text r.0 s.0 i.0 n.0 c.0 r.1 s.1 i.1 n.1 c.1)
+    let r = bind_some (attribute_at 114 text) _ f e in
+    let s = bind_some (attribute_at 115 r.0.1) _ f r.2 in
+    let i = bind_some (attribute_at 105 s.0.1) _ f s.2 in
+    let n = bind_some (are_printable r.0.0) _ f i.2 in
+    let c = bind_some (count_at i.0.0) _ f n.2 in
+    subst (λ (t : List ℕ × List ℕ × ℕ). Fields text t.0 t.1 t.2) (same_Some (n.0, s.0.0, c.0) f c.2) (fields_from text r.0 s.0 i.0 n.0 c.0 r.1 s.1 i.1 n.1 c.1)
 
 bytes_inside : (n s t : List ℕ) → IsBytes (114 ∷ 61 ∷ n ++ (44 ∷ (115 ∷ 61 ∷ s ++ t))) → IsBytes s
 bytes_inside n s t h = front_bytes s t (λ k. back_bytes n (44 ∷ (115 ∷ 61 ∷ s ++ t)) (λ i. h (suc (suc i))) (suc (suc (suc k))))
@@ -291,9 +280,9 @@ server_first_from text m f salt bytes all ef es same =
 pub server_first_is : (text : List ℕ) (m : ServerFirst) → IsBytes text → IsBytes m.salt → server_first_at text ≡ Some m → IsServerFirst text m
 unfolding server_first_at
 server_first_is text m bytes all e =
-    let f = bound (fields_at text) _ m e in
-    let s = bound (salt_at f.0.1) _ m f.2 in
-    server_first_from text m f.0 s.0 bytes all f.1 s.1 (some_is (said f.0.0 s.0 f.0.2) m s.2)
+    let f = bind_some (fields_at text) _ m e in
+    let s = bind_some (salt_at f.0.1) _ m f.2 in
+    server_first_from text m f.0 s.0 bytes all f.1 s.1 (same_Some (said f.0.0 s.0 f.0.2) m s.2)
 
 pub server_first_of : (text : List ℕ) (m : ServerFirst) → IsServerFirst text m → server_first_at text ≡ Some m
 unfolding server_first_at fields_at
@@ -318,4 +307,4 @@ no_server_first text none m is = none_some (server_first_at text) m none (server
 
 -- a text is read in one way
 pub one_reading : (text : List ℕ) (m n : ServerFirst) → IsServerFirst text m → IsServerFirst text n → m ≡ n
-one_reading text m n a b = some_is m n (sym (server_first_of text m a) ∙ server_first_of text n b)
+one_reading text m n a b = same_Some m n (sym (server_first_of text m a) ∙ server_first_of text n b)

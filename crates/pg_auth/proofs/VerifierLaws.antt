@@ -9,10 +9,11 @@ use Rattle.base64.specs.Rfc4648.{encode_symbols, padding_len}
 use Rattle.base64.specs.GeneralPurpose.{IsBytes, IsDecodedInto, decode_of, encode_of}
 use Rattle.base64.proofs.EngineFacts.{decode_of_strict, decode_of-encode_of, front_bytes}
 use Rattle.base64.proofs.RoundTrip.{length-encode_symbols}
-use Rattle.pg_auth.proofs.Choices.{and_true, chosen}
 use Rattle.pg_auth.specs.Scram.{verifier_text}
 use Rattle.pg_auth.specs.ScramAnswers.{IsVerifier}
 use Rattle.pg_auth.specs.Reading.{verifier_at, IsEncoded}
+use Rattle.pg_wire.proofs.Tests.{both_true, same_found}
+use Rattle.std.proofs.lemmas.Option.{cond_some}
 
 encoded_length : (s : List ℕ) → length s ≡ 32 → length (encode_of standard s) ≡ 44
 encoded_length s size =
@@ -58,17 +59,14 @@ unfolding verifier_at
 verifier_is [] encoded e = absurd cc
 verifier_is (n ∷ []) encoded e = absurd cc
 verifier_is (n ∷ sign ∷ text) encoded e =
-    let taken = chosen (nat_eq n 118 && nat_eq sign 61) text encoded e in
-    let tests = and_true (nat_eq n 118) (nat_eq sign 61) taken.0 in
+    let taken = cond_some (nat_eq n 118 && nat_eq sign 61) text encoded e in
+    let tests = both_true (nat_eq n 118) (nat_eq sign 61) taken.0 in
     let named : n ≡ 118 = grind (arith, nat_tests, tests.0) in
     let signed : sign ≡ 61 = grind (arith, nat_tests, tests.1) in
     rw (named, signed) (ap (λ (y : List ℕ). 118 ∷ 61 ∷ y) taken.1)
 
 none_some : {A : Type 0} (o : Option A) (x : A) → o ≡ None → o ≡ Some x → ⊥
 none_some o x a b = cc
-
-some_some : {A : Type 0} (o : Option A) (x y : A) → o ≡ Some x → o ≡ Some y → x ≡ y
-some_some o x y a b = cc
 
 verifier_of : (text s : List ℕ) → IsVerifier text s → verifier_at text ≡ Some (encode_of standard s)
 unfolding verifier_at verifier_text
@@ -79,7 +77,7 @@ no_verifier text none s is = none_some (verifier_at text) (encode_of standard s)
 
 pub no_verifier_behind : (text encoded : List ℕ) → verifier_at text ≡ Some encoded → ((s : List ℕ) → IsEncoded encoded s → ⊥) → (s : List ℕ) → IsVerifier text s → ⊥
 no_verifier_behind text encoded some none s is =
-    none s (record { size = is.size; bytes = is.bytes; spelled = some_some (verifier_at text) encoded (encode_of standard s) some (verifier_of text s is) })
+    none s (record { size = is.size; bytes = is.bytes; spelled = same_found (verifier_at text) encoded (encode_of standard s) some (verifier_of text s is) })
 
 pub verifier_behind : (text encoded s : List ℕ) → verifier_at text ≡ Some encoded → IsEncoded encoded s → IsVerifier text s
 unfolding verifier_text

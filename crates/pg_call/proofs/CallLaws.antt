@@ -45,6 +45,7 @@ use Rattle.pg_call.specs.Calls.{IsDraining, IsReplying, owes_own, owes_none, Cal
 use Rattle.pg_call.proofs.DrainLaws.{count-push, count-same, after_below, after_from, before_below, before_from, failed-push, fails-push, still_failed, no_more_failed}
 use Rattle.pg_call.proofs.ItemLaws.{items-push, tally-more}
 use Rattle.pg_call.proofs.RefusedLaws.{group_refused}
+use Rattle.pg_wire.proofs.Each.{each_end}
 
 -- ---- a reply that no one waits for
 
@@ -184,10 +185,6 @@ leaves_own start r said hs hs' items reply i copied own' can c before after have
   rests = λ e. absurd (omega (arith, e));
 }
 
-all_and : {A : Type 0} (P : A → Type 0) (xs : List A) (x : A) → AllByRecursion P xs → P x → AllByRecursion P (xs ++ x ∷ [])
-all_and P [] x h k = (k, tt)
-all_and P (y ∷ ys) x h k = (h.0, all_and P ys x h.1 k)
-
 -- one message more of the own reply
 own_push : (start : Ledger) (r : Request) (said : List FrontendMessage) (hs : List Frame) (items : List CallItem) (reply : Reply) (i : IsReplying start r said hs items reply) (m : BackendMessage)
     → after_readys start.owed (hs ++ backend_frame m ∷ []) ≡ map backend_frame (i.own ++ m ∷ [])
@@ -204,7 +201,7 @@ leaves_with start r said hs items reply copied m can have z none i =
     (count-same is_ready hs (backend_frame m) start.owed z i.counted)
     (before_from hs start.owed (backend_frame m) (omega (arith, i.counted)))
     (own_push start r said hs items reply i m)
-    (all_and HasBackendFrame i.own m i.own_have_frames have)
+    (each_end HasBackendFrame i.own m i.own_have_frames have)
     (items_same i.own m none)
 
 -- an error ends it
@@ -289,7 +286,7 @@ closed_fine start r said hs items reply i status can =
       counted = omega (arith, i.counted, i.one, count-push is_ready hs f);
       well = count-same is_error hs f 0 refl i.well;
       replied = own_push start r said hs items reply i m;
-      reply_has_frames = all_and HasBackendFrame i.own m i.own_have_frames tt;
+      reply_has_frames = each_end HasBackendFrame i.own m i.own_have_frames tt;
       items_are = i.items_are ∙ ap (λ (k : Kind). shown k (items_of i.own)) i.kind_is ∙ ap (shown (kind_of r)) (sym (items_same i.own m refl));
       ends = inr (hs, f, refl, refl);
     }
@@ -356,7 +353,7 @@ went_on start r said hs items reply next m have goes z e i = record {
   counted = count-same is_ready hs (backend_frame m) start.owed z i.counted;
   well = count-same is_error hs (backend_frame m) 0 e i.well;
   own_is = own_push start r said hs items reply i m;
-  own_have_frames = all_and HasBackendFrame i.own m i.own_have_frames have;
+  own_have_frames = each_end HasBackendFrame i.own m i.own_have_frames have;
   so_far = part-push (awaits_first reply.kind) reply.part next i.own m i.so_far goes;
   tally_is = ap (λ (t : Tally). added_all reply.kind t (item_of m)) i.tally_is ∙ tally-more reply.kind (items_of i.own) (item_of m) ∙ ap (tally_of reply.kind) (sym (items-push i.own m));
   items_are = ap (λ (t : List CallItem). t ++ filter (yields reply.kind) (item_of m)) i.items_are ∙ sym (filter-append (yields reply.kind) (items_of i.own) (item_of m)) ∙ ap (shown reply.kind) (sym (items-push i.own m));

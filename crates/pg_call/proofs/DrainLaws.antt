@@ -32,7 +32,7 @@ after_below (g ∷ fs) (suc n) f h =
       | false ↦ λ q. after_below fs (suc n) f (omega (arith, q))
     ]) k
 
-before_nil : (n : ℕ) → before_readys n [] ≡ []
+pub before_nil : (n : ℕ) → before_readys n [] ≡ []
 before_nil zero = refl
 before_nil (suc n) = refl
 

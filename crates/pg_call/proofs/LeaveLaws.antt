@@ -20,12 +20,8 @@ use Rattle.pg_call.specs.Items.{shown, empty_tally, tally_of, keeps_all, keeps_f
 use Rattle.pg_call.specs.Hearing.{fresh_reply}
 use Rattle.pg_call.specs.Drains.{is_error, before_readys, after_readys, drain_fails}
 use Rattle.pg_call.specs.Calls.{CallIs, IsDraining, IsClosing, Leaves, IsFine, EndsByReady, CallEnds, owes_own}
-use Rattle.pg_call.proofs.DrainLaws.{count-cons, after_nil}
+use Rattle.pg_call.proofs.DrainLaws.{count-cons, after_nil, before_nil}
 use Rattle.pg_call.proofs.CallLaws.{leaves_draining, leaves_own, no_groups_close}
-
-before_none : (n : ℕ) → before_readys n [] ≡ []
-before_none zero = refl
-before_none (suc n) = refl
 
 any_false : (b : Bool) → b ≡ b && not false
 any_false true = refl
@@ -41,11 +37,11 @@ draining_none start = record {
   failed_is = refl;
   well = refl;
   none = after_nil start.owed;
-  all = before_none start.owed;
+  all = before_nil start.owed;
 }
 
 asked_said : (start : Ledger) → [] ≡ drain_fails start.is_copy_failed (before_readys start.owed []) ++ ([] ++ []) ++ []
-asked_said start = let none = before_none start.owed in rw none refl
+asked_said start = let none = before_nil start.owed in rw none refl
 
 -- one that was not polled
 leaves_asked : (start : Ledger) (r : Request) → Leaves start r [] [] [] start false

@@ -1,5 +1,5 @@
 -- What a poll answers is of the call's kind.
-use Rattle.std.proofs.Common.{◌≡◌, ◌∙◌, ℕ, [], ◌∷◌, ◌++◌, refl, sym, subst, arith, Result, Err, Option, Some, None}
+use Rattle.std.proofs.Common.{◌≡◌, ℕ, [], ◌∷◌, ◌++◌, refl, sym, subst, arith, Result, Err, Option, Some, None}
 use Rattle.futures.specs.declared.task.Poll.{Poll}
 use Rattle.futures.specs.declared.task.Poll.TheVariants.{Ready, Pending}
 use Rattle.pg_wire.specs.declared.error.ServerFault.{ServerFault}
@@ -79,12 +79,6 @@ pub starts_with_room : (a : ConnSeen) (request : Request) → HasRoom (started_c
 starts_with_room a request = omega arith
 
 -- ---- a close
-
-pub same_some : {A : Type 0} (o : Option A) (x y : A) → o ≡ Some x → o ≡ Some y → x ≡ y
-same_some {A = A} o x y e f = the_same x y (sym e ∙ f)
-  where
-    the_same : (x y : A) → Some x ≡ Some y → x ≡ y
-    the_same x y k = cc
 
 pub closes_by : {A : Type 0} (seen : A → LinkSeen) (a a' b : ConnOf A) (r r' : Option Request) (new : Option (ConnOf A)) (answer : Poll (Result A Error)) → r ≡ r' → a ≡ a' → PollsCall (seen_by seen (begun_by r a)) (seen_by seen b) (turn_of closing_turn answer)
     → PollFits kinds.Close b (turn_of closing_turn answer) → KeepsConn b new answer → PollsClose seen (begun_by r' a') new answer

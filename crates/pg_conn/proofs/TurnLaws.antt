@@ -17,8 +17,8 @@ use Rattle.pg_wire.specs.Parts.{heard, is_asynchronous}
 use Rattle.pg_wire.proofs.PartLaws.{heard-append}
 use Rattle.pg_stream.specs.Links.{LinkSeen, NoneFalls}
 use Rattle.pg_stream.specs.declared.stream.Front.{Front}
-use Rattle.pg_stream.specs.Streams.{StreamOf, StreamSeen, GrewBy, stream_by, Moves, AllMoved, Passes, IsFrontOf, IsHeardFront, AreAsynchronous, PollsAhead, PollsSend, SendGives, PendingCause, HeardCause}
-use Rattle.pg_stream.proofs.StreamLemmas.{NoneWaited-none, NoneWaited-then, Moves-none, Moves-then, AllMoved-none, AllMoved-then, PendingCause-after, ErrorCause-after, text_of-append, queues_by, took_frame}
+use Rattle.pg_stream.specs.Streams.{StreamOf, StreamSeen, GrewBy, stream_by, Moves, AllMoved, Passes, IsFrontOf, IsHeardFront, AreAsynchronous, PollsAhead, PollsSend, SendGives, PendingCause}
+use Rattle.pg_stream.proofs.StreamLemmas.{NoneWaited-none, NoneWaited-then, Moves-none, Moves-then, AllMoved-none, AllMoved-then, PendingCause-after, text_of-append, queues_by, took_frame, GrewBy-then, HeardCause-after}
 use Rattle.pg_request.specs.Queries.{QueryText}
 use Rattle.pg_call.specs.declared.kind.Kind.{Kind}
 use Rattle.pg_call.specs.declared.kind.Kind.TheVariants as kinds
@@ -40,6 +40,7 @@ use Rattle.pg_call.specs.Calls.{CallIs, IsAwaiting, CallEnds, CallTakes, StaysIn
 use Rattle.pg_call.proofs.LeaveLaws.{leaves_call, call_well, closing_fine, flush_fine, draining_none, replying_from, closing_from}
 use Rattle.pg_conn.specs.Connections.{ConnOf, ConnSeen, seen_by, idle, with_spare, queued_call, awaiting, closing, frames_in}
 use Rattle.pg_conn.specs.Turns.{ends_request, IsMissed, FailsBy, EndsBy, Tells, BeatCause, Turns, TakesBeat, IsAsked, cleanup_of, HasRoom, IsSayable, Prepares, Refuses, Refused, Polled, broken_by, is_flushed, IsAhead, Readies, Accepts, queued_copy_fail}
+use Rattle.pg_startup.proofs.GreetLaws.{heard_none, heard_one}
 
 -- the bytes of messages, one after another
 pub spelled-append : (xs ys : List FrontendMessage) → spelled (xs ++ ys) ≡ spelled xs ++ spelled ys
@@ -48,28 +49,16 @@ spelled-append xs ys = ap text_of (map-append frontend_frame xs ys) ∙ text_of-
 pub counts-append : (xs ys : List FrontendMessage) → count_by ends_request (xs ++ ys) ≡ count_by ends_request xs + count_by ends_request ys
 counts-append xs ys = sum_by-append (λ (m : FrontendMessage). cond (ends_request m) 1 0) xs ys
 
-grew-then : (x y z a b c : ℕ) → GrewBy x a b → GrewBy y b c → z ≡ x + y → GrewBy z a c
-grew-then x y z a b c p q r = omega (arith, p, q, r)
-
 grew-none : (a : ℕ) → GrewBy 0 a a
 grew-none a = omega arith
 
 -- ---- a beat after beats that went on
 
-heard_cause_after : (a b c : StreamSeen) (e : Error) → NoneFalls a.link b.link → HeardCause b c e → HeardCause a c e
-heard_cause_after a b c (errors.Protocol (protocol.Server (faults.Malformed tag))) m h = h
-heard_cause_after a b c errors.OutOfMemory m h = tt
-heard_cause_after a b c (errors.Io io.Fault) m h = ErrorCause-after a b c (errors.Io io.Fault) m h
-heard_cause_after a b c (errors.Io io.End) m h = ErrorCause-after a b c (errors.Io io.End) m h
-heard_cause_after a b c (errors.Protocol (protocol.Server (faults.ShortLength tag size))) m h = h
-heard_cause_after a b c (errors.Protocol (protocol.Server (faults.UnknownTag tag))) m h = h
-heard_cause_after a b c _ m h = absurd h
-
 fails_from : (a b c : ConnSeen) (start : Ledger) (r : Request) (own : List Group) (hs : List Frame) (e : Error) → NoneFalls a.stream.link b.stream.link → FailsBy b c start r own hs e → FailsBy a c start r own hs e
-fails_from a b c start r own hs e m (inl h) = inl (heard_cause_after a.stream b.stream c.stream e m h.0, h.1)
+fails_from a b c start r own hs e m (inl h) = inl (HeardCause-after a.stream b.stream c.stream e m h.0, h.1)
 fails_from a b c start r own hs e m (inr f) = inr f
 
-tells_from : (a b c : ConnSeen) (start : Ledger) (r : Request) (said : List FrontendMessage) (hs : List Frame) (items : List CallItem) (beat : Beat) → NoneFalls a.stream.link b.stream.link
+pub tells_from : (a b c : ConnSeen) (start : Ledger) (r : Request) (said : List FrontendMessage) (hs : List Frame) (items : List CallItem) (beat : Beat) → NoneFalls a.stream.link b.stream.link
     → Tells b c start r said hs items beat → Tells a c start r said hs items beat
 tells_from a b c start r said hs items beats.More m t = t
 tells_from a b c start r said hs items beats.Waits m t = t
@@ -95,7 +84,7 @@ Turns-then a b c beat q q' fs fs' hs hs' s t = record {
   hears = heard-append fs fs' ∙ ap (λ (x : List Frame). x ++ heard fs') s.hears ∙ ap (λ (x : List Frame). hs ++ x) t.hears;
   cause = cause_after a b c beat s.moves.counts s.cause s.moves.left t.moves.left t.cause;
   broken = t.broken ∙ s.broken;
-  counted = grew-then (length hs) (length hs') (length (hs ++ hs')) a.heard b.heard c.heard s.counted t.counted (length-append hs hs');
+  counted = GrewBy-then (length hs) (length hs') (length (hs ++ hs')) a.heard b.heard c.heard s.counted t.counted (length-append hs hs');
   started = (t.started.0 ∙ s.started.0, t.started.1 ∙ s.started.1);
   asked = λ i. s.asked (t.asked i);
   room = λ h. t.room (s.room h);
@@ -104,7 +93,7 @@ Turns-then a b c beat q q' fs fs' hs hs' s t = record {
       let two = t.tells start r (said ++ one.0) (heards ++ hs) items one.3 in (
         one.0 ++ two.0,
         spelled-append one.0 two.0 ∙ ap (λ (x : List ℕ). x ++ spelled two.0) one.1 ∙ ap (λ (x : List ℕ). q ++ x) two.1,
-        grew-then (count_by ends_request one.0) (count_by ends_request two.0) (count_by ends_request (one.0 ++ two.0)) a.groups b.groups c.groups one.2 two.2 (counts-append one.0 two.0),
+        GrewBy-then (count_by ends_request one.0) (count_by ends_request two.0) (count_by ends_request (one.0 ++ two.0)) a.groups b.groups c.groups one.2 two.2 (counts-append one.0 two.0),
         tells_from a b c start r (said ++ (one.0 ++ two.0)) (heards ++ (hs ++ hs')) items beat s.moves.counts
             (rw (← append_assoc said one.0 two.0, ← append_assoc heards hs hs') two.3),
       );
@@ -331,10 +320,6 @@ polled_whole {A} seen a m beat whole takes says asked none = polled seen a m m b
 
 -- ---- messages
 
-heard_none : (fs : List Frame) → AreAsynchronous fs → heard fs ≡ []
-heard_none [] h = refl
-heard_none (f ∷ fs) h = let e = h.0.0 in rw e (heard_none fs h.1)
-
 -- a call that hears is owed a reply
 awaiting_owed : (start : Ledger) (r : Request) (said : List FrontendMessage) (hs : List Frame) (items : List CallItem) (ledger : Ledger) (call : Call) → IsAwaiting ledger call → CallIs start r said hs items ledger call → 0 < ledger.owed
 awaiting_owed start r said hs items ledger (calls.Waiting w) h i = h
@@ -489,9 +474,6 @@ with_room {A} seen a r room le =
 
 heard_tag : (front : Front) (held : List ℕ) (body rest : List ℕ) → IsHeardFront held front → IsFrontOf held front (framed front.tag body) rest → is_asynchronous (framed front.tag body) ≡ false
 heard_tag front held body rest f of = rw f.2.tag at f.3
-
-heard_one : (f : Frame) → is_asynchronous f ≡ false → heard (f ∷ []) ≡ f ∷ []
-heard_one f h = rw h refl
 
 -- a message at the front is taken
 taken_moves : {A : Type 0} (seen : A → LinkSeen) (a t : StreamOf A) (front : Front) (body rest : List ℕ) (fails : Bool) → IsHeardFront a.held front → IsFrontOf a.held front (framed front.tag body) rest → (fails ≡ true → 57 ≤ t.spare) → Passes front a t

@@ -1,7 +1,9 @@
 -- What is seen of a dial.
-use Rattle.std.specs.Prelude.{◌≡◌, ℕ, ◌+◌, ◌-◌, ◌^◌, min, List, [], ◌∷◌, Option, Some, None, Result, Ok, Err}
+use Rattle.std.specs.Prelude.{◌≡◌, ◌⊎◌, ℕ, ◌+◌, ◌-◌, ◌^◌, min, true, false, List, [], ◌∷◌, Option, Some, None, Result, Ok, Err}
+use Rattle.pg_options.specs.Options.{ConnectOptions}
 use Rattle.pg_stream.specs.Links.{LinkSeen}
 use Rattle.pg_stream.specs.Memory.{seen_of}
+use Rattle.pg_stream.specs.MemoryOutside.{next_call, fails_next}
 use Rattle.pg_stream.specs.declared.memory.MemoryLink.{MemoryLink}
 use Rattle.pg_conn.specs.declared.dial.DialFailed.{DialFailed}
 use Rattle.pg_conn.specs.declared.dial.DialFailed.TheVariants as failed
@@ -36,6 +38,7 @@ NoneTold (Some told) = told ≡ []
 
 -- a link that was not called yet
 pub record IsUncalled (link : LinkSeen) : Type 0 where
+  pub secured : link.secured ≡ None
   pub given : NoneTold link.given
   pub taken : NoneTold link.taken
   pub wait_places : NoneTold link.wait_places
@@ -61,10 +64,14 @@ pub record MemoryDialState : Type 0 where
 abbrev pub nothing_seen : DialSeen
 nothing_seen = record { links = 0; words = 0; faults = 0 }
 
+-- a call of either kind counts, and changes nothing of what is to fail
+abbrev pub IsNextCall : MemoryDialState → MemoryDialState → Type 0
+IsNextCall a b = (b.calls ≡ next_call a.calls) × (b.failing ≡ a.failing)
+
 -- a link is the next one, and only a call that is to fail or a list without links gives none
 abbrev pub GivesLink : MemoryDialState → MemoryDialState → Result MemoryLink DialFailed → Type 0
-GivesLink a b (Ok link) = a.links ≡ link ∷ b.links
-GivesLink a b (Err e) = (e ≡ failed.Fault) × (b.links ≡ a.links)
+GivesLink a b (Ok link) = (fails_next a.failing a.calls ≡ false) × (a.links ≡ link ∷ b.links) × (b.words ≡ a.words)
+GivesLink a b (Err e) = (fails_next a.failing a.calls ≡ true ⊎ (a.links ≡ [])) × (e ≡ failed.Fault) × (b.links ≡ a.links) × (b.words ≡ a.words)
 
 -- a word is the next one, and 0 behind the list
 abbrev pub word_of : List ℕ → ℕ
@@ -76,5 +83,16 @@ words_after [] = []
 words_after (_ ∷ rest) = rest
 
 abbrev pub GivesWord : MemoryDialState → MemoryDialState → Result ℕ DialFailed → Type 0
-GivesWord a b (Ok word) = (word ≡ word_of a.words) × (b.words ≡ words_after a.words)
-GivesWord a b (Err e) = (e ≡ failed.Fault) × (b.words ≡ a.words)
+GivesWord a b (Ok word) = (fails_next a.failing a.calls ≡ false) × (word ≡ word_of a.words) × (b.words ≡ words_after a.words) × (b.links ≡ a.links)
+GivesWord a b (Err e) = (fails_next a.failing a.calls ≡ true) × (e ≡ failed.Fault) × (b.words ≡ a.words) × (b.links ≡ a.links)
+
+-- ---- a link and words
+
+-- a dial hands out these words, one after another
+abbrev pub Draws : {D : Type 0} → (D → ℕ → D → Type 0) → D → List ℕ → D → Type 0
+Draws draws d [] e = e ≡ d
+Draws {D} draws d (word ∷ words) e = (next : D) × draws d word next × Draws draws next words e
+
+-- it hands out a link for these options, and then these words
+abbrev pub HandsOut : {D A : Type 0} → (D → ConnectOptions → A → D → Type 0) → (D → ℕ → D → Type 0) → D → D → ConnectOptions → A → List ℕ → Type 0
+HandsOut {D} gives draws d e o link words = (dialed : D) × gives d o link dialed × Draws draws dialed words e

@@ -1,6 +1,8 @@
-ghost use Rattle.std.specs.Prelude.{◌≡◌, IfOk};
+ghost use Rattle.std.specs.Prelude.{◌≡◌, ⊤, ℕ, IfOk, Ok};
+ghost use Rattle.pg_options.specs.Options.{ConnectOptions};
 ghost use Rattle.pg_stream.specs.Memory.{seen_of};
-ghost use Rattle.pg_conn.specs.Dials.{AreUncalled, CountsLink, CountsWord, DialSeen, GivesLink, GivesWord, IsUncalled, nothing_seen};
+ghost use Rattle.pg_stream.specs.MemoryOutside.{fails_next};
+ghost use Rattle.pg_conn.specs.Dials.{AreUncalled, CountsLink, CountsWord, DialSeen, GivesLink, GivesWord, IsNextCall, IsUncalled, nothing_seen};
 
 use crate::dial_counts::DialCounts;
 use pg_options::PgConnectOptions;
@@ -26,14 +28,22 @@ pub trait Dial {
     /// Its counts: links, words, and the answers `Fault` of both calls.
     ghost seen: { Self → DialSeen };
 
+    /// What is known of a link that it hands out for these options, and of the dial behind it.
+    ghost gives: { Self → ConnectOptions → Self.L → Self → Type 0 } = { λ _ _ _ _. ⊤ };
+
+    /// What is known of a word that it hands out, and of the dial behind it.
+    ghost draws: { Self → ℕ → Self → Type 0 } = { λ _ _ _. ⊤ };
+
     /// Opens a link to the server that the options name. It was not called yet.
     fn dial(&mut self, options: &PgConnectOptions) -> Result<Self::L, DialFailed>
         ensures counts { CountsLink (seen self.old) (seen self.new) result }
-        ensures uncalled { IfOk result (λ link. IsUncalled (Self.L.seen link)) };
+        ensures uncalled { IfOk result (λ link. IsUncalled (Self.L.seen link)) }
+        ensures gives { IfOk result (λ link. gives self.old options.now link self.new) };
 
     /// Draws a random word.
     fn word(&mut self) -> Result<u32, DialFailed>
-        ensures { CountsWord (seen self.old) (seen self.new) result };
+        ensures counts { CountsWord (seen self.old) (seen self.new) result }
+        ensures draws { IfOk result (λ word. draws self.old word self.new) };
 }
 
 /// A dial in memory: it gives its links and words in order, `Fault` behind its links, and 0 behind its words.
@@ -74,6 +84,8 @@ impl MemoryDial {
 
     // Counts a call, and tells whether it is to fail.
     fn fails(&mut self) -> bool
+        ensures value { result ≡ fails_next self.old.failing self.old.calls }
+        ensures next { IsNextCall self.old self.new }
         ensures links { self.new.links ≡ self.old.links }
         ensures words { self.new.words ≡ self.old.words }
         ensures seen { self.new.seen ≡ self.old.seen }
@@ -88,10 +100,16 @@ impl Dial for MemoryDial {
 
     ghost seen = { λ d. d.seen };
 
+    ghost gives = { λ d _ link e. GivesLink d e (Ok link) };
+
+    ghost draws = { λ d word e. GivesWord d e (Ok word) };
+
     fn dial(&mut self, _options: &PgConnectOptions) -> Result<MemoryLink, DialFailed>
         ensures counts { CountsLink self.old.seen self.new.seen result }
         ensures uncalled { IfOk result (λ link. IsUncalled (seen_of link)) }
+        ensures next { IsNextCall self.old self.new }
         ensures link { GivesLink self.old self.new result }
+        ensures gives { IfOk result (λ link. GivesLink self.old self.new (Ok link)) }
     {
         if !self.fails() {
             if let Some(link) = self.links.pop_front() {
@@ -104,8 +122,10 @@ impl Dial for MemoryDial {
     }
 
     fn word(&mut self) -> Result<u32, DialFailed>
-        ensures seen { CountsWord self.old.seen self.new.seen result }
+        ensures counts { CountsWord self.old.seen self.new.seen result }
+        ensures next { IsNextCall self.old self.new }
         ensures word { GivesWord self.old self.new result }
+        ensures draws { IfOk result (λ word. GivesWord self.old self.new (Ok word)) }
     {
         if !self.fails() {
             self.counts.count_word();

@@ -70,11 +70,15 @@ impl<N: Net<Stream = TcpStream>, R: TryRng> Dial for SocketDial<N, R> {
 
     ghost seen = { λ d. d.seen };
 
+    ghost gives = { λ d _ _ e. e.random ≡ d.random };
+
+    ghost draws = { λ d word e. R.may_next_u32 d.random word e.random };
+
     /// Tries the host's addresses in turn. An address has ten seconds to answer.
     fn dial(&mut self, options: &PgConnectOptions) -> Result<SocketLink, DialFailed>
         ensures counts { CountsLink self.old.seen self.new.seen result }
         ensures uncalled { IfOk result (λ link. IsUncalled (seen_of_socket link)) }
-        ensures random { self.new.random ≡ self.old.random }
+        ensures gives { IfOk result (λ link. self.new.random ≡ self.old.random) }
     {
         match open(self.alloc, &self.net, options) {
             Ok(link) => {
@@ -87,8 +91,8 @@ impl<N: Net<Stream = TcpStream>, R: TryRng> Dial for SocketDial<N, R> {
 
     /// Draws from the random source. What it fails at is a fault.
     fn word(&mut self) -> Result<u32, DialFailed>
-        ensures seen { CountsWord self.old.seen self.new.seen result }
-        ensures word { IfOk result (λ x. R.may_next_u32 self.old.random x self.new.random) }
+        ensures counts { CountsWord self.old.seen self.new.seen result }
+        ensures draws { IfOk result (λ x. R.may_next_u32 self.old.random x self.new.random) }
     {
         match self.random.try_next_u32() {
             Ok(word) => {

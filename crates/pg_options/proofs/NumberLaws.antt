@@ -9,6 +9,7 @@ use Rattle.std.proofs.lemmas.Bool.{ltb-true, lt-ltb}
 use Rattle.std.proofs.lemmas.Str.{digit_value_digit}
 use Rattle.std.proofs.lemmas.Str.Parse.{digit_from_value}
 use Rattle.pg_options.specs.Numbers.{number_below}
+use Rattle.pg_wire.proofs.Tests.{both_true}
 
 digit_passes : (d : ℕ) → IsInRange 48 57 d → is_ascii_digit d ≡ true
 digit_passes d h = grind arith
@@ -21,13 +22,9 @@ digits_pass : (ds : List ℕ) → AllDigits 10 ds → list_all is_ascii_digit ds
 digits_pass [] h = refl
 digits_pass (d ∷ ds) h = rw (digit_passes d (digit_from_value d h.0), digits_pass ds h.1) refl
 
-both : (a b : Bool) → (a && b) ≡ true → (a ≡ true) × (b ≡ true)
-both true b h = (refl, h)
-both false b h = cc
-
 digits_hold : (ds : List ℕ) → list_all is_ascii_digit ds ≡ true → AllDigits 10 ds
 digits_hold [] h = tt
-digits_hold (d ∷ ds) h = let p = both _ _ h in (digit_holds d p.0, digits_hold ds p.1)
+digits_hold (d ∷ ds) h = let p = both_true _ _ h in (digit_holds d p.0, digits_hold ds p.1)
 
 -- the test of `number_below`
 abbrev test : ℕ → List ℕ → Bool
@@ -38,8 +35,8 @@ test_passes limit ds h l = rw (lt-ltb 0 (length ds) h.0, digits_pass ds h.1, lt-
 
 test_holds : (limit : ℕ) (ds : List ℕ) → test limit ds ≡ true → IsNumeral 10 ds × (digits_value 10 ds < limit)
 test_holds limit ds h =
-    let p = both _ _ h in
-    let q = both _ _ p.0 in
+    let p = both_true _ _ h in
+    let q = both_true _ _ p.0 in
     ((ltb-true _ _ q.0, digits_hold ds q.1), ltb-true _ _ p.1)
 
 no_number : (b : Bool) (n : ℕ) → (b ≡ true → ⊥) → None ≡ (if b then Some n else None)

@@ -9,14 +9,14 @@ use Rattle.pg_wire.specs.declared.error.IoCause.TheVariants as io
 use Rattle.pg_wire.specs.declared.error.ProtocolFault.TheVariants as protocol
 use Rattle.pg_wire.specs.declared.error.ServerFault.{ServerFault}
 use Rattle.pg_wire.specs.declared.error.ServerFault.TheVariants as faults
-use Rattle.pg_wire.specs.Frame.{Frame, text_of}
+use Rattle.pg_wire.specs.Frame.{Frame}
 use Rattle.pg_wire.specs.Parts.{heard}
-use Rattle.pg_wire.specs.Frontend.{FrontendMessage, frontend_frame}
+use Rattle.pg_wire.specs.Frontend.{FrontendMessage}
 use Rattle.pg_wire.proofs.PartLaws.{heard-append}
 use Rattle.pg_stream.specs.Links.{NoneFalls}
 use Rattle.pg_stream.specs.Streams.{StreamSeen, Moves, Tallies, NoneWaited, PendingCause, GrewBy, HeardCause}
 use Rattle.pg_stream.proofs.Known.{NoneFalls-refl}
-use Rattle.pg_stream.proofs.StreamLemmas.{AreFrames-append, text_of-append, Tallies-then, Tallies-none}
+use Rattle.pg_stream.proofs.StreamLemmas.{AreFrames-append, Tallies-then, Tallies-none, GrewBy-then}
 use Rattle.pg_call.specs.declared.request.Request.{Request}
 use Rattle.pg_call.specs.declared.kind.Kind.TheVariants as kinds
 use Rattle.pg_call.specs.declared.answer.CallItem.{CallItem}
@@ -40,17 +40,15 @@ use Rattle.pg_play.specs.declared.tally.Limits.{Limits}
 use Rattle.pg_play.specs.declared.tally.Tally.{Tally}
 use Rattle.pg_play.specs.Shown.{item_of, items_with, answer_of}
 use Rattle.pg_startup.specs.Flows.{Flows}
-use Rattle.pg_startup.proofs.FlowLaws.{GrewBy-then, Flows-then, Flows-none, flows_begun}
+use Rattle.pg_startup.proofs.FlowLaws.{Flows-then, Flows-none, flows_begun}
 use Rattle.pg_play.proofs.WaitLaws.{waits_none, waits_on}
 use Rattle.pg_play.specs.Calls.{Adds, Finishes, Waited, Went, InPlay, IsPlayingOn, IsPlaying, EndsStarved, IsDropped, broken_after, HasWaitedFew, EndsOn, HasEnded, PollGives, PlaysCall, outcome_of}
+use Rattle.pg_conn.proofs.TurnLaws.{tells_from, spelled-append}
 
 -- ---- the stream, over any number of polls
 
 count-append : (t : FrontendMessage → Bool) (xs ys : List FrontendMessage) → count_by t (xs ++ ys) ≡ count_by t xs + count_by t ys
 count-append t xs ys = sum_by-append (λ (y : FrontendMessage). cond (t y) 1 0) xs ys
-
-pub spelled-append : (xs ys : List FrontendMessage) → spelled (xs ++ ys) ≡ spelled xs ++ spelled ys
-spelled-append xs ys = ap text_of (map-append frontend_frame xs ys) ∙ text_of-append (map frontend_frame xs) (map frontend_frame ys)
 
 -- ---- one poll more
 
@@ -128,27 +126,6 @@ heard_cause a b c (errors.Io io.End) m h = (omega (arith, h.0, m.ends), h.1)
 heard_cause a b c (errors.Protocol (protocol.Server (faults.Malformed tag))) m h = h
 heard_cause a b c (errors.Protocol (protocol.Server fault)) m h = h
 heard_cause a b c _ m h = absurd h
-
-tells_from : (a b c : ConnSeen) (start : Ledger) (r : Request) (said : List FrontendMessage) (hs : List Frame) (items : List CallItem) (beat : Beat) → NoneFalls a.stream.link b.stream.link
-    → Tells (begun_with 256 b) (record c { broken = None }) start r said hs items beat → Tells a c start r said hs items beat
-tells_from a b c start r said hs items beats.More m t = t
-tells_from a b c start r said hs items beats.Waits m t = t
-tells_from a b c start r said hs items (beats.Yields item) m t = t
-tells_from a b c start r said hs items (beats.Ends (Ok answer)) m t = t
-tells_from a b c start r said hs items (beats.Ends (Err e)) m t = (
-  t.0,
-  elim t.1 [
-    | inl ends ↦ inl ends
-    | inr x ↦ inr (
-      x.0,
-      x.1,
-      elim x.2 [
-        | inl y ↦ inl (heard_cause a.stream b.stream c.stream e m y.0, y.1)
-        | inr y ↦ inr y
-      ],
-    )
-  ],
-)
 
 cause_of : (b c : ConnSeen) (beat : Beat) → BeatCause b c beat → beat ≡ beats.Waits → PendingCause b.stream c.stream
 cause_of b c beats.Waits h e = h

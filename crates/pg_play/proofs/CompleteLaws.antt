@@ -34,16 +34,13 @@ use Rattle.pg_play.specs.Plays.{Plays_step, Plays_from, AsksForNoCopy}
 use Rattle.pg_play.proofs.CauseLaws.{copies_begin}
 use Rattle.pg_play.proofs.RepliesLaws.{starts_copy, StartsNoCopy, all_prefix, replies_start_no_copy, replies_are_said}
 use Rattle.pg_play.proofs.LinkLaws.{Refutes, breaks_first, breaks_last, front_read, front_heard, taken_heard, hears_groups, unlawful_refuted}
+use Rattle.pg_wire.proofs.Each.{each_last}
 
 -- ---- lists
 
-all_back : {A : Type 0} (P : A → Type 0) (xs ys : List A) → AllByRecursion P (xs ++ ys) → AllByRecursion P ys
-all_back P [] ys h = h
-all_back P (x ∷ xs) ys h = all_back P xs ys h.1
-
 -- what is known of all of a list is known of the last of its first ones
 at_front : {A : Type 0} (P : A → Type 0) (xs : List A) (x : A) (ys : List A) → IsPrefixOf (xs ++ x ∷ []) ys → AllByRecursion P ys → P x
-at_front P xs x ys p h = (all_back P xs (x ∷ p.0) (subst (AllByRecursion P) (sym p.1 ∙ append_assoc xs (x ∷ []) p.0) h)).0
+at_front P xs x ys p h = (each_last P xs (x ∷ p.0) (subst (AllByRecursion P) (sym p.1 ∙ append_assoc xs (x ∷ []) p.0) h)).0
 
 -- ---- from each step to the last place
 
@@ -133,7 +130,7 @@ fair_end first at step out own slice next last (ends.Err e) g a b n k c = fair_e
 -- ---- all steps
 
 slice_copies : (at : Place) (step : Step) (out : Outcome) (next last : Place) (one : Plays_step at step out next) → IsPrefixOf (heard next.frames) (heard last.frames) → AllByRecursion StartsNoCopy (heard last.frames) → AllByRecursion StartsNoCopy one.slice
-slice_copies at step out next last one p n = all_back StartsNoCopy (heard at.frames) one.slice (subst (AllByRecursion StartsNoCopy) one.queued.taken (all_prefix StartsNoCopy (heard next.frames) (heard last.frames) p n))
+slice_copies at step out next last one p n = each_last StartsNoCopy (heard at.frames) one.slice (subst (AllByRecursion StartsNoCopy) one.queued.taken (all_prefix StartsNoCopy (heard next.frames) (heard last.frames) p n))
 
 all_fair : (first : LinkSeen) (at : Place) (steps : List Step) (outs : List Outcome) (last : Place) → Holds first last → NoneFalls first at.seen.link → Plays_from at steps outs last → EndFairly steps outs
 all_fair first at [] [] last g a run = tt

@@ -17,6 +17,8 @@ use Rattle.pg_wire.proofs.RefusalLaws.{response_begins_copy_response}
 use Rattle.pg_call.specs.Requests.{Group, said_in}
 use Rattle.pg_call.specs.Drains.{after_readys}
 use Rattle.pg_call.proofs.DrainLaws.{count-cons}
+use Rattle.pg_play.proofs.PlaceLaws.{all_split}
+use Rattle.pg_wire.proofs.OwnLaws.{split_answers}
 
 -- what was heard, and one frame more, as messages
 record SplitFront (heards : List Frame) (front : Frame) (rs : List BackendMessage) : Type 0 where
@@ -109,11 +111,6 @@ same_ready (a ∷ as') (b ∷ bs) s s' x y u v p =
     let tails : (as' ++ ReadyForQuery s ∷ x) ++ p.0 ≡ bs ++ ReadyForQuery s' ∷ y = cc in
     same_ready as' bs s s' x y u.1 v.1 (p.0, tails)
 
-split_answers : (front further : List (List BackendMessage)) (rss : List (List BackendMessage)) (r : EndsReady (flat_map (λ rs. rs) front)) → rss ≡ front ++ further → flat_map (λ rs. rs) rss ≡ r.front ++ ReadyForQuery r.status ∷ flat_map (λ rs. rs) further
-split_answers front further rss r e =
-    ap (flat_map (λ (rs : List BackendMessage). rs)) e ∙ flat_map-append (λ rs. rs) front further
-    ∙ ap (λ (w : List BackendMessage). w ++ flat_map (λ rs. rs) further) r.are ∙ append_assoc r.front (ReadyForQuery r.status ∷ []) (flat_map (λ rs. rs) further)
-
 -- what is unready, and one message more, ends before or at the first ReadyForQuery
 open_front_one : (xs front : List BackendMessage) (a : BackendMessage) (s : TransactionStatus) (y : List BackendMessage) → AreUnready xs → IsPrefixOf (xs ++ a ∷ []) (front ++ ReadyForQuery s ∷ y) → IsPrefixOf (xs ++ a ∷ []) (front ++ ReadyForQuery s ∷ [])
 open_front_one [] [] a s y u p =
@@ -134,10 +131,6 @@ open_front_one (x ∷ xs) (b ∷ bs) a s y u p =
     let tails : (xs ++ a ∷ []) ++ p.0 ≡ bs ++ ReadyForQuery s ∷ y = cc in
     let further = open_front_one xs bs a s y u.1 (p.0, tails) in
     (further.0, ap₂ (λ (c : BackendMessage) (cs : List BackendMessage). c ∷ cs) head further.1)
-
-split_all : {A : Type 0} (P : A → Type 0) (xs ys : List A) → AllByRecursion P (xs ++ ys) → AllByRecursion P xs × AllByRecursion P ys
-split_all P [] ys h = (tt, h)
-split_all P (x ∷ xs) ys h = let r = split_all P xs ys h.1 in ((h.0, r.0), r.1)
 
 -- some server between two groups begins its response to the group so
 record Begins (g : List FrontendMessage) (part : List BackendMessage) : Type 0 where
@@ -164,7 +157,7 @@ own_begins old after [] [] g more own a rss hs h b run ok ends len u p =
       answers = t.front;
       between = b;
       run = t.begins;
-      answered = (split_all HasBackendFrame (flat_map (λ rs. rs) t.front) (flat_map (λ rs. rs) t.further) (subst (AllByRecursion HasBackendFrame) flat ok)).0;
+      answered = (all_split HasBackendFrame (flat_map (λ rs. rs) t.front) (flat_map (λ rs. rs) t.further) (subst (AllByRecursion HasBackendFrame) flat ok)).0;
       begins = subst (IsPrefixOf (own ++ a ∷ [])) (sym one.0.are) near;
     }
 own_begins old after [] (q ∷ ps) g more own a rss hs h b run ok ends len u p = absurd (omega (arith, len))
@@ -181,7 +174,7 @@ own_begins old after (x ∷ gs) (q ∷ ps) g more own a rss hs h b run ok ends l
     let both = same_ready r.front one.0.front r.status one.0.status (flat_map (λ y. y) ps ++ part) (flat_map (λ rs. rs) t.further) r.unready one.0.unready
     (subst (λ (w : List BackendMessage). IsPrefixOf w (one.0.front ++ ReadyForQuery one.0.status ∷ flat_map (λ rs. rs) t.further)) left (subst (IsPrefixOf (flat_map (λ y. y) (q ∷ ps) ++ part)) e p)) in
     let flat : flat_map (λ (rs : List BackendMessage). rs) rss ≡ flat_map (λ rs. rs) t.front ++ flat_map (λ rs. rs) t.further = ap (flat_map (λ (rs : List BackendMessage). rs)) t.parts ∙ flat_map-append (λ rs. rs) t.front t.further in
-    own_begins t.mid after gs ps g more own a t.further hs.1 h one.1 t.goes_on (split_all HasBackendFrame (flat_map (λ rs. rs) t.front) (flat_map (λ rs. rs) t.further) (subst (AllByRecursion HasBackendFrame) flat ok)).1 ends.1 (omega (arith, len)) u both
+    own_begins t.mid after gs ps g more own a t.further hs.1 h one.1 t.goes_on (all_split HasBackendFrame (flat_map (λ rs. rs) t.front) (flat_map (λ rs. rs) t.further) (subst (AllByRecursion HasBackendFrame) flat ok)).1 ends.1 (omega (arith, len)) u both
   where
     regroup : (a : List BackendMessage) (z : BackendMessage) (b c : List BackendMessage) → ((a ++ z ∷ []) ++ b) ++ c ≡ a ++ z ∷ (b ++ c)
     regroup a z b c = simp append_assoc

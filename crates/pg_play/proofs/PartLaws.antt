@@ -140,7 +140,7 @@ ready_not_copy f e = ap (λ (t : ℕ). is_known (codes "G") t) (eqb-true f.tag 9
     only true h = refl
     only false h = h
 
-take_none : {A : Type 0} (n : ℕ) → take {A = A} n [] ≡ []
+pub take_none : {A : Type 0} (n : ℕ) → take {A = A} n [] ≡ []
 take_none zero = refl
 take_none (suc n) = refl
 

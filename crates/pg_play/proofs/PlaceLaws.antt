@@ -24,7 +24,7 @@ use Rattle.pg_call.specs.Items.{shown}
 use Rattle.pg_call.specs.Drains.{is_copy_in, before_readys, after_readys, drain_fails}
 use Rattle.pg_call.specs.Hearing.{fails_of}
 use Rattle.pg_call.specs.Calls.{CallEnds, owner_failed}
-use Rattle.pg_call.proofs.DrainLaws.{after_nil}
+use Rattle.pg_call.proofs.DrainLaws.{after_nil, before_nil}
 use Rattle.pg_conn.specs.Connections.{ConnSeen, idle}
 use Rattle.pg_conn.specs.Turns.{FailsBy}
 use Rattle.pg_report.specs.declared.outcome.Item.{Item}
@@ -39,15 +39,12 @@ use Rattle.pg_play.specs.Calls.{EndsOn, broken_after}
 use Rattle.pg_play.specs.Places.{Place, readies, ended, owed, drained, is_fine, refuses_copy, unfed, queued_by, failed_next}
 use Rattle.pg_play.specs.Plays.{StandsAt, AsksForNoCopy}
 use Rattle.pg_startup.proofs.FlowLaws.{Flows-then}
-use Rattle.pg_play.proofs.CallLaws.{spelled-append}
 use Rattle.pg_play.proofs.PartLaws.{after_more, fails_count, fails_none}
 use Rattle.pg_play.proofs.StepLaws.{Summary, QueuedOwn, leaves_summary, fine_summary, no_close}
+use Rattle.pg_wire.proofs.Each.{each_join}
+use Rattle.pg_conn.proofs.TurnLaws.{spelled-append}
 
 -- ---- the summary of an end
-
-before_nil : (p : ℕ) → before_readys p [] ≡ []
-before_nil zero = refl
-before_nil (suc n) = refl
 
 and_true : (b : Bool) → b ≡ b && true
 and_true true = refl
@@ -138,11 +135,7 @@ readies-append xs ys = sum_by-append (λ (y : Frame). cond (is_ready y) 1 0) xs 
 pub ended_next : (at : Place) (fs : List Frame) → readies (heard (at.frames ++ fs)) ≡ ended at + readies (heard fs)
 ended_next at fs = ap readies (heard-append at.frames fs) ∙ readies-append (heard at.frames) (heard fs)
 
-all_both : {A : Type 0} (P : A → Type 0) (xs ys : List A) → AllByRecursion P xs → AllByRecursion P ys → AllByRecursion P (xs ++ ys)
-all_both P [] ys h k = k
-all_both P (x ∷ xs) ys h k = (h.0, all_both P xs ys h.1 k)
-
-all_split : {A : Type 0} (P : A → Type 0) (xs ys : List A) → AllByRecursion P (xs ++ ys) → AllByRecursion P xs × AllByRecursion P ys
+pub all_split : {A : Type 0} (P : A → Type 0) (xs ys : List A) → AllByRecursion P (xs ++ ys) → AllByRecursion P xs × AllByRecursion P ys
 all_split P [] ys h = (tt, h)
 all_split P (x ∷ xs) ys h = let r = all_split P xs ys h.1 in ((h.0, r.0), r.1)
 
@@ -233,9 +226,9 @@ stands_next start at a b call said fs items end st s flows broken idle never = r
   broken = broken ∙ ap (λ (o : Option ServerFault). broken_after o end) st.broken;
   seen = refl;
   idle = idle;
-  sayable = all_both HasFrontendFrame at.said said st.sayable (subst (AllByRecursion HasFrontendFrame) (sym (said_is_queued start at a (request_of call) said (heard fs) items b.ledger end st s))
-      (all_both HasFrontendFrame _ _ (all_both HasFrontendFrame _ _ (fails_said (unfed at.is_copy_failed (drained at (heard fs)))) (own_said a.ledger.owed call s.own (heard fs) s.queued)) (last_said (refuses_copy end))));
-  are_groups = all_both IsGroup at.groups s.own st.are_groups (own_groups a.ledger.owed call s.own (heard fs) s.queued);
+  sayable = each_join HasFrontendFrame at.said said st.sayable (subst (AllByRecursion HasFrontendFrame) (sym (said_is_queued start at a (request_of call) said (heard fs) items b.ledger end st s))
+      (each_join HasFrontendFrame _ _ (each_join HasFrontendFrame _ _ (fails_said (unfed at.is_copy_failed (drained at (heard fs)))) (own_said a.ledger.owed call s.own (heard fs) s.queued)) (last_said (refuses_copy end))));
+  are_groups = each_join IsGroup at.groups s.own st.are_groups (own_groups a.ledger.owed call s.own (heard fs) s.queued);
   between = λ z. between_next start at a s.own fs st ∙ s.rests z;
   plain = plain_next start at a (request_of call) said fs items b.ledger end st s never;
 }

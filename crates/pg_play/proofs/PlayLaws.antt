@@ -1,5 +1,5 @@
 -- A step, steps one after another, and the bytes of a link that tells them.
-use Rattle.std.proofs.Common.{◌≡◌, ◌≢◌, ℕ, zero, suc, ◌^◌, ◌≤◌, ◌<◌, Bool, true, false, ◌&&◌, cond, ◌⊎◌, inl, inr, List, [], ◌∷◌, ◌++◌, length, map, take, replicate, refl, sym, ap, ◌∙◌, subst, arith, append_assoc, append-nil, Option, Some, None}
+use Rattle.std.proofs.Common.{◌≡◌, ◌≢◌, ℕ, zero, suc, ◌^◌, ◌≤◌, ◌<◌, Bool, true, false, ◌&&◌, cond, ◌⊎◌, inl, inr, List, [], ◌∷◌, ◌++◌, length, map, replicate, refl, sym, ap, ◌∙◌, subst, arith, append_assoc, append-nil, Option, Some, None}
 use Rattle.std.specs.List.{count_by, AllByRecursion}
 use Rattle.std.specs.Io.KnownBytes.{Appends}
 use Rattle.std.proofs.lemmas.List.{length-map}
@@ -16,7 +16,9 @@ use Rattle.pg_wire.proofs.CutLaws.{frame_unique, cut_after_taken}
 use Rattle.pg_stream.specs.Links.{LinkSeen, NoneFalls}
 use Rattle.pg_stream.specs.Streams.{StreamSeen, GrewBy}
 use Rattle.pg_stream.proofs.Known.{Appends-then, NoneFalls-refl, NoneFalls-then}
-use Rattle.pg_startup.specs.Handshake.{ReadyOf, HasBegun}
+use Rattle.pg_stream.specs.declared.link.TlsWish.{TlsWish}
+use Rattle.pg_startup.specs.Handshake.{ReadyOf, IsSecured, HasBegun}
+use Rattle.pg_startup.specs.Exchange.{proofs_text}
 use Rattle.pg_startup.specs.Establishing.{EstablishSeen}
 use Rattle.pg_call.specs.declared.request.Request.{Request}
 use Rattle.pg_call.specs.declared.answer.CallItem.{CallItem}
@@ -40,7 +42,7 @@ use Rattle.pg_play.specs.WaitPlaces.{LastPlaces}
 use Rattle.pg_play.specs.Plays.{IsNeverUnlawful, Plays_step, Plays_from, places_in, TakesInTime, StandsAt, PlaysOn, TellsBytes, Plays, Totals}
 use Rattle.pg_play.specs.Starts.{Opening, IsOf, HasOpened}
 use Rattle.pg_startup.proofs.FlowLaws.{Flows-none}
-use Rattle.pg_play.proofs.PartLaws.{after_more}
+use Rattle.pg_play.proofs.PartLaws.{after_more, take_none}
 use Rattle.pg_play.proofs.StepLaws.{Summary}
 use Rattle.pg_play.proofs.PlaceLaws.{ends_summary, next_place, stands_next, never_copies, own_groups}
 use Rattle.pg_play.proofs.ToldLaws.{main_after, queued_one, queued_step, numbers_step, told_step}
@@ -183,7 +185,7 @@ polled_step start at a b step out st n p h =
         duly = duly_step start at a b step out said fs found.0 st n e s (ap (λ (x : Outcome). x.waits) h.1);
         lawful = never_unlawful start at a b step out said fs found.0 (refuses_copy out.end) st s cause;
       },
-      stands_next start at a b step.call said fs found.0 out.end st s (record { counts = went.flows.counts; sent = went.flows.sent; read = went.flows.read }) e.broken (sym (ap (λ (c : ConnSeen). c.call) h.2))
+      stands_next start at a b step.call said fs found.0 out.end st s (record { counts = went.flows.counts; secured = went.flows.secured; sent = went.flows.sent; read = went.flows.read }) e.broken (sym (ap (λ (c : ConnSeen). c.call) h.2))
           (never_copies a.broken (limits_of step) begun b (request_of step.call) said (heard fs) out.items out.end e.ends),
     )
 
@@ -203,10 +205,6 @@ quiet_breaks (Some fault) end q = refl
 quiet_queues : (end : End) (whole : List Group) → IsQuiet end → Queues end whole []
 quiet_queues end whole (inl e) = subst (λ (z : End). Queues z whole []) (sym e) (whole, refl)
 quiet_queues end whole (inr e) = subst (λ (z : End). Queues z whole []) (sym e) (whole, refl)
-
-take_none : {A : Type 0} (n : ℕ) → take {A = A} n [] ≡ []
-take_none zero = refl
-take_none (suc n) = refl
 
 quiet_said : (at : Place) (end : End) → IsQuiet end → queued_by at [] [] end ≡ []
 quiet_said at end q =
@@ -364,7 +362,18 @@ tells_over opening link e ready b started at of g st s r =
       said = g.said;
       read = g.read;
       session = ready.session;
-      handshake = rw (← of.client, ← of.message) g.handshake;
+      handshake = record {
+        asked = g.handshake.asked;
+        answered = g.handshake.answered;
+        question = g.handshake.question;
+        proofs = g.handshake.proofs;
+        frames = g.handshake.frames;
+        whole = g.handshake.whole;
+        leads = rw (← of.client) g.handshake.leads;
+        said_is = g.handshake.said_is ∙ ap (λ (message : List ℕ). g.handshake.asked ++ (message ++ proofs_text g.handshake.proofs)) of.message;
+        read_is = g.handshake.read_is;
+      };
+      secured = subst (λ (x : Option TlsWish). IsSecured e.plan g.handshake.answered link.secured x) (sym st.flows.secured) g.secured;
       said_is = counts_to (length g.said) ready.sent started.sent g.sent_counted s;
       read_is = counts_to (length g.read) ready.read started.read g.read_counted r;
       sent = λ old new x y. (g.taken ++ sent.0, tells_new link.taken b.stream.link.taken old new (g.taken ++ sent.0) x y (Appends-then link.taken ready.stream.link.taken b.stream.link.taken g.taken sent.0 g.took sent.1), (b.stream.unsent, sym gone));

@@ -1,17 +1,17 @@
 -- Replies of a server that never copies begin no copy, and what is heard of them answers the groups one by one.
-use Rattle.std.proofs.Common.{◌≡◌, ℕ, Bool, true, false, cond, ◌⊎◌, inl, inr, ◌||◌, nat_eq, codes, List, [], ◌∷◌, ◌++◌, length, map, flat_map, refl, sym, ap, ap₂, ◌∙◌, subst, Option, Some, None}
+use Rattle.std.proofs.Common.{◌≡◌, ℕ, Bool, true, false, cond, ◌⊎◌, inl, inr, ◌||◌, nat_eq, codes, List, [], ◌∷◌, ◌++◌, length, map, flat_map, refl, sym, ap, ◌∙◌, subst, Option, Some, None}
 use Rattle.std.specs.List.{AllByRecursion}
 use Rattle.pg_wire.specs.Frame.{Frame, is_known}
 use Rattle.pg_wire.specs.Frontend.{FrontendMessage, frontend_frame, HasFrontendFrame, Query, Parse, DescribeStatement, DescribePortal, Bind, Execute, CloseStatement, ClosePortal, Sync, Terminate, CopyData, CopyDone, CopyFail}
 use Rattle.pg_wire.specs.Backend.{FieldDescription, Values, BackendMessage, backend_frame, HasBackendFrame, DataRow}
 use Rattle.pg_wire.specs.Server.{Server, Statement, ServerStep, Steps, Skips, ServerRun, AreReplies, MayHear, IsPrefixOf, fresh_server, IsSegment, EndsInError, IsQueryResponse, IsPortalResult, DescribesFields, Fails, StepsParse, StepsDescribe, StepsDescribePortal, StepsBind, StepsExecute, StepsClose, StepsSync, statement_at, portal_at}
-use Rattle.pg_wire.proofs.SentLaws.{run_total, run_join}
+use Rattle.pg_wire.proofs.SentLaws.{run_total, run_join, said_first}
 use Rattle.pg_wire.proofs.RunLaws.{prefix_trans}
-use Rattle.pg_wire.proofs.Unique.{frontend_frame_unique}
 use Rattle.std.proofs.lemmas.List.{map-append}
 use Rattle.std.proofs.lemmas.List.Concat.{flat_map-append}
 use Rattle.pg_stream.specs.Asynchronous.{IsSaid}
 use Rattle.pg_play.specs.Plays.{AsksForNoCopy}
+use Rattle.pg_wire.proofs.Each.{each_first}
 
 -- a copy begins, from the client or to it
 abbrev pub starts_copy : Frame → Bool
@@ -30,13 +30,9 @@ both : (xs ys : List BackendMessage) → NoCopies xs → NoCopies ys → NoCopie
 both [] ys h k = k
 both (x ∷ xs) ys h k = (h.0, both xs ys h.1 k)
 
-all_first : {A : Type 0} (P : A → Type 0) (xs ys : List A) → AllByRecursion P (xs ++ ys) → AllByRecursion P xs
-all_first P [] ys h = tt
-all_first P (x ∷ xs) ys h = (h.0, all_first P xs ys h.1)
-
 -- what is known of all of a list is known of its first ones
 pub all_prefix : {A : Type 0} (P : A → Type 0) (xs ys : List A) → IsPrefixOf xs ys → AllByRecursion P ys → AllByRecursion P xs
-all_prefix P xs ys p h = all_first P xs p.0 (subst (AllByRecursion P) (sym p.1) h)
+all_prefix P xs ys p h = each_first P xs p.0 (subst (AllByRecursion P) (sym p.1) h)
 
 rows_none : (rows : List Values) → NoCopies (map DataRow rows)
 rows_none [] = tt
@@ -48,7 +44,7 @@ segment_none rs (inr (inl t)) = subst NoCopies (sym t.4) (refl, both (map DataRo
 segment_none rs (inr (inr e)) = subst NoCopies (sym e) (refl, tt)
 
 error_none : (P : List BackendMessage → Type 0) → ((rs : List BackendMessage) → P rs → NoCopies rs) → (rs : List BackendMessage) → EndsInError P rs → NoCopies rs
-error_none P f rs e = subst NoCopies (sym e.5) (both e.0 _ (all_first NoCopy e.0 e.1 (f (e.0 ++ e.1) e.3)) (refl, tt))
+error_none P f rs e = subst NoCopies (sym e.5) (both e.0 _ (each_first NoCopy e.0 e.1 (f (e.0 ++ e.1) e.3)) (refl, tt))
 
 segments_none : (rss : List (List BackendMessage)) → AllByRecursion IsSegment rss → NoCopies (flat_map (λ rs. rs) rss)
 segments_none [] h = tt
@@ -167,19 +163,6 @@ asks_for_none (f ∷ fs) h = (first_false (nat_eq f.tag 71) (nat_eq f.tag 72) h.
 -- each frame heard is a message in its format
 pub replies_are_said : (ms : List FrontendMessage) (heard : List Frame) → MayHear ms heard → AllByRecursion IsSaid heard
 replies_are_said ms heard l = heard_of HasBackendFrame IsSaid (λ m h. (m, (h, refl))) heard l.heard_is.0 (flat_map (λ rs. rs) l.replies) l.heard_is.1 l.replies_have_frames
-
-said_first : (xs ys : List FrontendMessage) → AllByRecursion HasFrontendFrame xs → AllByRecursion HasFrontendFrame ys → IsPrefixOf (map frontend_frame xs) (map frontend_frame ys) → IsPrefixOf xs ys
-said_first [] ys h k p = (ys, refl)
-said_first (x ∷ xs) [] h k p = absurd (no p.1)
-  where
-    no : map frontend_frame (x ∷ xs) ++ p.0 ≡ [] → ⊥
-    no e = cc
-said_first (x ∷ xs) (y ∷ ys) h k p =
-    let all = p.1 in
-    let heads : frontend_frame x ≡ frontend_frame y = cc in
-    let tails : map frontend_frame xs ++ p.0 ≡ map frontend_frame ys = cc in
-    let further = said_first xs ys h.1 k.1 (p.0, tails) in
-    (further.0, ap₂ (λ (u : FrontendMessage) (us : List FrontendMessage). u ∷ us) (frontend_frame_unique x y h.0 k.0 heads) further.1)
 
 all_frames : (xs ys : List BackendMessage) → AllByRecursion HasBackendFrame xs → AllByRecursion HasBackendFrame ys → AllByRecursion HasBackendFrame (xs ++ ys)
 all_frames [] ys h k = k

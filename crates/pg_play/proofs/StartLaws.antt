@@ -16,11 +16,11 @@ use Rattle.pg_startup.specs.declared.starting.Phase.TheVariants as phases
 use Rattle.pg_startup.specs.Handshake.{ReadyOf, ready_by}
 use Rattle.pg_startup.specs.Establishing.{EstablishOf, EstablishSeen, establish_by, phase_by, ready_seen, kept_link, HasLink, IsKept, IsServersTurn, PollsStart, StartFails, StartWaits, FirstPhase, Begins, RefusesStart}
 use Rattle.pg_startup.proofs.AskingLaws.{fails_from}
-use Rattle.pg_startup.proofs.GreetLaws.{heard_cause_after}
 use Rattle.pg_startup.proofs.EstablishLaws.{begins_under_way}
 use Rattle.pg_conn.specs.Connections.{ConnOf, seen_by}
 use Rattle.pg_conn.specs.Connecting.{PollsConnect, connected}
 use Rattle.pg_play.specs.Starts.{Opening, IsOf, IsPending, HasWaited, HasFailed, HasOpened, Hands, StartEnds, StartsOn, StartsAs}
+use Rattle.pg_stream.proofs.StreamLemmas.{HeardCause-after}
 
 -- ---- a poll more
 
@@ -50,7 +50,7 @@ of_same opening a b of client plan message = record { none = of.none; planned = 
 fails_first : (first a : LinkSeen) (e : EstablishSeen) (phase : Phase LinkSeen) (error : Error) → NoneFalls first a → StartFails first a e phase error → StartFails first first e phase error
 fails_first first a e (phases.Asking asking) error m h = (h.0, fails_from asking.is_required first first a asking.link error m h.1)
 fails_first first a e (phases.Greeting greeting) error m (inl h) = inl h
-fails_first first a e (phases.Greeting greeting) error m (inr (is, none, inl h)) = inr (is, none, inl (heard_cause_after (fresh_stream first) (fresh_stream a) greeting.stream error m h))
+fails_first first a e (phases.Greeting greeting) error m (inr (is, none, inl h)) = inr (is, none, inl (HeardCause-after (fresh_stream first) (fresh_stream a) greeting.stream error m h))
 fails_first first a e (phases.Greeting greeting) error m (inr (is, none, inr h)) = inr (is, none, inr h)
 fails_first first a e phases.Gone error m h = absurd h
 

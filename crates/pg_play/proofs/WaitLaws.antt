@@ -10,15 +10,12 @@ use Rattle.pg_stream.specs.Streams.{StreamSeen, GrewBy, Takes, AreFrames, HasNon
 use Rattle.pg_stream.proofs.Known.{Appends-then, Appends-refl, Appends-keeps}
 use Rattle.pg_stream.proofs.StreamLemmas.{text_of-append}
 use Rattle.pg_play.specs.Waits.{IsWaitPlace, WaitsAt}
+use Rattle.pg_wire.proofs.Each.{each_end}
 
 -- ---- fronts of lists
 
 prefix_more : {A : Type 0} (xs ys zs : List A) → IsPrefixOf xs ys → IsPrefixOf xs (ys ++ zs)
 prefix_more {A} xs ys zs p = (p.0 ++ zs, sym (append_assoc xs p.0 zs) ∙ ap (λ (x : List A). x ++ zs) p.1)
-
-all_and : {A : Type 0} (P : A → Type 0) (xs : List A) (x : A) → AllByRecursion P xs → P x → AllByRecursion P (xs ++ x ∷ [])
-all_and P [] x h k = (k, tt)
-all_and P (y ∷ ys) x h k = (h.0, all_and P ys x h.1 k)
 
 -- the bytes of frames, and of frames behind them
 read_then : (held bytes more mid last : List ℕ) (fs gs : List Frame) → held ++ bytes ≡ text_of fs ++ mid → mid ++ more ≡ text_of gs ++ last → held ++ (bytes ++ more) ≡ text_of (fs ++ gs) ++ last
@@ -127,7 +124,7 @@ waits_read a b c fs gs w all m t x none =
       write_waits = w.write_waits;
       waits = omega (arith, w.waits, x.1, length-append w.places (place ∷ []));
       writes = omega (arith, w.writes, m.write_waits);
-      behind = all_and (IsWaitPlace a.link.given a.held bytes (fs ++ gs)) w.places place (places_later a.link.given a.held w.bytes t.0 fs gs w.places w.behind) (record {
+      behind = each_end (IsWaitPlace a.link.given a.held bytes (fs ++ gs)) w.places place (places_later a.link.given a.held w.bytes t.0 fs gs w.places w.behind) (record {
         early = bytes;
         first = ([], append-nil bytes);
         place_is = place_now a.link.given c.link.given bytes gave;

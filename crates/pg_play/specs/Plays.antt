@@ -28,7 +28,7 @@ use Rattle.pg_startup.specs.declared.stage.Session.{Session}
 use Rattle.pg_startup.specs.Startups.{startup_of}
 use Rattle.pg_startup.specs.Exchange.{client_of}
 use Rattle.pg_startup.specs.Flows.{Flows}
-use Rattle.pg_startup.specs.Handshake.{IsHandshake}
+use Rattle.pg_startup.specs.Handshake.{IsHandshake, IsSecured}
 use Rattle.pg_play.specs.Starts.{Opening}
 use Rattle.pg_play.specs.Places.{Place, Queued, ended, first_place}
 use Rattle.pg_play.specs.Told.{Told, Numbers, CountsTo}
@@ -104,7 +104,8 @@ PlaysOn a b steps outs = (start : StreamSeen) (at : Place) → StandsAt start at
 
 -- ---- the headline
 
--- The link's bytes, where it tells them: those of the handshake that start-up was, and behind them those of the steps.
+-- The link's bytes, where it tells them: those of the handshake that start-up was, and behind them those of the steps. And what its TLS had
+-- to verify.
 pub record TellsBytes (opening : Opening) (first last : LinkSeen) (started : Started) (at : Place) : Type 0 where
   -- what both sides said up to the end of start-up
   pub plan : TlsPlan
@@ -115,6 +116,8 @@ pub record TellsBytes (opening : Opening) (first last : LinkSeen) (started : Sta
   pub handshake : IsHandshake (client_of opening.options opening.nonce) plan (startup_of opening.options) said read session
   pub said_is : CountsTo (length said) started.sent
   pub read_is : CountsTo (length read) started.read
+  -- no step changes what start-up has made of it
+  pub secured : IsSecured plan handshake.answered first.secured last.secured
   -- what the link took is a front of the messages queued
   pub sent : (old new : List ℕ) → first.taken ≡ Some old → last.taken ≡ Some new → (bytes : List ℕ) × (new ≡ old ++ bytes) × IsPrefixOf bytes (said ++ spelled at.said)
   -- the frames taken are the first of those in all bytes that it gave

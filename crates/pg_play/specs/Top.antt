@@ -117,15 +117,20 @@ OptionsIs url _ = ⊥
 
 -- ---- a play over a link that is dialled
 
--- what a script says was played over a link that these options were dialled for, with a nonce of 128 random words
-pub record IsLivePlay {A : Type 0} (seen : A → LinkSeen) (o : ConnectOptions) (script : LiveScript) (p : Played A) : Type 0 where
+-- what a dial has handed out: a link for these options, and behind it these words
+abbrev pub Handing : Type 0 → Type 1
+Handing A = ConnectOptions → A → List ℕ → Type 0
+
+-- what a script says was played over the link that was dialled for these options, with a nonce of the 128 words that were drawn behind it
+pub record IsLivePlay {A : Type 0} (seen : A → LinkSeen) (hands : Handing A) (o : ConnectOptions) (script : LiveScript) (p : Played A) : Type 0 where
   -- the link as it was dialled
-  pub link : LinkSeen
-  pub uncalled : IsUncalled link
+  pub link : A
   pub words : List ℕ
+  pub handed : hands o link words
   pub drawn : length words ≡ 128
+  pub uncalled : IsUncalled (seen link)
   pub outcomes : HasOutcomes (length script.steps) p.start (length p.outcomes)
-  pub plays : PlaysSteps (opening_of o (nonce_of words) link.plan) (unwrap_or script.start_polls 1000) script.steps p.start p.outcomes link (seen p.link)
+  pub plays : PlaysSteps (opening_of o (nonce_of words) (seen link).plan) (unwrap_or script.start_polls 1000) script.steps p.start p.outcomes (seen link) (seen p.link)
 
 abbrev pub IsUndialed : {A : Type 0} → DialFailed → Ending A → Type 0
 IsUndialed failed.Fault e = e ≡ endings.DialFailed
@@ -146,43 +151,43 @@ DrawsWords f g (Err failed.Fault) = (g.links ≡ f.links) × (g.faults ≡ one_m
 DrawsWords f g (Err failed.OutOfMemory) = Unit {0}
 
 -- the dial gave a link and words, or failed
-abbrev pub DialedIs : {A : Type 0} → (A → LinkSeen) → ConnectOptions → LiveScript → DialSeen → DialSeen → Ending A → Type 0
-DialedIs seen o script f g (endings.Live p) = IsLivePlay seen o script p × (start_status p.start ≤ 1) × DialedOnce f g
-DialedIs seen o script f g endings.DialFailed = FailedToDial f g
-DialedIs seen o script f g endings.NoMemory = Unit {0}
-DialedIs seen o script f g _ = ⊥
+abbrev pub DialedIs : {A : Type 0} → (A → LinkSeen) → Handing A → ConnectOptions → LiveScript → DialSeen → DialSeen → Ending A → Type 0
+DialedIs seen hands o script f g (endings.Live p) = IsLivePlay seen hands o script p × (start_status p.start ≤ 1) × DialedOnce f g
+DialedIs seen hands o script f g endings.DialFailed = FailedToDial f g
+DialedIs seen hands o script f g endings.NoMemory = Unit {0}
+DialedIs seen hands o script f g _ = ⊥
 
-abbrev pub LivePlaysText : {A : Type 0} → (A → LinkSeen) → ConnectOptions → SourceSeen → SourceSeen → Played A → Type 0
-LivePlaysText seen o a b p = (text : List ℕ) × (script : LiveScript) × Consumes a.left b.left text × IsAtEnd b.left × SaysLive (Ok script) text × IsLivePlay seen o script p
+abbrev pub LivePlaysText : {A : Type 0} → (A → LinkSeen) → Handing A → ConnectOptions → SourceSeen → SourceSeen → Played A → Type 0
+LivePlaysText seen hands o a b p = (text : List ℕ) × (script : LiveScript) × Consumes a.left b.left text × IsAtEnd b.left × SaysLive (Ok script) text × IsLivePlay seen hands o script p
 
 abbrev pub BadLiveText : SourceSeen → SourceSeen → ℕ → Type 0
 BadLiveText a b n = (text : List ℕ) × Consumes a.left b.left text × SaysLive (Err (reads.BadLine n)) text × (n ≢ 0 → IsAtEnd b.left)
 
 -- what the source and the dial made of options
-abbrev pub LiveIs : {A : Type 0} → (A → LinkSeen) → ConnectOptions → SourceSeen → SourceSeen → DialSeen → DialSeen → Ending A → Type 0
-LiveIs seen o a b f g (endings.Live p) = LivePlaysText seen o a b p × (start_status p.start ≤ 1) × DialedOnce f g
-LiveIs seen o a b f g (endings.BadScript n) = BadLiveText a b n × (g ≡ f)
-LiveIs seen o a b f g endings.ReadFailed = Rose a.faults b.faults × (g ≡ f)
-LiveIs seen o a b f g endings.DialFailed = FailedToDial f g
-LiveIs seen o a b f g endings.NoMemory = Unit {0}
-LiveIs seen o a b f g _ = ⊥
+abbrev pub LiveIs : {A : Type 0} → (A → LinkSeen) → Handing A → ConnectOptions → SourceSeen → SourceSeen → DialSeen → DialSeen → Ending A → Type 0
+LiveIs seen hands o a b f g (endings.Live p) = LivePlaysText seen hands o a b p × (start_status p.start ≤ 1) × DialedOnce f g
+LiveIs seen hands o a b f g (endings.BadScript n) = BadLiveText a b n × (g ≡ f)
+LiveIs seen hands o a b f g endings.ReadFailed = Rose a.faults b.faults × (g ≡ f)
+LiveIs seen hands o a b f g endings.DialFailed = FailedToDial f g
+LiveIs seen hands o a b f g endings.NoMemory = Unit {0}
+LiveIs seen hands o a b f g _ = ⊥
 
 -- the options that a URL alone says, or why it says none
-abbrev pub LiveUrlIs : {A : Type 0} → (A → LinkSeen) → Result ConnectOptions Error → SourceSeen → SourceSeen → DialSeen → DialSeen → Ending A → Type 0
-LiveUrlIs seen (Ok o) a b f g e = LiveIs seen o a b f g e ⊎ (e ≡ endings.NoMemory)
-LiveUrlIs seen (Err error) a b f g e = ((e ≡ endings.Refused error) ⊎ (e ≡ endings.NoMemory)) × (b ≡ a) × (g ≡ f)
+abbrev pub LiveUrlIs : {A : Type 0} → (A → LinkSeen) → Handing A → Result ConnectOptions Error → SourceSeen → SourceSeen → DialSeen → DialSeen → Ending A → Type 0
+LiveUrlIs seen hands (Ok o) a b f g e = LiveIs seen hands o a b f g e ⊎ (e ≡ endings.NoMemory)
+LiveUrlIs seen hands (Err error) a b f g e = ((e ≡ endings.Refused error) ⊎ (e ≡ endings.NoMemory)) × (b ≡ a) × (g ≡ f)
 
 -- what a word and its argument made of it
-abbrev pub ArgumentIs : {A : Type 0} → (A → LinkSeen) → Argued → List ℕ → SourceSeen → SourceSeen → DialSeen → DialSeen → Ending A → Type 0
-ArgumentIs seen argued.Options argument a b f g e = OptionsIs argument e × (b ≡ a) × (g ≡ f)
-ArgumentIs seen argued.Live argument a b f g e = LiveUrlIs seen (options_of_text no_settings argument) a b f g e
-ArgumentIs seen argued.Unknown argument a b f g e = (e ≡ endings.BadWords) × (b ≡ a) × (g ≡ f)
+abbrev pub ArgumentIs : {A : Type 0} → (A → LinkSeen) → Handing A → Argued → List ℕ → SourceSeen → SourceSeen → DialSeen → DialSeen → Ending A → Type 0
+ArgumentIs seen hands argued.Options argument a b f g e = OptionsIs argument e × (b ≡ a) × (g ≡ f)
+ArgumentIs seen hands argued.Live argument a b f g e = LiveUrlIs seen hands (options_of_text no_settings argument) a b f g e
+ArgumentIs seen hands argued.Unknown argument a b f g e = (e ≡ endings.BadWords) × (b ≡ a) × (g ≡ f)
 
 -- what the words, the source and the dial made of it
-abbrev pub RunIs : {A : Type 0} → (A → LinkSeen) → List (String Global) → SourceSeen → SourceSeen → DialSeen → DialSeen → Ending A → Type 0
-RunIs seen (word ∷ []) a b f g e = WordIs (plain_command (string_bytes word)) a b e × (g ≡ f)
-RunIs seen (word ∷ argument ∷ []) a b f g e = ArgumentIs seen (argued_command (string_bytes word)) (string_bytes argument) a b f g e
-RunIs seen _ a b f g e = (e ≡ endings.BadWords) × (b ≡ a) × (g ≡ f)
+abbrev pub RunIs : {A : Type 0} → (A → LinkSeen) → Handing A → List (String Global) → SourceSeen → SourceSeen → DialSeen → DialSeen → Ending A → Type 0
+RunIs seen hands (word ∷ []) a b f g e = WordIs (plain_command (string_bytes word)) a b e × (g ≡ f)
+RunIs seen hands (word ∷ argument ∷ []) a b f g e = ArgumentIs seen hands (argued_command (string_bytes word)) (string_bytes argument) a b f g e
+RunIs seen hands _ a b f g e = (e ≡ endings.BadWords) × (b ≡ a) × (g ≡ f)
 
 abbrev pub refused_text : Error → List ℕ
 refused_text error = codes "error " ++ error_text error ++ 10 ∷ []
@@ -250,9 +255,9 @@ WritesEnding e x y status =
     Writes 5 (codes "out of memory\n") x y status
 
 -- what the words asked was run on what was read, and is told
-pub record TopIs {A : Type 0} (seen : A → LinkSeen) (words : List (String Global)) (a b : SourceSeen) (x y : SinkSeen) (f g : DialSeen) (status : ℕ) (played : Option (Played MemoryLink)) (live : Option (Played A)) : Type 0 where
+pub record TopIs {A : Type 0} (seen : A → LinkSeen) (hands : Handing A) (words : List (String Global)) (a b : SourceSeen) (x y : SinkSeen) (f g : DialSeen) (status : ℕ) (played : Option (Played MemoryLink)) (live : Option (Played A)) : Type 0 where
   pub ending : Ending A
-  pub runs : RunIs seen words a b f g ending
+  pub runs : RunIs seen hands words a b f g ending
   pub shown : played ≡ played_of ending
   pub shown_live : live ≡ live_of ending
   pub written : WritesEnding ending x y status

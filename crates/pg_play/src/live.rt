@@ -1,5 +1,6 @@
 ghost use Rattle.std.specs.Prelude.{◌≡◌, List, ℕ, IfOk, length};
 ghost use Rattle.pg_auth.specs.Nonce.{IsNonce, nonce_of};
+ghost use Rattle.pg_conn.specs.Dials.{Draws, HandsOut};
 ghost use Rattle.pg_options.specs.FromUrl.{options_of_text};
 ghost use Rattle.pg_options.specs.Options.{no_settings};
 ghost use Rattle.pg_play.specs.Top.{DialedIs, DrawsWords, IsUndialed, LiveIs, LiveUrlIs};
@@ -18,7 +19,7 @@ use std::alloc::Global;
 
 // A nonce of 128 words that the dial draws.
 fn draw_nonce<D: Dial>(dial: &mut D) -> Result<ArrayString<127>, DialFailed>
-    ensures value { IfOk result (λ nonce. (words : List ℕ) × (length words ≡ 128) × (nonce.bytes ≡ nonce_of words)) }
+    ensures value { IfOk result (λ nonce. (words : List ℕ) × (length words ≡ 128) × Draws D.draws dial.old words dial.new × (nonce.bytes ≡ nonce_of words)) }
     ensures lawful { IfOk result (λ nonce. IsNonce nonce.bytes) }
     ensures draws { DrawsWords (D.seen dial.old) (D.seen dial.new) result }
 {
@@ -48,7 +49,7 @@ fn dial_and_play<D: Dial>(
 ) -> Ending<D::L>
 where
     D::L: Drop,
-    ensures { DialedIs D.L.seen options.now script.now (D.seen dial.old) (D.seen dial.new) result }
+    ensures { DialedIs D.L.seen (HandsOut D.gives D.draws dial.old dial.new) options.now script.now (D.seen dial.old) (D.seen dial.new) result }
 {
     let link = match dial.dial(options) {
         Ok(link) => link,
@@ -74,7 +75,7 @@ fn play_live<S: Source, D: Dial>(
 ) -> Ending<D::L>
 where
     D::L: Drop,
-    ensures { LiveIs D.L.seen options.now (S.seen source.old) (S.seen source.new) (D.seen dial.old) (D.seen dial.new) result }
+    ensures { LiveIs D.L.seen (HandsOut D.gives D.draws dial.old dial.new) options.now (S.seen source.old) (S.seen source.new) (D.seen dial.old) (D.seen dial.new) result }
 {
     let mut bytes = Vec::new(alloc);
     match read_all(source, &mut bytes) {
@@ -99,7 +100,7 @@ pub(crate) fn run_live<S: Source, D: Dial>(
 ) -> Ending<D::L>
 where
     D::L: Drop,
-    ensures { LiveUrlIs D.L.seen (options_of_text no_settings url.now) (S.seen source.old) (S.seen source.new) (D.seen dial.old) (D.seen dial.new) result }
+    ensures { LiveUrlIs D.L.seen (HandsOut D.gives D.draws dial.old dial.new) (options_of_text no_settings url.now) (S.seen source.old) (S.seen source.new) (D.seen dial.old) (D.seen dial.new) result }
 {
     match PgConnectOptions::from_str(alloc, &PgSettings::empty(), url) {
         Ok(options) => play_live(alloc, &options, source, dial),

@@ -1,5 +1,6 @@
 ghost use Rattle.std.specs.Prelude.{◌≡◌, IfOk, replicate, unwrap_or};
 ghost use Rattle.pg_auth.specs.Nonce.{IsNonce};
+ghost use Rattle.pg_conn.specs.Dials.{HandsOut};
 ghost use Rattle.pg_play.specs.Connecting.{options_of};
 ghost use Rattle.pg_play.specs.Commands.{argued_command, plain_command};
 ghost use Rattle.pg_play.specs.Top.{IsPlay, PlayedOrStarved, ScriptIs, WordIs, ArgumentIs, RunIs, TopIs, status_after, played_of, live_of};
@@ -109,7 +110,7 @@ fn run_with_argument<S: Source, D: Dial>(
 ) -> Ending<D::L>
 where
     D::L: Drop,
-    ensures { ArgumentIs D.L.seen (argued_command word.now) argument.now (S.seen source.old) (S.seen source.new) (D.seen dial.old) (D.seen dial.new) result }
+    ensures { ArgumentIs D.L.seen (HandsOut D.gives D.draws dial.old dial.new) (argued_command word.now) argument.now (S.seen source.old) (S.seen source.new) (D.seen dial.old) (D.seen dial.new) result }
 {
     match Argued::of(word) {
         Argued::Options => show_options(alloc, argument),
@@ -127,7 +128,7 @@ fn run<S: Source, D: Dial>(
 ) -> Ending<D::L>
 where
     D::L: Drop,
-    ensures { RunIs D.L.seen words.now (S.seen source.old) (S.seen source.new) (D.seen dial.old) (D.seen dial.new) result }
+    ensures { RunIs D.L.seen (HandsOut D.gives D.draws dial.old dial.new) words.now (S.seen source.old) (S.seen source.new) (D.seen dial.old) (D.seen dial.new) result }
 {
     match words {
         [word] => run_word(alloc, word.as_str(), source),
@@ -171,7 +172,7 @@ pub fn top<S: Source, K: Sink, D: Dial>(
 ) -> Ran<D::L>
 where
     D::L: Drop,
-    ensures { TopIs D.L.seen words.now (S.seen source.old) (S.seen source.new) (K.seen sink.old) (K.seen sink.new) (D.seen dial.old) (D.seen dial.new) result.status result.played result.live }
+    ensures { TopIs D.L.seen (HandsOut D.gives D.draws dial.old dial.new) words.now (S.seen source.old) (S.seen source.new) (K.seen sink.old) (K.seen sink.new) (D.seen dial.old) (D.seen dial.new) result.status result.played result.live }
 {
     let ending = run(alloc, words, source, dial);
     match ending.text(alloc) {

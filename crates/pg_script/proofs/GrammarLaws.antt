@@ -20,13 +20,11 @@ use Rattle.pg_options.specs.declared.ssl_mode.PgSslMode.{PgSslMode}
 use Rattle.pg_script.specs.Nonces.{IsNonce, is_nonce, nonce_in}
 use Rattle.pg_script.proofs.Apart.{apart}
 use Rattle.pg_script.proofs.NonceLaws.{nonce_lawful, nonce_passes}
+use Rattle.std.proofs.lemmas.Option.{same_Some}
 
 pub bind_some : {A B : Type 0} (o : Option A) (f : A → Option B) (y : B) → (o >>= f) ≡ Some y → (x : A) × (o ≡ Some x) × (f x ≡ Some y)
 bind_some (Some x) f y e = (x, refl, e)
 bind_some None f y e = absurd cc
-
-pub some_is : {A : Type 0} (x y : A) → Some x ≡ Some y → x ≡ y
-some_is x y e = cc
 
 -- the tokens are those of the line, which may have its values
 abbrev pub IsLine : List Token → Line → Type 0
@@ -93,7 +91,7 @@ pair_takes (Space ∷ Text s ∷ Space ∷ Text t ∷ []) p e =
     let d = bind_some (text_in t) (λ (value : List ℕ). Some (b.0, value)) p b.2 in
     let u = utf8_takes (is_utf8 s) s b.0 b.1 in
     let v = utf8_takes (is_utf8 t) t d.0 d.1 in
-    subst (λ (q : List ℕ × List ℕ). (Space ∷ Text s ∷ Space ∷ Text t ∷ [] ≡ pair_tokens q) × ArePair q) (same_pair s t b.0 d.0 p u.1 v.1 (some_is _ p d.2)) (refl, (u.0, v.0))
+    subst (λ (q : List ℕ × List ℕ). (Space ∷ Text s ∷ Space ∷ Text t ∷ [] ≡ pair_tokens q) × ArePair q) (same_pair s t b.0 d.0 p u.1 v.1 (same_Some _ p d.2)) (refl, (u.0, v.0))
 pair_takes _ p e = absurd cc
 
 number_takes : (ts : List Token) (x : ℕ × List Token) → number_arg ts ≡ Some x → ts ≡ Space ∷ Number x.0 ∷ x.1
@@ -117,11 +115,11 @@ AreDigits (Some (pos n)) = n ≤ 3
 AreDigits (Some (negsuc n)) = ⊥
 
 number_digits : (n : ℕ) (small : Bool) (d : Option ℤ) → nat_le n 3 ≡ small → (cond small (Some (pos n)) None >>= λ digit. Some (Some digit)) ≡ Some d → (Space ∷ Number n ∷ [] ≡ digits_tokens d) × AreDigits d
-number_digits n true d is e = subst (λ (x : Option ℤ). (Space ∷ Number n ∷ [] ≡ digits_tokens x) × AreDigits x) (some_is (Some (pos n)) d e) (refl, grind (arith, nat_tests))
+number_digits n true d is e = subst (λ (x : Option ℤ). (Space ∷ Number n ∷ [] ≡ digits_tokens x) × AreDigits x) (same_Some (Some (pos n)) d e) (refl, grind (arith, nat_tests))
 number_digits n false d is e = absurd cc
 
 digits_take : Takes digits_arg digits_tokens AreDigits
-digits_take (Space ∷ Word words.None ∷ []) d e = subst (λ (x : Option ℤ). (Space ∷ Word words.None ∷ [] ≡ digits_tokens x) × AreDigits x) (some_is None d e) (refl, tt)
+digits_take (Space ∷ Word words.None ∷ []) d e = subst (λ (x : Option ℤ). (Space ∷ Word words.None ∷ [] ≡ digits_tokens x) × AreDigits x) (same_Some None d e) (refl, tt)
 digits_take (Space ∷ Number n ∷ []) d e = number_digits n (nat_le n 3) d refl e
 digits_take _ d e = absurd cc
 
@@ -134,12 +132,12 @@ raw_takes : Takes raw_arg raw_tokens QueryFits
 raw_takes (Space ∷ Word words.Raw ∷ rest) q e =
     let b = bind_some (text_arg rest) (λ sql. Some (record { sql = sql })) q e in
     let t = text_takes rest b.0 b.1 in
-    let is : record { sql = b.0 } ≡ q = some_is _ q b.2 in
+    let is : record { sql = b.0 } ≡ q = same_Some _ q b.2 in
     subst (λ (r : QueryText). (Space ∷ Word words.Raw ∷ rest ≡ raw_tokens r) × QueryFits r) is (ap (λ (ts : List Token). Space ∷ Word words.Raw ∷ ts) t.0, t.1)
 raw_takes _ q e = absurd cc
 
 alone_takes : {A : Type 0} (x y : A) (ts : List Token) → alone x ts ≡ Some y → (ts ≡ []) × (x ≡ y)
-alone_takes x y [] e = (refl, some_is x y e)
+alone_takes x y [] e = (refl, same_Some x y e)
 alone_takes x y (t ∷ ts) e = absurd cc
 
 -- what is made of an argument behind a word has the tokens of its row
@@ -149,7 +147,7 @@ made : {A B : Type 0} (Is : List Token → B → Type 0) (read : List Token → 
 made {A} {B} Is read tokens Fits make k takes is rest y e =
     let b = bind_some (read rest) (λ (x : A). Some (make x)) y e in
     let t = takes rest b.0 b.1 in
-    subst (Is (Word k ∷ rest)) (some_is (make b.0) y b.2) (subst (λ (ts : List Token). Is (Word k ∷ ts) (make b.0)) (sym t.0) (is b.0 t.1))
+    subst (Is (Word k ∷ rest)) (same_Some (make b.0) y b.2) (subst (λ (ts : List Token). Is (Word k ∷ ts) (make b.0)) (sym t.0) (is b.0 t.1))
 
 -- and so has a word alone
 bare : {B : Type 0} (Is : List Token → B → Type 0) (x : B) (k : Keyword) → Is (Word k ∷ []) x → (rest : List Token) (y : B) → alone x rest ≡ Some y → Is (Word k ∷ rest) y
@@ -233,9 +231,9 @@ most_tokens (Some n) ts = Space ∷ Word words.Most ∷ Space ∷ Number n ∷ t
 most_takes : (ts : List Token) (x : Option ℕ × List Token) → most_arg ts ≡ Some x → ts ≡ most_tokens x.0 x.1
 most_takes (Space ∷ Word words.Most ∷ rest) x e =
     let b = bind_some (number_arg rest) (λ (most : ℕ × List Token). Some (Some most.0, most.1)) x e in
-    let is : (Some b.0.0, b.0.1) ≡ x = some_is _ x b.2 in
+    let is : (Some b.0.0, b.0.1) ≡ x = same_Some _ x b.2 in
     subst (λ (y : Option ℕ × List Token). Space ∷ Word words.Most ∷ rest ≡ most_tokens y.0 y.1) is (ap (λ (us : List Token). Space ∷ Word words.Most ∷ us) (number_takes rest b.0 b.1))
-most_takes ts x e = let is : (None, ts) ≡ x = some_is _ x e in subst (λ (y : Option ℕ × List Token). ts ≡ most_tokens y.0 y.1) is refl
+most_takes ts x e = let is : (None, ts) ≡ x = same_Some _ x e in subst (λ (y : Option ℕ × List Token). ts ≡ most_tokens y.0 y.1) is refl
 
 step_tokens : (polls : ℕ) (most : Option ℕ) (call : Call) → Word words.Step ∷ Space ∷ Number polls ∷ most_tokens most (Space ∷ call_tokens call) ≡ tokens_of (lines.Step polls most call)
 step_tokens polls None call = refl
@@ -255,11 +253,11 @@ step_takes ts l e =
     let f = bind_some (call_arg d.0.1) (λ (call : Call). Some (lines.Step b.0.0 d.0.0 call)) l d.2 in
     let t = behind_takes d.0.1 f.0 f.1 in
     let all = step_is ts b.0.1 d.0.1 b.0.0 d.0.0 f.0 (number_takes ts b.0 b.1) (most_takes b.0.1 d.0 d.1) t.0 in
-    same_line (Word words.Step ∷ ts) (lines.Step b.0.0 d.0.0 f.0) l (some_is (lines.Step b.0.0 d.0.0 f.0) l f.2) (all, t.1)
+    same_line (Word words.Step ∷ ts) (lines.Step b.0.0 d.0.0 f.0) l (same_Some (lines.Step b.0.0 d.0.0 f.0) l f.2) (all, t.1)
 
 link_takes : (ts : List Token) (l : Line) → link_line ts ≡ Some l → IsLine (Word words.Link ∷ ts) l
-link_takes (Space ∷ Word words.Upgrade ∷ []) l e = same_line (Word words.Link ∷ Space ∷ Word words.Upgrade ∷ []) lines.LinkUpgrade l (some_is lines.LinkUpgrade l e) (refl, tt)
-link_takes (Space ∷ Word words.Local ∷ []) l e = same_line (Word words.Link ∷ Space ∷ Word words.Local ∷ []) lines.LinkLocal l (some_is lines.LinkLocal l e) (refl, tt)
+link_takes (Space ∷ Word words.Upgrade ∷ []) l e = same_line (Word words.Link ∷ Space ∷ Word words.Upgrade ∷ []) lines.LinkUpgrade l (same_Some lines.LinkUpgrade l e) (refl, tt)
+link_takes (Space ∷ Word words.Local ∷ []) l e = same_line (Word words.Link ∷ Space ∷ Word words.Local ∷ []) lines.LinkLocal l (same_Some lines.LinkLocal l e) (refl, tt)
 link_takes _ l e = absurd cc
 
 with_takes : (k : Keyword) (rest : List Token) (l : Line) → line_with k rest ≡ Some l → IsLine (Word k ∷ rest) l

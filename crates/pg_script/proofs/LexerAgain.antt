@@ -17,10 +17,11 @@ use Rattle.std.specs.List.{list_all}
 use Rattle.pg_script.specs.Grammar.{IsCharacter, IsText, IsNumber, SpellsToken, SpellsAll}
 use Rattle.pg_script.proofs.Apart.{is_word, apart}
 use Rattle.pg_script.proofs.WordLaws.{goes_on, is_one_word, word_law}
-use Rattle.pg_script.proofs.GrammarLaws.{bind_some}
 use Rattle.pg_script.proofs.LexerTakes.{first_is}
 use Rattle.pg_script.proofs.ModeLaws.{mode_word, mode_utf8}
-use Rattle.pg_script.proofs.SpellingLaws.{none_some, guarded, unless, number_of-again, ordinary_tests, hex_value-again, byte_halves}
+use Rattle.pg_script.proofs.SpellingLaws.{none_some, unless, number_of-again, ordinary_tests, hex_value-again, byte_halves}
+use Rattle.pg_wire.proofs.Tests.{both_true, negated, guarded}
+use Rattle.pg_script.proofs.GrammarLaws.{bind_some}
 
 abbrev at : List Token → List ℕ → Mode → LexerState
 at ts held mode = record { tokens = ts; held = held; mode = mode }
@@ -54,14 +55,6 @@ quoted_runs s ts q y h = ap (λ (z : List ℕ). lexed (at ts [] modes.Text) z) (
 
 -- ---- words and numbers
 
-both : (a b : Bool) → (a && b) ≡ true → (a ≡ true) × (b ≡ true)
-both true b e = (refl, e)
-both false b e = absurd cc
-
-negated : (a : Bool) → not a ≡ true → a ≡ false
-negated false e = refl
-negated true e = absurd cc
-
 plain_step : (ts : List Token) (held : List ℕ) (b : ℕ) (y : List ℕ) → nat_eq b 32 ≡ false → nat_eq b 34 ≡ false → lexed (at ts held modes.Word) (b ∷ y) ≡ lexed (at ts (held ++ b ∷ []) modes.Word) y
 unfolding run step
 plain_step ts held b y h k = rw (h, k) refl
@@ -69,8 +62,8 @@ plain_step ts held b y h k = rw (h, k) refl
 word_runs : (w : List ℕ) (ts : List Token) (held y : List ℕ) → list_all goes_on w ≡ true → lexed (at ts held modes.Word) (w ++ y) ≡ lexed (at ts (held ++ w) modes.Word) y
 word_runs [] ts held y e = ap (λ (z : List ℕ). lexed (at ts z modes.Word) y) (sym (append-nil held))
 word_runs (b ∷ w) ts held y e =
-    let d = both (goes_on b) (list_all goes_on w) e in
-    let k = both (not (nat_eq b 32)) (not (nat_eq b 34)) d.0 in
+    let d = both_true (goes_on b) (list_all goes_on w) e in
+    let k = both_true (not (nat_eq b 32)) (not (nat_eq b 34)) d.0 in
     plain_step ts held b (w ++ y) (negated (nat_eq b 32) k.0) (negated (nat_eq b 34) k.1) ∙ word_runs w ts (held ++ b ∷ []) y d.1 ∙ ap (λ (z : List ℕ). lexed (at ts z modes.Word) y) (append_assoc held (b ∷ []) w)
 
 -- a word has a first byte, which is no digit and begins no comment
@@ -85,8 +78,8 @@ pub record HasHead (w : List ℕ) : Type 0 where
 pub word_head : (w : List ℕ) → is_one_word w ≡ true → HasHead w
 word_head [] e = absurd cc
 word_head (b ∷ bs) e =
-    let d = both (not (is_digit b)) (not (nat_eq b 35) && list_all goes_on (b ∷ bs)) e in
-    let c = both (not (nat_eq b 35)) (list_all goes_on (b ∷ bs)) d.1 in
+    let d = both_true (not (is_digit b)) (not (nat_eq b 35) && list_all goes_on (b ∷ bs)) e in
+    let c = both_true (not (nat_eq b 35)) (list_all goes_on (b ∷ bs)) d.1 in
     record { head = b; rest = bs; is = refl; no_digit = negated (is_digit b) d.0; no_comment = negated (nat_eq b 35) c.0; goes = c.1 }
 
 no_number_in : (b : ℕ) (bs : List ℕ) → is_digit b ≡ false → number_of (b ∷ bs) ≡ None
@@ -186,7 +179,7 @@ behind_quote ts t w x y z q f d e = rw (e, d) (ends_quote ts w ((q ++ 34 ∷ [])
 
 tail_apart : (t : Token) (ts : List Token) → apart (t ∷ ts) ≡ true → apart ts ≡ true
 tail_apart t [] a = refl
-tail_apart t (u ∷ ts) a = (both (not (is_word t && is_word u)) (apart (u ∷ ts)) a).1
+tail_apart t (u ∷ ts) a = (both_true (not (is_word t && is_word u)) (apart (u ∷ ts)) a).1
 
 beside : (a b : Bool) → a ≡ true → (not (a && true) && b) ≡ true → ⊥
 beside true b i e = cc

@@ -16,14 +16,16 @@ use Rattle.pg_script.specs.Arguments.{text_in}
 use Rattle.pg_script.specs.Words.{spelling_of, number_of, first_of, keyword_of, keyword_among, all_words, mode_of, token_of}
 use Rattle.pg_script.specs.Lexing.{LexerState, start_state, hex_value, word_in, with_byte, with_mode, step_word, step_text, step_escape, step_digit, step_in, step, finish_in, finish, tokens_in}
 use Rattle.pg_script.specs.Grammar.{IsCharacter, IsText, SpellsToken, SpellsAll}
-use Rattle.pg_script.proofs.GrammarLaws.{bind_some, some_is}
-use Rattle.pg_script.proofs.SpellingLaws.{chosen, none_some, guarded, bytes_eq-is, number_of-takes, ordinary_from, hex_pair-takes}
+use Rattle.pg_script.proofs.SpellingLaws.{none_some, bytes_eq-is, number_of-takes, ordinary_from, hex_pair-takes}
+use Rattle.pg_wire.proofs.Tests.{chosen, guarded}
+use Rattle.std.proofs.lemmas.Option.{same_Some}
+use Rattle.pg_script.proofs.GrammarLaws.{bind_some}
 
 -- ---- words
 
 first_next : (j : Keyword) (ks : List Keyword) (w : List ℕ) (k : Keyword) → (keyword_among ks w ≡ Some k → w ≡ spelling_of k) → cond (bytes_eq w (spelling_of j)) (Some j) (keyword_among ks w) ≡ Some k → w ≡ spelling_of k
 first_next j ks w k h e = elim (chosen (bytes_eq w (spelling_of j)) (Some j) (keyword_among ks w) (Some k) e) [
-  | inl p ↦ bytes_eq-is w (spelling_of j) p.0 ∙ ap spelling_of (some_is j k p.1)
+  | inl p ↦ bytes_eq-is w (spelling_of j) p.0 ∙ ap spelling_of (same_Some j k p.1)
   | inr p ↦ h p.1
 ]
 
@@ -34,15 +36,15 @@ first_is (j ∷ ks) w k e = first_next j ks w k (first_is ks w k) e
 mode_is : (w : List ℕ) (m : PgSslMode) → mode_of w ≡ Some m → ssl_mode_from w ≡ Some m
 mode_is w m e =
     let b = bind_some (text_in w) ssl_mode_from m e in
-    ap ssl_mode_from (some_is w b.0 (guarded (is_utf8 w) (Some w) b.0 b.1).1) ∙ b.2
+    ap ssl_mode_from (same_Some w b.0 (guarded (is_utf8 w) (Some w) b.0 b.1).1) ∙ b.2
 
 word_is : (o : Option ℕ) (p : Option Keyword) (w : List ℕ) (t : Token) → number_of w ≡ o → keyword_of w ≡ p → first_of o p (mode_of w) ≡ Some t → SpellsToken t w
 unfolding keyword_of
-word_is (Some n) p w t is also e = subst (λ (u : Token). SpellsToken u w) (some_is (tokens.Number n) t e) (number_of-takes w n is)
-word_is None (Some k) w t is also e = subst (λ (u : Token). SpellsToken u w) (some_is (tokens.Word k) t e) (first_is all_words w k also)
+word_is (Some n) p w t is also e = subst (λ (u : Token). SpellsToken u w) (same_Some (tokens.Number n) t e) (number_of-takes w n is)
+word_is None (Some k) w t is also e = subst (λ (u : Token). SpellsToken u w) (same_Some (tokens.Word k) t e) (first_is all_words w k also)
 word_is None None w t is also e =
     let b = bind_some (mode_of w) (λ (m : PgSslMode). Some (tokens.SslMode m)) t e in
-    subst (λ (u : Token). SpellsToken u w) (some_is (tokens.SslMode b.0) t b.2) (mode_is w b.0 b.1)
+    subst (λ (u : Token). SpellsToken u w) (same_Some (tokens.SslMode b.0) t b.2) (mode_is w b.0 b.1)
 
 token_is : (w : List ℕ) (t : Token) → token_of w ≡ Some t → SpellsToken t w
 unfolding token_of
@@ -76,10 +78,10 @@ at ts held mode = record { tokens = ts; held = held; mode = mode }
 
 held_word : (ts : List Token) (held p q : List ℕ) (mode : Mode) (t : LexerState) → SpellsAll ts q → p ≡ q ++ held → word_in held (at ts held mode) ≡ Some t
     → (us : List Token) × (at us [] mode ≡ t) × SpellsAll us p
-held_word ts [] p q mode t h e w = (ts, some_is _ t w, subst (SpellsAll ts) (sym (e ∙ append-nil q)) h)
+held_word ts [] p q mode t h e w = (ts, same_Some _ t w, subst (SpellsAll ts) (sym (e ∙ append-nil q)) h)
 held_word ts (b ∷ bs) p q mode t h e w =
     let d = bind_some (token_of (b ∷ bs)) (λ (u : Token). Some (at (ts ++ u ∷ []) [] mode)) t w in
-    (ts ++ d.0 ∷ [], some_is _ t d.2, subst (SpellsAll (ts ++ d.0 ∷ [])) (sym e) (more_tokens ts q (b ∷ bs) d.0 h (token_is (b ∷ bs) d.0 d.1)))
+    (ts ++ d.0 ∷ [], same_Some _ t d.2, subst (SpellsAll (ts ++ d.0 ∷ [])) (sym e) (more_tokens ts q (b ∷ bs) d.0 h (token_is (b ∷ bs) d.0 d.1)))
 
 -- ---- one byte more
 
@@ -94,27 +96,27 @@ keeps_word ts held t p b q h e w = elim (chosen (nat_eq b 32) _ _ (Some t) w) [
   | inl c ↦
       let d = bind_some (word_in held (at ts held modes.Word)) (λ (u : LexerState). Some (record u { tokens = u.tokens ++ tokens.Space ∷ [] })) t c.1 in
       let k = held_word ts held p q modes.Word d.0 h e d.1 in
-      let is : at (k.0 ++ tokens.Space ∷ []) [] modes.Word ≡ t = ap (λ (u : LexerState). record u { tokens = u.tokens ++ tokens.Space ∷ [] }) k.1 ∙ some_is _ t d.2 in
+      let is : at (k.0 ++ tokens.Space ∷ []) [] modes.Word ≡ t = ap (λ (u : LexerState). record u { tokens = u.tokens ++ tokens.Space ∷ [] }) k.1 ∙ same_Some _ t d.2 in
       subst (λ (u : LexerState). Holds u (p ++ b ∷ [])) is (p ++ b ∷ [], [], more_tokens k.0 p (b ∷ []) tokens.Space k.2 (one b 32 c.0), refl, sym (append-nil (p ++ b ∷ [])))
   | inr c ↦ elim (chosen (nat_eq b 34) _ _ (Some t) c.1) [
     | inl d ↦
         let f = bind_some (word_in held (at ts held modes.Word)) (λ (u : LexerState). Some (with_mode u modes.Text)) t d.1 in
         let k = held_word ts held p q modes.Word f.0 h e f.1 in
-        let is : at k.0 [] modes.Text ≡ t = ap (λ (u : LexerState). with_mode u modes.Text) k.1 ∙ some_is _ t f.2 in
+        let is : at k.0 [] modes.Text ≡ t = ap (λ (u : LexerState). with_mode u modes.Text) k.1 ∙ same_Some _ t f.2 in
         subst (λ (u : LexerState). Holds u (p ++ b ∷ [])) is (p, b ∷ [], k.2, ([], refl, one b 34 d.0), refl)
-    | inr d ↦ subst (λ (u : LexerState). Holds u (p ++ b ∷ [])) (some_is (at ts (held ++ b ∷ []) modes.Word) t d.1) (q, held ++ b ∷ [], h, refl, pushed p q held (b ∷ []) e)
+    | inr d ↦ subst (λ (u : LexerState). Holds u (p ++ b ∷ [])) (same_Some (at ts (held ++ b ∷ []) modes.Word) t d.1) (q, held ++ b ∷ [], h, refl, pushed p q held (b ∷ []) e)
   ]
 ]
 
 keeps_text : (ts : List Token) (held : List ℕ) (t : LexerState) (p : List ℕ) (b : ℕ) (q a : List ℕ) → SpellsAll ts q → IsText held a → p ≡ q ++ 34 ∷ a → step_text (at ts held modes.Text) b ≡ Some t → Holds t (p ++ b ∷ [])
 keeps_text ts held t p b q a h x e w = elim (chosen (nat_eq b 34) _ _ (Some t) w) [
-  | inl c ↦ subst (λ (u : LexerState). Holds u (p ++ b ∷ [])) (some_is (at (ts ++ tokens.Text held ∷ []) [] modes.Word) t c.1)
+  | inl c ↦ subst (λ (u : LexerState). Holds u (p ++ b ∷ [])) (same_Some (at (ts ++ tokens.Text held ∷ []) [] modes.Word) t c.1)
       (q ++ (34 ∷ (a ++ b ∷ [])), [], more_tokens ts q (34 ∷ (a ++ b ∷ [])) (tokens.Text held) h (a, x, ap (λ (z : List ℕ). 34 ∷ (a ++ z)) (one b 34 c.0)), refl, pushed p q (34 ∷ a) (b ∷ []) e ∙ sym (append-nil (q ++ (34 ∷ (a ++ b ∷ [])))))
   | inr c ↦ elim (chosen (nat_eq b 92) _ _ (Some t) c.1) [
-    | inl d ↦ subst (λ (u : LexerState). Holds u (p ++ b ∷ [])) (some_is (at ts held modes.Escape) t d.1)
+    | inl d ↦ subst (λ (u : LexerState). Holds u (p ++ b ∷ [])) (same_Some (at ts held modes.Escape) t d.1)
         (q, 34 ∷ (a ++ b ∷ []), h, (a, x, ap (λ (z : List ℕ). 34 ∷ (a ++ z)) (one b 92 d.0)), pushed p q (34 ∷ a) (b ∷ []) e)
     | inr d ↦ elim (chosen (nat_le 32 b && nat_le b 126) _ _ (Some t) d.1) [
-      | inl f ↦ subst (λ (u : LexerState). Holds u (p ++ b ∷ [])) (some_is (at ts (held ++ b ∷ []) modes.Text) t f.1)
+      | inl f ↦ subst (λ (u : LexerState). Holds u (p ++ b ∷ [])) (same_Some (at ts (held ++ b ∷ []) modes.Text) t f.1)
           (q, 34 ∷ (a ++ b ∷ []), h, (a ++ b ∷ [], more_text held a (b ∷ []) b x (inl (refl, ordinary_from b c.0 d.0 f.0)), refl), pushed p q (34 ∷ a) (b ∷ []) e)
       | inr f ↦ absurd (none_some t f.1)
     ]
@@ -127,11 +129,11 @@ behind ts held p q a y b c h x e k = (q, 34 ∷ (a ++ (y ++ b ∷ [])), h, (a ++
 
 keeps_escape : (ts : List Token) (held : List ℕ) (t : LexerState) (p : List ℕ) (b : ℕ) (q a : List ℕ) → SpellsAll ts q → IsText held a → p ≡ q ++ 34 ∷ (a ++ 92 ∷ []) → step_escape (at ts held modes.Escape) b ≡ Some t → Holds t (p ++ b ∷ [])
 keeps_escape ts held t p b q a h x e w = elim (chosen (nat_eq b 34) _ _ (Some t) w) [
-  | inl c ↦ subst (λ (u : LexerState). Holds u (p ++ b ∷ [])) (some_is (at ts (held ++ b ∷ []) modes.Text) t c.1) (behind ts held p q a (92 ∷ []) b b h x e (inr (inl (refl, inl (eqb-true b 34 c.0)))))
+  | inl c ↦ subst (λ (u : LexerState). Holds u (p ++ b ∷ [])) (same_Some (at ts (held ++ b ∷ []) modes.Text) t c.1) (behind ts held p q a (92 ∷ []) b b h x e (inr (inl (refl, inl (eqb-true b 34 c.0)))))
   | inr c ↦ elim (chosen (nat_eq b 92) _ _ (Some t) c.1) [
-    | inl d ↦ subst (λ (u : LexerState). Holds u (p ++ b ∷ [])) (some_is (at ts (held ++ b ∷ []) modes.Text) t d.1) (behind ts held p q a (92 ∷ []) b b h x e (inr (inl (refl, inr (eqb-true b 92 d.0)))))
+    | inl d ↦ subst (λ (u : LexerState). Holds u (p ++ b ∷ [])) (same_Some (at ts (held ++ b ∷ []) modes.Text) t d.1) (behind ts held p q a (92 ∷ []) b b h x e (inr (inl (refl, inr (eqb-true b 92 d.0)))))
     | inr d ↦ elim (chosen (nat_eq b 120) _ _ (Some t) d.1) [
-      | inl f ↦ subst (λ (u : LexerState). Holds u (p ++ b ∷ [])) (some_is (at ts held modes.High) t f.1)
+      | inl f ↦ subst (λ (u : LexerState). Holds u (p ++ b ∷ [])) (same_Some (at ts held modes.High) t f.1)
           (q, 34 ∷ (a ++ 92 ∷ b ∷ []), h, (a, x, ap (λ (m : ℕ). 34 ∷ (a ++ 92 ∷ m ∷ [])) (eqb-true b 120 f.0)), pushed p q (34 ∷ (a ++ 92 ∷ [])) (b ∷ []) e ∙ ap (λ (z : List ℕ). q ++ 34 ∷ z) (append_assoc a (92 ∷ []) (b ∷ [])))
       | inr f ↦ absurd (none_some t f.1)
     ]
@@ -141,13 +143,13 @@ keeps_escape ts held t p b q a h x e w = elim (chosen (nat_eq b 34) _ _ (Some t)
 keeps_high : (ts : List Token) (held : List ℕ) (t : LexerState) (p : List ℕ) (b : ℕ) (q a : List ℕ) → SpellsAll ts q → IsText held a → p ≡ q ++ 34 ∷ (a ++ 92 ∷ 120 ∷ []) → step_digit None (at ts held modes.High) b ≡ Some t → Holds t (p ++ b ∷ [])
 keeps_high ts held t p b q a h x e w =
     let d = bind_some (hex_value b) (λ (n : ℕ). Some (with_mode (at ts held modes.High) (modes.Low n))) t w in
-    subst (λ (u : LexerState). Holds u (p ++ b ∷ [])) (some_is (at ts held (modes.Low d.0)) t d.2)
+    subst (λ (u : LexerState). Holds u (p ++ b ∷ [])) (same_Some (at ts held (modes.Low d.0)) t d.2)
     (q, 34 ∷ (a ++ 92 ∷ 120 ∷ b ∷ []), h, (a, b, x, d.1, refl), pushed p q (34 ∷ (a ++ 92 ∷ 120 ∷ [])) (b ∷ []) e ∙ ap (λ (z : List ℕ). q ++ 34 ∷ z) (append_assoc a (92 ∷ 120 ∷ []) (b ∷ [])))
 
 keeps_low : (ts : List Token) (held : List ℕ) (t : LexerState) (p : List ℕ) (b high n : ℕ) (q a : List ℕ) → SpellsAll ts q → IsText held a → hex_value n ≡ Some high → p ≡ q ++ 34 ∷ (a ++ 92 ∷ 120 ∷ n ∷ []) → step_digit (Some high) (at ts held (modes.Low high)) b ≡ Some t → Holds t (p ++ b ∷ [])
 keeps_low ts held t p b high n q a h x k e w =
     let d = bind_some (hex_value b) (λ (m : ℕ). Some (with_byte (at ts held (modes.Low high)) (high * 16 + m))) t w in
-    subst (λ (u : LexerState). Holds u (p ++ b ∷ [])) (some_is (at ts (held ++ (high * 16 + d.0) ∷ []) modes.Text) t d.2)
+    subst (λ (u : LexerState). Holds u (p ++ b ∷ [])) (same_Some (at ts (held ++ (high * 16 + d.0) ∷ []) modes.Text) t d.2)
     (behind ts held p q a (92 ∷ 120 ∷ n ∷ []) b (high * 16 + d.0) h x e (inr (inr (hex_pair-takes n b high d.0 k d.1))))
 
 keeps : (ts : List Token) (held : List ℕ) (mode : Mode) (t : LexerState) (p : List ℕ) (b : ℕ) → Holds (at ts held mode) p → step_in mode (at ts held mode) b ≡ Some t → Holds t (p ++ b ∷ [])
@@ -161,7 +163,7 @@ ends : (ts : List Token) (held : List ℕ) (mode : Mode) (us : List Token) (p : 
 ends ts held modes.Word us p h w =
     let d = bind_some (word_in held (at ts held modes.Word)) (λ (t : LexerState). Some t.tokens) us w in
     let k = held_word ts held p h.0 modes.Word d.0 h.2 (h.4 ∙ ap (λ (z : List ℕ). h.0 ++ z) h.3) d.1 in
-    subst (λ (vs : List Token). SpellsAll vs p) (ap (λ (t : LexerState). t.tokens) k.1 ∙ some_is d.0.tokens us d.2) k.2
+    subst (λ (vs : List Token). SpellsAll vs p) (ap (λ (t : LexerState). t.tokens) k.1 ∙ same_Some d.0.tokens us d.2) k.2
 ends ts held _ us p h w = absurd (none_some us w)
 
 runs : (s : LexerState) (bytes p : List ℕ) (us : List Token) → Holds s p → run step finish s bytes ≡ Some us → SpellsAll us (p ++ bytes)

@@ -1,11 +1,11 @@
 -- A text and its lines.
 use Rattle.std.proofs.Common.{ℕ, ◌≡◌, List, [], ◌∷◌, ◌++◌, Bool, true, false, cond, nat_eq, refl, ap, ◌∙◌, arith}
-use Rattle.std.specs.Prelude.{◌||◌}
 use Rattle.std.specs.List.{list_any}
 use Rattle.std.proofs.lemmas.Bool.{eqb-true}
 use Rattle.std.proofs.lemmas.Bool.Decides.{nat_tests}
 use Rattle.pg_script.specs.Scripts.{onto_first, lines_of}
 use Rattle.pg_script.specs.Grammar.{AreLines}
+use Rattle.pg_wire.proofs.Tests.{neither_true}
 
 abbrev pub onto_front : List ℕ → List (List ℕ) → List (List ℕ)
 onto_front front [] = front ∷ []
@@ -43,23 +43,19 @@ lines_are (b ∷ bs) = lines_step b bs (nat_eq b 10) refl (lines_are bs)
 
 -- ---- and a text has no other lines
 
-or_false : (a b : Bool) → (a || b) ≡ false → (a ≡ false) × (b ≡ false)
-or_false false b e = (refl, e)
-or_false true b e = absurd cc
-
 no_feed : (b : ℕ) (bs : List ℕ) → nat_eq 10 b ≡ false → lines_of (b ∷ bs) ≡ onto_first b (lines_of bs)
 no_feed b bs n = let m : nat_eq b 10 ≡ false = grind (arith, nat_tests) in rw m refl
 
 last_line : (l : List ℕ) → list_any (nat_eq 10) l ≡ false → lines_of l ≡ l ∷ []
 last_line [] n = refl
 last_line (b ∷ l) n =
-    let m = or_false (nat_eq 10 b) (list_any (nat_eq 10) l) n in
+    let m = neither_true (nat_eq 10 b) (list_any (nat_eq 10) l) n in
     no_feed b l m.0 ∙ ap (onto_first b) (last_line l m.1)
 
 first_line : (l rest : List ℕ) → list_any (nat_eq 10) l ≡ false → lines_of (l ++ 10 ∷ rest) ≡ l ∷ lines_of rest
 first_line [] rest n = refl
 first_line (b ∷ l) rest n =
-    let m = or_false (nat_eq 10 b) (list_any (nat_eq 10) l) n in
+    let m = neither_true (nat_eq 10 b) (list_any (nat_eq 10) l) n in
     no_feed b (l ++ 10 ∷ rest) m.0 ∙ ap (onto_first b) (first_line l rest m.1)
 
 pub lines_again : (ls : List (List ℕ)) (text : List ℕ) → AreLines ls text → lines_of text ≡ ls

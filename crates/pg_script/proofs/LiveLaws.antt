@@ -7,20 +7,21 @@ use Rattle.pg_script.specs.declared.script.Script.{Script}
 use Rattle.pg_script.specs.declared.step.Step.{Step}
 use Rattle.pg_script.specs.Lines.{line_in}
 use Rattle.pg_script.specs.Scripts.{add_allowed, add_line, empty_script, lines_of, read_from, read_next, read_text, set_once, with_step, whole, live_part}
-use Rattle.pg_script.proofs.GrammarLaws.{bind_some, some_is}
+use Rattle.std.proofs.lemmas.Option.{same_Some}
+use Rattle.pg_script.proofs.GrammarLaws.{bind_some}
 
 -- it is whole by its part that is live
 abbrev pub IsWhole : Script → Type 0
 IsWhole s = s ≡ whole (live_part s)
 
 keeps_step : (s u : Script) (step : Step) → IsWhole s → with_step s step ≡ Some u → IsWhole u
-keeps_step s u step h e = subst IsWhole (some_is _ u e) (ap (λ (v : Script). record v { steps = s.steps ++ step ∷ [] }) h)
+keeps_step s u step h e = subst IsWhole (same_Some _ u e) (ap (λ (v : Script). record v { steps = s.steps ++ step ∷ [] }) h)
 
 keeps : (s u : Script) (l : Line) → IsWhole s → add_allowed kinds.Live s l ≡ Some u → IsWhole u
-keeps s u lines.Blank h e = subst IsWhole (some_is s u e) h
+keeps s u lines.Blank h e = subst IsWhole (same_Some s u e) h
 keeps s u (lines.Start polls) h e =
     let b = bind_some (set_once s.start_polls polls) (λ (start_polls : Option ℕ). Some (record s { start_polls = start_polls })) u e in
-    subst IsWhole (some_is (record s { start_polls = b.0 }) u b.2) (ap (λ (v : Script). record v { start_polls = b.0 }) h)
+    subst IsWhole (same_Some (record s { start_polls = b.0 }) u b.2) (ap (λ (v : Script). record v { start_polls = b.0 }) h)
 keeps s u (lines.Step polls most call) h e = keeps_step s u _ h e
 keeps s u l h e = absurd cc
 

@@ -12,8 +12,9 @@ use Rattle.pg_options.specs.declared.ssl_mode.PgSslMode.TheVariants as modes
 use Rattle.pg_options.specs.SslModes.{ssl_mode_from, ssl_mode_name, mode_named, ssl_modes}
 use Rattle.pg_script.specs.Words.{is_digit}
 use Rattle.pg_script.proofs.WordLaws.{goes_on, is_one_word}
-use Rattle.pg_script.proofs.GrammarLaws.{some_is}
-use Rattle.pg_script.proofs.SpellingLaws.{chosen, bytes_eq-is}
+use Rattle.pg_script.proofs.SpellingLaws.{bytes_eq-is}
+use Rattle.pg_wire.proofs.Tests.{both_true, chosen}
+use Rattle.std.proofs.lemmas.Option.{same_Some}
 
 -- a hyphen or a letter, and what stands between them but for digits
 abbrev is_letter : ℕ → Bool
@@ -21,7 +22,7 @@ is_letter b = not (is_digit b) && (nat_le 45 b && nat_le b 122)
 
 named_next : (m : PgSslMode) (ms : List PgSslMode) (name : List ℕ) (k : PgSslMode) → (mode_named name ms ≡ Some k → name ≡ ssl_mode_name k) → cond (bytes_eq name (ssl_mode_name m)) (Some m) (mode_named name ms) ≡ Some k → name ≡ ssl_mode_name k
 named_next m ms name k h e = elim (chosen (bytes_eq name (ssl_mode_name m)) (Some m) (mode_named name ms) (Some k) e) [
-  | inl p ↦ bytes_eq-is name (ssl_mode_name m) p.0 ∙ ap ssl_mode_name (some_is m k p.1)
+  | inl p ↦ bytes_eq-is name (ssl_mode_name m) p.0 ∙ ap ssl_mode_name (same_Some m k p.1)
   | inr p ↦ h p.1
 ]
 
@@ -37,17 +38,13 @@ name_letters modes.Require = refl
 name_letters modes.VerifyCa = refl
 name_letters modes.VerifyFull = refl
 
-both : (a b : Bool) → (a && b) ≡ true → (a ≡ true) × (b ≡ true)
-both true b e = (refl, e)
-both false b e = absurd cc
-
 raised : (b : ℕ) → is_letter (to_ascii_lowercase b) ≡ true → is_letter b ≡ true
 raised b e = grind (arith, nat_tests)
 
 all_raised : (w : List ℕ) → list_all is_letter (map to_ascii_lowercase w) ≡ true → list_all is_letter w ≡ true
 all_raised [] e = refl
 all_raised (b ∷ w) e =
-    let p = both (is_letter (to_ascii_lowercase b)) (list_all is_letter (map to_ascii_lowercase w)) e in
+    let p = both_true (is_letter (to_ascii_lowercase b)) (list_all is_letter (map to_ascii_lowercase w)) e in
     rw (raised b p.0) (all_raised w p.1)
 
 letters : (w : List ℕ) (m : PgSslMode) → ssl_mode_from w ≡ Some m → list_all is_letter w ≡ true
@@ -60,19 +57,19 @@ letter_goes b e = grind (arith, nat_tests)
 letters_go : (w : List ℕ) → list_all is_letter w ≡ true → list_all goes_on w ≡ true
 letters_go [] e = refl
 letters_go (b ∷ w) e =
-    let p = both (is_letter b) (list_all is_letter w) e in
+    let p = both_true (is_letter b) (list_all is_letter w) e in
     rw (letter_goes b p.0) (letters_go w p.1)
 
 letters_ascii : (w : List ℕ) → list_all is_letter w ≡ true → IsAscii w
 letters_ascii [] e = IsAscii-nil
 letters_ascii (b ∷ w) e =
-    let p = both (is_letter b) (list_all is_letter w) e in
+    let p = both_true (is_letter b) (list_all is_letter w) e in
     let q = p.0 in
     IsAscii-cons b w (grind (arith, nat_tests, q)) (letters_ascii w p.1)
 
 letters_word : (b : ℕ) (w : List ℕ) → list_all is_letter (b ∷ w) ≡ true → is_one_word (b ∷ w) ≡ true
 letters_word b w e =
-    let p = both (is_letter b) (list_all is_letter w) e in
+    let p = both_true (is_letter b) (list_all is_letter w) e in
     let q = p.0 in
     let digit : is_digit b ≡ false = grind (arith, nat_tests, q) in
     let comment : nat_eq b 35 ≡ false = grind (arith, nat_tests, q) in

@@ -21,11 +21,13 @@ use Rattle.pg_script.specs.Scripts.{add_allowed, add_line, empty_script, lines_o
 use Rattle.pg_script.specs.Grammar.{tokens_of, LineFits, SpellsAll, SpellsLine, AreLines, Adds, FirstBad, IsScript, IsBadLine, SaysOf, ReadsOf, RefusesOf}
 use Rattle.pg_script.proofs.Apart.{apart}
 use Rattle.pg_script.proofs.WordLaws.{word_law}
-use Rattle.pg_script.proofs.GrammarLaws.{bind_some, some_is, call_again, from_takes, from_again}
-use Rattle.pg_script.proofs.SpellingLaws.{chosen, none_some}
+use Rattle.pg_script.proofs.GrammarLaws.{call_again, from_takes, from_again, bind_some}
+use Rattle.pg_script.proofs.SpellingLaws.{none_some}
 use Rattle.pg_script.proofs.LexerTakes.{lexer_takes}
 use Rattle.pg_script.proofs.LexerAgain.{HasHead, word_head, lexer_again}
 use Rattle.pg_script.proofs.LineLaws.{lines_are, lines_again}
+use Rattle.pg_wire.proofs.Tests.{chosen}
+use Rattle.std.proofs.lemmas.Option.{same_Some}
 
 -- ---- one line
 
@@ -40,10 +42,10 @@ tokens_take a l e =
     spells l a t.1 (subst (λ (ts : List Token). SpellsAll ts a) t.0 (lexer_takes a b.0 b.1))
 
 pub line_takes : (a : List ℕ) (l : Line) → line_in a ≡ Some l → SpellsLine l a
-line_takes [] l e = subst (λ (m : Line). SpellsLine m []) (some_is lines.Blank l e) (inl refl)
+line_takes [] l e = subst (λ (m : Line). SpellsLine m []) (same_Some lines.Blank l e) (inl refl)
 line_takes (b ∷ bs) l e = elim (chosen (nat_eq b 35) _ _ (Some l) e) [
   | inl c ↦ elim (chosen (is_utf8 (b ∷ bs)) _ _ (Some l) c.1) [
-    | inl d ↦ subst (λ (m : Line). SpellsLine m (b ∷ bs)) (some_is lines.Blank l d.1) (inr (bs, ap (λ (n : ℕ). n ∷ bs) (eqb-true b 35 c.0), d.0))
+    | inl d ↦ subst (λ (m : Line). SpellsLine m (b ∷ bs)) (same_Some lines.Blank l d.1) (inr (bs, ap (λ (n : ℕ). n ∷ bs) (eqb-true b 35 c.0), d.0))
     | inr d ↦ absurd (none_some l d.1)
   ]
   | inr c ↦ tokens_take (b ∷ bs) l c.1

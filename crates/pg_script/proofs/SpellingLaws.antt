@@ -1,6 +1,6 @@
 -- Numbers and characters: what is read is what the grammar spells.
 use Rattle.std.proofs.Common.{ℕ, ◌≡◌, ◌+◌, ◌-◌, ◌*◌, ◌/◌, ◌%◌, ◌^◌, ◌<◌, ◌∷◌, [], List, Option, Some, None, Bool, true, false, cond, nat_eq, nat_lt, nat_le, length, refl, sym, ap, ◌∙◌, subst, arith, inl, inr}
-use Rattle.std.specs.Prelude.{◌⊎◌, ◌&&◌, bytes_eq}
+use Rattle.std.specs.Prelude.{◌&&◌, bytes_eq}
 use Rattle.std.specs.Char.{digit_value, digit_char}
 use Rattle.std.specs.Int.{IsInRange}
 use Rattle.std.specs.Str.Parse.{AllDigits, digits_value_after}
@@ -12,19 +12,12 @@ use Rattle.pg_script.specs.Reading.{◌>>=◌}
 use Rattle.pg_script.specs.Words.{number_of, digits_after, is_digit}
 use Rattle.pg_script.specs.Lexing.{hex_value}
 use Rattle.pg_script.specs.Grammar.{IsNumber, IsOrdinary}
-use Rattle.pg_script.proofs.GrammarLaws.{bind_some, some_is}
-
-pub chosen : {A : Type 0} (b : Bool) (x y z : A) → cond b x y ≡ z → ((b ≡ true) × (x ≡ z)) ⊎ ((b ≡ false) × (y ≡ z))
-chosen true x y z e = inl (refl, e)
-chosen false x y z e = inr (refl, e)
+use Rattle.pg_wire.proofs.Tests.{chosen, guarded}
+use Rattle.std.proofs.lemmas.Option.{same_Some}
+use Rattle.pg_script.proofs.GrammarLaws.{bind_some}
 
 pub none_some : {A : Type 0} (x : A) → None ≡ Some x → ⊥
 none_some x e = cc
-
--- what stands under a test
-pub guarded : {A : Type 0} (b : Bool) (o : Option A) (m : A) → cond b o None ≡ Some m → (b ≡ true) × (o ≡ Some m)
-guarded true o m e = (refl, e)
-guarded false o m e = absurd cc
 
 pub unless : {A : Type 0} (b : Bool) (o : Option A) (m : A) → cond b None o ≡ Some m → (b ≡ false) × (o ≡ Some m)
 unless true o m e = absurd cc
@@ -48,7 +41,7 @@ is_digit-from : (b : ℕ) → digit_value b < 10 → is_digit b ≡ true
 is_digit-from b h = let r = digit_from_value b h in grind (arith, nat_tests, r.0, r.1)
 
 digits_take : (w : List ℕ) (n m : ℕ) → digits_after n w ≡ Some m → AllDigits 10 w × (digits_value_after 10 n w ≡ m)
-digits_take [] n m e = (tt, some_is n m e)
+digits_take [] n m e = (tt, same_Some n m e)
 digits_take (b ∷ w) n m e =
     let g = guarded (is_digit b) (digits_after (n * 10 + (b - 48)) w) m e in
     let d = is_digit-value b g.0 in
@@ -74,7 +67,7 @@ number_of-takes (b ∷ bs) n e =
     let t = digits_take (b ∷ bs) 0 d.0 d.1 in
     let short = s.0 in
     let small = g.0 in
-    subst (λ (m : ℕ). IsNumber m (b ∷ bs)) (some_is d.0 n g.1) ((omega arith, t.0), grind (arith, nat_tests, short), t.1, grind (arith, nat_tests, small))
+    subst (λ (m : ℕ). IsNumber m (b ∷ bs)) (same_Some d.0 n g.1) ((omega arith, t.0), grind (arith, nat_tests, short), t.1, grind (arith, nat_tests, small))
 
 pub number_of-again : (w : List ℕ) (n : ℕ) → IsNumber n w → number_of w ≡ Some n
 number_of-again [] n h = let long = h.0.0 in absurd (omega (arith, long))
@@ -109,8 +102,8 @@ hex_high h x d e =
 
 hex_value-takes : (h x : ℕ) → hex_value h ≡ Some x → (x < 16) × (h ≡ digit_char x)
 hex_value-takes h x e = elim (chosen (is_digit h) _ _ (Some x) e) [
-  | inl c ↦ hex_low h x c.0 (some_is (h - 48) x c.1)
-  | inr c ↦ (let g = guarded (nat_le 97 h && nat_le h 102) (Some (h - 87)) x c.1 in hex_high h x g.0 (some_is (h - 87) x g.1))
+  | inl c ↦ hex_low h x c.0 (same_Some (h - 48) x c.1)
+  | inr c ↦ (let g = guarded (nat_le 97 h && nat_le h 102) (Some (h - 87)) x c.1 in hex_high h x g.0 (same_Some (h - 87) x g.1))
 ]
 
 hex_again_in : (x : ℕ) (low : Bool) → nat_lt x 10 ≡ low → x < 16 → hex_value (cond low (48 + x) (87 + x)) ≡ Some x

@@ -12,10 +12,11 @@ use Rattle.pg_wire.specs.declared.error.ProtocolFault.TheVariants as protocol
 use Rattle.pg_wire.specs.declared.error.ServerFault.TheVariants as faults
 use Rattle.pg_wire.specs.Frontend.{ssl_request}
 use Rattle.pg_stream.specs.Links.{LinkSeen, NoneFalls, RoseBy, Rose, Reads, Writes, Upgrades}
+use Rattle.pg_stream.specs.declared.link.TlsWish.{TlsWish}
 use Rattle.pg_stream.specs.declared.link.LinkRead.TheVariants as reads
 use Rattle.pg_stream.specs.declared.link.LinkWrite.TheVariants as writes
 use Rattle.pg_stream.specs.declared.link.LinkUpgrade.TheVariants as upgrades
-use Rattle.pg_stream.proofs.Known.{Appends-then, Appends-from_keeps, NoneFalls-refl, NoneFalls-then}
+use Rattle.pg_stream.proofs.Known.{Appends-then, Appends-from_keeps, NoneFalls-refl, NoneFalls-then, Keeps-then, Appends-keeps}
 use Rattle.pg_startup.specs.declared.asking.Asked.{Asked}
 use Rattle.pg_startup.specs.declared.asking.Asked.TheVariants as asks
 use Rattle.pg_startup.specs.Asking.{AskingOf, AskingSeen, asking_by, IsSendable, HasAsked, Agrees, AskingFails, AskingWaits, AsksOn, AsksOnce, EndsAsking, IsSameQuestion, PollsAsking, HearsByte, Answered, sent_to}
@@ -61,7 +62,7 @@ waits_from a b c asks.Upgrade m h = omega (arith, m.read_waits, h)
 
 pub asks_last : (left now then' : ℕ) (a b c : AskingSeen) (answer : Poll (Result (Unit {0}) Error)) → AsksFrom left now a b → now ≡ then' + 1 → AsksOnce b c (Some answer) → PollsAsking left then' a c answer
 asks_last left now then' a b c Pending i e (same, (waits, on)) = (omega (arith, i.fewer, e), same_then a b c i.same same, (inl (waits_from a.link b.link c.link c.asked i.same.0 waits), asks_on_then a b c i.on on))
-asks_last left now then' a b c (Ready (Ok u)) i e (same, (moved, ends)) = (omega (arith, i.fewer, e), same_then a b c i.same same, ((omega (arith, i.fewer, e), omega (arith, i.moved, moved, i.fewer, e)), λ first h. subst (λ (r : Bool). Agrees r first c.link) i.same.1 (ends first (i.on first h))))
+asks_last left now then' a b c (Ready (Ok u)) i e (same, (moved, ends)) = (omega (arith, i.fewer, e), same_then a b c i.same same, ((omega (arith, i.fewer, e), omega (arith, i.moved, moved, i.fewer, e)), λ first h. subst (λ (w : TlsWish). Agrees a.is_required w first c.link) i.same.2 (subst (λ (r : Bool). Agrees r b.wish first c.link) i.same.1 (ends first (i.on first h)))))
 asks_last left now then' a b c (Ready (Err error)) i e (same, ends) = (omega (arith, i.fewer, e), same_then a b c i.same same, λ first h. fails_from a.is_required first a.link b.link c.link error i.same.0 (subst (λ (r : Bool). AskingFails r first b.link c.link error) i.same.1 (ends first (i.on first h))))
 
 -- no call is left
@@ -70,27 +71,11 @@ asks_spent left now a b i e = (i.fewer, i.same, (inr (e, (i.fewer, i.moved)), i.
 
 -- ---- one call
 
-pub Keeps-refl : (a : Option (List ℕ)) → Keeps a a
-Keeps-refl None = tt
-Keeps-refl (Some s) = refl
-
-keeps_then : (a b c : Option (List ℕ)) → Keeps a b → Keeps b c → Keeps a c
-keeps_then None b c p q = tt
-keeps_then (Some s) None c p q = absurd p
-keeps_then (Some s) (Some t) None p q = absurd q
-keeps_then (Some s) (Some t) (Some u) p q = q ∙ p
-
 appends_kept : (a b c : Option (List ℕ)) (x : List ℕ) → Keeps a b → Appends b c x → Appends a c x
 appends_kept None b c x p q = tt
 appends_kept (Some s) None c x p q = absurd p
 appends_kept (Some s) (Some t) None x p q = absurd q
 appends_kept (Some s) (Some t) (Some u) x p q = q ∙ ap (λ (z : List ℕ). z ++ x) p
-
-pub appends_then_kept : (a b c : Option (List ℕ)) (x : List ℕ) → Appends a b x → Keeps b c → Appends a c x
-appends_then_kept None b c x p q = tt
-appends_then_kept (Some s) None c x p q = absurd p
-appends_then_kept (Some s) (Some t) None x p q = absurd q
-appends_then_kept (Some s) (Some t) (Some u) x p q = q ∙ p
 
 request_length : length ssl_request ≡ 8
 request_length = refl
@@ -104,10 +89,10 @@ count_fits : (sent count : ℕ) → sent < 8 → count ≤ length (drop sent ssl
 count_fits sent count lt fits = let d = length-drop sent ssl_request in omega (arith, d, fits, request_length, lt)
 
 sends_by : (first a b : LinkSeen) (sent count : ℕ) (less : Bool) → nat_lt (sent + count) 8 ≡ less → sent < 8 → HasAsked first a (asks.Sending sent) → Writes a b (writes.Moved count) (drop sent ssl_request) → HasAsked first b (if less then asks.Sending (sent + count) else asks.Answer)
-sends_by first a b sent count true e lt h w = (ltb-true (sent + count) 8 e, sent_more first a b sent count lt h w, keeps_then first.given a.given b.given h.2 w.given)
+sends_by first a b sent count true e lt h w = (ltb-true (sent + count) 8 e, sent_more first a b sent count lt h w, Keeps-then first.given a.given b.given h.2 w.given, w.secured ∙ h.3)
 sends_by first a b sent count false e lt h w =
     let whole : sent + count ≡ 8 = let p = ltb-false (sent + count) 8 e in let q = count_fits sent count lt w.takes.1 in omega (arith, p, q) in
-    (subst (λ (n : ℕ). Appends first.taken b.taken (take n ssl_request)) whole (sent_more first a b sent count lt h w), keeps_then first.given a.given b.given h.2 w.given)
+    (subst (λ (n : ℕ). Appends first.taken b.taken (take n ssl_request)) whole (sent_more first a b sent count lt h w), Keeps-then first.given a.given b.given h.2 w.given, w.secured ∙ h.3)
 
 same_by : (a b : AskingSeen) → NoneFalls a.link b.link → b.is_required ≡ a.is_required → b.wish ≡ a.wish → IsSameQuestion a b
 same_by a b m r w = (m, r, w)
@@ -123,7 +108,7 @@ sends_waits a b sent from e f r w h = (
   (h.counts, r, w),
   (
     subst (λ (x : Asked). AskingWaits a.link b.link x) (sym (f ∙ e)) h.takes.1,
-    λ first g. subst (λ (x : Asked). HasAsked first b.link x) (sym (f ∙ e)) (let s : HasAsked first a.link (asks.Sending sent) = subst (λ (x : Asked). HasAsked first a.link x) e g in (s.0, appends_then_kept first.taken a.link.taken b.link.taken (take sent ssl_request) s.1 h.takes.0, keeps_then first.given a.link.given b.link.given s.2 h.given)),
+    λ first g. subst (λ (x : Asked). HasAsked first b.link x) (sym (f ∙ e)) (let s : HasAsked first a.link (asks.Sending sent) = subst (λ (x : Asked). HasAsked first a.link x) e g in (s.0, Appends-keeps first.taken a.link.taken b.link.taken (take sent ssl_request) s.1 h.takes.0, Keeps-then first.given a.link.given b.link.given s.2 h.given, h.secured ∙ s.3)),
   ),
 )
 
@@ -132,7 +117,7 @@ sends_fails a b from r w h = ((h.counts, r, w), λ first g. h.takes.1)
 
 -- ---- the byte
 
-asked_answer : (first : LinkSeen) (a : AskingSeen) → a.asked ≡ asks.Answer → HasAsked first a.link a.asked → Appends first.taken a.link.taken ssl_request × Keeps first.given a.link.given
+asked_answer : (first : LinkSeen) (a : AskingSeen) → a.asked ≡ asks.Answer → HasAsked first a.link a.asked → HasAsked first a.link asks.Answer
 asked_answer first a e g = subst (λ (x : Asked). HasAsked first a.link x) e g
 
 heard_byte : (first : LinkSeen) (a b : AskingSeen) (n byte : ℕ) → a.asked ≡ asks.Answer → HasAsked first a.link a.asked → Reads a.link b.link (reads.Moved n) (byte ∷ []) → Answered first b.link byte
@@ -140,17 +125,17 @@ heard_byte first a b n byte e g h =
     let s = asked_answer first a e g in
     let one : n ≡ 1 = let p = h.gives.0 in let q = h.gives.1 in omega (arith, p, q) in
     let given : Appends a.link.given b.link.given (byte ∷ []) = subst (λ (k : ℕ). Appends a.link.given b.link.given (take k (byte ∷ []))) one h.gives.2 in
-    (appends_then_kept first.taken a.link.taken b.link.taken ssl_request s.0 h.taken, appends_kept first.given a.link.given b.link.given (byte ∷ []) s.1 given)
+    (Appends-keeps first.taken a.link.taken b.link.taken ssl_request s.0 h.taken, appends_kept first.given a.link.given b.link.given (byte ∷ []) s.1 given)
 
 -- the link was read, and the byte makes this of the question
 hears_by : (a d : AskingSeen) (n byte : ℕ) (b : AskingSeen) (answer : Option (Poll (Result (Unit {0}) Error))) → a.asked ≡ asks.Answer → d.is_required ≡ a.is_required → d.wish ≡ a.wish → Reads a.link d.link (reads.Moved n) (byte ∷ []) → HearsByte byte d b answer → AsksOnce a b answer
 hears_by a d n byte b None e r w h (is, same) = rw same (
   (h.counts, r, w),
-  (h.gives.4, λ first g. let told = heard_byte first a d n byte e g h in (told.0, subst (λ (x : ℕ). Appends first.given d.link.given (x ∷ [])) is told.1)),
+  (h.gives.4, λ first g. let told = heard_byte first a d n byte e g h in (told.0, subst (λ (x : ℕ). Appends first.given d.link.given (x ∷ [])) is told.1, h.secured ∙ (asked_answer first a e g).2)),
 )
 hears_by a d n byte b (Some (Ready (Ok u))) e r w h (is, plain, same) = rw same (
   (h.counts, r, w),
-  (h.gives.4, λ first g. let told = heard_byte first a d n byte e g h in inr (sym r ∙ plain, told.0, subst (λ (x : ℕ). Appends first.given d.link.given (x ∷ [])) is told.1)),
+  (h.gives.4, λ first g. let told = heard_byte first a d n byte e g h in inr (sym r ∙ plain, told.0, subst (λ (x : ℕ). Appends first.given d.link.given (x ∷ [])) is told.1, h.secured ∙ (asked_answer first a e g).2)),
 )
 hears_by a d n byte b (Some (Ready (Err (errors.Tls tls.ServerRefused)))) e r w h (is, required, same) = rw same (
   (h.counts, r, w),
@@ -171,14 +156,14 @@ reads_waits a b into e f r w h = (
   (h.counts, r, w),
   (
     subst (λ (x : Asked). AskingWaits a.link b.link x) (sym (f ∙ e)) h.gives.2,
-    λ first g. let s = asked_answer first a e g in subst (λ (x : Asked). HasAsked first b.link x) (sym (f ∙ e)) (appends_then_kept first.taken a.link.taken b.link.taken ssl_request s.0 h.taken, keeps_then first.given a.link.given b.link.given s.1 h.gives.0),
+    λ first g. let s = asked_answer first a e g in subst (λ (x : Asked). HasAsked first b.link x) (sym (f ∙ e)) (Appends-keeps first.taken a.link.taken b.link.taken ssl_request s.0 h.taken, Keeps-then first.given a.link.given b.link.given s.1 h.gives.0, h.secured ∙ s.2),
   ),
 )
 
 pub reads_ends : (a b : AskingSeen) (into : List ℕ) → a.asked ≡ asks.Answer → b.is_required ≡ a.is_required → b.wish ≡ a.wish → Reads a.link b.link reads.End into → AsksOnce a b (Some (Ready (Err (errors.Io io.End))))
 reads_ends a b into e r w h = (
   (h.counts, r, w),
-  λ first g. let s = asked_answer first a e g in (h.gives.2, (appends_then_kept first.taken a.link.taken b.link.taken ssl_request s.0 h.taken, keeps_then first.given a.link.given b.link.given s.1 h.gives.0)),
+  λ first g. let s = asked_answer first a e g in (h.gives.2, (Appends-keeps first.taken a.link.taken b.link.taken ssl_request s.0 h.taken, Keeps-then first.given a.link.given b.link.given s.1 h.gives.0, h.secured ∙ s.2)),
 )
 
 pub reads_fails : (a b : AskingSeen) (into : List ℕ) → b.is_required ≡ a.is_required → b.wish ≡ a.wish → Reads a.link b.link reads.Failed into → AsksOnce a b (Some (Ready (Err (errors.Io io.Fault))))
@@ -189,19 +174,19 @@ reads_fails a b into r w h = ((h.counts, r, w), λ first g. h.gives.2)
 asked_upgrade : (first : LinkSeen) (a : AskingSeen) → a.asked ≡ asks.Upgrade → HasAsked first a.link a.asked → HasAsked first a.link asks.Upgrade
 asked_upgrade first a e g = subst (λ (x : Asked). HasAsked first a.link x) e g
 
-pub upgrades_done : (a b : AskingSeen) → a.asked ≡ asks.Upgrade → b.is_required ≡ a.is_required → b.wish ≡ a.wish → Upgrades a.link b.link upgrades.Done → AsksOnce a b (Some (Ready (Ok tt)))
+pub upgrades_done : (a b : AskingSeen) → a.asked ≡ asks.Upgrade → b.is_required ≡ a.is_required → b.wish ≡ a.wish → Upgrades a.link b.link a.wish upgrades.Done → AsksOnce a b (Some (Ready (Ok tt)))
 upgrades_done a b e r w h = ((h.counts, r, w), (h.cause, λ first g. inl (a.link, asked_upgrade first a e g, h)))
 
-pub upgrades_waits : (a b : AskingSeen) → a.asked ≡ asks.Upgrade → b.asked ≡ a.asked → b.is_required ≡ a.is_required → b.wish ≡ a.wish → Upgrades a.link b.link upgrades.NotYet → AsksOnce a b (Some Pending)
+pub upgrades_waits : (a b : AskingSeen) → a.asked ≡ asks.Upgrade → b.asked ≡ a.asked → b.is_required ≡ a.is_required → b.wish ≡ a.wish → Upgrades a.link b.link a.wish upgrades.NotYet → AsksOnce a b (Some Pending)
 upgrades_waits a b e f r w h = (
   (h.counts, r, w),
   (
     subst (λ (x : Asked). AskingWaits a.link b.link x) (sym (f ∙ e)) h.cause,
-    λ first g. let s = asked_upgrade first a e g in subst (λ (x : Asked). HasAsked first b.link x) (sym (f ∙ e)) (appends_then_kept first.taken a.link.taken b.link.taken ssl_request s.0 h.taken, appends_then_kept first.given a.link.given b.link.given (83 ∷ []) s.1 h.given),
+    λ first g. let s = asked_upgrade first a e g in subst (λ (x : Asked). HasAsked first b.link x) (sym (f ∙ e)) (Appends-keeps first.taken a.link.taken b.link.taken ssl_request s.0 h.taken, Appends-keeps first.given a.link.given b.link.given (83 ∷ []) s.1 h.given, h.secured ∙ s.2),
   ),
 )
 
-pub upgrades_fails : (a b : AskingSeen) → b.is_required ≡ a.is_required → b.wish ≡ a.wish → Upgrades a.link b.link upgrades.Failed → AsksOnce a b (Some (Ready (Err (errors.Tls tls.UpgradeFailed))))
+pub upgrades_fails : (a b : AskingSeen) → b.is_required ≡ a.is_required → b.wish ≡ a.wish → Upgrades a.link b.link a.wish upgrades.Failed → AsksOnce a b (Some (Ready (Err (errors.Tls tls.UpgradeFailed))))
 upgrades_fails a b r w h = ((h.counts, r, w), λ first g. h.cause)
 
 -- ---- within the code

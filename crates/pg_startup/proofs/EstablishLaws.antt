@@ -1,5 +1,5 @@
 -- A start-up, from its question for TLS to its session.
-use Rattle.std.proofs.Common.{◌≡◌, ℕ, ◌+◌, ◌-◌, ◌≤◌, List, [], ◌∷◌, ◌++◌, Bool, true, false, refl, sym, ap, subst, ◌∙◌, arith, append_assoc, append-nil, length, Result, Ok, Err, inl, inr, ◌⊎◌}
+use Rattle.std.proofs.Common.{◌≡◌, ℕ, ◌+◌, ◌-◌, ◌≤◌, List, [], ◌∷◌, ◌++◌, Bool, true, false, refl, sym, ap, subst, ◌∙◌, arith, append_assoc, append-nil, length, get_or, Option, Result, Ok, Err, inl, inr, ◌⊎◌}
 use Rattle.std.specs.Prelude.{OnOk, OnErr, IfOk, IfErr}
 use Rattle.std.proofs.lemmas.List.{length-append}
 use Rattle.futures.specs.declared.task.Poll.{Poll}
@@ -13,8 +13,7 @@ use Rattle.pg_stream.specs.Links.{LinkPlan, LinkSeen, NoneFalls}
 use Rattle.pg_stream.specs.Streams.{StreamOf, StreamSeen, stream_by, fresh_stream, GrewBy, HeardCause, PendingCause}
 use Rattle.std.specs.Io.KnownBytes.{Appends}
 use Rattle.pg_wire.specs.Frontend.{ssl_request}
-use Rattle.pg_stream.proofs.Known.{Appends-refl, Appends-then, NoneFalls-refl, NoneFalls-then}
-use Rattle.pg_startup.proofs.AskingLaws.{Keeps-refl, appends_then_kept}
+use Rattle.pg_stream.proofs.Known.{Appends-refl, Appends-then, NoneFalls-refl, NoneFalls-then, Keeps-refl, Appends-keeps}
 use Rattle.pg_stream.specs.declared.link.TlsWish.{TlsWish}
 use Rattle.pg_options.specs.Options.{ConnectOptions}
 use Rattle.pg_auth.specs.Tls.{tls_plan}
@@ -30,11 +29,12 @@ use Rattle.pg_startup.specs.declared.asking.Asked.TheVariants as asks
 use Rattle.pg_startup.specs.Exchange.{ClientSeen, Proof, proofs_text, Leads}
 use Rattle.pg_startup.specs.Asking.{AskingOf, AskingSeen, asking_by, Agrees, AskingWaits, AllCallsMoved, AllCallsMade, PollsAsking}
 use Rattle.pg_startup.specs.Flows.{Flows}
-use Rattle.pg_startup.specs.Handshake.{ReadyOf, ready_by, IsQuestion, HasBegun}
+use Rattle.pg_startup.specs.Handshake.{ReadyOf, ready_by, IsQuestion, IsSecured, HasBegun}
 use Rattle.pg_startup.specs.Greeting.{GreetingSeen, GreetingOf, greeting_by, fresh_greeting, SaysMore, Greets, IsFrontRefused, PollsGreeting, with_left}
 use Rattle.pg_startup.specs.Establishing.{EstablishOf, EstablishSeen, establish_by, phase_by, HasLink, IsStarting, IsUnderWay, IsGreeting, IsOpen, IsBegun, WaitsOn, FailsOn, StartWaits, StartFails, SettledAs, SettlesOn, GreetsIn, GoneAs, GoesOn, Opens, Settles, FirstPhase, IsBeginning, Begins, IsPrepared, PreparedSeen, PollsStart, IsReady, Hands, IsGreetingPhase, saturated, asked_in, answered_in}
-use Rattle.pg_startup.proofs.FlowLaws.{Flows-then, flows_begun, flows_queued, GrewBy-then}
-use Rattle.pg_startup.proofs.GreetLaws.{leads_then, proofs_text-append, heard_cause_after}
+use Rattle.pg_startup.proofs.FlowLaws.{Flows-then, flows_begun, flows_queued}
+use Rattle.pg_startup.proofs.GreetLaws.{leads_then, proofs_text-append}
+use Rattle.pg_stream.proofs.StreamLemmas.{GrewBy-then, HeardCause-after}
 
 -- ---- messages of a session
 
@@ -83,7 +83,7 @@ greeted first left mid now a e phase g h (Ready (Err error)) is i m moved ((on, 
 )
   where
     by : HeardCause (with_left mid g).stream h.stream error ⊎ IsFrontRefused e.client h error → HeardCause (fresh_stream a) h.stream error ⊎ IsFrontRefused e.client h error
-    by (inl p) = inl (heard_cause_after (fresh_stream a) (with_left mid g).stream h.stream error m p)
+    by (inl p) = inl (HeardCause-after (fresh_stream a) (with_left mid g).stream h.stream error m p)
     by (inr p) = inr p
 
 -- ---- the question for TLS
@@ -115,7 +115,7 @@ opened seen c tls message first link g settles (is, said) =
     opened_by c tls message first (seen link) (greeting_by seen g) settles (ap (λ (x : GreetingOf _). stream_by seen x.stream) is) (ap (λ (x : GreetingOf _). x.stage) is) said
 
 -- a plan that asks
-plan_asks : (plan : TlsPlan) (q : AskingSeen) (first now : LinkSeen) → plan ≡ Ask q.is_required q.wish → Agrees q.is_required first now → Settles plan first now
+plan_asks : (plan : TlsPlan) (q : AskingSeen) (first now : LinkSeen) → plan ≡ Ask q.is_required q.wish → Agrees q.is_required q.wish first now → Settles plan first now
 plan_asks tls q first now e g = rw e g
 
 -- a question that waits or fails
@@ -197,7 +197,7 @@ under_way_first : {A : Type 0} (seen : A → LinkSeen) (link : A) (c : ClientSee
 under_way_first seen link c Plain message phase (g, says, is) =
     let at : g.stream.link ≡ link = ap (λ (x : GreetingOf _). x.stream.link) says.0 in
     rw is (opened seen c Plain message (seen link) link g refl says, ap seen (sym at))
-under_way_first seen link c (Ask required wish) message phase is = rw is ((refl, (omega arith, Appends-refl (seen link).taken, Keeps-refl (seen link).given)), refl)
+under_way_first seen link c (Ask required wish) message phase is = rw is ((refl, (omega arith, Appends-refl (seen link).taken, Keeps-refl (seen link).given, refl)), refl)
 
 -- a start-up that begins is one that is under way over its link
 pub begins_under_way : {A : Type 0} (seen : A → LinkSeen) (link : A) (c : ClientSeen) (tls : TlsPlan) (message : List ℕ) (e : EstablishOf A) → IsBeginning link c tls message e → IsStarting (seen link) (establish_by seen e) × HasLink (phase_by seen e.phase) (seen link)
@@ -243,21 +243,35 @@ pub record Questioned (plan : TlsPlan) (first settled : LinkSeen) : Type 0 where
   pub question : IsQuestion plan asked answered
   pub took : Appends first.taken settled.taken asked
   pub gave : Appends first.given settled.given answered
+  pub secured : IsSecured plan answered first.secured settled.secured
   pub asked_length : length asked ≡ asked_in plan
   pub answered_length : length answered ≡ answered_in plan
 
+two_bytes : (x y : ℕ) → ◌≡◌ {A = List ℕ} (x ∷ []) (y ∷ []) → (x ≡ y → ⊥) → ⊥
+two_bytes x y e differ = differ (ap (λ (z : List ℕ). get_or z 0 0) e)
+
 pub questioned : (tls : TlsPlan) (first settled : LinkSeen) → Settles tls first settled → Questioned tls first settled
-questioned Plain first settled e = rw e (record { asked = []; answered = []; question = (refl, refl); took = Appends-refl first.taken; gave = Appends-refl first.given; asked_length = refl; answered_length = refl })
+questioned Plain first settled e = rw e (record { asked = []; answered = []; question = (refl, refl); took = Appends-refl first.taken; gave = Appends-refl first.given; secured = refl; asked_length = refl; answered_length = refl })
 questioned (Ask required wish) first settled (inl (before, asked, u)) = record {
   asked = ssl_request;
   answered = 83 ∷ [];
   question = (refl, inl refl);
-  took = appends_then_kept first.taken before.taken settled.taken ssl_request asked.0 u.taken;
-  gave = appends_then_kept first.given before.given settled.given (83 ∷ []) asked.1 u.given;
+  took = Appends-keeps first.taken before.taken settled.taken ssl_request asked.0 u.taken;
+  gave = Appends-keeps first.given before.given settled.given (83 ∷ []) asked.1 u.given;
+  secured = (λ s. u.secured, λ n. absurd (two_bytes 83 78 n (λ e. omega (arith, e))));
   asked_length = refl;
   answered_length = refl;
 }
-questioned (Ask required wish) first settled (inr (plain, took, gave)) = record { asked = ssl_request; answered = 78 ∷ []; question = (refl, inr (plain, refl)); took = took; gave = gave; asked_length = refl; answered_length = refl }
+questioned (Ask required wish) first settled (inr (plain, took, gave, kept)) = record {
+  asked = ssl_request;
+  answered = 78 ∷ [];
+  question = (refl, inr (plain, refl));
+  took = took;
+  gave = gave;
+  secured = (λ s. absurd (two_bytes 78 83 s (λ e. omega (arith, e))), λ n. kept);
+  asked_length = refl;
+  answered_length = refl;
+}
 
 counted_more : (n m k said total sent : ℕ) → GrewBy n 0 said → m ≡ k → total ≡ m + n → sent ≡ saturated (said + k) → GrewBy total 0 sent
 counted_more n m k said total sent g e t s = (omega (arith, s), omega (arith, g.1, e, t, s), omega (arith, g.2, e, t, s))
@@ -281,6 +295,7 @@ begun c tls message first g session sent read i stage s r =
         said_is = refl;
         read_is = refl;
       };
+      secured = subst (λ (x : Option TlsWish). IsSecured tls q.answered first.secured x) (sym f.secured) q.secured;
       taken = q.asked ++ f.sent.0;
       took = Appends-then first.taken i.settled.taken g.stream.link.taken q.asked f.sent.0 q.took f.sent.1;
       unsent = ap (λ (x : List ℕ). q.asked ++ x) f.sent.2 ∙ sym (append_assoc q.asked f.sent.0 g.stream.unsent);

@@ -10,10 +10,10 @@ use Rattle.pg_wire.specs.declared.error.ServerFault.TheVariants as faults
 use Rattle.pg_wire.specs.Frame.{Frame, bytes_of}
 use Rattle.pg_wire.specs.Parts.{heard, is_asynchronous}
 use Rattle.pg_wire.proofs.PartLaws.{heard-append}
-use Rattle.pg_stream.specs.Links.{LinkSeen, NoneFalls}
+use Rattle.pg_stream.specs.Links.{LinkSeen}
 use Rattle.pg_stream.specs.declared.stream.Front.{Front}
-use Rattle.pg_stream.specs.Streams.{StreamOf, StreamSeen, stream_by, fuel_of, GrewBy, Moves, AllMoved, Passes, PollsAhead, HeardCause, AreAsynchronous, IsFrontOf, IsHeardFront}
-use Rattle.pg_stream.proofs.StreamLemmas.{Moves-then, Moves-none, AllMoved-none, AllMoved-then, PendingCause-after, ErrorCause-after, took_frame, queues, text_of-append, front_tag}
+use Rattle.pg_stream.specs.Streams.{StreamOf, stream_by, fuel_of, GrewBy, Moves, AllMoved, Passes, PollsAhead, AreAsynchronous, IsFrontOf, IsHeardFront}
+use Rattle.pg_stream.proofs.StreamLemmas.{Moves-then, Moves-none, AllMoved-none, AllMoved-then, PendingCause-after, took_frame, queues, text_of-append, front_tag, GrewBy-then, HeardCause-after}
 use Rattle.pg_startup.specs.declared.stage.Session.{Session}
 use Rattle.pg_startup.specs.declared.stage.Stage.{Stage}
 use Rattle.pg_startup.specs.Exchange.{ClientSeen, Proof, proof_frame, proofs_text, Leads}
@@ -46,9 +46,6 @@ proofs_text-append s t = rw (map-append s t) (text_of-append (map proof_frame s)
 
 -- ---- from state to state
 
-grew_then : (n m k a b c : ℕ) → GrewBy n a b → GrewBy m b c → k ≡ n + m → GrewBy k a c
-grew_then n m k a b c g h e = (omega (arith, g.0, h.0), omega (arith, g.1, h.1, e), omega (arith, g.2, h.2, e))
-
 grew_none : (a : ℕ) → GrewBy 0 a a
 grew_none a = (omega arith, omega arith, omega arith)
 
@@ -56,7 +53,7 @@ pub greets_then : (c : ClientSeen) (a b d : GreetingSeen) (s t : List Proof) (x 
 greets_then c a b d s t x y g h = record {
   moves = subst (λ (u : List ℕ). Moves a.stream d.stream u (x ++ y)) (sym (proofs_text-append s t)) (Moves-then a.stream b.stream d.stream (proofs_text s) (proofs_text t) x y g.moves h.moves);
   leads = subst (λ (u : List Frame). Leads c a.stage u (s ++ t) d.stage) (sym (heard-append x y)) (leads_then c a.stage b.stage d.stage (heard x) (heard y) s t g.leads h.leads);
-  counted = grew_then (length (proofs_text s)) (length (proofs_text t)) (length (proofs_text (s ++ t))) a.said b.said d.said g.counted h.counted (ap (λ (u : List ℕ). length u) (proofs_text-append s t) ∙ length_append (proofs_text s) (proofs_text t));
+  counted = GrewBy-then (length (proofs_text s)) (length (proofs_text t)) (length (proofs_text (s ++ t))) a.said b.said d.said g.counted h.counted (ap (λ (u : List ℕ). length u) (proofs_text-append s t) ∙ length_append (proofs_text s) (proofs_text t));
 }
   where
     length_append : (u v : List ℕ) → length (u ++ v) ≡ length u + length v
@@ -66,7 +63,7 @@ greets_then c a b d s t x y g h = record {
 pub greets_none : (c : ClientSeen) (a : GreetingSeen) → Greets c a a [] []
 greets_none c a = record { moves = Moves-none a.stream; leads = (refl, refl); counted = grew_none a.said }
 
-heard_none : (fs : List Frame) → AreAsynchronous fs → heard fs ≡ []
+pub heard_none : (fs : List Frame) → AreAsynchronous fs → heard fs ≡ []
 heard_none [] h = refl
 heard_none (f ∷ fs) h = let e = h.0.0 in rw e (heard_none fs h.1)
 
@@ -80,7 +77,7 @@ greets_aside c a b aside n m stage said = record {
 
 -- ---- one message
 
-heard_one : (f : Frame) → is_asynchronous f ≡ false → heard (f ∷ []) ≡ f ∷ []
+pub heard_one : (f : Frame) → is_asynchronous f ≡ false → heard (f ∷ []) ≡ f ∷ []
 heard_one f e = rw e refl
 
 -- what is said is queued, and then the message is taken
@@ -175,15 +172,6 @@ from_more c a b d i t = record {
   moved = AllMoved-then a.stream b.stream d.stream i.moved i.on.2.moves.left t.1 t.0.2.moves.left;
 }
 
-pub heard_cause_after : (a b c : StreamSeen) (e : Error) → NoneFalls a.link b.link → HeardCause b c e → HeardCause a c e
-heard_cause_after a b c (errors.Protocol (protocol.Server (faults.Malformed tag))) m h = h
-heard_cause_after a b c errors.OutOfMemory m h = tt
-heard_cause_after a b c (errors.Io io.Fault) m h = ErrorCause-after a b c (errors.Io io.Fault) m h
-heard_cause_after a b c (errors.Io io.End) m h = ErrorCause-after a b c (errors.Io io.End) m h
-heard_cause_after a b c (errors.Protocol (protocol.Server (faults.ShortLength tag size))) m h = h
-heard_cause_after a b c (errors.Protocol (protocol.Server (faults.UnknownTag tag))) m h = h
-heard_cause_after a b c _ m h = absurd h
-
 pub from_last : (c : ClientSeen) (a b d : GreetingSeen) (answer : Poll (Result Session Error)) → GreetsFrom c a b → GreetsOnce c b d (Some answer) → GreetsOnce c a d (Some answer)
 from_last c a b d answer i (on, cause) = (
   (i.on.0 ++ on.0, i.on.1 ++ on.1, greets_then c a b d i.on.0 on.0 i.on.1 on.1 i.on.2 on.2),
@@ -193,7 +181,7 @@ from_last c a b d answer i (on, cause) = (
     by : (r : Poll (Result Session Error)) → GreetCause c b d r → GreetCause c a d r
     by Pending (none, p) = (none, PendingCause-after a.stream b.stream d.stream i.on.2.moves.counts i.moved i.on.2.moves.left on.2.moves.left p)
     by (Ready (Ok session)) p = (AllMoved-then a.stream b.stream d.stream i.moved i.on.2.moves.left p.0 on.2.moves.left, p.1)
-    by (Ready (Err e)) (none, inl p) = (none, inl (heard_cause_after a.stream b.stream d.stream e i.on.2.moves.counts p))
+    by (Ready (Err e)) (none, inl p) = (none, inl (HeardCause-after a.stream b.stream d.stream e i.on.2.moves.counts p))
     by (Ready (Err e)) (none, inr p) = (none, inr p)
 
 -- the session had begun

@@ -38,6 +38,7 @@ use Rattle.pg_startup.proofs.FramingLaws.{AreTaken, IsNext, taken_or_next, no_he
 use Rattle.pg_startup.proofs.ExchangeLaws.{leads_on, leads_no_more}
 use Rattle.pg_startup.proofs.SignatureLaws.{KnowsSignature, leads_knows}
 use Rattle.pg_startup.proofs.RefusedLaws.{IsMemory, Takes, not_refused}
+use Rattle.pg_wire.proofs.Each.{each_first, each_last}
 
 -- ---- what a link gave
 
@@ -123,14 +124,6 @@ record Ahead (c : ClientSeen) (g : GreetingSeen) (more : List ℕ) : Type 0 wher
   knows : KnowsSignature g.stage
   takes : is_asynchronous next ≡ false → Takes c g.stage next
 
-all_first : {A : Type 0} (P : A → Type 0) (x y : List A) → AllByRecursion P (x ++ y) → AllByRecursion P x
-all_first P [] y h = tt
-all_first P (a ∷ x) y h = (h.0, all_first P x y h.1)
-
-all_last : {A : Type 0} (P : A → Type 0) (x y : List A) → AllByRecursion P (x ++ y) → AllByRecursion P y
-all_last P [] y h = h
-all_last P (a ∷ x) y h = all_last P x y h.1
-
 heard_first : (f : Frame) (fs : List Frame) → is_asynchronous f ≡ false → heard (f ∷ fs) ≡ f ∷ heard fs
 heard_first f fs e = rw e refl
 
@@ -141,7 +134,7 @@ takes_first c stage last f fs proofs h s = record {
   proofs = h.2;
   carries = h.4;
   goes = h.5;
-  sayable = all_first CanBeSaid h.2 h.3 (subst (λ (p : List Proof). AllByRecursion CanBeSaid p) h.6 s);
+  sayable = each_first CanBeSaid h.2 h.3 (subst (λ (p : List Proof). AllByRecursion CanBeSaid p) h.6 s);
 }
 
 -- the bytes behind the answer to the question
@@ -175,13 +168,13 @@ next_ahead : (c : ClientSeen) (g : GreetingSeen) (frames taken : List Frame) (pr
 next_ahead c g frames taken proofs said session more further l x messages sayable n =
     let both : heard frames ≡ heard taken ++ heard (n.next ∷ n.others) = ap (λ (f : List Frame). heard f) n.frames_are ∙ heard-append taken (n.next ∷ n.others) in
     let on = leads_on c stages.Request g.stage (stages.Begun session) (heard taken) (heard (n.next ∷ n.others)) said proofs l (subst (λ (f : List Frame). Leads c stages.Request f proofs (stages.Begun session)) both x) in
-    let later = all_last CanBeSaid said on.0 (subst (λ (p : List Proof). AllByRecursion CanBeSaid p) on.1 sayable) in
+    let later = each_last CanBeSaid said on.0 (subst (λ (p : List Proof). AllByRecursion CanBeSaid p) on.1 sayable) in
     record {
       next = n.next;
       after = text_of n.others ++ further;
       whole = n.whole;
       parts = n.left;
-      said = (all_last IsSaid taken (n.next ∷ n.others) (subst (λ (f : List Frame). AllByRecursion IsSaid f) n.frames_are messages)).0;
+      said = (each_last IsSaid taken (n.next ∷ n.others) (subst (λ (f : List Frame). AllByRecursion IsSaid f) n.frames_are messages)).0;
       knows = leads_knows c stages.Request g.stage (heard taken) said tt l;
       takes = λ plain. takes_first c g.stage (stages.Begun session) n.next (heard n.others) on.0 (subst (λ (f : List Frame). Leads c g.stage f on.0 (stages.Begun session)) (heard_first n.next n.others plain) on.2) later;
     }

@@ -35,20 +35,20 @@ sent_to count = if nat_lt count 8 then asks.Sending count else asks.Answer
 
 -- what a question has said and heard over a link that it began with
 abbrev pub HasAsked : LinkSeen → LinkSeen → Asked → Type 0
-HasAsked first now (asks.Sending sent) = (sent < 8) × Appends first.taken now.taken (take sent ssl_request) × Keeps first.given now.given
-HasAsked first now asks.Answer = Appends first.taken now.taken ssl_request × Keeps first.given now.given
-HasAsked first now asks.Upgrade = Appends first.taken now.taken ssl_request × Appends first.given now.given (83 ∷ [])
+HasAsked first now (asks.Sending sent) = (sent < 8) × Appends first.taken now.taken (take sent ssl_request) × Keeps first.given now.given × (now.secured ≡ first.secured)
+HasAsked first now asks.Answer = Appends first.taken now.taken ssl_request × Keeps first.given now.given × (now.secured ≡ first.secured)
+HasAsked first now asks.Upgrade = Appends first.taken now.taken ssl_request × Appends first.given now.given (83 ∷ []) × (now.secured ≡ first.secured)
 
--- the server has TLS, and the link was upgraded behind its answer
-abbrev pub IsUpgraded : LinkSeen → LinkSeen → Type 0
-IsUpgraded first now = (before : LinkSeen) × HasAsked first before asks.Upgrade × Upgrades before now upgrades.Done
+-- the server has TLS, and the link was upgraded behind its answer as it was wished
+abbrev pub IsUpgraded : TlsWish → LinkSeen → LinkSeen → Type 0
+IsUpgraded wish first now = (before : LinkSeen) × HasAsked first before asks.Upgrade × Upgrades before now wish upgrades.Done
 
 -- or it has none, and none is required
 abbrev pub IsPlain : Bool → LinkSeen → LinkSeen → Type 0
-IsPlain required first now = (required ≡ false) × Appends first.taken now.taken ssl_request × Appends first.given now.given (78 ∷ [])
+IsPlain required first now = (required ≡ false) × Appends first.taken now.taken ssl_request × Appends first.given now.given (78 ∷ []) × (now.secured ≡ first.secured)
 
-abbrev pub Agrees : Bool → LinkSeen → LinkSeen → Type 0
-Agrees required first now = IsUpgraded first now ⊎ IsPlain required first now
+abbrev pub Agrees : Bool → TlsWish → LinkSeen → LinkSeen → Type 0
+Agrees required wish first now = IsUpgraded wish first now ⊎ IsPlain required first now
 
 -- the byte that the server has answered
 abbrev pub Answered : LinkSeen → LinkSeen → ℕ → Type 0
@@ -81,7 +81,7 @@ abbrev pub AsksOn : AskingSeen → AskingSeen → Type 0
 AsksOn a b = (first : LinkSeen) → HasAsked first a.link a.asked → HasAsked first b.link b.asked
 
 abbrev pub EndsAsking : AskingSeen → AskingSeen → Result (Unit {0}) Error → Type 0
-EndsAsking a b (Ok u) = (first : LinkSeen) → HasAsked first a.link a.asked → Agrees a.is_required first b.link
+EndsAsking a b (Ok u) = (first : LinkSeen) → HasAsked first a.link a.asked → Agrees a.is_required a.wish first b.link
 EndsAsking a b (Err e) = (first : LinkSeen) → HasAsked first a.link a.asked → AskingFails a.is_required first a.link b.link e
 
 -- what one call of the link makes of it

@@ -66,7 +66,7 @@ RefusesStart o made e = RefusesStartup o e ⊎ ((first_nul_in (startup_texts o) 
 -- TLS is settled over a link that it began with
 abbrev pub Settles : TlsPlan → LinkSeen → LinkSeen → Type 0
 Settles Plain first now = now ≡ first
-Settles (Ask required wish) first now = Agrees required first now
+Settles (Ask required wish) first now = Agrees required wish first now
 
 -- The session begins: the startup message and these proofs were said, and these frames taken.
 pub record IsGreeting (c : ClientSeen) (plan : TlsPlan) (message : List ℕ) (first : LinkSeen) (g : GreetingSeen) : Type 0 where

@@ -1,10 +1,11 @@
 -- All that a client and a server say up to the first ReadyForQuery (PostgreSQL manual, "Message Flow", "Start-up", "SSL Session
 -- Encryption").
-use Rattle.std.specs.Prelude.{◌≡◌, ℕ, ◌⊎◌, false, List, [], ◌∷◌, ◌++◌, length}
+use Rattle.std.specs.Prelude.{◌≡◌, ℕ, ◌⊎◌, false, List, [], ◌∷◌, ◌++◌, length, Option, Some}
 use Rattle.std.specs.Io.KnownBytes.{Appends}
 use Rattle.pg_wire.specs.Frame.{Frame, text_of}
 use Rattle.pg_wire.specs.Frontend.{ssl_request}
 use Rattle.pg_wire.specs.Parts.{heard}
+use Rattle.pg_stream.specs.declared.link.TlsWish.{TlsWish}
 use Rattle.pg_stream.specs.Links.{LinkSeen}
 use Rattle.pg_stream.specs.Streams.{StreamOf, stream_by, GrewBy, AreFrames}
 use Rattle.pg_auth.specs.declared.tls.TlsPlan.{TlsPlan}
@@ -30,6 +31,11 @@ pub record IsHandshake (c : ClientSeen) (plan : TlsPlan) (message said read : Li
   pub said_is : said ≡ asked ++ (message ++ proofs_text proofs)
   pub read_is : read ≡ answered ++ text_of frames
 
+-- behind S the last TLS handshake that was made had to verify what the plan wishes, and behind N none was made
+abbrev pub IsSecured : TlsPlan → List ℕ → Option TlsWish → Option TlsWish → Type 0
+IsSecured Plain answered before now = now ≡ before
+IsSecured (Ask required wish) answered before now = (answered ≡ 83 ∷ [] → now ≡ Some wish) × (answered ≡ 78 ∷ [] → now ≡ before)
+
 -- What a session begins with, over a link or over what is seen of one.
 pub record ReadyOf (A : Type 0) : Type 0 where
   pub stream : StreamOf A
@@ -42,11 +48,12 @@ abbrev pub ready_by : {A : Type 0} → (A → LinkSeen) → ReadyOf A → ReadyO
 ready_by f r = record { stream = stream_by f r.stream; session = r.session; sent = r.sent; read = r.read }
 
 -- Over a link that it began with, the exchange is over: what the link took is the front of what was said, what it gave are the bytes of
--- the exchange and those that the stream still holds, and both are counted.
+-- the exchange and those that the stream still holds, and both are counted. Its TLS had to verify what the plan wishes.
 pub record HasBegun (c : ClientSeen) (plan : TlsPlan) (message : List ℕ) (first : LinkSeen) (ready : ReadyOf LinkSeen) : Type 0 where
   pub said : List ℕ
   pub read : List ℕ
   pub handshake : IsHandshake c plan message said read ready.session
+  pub secured : IsSecured plan handshake.answered first.secured ready.stream.link.secured
   pub taken : List ℕ
   pub took : Appends first.taken ready.stream.link.taken taken
   pub unsent : said ≡ taken ++ ready.stream.unsent

@@ -1,10 +1,13 @@
 -- A source that is read piece by piece, and a text that goes out piece by piece.
-use Rattle.std.proofs.Common.{◌≡◌, ℕ, ◌+◌, ◌-◌, ◌≤◌, ◌<◌, List, [], ◌++◌, length, take, drop, Option, Some, None, true, false, refl, sym, ap, ◌∙◌, arith, append_assoc, length-append, length-drop, take_all, take-add}
+use Rattle.std.proofs.Common.{◌≡◌, ℕ, ◌+◌, ◌-◌, ◌≤◌, ◌<◌, List, [], ◌++◌, length, take, drop, Option, Some, None, true, false, refl, sym, ap, ◌∙◌, arith, append_assoc, length-append, length-drop, take_all, take-add, Bool, nat_eq, min, max, ne_eqb}
 use Rattle.std.specs.Io.KnownBytes.{Keeps, Appends, Consumes}
 use Rattle.std.proofs.lemmas.List.{append-nil, drop-drop, take-take, take_rest, take-append-drop}
 use Rattle.pg_stream.specs.declared.outside.SinkWrite.TheVariants.{Moved, Failed}
 use Rattle.pg_stream.specs.declared.gather.Gathered.{Gathered}
 use Rattle.pg_stream.specs.declared.gather.Gathered.TheVariants as gathered
+use Rattle.std.specs.List.{list_any}
+use Rattle.pg_stream.specs.declared.outside.SourceRead.TheVariants as reads
+use Rattle.pg_stream.specs.MemoryOutside.{MemorySourceState, next_call, fails_next, source_read}
 use Rattle.pg_stream.specs.Outside.{SourceSeen, SinkSeen, SinkTakes, Sent, GathersOnce, ReadAll}
 use Rattle.pg_stream.proofs.Known.{Appends-then, Appends-from_keeps, Appends-refl}
 
@@ -81,3 +84,14 @@ source_gives bytes copy into given k count e le t =
     let front : take count into ≡ take count (drop given bytes) = t ∙ take-take count k (take (length copy - given) (drop given copy)) le ∙ ap (take count) rest in
     sym (take-append-drop count (drop given bytes)) ∙ ap (λ (xs : List ℕ). xs ++ drop count (drop given bytes)) (sym front)
     ∙ ap (λ (xs : List ℕ). take count into ++ xs) (drop-drop count given bytes)
+
+-- ---- in memory
+
+-- what was asked of the list of calls that fail
+pub call_tested : (failing items : List ℕ) (calls n : ℕ) (hit : Bool) → items ≡ failing → n ≡ next_call calls → hit ≡ list_any (λ y. nat_eq y n) items → hit ≡ fails_next failing calls
+call_tested failing items calls n hit s m a = a ∙ ap (λ (k : ℕ). list_any (λ y. nat_eq y k) items) m ∙ ap (λ (xs : List ℕ). list_any (λ y. nat_eq y (next_call calls)) xs) s
+
+pub read_moved : (a : MemorySourceState) (size count : ℕ) → fails_next a.failing a.calls ≡ false → 0 < length a.left → count ≡ min (min (length a.left) (max a.most 1)) size → reads.Moved count ≡ source_read a size
+read_moved a size count open' some n =
+    let more : nat_eq (length a.left) 0 ≡ false = ne_eqb (length a.left) 0 (λ e. omega (arith, e, some)) in
+    rw (open', more, n) refl

@@ -23,6 +23,7 @@ use Rattle.std.proofs.lemmas.Map.Text.{is_eq-slice_cmp}
 use Rattle.std.proofs.lemmas.Slice.Eq.{bytes_eq-Decides}
 use Rattle.pg_stream.specs.Parameters.{ParametersSeen, with_value, Carries, SetsBy, SetsByAll, IsKept, KeepsLastValues}
 use Rattle.pg_stream.specs.Streams.{framed}
+use Rattle.pg_wire.proofs.Tests.{not_true}
 
 -- ---- the map's texts
 
@@ -93,15 +94,11 @@ same_value frame n n' v v' p h k =
     let same = backend_frame_unique (ParameterStatus n v) (ParameterStatus n' v') h.0 k.0 (h.1 ∙ sym k.1) in
     ap (λ (m : BackendMessage). with_value (name_of m) (setting_of m) p) same
 
-is_false : (t : Bool) → (t ≡ true → ⊥) → t ≡ false
-is_false true never = absurd (never refl)
-is_false false never = refl
-
 at_self : (n : List ℕ) → is_eq (slice_cmp nat_cmp n n) ≡ true
 at_self n = is_eq-slice_cmp n n ∙ (bytes_eq-Decides n n).1 refl
 
 at_apart : (q n : List ℕ) → q ≢ n → is_eq (slice_cmp nat_cmp q n) ≡ false
-at_apart q n apart = is_eq-slice_cmp q n ∙ is_false (bytes_eq q n) (λ e. apart ((bytes_eq-Decides q n).0 e))
+at_apart q n apart = is_eq-slice_cmp q n ∙ not_true (bytes_eq q n) (λ e. apart ((bytes_eq-Decides q n).0 e))
 
 same_key : (n k : List ℕ) → slice_cmp nat_cmp n k ≡ Equal → n ≡ k
 same_key n k e = (bytes_eq-Decides n k).0 (sym (is_eq-slice_cmp n k) ∙ ap is_eq e)

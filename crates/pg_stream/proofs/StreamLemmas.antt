@@ -29,21 +29,21 @@ pub text_of-append : (xs ys : List Frame) → text_of (xs ++ ys) ≡ text_of xs 
 text_of-append [] ys = refl
 text_of-append (x ∷ xs) ys = ap (λ (z : List ℕ). bytes_of x ++ z) (text_of-append xs ys) ∙ sym (append_assoc (bytes_of x) (text_of xs) (text_of ys))
 
-Sends-then : (a b c : StreamSeen) (x y : List ℕ) → Sends a b x → Sends b c y → Sends a c (x ++ y)
+pub Sends-then : (a b c : StreamSeen) (x y : List ℕ) → Sends a b x → Sends b c y → Sends a c (x ++ y)
 Sends-then a b c x y p q = (
   p.0 ++ q.0,
   Appends-then a.link.taken b.link.taken c.link.taken p.0 q.0 p.1 q.1,
   sym (append_assoc a.unsent x y) ∙ ap (λ (z : List ℕ). z ++ y) p.2 ∙ append_assoc p.0 b.unsent y ∙ ap (λ (z : List ℕ). p.0 ++ z) q.2 ∙ sym (append_assoc p.0 q.0 c.unsent),
 )
 
-GrewBy-then : (n m k x y z : ℕ) → GrewBy n x y → GrewBy m y z → k ≡ n + m → GrewBy k x z
+pub GrewBy-then : (n m k x y z : ℕ) → GrewBy n x y → GrewBy m y z → k ≡ n + m → GrewBy k x z
 GrewBy-then n m k x y z p q e = (omega (arith, p, q), omega (arith, p, q, e), omega (arith, p, q, e))
 
 -- a number that stays
 GrewBy-none : (x : ℕ) → GrewBy 0 x x
 GrewBy-none x = (omega arith, omega arith, omega arith)
 
-Takes-then : (a b c : StreamSeen) (x y : List Frame) → Takes a b x → Takes b c y → Takes a c (x ++ y)
+pub Takes-then : (a b c : StreamSeen) (x y : List Frame) → Takes a b x → Takes b c y → Takes a c (x ++ y)
 Takes-then a b c x y p q = (
   p.0 ++ q.0,
   Appends-then a.link.given b.link.given c.link.given p.0 q.0 p.1 q.1,
@@ -88,6 +88,7 @@ SetsByAll-append (x ∷ xs) ys a b c p q = (p.0, p.1, SetsByAll-append xs ys p.0
 pub Moves-then : (a b c : StreamSeen) (s t : List ℕ) (x y : List Frame) → Moves a b s x → Moves b c t y → Moves a c (s ++ t) (x ++ y)
 Moves-then a b c s t x y p q = record {
   counts = NoneFalls-then a.link b.link c.link p.counts q.counts;
+  secured = q.secured ∙ p.secured;
   sent = Sends-then a b c s t p.sent q.sent;
   read = Takes-then a b c x y p.read q.read;
   tallies = Tallies-then a b c p.tallies q.tallies;
@@ -101,6 +102,7 @@ Moves-then a b c s t x y p q = record {
 pub Moves-none : (a : StreamSeen) → Moves a a [] []
 Moves-none a = record {
   counts = NoneFalls-refl a.link;
+  secured = refl;
   sent = ([], Appends-refl a.link.taken, append-nil a.unsent);
   read = ([], Appends-refl a.link.given, append-nil a.held, tt, GrewBy-none a.taken);
   tallies = Tallies-none a a (NoneFalls-refl a.link) refl refl;
@@ -176,7 +178,7 @@ sends_moved a link n m w some grew =
     let b : StreamSeen = record a { link = link; unsent = drop n a.unsent; left = a.left - 1; moves = m } in
     let parts : a.unsent ++ [] ≡ take n a.unsent ++ drop n a.unsent = append-nil a.unsent ∙ sym (take-append-drop n a.unsent) in
     record {
-      moves = record { counts = w.counts; sent = (take n a.unsent, w.takes.2, parts); read = ([], Appends-from_keeps _ _ w.given, append-nil a.held, tt, GrewBy-none a.taken); tallies = one_move a b w.counts grew refl w.takes.3; left = omega arith; fuel = omega arith; spare = omega arith; parameters = refl };
+      moves = record { counts = w.counts; secured = w.secured; sent = (take n a.unsent, w.takes.2, parts); read = ([], Appends-from_keeps _ _ w.given, append-nil a.held, tt, GrewBy-none a.taken); tallies = one_move a b w.counts grew refl w.takes.3; left = omega arith; fuel = omega arith; spare = omega arith; parameters = refl };
       held = refl;
       spare = refl;
       left = omega arith;
@@ -188,7 +190,7 @@ pub reads_moved : (a : StreamSeen) (link : LinkSeen) (into : List ℕ) (n m : �
 reads_moved a link into n m r fits some grew =
     let b : StreamSeen = record a { link = link; held = a.held ++ take n into; left = a.left - 1; moves = m } in
     record {
-      moves = record { counts = r.counts; sent = ([], Appends-from_keeps _ _ r.taken, append-nil a.unsent); read = (take n into, r.gives.2, refl, tt, GrewBy-none a.taken); tallies = one_move a b r.counts grew refl r.gives.4; left = omega arith; fuel = omega (arith, length-append a.held (take n into), length-take n into); spare = omega arith; parameters = refl };
+      moves = record { counts = r.counts; secured = r.secured; sent = ([], Appends-from_keeps _ _ r.taken, append-nil a.unsent); read = (take n into, r.gives.2, refl, tt, GrewBy-none a.taken); tallies = one_move a b r.counts grew refl r.gives.4; left = omega arith; fuel = omega (arith, length-append a.held (take n into), length-take n into); spare = omega arith; parameters = refl };
       unsent = refl;
       spare = refl;
       left = omega arith;
@@ -200,7 +202,7 @@ pub reads_waited : (a : StreamSeen) (link : LinkSeen) (into : List ℕ) (m : ℕ
 reads_waited a link into m r some grew =
     let b : StreamSeen = record a { link = link; left = a.left - 1; waits = m } in
     record {
-      moves = record { counts = r.counts; sent = ([], Appends-from_keeps _ _ r.taken, append-nil a.unsent); read = ([], Appends-from_keeps _ _ r.gives.0, append-nil a.held, tt, GrewBy-none a.taken); tallies = one_wait a b r.counts grew refl (inr r.gives.2); left = omega arith; fuel = omega arith; spare = omega arith; parameters = refl };
+      moves = record { counts = r.counts; secured = r.secured; sent = ([], Appends-from_keeps _ _ r.taken, append-nil a.unsent); read = ([], Appends-from_keeps _ _ r.gives.0, append-nil a.held, tt, GrewBy-none a.taken); tallies = one_wait a b r.counts grew refl (inr r.gives.2); left = omega arith; fuel = omega arith; spare = omega arith; parameters = refl };
       unsent = refl;
       spare = refl;
       left = omega arith;
@@ -329,6 +331,7 @@ takes_front a b front frame rest f t =
     let c : StreamSeen = record a { held = rest; taken = b.taken; parameters = b.parameters } in
     let taken : Moves a c [] (frame ∷ []) = record {
       counts = counts;
+      secured = refl;
       sent = ([], Appends-refl a.link.taken, append-nil a.unsent);
       read = ([], Appends-refl a.link.given, parts, (f.whole, tt), subst (λ (n : ℕ). GrewBy n a.taken b.taken) long t.1);
       tallies = Tallies-none a c counts refl refl;
@@ -436,7 +439,7 @@ AreAsynchronous-append : (xs ys : List Frame) → AreAsynchronous xs → AreAsyn
 AreAsynchronous-append [] ys p q = q
 AreAsynchronous-append (x ∷ xs) ys p q = (p.0, AreAsynchronous-append xs ys p.1 q)
 
-HeardCause-after : (a b c : StreamSeen) (e : Error) → NoneFalls a.link b.link → HeardCause b c e → HeardCause a c e
+pub HeardCause-after : (a b c : StreamSeen) (e : Error) → NoneFalls a.link b.link → HeardCause b c e → HeardCause a c e
 HeardCause-after a b c (errors.Protocol (protocol.Server (faults.Malformed tag))) m p = p
 HeardCause-after a b c e m p = ErrorCause-after a b c e m p
 
@@ -471,6 +474,7 @@ queues_by {A} seen a b bytes spare room e =
     let counts : NoneFalls s.link s.link = NoneFalls-refl s.link in
     let moves : Moves s t bytes [] = record {
       counts = counts;
+      secured = refl;
       sent = ([], Appends-refl s.link.taken, refl);
       read = ([], Appends-refl s.link.given, append-nil s.held, tt, GrewBy-none s.taken);
       tallies = Tallies-none s t counts refl refl;

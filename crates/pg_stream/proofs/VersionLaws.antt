@@ -7,6 +7,7 @@ use Rattle.std.proofs.lemmas.Bool.Decides.{nat_tests}
 use Rattle.pg_wire.specs.Parts.{onto_first}
 use Rattle.pg_stream.specs.Versions.{pieces, front_digits, is_number, numbers, within, version_by, version_of}
 use Rattle.pg_stream.specs.VersionReading.{number_at, further_at}
+use Rattle.pg_wire.proofs.CompletionLaws.{digit_is}
 
 -- the numbers behind the digits of one
 abbrev behind : List ℕ → List ℕ
@@ -138,9 +139,6 @@ pub record ReadsDigits (text : List ℕ) (count value : ℕ) : Type 0 where
 
 pub reads_none : (text : List ℕ) → ReadsDigits text 0 0
 reads_none text = record { fits = omega arith; small = omega arith; size = omega arith; value_is = refl }
-
-digit_is : (b : ℕ) → is_ascii_digit b ≡ true → digit_value b ≡ b - 48
-digit_is b e = grind (arith, nat_tests)
 
 pub reads_more : (text : List ℕ) (count value b : ℕ) → ReadsDigits text count value → count < length text → drop count text ≡ b ∷ drop (count + 1) text → is_ascii_digit b ≡ true → value * 10 + (b - 48) < 2 ^ 32 → ReadsDigits text (count + 1) (value * 10 + (b - 48))
 reads_more text count value b r lt next digit small =

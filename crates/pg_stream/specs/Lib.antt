@@ -4,6 +4,7 @@ pub mod Asynchronous
 pub mod Events
 pub mod Memory
 pub mod Outside
+pub mod MemoryOutside
 pub mod Versions
 pub mod VersionReading
 pub mod Outgoing

@@ -3,6 +3,7 @@ use Rattle.std.specs.Prelude.{◌≡◌, ℕ, Bool, ◌+◌, ◌-◌, ◌^◌, �
 use Rattle.std.specs.Io.KnownBytes.{Keeps, Appends}
 use Rattle.pg_stream.specs.declared.events.ReadEvent.{ReadEvent}
 use Rattle.pg_stream.specs.declared.events.WriteEvent.{WriteEvent}
+use Rattle.pg_stream.specs.declared.link.TlsWish.{TlsWish}
 use Rattle.pg_stream.specs.declared.link.LinkRead.{LinkRead}
 use Rattle.pg_stream.specs.declared.link.LinkRead.TheVariants as reads
 use Rattle.pg_stream.specs.declared.link.LinkWrite.{LinkWrite}
@@ -20,6 +21,8 @@ pub record LinkPlan : Type 0 where
 
 pub record LinkSeen : Type 0 where
   pub plan : LinkPlan
+  -- what the last TLS handshake that was made had to verify
+  pub secured : Option TlsWish
   -- all bytes that reads gave, and that writes took
   pub given : Option (List ℕ)
   pub taken : Option (List ℕ)
@@ -73,6 +76,7 @@ ReadGives a b reads.Failed into = Keeps a.given b.given × Keeps a.wait_places b
 
 pub record Reads (a b : LinkSeen) (answer : LinkRead) (into : List ℕ) : Type 0 where
   pub counts : NoneFalls a b
+  pub secured : b.secured ≡ a.secured
   pub taken : Keeps a.taken b.taken
   pub gives : ReadGives a b answer into
 
@@ -84,6 +88,7 @@ WriteTakes a b writes.Failed from = Keeps a.taken b.taken × Rose a.faults b.fau
 
 pub record Writes (a b : LinkSeen) (answer : LinkWrite) (from : List ℕ) : Type 0 where
   pub counts : NoneFalls a b
+  pub secured : b.secured ≡ a.secured
   pub given : Keeps a.given b.given
   pub places : Keeps a.wait_places b.wait_places
   pub takes : WriteTakes a b answer from
@@ -93,9 +98,15 @@ UpgradeCause a b upgrades.Done = Rose a.moved b.moved
 UpgradeCause a b upgrades.NotYet = Rose a.read_waits b.read_waits
 UpgradeCause a b upgrades.Failed = Rose a.upgrade_faults b.upgrade_faults
 
+-- a handshake that is made had to verify what was wished
+abbrev pub SecuredBy : TlsWish → Option TlsWish → Option TlsWish → LinkUpgrade → Type 0
+SecuredBy wish before now upgrades.Done = now ≡ Some wish
+SecuredBy wish before now _ = now ≡ before
+
 -- an upgrade moves no bytes of the stream that it changes
-pub record Upgrades (a b : LinkSeen) (answer : LinkUpgrade) : Type 0 where
+pub record Upgrades (a b : LinkSeen) (wish : TlsWish) (answer : LinkUpgrade) : Type 0 where
   pub counts : NoneFalls a b
+  pub secured : SecuredBy wish a.secured b.secured answer
   pub given : Keeps a.given b.given
   pub taken : Keeps a.taken b.taken
   pub places : Keeps a.wait_places b.wait_places

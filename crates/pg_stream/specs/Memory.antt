@@ -18,6 +18,7 @@ plan_of m = record { reads = m.reads.events; writes = m.writes; can_upgrade = m.
 abbrev pub seen_of : MemoryLink → LinkSeen
 seen_of m = record {
   plan = plan_of m;
+  secured = m.secured;
   given = Some (given_by m.reads);
   taken = Some m.taken.items;
   wait_places = Some (places_by m.reads);
@@ -33,6 +34,7 @@ seen_of m = record {
 abbrev pub untouched : LinkPlan → LinkSeen
 untouched made = record {
   plan = made;
+  secured = None;
   given = Some [];
   taken = Some [];
   wait_places = Some [];

@@ -12,6 +12,7 @@ socket_plan upgradable near = record { reads = []; writes = []; can_upgrade = up
 abbrev pub uncalled : Bool → LinkSeen
 uncalled near = record {
   plan = socket_plan false near;
+  secured = None;
   given = None;
   taken = None;
   wait_places = None;

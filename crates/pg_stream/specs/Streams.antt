@@ -85,6 +85,7 @@ pub record Tallies (a b : StreamSeen) : Type 0 where
 -- Calls within one poll that queued these bytes and took these frames.
 pub record Moves (a b : StreamSeen) (queued : List ℕ) (frames : List Frame) : Type 0 where
   pub counts : NoneFalls a.link b.link
+  pub secured : b.link.secured ≡ a.link.secured
   pub sent : Sends a b queued
   pub read : Takes a b frames
   pub tallies : Tallies a b

@@ -40,7 +40,8 @@ pub struct TlsWish {
 /// It counts its answers in `u64`s that never fall: each answer raises its own count, and one that stands at the type's end
 /// counts as risen. A link in memory also tells the bytes themselves; one over a socket does not.
 pub trait Link {
-    /// What it is made of, which no call changes; the bytes that it gave and took, where it tells them; and its counts.
+    /// What it is made of, which no call changes; what the last TLS handshake that was made had to verify; the bytes that it gave and took,
+    /// where it tells them; and its counts.
     ghost seen: { Self → LinkSeen };
 
     fn read(&mut self, into: &mut [u8]) -> LinkRead
@@ -60,5 +61,5 @@ pub trait Link {
         ensures { result ≡ (seen self.now).plan.is_local };
 
     fn upgrade(&mut self, wish: TlsWish) -> LinkUpgrade
-        ensures { Upgrades (seen self.old) (seen self.new) result };
+        ensures { Upgrades (seen self.old) (seen self.new) wish result };
 }

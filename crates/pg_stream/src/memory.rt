@@ -19,6 +19,7 @@ pub struct MemoryLink {
     taken: Vec<u8>,
     can_upgrade: bool,
     is_local: bool,
+    secured: Option<TlsWish>,
     moved: u64,
     read_waits: u64,
     write_waits: u64,
@@ -48,6 +49,7 @@ impl MemoryLink {
             taken: Vec::new(alloc),
             can_upgrade,
             is_local,
+            secured: None,
             moved: 0,
             read_waits: 0,
             write_waits: 0,
@@ -62,6 +64,13 @@ impl MemoryLink {
         ensures { (seen_of self.now).taken ≡ Some result.now }
     {
         &self.taken
+    }
+
+    /// What the last TLS handshake that was made had to verify.
+    pub fn secured(&self) -> Option<TlsWish>
+        ensures { result ≡ (seen_of self.now).secured }
+    {
+        self.secured
     }
 
     // What the next write does, if the list says it.
@@ -165,10 +174,11 @@ impl Link for MemoryLink {
         self.is_local
     }
 
-    fn upgrade(&mut self, _wish: TlsWish) -> LinkUpgrade
-        ensures link { Upgrades (seen_of self.old) (seen_of self.new) result }
+    fn upgrade(&mut self, wish: TlsWish) -> LinkUpgrade
+        ensures link { Upgrades (seen_of self.old) (seen_of self.new) wish result }
         ensures plan { plan_of self.new ≡ plan_of self.old }
     {
+        self.secured = Some(wish);
         self.moved = self.moved.saturating_add(1);
         LinkUpgrade::Done
     }

@@ -1,4 +1,6 @@
-ghost use Rattle.std.specs.Prelude.{◌≡◌, Some};
+ghost use Rattle.std.specs.Prelude.{◌≡◌, ◌<◌, length};
+ghost use Rattle.pg_stream.specs.Outside.{SourceReads};
+ghost use Rattle.pg_stream.specs.MemoryOutside.{SourceFollows, source_seen};
 
 use crate::copying::copy_front;
 use crate::{Source, SourceRead};
@@ -17,12 +19,12 @@ pub struct MemorySource {
 }
 
 impl Model for MemorySource {
-    ghost use Rattle.std.specs.Prelude.{◌≤◌, length, drop, Some};
-    ghost use Rattle.pg_stream.specs.Outside.{SourceSeen};
+    ghost use Rattle.std.specs.Prelude.{◌≤◌, length, drop};
+    ghost use Rattle.pg_stream.specs.MemoryOutside.{MemorySourceState};
 
-    ghost Value = { SourceSeen };
+    ghost Value = { MemorySourceState };
 
-    ghost view = { λ s. record { left = Some (drop s.given s.bytes); faults = s.faults } };
+    ghost view = { λ s. record { left = drop s.given s.bytes; most = s.most; failing = s.failing; calls = s.calls; faults = s.faults } };
 
     ghost invariant = { λ s. s.given ≤ length s.bytes };
 }
@@ -30,7 +32,7 @@ impl Model for MemorySource {
 impl MemorySource {
     /// Gives these bytes, at most so many by one read (one at least). The calls with these numbers fail; the first is 1.
     pub fn new(bytes: Blob, most: usize, failing: Sequence<u64>) -> Self
-        ensures { result ≡ record { left = Some bytes; faults = 0 } }
+        ensures { result ≡ record { left = bytes; most = most; failing = failing; calls = 0; faults = 0 } }
     {
         MemorySource {
             bytes,
@@ -44,9 +46,13 @@ impl MemorySource {
 }
 
 impl Source for MemorySource {
-    ghost seen = { λ s. s };
+    ghost seen = { λ s. source_seen s };
 
-    fn read(&mut self, into: &mut [u8]) -> SourceRead {
+    fn read(&mut self, into: &mut [u8]) -> SourceRead
+        requires { 0 < length into.old }
+        ensures source { SourceReads (source_seen self.old) (source_seen self.new) result into.new }
+        ensures follows { SourceFollows self.old self.new result (length into.old) }
+    {
         self.calls = self.calls.saturating_add(1);
         if self.failing.as_slice().contains(&self.calls) {
             self.faults = self.faults.saturating_add(1);

@@ -2,7 +2,7 @@ ghost use Rattle.std.specs.Prelude.{◌≡◌, ◌<◌, length};
 ghost use Rattle.pg_stream.specs.Links.{Reads, Writes, Upgrades};
 ghost use Rattle.pg_stream.specs.Sockets.{uncalled, is_wait};
 
-use crate::{LinkRead, LinkUpgrade, LinkWrite};
+use crate::{LinkRead, LinkUpgrade, LinkWrite, TlsWish};
 use std::io::{ErrorKind, Read, Write};
 use std::marker::Model;
 
@@ -29,7 +29,7 @@ impl Model for SocketCounts {
 
     ghost Value = { LinkSeen };
 
-    ghost view = { λ c. record { plan = socket_plan c.can_upgrade c.is_local; given = None; taken = None; wait_places = None; moved = c.moved; read_waits = c.read_waits; write_waits = c.write_waits; ends = c.ends; faults = c.faults; upgrade_faults = c.upgrade_faults } };
+    ghost view = { λ c. record { plan = socket_plan c.can_upgrade c.is_local; secured = None; given = None; taken = None; wait_places = None; moved = c.moved; read_waits = c.read_waits; write_waits = c.write_waits; ends = c.ends; faults = c.faults; upgrade_faults = c.upgrade_faults } };
 }
 
 impl SocketCounts {
@@ -110,8 +110,8 @@ impl SocketCounts {
     }
 
     // There is none to be made.
-    pub(crate) fn refuse_upgrade(&mut self) -> LinkUpgrade
-        ensures { Upgrades self.old self.new result }
+    pub(crate) fn refuse_upgrade(&mut self, _wish: TlsWish) -> LinkUpgrade
+        ensures { Upgrades self.old self.new _wish result }
     {
         self.upgrade_faults = self.upgrade_faults.saturating_add(1);
         LinkUpgrade::Failed

@@ -67,7 +67,7 @@ impl Link for UnixLink {
         self.counts.is_local()
     }
 
-    fn upgrade(&mut self, _wish: TlsWish) -> LinkUpgrade {
-        self.counts.refuse_upgrade()
+    fn upgrade(&mut self, wish: TlsWish) -> LinkUpgrade {
+        self.counts.refuse_upgrade(wish)
     }
 }

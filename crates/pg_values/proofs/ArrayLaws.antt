@@ -5,11 +5,12 @@ use Rattle.std.proofs.lemmas.Bool.{ltb-true, leb-true, lt-ltb, le-leb}
 use Rattle.pg_wire.specs.Bytes.{number32, value, AreBytes}
 use Rattle.pg_wire.specs.Frontend.{FitsValue}
 use Rattle.pg_wire.specs.Reading.{◌>>=◌, number32_at, value_at, many_at}
-use Rattle.pg_wire.proofs.ReaderLaws.{some_is, bind_some, guard_some, rest_bytes, number32_exact}
+use Rattle.pg_wire.proofs.ReaderLaws.{bind_some, rest_bytes, number32_exact}
 use Rattle.pg_wire.proofs.ListLaws.{value_exact}
-use Rattle.pg_wire.proofs.MessageLaws.{chosen}
 use Rattle.pg_values.specs.Arrays.{ReadsEach, array_front, IsEmptyArray, HasElements, AreElements, IsArray}
 use Rattle.pg_values.specs.ArrayReading.{dimensions_at, count_at, head_at, ReadsArray}
+use Rattle.pg_wire.proofs.Tests.{chosen}
+use Rattle.std.proofs.lemmas.Option.{cond_some, same_Some}
 
 abbrev Values : Type 0
 Values = List (Option (List ℕ))
@@ -21,13 +22,13 @@ at n rest = (n, rest)
 
 many_takes : (n : ℕ) (bytes : List ℕ) (x : Values × List ℕ) → AreBytes bytes → many_at value_at n bytes ≡ Some x → (length x.0 ≡ n) × AllByRecursion FitsValue x.0 × (bytes ≡ flat_map value x.0 ++ x.1)
 unfolding many_at
-many_takes zero bytes x h e = subst (λ (y : Values × List ℕ). (length y.0 ≡ 0) × AllByRecursion FitsValue y.0 × (bytes ≡ flat_map value y.0 ++ y.1)) (some_is ([], bytes) x e) (refl, tt, refl)
+many_takes zero bytes x h e = subst (λ (y : Values × List ℕ). (length y.0 ≡ 0) × AllByRecursion FitsValue y.0 × (bytes ≡ flat_map value y.0 ++ y.1)) (same_Some ([], bytes) x e) (refl, tt, refl)
 many_takes (suc n) bytes x h e =
     let a = bind_some (value_at bytes) (λ first. many_at value_at n first.1 >>= λ others. Some (first.0 ∷ others.0, others.1)) x e in
     let b = bind_some (many_at value_at n a.0.1) (λ others. Some (a.0.0 ∷ others.0, others.1)) x a.2 in
     let one = value_exact.takes bytes a.0 h a.1 in
     let two = many_takes n a.0.1 b.0 (rest_bytes bytes (value a.0.0) a.0.1 h one.1) b.1 in
-    subst (λ (y : Values × List ℕ). (length y.0 ≡ suc n) × AllByRecursion FitsValue y.0 × (bytes ≡ flat_map value y.0 ++ y.1)) (some_is (a.0.0 ∷ b.0.0, b.0.1) x b.2)
+    subst (λ (y : Values × List ℕ). (length y.0 ≡ suc n) × AllByRecursion FitsValue y.0 × (bytes ≡ flat_map value y.0 ++ y.1)) (same_Some (a.0.0 ∷ b.0.0, b.0.1) x b.2)
     (ap suc two.0, (one.0, two.1), one.1 ∙ ap (λ (u : List ℕ). value a.0.0 ++ u) two.2 ∙ sym (append_assoc (value a.0.0) (flat_map value b.0.0) b.0.1))
 
 many_again : (xs : Values) (rest : List ℕ) → AllByRecursion FitsValue xs → many_at value_at (length xs) (flat_map value xs ++ rest) ≡ Some (xs, rest)
@@ -45,7 +46,7 @@ dimensions_takes bytes x h e =
     let a = bind_some (number32_at bytes) (λ dimensions. number32_at dimensions.1 >>= λ flags. number32_at flags.1 >>= λ element. cond (leb flags.0 1) (Some (at dimensions.0 element.1)) None) x e in
     let b = bind_some (number32_at a.0.1) (λ flags. number32_at flags.1 >>= λ element. cond (leb flags.0 1) (Some (at a.0.0 element.1)) None) x a.2 in
     let d = bind_some (number32_at b.0.1) (λ element. cond (leb b.0.0 1) (Some (at a.0.0 element.1)) None) x b.2 in
-    let g = guard_some (leb b.0.0 1) (at a.0.0 d.0.1) x d.2 in
+    let g = cond_some (leb b.0.0 1) (at a.0.0 d.0.1) x d.2 in
     let one = number32_exact.takes bytes a.0 h a.1 in
     let h1 = rest_bytes bytes (number32 a.0.0) a.0.1 h one.1 in
     let two = number32_exact.takes a.0.1 b.0 h1 b.1 in
@@ -69,7 +70,7 @@ unfolding count_at
 count_takes bytes x h e =
     let a = bind_some (number32_at bytes) (λ n. number32_at n.1 >>= λ first. cond (ltb n.0 (2 ^ 31)) (Some (at n.0 first.1)) None) x e in
     let b = bind_some (number32_at a.0.1) (λ first. cond (ltb a.0.0 (2 ^ 31)) (Some (at a.0.0 first.1)) None) x a.2 in
-    let g = guard_some (ltb a.0.0 (2 ^ 31)) (at a.0.0 b.0.1) x b.2 in
+    let g = cond_some (ltb a.0.0 (2 ^ 31)) (at a.0.0 b.0.1) x b.2 in
     let one = number32_exact.takes bytes a.0 h a.1 in
     let two = number32_exact.takes a.0.1 b.0 (rest_bytes bytes (number32 a.0.0) a.0.1 h one.1) b.1 in
     let both = subst (λ (y : ℕ × List ℕ). (y.0 < 2 ^ 31) × (bytes ≡ number32 y.0 ++ number32 b.0.0 ++ y.1)) g.1 (ltb-true _ _ g.0, one.1 ∙ ap (λ (u : List ℕ). number32 a.0.0 ++ u) two.1) in
@@ -98,7 +99,7 @@ head_by bytes d = cond (eqb d.0 0) (cond (eqb (length d.1) 0) (Some (at 0 [])) N
 empty_takes : (bytes : List ℕ) (d x : ℕ × List ℕ) (flags element : ℕ) (values : Values) → flags ≤ 1 → element < 2 ^ 32 → bytes ≡ array_front d.0 flags element ++ d.1 → d.0 ≡ 0
     → cond (eqb (length d.1) 0) (Some (at 0 [])) None ≡ Some x → AreBytes x.1 → many_at value_at x.0 x.1 ≡ Some (values, []) → AreElements bytes values
 empty_takes bytes d x flags element values f m e z g small all =
-    let p = guard_some (eqb (length d.1) 0) (at 0 []) x g in
+    let p = cond_some (eqb (length d.1) 0) (at 0 []) x g in
     let t = many_takes x.0 x.1 (values, []) small all in
     let none : values ≡ [] = nil_values values (t.0 ∙ sym (ap (λ (y : ℕ × List ℕ). y.0) p.1)) in
     let made : bytes ≡ array_front 0 flags element = e ∙ ap (λ (n : ℕ). array_front n flags element ++ d.1) z ∙ ap (λ (u : List ℕ). array_front 0 flags element ++ u) (nil_of d.1 (eqb-true _ _ p.0)) in
@@ -115,7 +116,7 @@ full_takes bytes d x flags element values f m e one small g all =
     has_elements bytes values (flags, element, n.0, f, m, n.1, omega (arith, t.0, n.2), t.1, made)
 
 nil_bytes : (x : ℕ × List ℕ) (b : Bool) → cond b (Some (at 0 [])) None ≡ Some x → AreBytes x.1
-nil_bytes x b e = subst (λ (y : ℕ × List ℕ). AreBytes y.1) (guard_some b (at 0 []) x e).1 tt
+nil_bytes x b e = subst (λ (y : ℕ × List ℕ). AreBytes y.1) (cond_some b (at 0 []) x e).1 tt
 
 head_takes : (bytes : List ℕ) (x : ℕ × List ℕ) (values : Values) → AreBytes bytes → head_at bytes ≡ Some x → many_at value_at x.0 x.1 ≡ Some (values, []) → AreElements bytes values
 unfolding head_at

@@ -6,13 +6,13 @@ use Rattle.std.specs.Str.{is_utf8}
 use Rattle.std.proofs.lemmas.List.{length-append}
 use Rattle.std.proofs.lemmas.Str.{IsUtf8-from_is_utf8, is_utf8-from_IsUtf8}
 use Rattle.std.proofs.lemmas.Slice.Eq.{bytes_eq-Decides}
-use Rattle.pg_values.proofs.TextLoops.{not_true}
-use Rattle.pg_wire.proofs.ReaderLaws.{some_is, bind_some, guard_some}
-use Rattle.pg_wire.proofs.MessageLaws.{chosen}
+use Rattle.pg_wire.proofs.ReaderLaws.{bind_some}
 use Rattle.pg_values.specs.declared.style.Style.{Style}
 use Rattle.pg_values.specs.declared.style.Style.TheVariants as styles
 use Rattle.pg_values.specs.Texts.{closing, null_text, is_plain, IsKept, IsCharacter, IsQuoted, SpellsItem, SpellsItems, SpellsRest, ArrayTextOf, RecordTextOf}
 use Rattle.pg_values.specs.TextReading.{kept_at, character_at, with_byte, quoted_at, plain_at, plain_item, quoted_item, if_text, quoted_text_at, plain_text_at, item_at, after_item, more_items, items_in}
+use Rattle.pg_wire.proofs.Tests.{both_true, neither_true, not_true, chosen}
+use Rattle.std.proofs.lemmas.Option.{cond_some, same_Some}
 
 abbrev Char : Type 0
 Char = Option ℕ × List ℕ
@@ -45,27 +45,23 @@ or_cases : (a b : Bool) → (a || b) ≡ true → (a ≡ true) ⊎ (b ≡ true)
 or_cases true b e = inl refl
 or_cases false b e = inr e
 
-or_none : (a b : Bool) → (a || b) ≡ false → (a ≡ false) × (b ≡ false)
-or_none true b e = absurd cc
-or_none false b e = (refl, e)
-
 plain_char : (style : Style) (c : ℕ) (after : List ℕ) → eqb c 34 ≡ false → eqb c 92 ≡ false → TakesChar style (c ∷ after) (at (Some c) after)
 plain_char style c after e f = (c ∷ [], inr (refl, not_eq c 34 e, not_eq c 92 f), refl)
 
 kept_takes : (style : Style) (c d : ℕ) (rest : List ℕ) (x : Char) → (c ≡ 34) ⊎ (c ≡ 92) → kept_at style c d rest ≡ Some x → TakesChar style (c ∷ d ∷ rest) x
 kept_takes styles.Array c d rest x q e =
     elim (chosen (eqb c 34) (Some (at None (d ∷ rest))) (Some (at (Some d) rest)) (Some x) e) [
-      | inl p ↦ subst (TakesChar styles.Array (c ∷ d ∷ rest)) (some_is (at None (d ∷ rest)) x p.1) (ap (λ (n : ℕ). n ∷ d ∷ rest) (eqb-true c 34 p.0))
+      | inl p ↦ subst (TakesChar styles.Array (c ∷ d ∷ rest)) (same_Some (at None (d ∷ rest)) x p.1) (ap (λ (n : ℕ). n ∷ d ∷ rest) (eqb-true c 34 p.0))
       | inr p ↦ elim q [
         | inl z ↦ absurd (not_eq c 34 p.0 z)
-        | inr z ↦ subst (TakesChar styles.Array (c ∷ d ∷ rest)) (some_is (at (Some d) rest) x p.1) (92 ∷ d ∷ [], inl refl, ap (λ (n : ℕ). n ∷ d ∷ rest) z)
+        | inr z ↦ subst (TakesChar styles.Array (c ∷ d ∷ rest)) (same_Some (at (Some d) rest) x p.1) (92 ∷ d ∷ [], inl refl, ap (λ (n : ℕ). n ∷ d ∷ rest) z)
       ]
     ]
 kept_takes styles.Record c d rest x q e =
     elim (chosen (eqb d c) (Some (at (Some c) rest)) (cond (eqb c 34) (Some (at None (d ∷ rest))) None) (Some x) e) [
-      | inl p ↦ subst (TakesChar styles.Record (c ∷ d ∷ rest)) (some_is (at (Some c) rest) x p.1) (c ∷ c ∷ [], inl (refl, q), ap (λ (n : ℕ). c ∷ n ∷ rest) (eqb-true d c p.0))
+      | inl p ↦ subst (TakesChar styles.Record (c ∷ d ∷ rest)) (same_Some (at (Some c) rest) x p.1) (c ∷ c ∷ [], inl (refl, q), ap (λ (n : ℕ). c ∷ n ∷ rest) (eqb-true d c p.0))
       | inr p ↦
-          let g = guard_some (eqb c 34) (at None (d ∷ rest)) x p.1 in
+          let g = cond_some (eqb c 34) (at None (d ∷ rest)) x p.1 in
           subst (TakesChar styles.Record (c ∷ d ∷ rest)) g.1 (ap (λ (n : ℕ). n ∷ d ∷ rest) (eqb-true c 34 g.0))
     ]
 
@@ -74,10 +70,10 @@ unfolding character_at
 character_takes style [] x e = absurd cc
 character_takes style (c ∷ []) x e =
     elim (chosen (eqb c 34) (Some (at None [])) (cond (eqb c 92) None (Some (at (Some c) []))) (Some x) e) [
-      | inl p ↦ subst (TakesChar style (c ∷ [])) (some_is (at None []) x p.1) (ap (λ (n : ℕ). n ∷ []) (eqb-true c 34 p.0))
+      | inl p ↦ subst (TakesChar style (c ∷ [])) (same_Some (at None []) x p.1) (ap (λ (n : ℕ). n ∷ []) (eqb-true c 34 p.0))
       | inr p ↦ elim (chosen (eqb c 92) None (Some (at (Some c) [])) (Some x) p.1) [
         | inl q ↦ absurd (none_is x q.1)
-        | inr q ↦ subst (TakesChar style (c ∷ [])) (some_is (at (Some c) []) x q.1) (plain_char style c [] p.0 q.0)
+        | inr q ↦ subst (TakesChar style (c ∷ [])) (same_Some (at (Some c) []) x q.1) (plain_char style c [] p.0 q.0)
       ]
     ]
   where
@@ -87,8 +83,8 @@ character_takes style (c ∷ d ∷ rest) x e =
     elim (chosen (eqb c 34 || eqb c 92) (kept_at style c d rest) (Some (at (Some c) (d ∷ rest))) (Some x) e) [
       | inl p ↦ kept_takes style c d rest x (elim (or_cases (eqb c 34) (eqb c 92) p.0) [ inl q ↦ inl (eqb-true c 34 q) | inr q ↦ inr (eqb-true c 92 q) ]) p.1
       | inr p ↦
-          let n = or_none (eqb c 34) (eqb c 92) p.0 in
-          subst (TakesChar style (c ∷ d ∷ rest)) (some_is (at (Some c) (d ∷ rest)) x p.1) (plain_char style c (d ∷ rest) n.0 n.1)
+          let n = neither_true (eqb c 34) (eqb c 92) p.0 in
+          subst (TakesChar style (c ∷ d ∷ rest)) (same_Some (at (Some c) (d ∷ rest)) x p.1) (plain_char style c (d ∷ rest) n.0 n.1)
     ]
 
 character_plain : (style : Style) (c : ℕ) (rest : List ℕ) → (c ≢ 34) → (c ≢ 92) → character_at style (c ∷ rest) ≡ Some (at (Some c) rest)
@@ -129,11 +125,11 @@ quoted_takes style (suc n) bytes x e =
   where
     by_char : (style : Style) (n : ℕ) (bytes : List ℕ) (c : Char) (x : Part) → TakesChar style bytes c → with_byte c (quoted_at style n) ≡ Some x
         → ((rest : List ℕ) (y : Part) → quoted_at style n rest ≡ Some y → (q : List ℕ) × IsQuoted style y.0 q × (rest ≡ q ++ 34 ∷ y.1)) → (q : List ℕ) × IsQuoted style x.0 q × (bytes ≡ q ++ 34 ∷ x.1)
-    by_char style n bytes (None, after) x t e h = subst (λ (y : Part). (q : List ℕ) × IsQuoted style y.0 q × (bytes ≡ q ++ 34 ∷ y.1)) (some_is (part [] after) x e) ([], refl, t)
+    by_char style n bytes (None, after) x t e h = subst (λ (y : Part). (q : List ℕ) × IsQuoted style y.0 q × (bytes ≡ q ++ 34 ∷ y.1)) (same_Some (part [] after) x e) ([], refl, t)
     by_char style n bytes (Some c, after) x t e h =
         let b = bind_some (quoted_at style n after) (λ y. Some (part (c ∷ y.0) y.1)) x e in
         let r = h after b.0 b.1 in
-        subst (λ (y : Part). (q : List ℕ) × IsQuoted style y.0 q × (bytes ≡ q ++ 34 ∷ y.1)) (some_is (part (c ∷ b.0.0) b.0.1) x b.2)
+        subst (λ (y : Part). (q : List ℕ) × IsQuoted style y.0 q × (bytes ≡ q ++ 34 ∷ y.1)) (same_Some (part (c ∷ b.0.0) b.0.1) x b.2)
         (t.0 ++ r.0, (t.0, r.0, t.1, r.1, refl), t.2 ∙ ap (λ (u : List ℕ). t.0 ++ u) r.2 ∙ sym (append_assoc t.0 r.0 (34 ∷ b.0.1)))
 
 character_size : (style : Style) (c : ℕ) (a : List ℕ) → IsCharacter style c a → 1 ≤ length a
@@ -180,17 +176,17 @@ abbrev TakesItem : Style → List ℕ → Item → Type 0
 TakesItem style bytes x = (a : List ℕ) × SpellsItem style x.0 a × (bytes ≡ a ++ x.1)
 
 text_is : (y x : Item) → if_text y ≡ Some x → (y ≡ x) × ((s : List ℕ) → x.0 ≡ Some s → IsUtf8 s)
-text_is (None, rest) x e = (some_is (item None rest) x e, λ s f. absurd (is_none x s (some_is (item None rest) x e) f))
+text_is (None, rest) x e = (same_Some (item None rest) x e, λ s f. absurd (is_none x s (same_Some (item None rest) x e) f))
   where
     is_none : (x : Item) (s : List ℕ) → item None rest ≡ x → x.0 ≡ Some s → ⊥
     is_none x s e f = let g : None ≡ Some s = ap (λ (y : Item). y.0) e ∙ f in absurd cc
 text_is (Some t, rest) x e =
-    let g = guard_some (is_utf8 t) (item (Some t) rest) x e in
-    (g.1, λ s f. subst IsUtf8 (some_is t s (ap (λ (y : Item). y.0) g.1 ∙ f)) (IsUtf8-from_is_utf8 t g.0))
+    let g = cond_some (is_utf8 t) (item (Some t) rest) x e in
+    (g.1, λ s f. subst IsUtf8 (same_Some t s (ap (λ (y : Item). y.0) g.1 ∙ f)) (IsUtf8-from_is_utf8 t g.0))
 
 quoted_item_is : (q : Option Part) (y : Item) → quoted_item q ≡ Some y → (p : Part) × (q ≡ Some p) × (item (Some p.0) p.1 ≡ y)
 quoted_item_is None y e = absurd cc
-quoted_item_is (Some (t, rest)) y e = (part t rest, refl, some_is (item (Some t) rest) y e)
+quoted_item_is (Some (t, rest)) y e = (part t rest, refl, same_Some (item (Some t) rest) y e)
 
 quoted_text_takes : (style : Style) (c : ℕ) (bytes : List ℕ) (x : Item) → c ≡ 34 → quoted_text_at style bytes ≡ Some x → TakesItem style (c ∷ bytes) x
 quoted_text_takes style c bytes x at34 e =
@@ -220,11 +216,11 @@ plain_text_takes style bytes x e =
     by_part : (style : Style) (bytes : List ℕ) (p : Part) → ArePlain style p.0 × (bytes ≡ p.0 ++ p.1) → (y x : Item) → plain_item style p ≡ Some y → (y ≡ x) × ((s : List ℕ) → x.0 ≡ Some s → IsUtf8 s) → TakesItem style bytes x
     by_part style bytes (t, rest) h y x e k =
         elim (chosen (bytes_eq t (null_text style)) (Some (item None rest)) (cond (eqb (length t) 0) None (Some (item (Some t) rest))) (Some y) e) [
-          | inl n ↦ subst (TakesItem style bytes) (some_is (item None rest) y n.1 ∙ k.0) (t, (bytes_eq-Decides t (null_text style)).0 n.0, h.1)
+          | inl n ↦ subst (TakesItem style bytes) (same_Some (item None rest) y n.1 ∙ k.0) (t, (bytes_eq-Decides t (null_text style)).0 n.0, h.1)
           | inr n ↦ elim (chosen (eqb (length t) 0) None (Some (item (Some t) rest)) (Some y) n.1) [
             | inl m ↦ absurd (none_is y m.1)
             | inr m ↦
-                let same : item (Some t) rest ≡ x = some_is (item (Some t) rest) y m.1 ∙ k.0 in
+                let same : item (Some t) rest ≡ x = same_Some (item (Some t) rest) y m.1 ∙ k.0 in
                 let utf8 : IsUtf8 t = k.1 t (ap (λ (z : Item). z.0) (sym same)) in
                 let full : t ≢ [] = λ z. not_eq (length t) 0 m.0 (ap length z) in
                 let other : t ≢ null_text style = λ z. false_true (bytes_eq t (null_text style)) n.0 (is_same t (null_text style) z) in
@@ -300,10 +296,6 @@ List' = List (Option (List ℕ))
 none_list : (ys : List') → None ≡ Some ys → ⊥
 none_list ys e = cc
 
-both_true : (a b : Bool) → (a && b) ≡ true → (a ≡ true) × (b ≡ true)
-both_true true b e = (refl, e)
-both_true false b e = absurd cc
-
 nil_from : (s : List ℕ) → length s ≡ 0 → s ≡ []
 nil_from [] e = refl
 nil_from (c ∷ cs) e = absurd (omega (arith, e))
@@ -329,9 +321,9 @@ after_takes style [] b e = absurd (none_end b e)
     none_end b e = cc
 after_takes style (c ∷ rest) b e =
     elim (chosen (eqb c 44) (Some (more_of rest)) (cond (eqb c (closing style) && eqb (length rest) 0) (Some no_more) None) (Some b) e) [
-      | inl p ↦ subst (TakesAfter style (c ∷ rest)) (some_is (more_of rest) b p.1) (ap (λ (n : ℕ). n ∷ rest) (eqb-true c 44 p.0))
+      | inl p ↦ subst (TakesAfter style (c ∷ rest)) (same_Some (more_of rest) b p.1) (ap (λ (n : ℕ). n ∷ rest) (eqb-true c 44 p.0))
       | inr p ↦
-          let g = guard_some (eqb c (closing style) && eqb (length rest) 0) no_more b p.1 in
+          let g = cond_some (eqb c (closing style) && eqb (length rest) 0) no_more b p.1 in
           let t = both_true (eqb c (closing style)) (eqb (length rest) 0) g.0 in
           subst (TakesAfter style (c ∷ rest)) g.1 (rw (eqb-true c (closing style) t.0, nil_from rest (eqb-true _ _ t.1)) refl)
     ]
@@ -348,10 +340,10 @@ takes_by_after : (style : Style) (n : ℕ) (bytes : List ℕ) (x : Item) (xs : L
     → ((rest : List ℕ) (ys : List') → items_in style n rest ≡ Some ys → TakesItems style rest ys) → TakesItems style bytes xs
 takes_by_after style n bytes x xs t None f e h = absurd (none_list xs e)
 takes_by_after style n bytes x xs t (Some None) f e h =
-    subst (TakesItems style bytes) (some_is (x.0 ∷ []) xs e) (t.0, t.1, t.2 ∙ ap (λ (u : List ℕ). t.0 ++ u) (after_takes style x.1 None f))
+    subst (TakesItems style bytes) (same_Some (x.0 ∷ []) xs e) (t.0, t.1, t.2 ∙ ap (λ (u : List ℕ). t.0 ++ u) (after_takes style x.1 None f))
 takes_by_after style n bytes x xs t (Some (Some more)) f e h =
     let b = bind_some (items_in style n more) (λ items. Some (x.0 ∷ items)) xs e in
-    subst (TakesItems style bytes) (some_is (x.0 ∷ b.0) xs b.2) (joins_items style bytes more x b.0 t (after_takes style x.1 (Some more) f) (h more b.0 b.1))
+    subst (TakesItems style bytes) (same_Some (x.0 ∷ b.0) xs b.2) (joins_items style bytes more x b.0 t (after_takes style x.1 (Some more) f) (h more b.0 b.1))
 
 pub items_take : (style : Style) (n : ℕ) (bytes : List ℕ) (xs : List') → items_in style n bytes ≡ Some xs → TakesItems style bytes xs
 unfolding items_in
@@ -422,7 +414,7 @@ pub items_unique : (style : Style) (bytes : List ℕ) (xs ys : List') → Spells
 items_unique style bytes xs ys r t =
     let one = ap (items_in style (length bytes + 1)) r.2 ∙ items_again style xs r.0 (length bytes + 1) r.1 (omega (arith, ap length r.2)) in
     let two = ap (items_in style (length bytes + 1)) t.2 ∙ items_again style ys t.0 (length bytes + 1) t.1 (omega (arith, ap length t.2)) in
-    some_is xs ys (sym one ∙ two)
+    same_Some xs ys (sym one ∙ two)
 
 brace_alone : items_in styles.Array 2 (125 ∷ []) ≡ None
 unfolding items_in item_at plain_at

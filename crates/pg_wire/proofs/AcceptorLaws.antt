@@ -6,12 +6,13 @@ use Rattle.std.specs.List.{AllByRecursion}
 use Rattle.std.proofs.lemmas.List.Concat.{flat_map-append}
 use Rattle.std.proofs.lemmas.List.{map-append}
 use Rattle.std.proofs.lemmas.Bool.{eqb-true, eq-eqb}
-use Rattle.std.proofs.lemmas.Option.{cond_some}
+use Rattle.std.proofs.lemmas.Option.{cond_some, same_Some}
 use Rattle.pg_wire.specs.Bytes.{HasNoNul}
 use Rattle.pg_wire.specs.Backend.{FieldDescription, Values, BackendMessage, HasBackendFrame, RowDescription, DataRow, CommandComplete, ErrorResponse, EmptyQueryResponse, ReadyForQuery}
 use Rattle.pg_wire.specs.Server.{AreWide, IsSegment, IsTable, EndsInError, IsQueryResponse}
 use Rattle.pg_wire.specs.Acceptor.{Awaits, FirstSegment, FurtherSegment, RowsOf, AfterError, NothingMore, begins, next, accepts}
 use Rattle.pg_wire.specs.declared.status.TransactionStatus.TheVariants as statuses
+use Rattle.pg_wire.proofs.Each.{each_end}
 
 flat : List (List BackendMessage) → List BackendMessage
 flat rss = flat_map (λ rs. rs) rss
@@ -29,15 +30,11 @@ Shape (RowsOf width) front = (before : List (List BackendMessage)) × (fields : 
 Shape AfterError front = (before : List (List BackendMessage)) × (last : List BackendMessage) × AllByRecursion IsSegment before × EndsInError IsSegment last × (front ≡ flat_map (λ rs. rs) before ++ last)
 Shape NothingMore front = IsQueryResponse front
 
-all_and : {A : Type 0} (P : A → Type 0) (xs : List A) (x : A) → AllByRecursion P xs → P x → AllByRecursion P (xs ++ x ∷ [])
-all_and P [] x h k = (k, tt)
-all_and P (y ∷ ys) x h k = (h.0, all_and P ys x h.1 k)
-
 flat_and : (rss : List (List BackendMessage)) (rs : List BackendMessage) → flat_map (λ rs. rs) (rss ++ rs ∷ []) ≡ flat_map (λ rs. rs) rss ++ rs
 flat_and rss rs = flat_map-append (λ rs. rs) rss (rs ∷ []) ∙ ap (λ (t : List BackendMessage). flat_map (λ rs. rs) rss ++ t) (append-nil rs)
 
 further_prior : (front : List BackendMessage) → Shape FurtherSegment front → Prior front
-further_prior front s = (s.0 ++ s.1 ∷ [], all_and IsSegment s.0 s.1 s.2 s.3, s.4 ∙ sym (flat_and s.0 s.1))
+further_prior front s = (s.0 ++ s.1 ∷ [], each_end IsSegment s.0 s.1 s.2 s.3, s.4 ∙ sym (flat_and s.0 s.1))
 
 broken_now : (a b : List BackendMessage) (details : List ErrorField) → IsSegment (a ++ b) → (b ≢ []) → EndsInError IsSegment (a ++ ErrorResponse details ∷ [])
 broken_now a b details s n = (a, b, details, s, n, refl)
@@ -63,7 +60,7 @@ begin_step front (ErrorResponse details) t p e = subst (λ (u : Awaits). Shape u
 begin_step front _ t p e = absurd cc
 
 wide_and : (width : ℕ) (rows : List Values) (row : Values) → AreWide width rows → length row ≡ width → AreWide width (rows ++ row ∷ [])
-wide_and width rows row h k = all_and (λ (r : Values). length r ≡ width) rows row h k
+wide_and width rows row h k = each_end (λ (r : Values). length r ≡ width) rows row h k
 
 -- rows, and then one more
 rows_and : (rows : List Values) (row : Values) → map DataRow rows ++ DataRow row ∷ [] ≡ map DataRow (rows ++ row ∷ [])
@@ -112,18 +109,15 @@ end_broken front status s = record { before = s.0; last = s.1; status = status; 
 
 -- ---- what is accepted can be completed
 
-pub same_some : {A : Type 0} (x y : A) → Some x ≡ Some y → x ≡ y
-same_some x y e = cc
-
 accept_step : (s : Awaits) (front : List BackendMessage) (a : BackendMessage) (t : Awaits) → Shape s front → next s a ≡ Some t → Shape t (front ++ a ∷ [])
 accept_step FirstSegment front a t s e = begin_step front a t ([], tt, s) e
-accept_step FurtherSegment front (ReadyForQuery status) t s e = subst (λ (u : Awaits). Shape u (front ++ ReadyForQuery status ∷ [])) (same_some NothingMore t e) (end_well front status s)
+accept_step FurtherSegment front (ReadyForQuery status) t s e = subst (λ (u : Awaits). Shape u (front ++ ReadyForQuery status ∷ [])) (same_Some NothingMore t e) (end_well front status s)
 accept_step FurtherSegment front a t s e = begin_step front a t (further_prior front s) e
 accept_step (RowsOf width) front (DataRow values) t s e = rows_step width front values t s e
-accept_step (RowsOf width) front (CommandComplete tag) t s e = subst (λ (u : Awaits). Shape u (front ++ CommandComplete tag ∷ [])) (same_some FurtherSegment t e) (complete_step width front tag s)
-accept_step (RowsOf width) front (ErrorResponse details) t s e = subst (λ (u : Awaits). Shape u (front ++ ErrorResponse details ∷ [])) (same_some AfterError t e) (fail_step width front details s)
+accept_step (RowsOf width) front (CommandComplete tag) t s e = subst (λ (u : Awaits). Shape u (front ++ CommandComplete tag ∷ [])) (same_Some FurtherSegment t e) (complete_step width front tag s)
+accept_step (RowsOf width) front (ErrorResponse details) t s e = subst (λ (u : Awaits). Shape u (front ++ ErrorResponse details ∷ [])) (same_Some AfterError t e) (fail_step width front details s)
 accept_step (RowsOf width) front _ t s e = absurd cc
-accept_step AfterError front (ReadyForQuery status) t s e = subst (λ (u : Awaits). Shape u (front ++ ReadyForQuery status ∷ [])) (same_some NothingMore t e) (end_broken front status s)
+accept_step AfterError front (ReadyForQuery status) t s e = subst (λ (u : Awaits). Shape u (front ++ ReadyForQuery status ∷ [])) (same_Some NothingMore t e) (end_broken front status s)
 accept_step AfterError front _ t s e = absurd cc
 accept_step NothingMore front a t s e = absurd cc
 
@@ -132,7 +126,7 @@ and_then_some None rs t e = absurd cc
 and_then_some (Some u) rs t e = (u, refl, e)
 
 accepts_shape : (s : Awaits) (front rest : List BackendMessage) (t : Awaits) → Shape s front → accepts s rest ≡ Some t → Shape t (front ++ rest)
-accepts_shape s front [] t h e = subst (λ (u : Awaits). Shape u (front ++ [])) (same_some s t e) (subst (Shape s) (sym (append-nil front)) h)
+accepts_shape s front [] t h e = subst (λ (u : Awaits). Shape u (front ++ [])) (same_Some s t e) (subst (Shape s) (sym (append-nil front)) h)
 accepts_shape s front (a ∷ rs) t h e =
     let c = and_then_some (next s a) rs t e in
     subst (Shape t) (append_assoc front (a ∷ []) rs) (accepts_shape c.0 (front ++ a ∷ []) rs t (accept_step s front a c.0 h c.1) c.2)

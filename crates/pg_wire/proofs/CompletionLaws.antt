@@ -9,7 +9,7 @@ use Rattle.std.proofs.lemmas.List.Sums.{suffix_len_is}
 use Rattle.std.proofs.lemmas.Str.Parse.{digits_value-take-le}
 use Rattle.pg_wire.specs.Completion.{is_count, rows_affected}
 use Rattle.pg_wire.specs.Reading.{count_after, count_in}
-use Rattle.pg_wire.proofs.ListLaws.{both_true}
+use Rattle.pg_wire.proofs.Tests.{both_true}
 
 and_true : (b : Bool) → (b && true) ≡ b
 and_true true = refl
@@ -37,7 +37,7 @@ all_front p (x ∷ xs) (suc i) h =
     let both = both_true (p x) (list_all p xs) h in
     ap (λ (b : Bool). b && list_all p (take i xs)) both.0 ∙ all_front p xs i both.1
 
-digit_is : (b : ℕ) → is_ascii_digit b ≡ true → digit_value b ≡ b - 48
+pub digit_is : (b : ℕ) → is_ascii_digit b ≡ true → digit_value b ≡ b - 48
 digit_is b h =
     let both = both_true (leb 48 b) (leb b 57) h in
     let low : 48 ≤ b = leb-true _ _ both.0 in

@@ -9,7 +9,8 @@ use Rattle.pg_wire.specs.Server.{Server, EndsInError, AreSegments}
 use Rattle.pg_wire.specs.Copying.{CopyServer, IsCopyOut, IsCopySegment, PausesForCopy, AnswersQuery}
 use Rattle.pg_wire.specs.Acceptor.{Awaits, FirstSegment, FurtherSegment, RowsOf, AfterError, NothingMore, next, accepts}
 use Rattle.pg_wire.specs.Refusals.{MayBeginCopy}
-use Rattle.pg_wire.proofs.AcceptorLaws.{IsStart, segment_accepted, broken_of, error_accepted, one_front, and_then_some, same_some}
+use Rattle.pg_wire.proofs.AcceptorLaws.{IsStart, segment_accepted, broken_of, error_accepted, one_front, and_then_some}
+use Rattle.std.proofs.lemmas.Option.{same_Some}
 
 -- what may come next: what the plain acceptor awaits; data of a copy to the client, or its CopyDone; the completion of that copy; nothing, while
 -- the client copies
@@ -61,7 +62,7 @@ takes_then x y xs ys e = takes-append x xs ys ∙ ap (option_and_then (λ (z : E
 
 -- what the plain acceptor accepts is taken
 plain_taken : (s t : Awaits) (rs : List BackendMessage) → accepts s rs ≡ Some t → takes (Plain s) rs ≡ Some (Plain t)
-plain_taken s t [] e = ap (λ (u : Awaits). Some (Plain u)) (same_some s t e)
+plain_taken s t [] e = ap (λ (u : Awaits). Some (Plain u)) (same_Some s t e)
 plain_taken s t (a ∷ rs) e =
     let c = and_then_some (next s a) rs t e in
     ap (λ (o : Option Awaits). option_and_then (λ (y : Expects). takes y rs) (or_copy s a o)) c.1 ∙ plain_taken c.0 t rs c.2

@@ -12,6 +12,7 @@ use Rattle.pg_wire.specs.Server.{Server, ServerStep, Steps, Ignores, StepsSync, 
 use Rattle.pg_wire.specs.Copying.{CopyServer, CopyMode, NotCopying, QueryCopies, ExecuteCopies, IsCopyOut, IsCopySegment, IsPortalCopy, PausesForCopy, AnswersQuery, FailsQuery, FailsExecute, StepsCopyExecute, StepsOutsideCopy, StepsInQueryCopy, StepsInExecuteCopy, StepsInMode, CopyStep, CopyRun, AreCopyReplies, Leaves, fresh_copy_server}
 use Rattle.pg_wire.proofs.SkipLaws.{silent_when_over}
 use Rattle.pg_wire.proofs.RunLaws.{segment_unready, portal_unready, query_ready, sync_ready, inner_step, broken_unready}
+use Rattle.pg_wire.proofs.Tests.{of_two}
 
 -- ---- counts
 
@@ -218,12 +219,8 @@ mode_count server NotCopying message rs new h = outside_count server message rs 
 mode_count server QueryCopies message rs new h = in_query_count server message rs new h
 mode_count server ExecuteCopies message rs new h = at_most _ _ 0 (in_execute_count server message rs new h) (omega arith)
 
-either : (b : Bool) (A B D : Type 0) → (A → D) → (B → D) → cond b A B → D
-either true A B D a c h = a h
-either false A B D a c h = c h
-
 step_count : (old new : CopyServer) (message : FrontendMessage) (rs : List BackendMessage) → CopyStep old message rs new → counted rs new ≤ asks message + open_in old.mode
-step_count old new message rs step = either (old.server.over || old.server.skip) _ _ _ (plain_count old.server old.mode message rs new) (mode_count old.server old.mode message rs new) step
+step_count old new message rs step = of_two (old.server.over || old.server.skip) _ _ _ (plain_count old.server old.mode message rs new) (mode_count old.server old.mode message rs new) step
 
 -- ---- runs, and frames
 

@@ -7,9 +7,10 @@ use Rattle.std.proofs.lemmas.List.Concat.{flat_map-append}
 use Rattle.pg_wire.specs.Bytes.{number32}
 use Rattle.pg_wire.specs.Frame.{Frame, bytes_of, text_of, IsWhole}
 use Rattle.pg_wire.specs.Cut.{Cuts}
+use Rattle.pg_wire.proofs.Each.{each_join}
 
 -- equal lists that begin with lists of one length begin with the same one
-same_front : {A : Type 0} (xs ys a b : List A) → length xs ≡ length ys → xs ++ a ≡ ys ++ b → (xs ≡ ys) × (a ≡ b)
+pub same_front : {A : Type 0} (xs ys a b : List A) → length xs ≡ length ys → xs ++ a ≡ ys ++ b → (xs ≡ ys) × (a ≡ b)
 same_front xs ys a b len e = (
   sym (take_at xs a (length xs) refl) ∙ ap (take (length xs)) e ∙ take_at ys b (length xs) (sym len),
   sym (drop_at xs a (length xs) refl) ∙ ap (drop (length xs)) e ∙ drop_at ys b (length xs) (sym len),
@@ -46,15 +47,11 @@ cut_unique tags bytes (f ∷ fs) (g ∷ gs) r s c d =
     let further = cut_unique tags (text_of fs ++ r) fs gs r s (record { text = refl; whole = c.whole.1; over = c.over }) (record { text = heads.1; whole = d.whole.1; over = d.over }) in
     (cc (heads.0, further.0), further.1)
 
-both_all : {A : Type 0} (P : A → Type 0) (xs ys : List A) → AllByRecursion P xs → AllByRecursion P ys → AllByRecursion P (xs ++ ys)
-both_all P [] ys h k = k
-both_all P (x ∷ xs) ys h k = (h.0, both_all P xs ys h.1 k)
-
 -- the frames of bytes that go on are those so far, and those of the rest as it goes on
 pub cut_append : (tags bytes more : List ℕ) (fs gs : List Frame) (r s : List ℕ) → Cuts tags bytes fs r → Cuts tags (r ++ more) gs s → Cuts tags (bytes ++ more) (fs ++ gs) s
 cut_append tags bytes more fs gs r s c d = record {
   text = ap (λ (t : List ℕ). t ++ more) c.text ∙ append_assoc (text_of fs) r more ∙ ap (λ (t : List ℕ). text_of fs ++ t) d.text ∙ sym (append_assoc (text_of fs) (text_of gs) s) ∙ ap (λ (t : List ℕ). t ++ s) (sym (flat_map-append bytes_of fs gs));
-  whole = both_all (IsWhole tags) fs gs c.whole d.whole;
+  whole = each_join (IsWhole tags) fs gs c.whole d.whole;
   over = d.over;
 }
 

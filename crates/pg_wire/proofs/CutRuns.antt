@@ -1,5 +1,5 @@
 -- The cut as a program gives the cut.
-use Rattle.std.proofs.Common.{◌≡◌, ℕ, zero, suc, ◌+◌, ◌-◌, ◌<◌, ◌^◌, ◌≤◌, Bool, true, false, ◌&&◌, nat_le, List, [], ◌∷◌, ◌++◌, length, get_or, take, drop, Option, Some, None, refl, sym, ap, ◌∙◌, subst, append_assoc, arith, take_at, drop_at, length-append, length-take, take-append-drop}
+use Rattle.std.proofs.Common.{◌≡◌, ℕ, zero, suc, ◌+◌, ◌-◌, ◌<◌, ◌^◌, ◌≤◌, true, ◌&&◌, nat_le, List, [], ◌∷◌, ◌++◌, length, take, drop, Option, Some, None, refl, sym, ap, ◌∙◌, subst, append_assoc, arith, take_at, drop_at, length-append, length-take, take-append-drop}
 use Rattle.std.specs.Int.{w32, from_be_bytes}
 use Rattle.std.proofs.lemmas.Nat.{from_be_bytes-to_be_bytes_4, be_bytes_4}
 use Rattle.std.proofs.lemmas.Option.{cond_some}
@@ -7,10 +7,8 @@ use Rattle.std.proofs.lemmas.Bool.{leb-true, le-leb}
 use Rattle.pg_wire.specs.Bytes.{number32, AreBytes}
 use Rattle.pg_wire.specs.Frame.{Frame, bytes_of, text_of, is_known, IsWhole}
 use Rattle.pg_wire.specs.Cut.{BeginsNoFrame, Cuts, header_length, has_room, first_frame, cut_within, cut}
-
-both_true : (a b : Bool) → (a && b) ≡ true → (a ≡ true) × (b ≡ true)
-both_true true b e = (refl, e)
-both_true false b e = absurd cc
+use Rattle.pg_wire.proofs.Tests.{both_true}
+use Rattle.pg_wire.proofs.HeaderLaws.{four_bytes}
 
 -- a whole frame is found
 first_frame_is : (tags : List ℕ) (m : Frame) (after : List ℕ) → IsWhole tags m → first_frame tags (bytes_of m ++ after) ≡ Some (m, after)
@@ -21,13 +19,6 @@ first_frame_is tags m after h =
     let known : is_known tags m.tag ≡ true = h.known in
     let less : length m.body + 4 - 4 ≡ length m.body = omega arith in
     rw (known, size, four, room, less, take_at m.body after (length m.body) refl, drop_at m.body after (length m.body) refl) refl
-
-four_bytes : (a b c d : ℕ) → a < 256 → b < 256 → c < 256 → d < 256 → (i : ℕ) → get_or (a ∷ b ∷ c ∷ d ∷ []) i 0 < 256
-four_bytes a b c d ha hb hc hd zero = ha
-four_bytes a b c d ha hb hc hd (suc zero) = hb
-four_bytes a b c d ha hb hc hd (suc (suc zero)) = hc
-four_bytes a b c d ha hb hc hd (suc (suc (suc zero))) = hd
-four_bytes a b c d ha hb hc hd (suc (suc (suc (suc i)))) = omega arith
 
 -- what is found is a whole frame
 first_frame_takes : (tags bytes : List ℕ) (m : Frame) (after : List ℕ) → AreBytes bytes → first_frame tags bytes ≡ Some (m, after) → IsWhole tags m × (bytes ≡ bytes_of m ++ after)

@@ -6,9 +6,10 @@ use Rattle.pg_wire.specs.declared.fields.ErrorField.{ErrorField}
 use Rattle.pg_wire.specs.Backend.{FitsDetail, detail_bytes, details_bytes, BackendMessage, backend_frame, HasBackendFrame, ErrorResponse, NoticeResponse}
 use Rattle.pg_wire.specs.Decoding.{Says}
 use Rattle.pg_wire.specs.Reading.{byte_at, ended_at, detail_at, listed_at, whole}
-use Rattle.pg_wire.proofs.ReaderLaws.{some_is, bind_some, rest_bytes, IsExact, byte_exact, ended_exact}
+use Rattle.pg_wire.proofs.ReaderLaws.{bind_some, rest_bytes, IsExact, byte_exact, ended_exact}
 use Rattle.pg_wire.proofs.MessageLaws.{IsKind, says, says_none}
 use Rattle.pg_wire.proofs.UntilLaws.{IsItem, listed_exact}
+use Rattle.std.proofs.lemmas.Option.{same_Some}
 
 abbrev Detail : Type 0
 Detail = ErrorField
@@ -24,7 +25,7 @@ detail_takes bytes x h e =
     let t = byte_exact.takes bytes a.0 h a.1 in
     let u = ended_exact.takes a.0.1 b.0 (rest_bytes bytes (a.0.0 ∷ []) a.0.1 h t.1) b.1 in
     let made : Detail × List ℕ = (record { code = a.0.0; text = b.0.0 }, b.0.1) in
-    subst (λ (y : Detail × List ℕ). IsDetail y.0 × (bytes ≡ detail_bytes y.0 ++ y.1)) (some_is made x b.2) (u.0, t.1 ∙ ap (λ (v : List ℕ). a.0.0 ∷ v) u.1)
+    subst (λ (y : Detail × List ℕ). IsDetail y.0 × (bytes ≡ detail_bytes y.0 ++ y.1)) (same_Some made x b.2) (u.0, t.1 ∙ ap (λ (v : List ℕ). a.0.0 ∷ v) u.1)
 
 detail_again : (d : Detail) (rest : List ℕ) → IsDetail d → detail_at (detail_bytes d ++ rest) ≡ Some (d, rest)
 unfolding detail_at byte_at

@@ -5,8 +5,9 @@ use Rattle.pg_wire.specs.Bytes.{number32, signed16, signed32, ended, AreBytes}
 use Rattle.pg_wire.specs.Backend.{FieldDescription, FitsField, field_bytes, fields_bytes, BackendMessage, backend_frame, HasBackendFrame, RowDescription}
 use Rattle.pg_wire.specs.Decoding.{Says}
 use Rattle.pg_wire.specs.Reading.{number32_at, signed16_at, signed32_at, text_at, field_at, counted_at, whole}
-use Rattle.pg_wire.proofs.ReaderLaws.{some_is, bind_some, rest_bytes, IsExact, number32_exact, signed16_exact, signed32_exact, text_exact, counted_exact}
+use Rattle.pg_wire.proofs.ReaderLaws.{bind_some, rest_bytes, IsExact, number32_exact, signed16_exact, signed32_exact, text_exact, counted_exact}
 use Rattle.pg_wire.proofs.MessageLaws.{IsKind, says, says_none}
+use Rattle.std.proofs.lemmas.Option.{same_Some}
 
 join : (bytes front rest part more : List ℕ) → bytes ≡ front ++ rest → rest ≡ part ++ more → bytes ≡ (front ++ part) ++ more
 join bytes front rest part more e k = e ∙ ap (λ (u : List ℕ). front ++ u) k ∙ sym (append_assoc front part more)
@@ -41,7 +42,7 @@ field_takes bytes x h e =
     let e6 = join bytes _ s.0.1 (signed32 m.0.0) m.0.1 e5 t6.1 in
     let e7 = join bytes _ m.0.1 (signed16 f.0.0) f.0.1 e6 t7.1 in
     let made : FieldDescription × List ℕ = (record { name = a.0.0; table = b.0.0; attribute = c.0.0; type_id = d.0.0; size = s.0.0; modifier = m.0.0; format = f.0.0 }, f.0.1) in
-    subst (λ (y : FieldDescription × List ℕ). FitsField y.0 × (bytes ≡ field_bytes y.0 ++ y.1)) (some_is made x f.2)
+    subst (λ (y : FieldDescription × List ℕ). FitsField y.0 × (bytes ≡ field_bytes y.0 ++ y.1)) (same_Some made x f.2)
     ((ta.0.0, ta.0.1, tb.0, td.0, tc.0, t5.0, t6.0, t7.0), e7)
 
 field_again : (f : FieldDescription) (rest : List ℕ) → FitsField f → field_at (field_bytes f ++ rest) ≡ Some (f, rest)

@@ -12,12 +12,12 @@ use Rattle.pg_wire.specs.Header.{IsCut, IsFront}
 abbrev pub framed : ℕ → List ℕ → Frame
 framed tag body = record { tag = tag; body = body }
 
-four : (a b c d : ℕ) → a < 256 → b < 256 → c < 256 → d < 256 → (i : ℕ) → get_or (a ∷ b ∷ c ∷ d ∷ []) i 0 < 256
-four a b c d ha hb hc hd zero = ha
-four a b c d ha hb hc hd (suc zero) = hb
-four a b c d ha hb hc hd (suc (suc zero)) = hc
-four a b c d ha hb hc hd (suc (suc (suc zero))) = hd
-four a b c d ha hb hc hd (suc (suc (suc (suc i)))) = omega arith
+pub four_bytes : (a b c d : ℕ) → a < 256 → b < 256 → c < 256 → d < 256 → (i : ℕ) → get_or (a ∷ b ∷ c ∷ d ∷ []) i 0 < 256
+four_bytes a b c d ha hb hc hd zero = ha
+four_bytes a b c d ha hb hc hd (suc zero) = hb
+four_bytes a b c d ha hb hc hd (suc (suc zero)) = hc
+four_bytes a b c d ha hb hc hd (suc (suc (suc zero))) = hd
+four_bytes a b c d ha hb hc hd (suc (suc (suc (suc i)))) = omega arith
 
 -- the body is what follows the header, up to the length
 pub whole_front : (bytes : List ℕ) (tag total : ℕ) → ((i : ℕ) → get_or bytes i 0 < 256) → IsCut bytes (Whole tag total)
@@ -31,7 +31,7 @@ whole_front (t ∷ a ∷ b ∷ c ∷ d ∷ bytes) tag total fits h =
     let n = from_be_bytes w32 (a ∷ b ∷ c ∷ d ∷ []) in
     let size : length (take (total - 5) bytes) + 4 ≡ n = omega (arith, h.3, h.4, h.5, length-take (total - 5) bytes) in
     let below : n < 2 ^ 32 = omega (arith, fits 1, fits 2, fits 3, fits 4) in
-    let header : number32 n ≡ a ∷ b ∷ c ∷ d ∷ [] = be_bytes_4 (a ∷ b ∷ c ∷ d ∷ []) n refl (four a b c d (fits 1) (fits 2) (fits 3) (fits 4)) refl in
+    let header : number32 n ≡ a ∷ b ∷ c ∷ d ∷ [] = be_bytes_4 (a ∷ b ∷ c ∷ d ∷ []) n refl (four_bytes a b c d (fits 1) (fits 2) (fits 3) (fits 4)) refl in
     let is : t ≡ tag = h.1 in (
       record { known = h.2; fits = omega arith },
       ap (λ (u : ℕ). u ∷ a ∷ b ∷ c ∷ d ∷ bytes) is

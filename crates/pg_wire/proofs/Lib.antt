@@ -36,3 +36,4 @@ pub mod UntilLaws
 pub mod DetailLaws
 pub mod RequestLaws
 pub mod BoundLaws
+pub mod Tests

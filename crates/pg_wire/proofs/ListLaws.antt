@@ -1,5 +1,5 @@
 -- What is read of a body with a list decides which message it says, or that it says none.
-use Rattle.std.proofs.Common.{◌≡◌, ℕ, ℤ, ◌-◌, ◌<◌, ◌≤◌, ◌^◌, Bool, true, false, cond, ◌&&◌, eqb, ltb, leb, List, [], ◌∷◌, ◌++◌, length, take, drop, Option, Some, None, inl, inr, refl, sym, ap, subst, ◌∙◌, append_assoc, arith, flat_map, eqb-true, ne_eqb}
+use Rattle.std.proofs.Common.{◌≡◌, ℕ, ℤ, ◌-◌, ◌<◌, ◌≤◌, ◌^◌, true, false, cond, ◌&&◌, eqb, ltb, leb, List, [], ◌∷◌, ◌++◌, length, take, drop, Option, Some, None, inl, inr, refl, sym, ap, subst, ◌∙◌, append_assoc, arith, flat_map, eqb-true, ne_eqb}
 use Rattle.std.specs.Prelude.{FitsSigned}
 use Rattle.std.specs.Int.{w8, w16, cast_unsigned, cast_signed}
 use Rattle.std.specs.List.{AllByRecursion}
@@ -11,8 +11,10 @@ use Rattle.pg_wire.specs.Frontend.{type_list, FitsValue}
 use Rattle.pg_wire.specs.Backend.{BackendMessage, backend_frame, HasBackendFrame, Values, row_bytes, ParameterDescription, DataRow, CopyInResponse, CopyOutResponse}
 use Rattle.pg_wire.specs.Decoding.{Says}
 use Rattle.pg_wire.specs.Reading.{Reader, byte_at, number32_at, signed16_at, value_at, counted_at, then_at, whole}
-use Rattle.pg_wire.proofs.ReaderLaws.{some_is, bind_some, guard_some, IsExact, byte_exact, number32_exact, signed16_exact, counted_exact, then_exact}
-use Rattle.pg_wire.proofs.MessageLaws.{IsKind, says, says_none, chosen}
+use Rattle.pg_wire.proofs.ReaderLaws.{bind_some, IsExact, byte_exact, number32_exact, signed16_exact, counted_exact, then_exact}
+use Rattle.pg_wire.proofs.MessageLaws.{IsKind, says, says_none}
+use Rattle.pg_wire.proofs.Tests.{both_true, chosen}
+use Rattle.std.proofs.lemmas.Option.{cond_some, same_Some}
 
 -- ---- ParameterDescription
 
@@ -37,10 +39,6 @@ types_none body e = says_none AreTypes type_list (counted_at number32_at) 116 Pa
 
 -- ---- DataRow
 
-pub both_true : (a b : Bool) → (a && b) ≡ true → (a ≡ true) × (b ≡ true)
-both_true true b e = (refl, e)
-both_true false b e = absurd cc
-
 abbrev value_of : Option (List ℕ) → List ℕ → Option (List ℕ) × List ℕ
 value_of v rest = (v, rest)
 
@@ -59,9 +57,9 @@ value_takes bytes x h e =
     elim (chosen (eqb a.0.0 (2 ^ 32 - 1)) (Some (value_of None a.0.1)) _ (Some x) a.2) [
       | inl p ↦
           let full : a.0.0 ≡ 2 ^ 32 - 1 = eqb-true _ _ p.0 in
-          subst (λ (y : Option (List ℕ) × List ℕ). FitsValue y.0 × (bytes ≡ value y.0 ++ y.1)) (some_is (value_of None a.0.1) x p.1) (tt, t.1 ∙ ap (λ (n : ℕ). number32 n ++ a.0.1) full)
+          subst (λ (y : Option (List ℕ) × List ℕ). FitsValue y.0 × (bytes ≡ value y.0 ++ y.1)) (same_Some (value_of None a.0.1) x p.1) (tt, t.1 ∙ ap (λ (n : ℕ). number32 n ++ a.0.1) full)
       | inr p ↦
-          let g = guard_some (ltb a.0.0 (2 ^ 31) && leb a.0.0 (length a.0.1)) (value_of (Some (take a.0.0 a.0.1)) (drop a.0.0 a.0.1)) x p.1 in
+          let g = cond_some (ltb a.0.0 (2 ^ 31) && leb a.0.0 (length a.0.1)) (value_of (Some (take a.0.0 a.0.1)) (drop a.0.0 a.0.1)) x p.1 in
           let tests = both_true _ _ g.0 in
           let below : a.0.0 < 2 ^ 31 = ltb-true _ _ tests.0 in
           let room : a.0.0 ≤ length a.0.1 = leb-true _ _ tests.1 in

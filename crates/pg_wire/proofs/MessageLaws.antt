@@ -1,5 +1,5 @@
 -- What is read of a body decides which message it says, or that it says none.
-use Rattle.std.proofs.Common.{◌≡◌, ◌≢◌, ℕ, ◌<◌, ◌^◌, List, [], ◌∷◌, ◌++◌, length, Some, None, Bool, true, false, cond, eqb, ◌⊎◌, inl, inr, refl, sym, ap, ◌∙◌, arith, eqb-true}
+use Rattle.std.proofs.Common.{◌≡◌, ◌≢◌, ℕ, ◌<◌, ◌^◌, List, [], ◌∷◌, ◌++◌, length, Some, None, eqb, inl, inr, refl, sym, ap, ◌∙◌, arith, eqb-true}
 use Rattle.pg_wire.specs.Bytes.{number32, ended, HasNoNul, AreBytes}
 use Rattle.pg_wire.specs.Frame.{Frame}
 use Rattle.pg_wire.specs.Backend.{BackendMessage, backend_frame, HasBackendFrame, IsText, status_byte, BackendKeyData, ParameterStatus, ReadyForQuery, CommandComplete, NotificationResponse, BackendCopyDone, EmptyQueryResponse, ParseComplete, BindComplete, CloseComplete, NoData, PortalSuspended}
@@ -7,7 +7,9 @@ use Rattle.pg_wire.specs.declared.status.TransactionStatus.{TransactionStatus}
 use Rattle.pg_wire.specs.declared.status.TransactionStatus.TheVariants as statuses
 use Rattle.pg_wire.specs.Decoding.{Says}
 use Rattle.pg_wire.specs.Reading.{Reader, number32_at, ended_at, text_at, then_at, whole, status_in}
-use Rattle.pg_wire.proofs.ReaderLaws.{some_is, guard_some, IsExact, number32_exact, ended_exact, text_exact, then_exact, whole_takes, whole_none}
+use Rattle.pg_wire.proofs.ReaderLaws.{IsExact, number32_exact, ended_exact, text_exact, then_exact, whole_takes, whole_none}
+use Rattle.pg_wire.proofs.Tests.{chosen}
+use Rattle.std.proofs.lemmas.Option.{cond_some, same_Some}
 
 -- the messages of a tag are those of a kind of values
 pub record IsKind {A : Type 0} (P : A → Type 0) (f : A → List ℕ) (tag : ℕ) (message : A → BackendMessage) : Type 0 where
@@ -141,18 +143,14 @@ much_in : {s : Status} (a b : ℕ) (body : List ℕ) → status_in (a ∷ b ∷ 
 unfolding status_in
 much_in a b body e = absurd cc
 
-pub chosen : {A : Type 0} (b : Bool) (x y z : A) → cond b x y ≡ z → ((b ≡ true) × (x ≡ z)) ⊎ ((b ≡ false) × (y ≡ z))
-chosen true x y z e = inl (refl, e)
-chosen false x y z e = inr (refl, e)
-
 letter_says : (letter : ℕ) (s : Status) → status_in (letter ∷ []) ≡ Some s → status_byte s ≡ letter
 unfolding status_in
 letter_says letter s e =
     elim (chosen (eqb letter 73) (Some statuses.Idle) _ (Some s) e) [
-      | inl a ↦ ap status_byte (sym (some_is statuses.Idle s a.1)) ∙ sym (eqb-true _ _ a.0)
+      | inl a ↦ ap status_byte (sym (same_Some statuses.Idle s a.1)) ∙ sym (eqb-true _ _ a.0)
       | inr a ↦ elim (chosen (eqb letter 84) (Some statuses.Transaction) _ (Some s) a.1) [
-        | inl b ↦ ap status_byte (sym (some_is statuses.Transaction s b.1)) ∙ sym (eqb-true _ _ b.0)
-        | inr b ↦ let c = guard_some (eqb letter 69) statuses.Error s b.1 in ap status_byte (sym c.1) ∙ sym (eqb-true _ _ c.0)
+        | inl b ↦ ap status_byte (sym (same_Some statuses.Transaction s b.1)) ∙ sym (eqb-true _ _ b.0)
+        | inr b ↦ let c = cond_some (eqb letter 69) statuses.Error s b.1 in ap status_byte (sym c.1) ∙ sym (eqb-true _ _ c.0)
       ]
     ]
 

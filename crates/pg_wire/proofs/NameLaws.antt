@@ -3,10 +3,7 @@ use Rattle.std.proofs.Common.{◌≡◌, ℕ, ◌+◌, ◌<◌, ◌^◌, Bool, t
 use Rattle.std.specs.List.{list_any}
 use Rattle.std.proofs.lemmas.Fmt.{decimal_by_steps}
 use Rattle.pg_wire.specs.Bytes.{HasNoNul}
-
-pub or_false : (a b : Bool) → (a || b) ≡ false → (a ≡ false) × (b ≡ false)
-or_false true b e = absurd cc
-or_false false b e = (refl, e)
+use Rattle.pg_wire.proofs.Tests.{neither_true}
 
 pub both_false : (a b : Bool) → a ≡ false → b ≡ false → (a || b) ≡ false
 both_false true b e f = absurd cc
@@ -15,7 +12,7 @@ both_false false b e f = f
 pub nul_free_append : (a b : List ℕ) → HasNoNul a → HasNoNul b → HasNoNul (a ++ b)
 nul_free_append [] b h k = k
 nul_free_append (x ∷ a) b h k =
-    let apart = or_false (nat_eq 0 x) (list_any (nat_eq 0) a) h in
+    let apart = neither_true (nat_eq 0 x) (list_any (nat_eq 0) a) h in
     both_false (nat_eq 0 x) (list_any (nat_eq 0) (a ++ b)) apart.0 (nul_free_append a b apart.1 k)
 
 digit_nul_free : (n : ℕ) → HasNoNul ((48 + n) ∷ [])

@@ -6,6 +6,7 @@ use Rattle.pg_wire.specs.Frontend.{Sync, CopyData, CopyFail}
 use Rattle.pg_wire.specs.Backend.{BackendMessage, ReadyForQuery, ErrorResponse}
 use Rattle.pg_wire.specs.Server.{Server, ServerStep, Ignores}
 use Rattle.pg_wire.specs.Copying.{CopyServer, CopyMode, NotCopying, QueryCopies, ExecuteCopies, StepsInMode, CopyStep, Leaves}
+use Rattle.pg_wire.proofs.Tests.{of_two, where_neither}
 
 abbrev made : Server → CopyMode → CopyServer
 made server mode = record { server = server; mode = mode }
@@ -30,28 +31,19 @@ data_in server NotCopying bytes rs new h = data_ignored server NotCopying bytes 
 data_in server QueryCopies bytes rs new h = h
 data_in server ExecuteCopies bytes rs new h = h
 
-either : (b : Bool) (A B D : Type 0) → (A → D) → (B → D) → cond b A B → D
-either true A B D a c h = a h
-either false A B D a c h = c h
-
 pub data_is_silent : (old new : CopyServer) (bytes : List ℕ) (rs : List BackendMessage) → CopyStep old (CopyData bytes) rs new → (rs ≡ []) × (new ≡ old)
-data_is_silent old new bytes rs step = either (old.server.over || old.server.skip) _ _ _ (data_ignored old.server old.mode bytes rs new) (data_in old.server old.mode bytes rs new) step
-
-acts : (over skip : Bool) (A B : Type 0) → over ≡ false → skip ≡ false → cond (over || skip) A B → B
-acts true skip A B e k h = absurd cc
-acts false true A B e k h = absurd cc
-acts false false A B e k h = h
+data_is_silent old new bytes rs step = of_two (old.server.over || old.server.skip) _ _ _ (data_ignored old.server old.mode bytes rs new) (data_in old.server old.mode bytes rs new) step
 
 pub query_copy_fails : (server : Server) (new : CopyServer) (text : List ℕ) (rs : List BackendMessage) → server.over ≡ false → server.skip ≡ false → CopyStep (made server QueryCopies) (CopyFail text) rs new
     → (details : List ErrorField) × (status : TransactionStatus) × (rs ≡ ErrorResponse details ∷ ReadyForQuery status ∷ []) × (new ≡ made server NotCopying)
-query_copy_fails server new text rs e k step = acts server.over server.skip _ _ e k step
+query_copy_fails server new text rs e k step = where_neither server.over server.skip _ _ e k step
 
 pub execute_copy_fails : (server : Server) (new : CopyServer) (text : List ℕ) (rs : List BackendMessage) → server.over ≡ false → server.skip ≡ false → CopyStep (made server ExecuteCopies) (CopyFail text) rs new
     → (details : List ErrorField) × (rs ≡ ErrorResponse details ∷ []) × (new ≡ made (record server { skip = true }) NotCopying)
-execute_copy_fails server new text rs e k step = acts server.over server.skip _ _ e k step
+execute_copy_fails server new text rs e k step = where_neither server.over server.skip _ _ e k step
 
 pub no_sync_in_query : (server : Server) (new : CopyServer) (rs : List BackendMessage) → server.over ≡ false → server.skip ≡ false → CopyStep (made server QueryCopies) Sync rs new → ⊥
-no_sync_in_query server new rs e k step = acts server.over server.skip _ _ e k step
+no_sync_in_query server new rs e k step = where_neither server.over server.skip _ _ e k step
 
 pub no_sync_in_execute : (server : Server) (new : CopyServer) (rs : List BackendMessage) → server.over ≡ false → server.skip ≡ false → CopyStep (made server ExecuteCopies) Sync rs new → ⊥
-no_sync_in_execute server new rs e k step = acts server.over server.skip _ _ e k step
+no_sync_in_execute server new rs e k step = where_neither server.over server.skip _ _ e k step

@@ -50,7 +50,7 @@ open_front (a ∷ as') (b ∷ bs) s y u p =
     (further.0, cc)
 
 -- the replies to a group, and those to what follows
-split_answers : (front further : List (List BackendMessage)) (rss : List (List BackendMessage)) (r : EndsReady (flat_map (λ rs. rs) front)) → rss ≡ front ++ further → flat_map (λ rs. rs) rss ≡ r.front ++ ReadyForQuery r.status ∷ flat_map (λ rs. rs) further
+pub split_answers : (front further : List (List BackendMessage)) (rss : List (List BackendMessage)) (r : EndsReady (flat_map (λ rs. rs) front)) → rss ≡ front ++ further → flat_map (λ rs. rs) rss ≡ r.front ++ ReadyForQuery r.status ∷ flat_map (λ rs. rs) further
 split_answers front further rss r e =
     ap (flat_map (λ (rs : List BackendMessage). rs)) e ∙ flat_map-append (λ rs. rs) front further
     ∙ ap (λ (w : List BackendMessage). w ++ flat_map (λ rs. rs) further) r.are ∙ append_assoc r.front (ReadyForQuery r.status ∷ []) (flat_map (λ rs. rs) further)

@@ -1,5 +1,5 @@
 -- A reader is exact for a kind of values and their codes: what it takes is the code of such a value, and it takes each.
-use Rattle.std.proofs.Common.{◌≡◌, ℕ, ℤ, zero, suc, ◌<◌, ◌^◌, Bool, true, false, cond, eqb, List, [], ◌∷◌, ◌++◌, length, get_or, Option, Some, None, refl, sym, ap, subst, ◌∙◌, append_assoc, append-nil, arith, flat_map, eqb-true, ne_eqb}
+use Rattle.std.proofs.Common.{◌≡◌, ℕ, ℤ, zero, suc, ◌<◌, ◌^◌, cond, eqb, List, [], ◌∷◌, ◌++◌, length, get_or, Option, Some, None, refl, sym, ap, subst, ◌∙◌, append_assoc, append-nil, arith, flat_map, eqb-true, ne_eqb}
 use Rattle.std.specs.Prelude.{FitsSigned}
 use Rattle.std.specs.Int.{w16, w32, from_be_bytes, cast_signed, cast_unsigned}
 use Rattle.std.specs.List.{AllByRecursion}
@@ -11,7 +11,10 @@ use Rattle.std.proofs.lemmas.Str.{IsUtf8-from_is_utf8, is_utf8-from_IsUtf8}
 use Rattle.pg_wire.specs.Bytes.{number16, number32, signed16, signed32, ended, HasNoNul, AreBytes}
 use Rattle.pg_wire.specs.Backend.{IsText}
 use Rattle.pg_wire.specs.Reading.{◌>>=◌, Reader, byte_at, number16_at, number32_at, signed16_at, signed32_at, ended_at, text_at, many_at, counted_at, then_at, whole}
-use Rattle.pg_wire.proofs.NameLaws.{or_false, both_false}
+use Rattle.pg_wire.proofs.NameLaws.{both_false}
+use Rattle.pg_wire.proofs.Tests.{neither_true}
+use Rattle.std.proofs.lemmas.Option.{cond_some, same_Some}
+use Rattle.pg_wire.proofs.HeaderLaws.{four_bytes}
 
 pub record IsExact {A : Type 0} (P : A → Type 0) (f : A → List ℕ) (r : Reader A) : Type 0 where
   pub takes : (bytes : List ℕ) (x : A × List ℕ) → AreBytes bytes → r bytes ≡ Some x → P x.0 × (bytes ≡ f x.0 ++ x.1)
@@ -22,16 +25,9 @@ pub record IsExact {A : Type 0} (P : A → Type 0) (f : A → List ℕ) (r : Rea
 abbrev some : {A : Type 0} → A → Option A
 some x = Some x
 
-pub some_is : {A : Type 0} (x y : A) → some x ≡ some y → x ≡ y
-some_is x y e = cc
-
 pub bind_some : {A B : Type 0} (r : Option A) (f : A → Option B) (y : B) → (r >>= f) ≡ Some y → (x : A) × (r ≡ Some x) × (f x ≡ Some y)
 bind_some (Some x) f y e = (x, refl, e)
 bind_some None f y e = absurd cc
-
-pub guard_some : {A : Type 0} (b : Bool) (x y : A) → cond b (Some x) None ≡ Some y → (b ≡ true) × (x ≡ y)
-guard_some true x y e = (refl, cc)
-guard_some false x y e = absurd cc
 
 rest_of_bytes : (front rest : List ℕ) → AreBytes (front ++ rest) → AreBytes rest
 rest_of_bytes [] rest h = h
@@ -49,7 +45,7 @@ are_bytes (b ∷ bs) h = (h 0, are_bytes bs (λ i. h (suc i)))
 byte_takes : (bytes : List ℕ) (x : ℕ × List ℕ) → AreBytes bytes → byte_at bytes ≡ Some x → (x.0 < 256) × (bytes ≡ x.0 ∷ x.1)
 unfolding byte_at
 byte_takes [] x h e = absurd cc
-byte_takes (b ∷ bs) x h e = subst (λ (y : ℕ × List ℕ). (y.0 < 256) × (b ∷ bs ≡ y.0 ∷ y.1)) (some_is (b, bs) x e) (h.0, refl)
+byte_takes (b ∷ bs) x h e = subst (λ (y : ℕ × List ℕ). (y.0 < 256) × (b ∷ bs ≡ y.0 ∷ y.1)) (same_Some (b, bs) x e) (h.0, refl)
 
 byte_again : (b : ℕ) (rest : List ℕ) → b < 256 → byte_at (b ∷ rest) ≡ Some (b, rest)
 unfolding byte_at
@@ -63,13 +59,6 @@ two_bytes a b h k zero = h
 two_bytes a b h k (suc zero) = k
 two_bytes a b h k (suc (suc i)) = omega arith
 
-four_bytes : (a b c d : ℕ) → a < 256 → b < 256 → c < 256 → d < 256 → (i : ℕ) → get_or (a ∷ b ∷ c ∷ d ∷ []) i 0 < 256
-four_bytes a b c d h k m n zero = h
-four_bytes a b c d h k m n (suc zero) = k
-four_bytes a b c d h k m n (suc (suc zero)) = m
-four_bytes a b c d h k m n (suc (suc (suc zero))) = n
-four_bytes a b c d h k m n (suc (suc (suc (suc i)))) = omega arith
-
 number16_takes : (bytes : List ℕ) (x : ℕ × List ℕ) → AreBytes bytes → number16_at bytes ≡ Some x → (x.0 < 2 ^ 16) × (bytes ≡ number16 x.0 ++ x.1)
 unfolding number16_at
 number16_takes [] x h e = absurd cc
@@ -78,7 +67,7 @@ number16_takes (a ∷ b ∷ bs) x h e =
     let pair : List ℕ = a ∷ b ∷ [] in
     let back : number16 (from_be_bytes w16 pair) ≡ pair = be_bytes_2 pair (from_be_bytes w16 pair) refl (two_bytes a b h.0 h.1.0) refl in
     let below : from_be_bytes w16 pair < 2 ^ 16 = omega (arith, h.0, h.1.0) in
-    subst (λ (y : ℕ × List ℕ). (y.0 < 2 ^ 16) × (a ∷ b ∷ bs ≡ number16 y.0 ++ y.1)) (some_is (from_be_bytes w16 pair, bs) x e) (below, ap (λ (t : List ℕ). t ++ bs) (sym back))
+    subst (λ (y : ℕ × List ℕ). (y.0 < 2 ^ 16) × (a ∷ b ∷ bs ≡ number16 y.0 ++ y.1)) (same_Some (from_be_bytes w16 pair, bs) x e) (below, ap (λ (t : List ℕ). t ++ bs) (sym back))
 
 number16_again : (n : ℕ) (rest : List ℕ) → n < 2 ^ 16 → number16_at (number16 n ++ rest) ≡ Some (n, rest)
 unfolding number16_at
@@ -97,7 +86,7 @@ number32_takes (a ∷ b ∷ c ∷ d ∷ bs) x h e =
     let four : List ℕ = a ∷ b ∷ c ∷ d ∷ [] in
     let back : number32 (from_be_bytes w32 four) ≡ four = be_bytes_4 four (from_be_bytes w32 four) refl (four_bytes a b c d h.0 h.1.0 h.1.1.0 h.1.1.1.0) refl in
     let below : from_be_bytes w32 four < 2 ^ 32 = omega (arith, h.0, h.1.0, h.1.1.0, h.1.1.1.0) in
-    subst (λ (y : ℕ × List ℕ). (y.0 < 2 ^ 32) × (a ∷ b ∷ c ∷ d ∷ bs ≡ number32 y.0 ++ y.1)) (some_is (from_be_bytes w32 four, bs) x e) (below, ap (λ (t : List ℕ). t ++ bs) (sym back))
+    subst (λ (y : ℕ × List ℕ). (y.0 < 2 ^ 32) × (a ∷ b ∷ c ∷ d ∷ bs ≡ number32 y.0 ++ y.1)) (same_Some (from_be_bytes w32 four, bs) x e) (below, ap (λ (t : List ℕ). t ++ bs) (sym back))
 
 number32_again : (n : ℕ) (rest : List ℕ) → n < 2 ^ 32 → number32_at (number32 n ++ rest) ≡ Some (n, rest)
 unfolding number32_at
@@ -115,9 +104,9 @@ signed16_takes bytes x h e =
     let a = bind_some (number16_at bytes) (λ n. Some (cast_signed w16 n.0, n.1)) x e in
     let t = number16_takes bytes a.0 h a.1 in
     let same : number16 a.0.0 ≡ signed16 (cast_signed w16 a.0.0) = ap number16 (sym (of_z-to_z w16 a.0.0 t.0)) in
-    subst (λ (y : ℤ × List ℕ). FitsSigned w16 y.0 × (bytes ≡ signed16 y.0 ++ y.1)) (some_is (cast_signed w16 a.0.0, a.0.1) x a.2) (signed_fits16 a.0.0 t.0, t.1 ∙ ap (λ (u : List ℕ). u ++ a.0.1) same)
+    subst (λ (y : ℤ × List ℕ). FitsSigned w16 y.0 × (bytes ≡ signed16 y.0 ++ y.1)) (same_Some (cast_signed w16 a.0.0, a.0.1) x a.2) (signed_fits16 a.0.0 t.0, t.1 ∙ ap (λ (u : List ℕ). u ++ a.0.1) same)
 
-signed_bound16 : (z : ℤ) → FitsSigned w16 z → cast_unsigned w16 z < 2 ^ 16
+pub signed_bound16 : (z : ℤ) → FitsSigned w16 z → cast_unsigned w16 z < 2 ^ 16
 signed_bound16 z h = omega (arith, ints)
 
 signed16_again : (z : ℤ) (rest : List ℕ) → FitsSigned w16 z → signed16_at (signed16 z ++ rest) ≡ Some (z, rest)
@@ -136,9 +125,9 @@ signed32_takes bytes x h e =
     let a = bind_some (number32_at bytes) (λ n. Some (cast_signed w32 n.0, n.1)) x e in
     let t = number32_takes bytes a.0 h a.1 in
     let same : number32 a.0.0 ≡ signed32 (cast_signed w32 a.0.0) = ap number32 (sym (of_z-to_z w32 a.0.0 t.0)) in
-    subst (λ (y : ℤ × List ℕ). FitsSigned w32 y.0 × (bytes ≡ signed32 y.0 ++ y.1)) (some_is (cast_signed w32 a.0.0, a.0.1) x a.2) (signed_fits32 a.0.0 t.0, t.1 ∙ ap (λ (u : List ℕ). u ++ a.0.1) same)
+    subst (λ (y : ℤ × List ℕ). FitsSigned w32 y.0 × (bytes ≡ signed32 y.0 ++ y.1)) (same_Some (cast_signed w32 a.0.0, a.0.1) x a.2) (signed_fits32 a.0.0 t.0, t.1 ∙ ap (λ (u : List ℕ). u ++ a.0.1) same)
 
-signed_bound32 : (z : ℤ) → FitsSigned w32 z → cast_unsigned w32 z < 2 ^ 32
+pub signed_bound32 : (z : ℤ) → FitsSigned w32 z → cast_unsigned w32 z < 2 ^ 32
 signed_bound32 z h = omega (arith, ints)
 
 signed32_again : (z : ℤ) (rest : List ℕ) → FitsSigned w32 z → signed32_at (signed32 z ++ rest) ≡ Some (z, rest)
@@ -153,18 +142,18 @@ signed32_exact = record { takes = signed32_takes; again = signed32_again }
 ended_takes : (bytes : List ℕ) (x : List ℕ × List ℕ) → ended_at bytes ≡ Some x → HasNoNul x.0 × (bytes ≡ ended x.0 ++ x.1)
 unfolding ended_at
 ended_takes [] x e = absurd cc
-ended_takes (zero ∷ bs) x e = subst (λ (y : List ℕ × List ℕ). HasNoNul y.0 × (0 ∷ bs ≡ ended y.0 ++ y.1)) (some_is ([], bs) x e) (refl, refl)
+ended_takes (zero ∷ bs) x e = subst (λ (y : List ℕ × List ℕ). HasNoNul y.0 × (0 ∷ bs ≡ ended y.0 ++ y.1)) (same_Some ([], bs) x e) (refl, refl)
 ended_takes (suc b ∷ bs) x e =
     let a = bind_some (ended_at bs) (λ text. Some (suc b ∷ text.0, text.1)) x e in
     let t = ended_takes bs a.0 a.1 in
-    subst (λ (y : List ℕ × List ℕ). HasNoNul y.0 × (suc b ∷ bs ≡ ended y.0 ++ y.1)) (some_is (suc b ∷ a.0.0, a.0.1) x a.2)
+    subst (λ (y : List ℕ × List ℕ). HasNoNul y.0 × (suc b ∷ bs ≡ ended y.0 ++ y.1)) (same_Some (suc b ∷ a.0.0, a.0.1) x a.2)
     (both_false (eqb 0 (suc b)) _ (ne_eqb 0 (suc b) (λ z. absurd (omega (arith, z)))) t.0, ap (λ (u : List ℕ). suc b ∷ u) t.1)
 
 ended_again : (text rest : List ℕ) → HasNoNul text → ended_at (ended text ++ rest) ≡ Some (text, rest)
 unfolding ended_at
 ended_again [] rest h = refl
 ended_again (zero ∷ text) rest h = absurd cc
-ended_again (suc b ∷ text) rest h = rw (ended_again text rest (or_false (eqb 0 (suc b)) _ h).1) refl
+ended_again (suc b ∷ text) rest h = rw (ended_again text rest (neither_true (eqb 0 (suc b)) _ h).1) refl
 
 pub ended_exact : IsExact HasNoNul ended ended_at
 ended_exact = record { takes = λ bytes x _ e. ended_takes bytes x e; again = ended_again }
@@ -174,7 +163,7 @@ unfolding text_at
 text_takes bytes x e =
     let a = bind_some (ended_at bytes) (λ text. cond (is_utf8 text.0) (Some (text.0, text.1)) None) x e in
     let t = ended_takes bytes a.0 a.1 in
-    let g = guard_some (is_utf8 a.0.0) (a.0.0, a.0.1) x a.2 in
+    let g = cond_some (is_utf8 a.0.0) (a.0.0, a.0.1) x a.2 in
     subst (λ (y : List ℕ × List ℕ). IsText y.0 × (bytes ≡ ended y.0 ++ y.1)) g.1 ((t.0, IsUtf8-from_is_utf8 a.0.0 g.0), t.1)
 
 text_again : (text rest : List ℕ) → IsText text → text_at (ended text ++ rest) ≡ Some (text, rest)
@@ -193,7 +182,7 @@ then_takes {A} {B} P f r Q g s p q bytes x h e =
     let b = bind_some (s a.0.1) (λ b. Some ((a.0.0, b.0), b.1)) x a.2 in
     let one = p.takes bytes a.0 h a.1 in
     let two = q.takes a.0.1 b.0 (rest_bytes bytes (f a.0.0) a.0.1 h one.1) b.1 in
-    subst (λ (y : (A × B) × List ℕ). (P y.0.0 × Q y.0.1) × (bytes ≡ (f y.0.0 ++ g y.0.1) ++ y.1)) (some_is ((a.0.0, b.0.0), b.0.1) x b.2)
+    subst (λ (y : (A × B) × List ℕ). (P y.0.0 × Q y.0.1) × (bytes ≡ (f y.0.0 ++ g y.0.1) ++ y.1)) (same_Some ((a.0.0, b.0.0), b.0.1) x b.2)
     ((one.0, two.0), one.1 ∙ ap (λ (u : List ℕ). f a.0.0 ++ u) two.1 ∙ sym (append_assoc (f a.0.0) (g b.0.0) b.0.1))
 
 then_again : {A B : Type 0} (P : A → Type 0) (f : A → List ℕ) (r : Reader A) (Q : B → Type 0) (g : B → List ℕ) (s : Reader B) → IsExact P f r → IsExact Q g s → (x : A × B) (rest : List ℕ) → P x.0 × Q x.1 → then_at r s ((f x.0 ++ g x.1) ++ rest) ≡ Some (x, rest)
@@ -206,13 +195,13 @@ then_exact P f r Q g s p q = record { takes = then_takes P f r Q g s p q; again 
 
 many_takes : {A : Type 0} (P : A → Type 0) (f : A → List ℕ) (r : Reader A) → IsExact P f r → (n : ℕ) (bytes : List ℕ) (x : List A × List ℕ) → AreBytes bytes → many_at r n bytes ≡ Some x → (length x.0 ≡ n) × AllByRecursion P x.0 × (bytes ≡ flat_map f x.0 ++ x.1)
 unfolding many_at
-many_takes {A} P f r p zero bytes x h e = subst (λ (y : List A × List ℕ). (length y.0 ≡ 0) × AllByRecursion P y.0 × (bytes ≡ flat_map f y.0 ++ y.1)) (some_is ([], bytes) x e) (refl, tt, refl)
+many_takes {A} P f r p zero bytes x h e = subst (λ (y : List A × List ℕ). (length y.0 ≡ 0) × AllByRecursion P y.0 × (bytes ≡ flat_map f y.0 ++ y.1)) (same_Some ([], bytes) x e) (refl, tt, refl)
 many_takes {A} P f r p (suc n) bytes x h e =
     let a = bind_some (r bytes) (λ first. many_at r n first.1 >>= λ others. Some (first.0 ∷ others.0, others.1)) x e in
     let b = bind_some (many_at r n a.0.1) (λ others. Some (a.0.0 ∷ others.0, others.1)) x a.2 in
     let one = p.takes bytes a.0 h a.1 in
     let two = many_takes P f r p n a.0.1 b.0 (rest_bytes bytes (f a.0.0) a.0.1 h one.1) b.1 in
-    subst (λ (y : List A × List ℕ). (length y.0 ≡ suc n) × AllByRecursion P y.0 × (bytes ≡ flat_map f y.0 ++ y.1)) (some_is (a.0.0 ∷ b.0.0, b.0.1) x b.2)
+    subst (λ (y : List A × List ℕ). (length y.0 ≡ suc n) × AllByRecursion P y.0 × (bytes ≡ flat_map f y.0 ++ y.1)) (same_Some (a.0.0 ∷ b.0.0, b.0.1) x b.2)
     (ap suc two.0, (one.0, two.1), one.1 ∙ ap (λ (u : List ℕ). f a.0.0 ++ u) two.2 ∙ sym (append_assoc (f a.0.0) (flat_map f b.0.0) b.0.1))
 
 many_again : {A : Type 0} (P : A → Type 0) (f : A → List ℕ) (r : Reader A) → IsExact P f r → (xs : List A) (rest : List ℕ) → AllByRecursion P xs → many_at r (length xs) (flat_map f xs ++ rest) ≡ Some (xs, rest)
@@ -246,7 +235,7 @@ pub whole_takes : {A : Type 0} (P : A → Type 0) (f : A → List ℕ) (r : Read
 unfolding whole
 whole_takes {A} P f r p body a h e =
     let x = bind_some (r body) (λ x. cond (eqb (length x.1) 0) (Some x.0) None) a e in
-    let g = guard_some (eqb (length x.0.1) 0) x.0.0 a x.2 in
+    let g = cond_some (eqb (length x.0.1) 0) x.0.0 a x.2 in
     let t = p.takes body x.0 h x.1 in
     let nothing : x.0.1 ≡ [] = nil_from_length x.0.1 (eqb-true _ _ g.0) in
     subst (λ (y : A). P y × (body ≡ f y)) g.1 (t.0, t.1 ∙ ap (λ (u : List ℕ). f x.0.0 ++ u) nothing ∙ append-nil (f x.0.0))

@@ -1,5 +1,5 @@
 -- What begins no response of a server that may copy, and what does.
-use Rattle.std.proofs.Common.{◌≡◌, ℕ, Bool, true, false, cond, ◌||◌, List, [], ◌∷◌, ◌++◌, map, Some, refl, sym, subst, append-nil, flat_map, ⊎_elim}
+use Rattle.std.proofs.Common.{◌≡◌, ℕ, List, [], ◌∷◌, ◌++◌, map, Some, refl, sym, subst, append-nil, flat_map, ⊎_elim}
 use Rattle.std.specs.List.{AllByRecursion}
 use Rattle.pg_wire.specs.Frame.{Frame}
 use Rattle.pg_wire.specs.Frontend.{FrontendMessage, Query, Sync}
@@ -13,6 +13,7 @@ use Rattle.pg_wire.proofs.Unique.{backend_frame_unique}
 use Rattle.pg_wire.proofs.RunLaws.{sync_step}
 use Rattle.pg_wire.proofs.CopyLaws.{plain, run_copies}
 use Rattle.pg_wire.proofs.CopyAcceptorLaws.{refused_goes_on_none}
+use Rattle.pg_wire.proofs.Tests.{where_neither}
 
 -- frames at the front of replies are those of the first replies
 record Splits (own : List BackendMessage) (frame : Frame) (rs : List BackendMessage) : Type 0 where
@@ -43,18 +44,13 @@ split (o ∷ own) frame more (r ∷ rs) h k e =
 
 -- ---- one message, to a server between two groups
 
-acts : (over skip : Bool) (A B : Type 0) → over ≡ false → skip ≡ false → cond (over || skip) A B → B
-acts true skip A B e k h = absurd cc
-acts false true A B e k h = absurd cc
-acts false false A B e k h = h
-
 one_step : (old new : CopyServer) (message : FrontendMessage) (rss : List (List BackendMessage)) → CopyRun old (message ∷ []) rss new → CopyStep old message (flat_map (λ rs. rs) rss) new
 one_step old new message [] run = absurd run
 one_step old new message (rs ∷ []) run = subst (λ (t : List BackendMessage). CopyStep old message t new) (sym (append-nil rs)) (subst (λ (m : CopyServer). CopyStep old message rs m) (sym run.2) run.1)
 one_step old new message (rs ∷ more ∷ rss) run = absurd run.2
 
 outside : (old new : CopyServer) (message : FrontendMessage) (rss : List (List BackendMessage)) → old.mode ≡ NotCopying → IsBetween old.server → CopyRun old (message ∷ []) rss new → StepsOutsideCopy old.server message (flat_map (λ rs. rs) rss) new
-outside old new message rss e b run = subst (λ (mode : CopyMode). StepsInMode old.server mode message (flat_map (λ rs. rs) rss) new) e (acts old.server.over old.server.skip _ _ b.0 b.1 (one_step old new message rss run))
+outside old new message rss e b run = subst (λ (mode : CopyMode). StepsInMode old.server mode message (flat_map (λ rs. rs) rss) new) e (where_neither old.server.over old.server.skip _ _ b.0 b.1 (one_step old new message rss run))
 
 -- ---- a Query
 

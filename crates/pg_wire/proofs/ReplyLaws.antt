@@ -19,6 +19,7 @@ use Rattle.pg_wire.proofs.PartLaws.{flat_cut_after}
 use Rattle.pg_wire.proofs.GroupLaws.{parts_answer, pieces_of_front}
 use Rattle.pg_wire.proofs.RunLaws.{one_step, replies_fewer}
 use Rattle.pg_wire.proofs.AcceptorLaws.{accepted_can_end, refused_begins_none, accepts-append}
+use Rattle.pg_wire.proofs.Each.{each_join}
 
 -- ---- frames are read in one way, list by list
 
@@ -108,15 +109,11 @@ refused_reply sql messages h e r =
     let p = heard_first messages q.0 h q.2 q.3 in
     refused_begins_none messages p.0 e (subst IsQueryResponse (sym p.1) q.1)
 
-both_all : {A : Type 0} (P : A → Type 0) (xs ys : List A) → AllByRecursion P xs → AllByRecursion P ys → AllByRecursion P (xs ++ ys)
-both_all P [] ys h k = k
-both_all P (x ∷ xs) ys h k = (h.0, both_all P xs ys h.1 k)
-
 pub accepted_reply : (sql : List ℕ) (messages : List BackendMessage) (then : Awaits) → HasNoNul sql → AllByRecursion HasBackendFrame messages → accepts FirstSegment messages ≡ Some then
     → AreReplies (frontend_frame (Query sql) ∷ []) (map backend_frame messages)
 accepted_reply sql messages then n h e =
     let c = accepted_can_end messages then e in
-    let whole = both_all HasBackendFrame messages c.0 h c.2 in
+    let whole = each_join HasBackendFrame messages c.0 h c.2 in
     record {
       messages = Query sql ∷ [];
       replies = (messages ++ c.0) ∷ [];

@@ -12,8 +12,9 @@ use Rattle.pg_wire.specs.Reading.{◌>>=◌, number32_at, ended_at, listed_at, w
 use Rattle.pg_wire.specs.Requests.{IsName, is_method, AsksFor, IsAsked, IsRequest, AreNames}
 use Rattle.pg_wire.specs.declared.message.authentication.Authentication.{Authentication}
 use Rattle.pg_wire.specs.declared.message.authentication.Authentication.TheVariants as requests
-use Rattle.pg_wire.proofs.ReaderLaws.{some_is, bind_some, IsExact, number32_exact, ended_exact, whole_takes, whole_again}
+use Rattle.pg_wire.proofs.ReaderLaws.{bind_some, IsExact, number32_exact, ended_exact, whole_takes, whole_again}
 use Rattle.pg_wire.proofs.UntilLaws.{IsItem, listed_exact}
+use Rattle.std.proofs.lemmas.Option.{same_Some}
 
 abbrev Names : Type 0
 Names = List (List ℕ)
@@ -71,7 +72,7 @@ are_names bytes None h e = refused bytes e
 -- the bytes of names are those of no others
 pub same_names : (x y : Names) → AllByRecursion IsName x → AllByRecursion IsName y → names_bytes x ≡ names_bytes y → x ≡ y
 same_names x y h k e =
-    some_is x y (sym (whole_again (AllByRecursion IsName) names_bytes (listed_at ended_at) names_exact x h) ∙ ap (whole (listed_at ended_at)) e ∙ whole_again (AllByRecursion IsName) names_bytes (listed_at ended_at) names_exact y k)
+    same_Some x y (sym (whole_again (AllByRecursion IsName) names_bytes (listed_at ended_at) names_exact x h) ∙ ap (whole (listed_at ended_at)) e ∙ whole_again (AllByRecursion IsName) names_bytes (listed_at ended_at) names_exact y k)
 
 other_method : (code number : ℕ) → code ≡ number → IsTrue (is_method number) → IsFalse (is_method code) → ⊥
 other_method code number e t f = absurd cc
@@ -120,7 +121,7 @@ same_request code rest x e none h = none (subst (λ (y : Parts). IsChallenge y.0
 pub not_asked : (body : List ℕ) (code : ℕ) (rest : List ℕ) → number32_at body ≡ Some (code, rest) → IsRequest code rest None → (m : BackendMessage) → Says 82 body m → ⊥
 not_asked body code rest e none (backend.Authentication c b) s =
     let again : number32_at body ≡ Some (c, b) = ap (λ (x : Frame). number32_at x.body) (sym s.1) ∙ number32_exact.again c b s.0.0 in
-    same_request code rest (c, b) (some_is (c, b) (code, rest) (sym again ∙ e)) none s.0.1
+    same_request code rest (c, b) (same_Some (c, b) (code, rest) (sym again ∙ e)) none s.0.1
 not_asked body code rest e none _ s = let tags = ap (λ (x : Frame). x.tag) s.1 in absurd (omega (arith, tags))
 
 abbrev some_part : Parts → Option Parts

@@ -8,6 +8,7 @@ use Rattle.pg_wire.specs.Frontend.{FrontendMessage, Query, Parse, DescribeStatem
 use Rattle.pg_wire.specs.Backend.{FieldDescription, Values, BackendMessage, ReadyForQuery, DataRow, CommandComplete, EmptyQueryResponse, ErrorResponse}
 use Rattle.pg_wire.specs.Groups.{IsUnready, AreUnready, EndsReady, IsInner, IsBetween}
 use Rattle.pg_wire.specs.Server.{Server, Statement, statement_at, with_statement, without_statement, portal_at, DescribesFields, IsPortalResult, StepsDescribe, StepsDescribePortal, StepsBind, StepsExecute, ServerStep, Steps, Skips, ServerRun, IsSegment, EndsInError, IsQueryResponse, StepsSync, Fails, IsPrefixOf, AreReplies}
+use Rattle.pg_wire.proofs.Each.{each_join, each_first}
 
 -- a run goes on by one message
 pub run_more : (old mid new : Server) (messages : List FrontendMessage) (message : FrontendMessage) (rss : List (List BackendMessage)) (rs : List BackendMessage) → ServerRun old messages rss mid → ServerStep mid message rs new → ServerRun old (messages ++ message ∷ []) (rss ++ rs ∷ []) new
@@ -50,29 +51,21 @@ replies_fewer sent fewer heard p r = record {
 
 -- ---- one ReadyForQuery for each Query and each Sync
 
-both_all : {A : Type 0} (P : A → Type 0) (xs ys : List A) → AllByRecursion P xs → AllByRecursion P ys → AllByRecursion P (xs ++ ys)
-both_all P [] ys h k = k
-both_all P (x ∷ xs) ys h k = (h.0, both_all P xs ys h.1 k)
-
-front_all : {A : Type 0} (P : A → Type 0) (xs ys : List A) → AllByRecursion P (xs ++ ys) → AllByRecursion P xs
-front_all P [] ys h = tt
-front_all P (x ∷ xs) ys h = (h.0, front_all P xs ys h.1)
-
 rows_unready : (rows : List Values) → AreUnready (map DataRow rows)
 rows_unready [] = tt
 rows_unready (row ∷ rows) = (tt, rows_unready rows)
 
 pub segment_unready : (rs : List BackendMessage) → IsSegment rs → AreUnready rs
 segment_unready rs (inl command) = subst AreUnready (sym command.1) (tt, tt)
-segment_unready rs (inr (inl table)) = subst AreUnready (sym table.4) (tt, both_all IsUnready (map DataRow table.1) (CommandComplete table.2 ∷ []) (rows_unready table.1) (tt, tt))
+segment_unready rs (inr (inl table)) = subst AreUnready (sym table.4) (tt, each_join IsUnready (map DataRow table.1) (CommandComplete table.2 ∷ []) (rows_unready table.1) (tt, tt))
 segment_unready rs (inr (inr empty)) = subst AreUnready (sym empty) (tt, tt)
 
 pub broken_unready : (P : List BackendMessage → Type 0) → ((rs : List BackendMessage) → P rs → AreUnready rs) → (rs : List BackendMessage) → EndsInError P rs → AreUnready rs
-broken_unready P whole rs b = subst AreUnready (sym b.5) (both_all IsUnready b.0 (ErrorResponse b.2 ∷ []) (front_all IsUnready b.0 b.1 (whole _ b.3)) (tt, tt))
+broken_unready P whole rs b = subst AreUnready (sym b.5) (each_join IsUnready b.0 (ErrorResponse b.2 ∷ []) (each_first IsUnready b.0 b.1 (whole _ b.3)) (tt, tt))
 
 segments_unready : (rss : List (List BackendMessage)) → AllByRecursion IsSegment rss → AreUnready (flat_map (λ rs. rs) rss)
 segments_unready [] h = tt
-segments_unready (rs ∷ rss) h = both_all IsUnready rs _ (segment_unready rs h.0) (segments_unready rss h.1)
+segments_unready (rs ∷ rss) h = each_join IsUnready rs _ (segment_unready rs h.0) (segments_unready rss h.1)
 
 last_unready : (rs : List BackendMessage) → IsSegment rs ⊎ EndsInError IsSegment rs → AreUnready rs
 last_unready rs (inl s) = segment_unready rs s
@@ -82,7 +75,7 @@ pub query_ready : (rs : List BackendMessage) → IsQueryResponse rs → EndsRead
 query_ready rs q = record {
   front = flat_map (λ segment. segment) q.before ++ q.last;
   status = q.status;
-  unready = both_all IsUnready _ q.last (segments_unready q.before q.whole) (last_unready q.last q.ends);
+  unready = each_join IsUnready _ q.last (segments_unready q.before q.whole) (last_unready q.last q.ends);
   are = q.are;
 }
 
@@ -145,8 +138,8 @@ bind_still old new (Some s) rs e (inr h) = fail_still old new rs e h
 
 pub portal_unready : (width : ℕ) (rs : List BackendMessage) → IsPortalResult width rs → AreUnready rs
 portal_unready width rs p = ⊎_elim
-    (λ (c : (tag : List ℕ) × (rs ≡ map DataRow p.0 ++ CommandComplete tag ∷ [])). subst AreUnready (sym c.1) (both_all IsUnready (map DataRow p.0) (CommandComplete c.0 ∷ []) (rows_unready p.0) (tt, tt)))
-    (λ (c : rs ≡ map DataRow p.0 ++ EmptyQueryResponse ∷ []). subst AreUnready (sym c) (both_all IsUnready (map DataRow p.0) (EmptyQueryResponse ∷ []) (rows_unready p.0) (tt, tt)))
+    (λ (c : (tag : List ℕ) × (rs ≡ map DataRow p.0 ++ CommandComplete tag ∷ [])). subst AreUnready (sym c.1) (each_join IsUnready (map DataRow p.0) (CommandComplete c.0 ∷ []) (rows_unready p.0) (tt, tt)))
+    (λ (c : rs ≡ map DataRow p.0 ++ EmptyQueryResponse ∷ []). subst AreUnready (sym c) (each_join IsUnready (map DataRow p.0) (EmptyQueryResponse ∷ []) (rows_unready p.0) (tt, tt)))
     p.2
 
 execute_still : (old new : Server) (o : Option (List FieldDescription)) (rs : List BackendMessage) → old.over ≡ false → StepsExecute old o rs new → IsStill rs new
@@ -188,7 +181,7 @@ inner_run old new (message ∷ messages) [] i e run = absurd run
 inner_run old new (message ∷ messages) (rs ∷ rss) i e run =
     let one = inner_step old run.0 message rs i.0 e run.1 in
     let further = inner_run run.0 new messages rss i.1 one.1 run.2 in
-    (both_all IsUnready rs _ one.0 further.0, further.1)
+    (each_join IsUnready rs _ one.0 further.0, further.1)
 
 -- the replies to a group are one whole response
 abbrev pub AnswersGroup : List (List BackendMessage) → Server → Type 0
@@ -224,7 +217,7 @@ ends_behind : (front rs : List BackendMessage) → AreUnready front → EndsRead
 ends_behind front rs u r = record {
   front = front ++ r.front;
   status = r.status;
-  unready = both_all IsUnready front r.front u r.unready;
+  unready = each_join IsUnready front r.front u r.unready;
   are = ap (λ (t : List BackendMessage). front ++ t) r.are ∙ sym (append_assoc front r.front (ReadyForQuery r.status ∷ []));
 }
 

@@ -12,6 +12,7 @@ use Rattle.pg_wire.proofs.CutLaws.{frame_unique}
 use Rattle.pg_wire.proofs.RunLaws.{prefix_trans}
 use Rattle.pg_wire.proofs.Unique.{frontend_frame_unique}
 use Rattle.pg_wire.specs.declared.status.TransactionStatus.TheVariants as statuses
+use Rattle.pg_wire.proofs.Each.{each_join}
 
 -- ---- the server can always go on
 
@@ -78,16 +79,12 @@ step_total old message = choose old.over old.skip _ _ _ ([], old, (refl, refl), 
 abbrev Runs_on : Server → List FrontendMessage → Type 0
 Runs_on old messages = (rss : List (List BackendMessage)) × (new : Server) × ServerRun old messages rss new × AllByRecursion HasBackendFrame (flat_map (λ rs. rs) rss)
 
-both_all : {A : Type 0} (P : A → Type 0) (xs ys : List A) → AllByRecursion P xs → AllByRecursion P ys → AllByRecursion P (xs ++ ys)
-both_all P [] ys h k = k
-both_all P (x ∷ xs) ys h k = (h.0, both_all P xs ys h.1 k)
-
 pub run_total : (old : Server) (messages : List FrontendMessage) → Runs_on old messages
 run_total old [] = ([], old, refl, tt)
 run_total old (message ∷ messages) =
     let one = step_total old message in
     let further = run_total one.1 messages in
-    (one.0 ∷ further.0, further.1, (one.1, one.2, further.2), both_all HasBackendFrame one.0 _ one.3 further.3)
+    (one.0 ∷ further.0, further.1, (one.1, one.2, further.2), each_join HasBackendFrame one.0 _ one.3 further.3)
 
 pub run_join : (old mid new : Server) (first second : List FrontendMessage) (front further : List (List BackendMessage)) → ServerRun old first front mid → ServerRun mid second further new → ServerRun old (first ++ second) (front ++ further) new
 run_join old mid new [] second [] further a b = subst (λ (m : Server). ServerRun m second further new) a b
@@ -112,7 +109,7 @@ sent_first tags bytes (f ∷ fs) (m ∷ ms) r w c p =
     regroup : (a b c d : List ℕ) → ((a ++ b) ++ c) ++ d ≡ a ++ (b ++ c ++ d)
     regroup a b c d = simp append_assoc
 
-said_first : (xs ys : List FrontendMessage) → AllByRecursion HasFrontendFrame xs → AllByRecursion HasFrontendFrame ys → IsPrefixOf (map frontend_frame xs) (map frontend_frame ys) → IsPrefixOf xs ys
+pub said_first : (xs ys : List FrontendMessage) → AllByRecursion HasFrontendFrame xs → AllByRecursion HasFrontendFrame ys → IsPrefixOf (map frontend_frame xs) (map frontend_frame ys) → IsPrefixOf xs ys
 said_first [] ys h k p = (ys, refl)
 said_first (x ∷ xs) [] h k p = absurd (no p.1)
   where
@@ -136,7 +133,7 @@ replies_answer messages sent heard h p r =
       replies = r.replies ++ further.0;
       after = further.1;
       run = subst (λ (s : List FrontendMessage). ServerRun fresh_server s (r.replies ++ further.0) further.1) (front.1 ∙ sym (append-nil messages)) (run_join fresh_server r.after further.1 r.messages front.0 r.replies further.0 r.run further.2);
-      replies_have_frames = subst (AllByRecursion HasBackendFrame) (sym joined) (both_all HasBackendFrame _ _ r.replies_have_frames further.3);
+      replies_have_frames = subst (AllByRecursion HasBackendFrame) (sym joined) (each_join HasBackendFrame _ _ r.replies_have_frames further.3);
       heard_is = prefix_trans heard _ _ r.heard_is (map backend_frame (flat_map (λ rs. rs) further.0), sym (map-append backend_frame (flat_map (λ rs. rs) r.replies) (flat_map (λ rs. rs) further.0)) ∙ ap (map backend_frame) (sym joined));
     }
 

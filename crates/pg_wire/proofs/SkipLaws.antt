@@ -8,6 +8,7 @@ use Rattle.pg_wire.specs.Backend.{FieldDescription, Values, BackendMessage, Read
 use Rattle.pg_wire.specs.Server.{Server, Statement, statement_at, without_statement, portal_at, IsPortalResult, DescribesFields, Fails, Ignores, StepsParse, StepsDescribe, StepsDescribePortal, StepsBind, StepsExecute, StepsClose, StepsSync, StepsTerminate, after_sync, Steps, Skips, ServerStep}
 use Rattle.pg_wire.specs.Groups.{IsInner}
 use Rattle.pg_wire.specs.declared.status.TransactionStatus.TheVariants as statuses
+use Rattle.pg_wire.proofs.Tests.{of_three}
 
 -- ---- a server that is over, or skips
 
@@ -142,13 +143,8 @@ skips_stop old new Sync front back d i h = absurd i
 skips_stop old new Terminate front back d i h = absurd i
 skips_stop old new _ front back d i h = nothing_stop old new front back d h
 
-by_flags : (over skip : Bool) (A B C D : Type 0) → (A → D) → (B → D) → (C → D) → cond over A (cond skip B C) → D
-by_flags true skip A B C D a b c h = a h
-by_flags false true A B C D a b c h = b h
-by_flags false false A B C D a b c h = c h
-
 pub error_stops : (old new : Server) (message : FrontendMessage) (front back : List BackendMessage) (details : List ErrorField) → IsInner message → ServerStep old message (front ++ ErrorResponse details ∷ back) new → (back ≡ []) × (new.skip ≡ true)
-error_stops old new message front back d i step = by_flags old.over old.skip _ _ _ _ (nothing_stop old new front back d) (skips_stop old new message front back d i) (steps_stop old new message front back d i) step
+error_stops old new message front back d i step = of_three old.over old.skip _ _ _ _ (nothing_stop old new front back d) (skips_stop old new message front back d i) (steps_stop old new message front back d i) step
 
 -- ---- what Terminate, Query and Sync leave
 
@@ -167,7 +163,7 @@ nothing_answered : (old new : Server) (r : BackendMessage) (rs : List BackendMes
 nothing_answered old new r rs h = let e = h.0 in cc
 
 pub query_drops : (old new : Server) (sql : List ℕ) (r : BackendMessage) (rs : List BackendMessage) → ServerStep old (Query sql) (r ∷ rs) new → new ≡ record old { unnamed = None; portal = None }
-query_drops old new sql r rs step = by_flags old.over old.skip _ _ _ _ (λ (h : Ignores old (r ∷ rs) new). absurd (nothing_answered old new r rs h)) (λ (h : Ignores old (r ∷ rs) new). absurd (nothing_answered old new r rs h)) (λ (h : Steps old (Query sql) (r ∷ rs) new). h.1) step
+query_drops old new sql r rs step = of_three old.over old.skip _ _ _ _ (λ (h : Ignores old (r ∷ rs) new). absurd (nothing_answered old new r rs h)) (λ (h : Ignores old (r ∷ rs) new). absurd (nothing_answered old new r rs h)) (λ (h : Steps old (Query sql) (r ∷ rs) new). h.1) step
 
 sync_status : (old new : Server) (front : List BackendMessage) (status : TransactionStatus) → StepsSync old (front ++ ReadyForQuery status ∷ []) new → new ≡ after_sync old status
 sync_status old new front status h = go front h.2
@@ -185,7 +181,7 @@ sync_status old new front status h = go front h.2
     go (x ∷ y ∷ z ∷ zs) (inr e) = let is = e.1 in absurd cc
 
 pub sync_leaves : (old new : Server) (front : List BackendMessage) (status : TransactionStatus) → ServerStep old Sync (front ++ ReadyForQuery status ∷ []) new → new ≡ after_sync old status
-sync_leaves old new front status step = by_flags old.over old.skip _ _ _ _ (λ (h : Ignores old (front ++ ReadyForQuery status ∷ []) new). absurd (empty front h.0)) (sync_status old new front status) (sync_status old new front status) step
+sync_leaves old new front status step = of_three old.over old.skip _ _ _ _ (λ (h : Ignores old (front ++ ReadyForQuery status ∷ []) new). absurd (empty front h.0)) (sync_status old new front status) (sync_status old new front status) step
   where
     empty : (xs : List BackendMessage) → xs ++ ReadyForQuery status ∷ [] ≡ [] → ⊥
     empty [] e = cc

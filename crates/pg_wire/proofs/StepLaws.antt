@@ -6,6 +6,8 @@ use Rattle.std.proofs.lemmas.Slice.Eq.{bytes_eq-Decides}
 use Rattle.pg_wire.specs.Frontend.{FrontendMessage, Query, Parse, DescribeStatement, DescribePortal, Bind, Execute, CloseStatement, ClosePortal, Sync, Terminate, CopyData, CopyDone, CopyFail}
 use Rattle.pg_wire.specs.Backend.{FieldDescription, Values, BackendMessage, ParseComplete, RowDescription, ParameterDescription, DataRow, CommandComplete, ErrorResponse, EmptyQueryResponse, BindComplete, NoData}
 use Rattle.pg_wire.specs.Server.{Server, Statement, named_at, statement_at, portal_at, AreWide, EndsInError, IsPortalResult, DescribesFields, Fails, Ignores, StepsParse, StepsDescribe, StepsDescribePortal, StepsBind, StepsExecute, StepsSync, StepsTerminate, Steps, Skips, ServerStep}
+use Rattle.pg_wire.proofs.Each.{each_join, each_first}
+use Rattle.pg_wire.proofs.Tests.{of_three}
 
 -- ---- named statements
 
@@ -114,15 +116,9 @@ kept_skips name s old new Sync rs k h = kept_sync name s old new rs k h
 kept_skips name s old new Terminate rs k h = kept_end name s old new rs k h
 kept_skips name s old new _ rs k h = kept_ignore name s old new rs k h
 
--- one of three, by two flags
-by_flags : (over skip : Bool) (A B C D : Type 0) → (A → D) → (B → D) → (C → D) → cond over A (cond skip B C) → D
-by_flags true skip A B C D a b c h = a h
-by_flags false true A B C D a b c h = b h
-by_flags false false A B C D a b c h = c h
-
 pub statement_stays : (old new : Server) (message : FrontendMessage) (rs : List BackendMessage) (b : ℕ) (bs : List ℕ) (s : Statement) → statement_at old (b ∷ bs) ≡ Some s → ServerStep old message rs new
     → (statement_at new (b ∷ bs) ≡ Some s) ⊎ (message ≡ CloseStatement (b ∷ bs))
-statement_stays old new message rs b bs s k step = by_flags old.over old.skip _ _ _ _ (λ (h : Ignores old rs new). inl (kept_ignore (b ∷ bs) s old new rs k h)) (λ (h : Skips old message rs new). inl (kept_skips (b ∷ bs) s old new message rs k h)) (stays_steps b bs s old new message rs k) step
+statement_stays old new message rs b bs s k step = of_three old.over old.skip _ _ _ _ (λ (h : Ignores old rs new). inl (kept_ignore (b ∷ bs) s old new rs k h)) (λ (h : Skips old message rs new). inl (kept_skips (b ∷ bs) s old new message rs k h)) (stays_steps b bs s old new message rs k) step
 
 -- ---- columns
 
@@ -160,10 +156,10 @@ not_ignored : (old new : Server) (r : BackendMessage) (rs : List BackendMessage)
 not_ignored old new r rs h = let e = h.0 in cc
 
 pub columns_are_told : (old new : Server) (name types : List ℕ) (fields : List FieldDescription) → ServerStep old (DescribeStatement name) (ParameterDescription types ∷ RowDescription fields ∷ []) new → (s : Statement) × (statement_at old name ≡ Some s) × (s.fields ≡ fields)
-columns_are_told old new name types fields step = by_flags old.over old.skip _ _ _ _ (λ (h : Ignores old (ParameterDescription types ∷ RowDescription fields ∷ []) new). absurd (not_ignored old new _ _ h)) (λ (h : Ignores old (ParameterDescription types ∷ RowDescription fields ∷ []) new). absurd (not_ignored old new _ _ h)) (described old new (statement_at old name) types fields) step
+columns_are_told old new name types fields step = of_three old.over old.skip _ _ _ _ (λ (h : Ignores old (ParameterDescription types ∷ RowDescription fields ∷ []) new). absurd (not_ignored old new _ _ h)) (λ (h : Ignores old (ParameterDescription types ∷ RowDescription fields ∷ []) new). absurd (not_ignored old new _ _ h)) (described old new (statement_at old name) types fields) step
 
 pub no_columns_are_told : (old new : Server) (name types : List ℕ) → ServerStep old (DescribeStatement name) (ParameterDescription types ∷ NoData ∷ []) new → (s : Statement) × (statement_at old name ≡ Some s) × (s.fields ≡ [])
-no_columns_are_told old new name types step = by_flags old.over old.skip _ _ _ _ (λ (h : Ignores old (ParameterDescription types ∷ NoData ∷ []) new). absurd (not_ignored old new _ _ h)) (λ (h : Ignores old (ParameterDescription types ∷ NoData ∷ []) new). absurd (not_ignored old new _ _ h)) (described_none old new (statement_at old name) types) step
+no_columns_are_told old new name types step = of_three old.over old.skip _ _ _ _ (λ (h : Ignores old (ParameterDescription types ∷ NoData ∷ []) new). absurd (not_ignored old new _ _ h)) (λ (h : Ignores old (ParameterDescription types ∷ NoData ∷ []) new). absurd (not_ignored old new _ _ h)) (described_none old new (statement_at old name) types) step
 
 bound : (old new : Server) (o : Option Statement) → StepsBind old o (BindComplete ∷ []) new → (s : Statement) × (o ≡ Some s) × (new.portal ≡ Some s.fields)
 bound old new None h = let e = h.1 in absurd cc
@@ -171,7 +167,7 @@ bound old new (Some s) (inl h) = (s, refl, ap (λ (m : Server). m.portal) h.1)
 bound old new (Some s) (inr h) = let e = h.1 in absurd cc
 
 pub portal_is_bound : (old new : Server) (name : List ℕ) (values : List (Option (List ℕ))) → ServerStep old (Bind name values) (BindComplete ∷ []) new → (s : Statement) × (statement_at old name ≡ Some s) × (new.portal ≡ Some s.fields)
-portal_is_bound old new name values step = by_flags old.over old.skip _ _ _ _ (λ (h : Ignores old (BindComplete ∷ []) new). absurd (not_ignored old new _ _ h)) (λ (h : Ignores old (BindComplete ∷ []) new). absurd (not_ignored old new _ _ h)) (bound old new (statement_at old name)) step
+portal_is_bound old new name values step = of_three old.over old.skip _ _ _ _ (λ (h : Ignores old (BindComplete ∷ []) new). absurd (not_ignored old new _ _ h)) (λ (h : Ignores old (BindComplete ∷ []) new). absurd (not_ignored old new _ _ h)) (bound old new (statement_at old name)) step
 
 -- ---- rows
 
@@ -179,14 +175,6 @@ portal_is_bound old new name values step = by_flags old.over old.skip _ _ _ _ (�
 abbrev IsRowOf : ℕ → BackendMessage → Type 0
 IsRowOf width (DataRow values) = length values ≡ width
 IsRowOf width _ = Unit {0}
-
-both_all : {A : Type 0} (P : A → Type 0) (xs ys : List A) → AllByRecursion P xs → AllByRecursion P ys → AllByRecursion P (xs ++ ys)
-both_all P [] ys h k = k
-both_all P (x ∷ xs) ys h k = (h.0, both_all P xs ys h.1 k)
-
-front_all : {A : Type 0} (P : A → Type 0) (xs ys : List A) → AllByRecursion P (xs ++ ys) → AllByRecursion P xs
-front_all P [] ys h = tt
-front_all P (x ∷ xs) ys h = (h.0, front_all P xs ys h.1)
 
 at_place : {A : Type 0} (P : A → Type 0) (xs : List A) (x : A) (ys : List A) → AllByRecursion P (xs ++ x ∷ ys) → P x
 at_place P [] x ys h = h.0
@@ -198,12 +186,12 @@ rows_of width (row ∷ rows) h = (h.0, rows_of width rows h.1)
 
 result_rows : (width : ℕ) (rs : List BackendMessage) → IsPortalResult width rs → AllByRecursion (IsRowOf width) rs
 result_rows width rs p = ⊎_elim
-    (λ (c : (tag : List ℕ) × (rs ≡ map DataRow p.0 ++ CommandComplete tag ∷ [])). subst (AllByRecursion (IsRowOf width)) (sym c.1) (both_all (IsRowOf width) (map DataRow p.0) (CommandComplete c.0 ∷ []) (rows_of width p.0 p.1) (tt, tt)))
-    (λ (c : rs ≡ map DataRow p.0 ++ EmptyQueryResponse ∷ []). subst (AllByRecursion (IsRowOf width)) (sym c) (both_all (IsRowOf width) (map DataRow p.0) (EmptyQueryResponse ∷ []) (rows_of width p.0 p.1) (tt, tt)))
+    (λ (c : (tag : List ℕ) × (rs ≡ map DataRow p.0 ++ CommandComplete tag ∷ [])). subst (AllByRecursion (IsRowOf width)) (sym c.1) (each_join (IsRowOf width) (map DataRow p.0) (CommandComplete c.0 ∷ []) (rows_of width p.0 p.1) (tt, tt)))
+    (λ (c : rs ≡ map DataRow p.0 ++ EmptyQueryResponse ∷ []). subst (AllByRecursion (IsRowOf width)) (sym c) (each_join (IsRowOf width) (map DataRow p.0) (EmptyQueryResponse ∷ []) (rows_of width p.0 p.1) (tt, tt)))
     p.2
 
 broken_rows : (width : ℕ) (rs : List BackendMessage) → EndsInError (IsPortalResult width) rs → AllByRecursion (IsRowOf width) rs
-broken_rows width rs b = subst (AllByRecursion (IsRowOf width)) (sym b.5) (both_all (IsRowOf width) b.0 (ErrorResponse b.2 ∷ []) (front_all (IsRowOf width) b.0 b.1 (result_rows width _ b.3)) (tt, tt))
+broken_rows width rs b = subst (AllByRecursion (IsRowOf width)) (sym b.5) (each_join (IsRowOf width) b.0 (ErrorResponse b.2 ∷ []) (each_first (IsRowOf width) b.0 b.1 (result_rows width _ b.3)) (tt, tt))
 
 -- a row stands among these replies
 not_error : (front back : List BackendMessage) (values : Values) (details : List ErrorField) → front ++ DataRow values ∷ back ≡ ErrorResponse details ∷ [] → ⊥
@@ -222,7 +210,7 @@ not_empty old new (x ∷ xs) back r h = let e = h.0 in cc
 
 pub row_is_wide : (old new : Server) (portal : List ℕ) (limit : ℕ) (front back : List BackendMessage) (values : Values) → ServerStep old (Execute portal limit) (front ++ DataRow values ∷ back) new
     → (fields : List FieldDescription) × (portal_at old portal ≡ Some fields) × (length values ≡ length fields)
-row_is_wide old new portal limit front back values step = by_flags old.over old.skip _ _ _ _ (λ (h : Ignores old (front ++ DataRow values ∷ back) new). absurd (not_empty old new front back _ h)) (λ (h : Ignores old (front ++ DataRow values ∷ back) new). absurd (not_empty old new front back _ h)) (executed old new (portal_at old portal) front back values) step
+row_is_wide old new portal limit front back values step = of_three old.over old.skip _ _ _ _ (λ (h : Ignores old (front ++ DataRow values ∷ back) new). absurd (not_empty old new front back _ h)) (λ (h : Ignores old (front ++ DataRow values ∷ back) new). absurd (not_empty old new front back _ h)) (executed old new (portal_at old portal) front back values) step
 
 -- ---- Parse
 
@@ -235,7 +223,7 @@ parsed_at old new (b ∷ bs) sql (inl h) = (h.1, ap (λ (m : Server). named_at m
 parsed_at old new name sql (inr h) = let e = h.1 in absurd cc
 
 pub statement_is_parsed : (old new : Server) (name sql types : List ℕ) → ServerStep old (Parse name sql types) (ParseComplete ∷ []) new → (fields : List FieldDescription) × (statement_at new name ≡ Some (record { sql = sql; fields = fields }))
-statement_is_parsed old new name sql types step = by_flags old.over old.skip _ _ _ _ (λ (h : Ignores old (ParseComplete ∷ []) new). absurd (not_ignored old new _ _ h)) (λ (h : Ignores old (ParseComplete ∷ []) new). absurd (not_ignored old new _ _ h)) (parsed_at old new name sql) step
+statement_is_parsed old new name sql types step = of_three old.over old.skip _ _ _ _ (λ (h : Ignores old (ParseComplete ∷ []) new). absurd (not_ignored old new _ _ h)) (λ (h : Ignores old (ParseComplete ∷ []) new). absurd (not_ignored old new _ _ h)) (parsed_at old new name sql) step
 
 -- a Parse of a name that is taken has no other reply than an error
 taken_fails : (old new : Server) (name sql : List ℕ) (rs : List BackendMessage) (s : Statement) → name ≢ [] → statement_at old name ≡ Some s → StepsParse old name sql rs new → Fails old rs new
@@ -244,7 +232,7 @@ taken_fails old new (b ∷ bs) sql rs s n e (inl h) = let free = h.0 in absurd c
 taken_fails old new (b ∷ bs) sql rs s n e (inr h) = h
 
 pub taken_name_fails : (old new : Server) (name sql types : List ℕ) (s : Statement) → name ≢ [] → statement_at old name ≡ Some s → ServerStep old (Parse name sql types) (ParseComplete ∷ []) new → ⊥
-taken_name_fails old new name sql types s n e step = by_flags old.over old.skip _ _ _ _ (λ (h : Ignores old (ParseComplete ∷ []) new). not_ignored old new _ _ h) (λ (h : Ignores old (ParseComplete ∷ []) new). not_ignored old new _ _ h) (λ (h : StepsParse old name sql (ParseComplete ∷ []) new). no (taken_fails old new name sql (ParseComplete ∷ []) s n e h)) step
+taken_name_fails old new name sql types s n e step = of_three old.over old.skip _ _ _ _ (λ (h : Ignores old (ParseComplete ∷ []) new). not_ignored old new _ _ h) (λ (h : Ignores old (ParseComplete ∷ []) new). not_ignored old new _ _ h) (λ (h : StepsParse old name sql (ParseComplete ∷ []) new). no (taken_fails old new name sql (ParseComplete ∷ []) s n e h)) step
   where
     no : Fails old (ParseComplete ∷ []) new → ⊥
     no f = let is = f.1 in cc

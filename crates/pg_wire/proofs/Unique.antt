@@ -1,44 +1,43 @@
 -- A frame is read in one way: it carries at most one message of each side.
 use Rattle.pg_wire.specs.declared.fields.ErrorField.{ErrorField}
 use Rattle.pg_wire.specs.declared.status.TransactionStatus.{TransactionStatus}
-use Rattle.std.proofs.Common.{◌≡◌, ℕ, ℤ, ◌-◌, ◌<◌, ◌^◌, Bool, true, false, ◌||◌, nat_eq, List, [], ◌∷◌, ◌++◌, length, Option, Some, None, get_or, refl, sym, ap, ap₂, ◌∙◌, append_assoc, append-nil, arith, flat_map}
+use Rattle.std.proofs.Common.{◌≡◌, ℕ, ℤ, ◌-◌, ◌<◌, ◌^◌, true, nat_eq, List, [], ◌∷◌, ◌++◌, length, Option, Some, None, get_or, refl, sym, ap, ap₂, ◌∙◌, append_assoc, append-nil, arith, flat_map}
 use Rattle.std.specs.List.{AllByRecursion, list_any}
 use Rattle.std.specs.Int.{w8, w16, w32, from_be_bytes, cast_unsigned, cast_signed}
 use Rattle.std.specs.Prelude.{FitsSigned}
-use Rattle.std.proofs.lemmas.Int.{ints, to_z-of_z}
+use Rattle.std.proofs.lemmas.Int.{to_z-of_z}
 use Rattle.std.proofs.lemmas.Nat.{from_be_bytes-to_be_bytes_4, from_be_bytes-to_be_bytes_2}
 use Rattle.pg_wire.specs.Bytes.{number16, number32, signed16, signed32, ended, value, HasNoNul}
 use Rattle.pg_wire.specs.Frame.{Frame}
 use Rattle.pg_wire.specs.Frontend.{FrontendMessage, frontend_frame, HasFrontendFrame, FitsValue, IsNumber32, type_list, bound, statement, portal, Query, Parse, DescribeStatement, DescribePortal, Bind, Execute, CloseStatement, ClosePortal, Sync, Terminate, CopyData, CopyDone, CopyFail}
 use Rattle.pg_wire.specs.Backend.{FieldDescription, FitsField, FitsDetail, field_bytes, detail_bytes, details_bytes, copy_bytes, status_byte, IsColumns, BackendMessage, backend_frame, HasBackendFrame, row_bytes, fields_bytes, DataRow, CommandComplete, ReadyForQuery, Authentication, BackendKeyData, ParameterStatus, RowDescription, ParameterDescription, ErrorResponse, NoticeResponse, NotificationResponse, CopyInResponse, CopyOutResponse, BackendCopyData, BackendCopyDone, EmptyQueryResponse, ParseComplete, BindComplete, CloseComplete, NoData, PortalSuspended}
 use Rattle.pg_wire.specs.declared.status.TransactionStatus.TheVariants as statuses
+use Rattle.pg_wire.proofs.Tests.{neither_true}
+use Rattle.pg_wire.proofs.ReaderLaws.{signed_bound16, signed_bound32}
+use Rattle.pg_wire.proofs.CutLaws.{same_front}
 
 -- the code of a value that fits begins no other
 abbrev pub IsFrontCode : {A : Type 0} → (A → Type 0) → (A → List ℕ) → Type 0
 IsFrontCode {A} P f = (a b : A) (x y : List ℕ) → P a → P b → f a ++ x ≡ f b ++ y → (a ≡ b) × (x ≡ y)
 
-or_false : (a b : Bool) → (a || b) ≡ false → (a ≡ false) × (b ≡ false)
-or_false true b e = absurd cc
-or_false false b e = (refl, e)
-
 pub ended_front : IsFrontCode HasNoNul ended
 ended_front [] [] x y h k e = (refl, cc)
 ended_front [] (c ∷ cs) x y h k e =
     let zero_is : 0 ≡ c = cc in
-    let apart = or_false (nat_eq 0 c) (list_any (nat_eq 0) cs) k in
+    let apart = neither_true (nat_eq 0 c) (list_any (nat_eq 0) cs) k in
     let same : true ≡ nat_eq 0 c = ap (nat_eq 0) zero_is in
     let apart_is = apart.0 in
     absurd cc
 ended_front (c ∷ cs) [] x y h k e =
     let zero_is : 0 ≡ c = cc in
-    let apart = or_false (nat_eq 0 c) (list_any (nat_eq 0) cs) h in
+    let apart = neither_true (nat_eq 0 c) (list_any (nat_eq 0) cs) h in
     let same : true ≡ nat_eq 0 c = ap (nat_eq 0) zero_is in
     let apart_is = apart.0 in
     absurd cc
 ended_front (c ∷ cs) (d ∷ ds) x y h k e =
     let heads : c ≡ d = cc in
     let tails : ended cs ++ x ≡ ended ds ++ y = cc in
-    let further = ended_front cs ds x y (or_false (nat_eq 0 c) _ h).1 (or_false (nat_eq 0 d) _ k).1 tails in
+    let further = ended_front cs ds x y (neither_true (nat_eq 0 c) _ h).1 (neither_true (nat_eq 0 d) _ k).1 tails in
     (cc (heads, further.0), further.1)
 
 pub number32_front : IsFrontCode (λ n. n < 2 ^ 32) number32
@@ -50,17 +49,6 @@ pub number16_front : IsFrontCode (λ n. n < 2 ^ 16) number16
 number16_front m n x y h k e =
     let size : number16 m ≡ number16 n = cc in
     (sym (from_be_bytes-to_be_bytes_2 m h) ∙ ap (from_be_bytes w16) size ∙ from_be_bytes-to_be_bytes_2 n k, cc)
-
--- bytes behind their length
-same_front : {A : Type 0} (xs ys a b : List A) → length xs ≡ length ys → xs ++ a ≡ ys ++ b → (xs ≡ ys) × (a ≡ b)
-same_front [] [] a b len e = (refl, e)
-same_front [] (y ∷ ys) a b len e = absurd (omega arith)
-same_front (x ∷ xs) [] a b len e = absurd (omega arith)
-same_front (x ∷ xs) (y ∷ ys) a b len e =
-    let tails : xs ++ a ≡ ys ++ b = cc in
-    let further = same_front xs ys a b (omega (arith, len)) tails in
-    let heads : x ≡ y = cc in
-    (cc (heads, further.0), further.1)
 
 pub value_front : IsFrontCode FitsValue value
 value_front None None x y h k e = (refl, cc)
@@ -150,12 +138,6 @@ frontend_frame_unique (CopyFail a) (CopyFail b) h k e = ap CopyFail (whole_code 
 frontend_frame_unique _ _ h k e = let tags = ap (λ (m : Frame). m.tag) e in let heads = ap (λ (m : Frame). get_or m.body 0 0) e in absurd (omega (arith, tags, heads))
 
 -- ---- a server's messages
-
-signed_bound16 : (z : ℤ) → FitsSigned w16 z → cast_unsigned w16 z < 2 ^ 16
-signed_bound16 z h = omega (arith, ints)
-
-signed_bound32 : (z : ℤ) → FitsSigned w32 z → cast_unsigned w32 z < 2 ^ 32
-signed_bound32 z h = omega (arith, ints)
 
 signed16_front : IsFrontCode (FitsSigned w16) signed16
 signed16_front a b x y h k e =

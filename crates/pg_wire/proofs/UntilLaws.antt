@@ -4,7 +4,8 @@ use Rattle.std.specs.List.{AllByRecursion}
 use Rattle.std.proofs.lemmas.List.{length-append}
 use Rattle.pg_wire.specs.Bytes.{AreBytes}
 use Rattle.pg_wire.specs.Reading.{◌>>=◌, Reader, entry_at, followed_by, until_at, listed_at}
-use Rattle.pg_wire.proofs.ReaderLaws.{some_is, bind_some, rest_bytes, IsExact}
+use Rattle.pg_wire.proofs.ReaderLaws.{bind_some, rest_bytes, IsExact}
+use Rattle.std.proofs.lemmas.Option.{same_Some}
 
 -- items whose codes do not begin with a zero byte
 pub record IsItem {A : Type 0} (P Q : A → Type 0) (f : A → List ℕ) : Type 0 where
@@ -34,22 +35,22 @@ Took Q f bytes (Some a, rest) = Q a × (bytes ≡ f a ++ rest)
 entry_takes : {A : Type 0} (P Q : A → Type 0) (f : A → List ℕ) (item : Reader A) → IsExact P f item → IsItem P Q f → (bytes : List ℕ) (x : Option A × List ℕ) → AreBytes bytes → entry_at item bytes ≡ Some x → Took Q f bytes x
 unfolding entry_at
 entry_takes P Q f item p q [] x h e = absurd cc
-entry_takes P Q f item p q (zero ∷ bytes) x h e = subst (Took Q f (0 ∷ bytes)) (some_is (None, bytes) x e) refl
+entry_takes P Q f item p q (zero ∷ bytes) x h e = subst (Took Q f (0 ∷ bytes)) (same_Some (None, bytes) x e) refl
 entry_takes P Q f item p q (suc b ∷ bytes) x h e =
     let a = bind_some (item (suc b ∷ bytes)) (λ y. Some (Some y.0, y.1)) x e in
     let t = p.takes (suc b ∷ bytes) a.0 h a.1 in
     let head : suc b ≡ get_or (f a.0.0) 0 0 = ap (λ (u : List ℕ). get_or u 0 0) t.1 ∙ head_is (f a.0.0) a.0.1 (q.filled a.0.0) in
-    subst (Took Q f (suc b ∷ bytes)) (some_is (Some a.0.0, a.0.1) x a.2) (q.fits a.0.0 t.0 (λ z. let clash = head ∙ z in absurd (omega (arith, clash))), t.1)
+    subst (Took Q f (suc b ∷ bytes)) (same_Some (Some a.0.0, a.0.1) x a.2) (q.fits a.0.0 t.0 (λ z. let clash = head ∙ z in absurd (omega (arith, clash))), t.1)
 
 follows : {A : Type 0} (P Q : A → Type 0) (f : A → List ℕ) (item : Reader A) → IsExact P f item → IsItem P Q f → (n : ℕ) (bytes : List ℕ) (entry : Option A × List ℕ) (x : List A × List ℕ) → AreBytes bytes → Took Q f bytes entry
     → ((rest : List ℕ) (y : List A × List ℕ) → AreBytes rest → until_at item n rest ≡ Some y → AllByRecursion Q y.0 × (rest ≡ listed_bytes f y.0 ++ y.1))
     → followed_by (until_at item n) entry ≡ Some x → AllByRecursion Q x.0 × (bytes ≡ listed_bytes f x.0 ++ x.1)
-follows {A} P Q f item p q n bytes (None, rest) x h took further e = subst (λ (y : List A × List ℕ). AllByRecursion Q y.0 × (bytes ≡ listed_bytes f y.0 ++ y.1)) (some_is ([], rest) x e) (tt, took)
+follows {A} P Q f item p q n bytes (None, rest) x h took further e = subst (λ (y : List A × List ℕ). AllByRecursion Q y.0 × (bytes ≡ listed_bytes f y.0 ++ y.1)) (same_Some ([], rest) x e) (tt, took)
 follows {A} P Q f item p q n bytes (Some a, rest) x h took further e =
     let b = bind_some (until_at item n rest) (λ y. Some (a ∷ y.0, y.1)) x e in
     let t = further rest b.0 (rest_bytes bytes (f a) rest h took.1) b.1 in
     let whole : bytes ≡ listed_bytes f (a ∷ b.0.0) ++ b.0.1 = took.1 ∙ ap (λ (u : List ℕ). f a ++ u) t.1 ∙ simp append_assoc in
-    subst (λ (y : List A × List ℕ). AllByRecursion Q y.0 × (bytes ≡ listed_bytes f y.0 ++ y.1)) (some_is (a ∷ b.0.0, b.0.1) x b.2) ((took.0, t.0), whole)
+    subst (λ (y : List A × List ℕ). AllByRecursion Q y.0 × (bytes ≡ listed_bytes f y.0 ++ y.1)) (same_Some (a ∷ b.0.0, b.0.1) x b.2) ((took.0, t.0), whole)
 
 until_takes : {A : Type 0} (P Q : A → Type 0) (f : A → List ℕ) (item : Reader A) → IsExact P f item → IsItem P Q f → (n : ℕ) (bytes : List ℕ) (x : List A × List ℕ) → AreBytes bytes → until_at item n bytes ≡ Some x → AllByRecursion Q x.0 × (bytes ≡ listed_bytes f x.0 ++ x.1)
 unfolding until_at

@@ -1,10 +1,10 @@
-use Rattle.std.proofs.Common.{◌≡◌, Bool, true, false, IsTrue, ◌↔◌, Result, Ok, Err, Some, refl, sym, arith}
-use Rattle.std.specs.Prelude.{IfOk}
+use Rattle.std.proofs.Common.{◌≡◌, Bool, true, false, IsTrue, ◌↔◌, Some, refl, sym, arith}
 use Rattle.base64.specs.GeneralPurpose.{IsBytes}
 use Rattle.pg_auth.specs.Reading.{said, server_first_at}
 use Rattle.pg_auth.proofs.PlainLemmas.{printable_ascii}
 use Rattle.pg_auth.proofs.ServerFirstLaws.{server_first_is, no_server_first}
 use Rattle.pg_auth.proofs.scram.answer.scram_proof.Goals as goal
+use Rattle.pg_wire.proofs.Tests.{if_ok}
 
 pub returns-in_default-clause-refused : goal.returns-in_default-clause-refused
 returns-in_default-clause-refused c =
@@ -15,10 +15,6 @@ false_true b e h = cc
 
 not_then : (b : Bool) (P : Type 0) → (IsTrue b ↔ P) → b ≡ false → P → ⊥
 not_then b P iff e p = false_true b e (iff.1 p)
-
-if_ok : {A E : Type 0} {P Q : A → Type 0} (r : Result A E) → ((x : A) → P x → Q x) → IfOk r P → IfOk r Q
-if_ok (Ok x) f h = f x h
-if_ok (Err e) f h = h
 
 pub returns-then-not-continues-clause-refused : goal.returns-then-not-continues-clause-refused
 returns-then-not-continues-clause-refused c =
