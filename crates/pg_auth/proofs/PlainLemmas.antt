@@ -8,7 +8,7 @@ use Rattle.std.specs.Prelude.{nat_lt, cond}
 use Rattle.pg_auth.specs.Nonce.{is_printable, ArePrintable}
 use Rattle.pg_auth.specs.Scram.{IsPlain, first_outside, is_outside}
 
-all_before : (n m : ℕ) (o : ℕ) → cond (nat_lt n m) (Some o) None ≡ None → nat_lt n m ≡ false
+pub all_before : (n m : ℕ) (o : ℕ) → cond (nat_lt n m) (Some o) None ≡ None → nat_lt n m ≡ false
 all_before n m o e = grind arith
 
 inside : (b : ℕ) → is_outside b ≡ false → b < 128

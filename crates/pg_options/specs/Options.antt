@@ -1,5 +1,5 @@
 -- What is seen of connect options, and what they are where only settings speak.
-use Rattle.std.specs.Prelude.{ℕ, ℤ, pos, List, Option, Some, None, option_map, option_and_then, unwrap_or, codes}
+use Rattle.std.specs.Prelude.{ℕ, ℤ, pos, List, [], Option, Some, None, option_map, option_and_then, unwrap_or, codes}
 use Rattle.std.specs.Option.{option_or}
 use Rattle.pg_options.specs.Certificates.{certificate_from}
 use Rattle.pg_options.specs.Numbers.{port_from}
@@ -32,6 +32,25 @@ defaults = record {
   port = 5432;
   socket = None;
   username = codes "unknown";
+  password = None;
+  database = None;
+  ssl_mode = Prefer;
+  ssl_root_cert = None;
+  ssl_client_cert = None;
+  ssl_client_key = None;
+  statement_cache_capacity = 100;
+  application_name = None;
+  extra_float_digits = Some (pos 2);
+  options = None;
+}
+
+-- before anything is set
+abbrev pub unset : ConnectOptions
+unset = record {
+  host = [];
+  port = 0;
+  socket = None;
+  username = [];
   password = None;
   database = None;
   ssl_mode = Prefer;

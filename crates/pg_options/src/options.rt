@@ -1,7 +1,9 @@
-ghost use Rattle.std.specs.Prelude.{◌≡◌, IfOk};
+ghost use Rattle.std.specs.Prelude.{◌≡◌, OnOk};
 ghost use Rattle.pg_options.specs.Answering.{Makes};
+ghost use Rattle.pg_options.specs.Options.{unset};
 
 use crate::{CertificateInput, PgSslMode};
+use building::set_text;
 use pg_wire::{Error, Text};
 use std::alloc::{AllocError, Global};
 use std::marker::Model;
@@ -48,46 +50,85 @@ impl PgConnectOptions {
     pub fn clone(&self) -> Result<Self, Error>
         ensures { Makes result self.now }
     {
-        let alloc = self.alloc;
-        Ok(PgConnectOptions {
+        let mut copy = PgConnectOptions::unset(self.alloc);
+        let set = copy.copy_from(self);
+        copy.kept(set)
+    }
+
+    // Options that take no memory, for what sets them all.
+    fn unset(alloc: Global) -> Self
+        ensures { result ≡ unset }
+    {
+        PgConnectOptions {
             alloc,
-            host: self.host.to_copy(alloc)?,
-            port: self.port,
-            socket: copied(alloc, &self.socket)?,
-            username: self.username.to_copy(alloc)?,
-            password: copied(alloc, &self.password)?,
-            database: copied(alloc, &self.database)?,
-            ssl_mode: self.ssl_mode,
-            ssl_root_cert: copied_input(alloc, &self.ssl_root_cert)?,
-            ssl_client_cert: copied_input(alloc, &self.ssl_client_cert)?,
-            ssl_client_key: copied_input(alloc, &self.ssl_client_key)?,
-            statement_cache_capacity: self.statement_cache_capacity,
-            application_name: copied(alloc, &self.application_name)?,
-            extra_float_digits: self.extra_float_digits,
-            options: copied(alloc, &self.options)?,
-        })
+            host: Text::new(alloc),
+            port: 0,
+            socket: None,
+            username: Text::new(alloc),
+            password: None,
+            database: None,
+            ssl_mode: PgSslMode::Prefer,
+            ssl_root_cert: None,
+            ssl_client_cert: None,
+            ssl_client_key: None,
+            statement_cache_capacity: 100,
+            application_name: None,
+            extra_float_digits: Some(2),
+            options: None,
+        }
+    }
+
+    fn copy_from(&mut self, other: &Self) -> Result<(), AllocError>
+        ensures { OnOk result (self.new ≡ other.now) }
+    {
+        self.port = other.port;
+        self.ssl_mode = other.ssl_mode;
+        self.statement_cache_capacity = other.statement_cache_capacity;
+        self.extra_float_digits = other.extra_float_digits;
+        set_text(self.alloc, &mut self.host, other.host.as_str())?;
+        copy_text(self.alloc, &mut self.socket, &other.socket)?;
+        set_text(self.alloc, &mut self.username, other.username.as_str())?;
+        copy_text(self.alloc, &mut self.password, &other.password)?;
+        copy_text(self.alloc, &mut self.database, &other.database)?;
+        copy_input(self.alloc, &mut self.ssl_root_cert, &other.ssl_root_cert)?;
+        copy_input(
+            self.alloc,
+            &mut self.ssl_client_cert,
+            &other.ssl_client_cert,
+        )?;
+        copy_input(self.alloc, &mut self.ssl_client_key, &other.ssl_client_key)?;
+        copy_text(
+            self.alloc,
+            &mut self.application_name,
+            &other.application_name,
+        )?;
+        copy_text(self.alloc, &mut self.options, &other.options)?;
+        Ok(())
     }
 }
 
-// A text that may be unset, in memory of its own.
-fn copied(alloc: Global, text: &Option<Text>) -> Result<Option<Text>, AllocError>
-    ensures { IfOk result (λ t. t ≡ text.now) }
+// Sets a text, or unsets it, as another one is.
+fn copy_text(alloc: Global, slot: &mut Option<Text>, other: &Option<Text>) -> Result<(), AllocError>
+    ensures { OnOk result (slot.new ≡ other.now) }
 {
-    match text {
-        Some(text) => Ok(Some(text.to_copy(alloc)?)),
-        None => Ok(None),
-    }
+    *slot = match other {
+        Some(text) => Some(text.to_copy(alloc)?),
+        None => None,
+    };
+    Ok(())
 }
 
 // The same of a certificate or key.
-fn copied_input(
+fn copy_input(
     alloc: Global,
-    input: &Option<CertificateInput>,
-) -> Result<Option<CertificateInput>, AllocError>
-    ensures { IfOk result (λ i. i ≡ input.now) }
+    slot: &mut Option<CertificateInput>,
+    other: &Option<CertificateInput>,
+) -> Result<(), AllocError>
+    ensures { OnOk result (slot.new ≡ other.now) }
 {
-    match input {
-        Some(input) => Ok(Some(input.to_copy(alloc)?)),
-        None => Ok(None),
-    }
+    *slot = match other {
+        Some(input) => Some(input.to_copy(alloc)?),
+        None => None,
+    };
+    Ok(())
 }

@@ -1,5 +1,5 @@
 // Texts in a URL: what they stand for, and which of them are addresses.
-ghost use Rattle.std.specs.Prelude.{◌≡◌, Ok, IfOk, string_bytes, option_copied};
+ghost use Rattle.std.specs.Prelude.{◌≡◌, Ok, IfOk, is_ok, string_bytes, option_copied};
 ghost use Rattle.std.specs.List.{list_all};
 ghost use Rattle.std.specs.Cow.{cow_str_bytes};
 ghost use Rattle.percent_encoding.specs.Percent as percent;
@@ -95,10 +95,17 @@ fn is_ipv6(alloc: Global, text: &str) -> Result<bool, Error>
         return Ok(false);
     }
     let url = bracketed_url(alloc, text)?;
-    match read_url(alloc, url.as_str()) {
+    is_url(alloc, url.as_str())
+}
+
+// Whether the parser reads it.
+fn is_url(alloc: Global, text: &str) -> Result<bool, Error>
+    ensures { Makes result (is_ok (url_from text.now)) }
+{
+    match Url::parse(alloc, text) {
         Ok(_) => Ok(true),
-        Err(Error::Configuration { .. }) => Ok(false),
-        Err(_) => Err(Error::OutOfMemory),
+        Err(ParseError::OutOfMemory | ParseError::Overflow) => Err(Error::OutOfMemory),
+        Err(_) => Ok(false),
     }
 }
 

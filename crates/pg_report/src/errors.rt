@@ -9,85 +9,85 @@ use pg_wire::{
 use std::alloc::AllocError;
 
 #[tactic(auto, unfolding(crate::specs::Errors::severity_word))]
-fn put_severity(out: &mut String, severity: PgSeverity) -> Result<(), AllocError>
-    ensures { OnOk result (string_bytes out.new ≡ string_bytes out.old ++ severity_word severity) }
+fn severity_word(severity: PgSeverity) -> &'static str
+    ensures { result.now ≡ severity_word severity }
 {
     match severity {
-        PgSeverity::Panic => out.push_str("PANIC"),
-        PgSeverity::Fatal => out.push_str("FATAL"),
-        PgSeverity::Error => out.push_str("ERROR"),
-        PgSeverity::Warning => out.push_str("WARNING"),
-        PgSeverity::Notice => out.push_str("NOTICE"),
-        PgSeverity::Debug => out.push_str("DEBUG"),
-        PgSeverity::Info => out.push_str("INFO"),
-        PgSeverity::Log => out.push_str("LOG"),
+        PgSeverity::Panic => "PANIC",
+        PgSeverity::Fatal => "FATAL",
+        PgSeverity::Error => "ERROR",
+        PgSeverity::Warning => "WARNING",
+        PgSeverity::Notice => "NOTICE",
+        PgSeverity::Debug => "DEBUG",
+        PgSeverity::Info => "INFO",
+        PgSeverity::Log => "LOG",
     }
 }
 
 #[tactic(auto, unfolding(crate::specs::Errors::status_word))]
-fn put_status(out: &mut String, status: TransactionStatus) -> Result<(), AllocError>
-    ensures { OnOk result (string_bytes out.new ≡ string_bytes out.old ++ status_word status) }
+fn status_word(status: TransactionStatus) -> &'static str
+    ensures { result.now ≡ status_word status }
 {
     match status {
-        TransactionStatus::Idle => out.push_str("Idle"),
-        TransactionStatus::Transaction => out.push_str("Transaction"),
-        TransactionStatus::Error => out.push_str("Error"),
+        TransactionStatus::Idle => "Idle",
+        TransactionStatus::Transaction => "Transaction",
+        TransactionStatus::Error => "Error",
     }
 }
 
 #[tactic(auto, unfolding(crate::specs::Errors::io_word))]
-fn put_io(out: &mut String, cause: IoCause) -> Result<(), AllocError>
-    ensures { OnOk result (string_bytes out.new ≡ string_bytes out.old ++ io_word cause) }
+fn io_word(cause: IoCause) -> &'static str
+    ensures { result.now ≡ io_word cause }
 {
     match cause {
-        IoCause::Fault => out.push_str("fault"),
-        IoCause::End => out.push_str("end"),
-        IoCause::Source => out.push_str("source"),
+        IoCause::Fault => "fault",
+        IoCause::End => "end",
+        IoCause::Source => "source",
     }
 }
 
 #[tactic(auto, unfolding(crate::specs::Errors::tls_word))]
-fn put_tls(out: &mut String, cause: TlsCause) -> Result<(), AllocError>
-    ensures { OnOk result (string_bytes out.new ≡ string_bytes out.old ++ tls_word cause) }
+fn tls_word(cause: TlsCause) -> &'static str
+    ensures { result.now ≡ tls_word cause }
 {
     match cause {
-        TlsCause::CannotUpgrade => out.push_str("CannotUpgrade"),
-        TlsCause::ServerRefused => out.push_str("ServerRefused"),
-        TlsCause::UpgradeFailed => out.push_str("UpgradeFailed"),
+        TlsCause::CannotUpgrade => "CannotUpgrade",
+        TlsCause::ServerRefused => "ServerRefused",
+        TlsCause::UpgradeFailed => "UpgradeFailed",
     }
 }
 
 #[tactic(auto, unfolding(crate::specs::Errors::config_word))]
-fn put_config(out: &mut String, part: ConfigPart) -> Result<(), AllocError>
-    ensures { OnOk result (string_bytes out.new ≡ string_bytes out.old ++ config_word part) }
+fn config_word(part: ConfigPart) -> &'static str
+    ensures { result.now ≡ config_word part }
 {
     match part {
-        ConfigPart::Url => out.push_str("Url"),
-        ConfigPart::Utf8 => out.push_str("Utf8"),
-        ConfigPart::Port => out.push_str("Port"),
-        ConfigPart::CacheCapacity => out.push_str("CacheCapacity"),
-        ConfigPart::SslMode => out.push_str("SslMode"),
-        ConfigPart::HostAddr => out.push_str("HostAddr"),
-        ConfigPart::Nul => out.push_str("Nul"),
-        ConfigPart::SaslUser => out.push_str("SaslUser"),
-        ConfigPart::SaslPassword => out.push_str("SaslPassword"),
+        ConfigPart::Url => "Url",
+        ConfigPart::Utf8 => "Utf8",
+        ConfigPart::Port => "Port",
+        ConfigPart::CacheCapacity => "CacheCapacity",
+        ConfigPart::SslMode => "SslMode",
+        ConfigPart::HostAddr => "HostAddr",
+        ConfigPart::Nul => "Nul",
+        ConfigPart::SaslUser => "SaslUser",
+        ConfigPart::SaslPassword => "SaslPassword",
     }
 }
 
 #[tactic(auto, unfolding(crate::specs::Errors::server_words))]
-fn put_server_words(out: &mut String, fault: ServerFault) -> Result<(), AllocError>
-    ensures { OnOk result (string_bytes out.new ≡ string_bytes out.old ++ server_words fault) }
+fn server_words(fault: ServerFault) -> &'static str
+    ensures { result.now ≡ server_words fault }
 {
     match fault {
-        ServerFault::ShortLength { .. } => out.push_str("ShortLength "),
-        ServerFault::UnknownTag { .. } => out.push_str("UnknownTag "),
-        ServerFault::Malformed { .. } => out.push_str("Malformed "),
-        ServerFault::Unlawful { .. } => out.push_str("Unlawful "),
-        ServerFault::Method { .. } => out.push_str("Method "),
-        ServerFault::Mechanisms => out.push_str("Mechanisms"),
-        ServerFault::Nonce => out.push_str("Nonce"),
-        ServerFault::Signature => out.push_str("Signature"),
-        ServerFault::SslAnswer { .. } => out.push_str("SslAnswer "),
+        ServerFault::ShortLength { .. } => "ShortLength ",
+        ServerFault::UnknownTag { .. } => "UnknownTag ",
+        ServerFault::Malformed { .. } => "Malformed ",
+        ServerFault::Unlawful { .. } => "Unlawful ",
+        ServerFault::Method { .. } => "Method ",
+        ServerFault::Mechanisms => "Mechanisms",
+        ServerFault::Nonce => "Nonce",
+        ServerFault::Signature => "Signature",
+        ServerFault::SslAnswer { .. } => "SslAnswer ",
     }
 }
 
@@ -113,19 +113,19 @@ fn put_server_rest(out: &mut String, fault: ServerFault) -> Result<(), AllocErro
 fn put_server(out: &mut String, fault: ServerFault) -> Result<(), AllocError>
     ensures { OnOk result (string_bytes out.new ≡ string_bytes out.old ++ server_text fault) }
 {
-    put_server_words(out, fault)?;
+    out.push_str(server_words(fault))?;
     put_server_rest(out, fault)
 }
 
 #[tactic(auto, unfolding(crate::specs::Errors::caller_words))]
-fn put_caller_words(out: &mut String, fault: CallerFault) -> Result<(), AllocError>
-    ensures { OnOk result (string_bytes out.new ≡ string_bytes out.old ++ caller_words fault) }
+fn caller_words(fault: CallerFault) -> &'static str
+    ensures { result.now ≡ caller_words fault }
 {
     match fault {
-        CallerFault::TooMany { .. } => out.push_str("TooMany "),
-        CallerFault::Nul => out.push_str("Nul"),
-        CallerFault::TooLong { .. } => out.push_str("TooLong "),
-        CallerFault::NoStatementNumber => out.push_str("NoStatementNumber"),
+        CallerFault::TooMany { .. } => "TooMany ",
+        CallerFault::Nul => "Nul",
+        CallerFault::TooLong { .. } => "TooLong ",
+        CallerFault::NoStatementNumber => "NoStatementNumber",
     }
 }
 
@@ -143,19 +143,19 @@ fn put_caller_rest(out: &mut String, fault: CallerFault) -> Result<(), AllocErro
 fn put_caller(out: &mut String, fault: CallerFault) -> Result<(), AllocError>
     ensures { OnOk result (string_bytes out.new ≡ string_bytes out.old ++ caller_text fault) }
 {
-    put_caller_words(out, fault)?;
+    out.push_str(caller_words(fault))?;
     put_caller_rest(out, fault)
 }
 
 #[tactic(auto, unfolding(crate::specs::Errors::protocol_words))]
-fn put_protocol_words(out: &mut String, fault: &ProtocolFault) -> Result<(), AllocError>
-    ensures { OnOk result (string_bytes out.new ≡ string_bytes out.old ++ protocol_words fault.now) }
+fn protocol_words(fault: &ProtocolFault) -> &'static str
+    ensures { result.now ≡ protocol_words fault.now }
 {
     match fault {
-        ProtocolFault::Server(_) => out.push_str("server "),
-        ProtocolFault::Reply { .. } => out.push_str("reply "),
-        ProtocolFault::Caller(_) => out.push_str("caller "),
-        ProtocolFault::Types { .. } => out.push_str("types "),
+        ProtocolFault::Server(_) => "server ",
+        ProtocolFault::Reply { .. } => "reply ",
+        ProtocolFault::Caller(_) => "caller ",
+        ProtocolFault::Types { .. } => "types ",
     }
 }
 
@@ -174,7 +174,7 @@ fn put_protocol_rest(out: &mut String, fault: &ProtocolFault) -> Result<(), Allo
 fn put_protocol(out: &mut String, fault: &ProtocolFault) -> Result<(), AllocError>
     ensures { OnOk result (string_bytes out.new ≡ string_bytes out.old ++ protocol_text fault.now) }
 {
-    put_protocol_words(out, fault)?;
+    out.push_str(protocol_words(fault))?;
     put_protocol_rest(out, fault)
 }
 
@@ -182,7 +182,7 @@ fn put_protocol(out: &mut String, fault: &ProtocolFault) -> Result<(), AllocErro
 fn put_database(out: &mut String, error: &PgDatabaseError) -> Result<(), AllocError>
     ensures { OnOk result (string_bytes out.new ≡ string_bytes out.old ++ database_text error.now) }
 {
-    put_severity(out, error.severity())?;
+    out.push_str(severity_word(error.severity()))?;
     out.push_str(" ")?;
     put_quoted_text(out, error.code().as_bytes())?;
     out.push_str(" ")?;
@@ -190,30 +190,30 @@ fn put_database(out: &mut String, error: &PgDatabaseError) -> Result<(), AllocEr
 }
 
 #[tactic(auto, unfolding(crate::specs::Errors::error_words))]
-fn put_error_words(out: &mut String, error: &Error) -> Result<(), AllocError>
-    ensures { OnOk result (string_bytes out.new ≡ string_bytes out.old ++ error_words error.now) }
+fn error_words(error: &Error) -> &'static str
+    ensures { result.now ≡ error_words error.now }
 {
     match error {
-        Error::OutOfMemory => out.push_str("OutOfMemory"),
-        Error::StartupPending => out.push_str("StartupPending"),
-        Error::Io(_) => out.push_str("Io "),
-        Error::Database(_) => out.push_str("Database "),
-        Error::Protocol(_) => out.push_str("Protocol "),
-        Error::Configuration { .. } => out.push_str("Configuration "),
-        Error::Tls(_) => out.push_str("Tls "),
-        Error::TypeNotFound { .. } => out.push_str("TypeNotFound "),
-        Error::InvalidSavePointStatement => out.push_str("InvalidSavePointStatement"),
-        Error::BeginFailed(_) => out.push_str("BeginFailed "),
-        Error::Encode { .. } => out.push_str("Encode "),
-        Error::Decode => out.push_str("Decode"),
-        Error::ColumnDecode { .. } => out.push_str("ColumnDecode "),
-        Error::RowNotFound => out.push_str("RowNotFound"),
-        Error::ColumnNotFound { .. } => out.push_str("ColumnNotFound"),
-        Error::ColumnIndexOutOfBounds { .. } => out.push_str("ColumnIndexOutOfBounds"),
-        Error::AnyDriverError { .. } => out.push_str("AnyDriverError"),
-        Error::PoolClosed { .. } => out.push_str("PoolClosed"),
-        Error::PoolTimedOut { .. } => out.push_str("PoolTimedOut"),
-        Error::Audit { .. } => out.push_str("Audit"),
+        Error::OutOfMemory => "OutOfMemory",
+        Error::StartupPending => "StartupPending",
+        Error::Io(_) => "Io ",
+        Error::Database(_) => "Database ",
+        Error::Protocol(_) => "Protocol ",
+        Error::Configuration { .. } => "Configuration ",
+        Error::Tls(_) => "Tls ",
+        Error::TypeNotFound { .. } => "TypeNotFound ",
+        Error::InvalidSavePointStatement => "InvalidSavePointStatement",
+        Error::BeginFailed(_) => "BeginFailed ",
+        Error::Encode { .. } => "Encode ",
+        Error::Decode => "Decode",
+        Error::ColumnDecode { .. } => "ColumnDecode ",
+        Error::RowNotFound => "RowNotFound",
+        Error::ColumnNotFound { .. } => "ColumnNotFound",
+        Error::ColumnIndexOutOfBounds { .. } => "ColumnIndexOutOfBounds",
+        Error::AnyDriverError { .. } => "AnyDriverError",
+        Error::PoolClosed { .. } => "PoolClosed",
+        Error::PoolTimedOut { .. } => "PoolTimedOut",
+        Error::Audit { .. } => "Audit",
     }
 }
 
@@ -221,17 +221,17 @@ fn put_error_rest(out: &mut String, error: &Error) -> Result<(), AllocError>
     ensures { OnOk result (string_bytes out.new ≡ string_bytes out.old ++ error_rest error.now) }
 {
     match error {
-        Error::Io(cause) => put_io(out, *cause),
+        Error::Io(cause) => out.push_str(io_word(*cause)),
         Error::Database(error) => put_database(out, error),
         Error::Protocol(fault) => put_protocol(out, fault),
         Error::Configuration { part, place } => {
-            put_config(out, *part)?;
+            out.push_str(config_word(*part))?;
             out.push_str(" ")?;
             put_number(out, *place as u64)
         }
-        Error::Tls(cause) => put_tls(out, *cause),
+        Error::Tls(cause) => out.push_str(tls_word(*cause)),
         Error::TypeNotFound { type_name } => put_quoted_text(out, type_name.as_bytes()),
-        Error::BeginFailed(status) => put_status(out, *status),
+        Error::BeginFailed(status) => out.push_str(status_word(*status)),
         Error::Encode { index } | Error::ColumnDecode { index } => {
             put_number(out, *index as u64)
         }
@@ -247,6 +247,6 @@ fn put_error_rest(out: &mut String, error: &Error) -> Result<(), AllocError>
 pub fn put_error(out: &mut String, error: &Error) -> Result<(), AllocError>
     ensures { OnOk result (string_bytes out.new ≡ string_bytes out.old ++ error_text error.now) }
 {
-    put_error_words(out, error)?;
+    out.push_str(error_words(error))?;
     put_error_rest(out, error)
 }

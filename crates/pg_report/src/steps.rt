@@ -70,15 +70,15 @@ fn put_item_lines(out: &mut String, step: u64, items: &[Item]) -> Result<(), All
 }
 
 #[tactic(auto, unfolding(crate::specs::Steps::answer_words))]
-fn put_answer_words(out: &mut String, answer: &Answer) -> Result<(), AllocError>
-    ensures { OnOk result (string_bytes out.new ≡ string_bytes out.old ++ answer_words answer.now) }
+fn answer_words(answer: &Answer) -> &'static str
+    ensures { result.now ≡ answer_words answer.now }
 {
     match answer {
-        Answer::Unit => out.push_str("ok"),
-        Answer::Total(_) => out.push_str("ok total "),
-        Answer::Described { .. } => out.push_str("ok described "),
-        Answer::Held(true) => out.push_str("ok held t"),
-        Answer::Held(false) => out.push_str("ok held f"),
+        Answer::Unit => "ok",
+        Answer::Total(_) => "ok total ",
+        Answer::Described { .. } => "ok described ",
+        Answer::Held(true) => "ok held t",
+        Answer::Held(false) => "ok held f",
     }
 }
 
@@ -100,7 +100,7 @@ fn put_answer_rest(out: &mut String, answer: &Answer) -> Result<(), AllocError>
 fn put_answer(out: &mut String, answer: &Answer) -> Result<(), AllocError>
     ensures { OnOk result (string_bytes out.new ≡ string_bytes out.old ++ answer_text answer.now) }
 {
-    put_answer_words(out, answer)?;
+    out.push_str(answer_words(answer))?;
     put_answer_rest(out, answer)
 }
 
@@ -119,14 +119,14 @@ fn put_end(out: &mut String, end: &End) -> Result<(), AllocError>
 }
 
 #[tactic(auto, unfolding(crate::specs::Steps::cache_word))]
-fn put_cache(out: &mut String, cache: CacheStep) -> Result<(), AllocError>
-    ensures { OnOk result (string_bytes out.new ≡ string_bytes out.old ++ cache_word cache) }
+fn cache_word(cache: CacheStep) -> &'static str
+    ensures { result.now ≡ cache_word cache }
 {
     match cache {
-        CacheStep::Same => out.push_str("same"),
-        CacheStep::Hit => out.push_str("hit"),
-        CacheStep::Put => out.push_str("put"),
-        CacheStep::PutEvicting => out.push_str("putevicting"),
+        CacheStep::Same => "same",
+        CacheStep::Hit => "hit",
+        CacheStep::Put => "put",
+        CacheStep::PutEvicting => "putevicting",
     }
 }
 
@@ -137,7 +137,7 @@ fn put_progress(out: &mut String, outcome: &Outcome) -> Result<(), AllocError>
     put_named_number(out, " groups", outcome.groups)?;
     put_named_number(out, " heard", outcome.heard)?;
     out.push_str(" cache ")?;
-    put_cache(out, outcome.cache)?;
+    out.push_str(cache_word(outcome.cache))?;
     put_named_number(out, " waits", outcome.waits)?;
     put_named_number(out, " moved", outcome.moved)
 }

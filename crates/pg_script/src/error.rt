@@ -12,7 +12,7 @@ pub enum ReadError {
 }
 
 /// Why one line was not read.
-#[derive(Clone, Copy, Debug, PartialEq, Eq)]
+#[derive(Clone, Copy)]
 pub(crate) enum LineError {
     Bad,
     OutOfMemory,

@@ -4,7 +4,7 @@ ghost use Rattle.pg_script.specs.Scripts.{allows};
 use crate::line::Line;
 
 /// What a script is for, which says what lines it may have.
-#[derive(Clone, Copy, Debug, PartialEq, Eq)]
+#[derive(Clone, Copy)]
 pub(crate) enum Kind {
     /// A play over a link in memory: any line.
     Memory,

@@ -12,7 +12,7 @@ use std::marker::Model;
 use std::mem;
 
 /// What the next byte belongs to.
-#[derive(Clone, Copy, Debug, PartialEq, Eq)]
+#[derive(Clone, Copy)]
 enum Mode {
     /// A word, or nothing yet.
     Word,
@@ -26,7 +26,7 @@ enum Mode {
 }
 
 /// A line that is read byte by byte: the tokens so far, and the bytes of the one that is being read.
-#[derive(Debug, Drop)]
+#[derive(Drop)]
 struct Lexer {
     alloc: Global,
     tokens: Vec<Token>,

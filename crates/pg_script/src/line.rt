@@ -19,7 +19,7 @@ use std::alloc::Global;
 const TIMES_MAX: u32 = 1_000_000;
 
 /// What a line says.
-#[derive(Debug, Drop)]
+#[derive(Drop)]
 pub(crate) enum Line {
     /// An empty line, or a comment.
     Blank,

@@ -2,7 +2,7 @@ use pg_options::PgSslMode;
 use pg_wire::Blob;
 
 /// The words of a script.
-#[derive(Clone, Copy, Debug, PartialEq, Eq)]
+#[derive(Clone, Copy)]
 pub(crate) enum Keyword {
     User,
     Password,
@@ -39,7 +39,7 @@ pub(crate) enum Keyword {
 }
 
 /// A token of a line.
-#[derive(Debug, Drop)]
+#[derive(Drop)]
 pub(crate) enum Token {
     Space,
     Word(Keyword),

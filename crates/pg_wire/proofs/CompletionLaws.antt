@@ -11,6 +11,19 @@ use Rattle.pg_wire.specs.Completion.{is_count, rows_affected}
 use Rattle.pg_wire.specs.Reading.{count_after, count_in}
 use Rattle.pg_wire.proofs.Tests.{both_true}
 
+-- orders of numbers, which are quick to find where the numbers are variables
+less_same : (a b m : ℕ) → a ≡ b → b < m → a < m
+less_same a b m e lt = omega (arith, e, lt)
+
+less_through : (a b c m : ℕ) → a ≡ b → b ≤ c → c < m → a < m
+less_through a b c m e le lt = omega (arith, e, le, lt)
+
+before_end : (start n : ℕ) → 0 < start → start ≤ n → start - 1 < n
+before_end start n lt le = omega (arith, lt, le)
+
+behind_front : (start n : ℕ) → start ≤ n → n - (n - start) ≡ start
+behind_front start n le = omega (arith, le)
+
 and_true : (b : Bool) → (b && true) ≡ b
 and_true true = refl
 and_true false = refl
@@ -49,7 +62,7 @@ next_is : (n x next : ℕ) → Some next ≡ count_after n x → (is_ascii_digit
 next_is n x next e = taken (is_ascii_digit x) (ltb (n * 10 + (x - 48)) (2 ^ 64)) (n * 10 + (x - 48)) next e refl refl
   where
     taken : (a b : Bool) (v w : ℕ) → Some w ≡ cond (a && b) (Some v) None → a ≡ is_ascii_digit x → b ≡ ltb v (2 ^ 64) → (is_ascii_digit x ≡ true) × (w ≡ v) × (w < 2 ^ 64)
-    taken true true v w e p q = let same : w ≡ v = cc in (sym p, same, let room : v < 2 ^ 64 = ltb-true _ _ (sym q) in omega (arith, same, room))
+    taken true true v w e p q = let same : w ≡ v = cc in (sym p, same, less_same w v (2 ^ 64) same (ltb-true _ _ (sym q)))
     taken true false v w e p q = absurd cc
     taken false b v w e p q = absurd cc
 
@@ -81,7 +94,7 @@ count_refused text i n x lt e count given = unless (list_all is_ascii_digit text
     let below = digits_value-take-le 10 text (suc i) (omega arith) in
     let pushed = value_push text i 0 x lt e in
     let same : n * 10 + (x - 48) ≡ digits_value 10 (take (suc i) text) = ap (λ (m : ℕ). m * 10 + (x - 48)) count ∙ ap (λ (d : ℕ). digits_value 10 (take i text) * 10 + d) (sym (digit_is x digit)) ∙ sym pushed in
-    let fits : ltb (n * 10 + (x - 48)) (2 ^ 64) ≡ true = lt-ltb _ _ (omega (arith, same, below, room)) in
+    let fits : ltb (n * 10 + (x - 48)) (2 ^ 64) ≡ true = lt-ltb _ _ (less_through _ _ _ (2 ^ 64) same below room) in
     some_none (is_ascii_digit x && ltb (n * 10 + (x - 48)) (2 ^ 64)) (n * 10 + (x - 48)) (ap (λ (b : Bool). b && ltb (n * 10 + (x - 48)) (2 ^ 64)) digit ∙ fits) given)
 
 take_all : (xs : List ℕ) (i : ℕ) → length xs ≤ i → take i xs ≡ xs
@@ -95,7 +108,7 @@ count_done text i n le digits count room =
     let all : take i text ≡ text = take_all text i le in
     let digits' : list_all is_ascii_digit text ≡ true = ap (list_all is_ascii_digit) (sym all) ∙ digits in
     let count' : n ≡ digits_value 10 text = count ∙ ap (digits_value 10) all in
-    let fits : ltb (digits_value 10 text) (2 ^ 64) ≡ true = lt-ltb _ _ (omega (arith, count', room)) in
+    let fits : ltb (digits_value 10 text) (2 ^ 64) ≡ true = lt-ltb _ _ (less_same _ _ (2 ^ 64) (sym count') room) in
     rw (digits', fits) (ap (λ (m : ℕ). Some m) count')
 
 -- ---- the last space
@@ -133,12 +146,12 @@ last_part tag start lt le word space =
     let len : suffix_len (λ x. not (eqb 32 x)) tag ≡ length tag - start = suffix_len_is (λ x. not (eqb 32 x)) tag start 0 le
     (λ k h j. ap not (ne_eqb 32 (get_or tag k 0) (λ e. word k h j (sym e))))
     (λ _. ap not (eq-eqb 32 (get_or tag (start - 1) 0) (sym space))) in
-    let back : length tag - (length tag - start) ≡ start = omega (arith, le) in
+    let back : length tag - (length tag - start) ≡ start = behind_front start (length tag) le in
     ap (λ (n : ℕ). drop (length tag - n) tag) len ∙ ap (λ (n : ℕ). drop n tag) back
 
 pub rows_found : (tag : List ℕ) (start : ℕ) → 0 < start → start ≤ length tag → ((k : ℕ) → start ≤ k → k < length tag → slice_index tag k ≢ 32) → slice_index tag (start - 1) ≡ 32 → unwrap_or (count_in (drop start tag)) 0 ≡ rows_affected tag
 rows_found tag start lt le word space =
-    let any : list_any (eqb 32) tag ≡ true = some_at tag (start - 1) (omega (arith, lt, le)) space in
+    let any : list_any (eqb 32) tag ≡ true = some_at tag (start - 1) (before_end start (length tag) lt le) space in
     let part : after_last (eqb 32) tag ≡ drop start tag = last_part tag start lt le word space in
     counted (drop start tag) ∙ ap (λ (text : List ℕ). cond (is_count text) (digits_value 10 text) 0) (sym part)
     ∙ ap (λ (b : Bool). cond (b && is_count (after_last (eqb 32) tag)) (digits_value 10 (after_last (eqb 32) tag)) 0) (sym any)

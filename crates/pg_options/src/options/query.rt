@@ -1,4 +1,6 @@
-ghost use Rattle.std.specs.Prelude.{◌≡◌, Some, IfOk, option_copied, if◌then◌else◌};
+ghost use Rattle.std.specs.Prelude.{◌≡◌, Some, Err, IfOk, OnOk, OnErr, option_copied, if◌then◌else◌};
+ghost use Rattle.std.specs.Cow.{cow_str_bytes};
+ghost use Rattle.pg_wire.specs.declared.error.Error.TheVariants.{OutOfMemory, Configuration};
 ghost use Rattle.pg_options.specs.Answering.{Makes, Gives};
 ghost use Rattle.pg_options.specs.FromUrl.{query_pairs, key_taken, pair_taken, pairs_taken, parameter_taken, options_more};
 ghost use Rattle.pg_options.specs.UrlTexts.{begins_path};
@@ -9,7 +11,8 @@ use crate::numbers::{read_capacity, read_port};
 use crate::url_key::UrlKey;
 use crate::url_text::{begins_path, bracketed, is_host_addr};
 use pg_wire::{ConfigPart, Error, Text};
-use std::alloc::AllocError;
+use std::alloc::{AllocError, Global};
+use std::borrow::CowStr;
 use url::Url;
 
 impl PgConnectOptions {
@@ -20,11 +23,32 @@ impl PgConnectOptions {
         let mut options = self;
         let mut place = 0;
         for pair in url.query_pairs() {
-            let (key, value) = pair?;
-            options = options.take_pair(place, key.as_str(), value.as_str())?;
+            options = options.take_next(place, pair)?;
             place += 1;
         }
         Ok(options)
+    }
+
+    // The same of one pair, unless memory was refused to it.
+    fn take_next(
+        self,
+        place: usize,
+        pair: Result<(CowStr<'_>, CowStr<'_>), AllocError>,
+    ) -> Result<Self, Error>
+        ensures ok { IfOk pair.entry (λ (key, value). Gives result (pair_taken self place (cow_str_bytes key, cow_str_bytes value))) }
+        ensures err { OnErr pair.entry (result ≡ Err OutOfMemory) }
+    {
+        match pair {
+            Ok((key, value)) => self.take_pair(place, key.as_str(), value.as_str()),
+            Err(_) => self.refused(Error::OutOfMemory),
+        }
+    }
+
+    // A value that its key cannot have.
+    fn refused_at(self, part: ConfigPart, place: usize) -> Result<Self, Error>
+        ensures { result ≡ Err (Configuration part place) }
+    {
+        self.refused(Error::Configuration { part, place })
     }
 
     fn take_pair(self, place: usize, key: &str, value: &str) -> Result<Self, Error>
@@ -61,10 +85,7 @@ impl PgConnectOptions {
     {
         match PgSslMode::from_name(value) {
             Some(mode) => Ok(self.ssl_mode(mode)),
-            None => Err(Error::Configuration {
-                part: ConfigPart::SslMode,
-                place,
-            }),
+            None => self.refused_at(ConfigPart::SslMode, place),
         }
     }
 
@@ -73,10 +94,7 @@ impl PgConnectOptions {
     {
         match read_capacity(value) {
             Some(capacity) => Ok(self.statement_cache_capacity(capacity)),
-            None => Err(Error::Configuration {
-                part: ConfigPart::CacheCapacity,
-                place,
-            }),
+            None => self.refused_at(ConfigPart::CacheCapacity, place),
         }
     }
 
@@ -85,10 +103,7 @@ impl PgConnectOptions {
     {
         match read_port(value) {
             Some(port) => Ok(self.port(port)),
-            None => Err(Error::Configuration {
-                part: ConfigPart::Port,
-                place,
-            }),
+            None => self.refused_at(ConfigPart::Port, place),
         }
     }
 
@@ -105,24 +120,18 @@ impl PgConnectOptions {
     fn take_host_addr(self, place: usize, value: &str) -> Result<Self, Error>
         ensures { Gives result (key_taken self place value.now UrlKey.HostAddr) }
     {
-        if is_host_addr(self.alloc, value)? {
-            self.host(value)
-        } else {
-            Err(Error::Configuration {
-                part: ConfigPart::HostAddr,
-                place,
-            })
+        match is_host_addr(self.alloc, value) {
+            Ok(true) => self.host(value),
+            Ok(false) => self.refused_at(ConfigPart::HostAddr, place),
+            Err(error) => self.refused(error),
         }
     }
 
     fn take_more_options(mut self, value: &str) -> Result<Self, Error>
         ensures { Makes result (record self { options = Some (options_more self.options value.now) }) }
     {
-        self.options = Some(match self.options.take() {
-            Some(set) => with_more(set, value)?,
-            None => Text::from_str(self.alloc, value)?,
-        });
-        Ok(self)
+        let set = add_more(self.alloc, &mut self.options, value);
+        self.kept(set)
     }
 
     // A parameter of the session, where the key named one.
@@ -134,6 +143,17 @@ impl PgConnectOptions {
             None => Ok(self),
         }
     }
+}
+
+fn add_more(alloc: Global, options: &mut Option<Text>, more: &str) -> Result<(), AllocError>
+    ensures { OnOk result (options.new ≡ Some (options_more options.old more.now)) }
+{
+    let text = match options.take() {
+        Some(set) => with_more(set, more)?,
+        None => Text::from_str(alloc, more)?,
+    };
+    *options = Some(text);
+    Ok(())
 }
 
 // The text with a space and another one behind it.

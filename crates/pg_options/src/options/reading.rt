@@ -41,8 +41,10 @@ impl PgConnectOptions {
             return Ok(self);
         };
         if stands_for_path(host) {
-            let path = read_part(self.alloc, host.as_bytes())?;
-            self.socket(path.as_str())
+            match read_part(self.alloc, host.as_bytes()) {
+                Ok(path) => self.socket(path.as_str()),
+                Err(error) => self.refused(error),
+            }
         } else {
             self.host(host)
         }
@@ -63,8 +65,10 @@ impl PgConnectOptions {
         if part.is_empty() {
             return Ok(self);
         }
-        let user = read_part(self.alloc, part.as_bytes())?;
-        self.username(user.as_str())
+        match read_part(self.alloc, part.as_bytes()) {
+            Ok(user) => self.username(user.as_str()),
+            Err(error) => self.refused(error),
+        }
     }
 
     fn take_password(self, part: &str) -> Result<Self, Error>
@@ -73,8 +77,10 @@ impl PgConnectOptions {
         if part.is_empty() {
             return Ok(self);
         }
-        let password = read_part(self.alloc, part.as_bytes())?;
-        self.password(password.as_str())
+        match read_part(self.alloc, part.as_bytes()) {
+            Ok(password) => self.password(password.as_str()),
+            Err(error) => self.refused(error),
+        }
     }
 
     fn take_credentials(self, url: &Url) -> Result<Self, Error>
@@ -91,8 +97,10 @@ impl PgConnectOptions {
         if part.is_empty() {
             return Ok(self);
         }
-        let database = read_part(self.alloc, part)?;
-        self.database(database.as_str())
+        match read_part(self.alloc, part) {
+            Ok(database) => self.database(database.as_str()),
+            Err(error) => self.refused(error),
+        }
     }
 }
 

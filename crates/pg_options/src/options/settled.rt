@@ -1,10 +1,11 @@
-ghost use Rattle.std.specs.Prelude.{◌≡◌, IfOk, unwrap_or, option_map};
+ghost use Rattle.std.specs.Prelude.{◌≡◌, IfOk, OnOk, unwrap_or, option_map};
 ghost use Rattle.std.specs.Option.{option_or};
 ghost use Rattle.pg_options.specs.Answering.{Makes};
 ghost use Rattle.pg_options.specs.Certificates.{certificate_from};
-ghost use Rattle.pg_options.specs.Options.{defaults, no_settings, options_from, host_from, user_from};
+ghost use Rattle.pg_options.specs.Options.{unset, defaults, no_settings, options_from, host_from, user_from};
 
-use super::{PgConnectOptions, copied};
+use super::building::set_text;
+use super::{PgConnectOptions, copy_text};
 use crate::numbers::read_port;
 use crate::{CertificateInput, PgSettings, PgSslMode};
 use pg_wire::{Error, Text};
@@ -26,37 +27,41 @@ impl PgConnectOptions {
         ensures made { Makes result (options_from env.now) }
         ensures nothing_set { env.now ≡ no_settings → IfOk result (λ o. o ≡ defaults) }
     {
-        Ok(PgConnectOptions {
-            alloc,
-            host: host(alloc, env)?,
-            port: port(env),
-            socket: None,
-            username: user(alloc, env)?,
-            password: copied(alloc, &env.password)?,
-            database: copied(alloc, &env.database)?,
-            ssl_mode: ssl_mode(env),
-            ssl_root_cert: certificate(alloc, &env.ssl_root_cert)?,
-            ssl_client_cert: certificate(alloc, &env.ssl_cert)?,
-            ssl_client_key: certificate(alloc, &env.ssl_key)?,
-            statement_cache_capacity: 100,
-            application_name: copied(alloc, &env.app_name)?,
-            extra_float_digits: Some(2),
-            options: copied(alloc, &env.options)?,
-        })
+        let mut options = PgConnectOptions::unset(alloc);
+        let set = options.take_settings(env);
+        options.kept(set)
+    }
+
+    // Sets what settings can set.
+    fn take_settings(&mut self, env: &PgSettings) -> Result<(), AllocError>
+        requires { self.old ≡ unset }
+        ensures { OnOk result (self.new ≡ options_from env.now) }
+    {
+        self.port = port(env);
+        self.ssl_mode = ssl_mode(env);
+        set_text(self.alloc, &mut self.host, host(env))?;
+        set_text(self.alloc, &mut self.username, user(env))?;
+        copy_text(self.alloc, &mut self.password, &env.password)?;
+        copy_text(self.alloc, &mut self.database, &env.database)?;
+        set_certificate(self.alloc, &mut self.ssl_root_cert, &env.ssl_root_cert)?;
+        set_certificate(self.alloc, &mut self.ssl_client_cert, &env.ssl_cert)?;
+        set_certificate(self.alloc, &mut self.ssl_client_key, &env.ssl_key)?;
+        copy_text(self.alloc, &mut self.application_name, &env.app_name)?;
+        copy_text(self.alloc, &mut self.options, &env.options)
     }
 }
 
-fn host(alloc: Global, env: &PgSettings) -> Result<Text, AllocError>
-    ensures { IfOk result (λ t. t ≡ host_from env.now) }
+fn host(env: &PgSettings) -> &str
+    ensures { result.now ≡ host_from env.now }
 {
     let named = either(&env.host_addr, either(&env.host, &env.default_host));
-    copied_or(alloc, named, "localhost")
+    shown_or(named, "localhost")
 }
 
-fn user(alloc: Global, env: &PgSettings) -> Result<Text, AllocError>
-    ensures { IfOk result (λ t. t ≡ user_from env.now) }
+fn user(env: &PgSettings) -> &str
+    ensures { result.now ≡ user_from env.now }
 {
-    copied_or(alloc, either(&env.user, &env.system_user), "unknown")
+    shown_or(either(&env.user, &env.system_user), "unknown")
 }
 
 fn port(env: &PgSettings) -> u16
@@ -77,13 +82,18 @@ fn ssl_mode(env: &PgSettings) -> PgSslMode
     }
 }
 
-fn certificate(alloc: Global, text: &Option<Text>) -> Result<Option<CertificateInput>, AllocError>
-    ensures { IfOk result (λ i. i ≡ option_map certificate_from text.now) }
+fn set_certificate(
+    alloc: Global,
+    slot: &mut Option<CertificateInput>,
+    text: &Option<Text>,
+) -> Result<(), AllocError>
+    ensures { OnOk result (slot.new ≡ option_map certificate_from text.now) }
 {
-    match text {
-        Some(text) => Ok(Some(CertificateInput::from_text(alloc, text.as_str())?)),
-        None => Ok(None),
-    }
+    *slot = match text {
+        Some(text) => Some(CertificateInput::from_text(alloc, text.as_str())?),
+        None => None,
+    };
+    Ok(())
 }
 
 // The first of two texts that is set.
@@ -96,12 +106,12 @@ fn either<'a>(first: &'a Option<Text>, second: &'a Option<Text>) -> &'a Option<T
     }
 }
 
-// A copy of a text, or of the other one where it is not set.
-fn copied_or(alloc: Global, text: &Option<Text>, otherwise: &str) -> Result<Text, AllocError>
-    ensures { IfOk result (λ t. t ≡ unwrap_or text.now otherwise.now) }
+// The text, or the other one where it is not set.
+fn shown_or<'a>(text: &'a Option<Text>, otherwise: &'a str) -> &'a str
+    ensures { result.now ≡ unwrap_or text.now otherwise.now }
 {
     match text {
-        Some(text) => text.to_copy(alloc),
-        None => Text::from_str(alloc, otherwise),
+        Some(text) => text.as_str(),
+        None => otherwise,
     }
 }

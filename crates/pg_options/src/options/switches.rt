@@ -13,22 +13,45 @@ impl PgConnectOptions {
     pub fn options(mut self, pairs: &[(Text, Text)]) -> Result<Self, Error>
         ensures { Makes result (record self { options = Some (options_with self.options pairs.now) }) }
     {
-        let mut text = set_or_empty(self.alloc, self.options.take());
-        for (name, value) in pairs {
-            text = with_switch(text, name.as_str(), value.as_str())?;
-        }
-        self.options = Some(text);
-        Ok(self)
+        let set = add_switches(self.alloc, &mut self.options, pairs);
+        self.kept(set)
     }
 
     // The same of one pair.
     pub(super) fn option(mut self, name: &str, value: &str) -> Result<Self, Error>
         ensures { Makes result (record self { options = Some (options_with self.options ((name.now, value.now) ∷ [])) }) }
     {
-        let text = set_or_empty(self.alloc, self.options.take());
-        self.options = Some(with_switch(text, name, value)?);
-        Ok(self)
+        let set = add_switch(self.alloc, &mut self.options, name, value);
+        self.kept(set)
     }
+}
+
+fn add_switches(
+    alloc: Global,
+    options: &mut Option<Text>,
+    pairs: &[(Text, Text)],
+) -> Result<(), AllocError>
+    ensures { OnOk result (options.new ≡ Some (options_with options.old pairs.now)) }
+{
+    let mut text = set_or_empty(alloc, options.take());
+    for (name, value) in pairs {
+        text = with_switch(text, name.as_str(), value.as_str())?;
+    }
+    *options = Some(text);
+    Ok(())
+}
+
+fn add_switch(
+    alloc: Global,
+    options: &mut Option<Text>,
+    name: &str,
+    value: &str,
+) -> Result<(), AllocError>
+    ensures { OnOk result (options.new ≡ Some (options_with options.old ((name.now, value.now) ∷ []))) }
+{
+    let text = set_or_empty(alloc, options.take());
+    *options = Some(with_switch(text, name, value)?);
+    Ok(())
 }
 
 fn set_or_empty(alloc: Global, text: Option<Text>) -> Text
