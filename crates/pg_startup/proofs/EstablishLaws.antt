@@ -9,11 +9,11 @@ use Rattle.pg_wire.specs.declared.error.Error.TheVariants as errors
 use Rattle.pg_wire.specs.Frame.{Frame, text_of}
 use Rattle.pg_wire.specs.Parts.{heard}
 use Rattle.pg_wire.proofs.PartLaws.{heard-append}
-use Rattle.pg_stream.specs.Links.{LinkPlan, LinkSeen, NoneFalls}
-use Rattle.pg_stream.specs.Streams.{StreamOf, StreamSeen, stream_by, fresh_stream, GrewBy, HeardCause, PendingCause}
+use Rattle.pg_stream.specs.Links.{LinkPlan, LinkSeen, GrewBy, NoWaits}
+use Rattle.pg_stream.specs.Streams.{Moves, stream_by, fresh_stream, HeardCause, PendingCause}
 use Rattle.std.specs.Io.KnownBytes.{Appends}
 use Rattle.pg_wire.specs.Frontend.{ssl_request}
-use Rattle.pg_stream.proofs.Known.{Appends-refl, Appends-then, NoneFalls-refl, NoneFalls-then, Keeps-refl, Appends-keeps}
+use Rattle.pg_stream.proofs.Known.{Appends-refl, Appends-then, NoneFalls-refl, NoneFalls-then, NoWaits-then, GrewBy-after, Keeps-refl, Appends-keeps}
 use Rattle.pg_stream.specs.declared.link.TlsWish.{TlsWish}
 use Rattle.pg_options.specs.Options.{ConnectOptions}
 use Rattle.pg_auth.specs.Tls.{tls_plan}
@@ -31,10 +31,10 @@ use Rattle.pg_startup.specs.Asking.{AskingOf, AskingSeen, asking_by, Agrees, Ask
 use Rattle.pg_startup.specs.Flows.{Flows}
 use Rattle.pg_startup.specs.Handshake.{ReadyOf, ready_by, IsQuestion, IsSecured, HasBegun}
 use Rattle.pg_startup.specs.Greeting.{GreetingSeen, GreetingOf, greeting_by, fresh_greeting, SaysMore, Greets, IsFrontRefused, PollsGreeting, with_left}
-use Rattle.pg_startup.specs.Establishing.{EstablishOf, EstablishSeen, establish_by, phase_by, HasLink, IsStarting, IsUnderWay, IsGreeting, IsOpen, IsBegun, WaitsOn, FailsOn, StartWaits, StartFails, SettledAs, SettlesOn, GreetsIn, GoneAs, GoesOn, Opens, Settles, FirstPhase, IsBeginning, Begins, IsPrepared, PreparedSeen, PollsStart, IsReady, Hands, IsGreetingPhase, saturated, asked_in, answered_in}
+use Rattle.pg_startup.specs.Establishing.{EstablishOf, EstablishSeen, establish_by, phase_by, HasLink, IsStarting, IsUnderWay, IsGreeting, IsBegun, Called, StartWaits, SettlesOn, GreetsIn, GoneAs, GoesOn, Opens, Settles, FirstPhase, IsBeginning, Begins, IsPrepared, PreparedSeen, PollsStart, IsReady, Hands, IsGreetingPhase, saturated, asked_in, answered_in}
 use Rattle.pg_startup.proofs.FlowLaws.{Flows-then, flows_begun, flows_queued}
 use Rattle.pg_startup.proofs.GreetLaws.{leads_then, proofs_text-append}
-use Rattle.pg_stream.proofs.StreamLemmas.{GrewBy-then, HeardCause-after}
+use Rattle.pg_stream.proofs.StreamLemmas.{GrewBy-then, GrewBy-spent, HeardCause-after}
 
 -- ---- messages of a session
 
@@ -52,38 +52,52 @@ greeting_on c tls message first left g h said frames i t =
       counted = GrewBy-then (length (message ++ proofs_text i.proofs)) (length (proofs_text said)) (length (message ++ proofs_text (i.proofs ++ said))) 0 g.said h.said i.counted t.counted (ap (λ (u : List ℕ). length u) (sym text) ∙ length-append (message ++ proofs_text i.proofs) (proofs_text said));
     }
 
+-- the calls of a poll, in two parts
+less_then : (left mid now x y z : ℕ) → mid ≤ left → now ≤ mid → GrewBy (left - mid) x y → GrewBy (mid - now) y z → GrewBy (left - now) x z
+less_then left mid now x y z fewer less p q = GrewBy-then _ _ _ _ _ _ p q (omega (arith, fewer, less))
+
 -- why it waits, from the link on that a poll began with
-waits_by : (left mid : ℕ) (a : LinkSeen) (g h : GreetingSeen) → NoneFalls a g.stream.link → AllCallsMoved left mid a g.stream.link → NoneFalls g.stream.link h.stream.link → h.stream.left ≤ mid → PendingCause (with_left mid g).stream h.stream
-    → StartWaits left h.stream.left a h.stream.link (phases.Greeting h)
-waits_by left mid a g h m moved n fewer p = elim p [
-  | inl x ↦ inl (omega (arith, m.write_waits, x.0))
+waits_by : (left mid : ℕ) (a : LinkSeen) (g h : GreetingSeen) → AllCallsMoved left mid a g.stream.link → h.stream.left ≤ mid → PendingCause (with_left mid g).stream h.stream → StartWaits left h.stream.left a h.stream.link (phases.Greeting h)
+waits_by left mid a g h moved fewer p = elim p [
+  | inl x ↦ inl (GrewBy-after _ _ _ moved.2.0 x.0, x.3 ∙ moved.2.1)
   | inr y ↦ elim y [
-    | inl x ↦ inr (inl (omega (arith, m.read_waits, x.0.0), (x.1, x.2)))
-    | inr x ↦ inr (inr (x.0, (omega (arith, moved.0, fewer), omega (arith, moved.0, moved.1, x.0, x.1.0))))
+    | inl x ↦ inr (inl ((GrewBy-after _ _ _ moved.2.1 x.0.0, x.0.3 ∙ moved.2.0), (x.1, x.2)))
+    | inr x ↦ inr (inr (x.0, (omega (arith, moved.0, fewer), less_then left mid h.stream.left _ _ _ moved.0 fewer moved.1 x.1.0, NoWaits-then a g.stream.link h.stream.link moved.2 x.1.2.2)))
   ]
 ]
 
+-- the link was called in both
+called_then : (left mid : ℕ) (a : LinkSeen) (g h : GreetingSeen) (q : List ℕ) (fs : List Frame) → Called left mid a g.stream.link → mid ≤ left → Moves (with_left mid g).stream h.stream q fs → Called left h.stream.left a h.stream.link
+called_then left mid a g h q fs m fewer n = record { counts = NoneFalls-then a g.stream.link h.stream.link m.counts n.counts; calls = less_then left mid h.stream.left _ _ _ fewer n.left m.calls n.calls }
+
 -- a poll of the session goes on
-greeted : (first : LinkSeen) (left mid now : ℕ) (a : LinkSeen) (e : EstablishSeen) (phase : Phase LinkSeen) (g h : GreetingSeen) (answer : Poll (Result Session Error)) → phase ≡ phases.Greeting h → IsGreeting e.client e.plan e.message first g → NoneFalls a g.stream.link → AllCallsMoved left mid a g.stream.link
+greeted : (first : LinkSeen) (left mid now : ℕ) (a : LinkSeen) (e : EstablishSeen) (phase : Phase LinkSeen) (g h : GreetingSeen) (answer : Poll (Result Session Error)) → phase ≡ phases.Greeting h → IsGreeting e.client e.plan e.message first g → Called left mid a g.stream.link → AllCallsMoved left mid a g.stream.link
     → PollsGreeting e.client mid now g h answer → GoneAs first left now a e phase answer
 greeted first left mid now a e phase g h Pending is i m moved ((on, cause), k) =
     let on' = on in
     rw (is, k) (
       greeting_on e.client e.plan e.message first mid g h on'.0 on'.1 i on'.2,
-      (h.stream.link, refl, NoneFalls-then a g.stream.link h.stream.link m on'.2.moves.counts, waits_by left mid a g h m moved on'.2.moves.counts on'.2.moves.left cause.1),
+      (h.stream.link, refl, called_then left mid a g h _ on'.1 m moved.0 on'.2.moves, waits_by left mid a g h moved on'.2.moves.left cause.1),
       cause.0,
     )
-greeted first left mid now a e phase g h (Ready (Ok session)) is i m moved ((on, cause), k) =
-    (h, is, greeting_on e.client e.plan e.message first mid g h on.0 on.1 i on.2, NoneFalls-then a g.stream.link h.stream.link m on.2.moves.counts, cause.1)
-greeted first left mid now a e phase g h (Ready (Err error)) is i m moved ((on, cause), k) = rw is (
+greeted first left mid now a e phase g h (Ready (Ok session)) is i m moved ((on, cause), k) = rw k (
+  h,
+  is,
+  greeting_on e.client e.plan e.message first mid g h on.0 on.1 i on.2,
+  called_then left mid a g h _ on.1 m moved.0 on.2.moves,
+  cause.1,
+  NoWaits-then a g.stream.link h.stream.link moved.2 cause.0.2.2,
+)
+greeted first left mid now a e phase g h (Ready (Err error)) is i m moved ((on, cause), k) = rw (is, k) (
   h.stream.link,
   refl,
-  NoneFalls-then a g.stream.link h.stream.link m on.2.moves.counts,
+  called_then left mid a g h _ on.1 m moved.0 on.2.moves,
   inr (greeting_on e.client e.plan e.message first mid g h on.0 on.1 i on.2, cause.0, by cause.1),
+  NoWaits-then a g.stream.link h.stream.link moved.2 cause.2.2,
 )
   where
     by : HeardCause (with_left mid g).stream h.stream error ⊎ IsFrontRefused e.client h error → HeardCause (fresh_stream a) h.stream error ⊎ IsFrontRefused e.client h error
-    by (inl p) = inl (HeardCause-after (fresh_stream a) (with_left mid g).stream h.stream error m p)
+    by (inl p) = inl (HeardCause-after (fresh_stream a) (with_left mid g).stream h.stream error m.counts p)
     by (inr p) = inr p
 
 -- ---- the question for TLS
@@ -120,31 +134,31 @@ plan_asks tls q first now e g = rw e g
 
 -- a question that waits or fails
 pub asking_waits : (left now : ℕ) (e : EstablishSeen) (q r : AskingSeen) → e.phase ≡ phases.Asking q → PollsAsking left now q r Pending → SettlesOn left now e (phases.Asking r) Pending
-asking_waits left now e q r is (fewer, same, (waits, on)) = (
+asking_waits left now e q r is (fewer, same, calls, (waits, on)) = (
   fewer,
   λ first link under kept.
       let under' : IsUnderWay e.client e.plan e.message first (phases.Asking q) = subst (λ (x : Phase LinkSeen). IsUnderWay e.client e.plan e.message first x) is under in
       let at : link ≡ q.link = subst (λ (x : Phase LinkSeen). HasLink x link) is kept in (
         (under'.0 ∙ sym (ap (λ (x : Bool). Ask x q.wish) same.1) ∙ sym (ap (λ (x : TlsWish). Ask r.is_required x) same.2), on first under'.1),
-        (r.link, refl, rw at same.0, rw at (asked_waits left now q.link r.link r refl waits)),
+        (r.link, refl, rw at (record { counts = same.0; calls = calls }), rw at (asked_waits left now q.link r.link r refl waits)),
         tt,
       ),
 )
 
 pub asking_fails : (left now : ℕ) (e : EstablishSeen) (q r : AskingSeen) (error : Error) → e.phase ≡ phases.Asking q → PollsAsking left now q r (Ready (Err error)) → SettlesOn left now e (phases.Asking r) (Ready (Err error))
-asking_fails left now e q r error is (fewer, same, fails) = (
+asking_fails left now e q r error is (fewer, same, calls, (still, fails)) = (
   fewer,
   λ first link under kept.
       let under' : IsUnderWay e.client e.plan e.message first (phases.Asking q) = subst (λ (x : Phase LinkSeen). IsUnderWay e.client e.plan e.message first x) is under in
       let at : link ≡ q.link = subst (λ (x : Phase LinkSeen). HasLink x link) is kept in
       let plan : e.plan ≡ Ask r.is_required r.wish = under'.0 ∙ sym (ap (λ (x : Bool). Ask x q.wish) same.1) ∙ sym (ap (λ (x : TlsWish). Ask r.is_required x) same.2) in
-      (r.link, refl, rw at same.0, (plan, rw (at, same.1) (fails first under'.1))),
+      (r.link, refl, rw at (record { counts = same.0; calls = calls }), (plan, rw (at, same.1) (fails first under'.1)), rw at still),
 )
 
 -- a question that is answered, and a session that begins
 pub asking_opens : {A : Type 0} (seen : A → LinkSeen) (left now : ℕ) (e : EstablishOf A) (q r : AskingOf A) (phase : Phase A) (answer : Result (Unit {0}) Error) → e.phase ≡ phases.Asking q → PollsAsking left now (asking_by seen q) (asking_by seen r) (Ready (Ok tt)) → Opens e.message (phases.Asking r) phase answer
     → SettlesOn left now (establish_by seen e) (phase_by seen phase) (Ready answer)
-asking_opens {A} seen left now e q r phase (Ok u) is (fewer, same, (moved, ends)) (g, says, opens) = (
+asking_opens {A} seen left now e q r phase (Ok u) is (fewer, same, calls, (moved, ends)) (g, says, opens) = (
   fewer,
   λ first link under kept.
       let under' : IsUnderWay e.client e.plan e.message first (phase_by seen (phases.Asking q)) = subst (λ (x : Phase A). IsUnderWay e.client e.plan e.message first (phase_by seen x)) is under in
@@ -153,15 +167,15 @@ asking_opens {A} seen left now e q r phase (Ok u) is (fewer, same, (moved, ends)
         greeting_by seen g,
         ap (λ (x : Phase A). phase_by seen x) opens,
         opened seen e.client e.plan e.message first r.link g (plan_asks e.plan (asking_by seen q) first (seen r.link) under'.0 (ends first under'.1)) says,
-        rw (at, grown) same.0,
+        rw (at, grown) (record { counts = same.0; calls = calls }),
         rw (at, grown) moved,
       ),
 )
-asking_opens {A} seen left now e q r phase (Err error) is (fewer, same, (moved, ends)) (memory, opens) = (
+asking_opens {A} seen left now e q r phase (Err error) is (fewer, same, calls, (moved, ends)) (memory, opens) = (
   fewer,
   λ first link under kept.
       let at : link ≡ seen q.link = subst (λ (x : Phase A). HasLink (phase_by seen x) link) is kept in
-      rw (opens, at) (seen r.link, refl, same.0, inl memory),
+      rw (opens, at) (seen r.link, refl, record { counts = same.0; calls = calls }, inl memory, moved.2),
 )
 
 -- no question is asked
@@ -170,8 +184,13 @@ settled_already left e g is = (
   omega arith,
   λ first link under kept.
       let i : IsGreeting e.client e.plan e.message first g = subst (λ (x : Phase LinkSeen). IsUnderWay e.client e.plan e.message first x) is under in
-      let at : link ≡ g.stream.link = subst (λ (x : Phase LinkSeen). HasLink x link) is kept in
-      (g, is, i, rw at (NoneFalls-refl g.stream.link), (omega arith, rw at (omega arith))),
+      let at : link ≡ g.stream.link = subst (λ (x : Phase LinkSeen). HasLink x link) is kept in (
+        g,
+        is,
+        i,
+        rw at (record { counts = NoneFalls-refl g.stream.link; calls = GrewBy-spent left g.stream.link.calls }),
+        (omega arith, rw at (GrewBy-spent left g.stream.link.moved), rw at (refl, refl)),
+      ),
 )
 
 -- ---- both
@@ -307,14 +326,15 @@ begun c tls message first g session sent read i stage s r =
     }
 
 -- the session is handed out
-is_ready : (first a : LinkSeen) (e : EstablishSeen) (phase : Phase LinkSeen) (session : Session) (g : GreetingSeen) (ready : ReadyOf LinkSeen) → phase ≡ phases.Greeting g → IsBegun first a e phase session
-    → ready ≡ record { stream = g.stream; session = session; sent = saturated (g.said + asked_in e.plan); read = saturated (g.stream.taken + answered_in e.plan) } → NoneFalls a ready.stream.link × IsReady first e ready
-is_ready first a e phase session g ready is (h, at, i, m, stage) hands =
+is_ready : (first : LinkSeen) (left now : ℕ) (a : LinkSeen) (e : EstablishSeen) (phase : Phase LinkSeen) (session : Session) (g : GreetingSeen) (ready : ReadyOf LinkSeen) → phase ≡ phases.Greeting g → IsBegun first left now a e phase session
+    → ready ≡ record { stream = g.stream; session = session; sent = saturated (g.said + asked_in e.plan); read = saturated (g.stream.taken + answered_in e.plan) } → Called left now a ready.stream.link × IsReady first e ready × NoWaits a ready.stream.link
+is_ready first left now a e phase session g ready is (h, at, i, m, stage, still) hands =
     let same : g ≡ h = same_greeting g h (sym is ∙ at) in
     let i' : IsGreeting e.client e.plan e.message first g = rw same i in
-    let m' : NoneFalls a g.stream.link = rw same m in
+    let m' : Called left now a g.stream.link = rw same m in
     let stage' : g.stage ≡ stages.Begun session = rw same stage in
-    rw hands (m', begun e.client e.plan e.message first g session (saturated (g.said + asked_in e.plan)) (saturated (g.stream.taken + answered_in e.plan)) i' stage' refl refl)
+    let still' : NoWaits a g.stream.link = rw same still in
+    rw hands (m', begun e.client e.plan e.message first g session (saturated (g.said + asked_in e.plan)) (saturated (g.stream.taken + answered_in e.plan)) i' stage' refl refl, still')
 
 pub polls_ready : {A : Type 0} (seen : A → LinkSeen) (left now : ℕ) (e d : EstablishOf A) (session : Session) (ready : ReadyOf A) → d ≡ record e { phase = d.phase } → GoesOn left now (establish_by seen e) (phase_by seen d.phase) (Ready (Ok session)) → IsGreetingPhase d.phase → Hands d session ready
     → PollsStart left now (establish_by seen e) (establish_by seen (record d { phase = phases.Gone; is_finished = true })) (Ready (Ok (ready_by seen ready)))
@@ -331,8 +351,8 @@ polls_ready {A} seen left now e d session ready same (fewer, on) greets hands =
       plan = plan;
       message = message;
       on = λ first link under kept.
-          let r = is_ready first link (establish_by seen (record d { phase = phases.Gone; is_finished = true })) (phase_by seen d.phase) session (greeting_by seen g.0) (ready_by seen ready) at (rw (client, plan, message) (on first link under kept)) told in
-          (refl, refl, r.0, r.1);
+          let r = is_ready first left now link (establish_by seen (record d { phase = phases.Gone; is_finished = true })) (phase_by seen d.phase) session (greeting_by seen g.0) (ready_by seen ready) at (rw (client, plan, message) (on first link under kept)) told in
+          (refl, refl, r.0, r.1, r.2);
     }
 
 pub opens_from : {A : Type 0} (m n : List ℕ) (a b : Phase A) (q : AskingOf A) (g : GreetingOf A) (answer : Result (Unit {0}) Error) → m ≡ n → a ≡ phases.Asking q → b ≡ phases.Greeting g → Opens n (phases.Asking q) (phases.Greeting g) answer → Opens m a b answer

@@ -1,5 +1,5 @@
 -- What lies between two states of a stream, poll after poll.
-use Rattle.std.proofs.Common.{◌≡◌, ℕ, ◌+◌, List, [], ◌++◌, sym, ap, ◌∙◌, arith}
+use Rattle.std.proofs.Common.{◌≡◌, ℕ, List, [], ◌++◌, sym, ap, ◌∙◌, arith}
 use Rattle.std.proofs.lemmas.List.{append-nil}
 use Rattle.pg_wire.specs.Frame.{Frame}
 use Rattle.pg_stream.specs.Links.{LinkSeen}

@@ -1,19 +1,15 @@
 -- How a session begins, message by message.
-use Rattle.std.proofs.Common.{◌≡◌, ℕ, ◌<◌, ◌≤◌, ◌+◌, List, [], ◌∷◌, ◌++◌, Bool, true, false, Option, Some, None, refl, sym, ap, subst, ◌∙◌, arith, length, map, Result, Ok, Err, inl, inr, ◌⊎◌, append-nil, append_assoc}
+use Rattle.std.proofs.Common.{◌≡◌, ℕ, ◌<◌, ◌+◌, List, [], ◌∷◌, ◌++◌, false, Option, Some, None, refl, sym, ap, subst, ◌∙◌, arith, length, map, Result, Ok, Err, inl, inr, append-nil, append_assoc}
 use Rattle.futures.specs.declared.task.Poll.{Poll}
 use Rattle.futures.specs.declared.task.Poll.TheVariants.{Ready, Pending}
 use Rattle.pg_wire.specs.declared.error.Error.{Error}
-use Rattle.pg_wire.specs.declared.error.Error.TheVariants as errors
-use Rattle.pg_wire.specs.declared.error.IoCause.TheVariants as io
-use Rattle.pg_wire.specs.declared.error.ProtocolFault.TheVariants as protocol
-use Rattle.pg_wire.specs.declared.error.ServerFault.TheVariants as faults
-use Rattle.pg_wire.specs.Frame.{Frame, bytes_of}
+use Rattle.pg_wire.specs.Frame.{Frame}
 use Rattle.pg_wire.specs.Parts.{heard, is_asynchronous}
 use Rattle.pg_wire.proofs.PartLaws.{heard-append}
-use Rattle.pg_stream.specs.Links.{LinkSeen}
+use Rattle.pg_stream.specs.Links.{LinkSeen, GrewBy}
 use Rattle.pg_stream.specs.declared.stream.Front.{Front}
-use Rattle.pg_stream.specs.Streams.{StreamOf, stream_by, fuel_of, GrewBy, Moves, AllMoved, Passes, PollsAhead, AreAsynchronous, IsFrontOf, IsHeardFront}
-use Rattle.pg_stream.proofs.StreamLemmas.{Moves-then, Moves-none, AllMoved-none, AllMoved-then, PendingCause-after, took_frame, queues, text_of-append, front_tag, GrewBy-then, HeardCause-after}
+use Rattle.pg_stream.specs.Streams.{StreamOf, stream_by, fuel_of, Moves, AllMoved, Passes, PollsAhead, AreAsynchronous, IsFrontOf, IsHeardFront}
+use Rattle.pg_stream.proofs.StreamLemmas.{Moves-then, Moves-none, AllMoved-none, AllMoved-then, NoneWaited-then, PendingCause-after, took_frame, queues, text_of-append, front_tag, GrewBy-then, HeardCause-after}
 use Rattle.pg_startup.specs.declared.stage.Session.{Session}
 use Rattle.pg_startup.specs.declared.stage.Stage.{Stage}
 use Rattle.pg_startup.specs.Exchange.{ClientSeen, Proof, proof_frame, proofs_text, Leads}
@@ -146,12 +142,12 @@ pub greets_refused : {A : Type 0} (seen : A → LinkSeen) (c : ClientSeen) (a b 
     → GreetsOnce c (greeting_by seen a) (greeting_by seen b) (Some (Ready (Err e)))
 greets_refused seen c a b front e none p stage said (frame, rest, is, refused) = (
   ([], p.0, greets_aside c (greeting_by seen a) (greeting_by seen b) p.0 p.1 p.2 stage said),
-  (ap session_at stage ∙ none, inr (frame, rest, is.whole, is_heard b.stream.held front frame rest p.5 is, is.parts, refused)),
+  (ap session_at stage ∙ none, inr (frame, rest, is.whole, is_heard b.stream.held front frame rest p.5 is, is.parts, refused), p.4.2),
 )
 
 pub greets_failed : {A : Type 0} (seen : A → LinkSeen) (c : ClientSeen) (a b : GreetingOf A) (e : Error) → session_at a.stage ≡ None → PollsAhead (stream_by seen a.stream) (stream_by seen b.stream) (Ready (Err e)) → b.stage ≡ a.stage → b.said ≡ a.said
     → GreetsOnce c (greeting_by seen a) (greeting_by seen b) (Some (Ready (Err e)))
-greets_failed seen c a b e none p stage said = (([], p.0, greets_aside c (greeting_by seen a) (greeting_by seen b) p.0 p.1 p.2 stage said), (ap session_at stage ∙ none, inl p.3))
+greets_failed seen c a b e none p stage said = (([], p.0, greets_aside c (greeting_by seen a) (greeting_by seen b) p.0 p.1 p.2 stage said), (ap session_at stage ∙ none, inl p.3, p.5))
 
 pub greets_waits : {A : Type 0} (seen : A → LinkSeen) (c : ClientSeen) (a b : GreetingOf A) → session_at a.stage ≡ None → PollsAhead (stream_by seen a.stream) (stream_by seen b.stream) Pending → b.stage ≡ a.stage → b.said ≡ a.said
     → GreetsOnce c (greeting_by seen a) (greeting_by seen b) (Some Pending)
@@ -179,10 +175,10 @@ from_last c a b d answer i (on, cause) = (
 )
   where
     by : (r : Poll (Result Session Error)) → GreetCause c b d r → GreetCause c a d r
-    by Pending (none, p) = (none, PendingCause-after a.stream b.stream d.stream i.on.2.moves.counts i.moved i.on.2.moves.left on.2.moves.left p)
+    by Pending (none, p) = (none, PendingCause-after a.stream b.stream d.stream i.moved i.on.2.moves.left on.2.moves.left p)
     by (Ready (Ok session)) p = (AllMoved-then a.stream b.stream d.stream i.moved i.on.2.moves.left p.0 on.2.moves.left, p.1)
-    by (Ready (Err e)) (none, inl p) = (none, inl (HeardCause-after a.stream b.stream d.stream e i.on.2.moves.counts p))
-    by (Ready (Err e)) (none, inr p) = (none, inr p)
+    by (Ready (Err e)) (none, inl p, still) = (none, inl (HeardCause-after a.stream b.stream d.stream e i.on.2.moves.counts p), NoneWaited-then a.stream b.stream d.stream i.moved.2 still)
+    by (Ready (Err e)) (none, inr p, still) = (none, inr p, NoneWaited-then a.stream b.stream d.stream i.moved.2 still)
 
 -- the session had begun
 pub greets_over : (c : ClientSeen) (a : GreetingSeen) (session : Session) → Some session ≡ session_at a.stage → GreetsOnce c a a (Some (Ready (Ok session)))

@@ -1,18 +1,15 @@
 -- A text without a first zero byte has none.
-use Rattle.std.proofs.Common.{◌≡◌, ℕ, zero, suc, ◌+◌, ◌<◌, true, false, List, [], ◌∷◌, ◌++◌, length, take, flat_map, get_or, Option, Some, None, refl, sym, ap, ◌∙◌, arith}
+use Rattle.std.proofs.Common.{◌≡◌, ℕ, zero, suc, ◌+◌, ◌<◌, false, List, [], ◌∷◌, length, take, flat_map, get_or, Option, Some, None, refl, arith}
 use Rattle.std.specs.Option.{option_or}
 use Rattle.std.specs.Prelude.{nat_eq, nat_lt, cond}
-use Rattle.std.specs.List.{position_or_len, list_any}
+use Rattle.std.specs.List.{position_or_len}
 use Rattle.std.proofs.lemmas.Bool.{ltb-false}
 use Rattle.std.proofs.lemmas.List.Sums.{fails_before_first}
 use Rattle.std.proofs.lemmas.List.Folds.{list_any_none}
 use Rattle.pg_wire.specs.Bytes.{HasNoNul}
-use Rattle.pg_wire.specs.declared.error.Error.{Error}
-use Rattle.pg_startup.specs.Nuls.{first_nul, first_nul_in, IsNulIn}
+use Rattle.pg_auth.proofs.PlainLemmas.{all_before}
+use Rattle.pg_startup.specs.Nuls.{first_nul, first_nul_in}
 use Rattle.pg_startup.specs.Startups.{parameter_texts}
-
-all_before : (n m : ℕ) (o : ℕ) → cond (nat_lt n m) (Some o) None ≡ None → nat_lt n m ≡ false
-all_before n m o e = grind arith
 
 pub no_nul : (text : List ℕ) → first_nul text ≡ None → HasNoNul text
 unfolding first_nul

@@ -1,5 +1,5 @@
 -- What is answered to a message.
-use Rattle.std.proofs.Common.{◌≡◌, ℕ, List, [], ◌∷◌, ◌++◌, refl, sym, ◌∙◌, append-nil, Result, Ok, Err}
+use Rattle.std.proofs.Common.{◌≡◌, ℕ, List, [], ◌∷◌, refl, sym, ◌∙◌, append-nil, Result, Ok, Err}
 use Rattle.std.specs.Prelude.{IfErr}
 use Rattle.pg_wire.specs.Frame.{Frame, bytes_of}
 use Rattle.pg_wire.specs.Backend.{BackendMessage}

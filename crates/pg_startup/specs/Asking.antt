@@ -1,5 +1,5 @@
 -- The question for TLS, before the startup message (PostgreSQL manual, "Message Flow", "SSL Session Encryption").
-use Rattle.std.specs.Prelude.{◌≡◌, ℕ, ◌+◌, ◌-◌, ◌<◌, ◌≤◌, nat_lt, if◌then◌else◌, Bool, true, false, ◌⊎◌, List, [], ◌∷◌, take, Option, Some, None, Result, Ok, Err}
+use Rattle.std.specs.Prelude.{◌≡◌, ℕ, ◌-◌, ◌<◌, ◌≤◌, nat_lt, if◌then◌else◌, Bool, true, false, ◌⊎◌, [], ◌∷◌, take, Option, Some, None, Result, Ok, Err}
 use Rattle.std.specs.Io.KnownBytes.{Keeps, Appends}
 use Rattle.futures.specs.declared.task.Poll.{Poll}
 use Rattle.futures.specs.declared.task.Poll.TheVariants.{Ready, Pending}
@@ -10,7 +10,7 @@ use Rattle.pg_wire.specs.declared.error.TlsCause.TheVariants as tls
 use Rattle.pg_wire.specs.declared.error.ProtocolFault.TheVariants as protocol
 use Rattle.pg_wire.specs.declared.error.ServerFault.TheVariants as faults
 use Rattle.pg_wire.specs.Frontend.{ssl_request}
-use Rattle.pg_stream.specs.Links.{LinkSeen, NoneFalls, RoseBy, Rose, Upgrades}
+use Rattle.pg_stream.specs.Links.{LinkSeen, NoneFalls, Rose, GrewBy, NoWaits, Upgrades}
 use Rattle.pg_stream.specs.declared.link.TlsWish.{TlsWish}
 use Rattle.pg_stream.specs.declared.link.LinkUpgrade.TheVariants as upgrades
 use Rattle.pg_startup.specs.declared.asking.Asked.{Asked}
@@ -63,10 +63,21 @@ AskingFails required first a b (errors.Tls tls.ServerRefused) = (required ≡ tr
 AskingFails required first a b (errors.Protocol (protocol.Server (faults.SslAnswer byte))) = (byte ≡ 83 → ⊥) × (byte ≡ 78 → ⊥) × Answered first b byte
 AskingFails required first a b _ = ⊥
 
+-- one write waited and no other call, or one read or handshake did
+abbrev pub OneWriteWaits : LinkSeen → LinkSeen → Type 0
+OneWriteWaits a b = GrewBy 1 a.write_waits b.write_waits × (b.read_waits ≡ a.read_waits)
+
+abbrev pub OneReadWaits : LinkSeen → LinkSeen → Type 0
+OneReadWaits a b = GrewBy 1 a.read_waits b.read_waits × (b.write_waits ≡ a.write_waits)
+
 -- it waits to be sent, or for the server: the byte, or its half of the handshake
 abbrev pub AskingWaits : LinkSeen → LinkSeen → Asked → Type 0
-AskingWaits a b (asks.Sending sent) = Rose a.write_waits b.write_waits
-AskingWaits a b _ = Rose a.read_waits b.read_waits
+AskingWaits a b (asks.Sending sent) = OneWriteWaits a b
+AskingWaits a b _ = OneReadWaits a b
+
+-- one call moved, and none waited
+abbrev pub OneMoves : LinkSeen → LinkSeen → Type 0
+OneMoves a b = GrewBy 1 a.moved b.moved × NoWaits a b
 
 -- what the byte makes of the question: TLS, a plain session, or an error
 abbrev pub HearsByte : {A : Type 0} → ℕ → AskingOf A → AskingOf A → Option (Poll (Result (Unit {0}) Error)) → Type 0
@@ -86,20 +97,20 @@ EndsAsking a b (Err e) = (first : LinkSeen) → HasAsked first a.link a.asked �
 
 -- what one call of the link makes of it
 abbrev pub AskedOnce : AskingSeen → AskingSeen → Option (Poll (Result (Unit {0}) Error)) → Type 0
-AskedOnce a b None = Rose a.link.moved b.link.moved × AsksOn a b
+AskedOnce a b None = OneMoves a.link b.link × AsksOn a b
 AskedOnce a b (Some Pending) = AskingWaits a.link b.link b.asked × AsksOn a b
-AskedOnce a b (Some (Ready (Ok u))) = Rose a.link.moved b.link.moved × EndsAsking a b (Ok u)
-AskedOnce a b (Some (Ready (Err e))) = EndsAsking a b (Err e)
+AskedOnce a b (Some (Ready (Ok u))) = OneMoves a.link b.link × EndsAsking a b (Ok u)
+AskedOnce a b (Some (Ready (Err e))) = NoWaits a.link b.link × EndsAsking a b (Err e)
 
 abbrev pub IsSameQuestion : AskingSeen → AskingSeen → Type 0
 IsSameQuestion a b = NoneFalls a.link b.link × (b.is_required ≡ a.is_required) × (b.wish ≡ a.wish)
 
 abbrev pub AsksOnce : AskingSeen → AskingSeen → Option (Poll (Result (Unit {0}) Error)) → Type 0
-AsksOnce a b answer = IsSameQuestion a b × AskedOnce a b answer
+AsksOnce a b answer = IsSameQuestion a b × GrewBy 1 a.link.calls b.link.calls × AskedOnce a b answer
 
 -- each link call of a poll moved bytes, or the handshake
 abbrev pub AllCallsMoved : ℕ → ℕ → LinkSeen → LinkSeen → Type 0
-AllCallsMoved left now a b = (now ≤ left) × RoseBy (left - now) a.moved b.moved
+AllCallsMoved left now a b = (now ≤ left) × GrewBy (left - now) a.moved b.moved × NoWaits a b
 
 -- the link calls that were allowed are made, and each moved
 abbrev pub AllCallsMade : ℕ → ℕ → LinkSeen → LinkSeen → Type 0
@@ -109,10 +120,10 @@ AllCallsMade left now a b = (now ≡ 0) × AllCallsMoved left now a b
 abbrev pub PolledAsking : ℕ → ℕ → AskingSeen → AskingSeen → Poll (Result (Unit {0}) Error) → Type 0
 PolledAsking left now a b Pending = (AskingWaits a.link b.link b.asked ⊎ AllCallsMade left now a.link b.link) × AsksOn a b
 PolledAsking left now a b (Ready (Ok u)) = AllCallsMoved left now a.link b.link × EndsAsking a b (Ok u)
-PolledAsking left now a b (Ready (Err e)) = EndsAsking a b (Err e)
+PolledAsking left now a b (Ready (Err e)) = NoWaits a.link b.link × EndsAsking a b (Err e)
 
 abbrev pub PollsAsking : ℕ → ℕ → AskingSeen → AskingSeen → Poll (Result (Unit {0}) Error) → Type 0
-PollsAsking left now a b answer = (now ≤ left) × IsSameQuestion a b × PolledAsking left now a b answer
+PollsAsking left now a b answer = (now ≤ left) × IsSameQuestion a b × GrewBy (left - now) a.link.calls b.link.calls × PolledAsking left now a b answer
 
 -- more of the request is to be sent, where it is being sent
 abbrev pub IsSendable : Asked → Type 0

@@ -7,8 +7,8 @@ use Rattle.pg_wire.specs.declared.error.Error.TheVariants as errors
 use Rattle.pg_wire.specs.Frame.{Frame}
 use Rattle.pg_wire.specs.Parts.{heard}
 use Rattle.pg_options.specs.Options.{ConnectOptions}
-use Rattle.pg_stream.specs.Links.{LinkPlan, LinkSeen, NoneFalls, Rose}
-use Rattle.pg_stream.specs.Streams.{StreamOf, stream_by, fresh_stream, GrewBy, HasNone, HeardCause}
+use Rattle.pg_stream.specs.Links.{LinkPlan, LinkSeen, NoneFalls, GrewBy, NoWaits}
+use Rattle.pg_stream.specs.Streams.{fresh_stream, HasNone, HeardCause}
 use Rattle.pg_auth.specs.declared.tls.TlsPlan.{TlsPlan}
 use Rattle.pg_auth.specs.declared.tls.TlsPlan.TheVariants.{Plain, Ask}
 use Rattle.pg_auth.specs.Tls.{tls_plan}
@@ -22,7 +22,7 @@ use Rattle.pg_startup.specs.Nuls.{first_nul_in}
 use Rattle.pg_startup.specs.Startups.{startup_of, startup_texts, RefusesStartup}
 use Rattle.pg_startup.specs.Exchange.{ClientSeen, Proof, client_of, proofs_text, Leads}
 use Rattle.pg_startup.specs.Handshake.{ReadyOf, ready_by, HasBegun}
-use Rattle.pg_startup.specs.Asking.{AskingOf, AskingSeen, asking_by, HasAsked, Agrees, AskingFails, AllCallsMade, AllCallsMoved}
+use Rattle.pg_startup.specs.Asking.{asking_by, HasAsked, Agrees, AskingFails, OneWriteWaits, OneReadWaits, AllCallsMade, AllCallsMoved}
 use Rattle.pg_startup.specs.Flows.{Flows}
 use Rattle.pg_startup.specs.Greeting.{GreetingOf, GreetingSeen, greeting_by, fresh_greeting, session_at, SaysMore, IsFrontRefused, PollsGreeting}
 
@@ -111,9 +111,14 @@ IsServersTurn (phases.Asking asking) = IsAwaited asking.asked
 IsServersTurn (phases.Greeting greeting) = (greeting.stream.unsent ≡ []) × HasNone greeting.stream.held
 IsServersTurn phases.Gone = ⊥
 
--- why a poll answers `Pending`: a write waited; or a read or the handshake did, and the server is next; or its link calls are made
+-- why a poll answers `Pending`: one write waited; or one read or handshake did, and the server is next; or its link calls are made
 abbrev pub StartWaits : ℕ → ℕ → LinkSeen → LinkSeen → Phase LinkSeen → Type 0
-StartWaits left now a b phase = Rose a.write_waits b.write_waits ⊎ (Rose a.read_waits b.read_waits × IsServersTurn phase) ⊎ AllCallsMade left now a b
+StartWaits left now a b phase = OneWriteWaits a b ⊎ (OneReadWaits a b × IsServersTurn phase) ⊎ AllCallsMade left now a b
+
+-- a poll called the link as often as its calls became fewer, and no count fell
+pub record Called (left now : ℕ) (a b : LinkSeen) : Type 0 where
+  pub counts : NoneFalls a b
+  pub calls : GrewBy (left - now) a.calls b.calls
 
 -- why it fails: the question for TLS does; or, before the session has begun, the stream does, or the message at the front is refused; want of
 -- memory is free
@@ -147,17 +152,17 @@ IsReady first e ready = HasBegun e.client e.plan e.message first ready
 
 -- it waits: what stands behind is under way, and the session has not begun
 abbrev pub WaitsOn : LinkSeen → ℕ → ℕ → LinkSeen → EstablishSeen → Phase LinkSeen → Type 0
-WaitsOn first left now a e phase = IsUnderWay e.client e.plan e.message first phase × ((b : LinkSeen) × HasLink phase b × NoneFalls a b × StartWaits left now a b phase) × IsUnbegun phase
+WaitsOn first left now a e phase = IsUnderWay e.client e.plan e.message first phase × ((b : LinkSeen) × HasLink phase b × Called left now a b × StartWaits left now a b phase) × IsUnbegun phase
 
--- it fails, and keeps its link
-abbrev pub FailsOn : LinkSeen → LinkSeen → EstablishSeen → Phase LinkSeen → Error → Type 0
-FailsOn first a e phase error = (b : LinkSeen) × HasLink phase b × NoneFalls a b × StartFails first a e phase error
+-- it fails, no call of the link waited, and the link is kept
+abbrev pub FailsOn : LinkSeen → ℕ → ℕ → LinkSeen → EstablishSeen → Phase LinkSeen → Error → Type 0
+FailsOn first left now a e phase error = (b : LinkSeen) × HasLink phase b × Called left now a b × StartFails first a e phase error × NoWaits a b
 
 -- what a poll makes of a start-up whose link stood so
 abbrev pub StartsOn : LinkSeen → ℕ → ℕ → LinkSeen → EstablishSeen → Poll (Result (ReadyOf LinkSeen) Error) → Type 0
 StartsOn first left now a e Pending = (e.is_finished ≡ false) × WaitsOn first left now a e e.phase
-StartsOn first left now a e (Ready (Err error)) = (e.is_finished ≡ true) × FailsOn first a e e.phase error
-StartsOn first left now a e (Ready (Ok ready)) = (e.is_finished ≡ true) × (e.phase ≡ phases.Gone) × NoneFalls a ready.stream.link × IsReady first e ready
+StartsOn first left now a e (Ready (Err error)) = (e.is_finished ≡ true) × FailsOn first left now a e e.phase error
+StartsOn first left now a e (Ready (Ok ready)) = (e.is_finished ≡ true) × (e.phase ≡ phases.Gone) × Called left now a ready.stream.link × IsReady first e ready × NoWaits a ready.stream.link
 
 abbrev pub ready_seen : {A : Type 0} → (A → LinkSeen) → Poll (Result (ReadyOf A) Error) → Poll (Result (ReadyOf LinkSeen) Error)
 ready_seen f Pending = Pending
@@ -176,11 +181,11 @@ pub record PollsStart (left now : ℕ) (a b : EstablishSeen) (answer : Poll (Res
 
 -- a session begins, within what is left of the link calls
 abbrev pub IsOpen : LinkSeen → ℕ → ℕ → LinkSeen → EstablishSeen → Phase LinkSeen → Type 0
-IsOpen first left now a e phase = (greeting : GreetingSeen) × (phase ≡ phases.Greeting greeting) × IsGreeting e.client e.plan e.message first greeting × NoneFalls a greeting.stream.link × AllCallsMoved left now a greeting.stream.link
+IsOpen first left now a e phase = (greeting : GreetingSeen) × (phase ≡ phases.Greeting greeting) × IsGreeting e.client e.plan e.message first greeting × Called left now a greeting.stream.link × AllCallsMoved left now a greeting.stream.link
 
 abbrev pub SettledAs : LinkSeen → ℕ → ℕ → LinkSeen → EstablishSeen → Phase LinkSeen → Poll (Result (Unit {0}) Error) → Type 0
 SettledAs first left now a e phase Pending = WaitsOn first left now a e phase
-SettledAs first left now a e phase (Ready (Err error)) = FailsOn first a e phase error
+SettledAs first left now a e phase (Ready (Err error)) = FailsOn first left now a e phase error
 SettledAs first left now a e phase (Ready (Ok u)) = IsOpen first left now a e phase
 
 -- what the question for TLS makes of a start-up
@@ -191,13 +196,14 @@ SettlesOn left now e phase answer = (now ≤ left) × ((first link : LinkSeen) �
 abbrev pub GreetsIn : ClientSeen → ℕ → ℕ → Phase LinkSeen → Phase LinkSeen → Poll (Result Session Error) → Type 0
 GreetsIn c left now a b answer = (g : GreetingSeen) → a ≡ phases.Greeting g → (h : GreetingSeen) × (b ≡ phases.Greeting h) × PollsGreeting c left now g h answer
 
-abbrev pub IsBegun : LinkSeen → LinkSeen → EstablishSeen → Phase LinkSeen → Session → Type 0
-IsBegun first a e phase session = (greeting : GreetingSeen) × (phase ≡ phases.Greeting greeting) × IsGreeting e.client e.plan e.message first greeting × NoneFalls a greeting.stream.link × (greeting.stage ≡ stages.Begun session)
+abbrev pub IsBegun : LinkSeen → ℕ → ℕ → LinkSeen → EstablishSeen → Phase LinkSeen → Session → Type 0
+IsBegun first left now a e phase session = (greeting : GreetingSeen) × (phase ≡ phases.Greeting greeting) × IsGreeting e.client e.plan e.message first greeting × Called left now a greeting.stream.link
+    × (greeting.stage ≡ stages.Begun session) × NoWaits a greeting.stream.link
 
 abbrev pub GoneAs : LinkSeen → ℕ → ℕ → LinkSeen → EstablishSeen → Phase LinkSeen → Poll (Result Session Error) → Type 0
 GoneAs first left now a e phase Pending = WaitsOn first left now a e phase
-GoneAs first left now a e phase (Ready (Err error)) = FailsOn first a e phase error
-GoneAs first left now a e phase (Ready (Ok session)) = IsBegun first a e phase session
+GoneAs first left now a e phase (Ready (Err error)) = FailsOn first left now a e phase error
+GoneAs first left now a e phase (Ready (Ok session)) = IsBegun first left now a e phase session
 
 abbrev pub GoesOn : ℕ → ℕ → EstablishSeen → Phase LinkSeen → Poll (Result Session Error) → Type 0
 GoesOn left now e phase answer = (now ≤ left) × ((first link : LinkSeen) → IsStarting first e → HasLink e.phase link → GoneAs first left now link e phase answer)

@@ -1,13 +1,13 @@
 -- How a session begins, from the startup message on (PostgreSQL manual, "Message Flow", "Start-up").
-use Rattle.std.specs.Prelude.{◌≡◌, ℕ, ◌<◌, ◌⊎◌, false, List, [], ◌++◌, length, Option, Some, None, Result, Ok, Err}
+use Rattle.std.specs.Prelude.{◌≡◌, ℕ, ◌<◌, ◌⊎◌, false, List, ◌++◌, length, Option, Some, None, Result, Ok, Err}
 use Rattle.futures.specs.declared.task.Poll.{Poll}
 use Rattle.futures.specs.declared.task.Poll.TheVariants.{Ready, Pending}
 use Rattle.pg_wire.specs.declared.error.Error.{Error}
 use Rattle.pg_wire.specs.Frame.{Frame, bytes_of, backend_tags, IsWhole}
 use Rattle.pg_wire.specs.Parts.{heard, is_asynchronous}
-use Rattle.pg_stream.specs.Links.{LinkSeen}
+use Rattle.pg_stream.specs.Links.{LinkSeen, GrewBy}
 use Rattle.pg_stream.specs.declared.stream.Front.{Front}
-use Rattle.pg_stream.specs.Streams.{StreamOf, stream_by, fresh_stream, fuel_of, GrewBy, Moves, AllMoved, Passes, PendingCause, HeardCause, IsFrontOf}
+use Rattle.pg_stream.specs.Streams.{StreamOf, stream_by, fresh_stream, fuel_of, Moves, AllMoved, NoneWaited, Passes, PendingCause, HeardCause, IsFrontOf}
 use Rattle.pg_startup.specs.declared.stage.Session.{Session}
 use Rattle.pg_startup.specs.declared.stage.Stage.{Stage}
 use Rattle.pg_startup.specs.declared.stage.Stage.TheVariants as stages
@@ -72,7 +72,7 @@ IsFrontRefused c b e = (front : Frame) × (rest : List ℕ) × IsWhole backend_t
 abbrev pub GreetCause : ClientSeen → GreetingSeen → GreetingSeen → Poll (Result Session Error) → Type 0
 GreetCause c a b Pending = (session_at b.stage ≡ None) × PendingCause a.stream b.stream
 GreetCause c a b (Ready (Ok session)) = AllMoved a.stream b.stream × (b.stage ≡ stages.Begun session)
-GreetCause c a b (Ready (Err e)) = (session_at b.stage ≡ None) × (HeardCause a.stream b.stream e ⊎ IsFrontRefused c b e)
+GreetCause c a b (Ready (Err e)) = (session_at b.stage ≡ None) × (HeardCause a.stream b.stream e ⊎ IsFrontRefused c b e) × NoneWaited a.stream b.stream
 
 -- one message taken, or the answer
 abbrev pub GreetsOnce : ClientSeen → GreetingSeen → GreetingSeen → Option (Poll (Result Session Error)) → Type 0

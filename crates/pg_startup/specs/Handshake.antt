@@ -6,8 +6,8 @@ use Rattle.pg_wire.specs.Frame.{Frame, text_of}
 use Rattle.pg_wire.specs.Frontend.{ssl_request}
 use Rattle.pg_wire.specs.Parts.{heard}
 use Rattle.pg_stream.specs.declared.link.TlsWish.{TlsWish}
-use Rattle.pg_stream.specs.Links.{LinkSeen}
-use Rattle.pg_stream.specs.Streams.{StreamOf, stream_by, GrewBy, AreFrames}
+use Rattle.pg_stream.specs.Links.{LinkSeen, GrewBy}
+use Rattle.pg_stream.specs.Streams.{StreamOf, stream_by, AreFrames}
 use Rattle.pg_auth.specs.declared.tls.TlsPlan.{TlsPlan}
 use Rattle.pg_auth.specs.declared.tls.TlsPlan.TheVariants.{Plain, Ask}
 use Rattle.pg_startup.specs.declared.stage.Stage.TheVariants as stages
@@ -31,7 +31,7 @@ pub record IsHandshake (c : ClientSeen) (plan : TlsPlan) (message said read : Li
   pub said_is : said ≡ asked ++ (message ++ proofs_text proofs)
   pub read_is : read ≡ answered ++ text_of frames
 
--- behind S the last TLS handshake that was made had to verify what the plan wishes, and behind N none was made
+-- what the last TLS handshake that was made had to verify: behind S what the plan wishes, and behind N what it was before
 abbrev pub IsSecured : TlsPlan → List ℕ → Option TlsWish → Option TlsWish → Type 0
 IsSecured Plain answered before now = now ≡ before
 IsSecured (Ask required wish) answered before now = (answered ≡ 83 ∷ [] → now ≡ Some wish) × (answered ≡ 78 ∷ [] → now ≡ before)

@@ -4,14 +4,14 @@ use Rattle.std.specs.List.{AllByRecursion}
 use Rattle.pg_wire.specs.Bytes.{HasNoNul}
 use Rattle.pg_wire.specs.Encoding.{Allows}
 use Rattle.pg_wire.specs.Server.{IsPrefixOf}
-use Rattle.pg_stream.specs.Links.{LinkSeen, Rose}
+use Rattle.pg_stream.specs.Links.{LinkSeen}
 use Rattle.pg_stream.specs.Asynchronous.{IsSaid}
 use Rattle.pg_auth.specs.declared.tls.TlsPlan.{TlsPlan}
 use Rattle.pg_startup.specs.declared.asking.Asked.TheVariants as asks
 use Rattle.pg_startup.specs.declared.stage.Session.{Session}
 use Rattle.pg_startup.specs.declared.starting.Phase.{Phase}
 use Rattle.pg_startup.specs.declared.starting.Phase.TheVariants as phases
-use Rattle.pg_startup.specs.Asking.{AllCallsMade}
+use Rattle.pg_startup.specs.Asking.{OneWriteWaits, OneReadWaits, AllCallsMade}
 use Rattle.pg_startup.specs.Exchange.{ClientSeen, Proof, proof_frame, proof_text}
 use Rattle.pg_startup.specs.Handshake.{IsHandshake}
 use Rattle.pg_startup.specs.Establishing.{EstablishSeen}
@@ -68,4 +68,4 @@ IsUpgrading _ = ⊥
 
 -- a poll waits for a write, for that handshake, or for the calls of the next poll
 abbrev pub WaitsForLink : ℕ → ℕ → LinkSeen → LinkSeen → Phase LinkSeen → Type 0
-WaitsForLink left now a b phase = Rose a.write_waits b.write_waits ⊎ (Rose a.read_waits b.read_waits × IsUpgrading phase) ⊎ AllCallsMade left now a b
+WaitsForLink left now a b phase = OneWriteWaits a b ⊎ (OneReadWaits a b × IsUpgrading phase) ⊎ AllCallsMade left now a b

@@ -1,5 +1,5 @@
 -- What the code answers to a message.
-use Rattle.std.specs.Prelude.{◌≡◌, ℕ, List}
+use Rattle.std.specs.Prelude.{◌≡◌, List}
 use Rattle.pg_wire.specs.Frame.{Frame}
 use Rattle.pg_wire.specs.Backend.{BackendMessage}
 use Rattle.pg_stream.specs.Parameters.{Carries}

@@ -6,7 +6,7 @@ use pg_wire::{Error, IoCause, Poll, ProtocolFault, ServerFault, SslRequest, TlsC
 use std::marker::Model;
 
 /// How far the question for TLS has come.
-#[derive(Clone, Copy, Debug, PartialEq, Eq)]
+#[derive(Clone, Copy)]
 pub enum Asked {
     /// So many bytes of the SSLRequest are sent.
     Sending(usize),

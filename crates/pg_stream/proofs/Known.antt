@@ -1,8 +1,8 @@
 -- Known bytes that grow, step after step.
-use Rattle.std.proofs.Common.{ℕ, List, [], ◌∷◌, ◌++◌, length, refl, sym, ap, ◌∙◌, append_assoc, Option, Some, None, arith}
+use Rattle.std.proofs.Common.{ℕ, ◌≡◌, subst, List, [], ◌∷◌, ◌++◌, length, refl, sym, ap, ◌∙◌, append_assoc, Option, Some, None, arith}
 use Rattle.std.specs.Io.KnownBytes.{Keeps, Appends}
 use Rattle.std.proofs.lemmas.List.{append-nil}
-use Rattle.pg_stream.specs.Links.{LinkSeen, StillTold, NoneFalls, AddsPlace}
+use Rattle.pg_stream.specs.Links.{LinkSeen, StillTold, NoneFalls, Rises, Counts, GrewBy, NoWaits, AddsPlace}
 
 pub Appends-then : (a b c : Option (List ℕ)) (x y : List ℕ) → Appends a b x → Appends b c y → Appends a c (x ++ y)
 Appends-then None b c x y p q = tt
@@ -54,7 +54,24 @@ StillTold-then (Some s) (Some t) None p q = absurd q
 StillTold-then (Some s) (Some t) (Some u) p q = tt
 
 pub NoneFalls-refl : (a : LinkSeen) → NoneFalls a a
-NoneFalls-refl a = record { plan = refl; places = StillTold-refl a.wait_places; moved = omega arith; read_waits = omega arith; write_waits = omega arith; ends = omega arith; faults = omega arith; upgrade_faults = omega arith }
+NoneFalls-refl a = record { plan = refl; places = StillTold-refl a.wait_places; calls = omega arith; moved = omega arith; read_waits = omega arith; write_waits = omega arith; ends = omega arith; faults = omega arith; upgrade_faults = omega arith }
 
 pub NoneFalls-then : (a b c : LinkSeen) → NoneFalls a b → NoneFalls b c → NoneFalls a c
-NoneFalls-then a b c p q = record { plan = q.plan ∙ p.plan; places = StillTold-then a.wait_places b.wait_places c.wait_places p.places q.places; moved = omega arith; read_waits = omega arith; write_waits = omega arith; ends = omega arith; faults = omega arith; upgrade_faults = omega arith }
+NoneFalls-then a b c p q = record { plan = q.plan ∙ p.plan; places = StillTold-then a.wait_places b.wait_places c.wait_places p.places q.places; calls = omega arith; moved = omega arith; read_waits = omega arith; write_waits = omega arith; ends = omega arith; faults = omega arith; upgrade_faults = omega arith }
+
+pub NoneFalls-from_counts : (a b : LinkSeen) (r : Rises) → Counts a b r → NoneFalls a b
+NoneFalls-from_counts a b r p = record { plan = p.plan; places = p.places; calls = p.calls.0; moved = p.moved.0; read_waits = p.read_waits.0; write_waits = p.write_waits.0; ends = p.ends.0; faults = p.faults.0; upgrade_faults = p.upgrade_faults.0 }
+
+-- a count that stood still before it grew
+pub GrewBy-after : (x y z : ℕ) → y ≡ x → GrewBy 1 y z → GrewBy 1 x z
+GrewBy-after x y z e g = subst (λ (k : ℕ). GrewBy 1 k z) e g
+
+pub GrewBy-still : (x y : ℕ) → GrewBy 0 x y → y ≡ x
+GrewBy-still x y g = omega (arith, g)
+
+-- no call waited, for none was counted as a wait
+pub NoWaits-from_counts : (a b : LinkSeen) (r : Rises) → Counts a b r → r.write_waits ≡ 0 → r.read_waits ≡ 0 → NoWaits a b
+NoWaits-from_counts a b r h w n = (GrewBy-still _ _ (subst (λ (k : ℕ). GrewBy k a.write_waits b.write_waits) w h.write_waits), GrewBy-still _ _ (subst (λ (k : ℕ). GrewBy k a.read_waits b.read_waits) n h.read_waits))
+
+pub NoWaits-then : (a b c : LinkSeen) → NoWaits a b → NoWaits b c → NoWaits a c
+NoWaits-then a b c p q = (q.0 ∙ p.0, q.1 ∙ p.1)

@@ -1,5 +1,5 @@
 -- How calls of a stream follow one another.
-use Rattle.std.proofs.Common.{◌⊎◌, ◌≡◌, max, ℕ, ◌+◌, ◌-◌, ◌<◌, ◌≤◌, inl, inr, true, false, List, [], ◌∷◌, ◌++◌, take, drop, length, refl, sym, ap, ◌∙◌, append_assoc, arith, subst, Some, None, codes, take_at, drop_at, Result, Ok, Err}
+use Rattle.std.proofs.Common.{◌≡◌, max, ℕ, ◌+◌, ◌-◌, ◌<◌, ◌≤◌, inl, inr, true, false, List, [], ◌∷◌, ◌++◌, take, drop, length, refl, sym, ap, ◌∙◌, append_assoc, arith, subst, Some, None, codes, take_at, drop_at, Result, Ok, Err}
 use Rattle.std.proofs.lemmas.List.{append-nil, take-append-drop, length-append, length-take}
 use Rattle.futures.specs.declared.task.Poll.{Poll}
 use Rattle.futures.specs.declared.task.Poll.TheVariants.{Ready, Pending}
@@ -12,14 +12,16 @@ use Rattle.pg_wire.specs.Bytes.{number32}
 use Rattle.pg_wire.specs.Frame.{Frame, bytes_of, text_of, is_known}
 use Rattle.pg_wire.specs.Parts.{is_asynchronous}
 use Rattle.pg_stream.specs.declared.stream.Front.{Front}
+use Rattle.std.specs.Io.KnownBytes.{Keeps, Appends}
+use Rattle.pg_stream.specs.declared.link.LinkRead.{LinkRead}
 use Rattle.pg_stream.specs.declared.link.LinkRead.TheVariants as reads
 use Rattle.pg_stream.specs.declared.link.LinkWrite.TheVariants as writes
-use Rattle.pg_stream.specs.Links.{LinkSeen, NoneFalls, Rose, Reads, Writes}
-use Rattle.pg_stream.specs.Streams.{GrewBy, NoneWaited, OneWaited, StreamSeen, Sends, Takes, TakenFrom, Passes, AreFrames, Tallies, Moves, AllMoved, OneMoved, WriteWaited, ReadWaited, SendsOnce, ReadsOnce, HasNone, PollsFront, PollsFrame, PollsHeard, PollsAhead, IsHeardFront, framed, AheadOnce, HeardCause, IsMalformedFront, PassesAside, TakesFront, TakesHeard, StreamOf, stream_by, AreAsynchronous, PendingCause, ErrorCause, IsFrontOf, IsFront}
+use Rattle.pg_stream.specs.Links.{LinkSeen, NoneFalls, Rose, GrewBy, Rises, Counts, read_rises, write_rises, Reads, Writes}
+use Rattle.pg_stream.specs.Streams.{NoneWaited, StreamSeen, Sends, Takes, TakenFrom, Passes, AreFrames, Tallies, Moves, AllMoved, OneMoved, WriteWaited, ReadWaited, SendsOnce, ReadsOnce, HasNone, PollsFront, PollsFrame, PollsHeard, PollsAhead, IsHeardFront, framed, AheadOnce, HeardCause, IsMalformedFront, PassesAside, TakesFront, TakesHeard, StreamOf, stream_by, AreAsynchronous, PendingCause, ErrorCause, IsFrontOf, IsFront}
 use Rattle.pg_stream.specs.Parameters.{ParametersSeen, SetsBy, SetsByAll}
 use Rattle.pg_stream.specs.Asynchronous.{IsAside, TakesAside}
 use Rattle.pg_stream.proofs.ParameterLaws.{sets_heard}
-use Rattle.pg_stream.proofs.Known.{Keeps-refl, Keeps-then, AddsPlace-after, Appends-then, Appends-from_keeps, Appends-refl, NoneFalls-refl, NoneFalls-then}
+use Rattle.pg_stream.proofs.Known.{Keeps-refl, Keeps-then, AddsPlace-after, Appends-then, Appends-from_keeps, Appends-refl, NoneFalls-refl, NoneFalls-then, NoneFalls-from_counts, NoWaits-from_counts, NoWaits-then, GrewBy-after, GrewBy-still}
 
 pub AreFrames-append : (xs ys : List Frame) → AreFrames xs → AreFrames ys → AreFrames (xs ++ ys)
 AreFrames-append [] ys p q = q
@@ -43,6 +45,10 @@ GrewBy-then n m k x y z p q e = (omega (arith, p, q), omega (arith, p, q, e), om
 GrewBy-none : (x : ℕ) → GrewBy 0 x x
 GrewBy-none x = (omega arith, omega arith, omega arith)
 
+-- no call is made where none is spent
+pub GrewBy-spent : (left x : ℕ) → GrewBy (left - left) x x
+GrewBy-spent left x = (omega arith, omega arith, omega arith)
+
 pub Takes-then : (a b c : StreamSeen) (x y : List Frame) → Takes a b x → Takes b c y → Takes a c (x ++ y)
 Takes-then a b c x y p q = (
   p.0 ++ q.0,
@@ -58,24 +64,28 @@ Tallies-then a b c p q = record {
   write_waits = p.write_waits + q.write_waits;
   read_waits = p.read_waits + q.read_waits;
   moved = p.moved + q.moved;
-  waits = (omega (arith, p.waits, q.waits), omega (arith, p.waits, q.waits), omega (arith, p.waits, q.waits));
-  moves = (omega (arith, p.moves, q.moves), omega (arith, p.moves, q.moves), omega (arith, p.moves, q.moves));
-  writes = omega (arith, p.writes, q.writes);
-  reads = omega (arith, p.reads, q.reads);
-  moving = omega (arith, p.moving, q.moving);
+  waits = GrewBy-then _ _ _ _ _ _ p.waits q.waits (omega arith);
+  moves = GrewBy-then _ _ _ _ _ _ p.moves q.moves refl;
+  writes = GrewBy-then _ _ _ _ _ _ p.writes q.writes refl;
+  reads = GrewBy-then _ _ _ _ _ _ p.reads q.reads refl;
+  moving = GrewBy-then _ _ _ _ _ _ p.moving q.moving refl;
 }
 
+-- a number that is the same still
+GrewBy-same : (x y : ℕ) → y ≡ x → GrewBy 0 x y
+GrewBy-same x y e = subst (GrewBy 0 x) (sym e) (GrewBy-none x)
+
 -- nothing was called
-pub Tallies-none : (a b : StreamSeen) → NoneFalls a.link b.link → b.waits ≡ a.waits → b.moves ≡ a.moves → Tallies a b
+pub Tallies-none : (a b : StreamSeen) → b.link ≡ a.link → b.waits ≡ a.waits → b.moves ≡ a.moves → Tallies a b
 Tallies-none a b n w m = record {
   write_waits = 0;
   read_waits = 0;
   moved = 0;
-  waits = (omega (arith, w), omega (arith, w), omega (arith, w));
-  moves = (omega (arith, m), omega (arith, m), omega (arith, m));
-  writes = omega (arith, n.write_waits);
-  reads = omega (arith, n.read_waits);
-  moving = omega (arith, n.moved);
+  waits = GrewBy-same _ _ w;
+  moves = GrewBy-same _ _ m;
+  writes = GrewBy-same _ _ (ap (λ (l : LinkSeen). l.write_waits) n);
+  reads = GrewBy-same _ _ (ap (λ (l : LinkSeen). l.read_waits) n);
+  moving = GrewBy-same _ _ (ap (λ (l : LinkSeen). l.moved) n);
 }
 
 -- ---- the parameters that frames set
@@ -93,6 +103,7 @@ Moves-then a b c s t x y p q = record {
   read = Takes-then a b c x y p.read q.read;
   tallies = Tallies-then a b c p.tallies q.tallies;
   left = omega (arith, p.left, q.left);
+  calls = GrewBy-then _ _ _ _ _ _ p.calls q.calls (omega (arith, p.left, q.left));
   fuel = omega (arith, p.fuel, q.fuel, length-append x y);
   spare = omega (arith, p.spare, q.spare, length-append s t);
   parameters = SetsByAll-append x y a.parameters b.parameters c.parameters p.parameters q.parameters;
@@ -105,46 +116,52 @@ Moves-none a = record {
   secured = refl;
   sent = ([], Appends-refl a.link.taken, append-nil a.unsent);
   read = ([], Appends-refl a.link.given, append-nil a.held, tt, GrewBy-none a.taken);
-  tallies = Tallies-none a a (NoneFalls-refl a.link) refl refl;
+  tallies = Tallies-none a a refl refl refl;
   left = omega arith;
+  calls = GrewBy-spent a.left a.link.calls;
   fuel = omega arith;
   spare = omega arith;
   parameters = refl;
 }
 
 pub NoneWaited-none : (a : StreamSeen) → NoneWaited a a
-NoneWaited-none a = (refl, Keeps-refl a.link.wait_places)
+NoneWaited-none a = (refl, Keeps-refl a.link.wait_places, (refl, refl))
 
 pub NoneWaited-then : (a b c : StreamSeen) → NoneWaited a b → NoneWaited b c → NoneWaited a c
-NoneWaited-then a b c p q = (q.0 ∙ p.0, Keeps-then a.link.wait_places b.link.wait_places c.link.wait_places p.1 q.1)
+NoneWaited-then a b c p q = (q.0 ∙ p.0, Keeps-then a.link.wait_places b.link.wait_places c.link.wait_places p.1 q.1, NoWaits-then a.link b.link c.link p.2 q.2)
 
 pub AllMoved-none : (a : StreamSeen) → AllMoved a a
-AllMoved-none a = (omega arith, omega arith, NoneWaited-none a)
+AllMoved-none a = (GrewBy-spent a.left a.link.moved, GrewBy-spent a.left a.moves, NoneWaited-none a)
 
 pub AllMoved-more : (a b c : StreamSeen) → AllMoved a b → b.left ≤ a.left → c.left + 1 ≡ b.left → OneMoved b c → AllMoved a c
-AllMoved-more a b c p le e r = (omega (arith, p.0, r.0), omega (arith, p.1, r.1), NoneWaited-then a b c p.2 r.2)
+AllMoved-more a b c p le e r = (
+  GrewBy-then _ _ _ _ _ _ p.0 r.0 (omega (arith, le, e)),
+  GrewBy-then _ _ _ _ _ _ p.1 r.1 (omega (arith, le, e)),
+  NoneWaited-then a b c p.2 r.2,
+)
 
 pub AllMoved-then : (a b c : StreamSeen) → AllMoved a b → b.left ≤ a.left → AllMoved b c → c.left ≤ b.left → AllMoved a c
-AllMoved-then a b c p h q k = (omega (arith, p.0, q.0, h, k), omega (arith, p.1, q.1, h, k), NoneWaited-then a b c p.2 q.2)
+AllMoved-then a b c p h q k = (
+  GrewBy-then _ _ _ _ _ _ p.0 q.0 (omega (arith, h, k)),
+  GrewBy-then _ _ _ _ _ _ p.1 q.1 (omega (arith, h, k)),
+  NoneWaited-then a b c p.2 q.2,
+)
 
 -- a count that rose in the last step rose over all
 pub Rose-after : (n m k : ℕ) → n ≤ m → Rose m k → Rose n k
 Rose-after n m k le r = omega (arith, le, r)
 
-OneWaited-after : (a b c : StreamSeen) → NoneWaited a b → OneWaited b c → OneWaited a c
-OneWaited-after a b c n w = subst (λ (k : ℕ). GrewBy 1 k c.waits) n.0 w
+pub WriteWaited-after : (a b c : StreamSeen) → NoneWaited a b → WriteWaited b c → WriteWaited a c
+WriteWaited-after a b c n w = (GrewBy-after _ _ _ n.2.0 w.0, GrewBy-after _ _ _ n.0 w.1, Keeps-then a.link.wait_places b.link.wait_places c.link.wait_places n.1 w.2, w.3 ∙ n.2.1)
 
-pub WriteWaited-after : (a b c : StreamSeen) → NoneFalls a.link b.link → NoneWaited a b → WriteWaited b c → WriteWaited a c
-WriteWaited-after a b c m n w = (Rose-after _ _ _ m.write_waits w.0, OneWaited-after a b c n w.1, Keeps-then a.link.wait_places b.link.wait_places c.link.wait_places n.1 w.2)
+pub ReadWaited-after : (a b c : StreamSeen) → NoneWaited a b → ReadWaited b c → ReadWaited a c
+ReadWaited-after a b c n w = (GrewBy-after _ _ _ n.2.1 w.0, GrewBy-after _ _ _ n.0 w.1, AddsPlace-after c.link.given a.link.wait_places b.link.wait_places c.link.wait_places n.1 w.2, w.3 ∙ n.2.0)
 
-pub ReadWaited-after : (a b c : StreamSeen) → NoneFalls a.link b.link → NoneWaited a b → ReadWaited b c → ReadWaited a c
-ReadWaited-after a b c m n w = (Rose-after _ _ _ m.read_waits w.0, OneWaited-after a b c n w.1, AddsPlace-after c.link.given a.link.wait_places b.link.wait_places c.link.wait_places n.1 w.2)
-
-pub PendingCause-after : (a b c : StreamSeen) → NoneFalls a.link b.link → AllMoved a b → b.left ≤ a.left → c.left ≤ b.left → PendingCause b c → PendingCause a c
-PendingCause-after a b c m s h k p = elim p [
-  | inl w ↦ inl (WriteWaited-after a b c m s.2 w)
+pub PendingCause-after : (a b c : StreamSeen) → AllMoved a b → b.left ≤ a.left → c.left ≤ b.left → PendingCause b c → PendingCause a c
+PendingCause-after a b c s h k p = elim p [
+  | inl w ↦ inl (WriteWaited-after a b c s.2 w)
   | inr w ↦ elim w [
-    | inl r ↦ inr (inl (ReadWaited-after a b c m s.2 r.0, r.1, r.2))
+    | inl r ↦ inr (inl (ReadWaited-after a b c s.2 r.0, r.1, r.2))
     | inr f ↦ inr (inr (f.0, AllMoved-then a b c s h f.1 k))
   ]
 ]
@@ -157,57 +174,106 @@ ErrorCause-after a b c (errors.Protocol (protocol.Server f)) m p = p
 ErrorCause-after a b c _ m p = absurd p
 
 pub PollsFront-after : (a b c : StreamSeen) (r : Poll (Result Front Error)) → Moves a b [] [] → b.spare ≡ a.spare → AllMoved a b → PollsFront b c r → PollsFront a c r
-PollsFront-after a b c Pending m k s p = (Moves-then a b c [] [] [] [] m p.0, PendingCause-after a b c m.counts s m.left p.0.left p.1, p.2 ∙ k)
+PollsFront-after a b c Pending m k s p = (Moves-then a b c [] [] [] [] m p.0, PendingCause-after a b c s m.left p.0.left p.1, p.2 ∙ k)
 PollsFront-after a b c (Ready (Ok front)) m k s p = (Moves-then a b c [] [] [] [] m p.0, p.1, AllMoved-then a b c s m.left p.2 p.0.left, p.3, p.4 ∙ k)
 PollsFront-after a b c (Ready (Err e)) m k s p = (Moves-then a b c [] [] [] [] m p.0, ErrorCause-after a b c e m.counts p.1, p.2 ∙ k, NoneWaited-then a b c s.2 p.3)
 
 -- ---- one link call
 
-one_wait : (a b : StreamSeen) → NoneFalls a.link b.link → GrewBy 1 a.waits b.waits → b.moves ≡ a.moves → Rose a.link.write_waits b.link.write_waits ⊎ Rose a.link.read_waits b.link.read_waits → Tallies a b
-one_wait a b n w m r = elim r [
-  | inl p ↦ record { write_waits = 1; read_waits = 0; moved = 0; waits = w; moves = (omega (arith, m), omega (arith, m), omega (arith, m)); writes = p; reads = omega (arith, n.read_waits); moving = omega (arith, n.moved) }
-  | inr p ↦ record { write_waits = 0; read_waits = 1; moved = 0; waits = w; moves = (omega (arith, m), omega (arith, m), omega (arith, m)); writes = omega (arith, n.write_waits); reads = p; moving = omega (arith, n.moved) }
-]
+-- one less is left
+one_less : (left x y : ℕ) → 0 < left → GrewBy 1 x y → GrewBy (left - (left - 1)) x y
+one_less left x y some grew = subst (λ (n : ℕ). GrewBy n x y) (omega (arith, some)) grew
 
-one_move : (a b : StreamSeen) → NoneFalls a.link b.link → GrewBy 1 a.moves b.moves → b.waits ≡ a.waits → Rose a.link.moved b.link.moved → Tallies a b
-one_move a b n m w r = record { write_waits = 0; read_waits = 0; moved = 1; waits = (omega (arith, w), omega (arith, w), omega (arith, w)); moves = m; writes = omega (arith, n.write_waits); reads = omega (arith, n.read_waits); moving = r }
+-- a call that took and gave these bytes, and was counted in the link and in the stream
+called : (a : StreamSeen) (link : LinkSeen) (r : Rises) (unsent held took gave : List ℕ) (w m : ℕ) → Counts a.link link r → link.secured ≡ a.link.secured
+    → Appends a.link.taken link.taken took → a.unsent ≡ took ++ unsent → Appends a.link.given link.given gave → held ≡ a.held ++ gave → length gave ≤ 8192 → 0 < a.left
+    → GrewBy (r.write_waits + r.read_waits) a.waits w → GrewBy r.moved a.moves m → Moves a (record a { link = link; unsent = unsent; held = held; left = a.left - 1; waits = w; moves = m }) [] []
+called a link r unsent held took gave w m counts secured taken sent given holds fits some waits moves = record {
+  counts = NoneFalls-from_counts _ _ _ counts;
+  secured = secured;
+  sent = (took, taken, append-nil a.unsent ∙ sent);
+  read = (gave, given, sym holds, tt, GrewBy-none a.taken);
+  tallies = record { write_waits = r.write_waits; read_waits = r.read_waits; moved = r.moved; waits = waits; moves = moves; writes = counts.write_waits; reads = counts.read_waits; moving = counts.moved };
+  left = omega arith;
+  calls = one_less _ _ _ some counts.calls;
+  fuel = omega (arith, ap length holds, length-append a.held gave);
+  spare = omega arith;
+  parameters = refl;
+}
 
 pub sends_moved : (a : StreamSeen) (link : LinkSeen) (n m : ℕ) → Writes a.link link (writes.Moved n) a.unsent → 0 < a.left → GrewBy 1 a.moves m
     → SendsOnce a (record a { link = link; unsent = drop n a.unsent; left = a.left - 1; moves = m }) (writes.Moved n)
-sends_moved a link n m w some grew =
-    let b : StreamSeen = record a { link = link; unsent = drop n a.unsent; left = a.left - 1; moves = m } in
-    let parts : a.unsent ++ [] ≡ take n a.unsent ++ drop n a.unsent = append-nil a.unsent ∙ sym (take-append-drop n a.unsent) in
-    record {
-      moves = record { counts = w.counts; secured = w.secured; sent = (take n a.unsent, w.takes.2, parts); read = ([], Appends-from_keeps _ _ w.given, append-nil a.held, tt, GrewBy-none a.taken); tallies = one_move a b w.counts grew refl w.takes.3; left = omega arith; fuel = omega arith; spare = omega arith; parameters = refl };
-      held = refl;
-      spare = refl;
-      left = omega arith;
-      cause = (w.takes.3, grew.2, (refl, w.places));
-    }
+sends_moved a link n m w some grew = record {
+  moves = called a link (write_rises (writes.Moved n)) (drop n a.unsent) a.held (take n a.unsent) [] a.waits m w.counts w.secured w.takes.2 (sym (take-append-drop n a.unsent)) (Appends-from_keeps _ _ w.given) (sym (append-nil a.held)) (omega arith) some (GrewBy-none a.waits) grew;
+  held = refl;
+  spare = refl;
+  left = omega arith;
+  cause = (w.counts.moved, grew, (refl, w.places, NoWaits-from_counts _ _ _ w.counts refl refl));
+}
+
+pub sends_waited : (a : StreamSeen) (link : LinkSeen) (m : ℕ) → Writes a.link link writes.NotYet a.unsent → 0 < a.left → GrewBy 1 a.waits m
+    → SendsOnce a (record a { link = link; left = a.left - 1; waits = m }) writes.NotYet
+sends_waited a link m w some grew = record {
+  moves = called a link (write_rises writes.NotYet) a.unsent a.held [] [] m a.moves w.counts w.secured (Appends-from_keeps _ _ w.takes) refl (Appends-from_keeps _ _ w.given) (sym (append-nil a.held)) (omega arith) some grew (GrewBy-none a.moves);
+  held = refl;
+  spare = refl;
+  left = omega arith;
+  cause = (w.counts.write_waits, grew, w.places, GrewBy-still _ _ w.counts.read_waits);
+}
+
+pub sends_failed : (a : StreamSeen) (link : LinkSeen) → Writes a.link link writes.Failed a.unsent → 0 < a.left → SendsOnce a (record a { link = link; left = a.left - 1 }) writes.Failed
+sends_failed a link w some = record {
+  moves = called a link (write_rises writes.Failed) a.unsent a.held [] [] a.waits a.moves w.counts w.secured (Appends-from_keeps _ _ w.takes) refl (Appends-from_keeps _ _ w.given) (sym (append-nil a.held)) (omega arith) some (GrewBy-none a.waits) (GrewBy-none a.moves);
+  held = refl;
+  spare = refl;
+  left = omega arith;
+  cause = (w.counts.faults.2, (refl, w.places, NoWaits-from_counts _ _ _ w.counts refl refl));
+}
 
 pub reads_moved : (a : StreamSeen) (link : LinkSeen) (into : List ℕ) (n m : ℕ) → Reads a.link link (reads.Moved n) into → length into ≤ 8192 → 0 < a.left → GrewBy 1 a.moves m
     → ReadsOnce a (record a { link = link; held = a.held ++ take n into; left = a.left - 1; moves = m }) (reads.Moved n)
-reads_moved a link into n m r fits some grew =
-    let b : StreamSeen = record a { link = link; held = a.held ++ take n into; left = a.left - 1; moves = m } in
-    record {
-      moves = record { counts = r.counts; secured = r.secured; sent = ([], Appends-from_keeps _ _ r.taken, append-nil a.unsent); read = (take n into, r.gives.2, refl, tt, GrewBy-none a.taken); tallies = one_move a b r.counts grew refl r.gives.4; left = omega arith; fuel = omega (arith, length-append a.held (take n into), length-take n into); spare = omega arith; parameters = refl };
-      unsent = refl;
-      spare = refl;
-      left = omega arith;
-      cause = (r.gives.4, grew.2, (refl, r.gives.3));
-    }
+reads_moved a link into n m r fits some grew = record {
+  moves = called a link (read_rises (reads.Moved n)) a.unsent (a.held ++ take n into) [] (take n into) a.waits m r.counts r.secured (Appends-from_keeps _ _ r.taken) refl r.gives.2 refl (omega (arith, fits, length-take n into)) some (GrewBy-none a.waits) grew;
+  unsent = refl;
+  spare = refl;
+  left = omega arith;
+  cause = (r.counts.moved, grew, (refl, r.gives.3, NoWaits-from_counts _ _ _ r.counts refl refl));
+}
 
 pub reads_waited : (a : StreamSeen) (link : LinkSeen) (into : List ℕ) (m : ℕ) → Reads a.link link reads.NotYet into → 0 < a.left → GrewBy 1 a.waits m
     → ReadsOnce a (record a { link = link; left = a.left - 1; waits = m }) reads.NotYet
-reads_waited a link into m r some grew =
-    let b : StreamSeen = record a { link = link; left = a.left - 1; waits = m } in
-    record {
-      moves = record { counts = r.counts; secured = r.secured; sent = ([], Appends-from_keeps _ _ r.taken, append-nil a.unsent); read = ([], Appends-from_keeps _ _ r.gives.0, append-nil a.held, tt, GrewBy-none a.taken); tallies = one_wait a b r.counts grew refl (inr r.gives.2); left = omega arith; fuel = omega arith; spare = omega arith; parameters = refl };
-      unsent = refl;
-      spare = refl;
-      left = omega arith;
-      cause = ((r.gives.2, grew, r.gives.1), refl);
-    }
+reads_waited a link into m r some grew = record {
+  moves = called a link (read_rises reads.NotYet) a.unsent a.held [] [] m a.moves r.counts r.secured (Appends-from_keeps _ _ r.taken) refl (Appends-from_keeps _ _ r.gives.0) (sym (append-nil a.held)) (omega arith) some grew (GrewBy-none a.moves);
+  unsent = refl;
+  spare = refl;
+  left = omega arith;
+  cause = ((r.counts.read_waits, grew, r.gives.1, GrewBy-still _ _ r.counts.write_waits), refl);
+}
+
+-- a read that gave nothing and waited for nothing
+read_over : (a : StreamSeen) (link : LinkSeen) (answer : LinkRead) (into : List ℕ) → Reads a.link link answer into → Keeps a.link.given link.given → (read_rises answer).moved ≡ 0 → (read_rises answer).write_waits + (read_rises answer).read_waits ≡ 0 → 0 < a.left
+    → Moves a (record a { link = link; left = a.left - 1 }) [] []
+read_over a link answer into r kept still calm some =
+    called a link (read_rises answer) a.unsent a.held [] [] a.waits a.moves r.counts r.secured (Appends-from_keeps _ _ r.taken) refl (Appends-from_keeps _ _ kept) (sym (append-nil a.held)) (omega arith) some
+    (subst (λ (k : ℕ). GrewBy k a.waits a.waits) (sym calm) (GrewBy-none a.waits)) (subst (λ (k : ℕ). GrewBy k a.moves a.moves) (sym still) (GrewBy-none a.moves))
+
+pub reads_ended : (a : StreamSeen) (link : LinkSeen) (into : List ℕ) → Reads a.link link reads.End into → 0 < a.left → ReadsOnce a (record a { link = link; left = a.left - 1 }) reads.End
+reads_ended a link into r some = record {
+  moves = read_over a link reads.End into r r.gives.0 refl (omega arith) some;
+  unsent = refl;
+  spare = refl;
+  left = omega arith;
+  cause = (r.counts.ends.2, refl, (refl, r.gives.1, NoWaits-from_counts _ _ _ r.counts refl refl));
+}
+
+pub reads_failed : (a : StreamSeen) (link : LinkSeen) (into : List ℕ) → Reads a.link link reads.Failed into → 0 < a.left → ReadsOnce a (record a { link = link; left = a.left - 1 }) reads.Failed
+reads_failed a link into r some = record {
+  moves = read_over a link reads.Failed into r r.gives.0 refl (omega arith) some;
+  unsent = refl;
+  spare = refl;
+  left = omega arith;
+  cause = (r.counts.faults.2, refl, (refl, r.gives.1, NoWaits-from_counts _ _ _ r.counts refl refl));
+}
 
 -- ---- the frame at the front
 
@@ -295,7 +361,7 @@ reads_on a b c n i r = record {
 pub read_waits : (a b c : StreamSeen) → ReadsOn a b → HasNone b.held → ReadsOnce b c reads.NotYet → PollsFront a c Pending
 read_waits a b c i none r = (
   Moves-then a b c [] [] [] [] i.moves r.moves,
-  inr (inl (ReadWaited-after a b c i.moves.counts i.moved.2 r.cause.0, r.unsent ∙ i.unsent, subst HasNone (sym r.cause.1) none)),
+  inr (inl (ReadWaited-after a b c i.moved.2 r.cause.0, r.unsent ∙ i.unsent, subst HasNone (sym r.cause.1) none)),
   r.spare ∙ i.spare,
 )
 
@@ -334,8 +400,9 @@ takes_front a b front frame rest f t =
       secured = refl;
       sent = ([], Appends-refl a.link.taken, append-nil a.unsent);
       read = ([], Appends-refl a.link.given, parts, (f.whole, tt), subst (λ (n : ℕ). GrewBy n a.taken b.taken) long t.1);
-      tallies = Tallies-none a c counts refl refl;
+      tallies = Tallies-none a c refl refl refl;
       left = omega arith;
+      calls = GrewBy-spent a.left a.link.calls;
       fuel = omega (arith, size);
       spare = omega arith;
       parameters = (b.parameters, t.2, refl);
@@ -445,7 +512,7 @@ HeardCause-after a b c e m p = ErrorCause-after a b c e m p
 
 pub hears_last : (a b c : StreamSeen) (r : Poll (Result Front Error)) → HearsOn a b → PollsAhead b c r → PollsAhead a c r
 hears_last a b c Pending i p =
-    (i.aside ++ p.0, AreAsynchronous-append i.aside p.0 i.asynchronous p.1, Moves-then a b c [] [] i.aside p.0 i.moves p.2, PendingCause-after a b c i.moves.counts i.moved i.moves.left p.2.left p.3, p.4 ∙ i.spare)
+    (i.aside ++ p.0, AreAsynchronous-append i.aside p.0 i.asynchronous p.1, Moves-then a b c [] [] i.aside p.0 i.moves p.2, PendingCause-after a b c i.moved i.moves.left p.2.left p.3, p.4 ∙ i.spare)
 hears_last a b c (Ready (Ok front)) i p =
     (i.aside ++ p.0, AreAsynchronous-append i.aside p.0 i.asynchronous p.1, Moves-then a b c [] [] i.aside p.0 i.moves p.2, p.3, AllMoved-then a b c i.moved i.moves.left p.4 p.2.left, p.5, p.6 ∙ i.spare)
 hears_last a b c (Ready (Err e)) i p =
@@ -477,13 +544,14 @@ queues_by {A} seen a b bytes spare room e =
       secured = refl;
       sent = ([], Appends-refl s.link.taken, refl);
       read = ([], Appends-refl s.link.given, append-nil s.held, tt, GrewBy-none s.taken);
-      tallies = Tallies-none s t counts refl refl;
+      tallies = Tallies-none s t refl refl refl;
       left = omega arith;
+      calls = GrewBy-spent s.left s.link.calls;
       fuel = omega arith;
       spare = room;
       parameters = refl;
     } in
-    let all : AllMoved s t = (omega arith, omega arith, (refl, Keeps-refl s.link.wait_places)) in
+    let all : AllMoved s t = (GrewBy-spent s.left s.link.moved, GrewBy-spent s.left s.moves, (refl, Keeps-refl s.link.wait_places, (refl, refl))) in
     subst (λ (u : StreamOf A). Moves s (stream_by seen u) bytes [] × AllMoved s (stream_by seen u)) (sym e) (moves, all)
 
 pub queues : {A : Type 0} (seen : A → LinkSeen) (a b : StreamOf A) (bytes : List ℕ) → b ≡ record a { unsent = a.unsent ++ bytes } → Moves (stream_by seen a) (stream_by seen b) bytes [] × AllMoved (stream_by seen a) (stream_by seen b)

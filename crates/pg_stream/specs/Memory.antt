@@ -22,6 +22,7 @@ seen_of m = record {
   given = Some (given_by m.reads);
   taken = Some m.taken.items;
   wait_places = Some (places_by m.reads);
+  calls = m.calls;
   moved = m.moved;
   read_waits = m.read_waits;
   write_waits = m.write_waits;
@@ -38,6 +39,7 @@ untouched made = record {
   given = Some [];
   taken = Some [];
   wait_places = Some [];
+  calls = 0;
   moved = 0;
   read_waits = 0;
   write_waits = 0;
@@ -76,9 +78,14 @@ write_of size (Take most ∷ events) = (writes.Moved (min (max most 1) size), ev
 write_of size (Wait ∷ events) = (writes.NotYet, events)
 write_of size (Fail ∷ events) = (writes.Failed, events)
 
+-- a write that is to take bytes fails where there is no memory for them
+abbrev pub AnswersAs : LinkWrite → LinkWrite → Type 0
+AnswersAs (writes.Moved n) answer = (answer ≡ writes.Moved n) ⊎ (answer ≡ writes.Failed)
+AnswersAs told answer = answer ≡ told
+
 -- a write of so many bytes does what the events ahead say, or fails for want of memory
 pub record WriteFollows (a b : MemoryLink) (answer : LinkWrite) (size : ℕ) : Type 0 where
-  pub answers : (answer ≡ (write_of size (writes_ahead a)).0) ⊎ (answer ≡ writes.Failed)
+  pub answers : AnswersAs (write_of size (writes_ahead a)).0 answer
   pub ahead : writes_ahead b ≡ (write_of size (writes_ahead a)).1
 
 -- the first of some events is taken off

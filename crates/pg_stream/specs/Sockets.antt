@@ -16,6 +16,7 @@ uncalled near = record {
   given = None;
   taken = None;
   wait_places = None;
+  calls = 0;
   moved = 0;
   read_waits = 0;
   write_waits = 0;

@@ -19,7 +19,7 @@ use Rattle.pg_stream.specs.declared.link.LinkRead.TheVariants as reads
 use Rattle.pg_stream.specs.declared.link.LinkWrite.{LinkWrite}
 use Rattle.pg_stream.specs.declared.link.LinkWrite.TheVariants as writes
 use Rattle.pg_wire.specs.Backend.{BackendMessage}
-use Rattle.pg_stream.specs.Links.{LinkSeen, NoneFalls, RoseBy, Rose, AddsPlace}
+use Rattle.pg_stream.specs.Links.{LinkSeen, NoneFalls, Rose, GrewBy, NoWaits, AddsPlace}
 use Rattle.pg_stream.specs.Parameters.{ParametersSeen, no_parameters, Carries, SetsBy, SetsByAll}
 use Rattle.pg_stream.specs.Asynchronous.{IsAside}
 
@@ -60,10 +60,6 @@ fuel_of s = length s.held + 8192 * s.left
 abbrev pub Sends : StreamSeen → StreamSeen → List ℕ → Type 0
 Sends a b queued = (bytes : List ℕ) × Appends a.link.taken b.link.taken bytes × (a.unsent ++ queued ≡ bytes ++ b.unsent)
 
--- a number grew by so many, or stands at its type's end
-abbrev pub GrewBy : ℕ → ℕ → ℕ → Type 0
-GrewBy n old new = (old ≤ new) × (new ≤ old + n) × RoseBy n old new
-
 abbrev pub AreFrames : List Frame → Type 0
 AreFrames frames = AllByRecursion (IsWhole backend_tags) frames
 
@@ -71,16 +67,16 @@ AreFrames frames = AllByRecursion (IsWhole backend_tags) frames
 abbrev pub Takes : StreamSeen → StreamSeen → List Frame → Type 0
 Takes a b frames = (bytes : List ℕ) × Appends a.link.given b.link.given bytes × (a.held ++ bytes ≡ text_of frames ++ b.held) × AreFrames frames × GrewBy (length (text_of frames)) a.taken b.taken
 
--- the call's counts grew as the link's did
+-- the stream's counts grew by as much as the link's
 pub record Tallies (a b : StreamSeen) : Type 0 where
   pub write_waits : ℕ
   pub read_waits : ℕ
   pub moved : ℕ
   pub waits : GrewBy (write_waits + read_waits) a.waits b.waits
   pub moves : GrewBy moved a.moves b.moves
-  pub writes : RoseBy write_waits a.link.write_waits b.link.write_waits
-  pub reads : RoseBy read_waits a.link.read_waits b.link.read_waits
-  pub moving : RoseBy moved a.link.moved b.link.moved
+  pub writes : GrewBy write_waits a.link.write_waits b.link.write_waits
+  pub reads : GrewBy read_waits a.link.read_waits b.link.read_waits
+  pub moving : GrewBy moved a.link.moved b.link.moved
 
 -- Calls within one poll that queued these bytes and took these frames.
 pub record Moves (a b : StreamSeen) (queued : List ℕ) (frames : List Frame) : Type 0 where
@@ -90,6 +86,8 @@ pub record Moves (a b : StreamSeen) (queued : List ℕ) (frames : List Frame) : 
   pub read : Takes a b frames
   pub tallies : Tallies a b
   pub left : b.left ≤ a.left
+  -- what is left falls by one with each call of the link
+  pub calls : GrewBy (a.left - b.left) a.link.calls b.link.calls
   pub fuel : 5 * length frames + fuel_of b ≤ fuel_of a
   -- only what was queued can have taken of the cleanup reserve
   pub spare : a.spare ≤ b.spare + length queued
@@ -101,7 +99,7 @@ KeepsPlaces a b = Keeps a.link.wait_places b.link.wait_places
 
 -- no link call waited
 abbrev pub NoneWaited : StreamSeen → StreamSeen → Type 0
-NoneWaited a b = (b.waits ≡ a.waits) × KeepsPlaces a b
+NoneWaited a b = (b.waits ≡ a.waits) × KeepsPlaces a b × NoWaits a.link b.link
 
 -- one did
 abbrev pub OneWaited : StreamSeen → StreamSeen → Type 0
@@ -109,18 +107,18 @@ OneWaited a b = GrewBy 1 a.waits b.waits
 
 -- one write waited and no other call, one read did, or a call moved bytes: the link and the stream count it
 abbrev pub WriteWaited : StreamSeen → StreamSeen → Type 0
-WriteWaited a b = Rose a.link.write_waits b.link.write_waits × OneWaited a b × KeepsPlaces a b
+WriteWaited a b = GrewBy 1 a.link.write_waits b.link.write_waits × OneWaited a b × KeepsPlaces a b × (b.link.read_waits ≡ a.link.read_waits)
 
 -- the read that waited is the last call, so its place is the number of bytes given by now
 abbrev pub ReadWaited : StreamSeen → StreamSeen → Type 0
-ReadWaited a b = Rose a.link.read_waits b.link.read_waits × OneWaited a b × AddsPlace b.link.given a.link.wait_places b.link.wait_places
+ReadWaited a b = GrewBy 1 a.link.read_waits b.link.read_waits × OneWaited a b × AddsPlace b.link.given a.link.wait_places b.link.wait_places × (b.link.write_waits ≡ a.link.write_waits)
 
 abbrev pub OneMoved : StreamSeen → StreamSeen → Type 0
-OneMoved a b = Rose a.link.moved b.link.moved × Rose a.moves b.moves × NoneWaited a b
+OneMoved a b = GrewBy 1 a.link.moved b.link.moved × GrewBy 1 a.moves b.moves × NoneWaited a b
 
 -- each link call moved bytes
 abbrev pub AllMoved : StreamSeen → StreamSeen → Type 0
-AllMoved a b = RoseBy (a.left - b.left) a.link.moved b.link.moved × RoseBy (a.left - b.left) a.moves b.moves × NoneWaited a b
+AllMoved a b = GrewBy (a.left - b.left) a.link.moved b.link.moved × GrewBy (a.left - b.left) a.moves b.moves × NoneWaited a b
 
 -- the calls that were allowed are made, and each moved bytes
 abbrev pub IsSpent : StreamSeen → StreamSeen → Type 0

@@ -37,8 +37,9 @@ pub struct TlsWish {
 
 /// A two-way stream of bytes that gives and takes them in any pieces, and answers `NotYet` where it would have to wait.
 ///
-/// It counts its answers in `u64`s that never fall: each answer raises its own count, and one that stands at the type's end
-/// counts as risen. A link in memory also tells the bytes themselves; one over a socket does not.
+/// It counts its calls and their answers in `u64`s: each `read`, `write` and `upgrade` raises the count of calls by one, and the
+/// count of its answer by one, and no other. A count that stands at the type's end stays there. A link in memory also tells the
+/// bytes themselves; one over a socket does not.
 pub trait Link {
     /// What it is made of, which no call changes; what the last TLS handshake that was made had to verify; the bytes that it gave and took,
     /// where it tells them; and its counts.

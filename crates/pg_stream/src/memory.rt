@@ -20,6 +20,7 @@ pub struct MemoryLink {
     can_upgrade: bool,
     is_local: bool,
     secured: Option<TlsWish>,
+    calls: u64,
     moved: u64,
     read_waits: u64,
     write_waits: u64,
@@ -50,6 +51,7 @@ impl MemoryLink {
             can_upgrade,
             is_local,
             secured: None,
+            calls: 0,
             moved: 0,
             read_waits: 0,
             write_waits: 0,
@@ -98,6 +100,7 @@ impl MemoryLink {
         ensures ahead { writes_ahead self.new ≡ writes_ahead self.old }
         ensures answer { (result ≡ LinkWrite.Moved count) ⊎ (result ≡ LinkWrite.Failed) }
     {
+        self.calls = self.calls.saturating_add(1);
         match self.taken.extend_from_slice(&from[..count]) {
             Ok(()) => {
                 self.moved = self.moved.saturating_add(1);
@@ -121,6 +124,7 @@ impl Link for MemoryLink {
         ensures plan { plan_of self.new ≡ plan_of self.old }
         ensures follows { ReadFollows self.old self.new result (length into.new) }
     {
+        self.calls = self.calls.saturating_add(1);
         match self.reads.read(into) {
             LinkRead::Moved(count) => {
                 self.moved = self.moved.saturating_add(1);
@@ -152,10 +156,12 @@ impl Link for MemoryLink {
             None => self.take(from, from.len()),
             Some(WriteEvent::Take(most)) => self.take(from, most.max(1).min(from.len())),
             Some(WriteEvent::Wait) => {
+                self.calls = self.calls.saturating_add(1);
                 self.write_waits = self.write_waits.saturating_add(1);
                 LinkWrite::NotYet
             }
             Some(WriteEvent::Fail) => {
+                self.calls = self.calls.saturating_add(1);
                 self.faults = self.faults.saturating_add(1);
                 LinkWrite::Failed
             }
@@ -176,8 +182,10 @@ impl Link for MemoryLink {
 
     fn upgrade(&mut self, wish: TlsWish) -> LinkUpgrade
         ensures link { Upgrades (seen_of self.old) (seen_of self.new) wish result }
+        ensures done { result ≡ LinkUpgrade.Done }
         ensures plan { plan_of self.new ≡ plan_of self.old }
     {
+        self.calls = self.calls.saturating_add(1);
         self.secured = Some(wish);
         self.moved = self.moved.saturating_add(1);
         LinkUpgrade::Done

@@ -14,6 +14,7 @@ pub(crate) const WAIT_MS: u64 = 10;
 pub(crate) struct SocketCounts {
     can_upgrade: bool,
     is_local: bool,
+    calls: u64,
     moved: u64,
     read_waits: u64,
     write_waits: u64,
@@ -29,7 +30,7 @@ impl Model for SocketCounts {
 
     ghost Value = { LinkSeen };
 
-    ghost view = { λ c. record { plan = socket_plan c.can_upgrade c.is_local; secured = None; given = None; taken = None; wait_places = None; moved = c.moved; read_waits = c.read_waits; write_waits = c.write_waits; ends = c.ends; faults = c.faults; upgrade_faults = c.upgrade_faults } };
+    ghost view = { λ c. record { plan = socket_plan c.can_upgrade c.is_local; secured = None; given = None; taken = None; wait_places = None; calls = c.calls; moved = c.moved; read_waits = c.read_waits; write_waits = c.write_waits; ends = c.ends; faults = c.faults; upgrade_faults = c.upgrade_faults } };
 }
 
 impl SocketCounts {
@@ -40,6 +41,7 @@ impl SocketCounts {
         SocketCounts {
             can_upgrade: false,
             is_local,
+            calls: 0,
             moved: 0,
             read_waits: 0,
             write_waits: 0,
@@ -68,6 +70,7 @@ impl SocketCounts {
         requires { 0 < length into.old }
         ensures { Reads self.old self.new result into.new }
     {
+        self.calls = self.calls.saturating_add(1);
         match socket.read(into) {
             Ok(count) if count > 0 => {
                 self.moved = self.moved.saturating_add(1);
@@ -93,6 +96,7 @@ impl SocketCounts {
         requires { 0 < length from.now }
         ensures { Writes self.old self.new result from.now }
     {
+        self.calls = self.calls.saturating_add(1);
         match socket.write(from) {
             Ok(count) if count > 0 => {
                 self.moved = self.moved.saturating_add(1);
@@ -113,6 +117,7 @@ impl SocketCounts {
     pub(crate) fn refuse_upgrade(&mut self, _wish: TlsWish) -> LinkUpgrade
         ensures { Upgrades self.old self.new _wish result }
     {
+        self.calls = self.calls.saturating_add(1);
         self.upgrade_faults = self.upgrade_faults.saturating_add(1);
         LinkUpgrade::Failed
     }

@@ -46,7 +46,10 @@ fn further_number(text: &[u8]) -> Option<(u32, &[u8])>
 fn fitting(number: u64) -> Option<u32>
     ensures { result ≡ within number }
 {
-    u32::try_from(number).ok()
+    if number <= u64::from(u32::MAX) {
+        return Some(number as u32);
+    }
+    None
 }
 
 // A version of two numbers.

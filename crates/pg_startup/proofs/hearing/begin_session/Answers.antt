@@ -1,6 +1,4 @@
 use Rattle.pg_stream.specs.Streams.{framed}
-use Rattle.std.proofs.Common.{sym, subst, ℕ}
-use Rattle.pg_startup.specs.declared.reply.Reply.{Reply}
 use Rattle.pg_startup.proofs.ReplyLaws.{hears_keys, hears_ready}
 use Rattle.pg_startup.proofs.hearing.begin_session.Goals as goal
 

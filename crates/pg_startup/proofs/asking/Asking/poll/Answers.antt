@@ -1,6 +1,6 @@
 use Rattle.std.proofs.Common.{arith}
 use Rattle.pg_startup.specs.Asking.{asking_by}
-use Rattle.pg_startup.proofs.AskingLaws.{asks_last, asks_more, asks_none, asks_spent}
+use Rattle.pg_startup.proofs.AskingLaws.{asks_last, asks_more}
 use Rattle.pg_startup.proofs.asking.Asking.poll.Goals as goal
 
 pub returns-in-Some : goal.returns-in-Some

@@ -1,5 +1,4 @@
 use Rattle.std.proofs.Common.{refl}
-use Rattle.pg_startup.specs.Asking.{asking_by}
 use Rattle.pg_startup.proofs.AskingLaws.{hears_seen}
 use Rattle.pg_startup.proofs.asking.Asking.read.Goals as goal
 

@@ -1,4 +1,4 @@
-use Rattle.std.proofs.Common.{refl, []}
+use Rattle.std.proofs.Common.{refl}
 use Rattle.pg_startup.specs.Greeting.{greeting_by}
 use Rattle.pg_startup.proofs.GreetLaws.{none_begun, greets_one, greets_refused, greets_failed, greets_waits, greets_over}
 use Rattle.pg_startup.proofs.greeting.Greeting.greet_once.Goals as goal

@@ -1,8 +1,6 @@
-use Rattle.std.proofs.Common.{◌≡◌, ap, sym, ◌∙◌}
+use Rattle.std.proofs.Common.{ap, sym, ◌∙◌}
 use Rattle.pg_startup.specs.Greeting.{fresh_greeting}
-use Rattle.pg_startup.specs.Establishing.{EstablishOf, Opens}
-use Rattle.pg_startup.specs.declared.starting.Phase.{Phase}
-use Rattle.pg_startup.specs.declared.starting.Phase.TheVariants as phases
+use Rattle.pg_startup.specs.Establishing.{EstablishOf}
 use Rattle.pg_startup.proofs.EstablishLaws.{opens_by, opens_from}
 use Rattle.pg_startup.proofs.starting.Establish.open.Goals as goal
 

@@ -1,6 +1,5 @@
-use Rattle.std.proofs.Common.{◌≡◌, true, refl, sym, ap, subst, ◌∙◌, Ok, Err}
+use Rattle.std.proofs.Common.{true, sym, ap, subst, ◌∙◌, Ok, Err}
 use Rattle.futures.specs.declared.task.Poll.TheVariants.{Ready, Pending}
-use Rattle.pg_startup.specs.declared.starting.Phase.TheVariants as phases
 use Rattle.pg_startup.specs.Establishing.{EstablishOf, PollsStart, establish_by, phase_by}
 use Rattle.pg_startup.specs.Handshake.{ready_by}
 use Rattle.pg_startup.proofs.EstablishLaws.{polls_waiting, polls_failing, polls_ready}

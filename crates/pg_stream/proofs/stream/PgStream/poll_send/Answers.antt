@@ -29,7 +29,7 @@ returns-in-NotYet g c =
       moves = Moves-then (seen c.args.self.now) (seen c.loop-self.self) (seen c.send_once.new.self) [] [] [] [] i.moves s.moves;
       held = s.held ∙ i.held;
       spare = s.spare ∙ i.spare;
-      gives = inl (WriteWaited-after (seen c.args.self.now) (seen c.loop-self.self) (seen c.send_once.new.self) i.moves.counts i.moved.2 c.in-NotYet.ensures.cause);
+      gives = inl (WriteWaited-after (seen c.args.self.now) (seen c.loop-self.self) (seen c.send_once.new.self) i.moved.2 c.in-NotYet.ensures.cause);
     }
 
 pub returns-in-Failed : goal.returns-in-Failed

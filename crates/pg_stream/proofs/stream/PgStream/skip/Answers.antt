@@ -1,5 +1,5 @@
 use Rattle.std.proofs.Common.{rules}
-use Rattle.pg_stream.specs.Streams.{GrewBy}
+use Rattle.pg_stream.specs.Links.{GrewBy}
 use Rattle.pg_stream.proofs.StreamLemmas.{passes}
 use Rattle.pg_stream.proofs.stream.PgStream.skip.Goals as goal
 
