@@ -44,7 +44,8 @@ use Rattle.pg_call.specs.Hearing.{framed, added_all, gone_on, HearsMessage, Hear
 use Rattle.pg_call.specs.Calls.{IsDraining, IsReplying, owes_own, owes_none, CallIs, owner_failed, Leaves, IsFine, EndsFine, CallEnds, IsFrontFault, CallTakes, StaysIn, TakesMessage, RefusesMessage}
 use Rattle.pg_call.proofs.DrainLaws.{count-push, count-same, after_below, after_from, before_below, before_from, failed-push, fails-push, still_failed, no_more_failed}
 use Rattle.pg_call.proofs.ItemLaws.{items-push, tally-more}
-use Rattle.pg_call.proofs.RefusedLaws.{group_refused}
+use Rattle.pg_wire.specs.Refusals.{BeginsCopyResponse}
+use Rattle.pg_call.proofs.RefusedLaws.{group_refused, group_copies}
 use Rattle.pg_wire.proofs.Each.{each_end}
 
 -- ---- a reply that no one waits for
@@ -326,6 +327,9 @@ own_copies start r said hs items reply m can have copies z e none i = (
       own_have_frames = i.own_have_frames;
       so_far = ap (λ (k : Kind). part_after (awaits_first k) i.own) (sym i.kind_is) ∙ i.so_far;
       copies = copies;
+      lawful = λ group g.
+          subst (BeginsCopyResponse group) (sym (after_from hs start.owed (backend_frame m) (omega (arith, i.counted)) ∙ ap (λ (x : List Frame). x ++ backend_frame m ∷ []) i.own_is))
+          (group_copies r group i.own reply.part m g i.own_have_frames have (ap (λ (k : Kind). part_after (awaits_first k) i.own) (sym i.kind_is) ∙ i.so_far) copies);
     },
   ),
   tt,

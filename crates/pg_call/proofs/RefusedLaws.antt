@@ -1,4 +1,4 @@
--- A message that may not come begins no response of any server.
+-- A message that may not come begins no response of any server, and a copy that may come begins one.
 use Rattle.std.proofs.Common.{◌≡◌, ◌∙◌, ℕ, Bool, true, false, cond, ◌==◌, List, [], ◌∷◌, ◌++◌, length, map, refl, ap, subst, Option, Some, None, option_and_then}
 use Rattle.std.specs.List.{AllByRecursion}
 use Rattle.pg_wire.specs.Frame.{Frame}
@@ -6,13 +6,14 @@ use Rattle.pg_wire.specs.Frontend.{Query, Sync}
 use Rattle.pg_wire.specs.Backend.{BackendMessage, backend_frame, HasBackendFrame, ReadyForQuery, RowDescription, DataRow, CommandComplete, ErrorResponse, EmptyQueryResponse, CopyInResponse, CopyOutResponse}
 use Rattle.pg_wire.specs.Acceptor.{Awaits, FirstSegment, FurtherSegment, RowsOf, next, accepts}
 use Rattle.pg_wire.specs.Refusals.{BeginsCopyResponse, MayBeginCopy, MayAnswerSync}
+use Rattle.pg_call.proofs.CopyBegun.{copy_begins_response}
 use Rattle.pg_wire.proofs.RefusalLaws.{refused_begins_no_response, no_sync_reply_begins_no_response}
 use Rattle.pg_call.specs.declared.request.Request.{Request}
 use Rattle.pg_call.specs.declared.request.Request.TheVariants as requests
 use Rattle.pg_call.specs.declared.judging.Part.{Part}
 use Rattle.pg_call.specs.declared.judging.Part.TheVariants.{First, Further, Rows, Synced}
 use Rattle.pg_call.specs.Requests.{Group, kind_of, groups_of}
-use Rattle.pg_call.specs.Replies.{awaits_first, begins, goes_on, part_after, MayNotCome}
+use Rattle.pg_call.specs.Replies.{awaits_first, begins, goes_on, part_after, may_copy, MayNotCome}
 
 -- what the acceptor of the protocol awaits
 abbrev awaits_of : Part → Awaits
@@ -137,3 +138,36 @@ group_refused (requests.FetchOne query) group own part f g have e out b = query_
 group_refused requests.Ping group own part f g have e out b = sync_refused own part f e out (rw (← the_first _ _ g) at b)
 group_refused requests.Flush group own part f g have e out b = absurd cc
 group_refused requests.Close group own part f g have e out b = absurd cc
+
+-- ---- a copy that may come
+
+may_begin : (part : Part) (m : BackendMessage) → may_copy part m ≡ true → MayBeginCopy (awaits_of part) m
+may_begin First (CopyInResponse format columns) e = tt
+may_begin First (CopyOutResponse format columns) e = tt
+may_begin First _ e = absurd cc
+may_begin Further (CopyInResponse format columns) e = tt
+may_begin Further (CopyOutResponse format columns) e = tt
+may_begin Further _ e = absurd cc
+may_begin (Rows columns) m e = absurd cc
+may_begin Synced m e = absurd cc
+
+query_copies : (sql : List ℕ) (group : Group) (own : List BackendMessage) (part : Part) (m : BackendMessage) → (Query sql ∷ []) ∷ [] ≡ group ∷ [] → AllByRecursion HasBackendFrame own → HasBackendFrame m → part_after First own ≡ Some part → may_copy part m ≡ true
+    → BeginsCopyResponse group (map backend_frame own ++ backend_frame m ∷ [])
+query_copies sql group own part m g have h e may =
+    subst (λ (x : Group). BeginsCopyResponse x (map backend_frame own ++ backend_frame m ∷ [])) (the_first _ _ g) (copy_begins_response sql own (awaits_of part) m have h (accepted First own part tt e).0 (may_begin part m may))
+
+no_copy_synced : (own : List BackendMessage) (part : Part) (m : BackendMessage) → part_after Synced own ≡ Some part → may_copy part m ≡ true → ⊥
+no_copy_synced own part m e may = let k : may_copy Synced m ≡ true = subst (λ (p : Part). may_copy p m ≡ true) (synced_alone own part e).1 may in absurd cc
+
+pub group_copies : (r : Request) (group : Group) (own : List BackendMessage) (part : Part) (m : BackendMessage) → groups_of r ≡ group ∷ [] → AllByRecursion HasBackendFrame own → HasBackendFrame m → part_after (awaits_first (kind_of r)) own ≡ Some part → may_copy part m ≡ true
+    → BeginsCopyResponse group (map backend_frame own ++ backend_frame m ∷ [])
+group_copies (requests.Execute query) group own part m g have h e may = query_copies query.sql group own part m g have h e may
+group_copies (requests.ExecuteMany query) group own part m g have h e may = query_copies query.sql group own part m g have h e may
+group_copies (requests.Fetch query) group own part m g have h e may = query_copies query.sql group own part m g have h e may
+group_copies (requests.FetchMany query) group own part m g have h e may = query_copies query.sql group own part m g have h e may
+group_copies (requests.FetchAll query) group own part m g have h e may = query_copies query.sql group own part m g have h e may
+group_copies (requests.FetchOptional query) group own part m g have h e may = query_copies query.sql group own part m g have h e may
+group_copies (requests.FetchOne query) group own part m g have h e may = query_copies query.sql group own part m g have h e may
+group_copies requests.Ping group own part m g have h e may = absurd (no_copy_synced own part m e may)
+group_copies requests.Flush group own part m g have h e may = absurd cc
+group_copies requests.Close group own part m g have h e may = absurd cc

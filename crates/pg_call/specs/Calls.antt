@@ -132,7 +132,7 @@ pub record IsFine (start : Ledger) (r : Request) (said : List FrontendMessage) (
 abbrev pub EndsFine : Ledger → Request → List FrontendMessage → List Frame → List CallItem → Ledger → Result CallAnswer Error → Type 0
 EndsFine start r said hs items ledger answer = (f : IsFine start r said hs items ledger) × (answer_to (kind_of r) (items_of f.reply) ≡ answer)
 
--- the last message is a copy, which the server may begin there, and which nobody has asked for
+-- the last message is a copy, which some server begins there in its response to the call's group, and which nobody has asked for
 pub record EndsInCopy (start : Ledger) (r : Request) (hs : List Frame) (tag : ℕ) : Type 0 where
   pub front : List Frame
   pub own : List BackendMessage
@@ -145,6 +145,7 @@ pub record EndsInCopy (start : Ledger) (r : Request) (hs : List Frame) (tag : �
   pub own_have_frames : AllByRecursion HasBackendFrame own
   pub so_far : part_after (awaits_first (kind_of r)) own ≡ Some part
   pub copies : may_copy part last ≡ true
+  pub lawful : (group : Group) → groups_of r ≡ group ∷ [] → BeginsCopyResponse group (after_readys start.owed hs)
 
 -- what a call answers at its end
 abbrev pub CallEnds : Ledger → Request → List FrontendMessage → List Frame → List CallItem → Ledger → Result CallAnswer Error → Type 0

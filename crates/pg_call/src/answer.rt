@@ -8,7 +8,7 @@ use pg_rows::PgRow;
 use pg_wire::{Error, Sequence};
 
 /// One thing that a call shows as it comes.
-#[derive(Debug, Drop)]
+#[derive(Drop)]
 pub enum CallItem {
     Row(PgRow),
     /// The rows that one statement counts.
@@ -16,7 +16,7 @@ pub enum CallItem {
 }
 
 /// What a call answers where all went well.
-#[derive(Debug, Drop)]
+#[derive(Drop)]
 pub enum CallAnswer {
     Unit,
     Total(PgQueryResult),
@@ -25,7 +25,7 @@ pub enum CallAnswer {
 }
 
 /// What a poll of a call comes to.
-#[derive(Debug, Drop)]
+#[derive(Drop)]
 pub enum Turn {
     Item(CallItem),
     Ok(CallAnswer),

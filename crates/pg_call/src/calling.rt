@@ -7,10 +7,10 @@ use pg_wire::Error;
 /// |---|---|
 /// | `Idle` | `Asked` by a start |
 /// | `Asked` | `Waiting` once its frames are written; ends where no frame can say it |
-/// | `Waiting` | drops what is owed to earlier calls; then a flush ends, a close queues its frame: `Closing`, and others theirs: `Own` |
+/// | `Waiting` | drops what is owed to earlier calls; then a flush ends once all is sent, a close queues its frame: `Closing`, and others theirs: `Own` |
 /// | `Own` | takes its own reply, message by message, up to ReadyForQuery or an error |
 /// | `Closing` | ends once all is sent |
-#[derive(Debug, Drop)]
+#[derive(Drop)]
 pub enum Call {
     Idle,
     /// It was not polled yet.
@@ -24,7 +24,7 @@ pub enum Call {
 }
 
 /// One step of the running call within a poll.
-#[derive(Debug, Drop)]
+#[derive(Drop)]
 pub enum Beat {
     /// The call goes on.
     More,
@@ -35,7 +35,7 @@ pub enum Beat {
 }
 
 /// What a message made of the call, and whether a CopyFail is due for it.
-#[derive(Debug, Drop)]
+#[derive(Drop)]
 pub struct Taken {
     pub beat: Beat,
     pub fails_copy: bool,

@@ -69,7 +69,7 @@ impl Part {
 }
 
 /// What one message is to a reply.
-#[derive(Debug, Drop)]
+#[derive(Drop)]
 pub enum Verdict {
     /// The reply goes on, and this item came with the message.
     On { part: Part, item: Option<CallItem> },

@@ -8,7 +8,7 @@ use pg_wire::{Error, PgDatabaseError};
 use std::alloc::Global;
 
 /// The call's own reply, as far as it has come.
-#[derive(Debug, Drop)]
+#[derive(Drop)]
 pub struct Reply {
     pub kind: Kind,
     pub tally: Tally,
@@ -17,7 +17,7 @@ pub struct Reply {
 }
 
 /// What one message made of the reply.
-#[derive(Debug, Drop)]
+#[derive(Drop)]
 pub enum Heard {
     More,
     Yields(CallItem),

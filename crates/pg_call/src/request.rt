@@ -7,7 +7,7 @@ use pg_wire::{Blob, Error, encode_query, encode_sync, encode_terminate};
 use std::alloc::Global;
 
 /// What a caller asks of a connection.
-#[derive(Debug, Drop)]
+#[derive(Drop)]
 pub enum Request {
     Execute(Query),
     ExecuteMany(Query),

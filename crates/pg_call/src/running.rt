@@ -9,7 +9,7 @@ use std::alloc::Global;
 use std::mem;
 
 /// The running call, and the replies that are owed.
-#[derive(Debug, Drop)]
+#[derive(Drop)]
 pub struct Running {
     pub ledger: Ledger,
     pub call: Call,
@@ -36,12 +36,19 @@ impl Running {
         }
     }
 
+    // No call runs any more.
+    fn stop(&mut self)
+        ensures { self.new ≡ record self.old { call = Call.Idle } }
+    {
+        self.call = Call::Idle;
+    }
+
     // The call ends.
     fn end(&mut self, answer: Result<CallAnswer, Error>) -> Taken
         ensures beat { result ≡ record { beat = Beat.Ends answer; fails_copy = false } }
         ensures idle { self.new ≡ record self.old { call = Call.Idle } }
     {
-        self.call = Call::Idle;
+        self.stop();
         plain(Beat::Ends(answer))
     }
 
@@ -117,7 +124,7 @@ impl Running {
         ensures { RefusesCopy tag self.old self.new result }
     {
         let fails_copy = tag == b'G';
-        self.call = Call::Idle;
+        self.stop();
         self.ledger.is_copy_failed = fails_copy;
         Taken {
             beat: Beat::Ends(Err(Error::Protocol(ProtocolFault::Reply { tag }))),

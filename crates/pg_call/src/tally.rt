@@ -7,7 +7,7 @@ use pg_wire::{Error, Sequence};
 use std::alloc::{AllocError, Global};
 
 /// What was made so far of the items of a call's own reply, for its answer.
-#[derive(Debug, Drop)]
+#[derive(Drop)]
 pub struct Tally {
     /// The rows that its statements counted, up to `u64`'s greatest value.
     pub total: u64,

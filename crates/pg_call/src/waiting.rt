@@ -2,7 +2,7 @@ use crate::Kind;
 use pg_wire::Blob;
 
 /// A call whose frames are written, while replies to earlier calls are owed.
-#[derive(Debug, Drop)]
+#[derive(Drop)]
 pub struct Waiting {
     pub kind: Kind,
     pub frames: Blob,

@@ -1,7 +1,6 @@
 -- What is owed between any two polls follows from where the call stands before and behind each.
-use Rattle.std.proofs.Common.{◌≡◌, ◌⊎◌, inl, inr, ℕ, ◌+◌, Bool, true, false, not, ◌&&◌, ◌||◌, ◌==◌, cond, List, [], ◌∷◌, ◌++◌, length, codes, refl, sym, ap, ◌∙◌, subst, arith, Result, Ok, Err, Option, Some, None}
+use Rattle.std.proofs.Common.{◌≡◌, ◌⊎◌, inl, inr, ℕ, ◌+◌, Bool, true, false, not, ◌&&◌, ◌==◌, cond, List, [], ◌∷◌, ◌++◌, length, codes, refl, sym, ap, ◌∙◌, subst, arith, Result, Ok, Err, Option, Some, None}
 use Rattle.std.specs.List.{count_by}
-use Rattle.std.proofs.lemmas.Bool.{eqb-true}
 use Rattle.std.proofs.lemmas.List.Sums.{sum_by-append, sum_by-cons}
 use Rattle.futures.specs.declared.task.Poll.{Poll}
 use Rattle.pg_wire.specs.declared.error.Error.{Error}
@@ -25,7 +24,7 @@ use Rattle.pg_call.specs.declared.calling.Call.{Call}
 use Rattle.pg_call.specs.declared.calling.Call.TheVariants as calls
 use Rattle.pg_call.specs.declared.calling.Beat.{Beat}
 use Rattle.pg_call.specs.declared.calling.Beat.TheVariants as beats
-use Rattle.pg_call.specs.Requests.{Group, said_in, spelled, kind_of, groups_of, messages_of, farewell, CanBeSaid, copy_fail}
+use Rattle.pg_call.specs.Requests.{Group, said_in, kind_of, groups_of, messages_of, farewell, CanBeSaid, copy_fail}
 use Rattle.pg_call.specs.Drains.{before_readys, is_copy_in, failed_behind, fails_for, drain_fails}
 use Rattle.pg_call.specs.Hearing.{fails_of}
 use Rattle.pg_call.specs.Calls.{CallIs, IsDraining, Leaves, IsFine, CallEnds}
@@ -33,7 +32,7 @@ use Rattle.pg_conn.specs.Connections.{ConnSeen, idle, started_call, begun_with}
 use Rattle.pg_conn.specs.Turns.{ends_request, Tells, TakesBeat, PollsBy, PollsWithin, beat_of}
 use Rattle.pg_conn.specs.States.{IsCalling}
 use Rattle.pg_conn.specs.Ledgers.{Owes, OwesSome}
-use Rattle.pg_conn.proofs.TurnLaws.{counts-append, no_groups}
+use Rattle.pg_conn.proofs.TurnLaws.{counts-append, no_groups, is_Z}
 
 -- ---- ReadyForQuery is no asynchronous message
 
@@ -43,17 +42,13 @@ readies-cons f fs = sum_by-cons (λ (g : Frame). cond (is_ready g) 1 0) f fs
 readies-append : (xs ys : List Frame) → count_by is_ready (xs ++ ys) ≡ count_by is_ready xs + count_by is_ready ys
 readies-append xs ys = sum_by-append (λ (g : Frame). cond (is_ready g) 1 0) xs ys
 
-alone : (b : Bool) → b || false ≡ true → b ≡ true
-alone true k = refl
-alone false k = absurd cc
-
 asynchronous_unready : (f : Frame) → is_asynchronous f ≡ true → is_ready f ≡ false
 asynchronous_unready f e = by (is_ready f) refl
   where
     by : (b : Bool) → is_ready f ≡ b → b ≡ false
     by false z = refl
     by true z =
-        let w : is_known (codes "NSA") 90 ≡ true = subst (λ (t : ℕ). is_known (codes "NSA") t ≡ true) (eqb-true f.tag 90 (alone (f.tag == 90) z)) e in
+        let w : is_known (codes "NSA") 90 ≡ true = subst (λ (t : ℕ). is_known (codes "NSA") t ≡ true) (is_Z f z) e in
         absurd cc
 
 not_counted : (f : Frame) (fs : List Frame) → is_ready f ≡ false → count_by is_ready (f ∷ fs) ≡ count_by is_ready fs

@@ -1,8 +1,8 @@
 -- How the beats of a call follow one another.
-use Rattle.std.proofs.Common.{◌≡◌, ◌≢◌, ◌⊎◌, ℕ, ◌+◌, ◌-◌, ◌<◌, ◌≤◌, cond, inl, inr, Bool, true, false, ◌&&◌, ◌==◌, List, [], ◌∷◌, ◌++◌, length, map, refl, sym, ap, ◌∙◌, subst, append_assoc, append-nil, length-append, arith, Ok, Err, Option, Some, None}
+use Rattle.std.proofs.Common.{◌≡◌, ◌≢◌, ◌⊎◌, ℕ, ◌+◌, ◌-◌, ◌<◌, ◌≤◌, cond, inl, inr, Bool, true, false, ◌&&◌, ◌||◌, ◌==◌, nat_eq, List, [], ◌∷◌, ◌++◌, length, map, refl, sym, ap, ◌∙◌, subst, append_assoc, append-nil, length-append, arith, Ok, Err, Option, Some, None}
 use Rattle.std.specs.List.{count_by}
 use Rattle.std.proofs.lemmas.Bool.{eqb-true}
-use Rattle.std.proofs.lemmas.List.{map-append}
+use Rattle.std.proofs.lemmas.List.{map-append, same_from_push}
 use Rattle.std.proofs.lemmas.List.Sums.{sum_by-append}
 use Rattle.futures.specs.declared.task.Poll.TheVariants.{Ready, Pending}
 use Rattle.pg_wire.specs.declared.error.Error.{Error}
@@ -10,18 +10,15 @@ use Rattle.pg_wire.specs.declared.error.Error.TheVariants as errors
 use Rattle.pg_wire.specs.declared.error.IoCause.TheVariants as io
 use Rattle.pg_wire.specs.declared.error.ProtocolFault.TheVariants as protocol
 use Rattle.pg_wire.specs.declared.error.ServerFault.{ServerFault}
-use Rattle.pg_wire.specs.declared.error.ServerFault.TheVariants as faults
 use Rattle.pg_wire.specs.Frame.{Frame, text_of}
 use Rattle.pg_wire.specs.Frontend.{FrontendMessage, frontend_frame}
-use Rattle.pg_wire.specs.Parts.{heard, is_asynchronous}
+use Rattle.pg_wire.specs.Parts.{heard, is_asynchronous, is_ready}
 use Rattle.pg_wire.proofs.PartLaws.{heard-append}
-use Rattle.pg_stream.specs.Links.{LinkSeen, NoneFalls}
+use Rattle.pg_stream.specs.Links.{LinkSeen, NoneFalls, GrewBy}
 use Rattle.pg_stream.specs.declared.stream.Front.{Front}
-use Rattle.pg_stream.specs.Streams.{StreamOf, StreamSeen, GrewBy, stream_by, Moves, AllMoved, Passes, IsFrontOf, IsHeardFront, AreAsynchronous, PollsAhead, PollsSend, SendGives, PendingCause}
-use Rattle.pg_stream.proofs.StreamLemmas.{NoneWaited-none, NoneWaited-then, Moves-none, Moves-then, AllMoved-none, AllMoved-then, PendingCause-after, text_of-append, queues_by, took_frame, GrewBy-then, HeardCause-after}
+use Rattle.pg_stream.specs.Streams.{StreamOf, StreamSeen, stream_by, Moves, AllMoved, Passes, IsFrontOf, IsHeardFront, AreAsynchronous, PollsAhead, PollsSend, SendGives, PendingCause}
+use Rattle.pg_stream.proofs.StreamLemmas.{NoneWaited-none, NoneWaited-then, Moves-none, Moves-then, AllMoved-none, AllMoved-then, WriteWaited-after, PendingCause-after, text_of-append, queues_by, took_frame, GrewBy-then, HeardCause-after}
 use Rattle.pg_request.specs.Queries.{QueryText}
-use Rattle.pg_call.specs.declared.kind.Kind.{Kind}
-use Rattle.pg_call.specs.declared.kind.Kind.TheVariants as kinds
 use Rattle.pg_call.specs.declared.request.Request.{Request}
 use Rattle.pg_call.specs.declared.request.Request.TheVariants as requests
 use Rattle.pg_call.specs.declared.answer.CallItem.{CallItem}
@@ -36,10 +33,10 @@ use Rattle.pg_call.specs.declared.calling.Taken.{Taken}
 use Rattle.pg_call.specs.declared.running.Running.{Running}
 use Rattle.pg_call.specs.Requests.{Group, spelled, kind_of, messages_of, is_flush, is_close, query_of, CanBeSaid, IsRefusal, RefusesQuery}
 use Rattle.pg_call.specs.Hearing.{framed, fails_of}
-use Rattle.pg_call.specs.Calls.{CallIs, IsAwaiting, CallEnds, CallTakes, StaysIn, TakesMessage, RefusesMessage}
+use Rattle.pg_call.specs.Calls.{CallIs, IsAwaiting, CallEnds, CallTakes, EndsByReady, StaysIn, TakesMessage, RefusesMessage}
 use Rattle.pg_call.proofs.LeaveLaws.{leaves_call, call_well, closing_fine, flush_fine, draining_none, replying_from, closing_from}
 use Rattle.pg_conn.specs.Connections.{ConnOf, ConnSeen, seen_by, idle, with_spare, queued_call, awaiting, closing, frames_in}
-use Rattle.pg_conn.specs.Turns.{ends_request, IsMissed, FailsBy, EndsBy, Tells, BeatCause, Turns, TakesBeat, IsAsked, cleanup_of, HasRoom, IsSayable, Prepares, Refuses, Refused, Polled, broken_by, is_flushed, IsAhead, Readies, Accepts, queued_copy_fail}
+use Rattle.pg_conn.specs.Turns.{ends_request, IsMissed, FailsBy, EndsBy, Tells, SendCause, BeatCause, Turns, TakesBeat, IsAsked, cleanup_of, HasRoom, IsSayable, Prepares, Refuses, Refused, Polled, broken_by, only_sends, flushes, is_flushed, EndsFlush, IsAhead, Readies, Accepts, queued_copy_fail}
 use Rattle.pg_startup.proofs.GreetLaws.{heard_none, heard_one}
 
 -- the bytes of messages, one after another
@@ -72,17 +69,21 @@ tells_from a b c start r said hs items (beats.Ends (Err e)) m t = (
   ],
 )
 
-cause_after : (a b c : ConnSeen) (beat : Beat) → NoneFalls a.stream.link b.stream.link → AllMoved a.stream b.stream → b.stream.left ≤ a.stream.left → c.stream.left ≤ b.stream.left → BeatCause b c beat → BeatCause a c beat
-cause_after a b c beats.More m h k l t = AllMoved-then a.stream b.stream c.stream h k t l
-cause_after a b c beats.Waits m h k l t = PendingCause-after a.stream b.stream c.stream m h k l t
-cause_after a b c (beats.Yields item) m h k l t = NoneWaited-then a.stream b.stream c.stream h.2 t
-cause_after a b c (beats.Ends answer) m h k l t = NoneWaited-then a.stream b.stream c.stream h.2 t
+send_after : (a b c : ConnSeen) → AllMoved a.stream b.stream → b.stream.left ≤ a.stream.left → c.stream.left ≤ b.stream.left → SendCause b c → SendCause a c
+send_after a b c h k l (inl w) = inl (WriteWaited-after a.stream b.stream c.stream h.2 w)
+send_after a b c h k l (inr f) = inr (f.0, AllMoved-then a.stream b.stream c.stream h k f.1 l)
+
+cause_after : (a b c : ConnSeen) (beat : Beat) → AllMoved a.stream b.stream → b.stream.left ≤ a.stream.left → c.stream.left ≤ b.stream.left → BeatCause b c beat → BeatCause a c beat
+cause_after a b c beats.More h k l t = AllMoved-then a.stream b.stream c.stream h k t l
+cause_after a b c beats.Waits h k l t = (PendingCause-after a.stream b.stream c.stream h k l t.0, λ s. send_after a b c h k l (t.1 s))
+cause_after a b c (beats.Yields item) h k l t = NoneWaited-then a.stream b.stream c.stream h.2 t
+cause_after a b c (beats.Ends answer) h k l t = NoneWaited-then a.stream b.stream c.stream h.2 t
 
 pub Turns-then : (a b c : ConnSeen) (beat : Beat) (q q' : List ℕ) (fs fs' hs hs' : List Frame) → Turns a b beats.More q fs hs → Turns b c beat q' fs' hs' → Turns a c beat (q ++ q') (fs ++ fs') (hs ++ hs')
 Turns-then a b c beat q q' fs fs' hs hs' s t = record {
   moves = Moves-then a.stream b.stream c.stream q q' fs fs' s.moves t.moves;
   hears = heard-append fs fs' ∙ ap (λ (x : List Frame). x ++ heard fs') s.hears ∙ ap (λ (x : List Frame). hs ++ x) t.hears;
-  cause = cause_after a b c beat s.moves.counts s.cause s.moves.left t.moves.left t.cause;
+  cause = cause_after a b c beat s.cause s.moves.left t.moves.left t.cause;
   broken = t.broken ∙ s.broken;
   counted = GrewBy-then (length hs) (length hs') (length (hs ++ hs')) a.heard b.heard c.heard s.counted t.counted (length-append hs hs');
   started = (t.started.0 ∙ s.started.0, t.started.1 ∙ s.started.1);
@@ -245,10 +246,10 @@ queues_waiting a b w k m moved asked room broken h s t tells = (
   },
 )
 
-pub asks_reply : (a : ConnSeen) (n g : ℕ) (w : Waiting) → a.call ≡ calls.Waiting w → a.ledger.owed ≡ 0 → is_flushed a.ledger a.call ≡ false → is_close w.kind ≡ false → Moves a.stream (queued_call n a).stream w.frames [] × AllMoved a.stream (queued_call n a).stream → 128 ≤ n → GrewBy 1 a.groups g
+pub asks_reply : (a : ConnSeen) (n g : ℕ) (w : Waiting) → a.call ≡ calls.Waiting w → a.ledger.owed ≡ 0 → only_sends a.ledger a.call ≡ false → is_close w.kind ≡ false → Moves a.stream (queued_call n a).stream w.frames [] × AllMoved a.stream (queued_call n a).stream → 128 ≤ n → GrewBy 1 a.groups g
     → Readies a (awaiting w.kind g (queued_call n a))
 asks_reply a n g w k z f c m room grew =
-    let flush : is_flush w.kind ≡ false = flush_false (is_flush w.kind) a.ledger.owed z (subst (λ (x : Call). is_flushed a.ledger x ≡ false) k f) in
+    let flush : is_flush w.kind ≡ false = flush_false (is_flush w.kind) a.ledger.owed z (subst (λ (x : Call). only_sends a.ledger x ≡ false) k f) in
     record {
       beat = queues_waiting a (awaiting w.kind g (queued_call n a)) w k m.0 m.1 (λ i. i) room refl refl refl refl (λ start r said hs items i.
           let one = groups_said r (rw i.0 at flush) (rw i.0 at c) in
@@ -280,43 +281,75 @@ ahead_other ledger calls.Idle n h = tt
 
 -- ---- a flush is done
 
-flushed_by : (start : Ledger) (r : Request) (said : List FrontendMessage) (hs : List Frame) (items : List CallItem) (ledger : Ledger) (call : Call) → is_flushed ledger call ≡ true → CallIs start r said hs items ledger call → CallEnds start r said hs items ledger (Ok answers.Unit) × (kind_of r ≡ kinds.Close → ⊥)
-flushed_by start r said hs items ledger (calls.Waiting w) f i = let b = both (is_flush w.kind) (ledger.owed == 0) f in (flush_fine start r said hs items ledger w b.0 (eqb-true _ _ b.1) i, λ k. not_both w.kind b.0 (i.0 ∙ k))
+both : (x y : Bool) → x && y ≡ true → (x ≡ true) × (y ≡ true)
+both true y e = (refl, e)
+both false y e = absurd cc
+
+flush_said : (r : Request) → is_flush (kind_of r) ≡ true → CanBeSaid r
+flush_said requests.Flush e = tt
+flush_said requests.Ping e = absurd cc
+flush_said requests.Close e = absurd cc
+flush_said (requests.Execute query) e = absurd cc
+flush_said (requests.ExecuteMany query) e = absurd cc
+flush_said (requests.Fetch query) e = absurd cc
+flush_said (requests.FetchMany query) e = absurd cc
+flush_said (requests.FetchAll query) e = absurd cc
+flush_said (requests.FetchOptional query) e = absurd cc
+flush_said (requests.FetchOne query) e = absurd cc
+
+-- a flush that is owed nothing ends, whether its frames are written or not
+flush_ends : (start : Ledger) (r : Request) (said : List FrontendMessage) (hs : List Frame) (items : List CallItem) (ledger : Ledger) (call : Call) → flushes call ≡ true → ledger.owed ≡ 0 → CallIs start r said hs items ledger call → CallEnds start r said hs items ledger (Ok answers.Unit)
+flush_ends start r said hs items ledger (calls.Asked asked) f z i =
+    let frames = spelled (messages_of asked) in
+    flush_fine start r said hs items ledger (record { kind = kind_of asked; frames = frames; is_copy_failed = ledger.is_copy_failed }) f z (asked_waits start r asked said hs items ledger frames refl (flush_said asked f) i)
+flush_ends start r said hs items ledger (calls.Waiting w) f z i = flush_fine start r said hs items ledger w f z i
+flush_ends start r said hs items ledger (calls.Own reply) f z i = absurd cc
+flush_ends start r said hs items ledger calls.Closing f z i = absurd cc
+flush_ends start r said hs items ledger calls.Idle f z i = absurd i
+
+all_sent : (bytes : List ℕ) → nat_eq (length bytes) 0 ≡ true → bytes ≡ []
+all_sent [] e = refl
+all_sent (b ∷ bytes) e = let z = eqb-true _ _ e in absurd (omega (arith, z))
+
+pub flushed : (a : ConnSeen) → is_flushed a ≡ true → TakesBeat a (idle a) (beats.Ends (Ok answers.Unit))
+flushed a f =
+    let sent = both (flushes a.call && a.ledger.owed == 0) (nat_eq (length a.stream.unsent) 0) f in
+    let owed = both (flushes a.call) (a.ledger.owed == 0) sent.0 in
+    stays a (idle a) (beats.Ends (Ok answers.Unit)) (Moves-none a.stream) (NoneWaited-none a.stream) (keeps_idle a.call) refl refl refl refl refl (λ start r said hs items i.
+    (refl, flush_ends start r said hs items a.ledger a.call owed.0 (eqb-true _ _ owed.1) i, all_sent a.stream.unsent sent.1))
+
+pub flush_done : (a : ConnSeen) → EndsFlush a (idle a) (beats.Ends (Ok answers.Unit))
+flush_done a f = (refl, refl)
+
+pub flush_sayable : (a : ConnSeen) → is_flushed a ≡ true → IsSayable a.call
+flush_sayable a f = by a.call (both (flushes a.call) (a.ledger.owed == 0) (both (flushes a.call && a.ledger.owed == 0) (nat_eq (length a.stream.unsent) 0) f).0).0
   where
-    both : (x y : Bool) → x && y ≡ true → (x ≡ true) × (y ≡ true)
-    both true y e = (refl, e)
-    both false y e = absurd cc
-
-    not_both : (k : Kind) → is_flush k ≡ true → k ≡ kinds.Close → ⊥
-    not_both k e z = let w : is_flush kinds.Close ≡ true = rw z at e in absurd cc
-flushed_by start r said hs items ledger (calls.Asked asked) f i = absurd cc
-flushed_by start r said hs items ledger (calls.Own reply) f i = absurd cc
-flushed_by start r said hs items ledger calls.Closing f i = absurd cc
-flushed_by start r said hs items ledger calls.Idle f i = absurd i
-
-pub flushed : (a : ConnSeen) → is_flushed a.ledger a.call ≡ true → TakesBeat a (idle a) (beats.Ends (Ok answers.Unit))
-flushed a f = stays a (idle a) (beats.Ends (Ok answers.Unit)) (Moves-none a.stream) (NoneWaited-none a.stream) (keeps_idle a.call) refl refl refl refl refl (λ start r said hs items i.
-    let e = flushed_by start r said hs items a.ledger a.call f i in
-    (refl, e.0, λ k. absurd (e.1 k)))
+    by : (call : Call) → flushes call ≡ true → IsSayable call
+    by (calls.Asked asked) e = flush_said asked e
+    by calls.Idle e = tt
+    by (calls.Waiting w) e = tt
+    by (calls.Own reply) e = tt
+    by calls.Closing e = tt
 
 -- ---- a poll
 
 -- a beat on a connection that is whole, which is broken or not behind it
-pub polled : {A : Type 0} (seen : A → LinkSeen) (a m b : ConnOf A) (beat : Beat) → a.broken ≡ None → TakesBeat (seen_by seen a) (seen_by seen m) beat → IsSayable a.call ⊎ Refused (seen_by seen a) (seen_by seen m) beat → (IsAsked m.call → ⊥)
+pub polled : {A : Type 0} (seen : A → LinkSeen) (a m b : ConnOf A) (beat : Beat) → a.broken ≡ None → TakesBeat (seen_by seen a) (seen_by seen m) beat → IsSayable a.call ⊎ Refused (seen_by seen a) (seen_by seen m) beat → EndsFlush (seen_by seen a) (seen_by seen m) beat → (IsAsked m.call → ⊥)
     → b ≡ record m { broken = broken_by beat } → Polled (seen_by seen a) (seen_by seen b) beat
-polled {A} seen a m b beat whole takes says asked is =
+polled {A} seen a m b beat whole takes says flush asked is =
     let same : m.broken ≡ None = takes.3.broken ∙ whole in
     let after : ConnSeen = seen_by seen m in
     subst (λ (x : ConnOf A). Polled (seen_by seen a) (seen_by seen x) beat) (sym is) (record {
       turns = subst (λ (o : Option ServerFault). TakesBeat (seen_by seen a) (record after { broken = o }) beat) same takes;
       broken = refl;
       says = subst (λ (o : Option ServerFault). IsSayable a.call ⊎ Refused (seen_by seen a) (record after { broken = o }) beat) same says;
+      flush = subst (λ (o : Option ServerFault). EndsFlush (seen_by seen a) (record after { broken = o }) beat) same flush;
       asked = asked;
     })
 
-pub polled_whole : {A : Type 0} (seen : A → LinkSeen) (a m : ConnOf A) (beat : Beat) → a.broken ≡ None → TakesBeat (seen_by seen a) (seen_by seen m) beat → IsSayable a.call ⊎ Refused (seen_by seen a) (seen_by seen m) beat → (IsAsked m.call → ⊥)
+pub polled_whole : {A : Type 0} (seen : A → LinkSeen) (a m : ConnOf A) (beat : Beat) → a.broken ≡ None → TakesBeat (seen_by seen a) (seen_by seen m) beat → IsSayable a.call ⊎ Refused (seen_by seen a) (seen_by seen m) beat → EndsFlush (seen_by seen a) (seen_by seen m) beat → (IsAsked m.call → ⊥)
     → broken_by beat ≡ None → Polled (seen_by seen a) (seen_by seen m) beat
-polled_whole {A} seen a m beat whole takes says asked none = polled seen a m m beat whole takes says asked (ap (λ (o : Option ServerFault). record m { broken = o }) (takes.3.broken ∙ whole ∙ sym none))
+polled_whole {A} seen a m beat whole takes says flush asked none = polled seen a m m beat whole takes says flush asked (ap (λ (o : Option ServerFault). record m { broken = o }) (takes.3.broken ∙ whole ∙ sym none))
 
 -- ---- messages
 
@@ -349,11 +382,19 @@ asides a b beat aside n m c keep k h g s t tells = (
   },
 )
 
+-- and does more than send
+hears_more : (ledger : Ledger) (call : Call) → IsAwaiting ledger call → only_sends ledger call ≡ true → ⊥
+hears_more ledger (calls.Waiting w) h s = let z = eqb-true _ _ (both (is_flush w.kind) (ledger.owed == 0) s).1 in omega (arith, h, z)
+hears_more ledger (calls.Own reply) h s = absurd cc
+hears_more ledger (calls.Asked asked) h s = absurd h
+hears_more ledger calls.Closing h s = absurd h
+hears_more ledger calls.Idle h s = absurd cc
+
 abbrev pub over_stream : ConnSeen → StreamSeen → ConnSeen
 over_stream a t = record a { stream = t }
 
 pub hears_nothing : (a : ConnSeen) (t : StreamSeen) → IsAwaiting a.ledger a.call → PollsAhead a.stream t Pending → TakesBeat a (over_stream a t) beats.Waits
-hears_nothing a t w p = asides a (over_stream a t) beats.Waits p.0 p.1 p.2 p.3 (keeps a.call) refl refl refl refl refl (λ start r said hs items i. (i, inl (awaiting_owed start r said hs items a.ledger a.call w i)))
+hears_nothing a t w p = asides a (over_stream a t) beats.Waits p.0 p.1 p.2 (p.3, λ s. absurd (hears_more a.ledger a.call w s)) (keeps a.call) refl refl refl refl refl (λ start r said hs items i. (i, inl (awaiting_owed start r said hs items a.ledger a.call w i)))
 
 missed : (ledger : Ledger) (e : Error) → 0 < ledger.owed → IsMissed ledger e
 missed ledger (errors.Io io.End) h = h
@@ -383,12 +424,30 @@ front_refused a front body rest e f of refuses = stays a (idle a) (beats.Ends (E
 
 -- ---- a message that is taken
 
-told : (a b : ConnSeen) (start : Ledger) (r : Request) (said : List FrontendMessage) (hs : List Frame) (items : List CallItem) (beat : Beat) → CallTakes start r said hs items b.ledger b.call beat → Tells a b start r said hs items beat
-told a b start r said hs items beats.More h = h
-told a b start r said hs items beats.Waits h = absurd h
-told a b start r said hs items (beats.Yields item) h = h
-told a b start r said hs items (beats.Ends (Ok answer)) h = (h.0, h.1, λ k. absurd (h.2 k))
-told a b start r said hs items (beats.Ends (Err e)) h = (h.0, inl h.1)
+alone_true : (b : Bool) → b || false ≡ true → b ≡ true
+alone_true true e = refl
+alone_true false e = absurd cc
+
+pub is_Z : (f : Frame) → is_ready f ≡ true → f.tag ≡ 90
+is_Z f e = eqb-true f.tag 90 (alone_true (f.tag == 90) e)
+
+-- a reply ends by its last message, for which no CopyFail is due
+ready_last : (hs : List Frame) (f : Frame) → EndsByReady (hs ++ f ∷ []) → is_ready f ≡ true
+ready_last [] f (inl e) = absurd cc
+ready_last (h ∷ hs) f (inl e) = absurd cc
+ready_last hs f (inr p) = let same = same_from_push hs p.0 f p.1 p.2 in rw same.1 p.3
+
+plain_end : (fails : Bool) (f : Frame) → is_ready f ≡ true → (fails ≡ true → f.tag ≡ 71) → fails ≡ false
+plain_end false f z copy = refl
+plain_end true f z copy = let g = copy refl in let k = is_Z f z in absurd (omega (arith, g, k))
+
+told : (a b : ConnSeen) (start : Ledger) (r : Request) (said : List FrontendMessage) (hs : List Frame) (f : Frame) (items : List CallItem) (beat : Beat) (fails : Bool) → (fails ≡ true → f.tag ≡ 71) → (fails ≡ false → b.stream.unsent ≡ [])
+    → CallTakes start r said (hs ++ f ∷ []) items b.ledger b.call beat → Tells a b start r said (hs ++ f ∷ []) items beat
+told a b start r said hs f items beats.More fails copy sent h = h
+told a b start r said hs f items beats.Waits fails copy sent h = absurd h
+told a b start r said hs f items (beats.Yields item) fails copy sent h = h
+told a b start r said hs f items (beats.Ends (Ok answer)) fails copy sent h = (h.0, h.1, sent (plain_end fails f (ready_last hs f h.1.0.ends) copy))
+told a b start r said hs f items (beats.Ends (Err e)) fails copy sent h = (h.0, inl h.1)
 
 taken_cause : (a b : ConnSeen) (beat : Beat) → (beat ≢ beats.Waits) → AllMoved a.stream b.stream → BeatCause a b beat
 taken_cause a b beats.More n h = h
@@ -459,7 +518,7 @@ asks_closing {A} seen a q b w k z c le is closes =
     let n = q.stream.spare in
     subst (λ (x : ConnOf A). Readies (seen_by seen a) (seen_by seen x)) (sym (closes ∙ ap (λ (x : ConnOf A). closing x) is)) (asks_nothing (seen_by seen a) n w k z c (queued_moves seen a n w k le))
 
-pub asks_own : {A : Type 0} (seen : A → LinkSeen) (a q b : ConnOf A) (w : Waiting) → a.call ≡ calls.Waiting w → a.ledger.owed ≡ 0 → is_flushed a.ledger a.call ≡ false → is_close w.kind ≡ false → a.stream.spare ≤ q.stream.spare → 128 ≤ q.stream.spare → q ≡ queued_call q.stream.spare a
+pub asks_own : {A : Type 0} (seen : A → LinkSeen) (a q b : ConnOf A) (w : Waiting) → a.call ≡ calls.Waiting w → a.ledger.owed ≡ 0 → only_sends a.ledger a.call ≡ false → is_close w.kind ≡ false → a.stream.spare ≤ q.stream.spare → 128 ≤ q.stream.spare → q ≡ queued_call q.stream.spare a
     → b ≡ awaiting w.kind b.groups q → GrewBy 1 q.groups b.groups → Readies (seen_by seen a) (seen_by seen b)
 asks_own {A} seen a q b w k z f c le room is awaits grew =
     let n = q.stream.spare in
@@ -487,15 +546,20 @@ taken_moves seen a t front body rest fails f of room p =
       AllMoved-then (stream_by seen a) (stream_by seen t) (stream_by seen (queued_copy_fail fails t)) took.1 took.0.left queued.1 queued.0.left,
     )
 
+sends_none : {A : Type 0} (t : StreamOf A) (fails : Bool) → t.unsent ≡ [] → fails ≡ false → (queued_copy_fail fails t).unsent ≡ []
+sends_none t false u e = append-nil t.unsent ∙ u
+sends_none t true u e = absurd cc
+
 pub takes_message : {A : Type 0} (seen : A → LinkSeen) (a b : ConnOf A) (new : Running) (front : Front) (body rest : List ℕ) (taken : Taken) → IsHeardFront a.stream.held front → IsFrontOf a.stream.held front (framed front.tag body) rest
-    → TakesMessage front.tag body (record { ledger = a.ledger; call = a.call }) new taken → StaysIn a.call taken.fails_copy new.call → (taken.fails_copy ≡ true → 57 ≤ a.stream.spare) → (taken.beat ≢ beats.Waits) → Accepts front taken.fails_copy (record a { ledger = new.ledger; call = new.call }) b
+    → TakesMessage front.tag body (record { ledger = a.ledger; call = a.call }) new taken → StaysIn a.call taken.fails_copy new.call → (taken.fails_copy ≡ true → 57 ≤ a.stream.spare) → (taken.fails_copy ≡ true → front.tag ≡ 71) → a.stream.unsent ≡ [] → (taken.beat ≢ beats.Waits) → Accepts front taken.fails_copy (record a { ledger = new.ledger; call = new.call }) b
     → TakesBeat (seen_by seen a) (seen_by seen b) taken.beat
-takes_message {A} seen a b new front body rest taken f of takes stays_in room goes acc =
+takes_message {A} seen a b new front body rest taken f of takes stays_in room copy sent goes acc =
     let t = acc.0 in
     let fails = taken.fails_copy in
     let frame = framed front.tag body in
     let h = b.heard in
     let spare : t.spare ≡ a.stream.spare = ap (λ (x : StreamOf A). x.spare) (acc.1 frame rest of).0 in
+    let unsent : t.unsent ≡ [] = ap (λ (x : StreamOf A). x.unsent) (acc.1 frame rest of).0 ∙ sent in
     let m = taken_moves seen a.stream t front body rest fails f of (λ e. rw spare (room e)) acc.1 in
     let c : ConnSeen = record (seen_by seen a) { stream = stream_by seen (queued_copy_fail fails t); ledger = new.ledger; call = new.call; heard = h } in
     subst (λ (x : ConnOf A). TakesBeat (seen_by seen a) (seen_by seen x) taken.beat) (sym acc.2) (
@@ -513,26 +577,33 @@ takes_message {A} seen a b new front body rest taken f of takes stays_in room go
         room = λ h. omega (arith, spare, stays_room a.call taken.fails_copy new.call a.stream.spare stays_in h);
         tells = λ start r said hs items i.
             let none = no_groups fails in
-            (fails_of fails, refl, rw none (grew-none a.groups), told (seen_by seen a) c start r (said ++ fails_of fails) (hs ++ frame ∷ []) items taken.beat (takes start r said hs items i));
+            (fails_of fails, refl, rw none (grew-none a.groups), told (seen_by seen a) c start r (said ++ fails_of fails) hs frame items taken.beat fails copy (sends_none t fails unsent) (takes start r said hs items i));
       },
     )
 
--- ---- the last frame is sent
+-- ---- the rest is sent
 
-pub farewell_waits : (a : ConnSeen) (t : StreamSeen) → a.call ≡ calls.Closing → PollsSend a.stream t Pending → TakesBeat a (over_stream a t) beats.Waits
-farewell_waits a t k p = stays a (over_stream a t) beats.Waits p.moves (sent_cause a.stream t p.gives) (keeps a.call) refl refl refl refl refl (λ start r said hs items i. (i, inr k))
+sends_fine : (start : Ledger) (r : Request) (said : List FrontendMessage) (hs : List Frame) (items : List CallItem) (ledger : Ledger) (call : Call) → only_sends ledger call ≡ true → CallIs start r said hs items ledger call → CallEnds start r said hs items ledger (Ok answers.Unit)
+sends_fine start r said hs items ledger (calls.Waiting w) s i = let b = both (is_flush w.kind) (ledger.owed == 0) s in flush_fine start r said hs items ledger w b.0 (eqb-true _ _ b.1) i
+sends_fine start r said hs items ledger calls.Closing s i = closing_fine start r said hs items ledger i
+sends_fine start r said hs items ledger (calls.Asked asked) s i = absurd cc
+sends_fine start r said hs items ledger (calls.Own reply) s i = absurd cc
+sends_fine start r said hs items ledger calls.Idle s i = absurd i
+
+pub rest_waits : (a : ConnSeen) (t : StreamSeen) → only_sends a.ledger a.call ≡ true → PollsSend a.stream t Pending → TakesBeat a (over_stream a t) beats.Waits
+rest_waits a t k p = stays a (over_stream a t) beats.Waits p.moves (sent_cause a.stream t p.gives, λ s. p.gives) (keeps a.call) refl refl refl refl refl (λ start r said hs items i. (i, inr k))
   where
     sent_cause : (s t : StreamSeen) → SendGives s t Pending → PendingCause s t
     sent_cause s t (inl w) = inl w
     sent_cause s t (inr f) = inr (inr f)
 
-pub farewell_fails : (a : ConnSeen) (t : StreamSeen) (e : Error) → a.call ≡ calls.Closing → PollsSend a.stream t (Ready (Err e)) → TakesBeat a (idle (over_stream a t)) (beats.Ends (Err e))
-farewell_fails a t e k p = rw p.gives.0 (stays a (idle (over_stream a t)) (beats.Ends (Err (errors.Io io.Fault))) p.moves p.gives.2 (keeps_idle a.call) refl refl refl refl refl (λ start r said hs items i.
+pub rest_fails : (a : ConnSeen) (t : StreamSeen) (e : Error) → PollsSend a.stream t (Ready (Err e)) → TakesBeat a (idle (over_stream a t)) (beats.Ends (Err e))
+rest_fails a t e p = rw p.gives.0 (stays a (idle (over_stream a t)) (beats.Ends (Err (errors.Io io.Fault))) p.moves p.gives.2 (keeps_idle a.call) refl refl refl refl refl (λ start r said hs items i.
     (refl, inr (leaves_call start r said hs items a.ledger a.call i, call_well start r said hs items a.ledger a.call i, inl (p.gives.1, tt)))))
 
-pub farewell_said : (a : ConnSeen) (t : StreamSeen) (u : Unit {0}) → a.call ≡ calls.Closing → PollsSend a.stream t (Ready (Ok u)) → TakesBeat a (idle (over_stream a t)) (beats.Ends (Ok answers.Unit))
-farewell_said a t u k p = stays a (idle (over_stream a t)) (beats.Ends (Ok answers.Unit)) p.moves p.gives.1.2 (keeps_idle a.call) refl refl refl refl refl (λ start r said hs items i.
-    (refl, closing_fine start r said hs items a.ledger (call_at start r said hs items a.ledger a.call calls.Closing k i), λ c. p.gives.0))
+pub rest_sent : (a : ConnSeen) (t : StreamSeen) (u : Unit {0}) → only_sends a.ledger a.call ≡ true → PollsSend a.stream t (Ready (Ok u)) → TakesBeat a (idle (over_stream a t)) (beats.Ends (Ok answers.Unit))
+rest_sent a t u k p = stays a (idle (over_stream a t)) (beats.Ends (Ok answers.Unit)) p.moves p.gives.1.2 (keeps_idle a.call) refl refl refl refl refl (λ start r said hs items i.
+    (refl, sends_fine start r said hs items a.ledger a.call k i, p.gives.0))
 
 -- ---- a front is accepted, step by step
 

@@ -1,5 +1,5 @@
 -- How one poll of a call moves the connection on, whatever the call had done before.
-use Rattle.std.specs.Prelude.{◌≡◌, ℕ, ◌-◌, ◌<◌, ◌≤◌, ◌⊎◌, ◌==◌, ◌&&◌, Bool, true, false, count_by, List, [], ◌∷◌, ◌++◌, length, Ok, Err, Option, Some, None}
+use Rattle.std.specs.Prelude.{◌≡◌, ℕ, ◌-◌, ◌<◌, ◌≤◌, ◌⊎◌, ◌==◌, ◌&&◌, Bool, true, false, count_by, List, [], ◌∷◌, ◌++◌, length, nat_eq, Ok, Err, Option, Some, None}
 use Rattle.futures.specs.declared.task.Poll.{Poll}
 use Rattle.futures.specs.declared.task.Poll.TheVariants.{Ready, Pending}
 use Rattle.pg_wire.specs.declared.error.Error.{Error}
@@ -11,10 +11,12 @@ use Rattle.pg_wire.specs.Frame.{Frame, bytes_of, backend_tags, IsWhole}
 use Rattle.pg_wire.specs.Parts.{heard, is_asynchronous}
 use Rattle.pg_wire.specs.Frontend.{FrontendMessage, Query, Sync}
 use Rattle.pg_stream.specs.declared.stream.Front.{Front}
-use Rattle.pg_stream.specs.Streams.{StreamOf, GrewBy, Moves, AllMoved, NoneWaited, Passes, PendingCause, HeardCause}
-use Rattle.pg_call.specs.declared.kind.Kind.TheVariants as kinds
+use Rattle.pg_stream.specs.Links.{GrewBy}
+use Rattle.pg_stream.specs.Streams.{StreamOf, Moves, AllMoved, NoneWaited, Passes, WriteWaited, IsSpent, PendingCause, HeardCause}
 use Rattle.pg_call.specs.declared.ledger.Ledger.{Ledger}
 use Rattle.pg_call.specs.declared.request.Request.{Request}
+use Rattle.pg_call.specs.declared.request.Request.TheVariants as requests
+use Rattle.pg_call.specs.declared.answer.CallAnswer.TheVariants as answers
 use Rattle.pg_call.specs.declared.answer.CallItem.{CallItem}
 use Rattle.pg_call.specs.declared.answer.Turn.{Turn}
 use Rattle.pg_call.specs.declared.answer.Turn.TheVariants as turns
@@ -70,21 +72,31 @@ cleanup_of _ = 0
 abbrev pub HasRoom : {A : Type 0} → ConnOf A → Type 0
 HasRoom c = cleanup_of c.call ≤ c.stream.spare
 
--- a reply is owed, or the last frame is not sent yet
+-- nothing is left to do but to send: for a flush behind the last reply that is owed, and for a close behind its last frame
+abbrev pub only_sends : Ledger → Call → Bool
+only_sends ledger (calls.Waiting waiting) = is_flush waiting.kind && ledger.owed == 0
+only_sends ledger calls.Closing = true
+only_sends ledger _ = false
+
+-- a reply is owed, or something is to be sent
 abbrev pub IsWaited : ConnSeen → Type 0
-IsWaited c = (0 < c.ledger.owed) ⊎ (c.call ≡ calls.Closing)
+IsWaited c = (0 < c.ledger.owed) ⊎ (only_sends c.ledger c.call ≡ true)
 
 -- what a beat says, by all that the call queued, heard and showed before
 abbrev pub Tells : ConnSeen → ConnSeen → Ledger → Request → List FrontendMessage → List Frame → List CallItem → Beat → Type 0
 Tells a b start r said hs items beats.More = CallIs start r said hs items b.ledger b.call
 Tells a b start r said hs items beats.Waits = CallIs start r said hs items b.ledger b.call × IsWaited b
 Tells a b start r said hs items (beats.Yields item) = CallIs start r said hs (items ++ item ∷ []) b.ledger b.call
-Tells a b start r said hs items (beats.Ends (Ok answer)) = (b.call ≡ calls.Idle) × CallEnds start r said hs items b.ledger (Ok answer) × (kind_of r ≡ kinds.Close → b.stream.unsent ≡ [])
+Tells a b start r said hs items (beats.Ends (Ok answer)) = (b.call ≡ calls.Idle) × CallEnds start r said hs items b.ledger (Ok answer) × (b.stream.unsent ≡ [])
 Tells a b start r said hs items (beats.Ends (Err e)) = (b.call ≡ calls.Idle) × EndsBy a b start r said hs items e
+
+-- why a call waits that only sends: a write waited, or its calls are spent
+abbrev pub SendCause : ConnSeen → ConnSeen → Type 0
+SendCause a b = WriteWaited a.stream b.stream ⊎ IsSpent a.stream b.stream
 
 abbrev pub BeatCause : ConnSeen → ConnSeen → Beat → Type 0
 BeatCause a b beats.More = AllMoved a.stream b.stream
-BeatCause a b beats.Waits = PendingCause a.stream b.stream
+BeatCause a b beats.Waits = PendingCause a.stream b.stream × (only_sends b.ledger b.call ≡ true → SendCause a b)
 BeatCause a b _ = NoneWaited a.stream b.stream
 
 -- the bytes are the spelling of messages that the call queued now, and this is what the beat says of all
@@ -125,10 +137,14 @@ abbrev pub Refuses : Call → Error → Type 0
 Refuses (calls.Asked request) e = IsRefusal request e
 Refuses _ e = ⊥
 
--- behind the last reply that is owed a flush is done
-abbrev pub is_flushed : Ledger → Call → Bool
-is_flushed ledger (calls.Waiting waiting) = is_flush waiting.kind && ledger.owed == 0
-is_flushed ledger _ = false
+abbrev pub flushes : Call → Bool
+flushes (calls.Asked request) = is_flush (kind_of request)
+flushes (calls.Waiting waiting) = is_flush waiting.kind
+flushes _ = false
+
+-- a flush with nothing to do: no reply is owed, and all is sent
+abbrev pub is_flushed : {A : Type 0} → ConnOf A → Bool
+is_flushed c = flushes c.call && c.ledger.owed == 0 && nat_eq (length c.stream.unsent) 0
 
 -- the call awaits a message, or that all is sent
 abbrev pub IsAhead : Ledger → Call → Type 0
@@ -168,12 +184,17 @@ abbrev pub Refused : ConnSeen → ConnSeen → Beat → Type 0
 Refused a b (beats.Ends (Err e)) = Refuses a.call e × (b ≡ idle a)
 Refused a b _ = ⊥
 
+-- a flush with nothing to do ends, and does nothing
+abbrev pub EndsFlush : ConnSeen → ConnSeen → Beat → Type 0
+EndsFlush a b beat = is_flushed a ≡ true → (beat ≡ beats.Ends (Ok answers.Unit)) × (b ≡ idle a)
+
 -- one poll of a call that begins with this connection, which is whole
 pub record Polled (begun b : ConnSeen) (beat : Beat) : Type 0 where
   pub turns : TakesBeat begun (record b { broken = None }) beat
   pub broken : b.broken ≡ broken_by beat
   -- frames can say what is asked, or this poll refuses it
   pub says : IsSayable begun.call ⊎ Refused begun (record b { broken = None }) beat
+  pub flush : EndsFlush begun (record b { broken = None }) beat
   -- and behind it no call is merely asked
   pub asked : IsAsked b.call → ⊥
 
@@ -196,3 +217,7 @@ PollsMore a b answer = PollsBy a.broken a a b (beat_of answer)
 -- the first poll of a request that refuses it, and does nothing else
 abbrev pub RefusesAtOnce : Request → ConnSeen → ConnSeen → Poll Turn → Type 0
 RefusesAtOnce request a b answer = (e : Error) × (answer ≡ Ready (turns.Err e)) × IsRefusal request e × (b ≡ idle (begun (started_call request a)))
+
+-- the first poll of a flush that has nothing to do, which ends it
+abbrev pub FlushesAtOnce : ConnSeen → ConnSeen → Poll Turn → Type 0
+FlushesAtOnce a b answer = (answer ≡ Ready (turns.Ok answers.Unit)) × (b ≡ idle (begun (started_call requests.Flush a)))

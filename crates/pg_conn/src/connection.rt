@@ -141,22 +141,29 @@ impl<L> PgConnection<L> {
     pub fn abandon(&mut self)
         ensures { self.new ≡ idle self.old }
     {
-        self.running.call = Call::Idle;
+        self.turn_to(Call::Idle);
+    }
+
+    // Another call stands in place of the one that ran. All that replace a call do so here: the old one is dropped in one place.
+    pub(crate) fn turn_to(&mut self, call: Call)
+        ensures { self.new ≡ record self.old { call = call } }
+    {
+        self.running.call = call;
     }
 
     /// Begins a call, which does nothing before its first poll. A call that still runs is given up.
     pub fn start(&mut self, request: Request)
         ensures { self.new ≡ started_call request self.old }
     {
-        self.running.call = Call::Asked(request);
+        self.turn_to(Call::Asked(request));
         self.groups = 0;
         self.heard = 0;
         self.stream.begin_call();
     }
 
     /// What the drop of a call's state does: nothing where it was never polled.
-    pub fn leave<R>(&mut self, request: &Option<R>)
-        ensures { self.new ≡ left_by request.now self.old }
+    pub fn leave<R: Drop>(&mut self, request: Option<R>)
+        ensures { self.new ≡ left_by request self.old }
     {
         match request {
             Some(_) => {}

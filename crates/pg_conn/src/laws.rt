@@ -4,11 +4,12 @@ ghost use Rattle.futures.specs.declared.task.Poll.{Poll};
 ghost use Rattle.pg_call.specs.declared.answer.Turn.{Turn};
 ghost use Rattle.pg_call.specs.declared.kind.Kind.{Kind};
 ghost use Rattle.pg_call.specs.declared.request.Request.{Request};
+ghost use Rattle.pg_call.specs.declared.request.Request.TheVariants as requests;
 ghost use Rattle.pg_call.specs.Requests.{CanBeSaid};
 ghost use Rattle.pg_conn.specs.Connections.{ConnSeen, started_call, left_by, idle};
 ghost use Rattle.pg_conn.specs.Ledgers.{Owes, OwesSome};
 ghost use Rattle.pg_conn.specs.States.{IsCalling};
-ghost use Rattle.pg_conn.specs.Turns.{HasRoom, PollsCall, PollsMore, PollsWithin, RefusesAtOnce};
+ghost use Rattle.pg_conn.specs.Turns.{FlushesAtOnce, HasRoom, PollsCall, PollsMore, PollsWithin, RefusesAtOnce};
 
 /// The state of a call that is dropped before its first poll leaves the connection as it was: it has queued and taken nothing.
 pub fn an_unpolled_call_does_nothing()
@@ -24,6 +25,12 @@ pub fn a_dropped_call_stays_owed()
 /// else. Only the fault of a broken connection comes before that refusal, and want of memory in its place.
 pub fn what_no_frame_says_is_refused_at_once()
     ensures { (a b : ConnSeen) (request : Request) (answer : Poll Turn) → a.broken ≡ None → PollsCall (started_call request a) b answer → (CanBeSaid request → ⊥) → RefusesAtOnce request a b answer }
+{}
+
+/// A flush on a connection on which nothing is unsent and no reply is owed is done at its first poll, which calls no link and takes no
+/// memory: it cannot fail.
+pub fn a_flush_with_nothing_to_do_is_done()
+    ensures { (a b : ConnSeen) (answer : Poll Turn) → a.broken ≡ None → a.ledger.owed ≡ 0 → a.stream.unsent ≡ [] → PollsCall (started_call requests.Flush a) b answer → FlushesAtOnce a b answer }
 {}
 
 /// The reply ledger law: behind each poll of a call one reply more is owed for each Query and Sync message that it queued, and one less

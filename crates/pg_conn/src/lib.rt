@@ -7,6 +7,7 @@
 mod connection;
 mod dial;
 mod dial_counts;
+pub mod drops;
 mod establishing;
 pub mod laws;
 mod polling;

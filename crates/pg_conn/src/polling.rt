@@ -1,10 +1,11 @@
-ghost use Rattle.std.specs.Prelude.{◌≡◌, ◌≢◌, ◌-◌, ◌<◌, ◌≤◌, ◌⊎◌, true, false, None, IsSome, OnOk, OnErr, IfErr};
-ghost use Rattle.pg_stream.specs.Streams.{stream_by, fuel_of, GrewBy, IsHeardFront, Passes};
+ghost use Rattle.std.specs.Prelude.{◌≡◌, ◌≢◌, ◌-◌, ◌<◌, ◌≤◌, ◌⊎◌, true, false, [], None, IsSome, OnOk, OnErr, IfErr};
+ghost use Rattle.pg_stream.specs.Links.{GrewBy};
+ghost use Rattle.pg_stream.specs.Streams.{stream_by, fuel_of, IsHeardFront, Passes};
 ghost use Rattle.pg_conn.specs.Connections.{seen_by, idle, begun_with, begun_by, is_over, runs, with_spare, queued_call, awaiting, closing};
 ghost use Rattle.pg_call.specs.Calls.{IsAwaiting};
 ghost use Rattle.pg_call.specs.declared.kind.Kind as declared_kind;
 ghost use Rattle.pg_conn.specs.States.{IsCalling, PollFits};
-ghost use Rattle.pg_conn.specs.Turns.{TakesBeat, Prepares, Readies, Refuses, Accepts, IsAsked, IsSayable, Refused, IsAhead, is_flushed, queued_copy_fail, PollsBy, PollsWithin, PollsCall, PollsMore, beat_of, broken_by};
+ghost use Rattle.pg_conn.specs.Turns.{TakesBeat, Prepares, Readies, Refuses, Accepts, IsAsked, IsSayable, Refused, IsAhead, only_sends, flushes, is_flushed, EndsFlush, queued_copy_fail, PollsBy, PollsWithin, PollsCall, PollsMore, beat_of, broken_by};
 
 use crate::{PgConnection, Request, Turn};
 use pg_call::{Beat, Call, CallAnswer, Kind, Ledger, Reply, Waiting};
@@ -33,7 +34,7 @@ impl<L> PgConnection<L> {
         ensures beat { result ≡ Beat.Ends answer }
         ensures now { self.new ≡ idle self.old }
     {
-        self.running.call = Call::Idle;
+        self.abandon();
         Beat::Ends(answer)
     }
 
@@ -42,11 +43,11 @@ impl<L> PgConnection<L> {
         ensures { self.new ≡ record self.old { call = Call.Waiting (record { kind = kind; frames = frames; is_copy_failed = self.old.ledger.is_copy_failed }) } }
     {
         let is_copy_failed = self.running.ledger.is_copy_failed;
-        self.running.call = Call::Waiting(Waiting {
+        self.turn_to(Call::Waiting(Waiting {
             kind,
             frames,
             is_copy_failed,
-        });
+        }));
     }
 
     // The frames of the call are queued, which end one group.
@@ -58,7 +59,7 @@ impl<L> PgConnection<L> {
             owed: 1,
             is_copy_failed: false,
         };
-        self.running.call = Call::Own(Reply::new(self.alloc, kind));
+        self.turn_to(Call::Own(Reply::new(self.alloc, kind)));
         self.groups = self.groups.saturating_add(1);
     }
 
@@ -66,17 +67,36 @@ impl<L> PgConnection<L> {
     fn await_sent(&mut self)
         ensures { self.new ≡ closing self.old }
     {
-        self.running.call = Call::Closing;
+        self.turn_to(Call::Closing);
     }
 
-    // Whether nothing is left to do for a flush.
-    fn is_flushed(&self) -> bool
-        ensures { result ≡ is_flushed self.now.ledger self.now.call }
+    // Whether nothing is left to do but to send.
+    fn only_sends(&self) -> bool
+        ensures { result ≡ only_sends self.now.ledger self.now.call }
     {
         match &self.running.call {
             Call::Waiting(waiting) => { waiting.kind.is_flush() && self.running.ledger.owed == 0 }
-            Call::Idle | Call::Asked(_) | Call::Own(_) | Call::Closing => false,
+            Call::Closing => true,
+            Call::Idle | Call::Asked(_) | Call::Own(_) => false,
         }
+    }
+
+    // Whether the call is a flush.
+    fn flushes(&self) -> bool
+        ensures { result ≡ flushes self.now.call }
+    {
+        match &self.running.call {
+            Call::Asked(request) => request.kind().is_flush(),
+            Call::Waiting(waiting) => waiting.kind.is_flush(),
+            Call::Idle | Call::Own(_) | Call::Closing => false,
+        }
+    }
+
+    // Whether the call is a flush with nothing to do.
+    fn is_flushed(&self) -> bool
+        ensures { result ≡ is_flushed self.now }
+    {
+        self.flushes() && self.running.ledger.owed == 0 && self.stream.is_sent()
     }
 
     // Keeps room for the cleanup of the call, and queues its frames.
@@ -172,7 +192,7 @@ impl<L: Link> PgConnection<L> {
     // Queues the frames once nothing is owed before them.
     fn ask(&mut self) -> Result<(), Error>
         requires asked { IsAsked self.old.call → ⊥ }
-        requires flushed { is_flushed self.old.ledger self.old.call ≡ false }
+        requires flushed { only_sends self.old.ledger self.old.call ≡ false }
         ensures ok { OnOk result (Readies (seen_by L.seen self.old) (seen_by L.seen self.new)) }
         ensures err { OnErr result (self.new ≡ with_spare self.new.stream.spare self.old) }
         ensures spare { self.old.stream.spare ≤ self.new.stream.spare }
@@ -199,6 +219,7 @@ impl<L: Link> PgConnection<L> {
         requires awaiting { IsAwaiting self.old.ledger self.old.call }
         requires front { IsHeardFront self.old.stream.held front }
         requires room { front.tag ≡ 71 → 57 ≤ self.old.stream.spare }
+        requires sent { self.old.stream.unsent ≡ [] }
         ensures beat { TakesBeat (seen_by L.seen self.old) (seen_by L.seen self.new) result }
         ensures goes { result ≢ Beat.Waits }
         ensures falls { result ≡ Beat.More → fuel_of (stream_by L.seen self.new.stream) < fuel_of (stream_by L.seen self.old.stream) }
@@ -219,6 +240,7 @@ impl<L: Link> PgConnection<L> {
     fn take(&mut self, front: Front) -> Beat
         requires awaiting { IsAwaiting self.old.ledger self.old.call }
         requires front { IsHeardFront self.old.stream.held front }
+        requires sent { self.old.stream.unsent ≡ [] }
         ensures beat { TakesBeat (seen_by L.seen self.old) (seen_by L.seen self.new) result }
         ensures falls { result ≡ Beat.More → fuel_of (stream_by L.seen self.new.stream) < fuel_of (stream_by L.seen self.old.stream) }
     {
@@ -241,9 +263,9 @@ impl<L: Link> PgConnection<L> {
         }
     }
 
-    // Sends the last frame.
-    fn say_farewell(&mut self) -> Beat
-        requires { self.old.call ≡ Call.Closing }
+    // Sends the rest, and ends.
+    fn send_rest(&mut self) -> Beat
+        requires { only_sends self.old.ledger self.old.call ≡ true }
         ensures beat { TakesBeat (seen_by L.seen self.old) (seen_by L.seen self.new) result }
         ensures goes { result ≢ Beat.More }
     {
@@ -261,7 +283,7 @@ impl<L: Link> PgConnection<L> {
         ensures falls { result ≡ Beat.More → fuel_of (stream_by L.seen self.new.stream) < fuel_of (stream_by L.seen self.old.stream) }
     {
         match self.running.call {
-            Call::Closing => self.say_farewell(),
+            Call::Closing => self.send_rest(),
             Call::Idle | Call::Asked(_) | Call::Waiting(_) | Call::Own(_) => self.hear(),
         }
     }
@@ -272,8 +294,8 @@ impl<L: Link> PgConnection<L> {
         ensures beat { TakesBeat (seen_by L.seen self.old) (seen_by L.seen self.new) result }
         ensures falls { result ≡ Beat.More → fuel_of (stream_by L.seen self.new.stream) < fuel_of (stream_by L.seen self.old.stream) }
     {
-        if self.is_flushed() {
-            return self.stop(Ok(CallAnswer::Unit));
+        if self.only_sends() {
+            return self.send_rest();
         }
         match self.ask() {
             Ok(()) => self.go_ahead(),
@@ -296,12 +318,17 @@ impl<L: Link> PgConnection<L> {
     }
 
     // The same, once the frames of what is asked are written. Where no frame can say it, it is refused before anything is done.
+    // A flush with nothing to do ends before that, so it takes no memory.
     fn beat(&mut self) -> Beat
         ensures beat { TakesBeat (seen_by L.seen self.old) (seen_by L.seen self.new) result }
         ensures says { IsSayable self.old.call ⊎ Refused (seen_by L.seen self.old) (seen_by L.seen self.new) result }
+        ensures flush { EndsFlush (seen_by L.seen self.old) (seen_by L.seen self.new) result }
         ensures asked { IsAsked self.new.call → ⊥ }
         ensures ends { result ≢ Beat.More }
     {
+        if self.is_flushed() {
+            return self.stop(Ok(CallAnswer::Unit));
+        }
         match self.prepare() {
             Ok(()) => self.run(),
             Err(e) => self.stop(Err(e)),
@@ -331,7 +358,7 @@ impl<L: Link> PgConnection<L> {
         ensures now { self.new ≡ idle self.old }
         ensures answer { beat_of result ≡ Beat.Ends (Err (Error.Protocol (ProtocolFault.Server fault))) }
     {
-        self.running.call = Call::Idle;
+        self.abandon();
         Poll::Ready(Turn::Err(Error::Protocol(ProtocolFault::Server(fault))))
     }
 
@@ -381,14 +408,15 @@ impl<L: Link> PgConnection<L> {
         }
     }
 
-    /// The poll of a call's state, which begins the call where this is its first.
+    /// The poll of a call's state, which begins the call where this is its first: the request is handed on.
     #[tactic(auto, using(crate::proofs::StateLaws::poll_fits))]
-    pub fn poll_with(&mut self, request: Option<Request>) -> Poll<Turn>
-        requires { is_over request self.old.call ≡ false }
-        ensures polls { PollsCall (seen_by L.seen (begun_by request self.old)) (seen_by L.seen self.new) result }
-        ensures fits { (kind : declared_kind.Kind) → IsCalling kind (begun_by request self.old) → PollFits kind self.new result }
+    pub fn poll_with(&mut self, request: &mut Option<Request>) -> Poll<Turn>
+        requires { is_over request.old self.old.call ≡ false }
+        ensures asked { request.new ≡ None }
+        ensures polls { PollsCall (seen_by L.seen (begun_by request.old self.old)) (seen_by L.seen self.new) result }
+        ensures fits { (kind : declared_kind.Kind) → IsCalling kind (begun_by request.old self.old) → PollFits kind self.new result }
     {
-        match request {
+        match request.take() {
             Some(request) => {
                 self.start(request);
                 self.poll_call()

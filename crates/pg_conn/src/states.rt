@@ -1,6 +1,7 @@
 //! The states of calls. Each but `Close`, which owns it, borrows its connection, does nothing before its first poll, and abandons its call when it is dropped.
+//!
+//! The type of the request is a parameter, which is left at `Request`: so the contract of the drop can say what is left of the connection.
 
-mod calling;
 mod close;
 mod execute;
 mod execute_many;

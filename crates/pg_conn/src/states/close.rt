@@ -47,7 +47,7 @@ impl<L> Close<L> {
         let Close { conn, request } = self;
         match conn {
             Some(mut conn) => {
-                conn.leave(&request);
+                conn.leave(request);
                 Some(conn)
             }
             None => None,
@@ -76,11 +76,10 @@ impl<L: Link> Close<L> {
         ensures asked { self.new.request ≡ None }
         ensures polls { (c : ConnOf L) → self.old.conn ≡ Some c → PollsClose L.seen (begun_by self.old.request c) self.new.conn result }
     {
-        let request = self.request.take();
         let Some(conn) = &mut self.conn else {
             unreachable!()
         };
-        match conn.poll_with(request) {
+        match conn.poll_with(&mut self.request) {
             Poll::Pending => Poll::Pending,
             Poll::Ready(turn) => match turn.into_unit(Kind::Close) {
                 Ok(()) => Poll::Ready(Ok(self.hand_out())),

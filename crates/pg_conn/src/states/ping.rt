@@ -1,56 +1,65 @@
 ghost use Rattle.std.specs.Prelude.{◌≡◌, false, None, Some};
 ghost use Rattle.pg_call.specs.declared.kind.Kind.TheVariants as kinds;
 ghost use Rattle.pg_call.specs.Answers.{unit_turn};
-ghost use Rattle.pg_conn.specs.Connections.{seen_by, begun_by, is_over};
+ghost use Rattle.pg_conn.specs.Connections.{seen_by, begun_by, is_over, left_by};
 ghost use Rattle.pg_conn.specs.States.{IsCalling, PollFits, turn_of};
 ghost use Rattle.pg_conn.specs.Turns.{PollsCall};
 
-use super::calling::Calling;
 use crate::{PgConnection, Request};
 use pg_call::Kind;
 use pg_stream::Link;
 use pg_wire::{Error, Poll};
 
 /// The call `ping`: it ends once the server has answered a Sync. (PostgreSQL manual, "Message Flow", "Extended Query".)
-#[derive(Drop)]
-pub struct Ping<'c, L> {
-    call: Calling<'c, L>,
+pub struct Ping<'c, L, R = Request> {
+    conn: &'c mut PgConnection<L>,
+    request: Option<R>,
 }
 
 impl<L> PgConnection<L> {
     /// Asks the server for a sign of life.
     pub fn ping(&mut self) -> Ping<'_, L>
-        ensures same { result.call.conn.ghost_name ≡ self.entry.ghost_name }
-        ensures conn { result.call.conn.now ≡ self.old }
-        ensures request { result.call.request ≡ Some Request.Ping }
-        ensures calling { IsCalling kinds.Ping (begun_by result.call.request result.call.conn.now) }
+        ensures same { result.conn.ghost_name ≡ self.entry.ghost_name }
+        ensures conn { result.conn.now ≡ self.old }
+        ensures request { result.request ≡ Some Request.Ping }
+        ensures calling { IsCalling kinds.Ping (begun_by result.request result.conn.now) }
     {
         Ping {
-            call: Calling::new(self, Request::Ping),
+            conn: self,
+            request: Some(Request::Ping),
         }
+    }
+}
+
+impl<L, R: Drop> Drop for Ping<'_, L, R> {
+    fn drop(self)
+        ensures { self.exit.0.now ≡ left_by self.entry.request self.entry.conn.now }
+    {
+        let Ping { conn, request } = self;
+        conn.leave(request);
     }
 }
 
 impl<L> Ping<'_, L> {
     /// Whether a poll has ended the call.
     pub fn is_finished(&self) -> bool
-        ensures { result ≡ is_over self.now.call.request self.now.call.conn.now.call }
+        ensures { result ≡ is_over self.now.request self.now.conn.now.call }
     {
-        self.call.is_finished()
+        self.request.is_none() && !self.conn.is_running()
     }
 }
 
 impl<L: Link> Ping<'_, L> {
     /// Moves the call on.
     pub fn poll(&mut self) -> Poll<Result<(), Error>>
-        requires over { is_over self.old.call.request self.old.call.conn.now.call ≡ false }
-        requires calling { IsCalling kinds.Ping (begun_by self.old.call.request self.old.call.conn.now) }
-        ensures same { self.new.call.conn.ghost_name ≡ self.old.call.conn.ghost_name }
-        ensures asked { self.new.call.request ≡ None }
-        ensures polls { PollsCall (seen_by L.seen (begun_by self.old.call.request self.old.call.conn.now)) (seen_by L.seen self.new.call.conn.now) (turn_of unit_turn result) }
-        ensures calling { PollFits kinds.Ping self.new.call.conn.now (turn_of unit_turn result) }
+        requires over { is_over self.old.request self.old.conn.now.call ≡ false }
+        requires calling { IsCalling kinds.Ping (begun_by self.old.request self.old.conn.now) }
+        ensures same { self.new.conn.ghost_name ≡ self.old.conn.ghost_name }
+        ensures asked { self.new.request ≡ None }
+        ensures polls { PollsCall (seen_by L.seen (begun_by self.old.request self.old.conn.now)) (seen_by L.seen self.new.conn.now) (turn_of unit_turn result) }
+        ensures calling { PollFits kinds.Ping self.new.conn.now (turn_of unit_turn result) }
     {
-        match self.call.poll() {
+        match self.conn.poll_with(&mut self.request) {
             Poll::Pending => Poll::Pending,
             Poll::Ready(turn) => Poll::Ready(turn.into_unit(Kind::Ping)),
         }
