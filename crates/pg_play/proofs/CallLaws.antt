@@ -1,5 +1,5 @@
 -- One more poll of a call that is played.
-use Rattle.std.proofs.Common.{◌≡◌, ◌≢◌, ◌⊎◌, ℕ, ◌+◌, ◌<◌, ◌≤◌, inl, inr, cond, Bool, true, false, List, [], ◌∷◌, ◌++◌, length, map, refl, sym, ap, ◌∙◌, subst, arith, append_assoc, Option, Some, None, Ok, Err}
+use Rattle.std.proofs.Common.{◌≡◌, ◌≢◌, ◌⊎◌, ℕ, ◌+◌, ◌*◌, ◌<◌, ◌≤◌, inl, inr, cond, Bool, true, false, List, [], ◌∷◌, ◌++◌, length, map, refl, sym, ap, ◌∙◌, subst, arith, append_assoc, Option, Some, None, Ok, Err}
 use Rattle.std.specs.List.{count_by}
 use Rattle.std.proofs.lemmas.List.{map-append, length-append, length-map}
 use Rattle.std.proofs.lemmas.List.Sums.{sum_by-append}
@@ -13,24 +13,23 @@ use Rattle.pg_wire.specs.Frame.{Frame}
 use Rattle.pg_wire.specs.Parts.{heard}
 use Rattle.pg_wire.specs.Frontend.{FrontendMessage}
 use Rattle.pg_wire.proofs.PartLaws.{heard-append}
-use Rattle.pg_stream.specs.Links.{NoneFalls}
-use Rattle.pg_stream.specs.Streams.{StreamSeen, Moves, Tallies, NoneWaited, PendingCause, GrewBy, HeardCause}
-use Rattle.pg_stream.proofs.Known.{NoneFalls-refl}
+use Rattle.pg_stream.specs.Links.{NoneFalls, GrewBy}
+use Rattle.pg_stream.specs.Streams.{StreamSeen, Moves, Tallies, NoneWaited, PendingCause, HeardCause, fuel_of}
 use Rattle.pg_stream.proofs.StreamLemmas.{AreFrames-append, Tallies-then, Tallies-none, GrewBy-then}
 use Rattle.pg_call.specs.declared.request.Request.{Request}
-use Rattle.pg_call.specs.declared.kind.Kind.TheVariants as kinds
 use Rattle.pg_call.specs.declared.answer.CallItem.{CallItem}
 use Rattle.pg_call.specs.declared.answer.CallAnswer.{CallAnswer}
+use Rattle.pg_call.specs.declared.answer.CallAnswer.TheVariants as answers
 use Rattle.pg_call.specs.declared.calling.Call.{Call}
 use Rattle.pg_call.specs.declared.calling.Call.TheVariants as calls
 use Rattle.pg_call.specs.declared.calling.Beat.{Beat}
 use Rattle.pg_call.specs.declared.calling.Beat.TheVariants as beats
 use Rattle.pg_call.specs.declared.ledger.Ledger.{Ledger}
-use Rattle.pg_call.specs.Requests.{spelled, kind_of}
+use Rattle.pg_call.specs.Requests.{spelled, CanBeSaid, IsRefusal}
 use Rattle.pg_call.specs.Calls.{CallIs, Leaves}
 use Rattle.pg_call.proofs.LeaveLaws.{leaves_call, call_well}
-use Rattle.pg_conn.specs.Connections.{ConnSeen, idle, begun_with, runs}
-use Rattle.pg_conn.specs.Turns.{ends_request, Tells, IsWaited, TakesBeat, BeatCause, PollsBy, broken_by}
+use Rattle.pg_conn.specs.Connections.{ConnSeen, idle, begun, begun_with, runs}
+use Rattle.pg_conn.specs.Turns.{ends_request, Tells, IsWaited, BeatCause, IsSayable, Refuses, Refused, Polled, PollsBy, broken_by, is_flushed}
 use Rattle.pg_report.specs.declared.outcome.Item.{Item}
 use Rattle.pg_report.specs.declared.outcome.Answer.{Answer}
 use Rattle.pg_report.specs.declared.outcome.End.{End}
@@ -38,11 +37,11 @@ use Rattle.pg_report.specs.declared.outcome.End.TheVariants as ends
 use Rattle.pg_report.specs.declared.outcome.Outcome.{Outcome}
 use Rattle.pg_play.specs.declared.tally.Limits.{Limits}
 use Rattle.pg_play.specs.declared.tally.Tally.{Tally}
-use Rattle.pg_play.specs.Shown.{item_of, items_with, answer_of}
+use Rattle.pg_play.specs.Shown.{item_of, items_with, has_rows, answer_of}
 use Rattle.pg_startup.specs.Flows.{Flows}
 use Rattle.pg_startup.proofs.FlowLaws.{Flows-then, Flows-none, flows_begun}
-use Rattle.pg_play.proofs.WaitLaws.{waits_none, waits_on}
-use Rattle.pg_play.specs.Calls.{Adds, Finishes, Waited, Went, InPlay, IsPlayingOn, IsPlaying, EndsStarved, IsDropped, broken_after, HasWaitedFew, EndsOn, HasEnded, PollGives, PlaysCall, outcome_of}
+use Rattle.pg_play.proofs.WaitLaws.{still_grown, waits_none, waits_on}
+use Rattle.pg_play.specs.Calls.{Adds, Finishes, Waited, Went, InPlay, IsPlayingOn, IsPlaying, EndsStarved, IsDropped, broken_after, HasWaitedFew, IsFresh, EndsAtOnce, EndsOn, HasEnded, PollGives, PlaysCall, outcome_of}
 use Rattle.pg_conn.proofs.TurnLaws.{tells_from, spelled-append}
 
 -- ---- the stream, over any number of polls
@@ -53,17 +52,17 @@ count-append t xs ys = sum_by-append (λ (y : FrontendMessage). cond (t y) 1 0) 
 -- ---- one poll more
 
 -- a poll that waits has one more cause
-waited_more : (n : ℕ) (a b c : StreamSeen) → NoneFalls b.link c.link → b.waits ≤ c.waits → b.moves ≤ c.moves → Waited n a b → PendingCause (record b { left = 256 }) c → Waited (n + 1) a c
-waited_more n a b c m w v h p = elim p [
+waited_more : (n : ℕ) (a b c : StreamSeen) → NoneFalls b.link c.link → b.moves ≤ c.moves → Waited n a b → PendingCause (record b { left = 256 }) c → Waited (n + 1) a c
+waited_more n a b c m v h p = elim p [
   | inl x ↦ record {
     write_waits = h.write_waits + 1;
     read_waits = h.read_waits;
     spent = h.spent;
     all = omega (arith, h.all);
-    writes = omega (arith, h.writes, x.0);
-    reads = omega (arith, h.reads, m.read_waits);
+    writes = GrewBy-then _ _ _ _ _ _ h.writes x.0 refl;
+    reads = still_grown _ _ _ _ h.reads x.3;
     moved = omega (arith, h.moved, m.moved);
-    waits = omega (arith, h.waits, x.1);
+    waits = GrewBy-then _ _ _ _ _ _ h.waits x.1 (omega arith);
     moves = omega (arith, h.moves, v);
   }
   | inr y ↦ elim y [
@@ -72,10 +71,10 @@ waited_more n a b c m w v h p = elim p [
       read_waits = h.read_waits + 1;
       spent = h.spent;
       all = omega (arith, h.all);
-      writes = omega (arith, h.writes, m.write_waits);
-      reads = omega (arith, h.reads, x.0.0);
+      writes = still_grown _ _ _ _ h.writes x.0.3;
+      reads = GrewBy-then _ _ _ _ _ _ h.reads x.0.0 refl;
       moved = omega (arith, h.moved, m.moved);
-      waits = omega (arith, h.waits, x.0.1);
+      waits = GrewBy-then _ _ _ _ _ _ h.waits x.0.1 (omega arith);
       moves = omega (arith, h.moves, v);
     }
     | inr x ↦ record {
@@ -83,41 +82,56 @@ waited_more n a b c m w v h p = elim p [
       read_waits = h.read_waits;
       spent = h.spent + 1;
       all = omega (arith, h.all);
-      writes = omega (arith, h.writes, m.write_waits);
-      reads = omega (arith, h.reads, m.read_waits);
+      writes = still_grown _ _ _ _ h.writes x.1.2.2.0;
+      reads = still_grown _ _ _ _ h.reads x.1.2.2.1;
       moved = omega (arith, h.moved, x.0, x.1.0);
-      waits = omega (arith, h.waits, w);
+      waits = still_grown _ _ _ _ h.waits x.1.2.0;
       moves = omega (arith, h.moves, x.0, x.1.1);
     }
   ]
 ]
 
-waited_after : (n : ℕ) (a b c : StreamSeen) → NoneFalls b.link c.link → b.waits ≤ c.waits → b.moves ≤ c.moves → Waited n a b → Waited n a c
+waited_after : (n : ℕ) (a b c : StreamSeen) → NoneFalls b.link c.link → NoneWaited b c → b.moves ≤ c.moves → Waited n a b → Waited n a c
 waited_after n a b c m w v h = record {
   write_waits = h.write_waits;
   read_waits = h.read_waits;
   spent = h.spent;
   all = h.all;
-  writes = omega (arith, h.writes, m.write_waits);
-  reads = omega (arith, h.reads, m.read_waits);
+  writes = still_grown _ _ _ _ h.writes w.2.0;
+  reads = still_grown _ _ _ _ h.reads w.2.1;
   moved = omega (arith, h.moved, m.moved);
-  waits = omega (arith, h.waits, w);
+  waits = still_grown _ _ _ _ h.waits w.0;
   moves = omega (arith, h.moves, v);
 }
 
 waited_none : (a b : StreamSeen) → a ≡ b → Waited 0 a b
 waited_none a b e = rw (← e) (record { write_waits = 0; read_waits = 0; spent = 0; all = refl; writes = omega arith; reads = omega arith; moved = omega arith; waits = omega arith; moves = omega arith })
 
+-- nothing was shown and taken
+abbrev BeatStays : ConnSeen → ConnSeen → List CallItem → List Frame → Type 0
+BeatStays a c items fs = (items ≡ []) × (fs ≡ []) × (record c { broken = None } ≡ idle (begun a))
+
+-- what no frame can say is refused by the beat, which does nothing else
+abbrev BeatRefuses : ConnSeen → ConnSeen → Request → List CallItem → List Frame → Beat → Type 0
+BeatRefuses a c r items fs (beats.Ends (Err e)) = IsRefusal r e × BeatStays a c items fs
+BeatRefuses a c r items fs _ = ⊥
+
+-- a flush with nothing to do ends, and does nothing
+abbrev BeatFlushes : ConnSeen → ConnSeen → List CallItem → List Frame → Beat → Type 0
+BeatFlushes a c items fs (beats.Ends (Ok answer)) = (answer ≡ answers.Unit) × BeatStays a c items fs
+BeatFlushes a c items fs _ = ⊥
+
 -- what the beat of a poll has in common, from the state a in which the call began
 record AfterBeat (a c : ConnSeen) (r : Request) (waits : ℕ) (items : List CallItem) (beat : Beat) (said : List FrontendMessage) (fs : List Frame) : Type 0 where
   went : Went a c said fs
   broken : c.broken ≡ broken_by beat
   tells : Tells a c a.ledger r said (heard fs) items beat
-  waited : Waited waits a.stream c.stream
+  waited : beat ≢ beats.Waits → Waited waits a.stream c.stream
+  calls : c.stream.link.calls ≤ a.stream.link.calls + 256 * (waits + length items + 1)
   waits_more : beat ≡ beats.Waits → Waited (waits + 1) a.stream c.stream
-  few : beat ≢ beats.Waits → c.stream.waits ≤ a.stream.waits + waits
-  few_more : beat ≡ beats.Waits → c.stream.waits ≤ a.stream.waits + (waits + 1)
-  starved : beat ≡ beats.Waits → 0 < c.ledger.owed → EndsStarved a c
+  unsaid : (CanBeSaid r → ⊥) → BeatRefuses a c r items fs beat
+  unflushed : is_flushed a ≡ true → BeatFlushes a c items fs beat
+  starved : beat ≡ beats.Waits → IsWaited c → EndsStarved a c
 
 heard_cause : (a b c : StreamSeen) (e : Error) → NoneFalls a.link b.link → HeardCause (record b { left = 256 }) c e → HeardCause a c e
 heard_cause a b c errors.OutOfMemory m h = tt
@@ -127,35 +141,36 @@ heard_cause a b c (errors.Protocol (protocol.Server (faults.Malformed tag))) m h
 heard_cause a b c (errors.Protocol (protocol.Server fault)) m h = h
 heard_cause a b c _ m h = absurd h
 
-cause_of : (b c : ConnSeen) (beat : Beat) → BeatCause b c beat → beat ≡ beats.Waits → PendingCause b.stream c.stream
+cause_of : (b c : ConnSeen) (beat : Beat) → BeatCause b c beat → beat ≡ beats.Waits → BeatCause b c beats.Waits
 cause_of b c beats.Waits h e = h
 cause_of b c beats.More h e = absurd cc
 cause_of b c (beats.Yields item) h e = absurd cc
 cause_of b c (beats.Ends answer) h e = absurd cc
 
-none_waited : (b c : ConnSeen) (beat : Beat) → BeatCause b c beat → beat ≢ beats.Waits → c.stream.waits ≡ b.stream.waits
-none_waited b c beats.More h n = h.2.0
+none_waited : (b c : ConnSeen) (beat : Beat) → BeatCause b c beat → beat ≢ beats.Waits → NoneWaited b.stream c.stream
+none_waited b c beats.More h n = h.2
 none_waited b c beats.Waits h n = absurd (n refl)
-none_waited b c (beats.Yields item) h n = h.0
-none_waited b c (beats.Ends answer) h n = h.0
+none_waited b c (beats.Yields item) h n = h
+none_waited b c (beats.Ends answer) h n = h
 
 -- a beat waits or not
 waits_or_not : (b c : ConnSeen) (beat : Beat) → BeatCause b c beat → NoneWaited b.stream c.stream ⊎ PendingCause b.stream c.stream
 waits_or_not b c beats.More h = inl h.2
-waits_or_not b c beats.Waits h = inr h
+waits_or_not b c beats.Waits h = inr h.0
 waits_or_not b c (beats.Yields item) h = inl h
 waits_or_not b c (beats.Ends answer) h = inl h
 
-one_waited : (b c : StreamSeen) → PendingCause b c → c.waits ≤ b.waits + 1
-one_waited b c (inl x) = x.1.1
-one_waited b c (inr (inl x)) = x.0.1.1
-one_waited b c (inr (inr x)) = omega (arith, x.1.2.0)
-
-starved_now : (a b c : ConnSeen) → NoneFalls a.stream.link b.stream.link → a.stream.moves ≤ b.stream.moves → PendingCause (record b.stream { left = 256 }) c.stream → 0 < c.ledger.owed → EndsStarved a c
-starved_now a b c m v p o = elim p [
-  | inl x ↦ inl (omega (arith, x.0, m.write_waits))
-  | inr y ↦ elim y [
-    | inl x ↦ inr (inr (x.1, x.2, o))
+starved_now : (a b c : ConnSeen) → NoneFalls a.stream.link b.stream.link → a.stream.moves ≤ b.stream.moves → BeatCause (begun_with 256 b) (record c { broken = None }) beats.Waits → IsWaited c → EndsStarved a c
+starved_now a b c m v p w = elim w [
+  | inl o ↦ elim p.0 [
+    | inl x ↦ inl (omega (arith, x.0, m.write_waits))
+    | inr y ↦ elim y [
+      | inl x ↦ inr (inr (x.1, x.2, o))
+      | inr x ↦ inr (inl (omega (arith, x.0, x.1.1, v)))
+    ]
+  ]
+  | inr only ↦ elim (p.1 only) [
+    | inl x ↦ inl (omega (arith, x.0, m.write_waits))
     | inr x ↦ inr (inl (omega (arith, x.0, x.1.1, v)))
   ]
 ]
@@ -171,15 +186,52 @@ went_on : (a b c : ConnSeen) (said more : List FrontendMessage) (q : List ℕ) (
 went_on a b c said more q fs gs w m e g h s waited = record {
   flows = subst (λ (t : List ℕ). Flows a.stream c.stream t (fs ++ gs)) (ap (λ (t : List ℕ). spelled said ++ t) (sym e) ∙ sym (spelled-append said more)) (Flows-then a.stream b.stream c.stream (spelled said) q fs gs w.flows (flows_begun b.stream c.stream 256 q gs m));
   tallies = Tallies-then a.stream b.stream c.stream w.tallies (tallies_begun b.stream c.stream m.tallies);
-  waits = waits_on a.stream b.stream c.stream fs gs w.waits (AreFrames-append fs gs w.flows.read.3 m.read.3) m.counts m.read waited;
+  waits = waits_on a.stream b.stream c.stream fs gs w.waits (AreFrames-append fs gs w.flows.read.3 m.read.3) m.read waited;
   groups = GrewBy-then _ _ _ _ _ _ w.groups g (count-append ends_request said more);
   heard = GrewBy-then _ _ _ _ _ _ w.heard h (ap (λ (t : List Frame). length t) (heard-append fs gs) ∙ length-append (heard fs) (heard gs));
   started = (s.0 ∙ w.started.0, s.1 ∙ w.started.1);
 }
 
+-- the first poll of a call took no frame, where it left the stream as it was
+first_stays : (a b c : ConnSeen) (r : Request) (waits : ℕ) (items : List CallItem) (said : List FrontendMessage) (fs gs : List Frame) (q : List ℕ) → InPlay a b r waits items said fs → IsFresh a b r fs → Moves (record b.stream { left = 256 }) c.stream q gs
+    → record c { broken = None } ≡ idle (begun_with 256 b) → BeatStays a c items (fs ++ gs)
+first_stays a b c r waits items said fs gs q i f m e = (
+  (subst (λ (k : Call). CallIs a.ledger r said (heard fs) items b.ledger k) (ap (λ (x : ConnSeen). x.call) f.0 ∙ f.1) i.call).4,
+  ap (λ (x : List Frame). x ++ gs) f.2 ∙ no_frame gs (omega (arith, m.fuel, ap (λ (x : ConnSeen). fuel_of x.stream) e)),
+  e ∙ ap (λ (x : ConnSeen). idle (begun x)) f.0,
+)
+  where
+    no_frame : (xs : List Frame) → length xs ≡ 0 → xs ≡ []
+    no_frame [] k = refl
+    no_frame (x ∷ xs) k = absurd (omega (arith, k))
+
+refuses_beat : (a b c : ConnSeen) (r : Request) (waits : ℕ) (items : List CallItem) (beat : Beat) (said : List FrontendMessage) (fs gs : List Frame) (q : List ℕ) → InPlay a b r waits items said fs → Polled (begun_with 256 b) c beat → Moves (record b.stream { left = 256 }) c.stream q gs
+    → (CanBeSaid r → ⊥) → BeatRefuses a c r items (fs ++ gs) beat
+refuses_beat a b c r waits items beat said fs gs q i p m u = elim p.says [
+  | inl can ↦ absurd (u (subst IsSayable asked can))
+  | inr refused ↦ by beat refused
+]
+  where
+    asked : b.call ≡ calls.Asked r
+    asked = ap (λ (x : ConnSeen). x.call) (i.unsaid u).0 ∙ (i.unsaid u).1
+
+    by : (beat : Beat) → Refused (begun_with 256 b) (record c { broken = None }) beat → BeatRefuses a c r items (fs ++ gs) beat
+    by (beats.Ends (Err e)) h = (subst (λ (k : Call). Refuses k e) asked h.0, first_stays a b c r waits items said fs gs q i (i.unsaid u) m h.1)
+    by (beats.Ends (Ok answer)) h = absurd h
+    by (beats.Yields item) h = absurd h
+    by beats.More h = absurd h
+    by beats.Waits h = absurd h
+
+flushes_beat : (a b c : ConnSeen) (r : Request) (waits : ℕ) (items : List CallItem) (beat : Beat) (said : List FrontendMessage) (fs gs : List Frame) (q : List ℕ) → InPlay a b r waits items said fs → Polled (begun_with 256 b) c beat → Moves (record b.stream { left = 256 }) c.stream q gs
+    → is_flushed a ≡ true → BeatFlushes a c items (fs ++ gs) beat
+flushes_beat a b c r waits items beat said fs gs q i p m f =
+    let done = p.flush (ap is_flushed (i.unflushed f).0 ∙ f) in
+    subst (BeatFlushes a c items (fs ++ gs)) (sym done.0) (refl, first_stays a b c r waits items said fs gs q i (i.unflushed f) m done.1)
+
 after_beat : (a b c : ConnSeen) (r : Request) (waits : ℕ) (items : List CallItem) (beat : Beat) (said : List FrontendMessage) (fs : List Frame) → InPlay a b r waits items said fs
-    → TakesBeat (begun_with 256 b) (record c { broken = None }) beat → c.broken ≡ broken_by beat → AfterSome a c r waits items beat
-after_beat a b c r waits items beat said fs i t k =
+    → Polled (begun_with 256 b) c beat → AfterSome a c r waits items beat
+after_beat a b c r waits items beat said fs i p =
+    let t = p.turns in
     let turns = t.3 in
     let told = turns.tells a.ledger r said (heard fs) items i.call in
     let all : heard fs ++ t.2 ≡ heard (fs ++ t.1) = ap (λ (x : List Frame). heard fs ++ x) (sym turns.hears) ∙ sym (heard-append fs t.1) in
@@ -189,13 +241,14 @@ after_beat a b c r waits items beat said fs i t k =
       fs ++ t.1,
       record {
         went = went_on a b c said told.0 t.0 fs t.1 i.went m told.1 told.2 grew turns.started (waits_or_not (begun_with 256 b) (record c { broken = None }) beat turns.cause);
-        broken = k;
+        broken = p.broken;
         tells = subst (λ (x : List Frame). Tells a c a.ledger r (said ++ told.0) x items beat) all (tells_from a b c a.ledger r (said ++ told.0) (heard fs ++ t.2) items beat i.went.flows.counts told.3);
-        waited = waited_after waits a.stream b.stream c.stream m.counts m.tallies.waits.0 m.tallies.moves.0 i.waited;
-        waits_more = λ e. waited_more waits a.stream b.stream c.stream m.counts m.tallies.waits.0 m.tallies.moves.0 i.waited (cause_of (begun_with 256 b) (record c { broken = None }) beat turns.cause e);
-        few = λ n. omega (arith, i.few, none_waited (begun_with 256 b) (record c { broken = None }) beat turns.cause n);
-        few_more = λ e. omega (arith, i.few, one_waited (begun_with 256 b).stream c.stream (cause_of (begun_with 256 b) (record c { broken = None }) beat turns.cause e));
-        starved = λ e o. starved_now a b c i.went.flows.counts i.went.tallies.moves.0 (cause_of (begun_with 256 b) (record c { broken = None }) beat turns.cause e) o;
+        waited = λ n. waited_after waits a.stream b.stream c.stream m.counts (none_waited (begun_with 256 b) (record c { broken = None }) beat turns.cause n) m.tallies.moves.0 i.waited;
+        calls = omega (arith, i.calls, m.calls);
+        waits_more = λ e. waited_more waits a.stream b.stream c.stream m.counts m.tallies.moves.0 i.waited (cause_of (begun_with 256 b) (record c { broken = None }) beat turns.cause e).0;
+        unsaid = refuses_beat a b c r waits items beat said fs t.1 t.0 i p m;
+        unflushed = flushes_beat a b c r waits items beat said fs t.1 t.0 i p m;
+        starved = λ e w. starved_now a b c i.went.flows.counts i.went.tallies.moves.0 (cause_of (begun_with 256 b) (record c { broken = None }) beat turns.cause e) w;
       },
     )
 
@@ -207,7 +260,7 @@ PlayBeat (Some fault) most a c r waits shown beat = (c ≡ idle a) × (beat ≡ 
 play_beat : (o : Option ServerFault) (most : ℕ) (a b c : ConnSeen) (r : Request) (waits : ℕ) (shown : List Item) (beat : Beat) → a.broken ≡ o → IsPlayingOn o most a b r waits shown → PollsBy b.broken (begun_with 256 b) b c beat → PlayBeat o most a c r waits shown beat
 play_beat None most a b c r waits shown beat e i p =
     let whole = subst (λ (k : Option ServerFault). PollsBy k (begun_with 256 b) b c beat) i.5.broken p in
-    (i.0, i.3, i.4, after_beat a b c r waits i.0 beat i.1 i.2 i.5 whole.turns whole.broken)
+    (i.0, i.3, i.4, after_beat a b c r waits i.0 beat i.1 i.2 i.5 whole)
 play_beat (Some fault) most a b c r waits shown beat e i p =
     let at_a = subst (λ (d : ConnSeen). PollsBy d.broken (begun_with 256 d) d c beat) i.0 p in
     let broke = subst (λ (k : Option ServerFault). PollsBy k (begun_with 256 a) a c beat) e at_a in
@@ -215,24 +268,13 @@ play_beat (Some fault) most a b c r waits shown beat e i p =
 
 -- ---- what each beat makes of the call
 
-abbrev IsNoClose : Request → Type 0
-IsNoClose r = kind_of r ≡ kinds.Close → ⊥
-
-waits_owed : (start : Ledger) (r : Request) (said : List FrontendMessage) (hs : List Frame) (items : List CallItem) (c : ConnSeen) (call : Call) → IsNoClose r → c.call ≡ call → CallIs start r said hs items c.ledger call → IsWaited c → 0 < c.ledger.owed
-waits_owed start r said hs items c call n e i (inl o) = o
-waits_owed start r said hs items c calls.Closing n e i (inr k) = absurd (n i.0)
-waits_owed start r said hs items c calls.Idle n e i (inr k) = absurd i
-waits_owed start r said hs items c (calls.Asked asked) n e i (inr k) = let x = sym e ∙ k in absurd cc
-waits_owed start r said hs items c (calls.Waiting w) n e i (inr k) = let x = sym e ∙ k in absurd cc
-waits_owed start r said hs items c (calls.Own reply) n e i (inr k) = let x = sym e ∙ k in absurd cc
-
 more_shown : (shown : List Item) (items : List CallItem) (item : CallItem) → shown ≡ map item_of items → shown ++ item_of item ∷ [] ≡ map item_of (items ++ item ∷ [])
 more_shown shown items item e = ap (λ (x : List Item). x ++ item_of item ∷ []) e ∙ sym (map-append item_of items (item ∷ []))
 
 goes_waits : (o : Option ServerFault) (most : ℕ) (a c : ConnSeen) (r : Request) (waits : ℕ) (shown : List Item) → PlayBeat o most a c r waits shown beats.Waits → IsPlayingOn o most a c r (waits + 1) shown
 goes_waits None most a c r waits shown h =
     let after = h.3.2 in
-    (h.0, h.3.0, h.3.1, h.1, h.2, record { went = after.went; broken = after.broken; call = after.tells.0; waited = after.waits_more refl; few = after.few_more refl })
+    (h.0, h.3.0, h.3.1, h.1, h.2, record { went = after.went; broken = after.broken; call = after.tells.0; waited = after.waits_more refl; calls = omega (arith, after.calls); unsaid = λ u. absurd (after.unsaid u); unflushed = λ f. absurd (after.unflushed f) })
 goes_waits (Some fault) most a c r waits shown h = let e = h.1 in absurd cc
 
 -- fewer items than so many, and one more
@@ -244,13 +286,17 @@ goes_yields : (o : Option ServerFault) (most : ℕ) (a c : ConnSeen) (r : Reques
     → IsPlayingOn o most a c r waits (shown ++ item_of item ∷ [])
 goes_yields None most a c r waits shown item n h =
     let after = h.3.2 in
-    (h.0 ++ item ∷ [], h.3.0, h.3.1, more_shown shown h.0 item h.1, below_more shown (item_of item) most h.2 n, record { went = after.went; broken = after.broken; call = after.tells; waited = after.waited; few = after.few (λ e. absurd cc) })
+    (h.0 ++ item ∷ [], h.3.0, h.3.1, more_shown shown h.0 item h.1, below_more shown (item_of item) most h.2 n, record { went = after.went; broken = after.broken; call = after.tells; waited = after.waited (λ e. absurd cc); calls = omega (arith, after.calls, length-append h.0 (item ∷ [])); unsaid = λ u. absurd (after.unsaid u); unflushed = λ f. absurd (after.unflushed f) })
 goes_yields (Some fault) most a c r waits shown item n h = let e = h.1 in absurd cc
+
+-- an end that the first poll doesn't make
+not_at_once : (a c : ConnSeen) (r : Request) (shown : List Item) (end : End) (fs : List Frame) → ((CanBeSaid r → ⊥) → ⊥) → (is_flushed a ≡ true → ⊥) → EndsAtOnce a c r shown end fs
+not_at_once a c r shown end fs n m = record { refused = λ u. absurd (n u); flushed = λ f. absurd (m f) }
 
 -- an end on a connection that was whole
 ended_whole : (limits : Limits) (a c : ConnSeen) (r : Request) (shown : List Item) (end : End) (said : List FrontendMessage) (fs : List Frame) → a.broken ≡ None → Went a c said fs
-    → c.broken ≡ broken_after None end → HasWaitedFew limits.polls a.stream c.stream end → EndsOn None limits a c r said (heard fs) shown end → HasEnded limits a c r shown end
-ended_whole limits a c r shown end said fs e w k few n = (
+    → c.broken ≡ broken_after None end → HasWaitedFew limits.polls a.stream c.stream end → c.stream.link.calls ≤ a.stream.link.calls + 256 * (limits.polls + limits.most) → EndsAtOnce a c r shown end fs → EndsOn None limits a c r said (heard fs) shown end → HasEnded limits a c r shown end
+ended_whole limits a c r shown end said fs e w k few made once n = (
   said,
   fs,
   record {
@@ -258,6 +304,8 @@ ended_whole limits a c r shown end said fs e w k few n = (
     broken = subst (λ (o : Option ServerFault). c.broken ≡ broken_after o end) (sym e) k;
     kept = λ fault h. let x = sym e ∙ h in absurd cc;
     few = few;
+    calls = made;
+    at_once = λ o. once;
     ends = subst (λ (o : Option ServerFault). EndsOn o limits a c r said (heard fs) shown end) (sym e) n;
   },
 )
@@ -265,7 +313,7 @@ ended_whole limits a c r shown end said fs e w k few n = (
 went_none : (a c : ConnSeen) → c ≡ idle a → Went a c [] []
 went_none a c k = rw k (record {
   flows = Flows-none a.stream a.stream refl refl refl refl;
-  tallies = Tallies-none a.stream a.stream (NoneFalls-refl a.stream.link) refl refl;
+  tallies = Tallies-none a.stream a.stream refl refl refl;
   waits = waits_none a.stream;
   groups = (omega arith, omega arith, omega arith);
   heard = (omega arith, omega arith, omega arith);
@@ -281,7 +329,9 @@ ended_broken limits a c r fault l e k = (
     went = went_none a c k;
     broken = ap (λ (s : ConnSeen). s.broken) k ∙ e ∙ sym (ap (λ (o : Option ServerFault). broken_after o (ends.Err (errors.Protocol (protocol.Server fault)))) e);
     kept = λ f h. refl;
-    few = (0, omega (arith, ap (λ (s : ConnSeen). s.stream.waits) k), (λ d. l, omega arith));
+    few = (0, waited_none a.stream c.stream (sym (ap (λ (s : ConnSeen). s.stream) k)), (λ d. l, omega arith));
+    calls = omega (arith, ap (λ (s : ConnSeen). s.stream.link.calls) k);
+    at_once = λ o. let x = sym e ∙ o in absurd cc;
     ends = subst (λ (o : Option ServerFault). EndsOn o limits a c r [] [] [] (ends.Err (errors.Protocol (protocol.Server fault)))) (sym e) (refl, refl, refl, refl, ap idle k);
   },
 )
@@ -289,25 +339,31 @@ ended_broken limits a c r fault l e k = (
 below_items : (shown : List Item) (items : List CallItem) (most : ℕ) → shown ≡ map item_of items → length shown < most → length items < most
 below_items shown items most e l = omega (arith, l, ap (λ (x : List Item). length x) e, length-map items item_of)
 
+-- each of its polls but the last one waited or showed an item
+few_calls : (a c : ConnSeen) (waits items : ℕ) (limits : Limits) → waits < limits.polls → items < limits.most → c.stream.link.calls ≤ a.stream.link.calls + 256 * (waits + items + 1) → c.stream.link.calls ≤ a.stream.link.calls + 256 * (limits.polls + limits.most)
+few_calls a c waits items limits l m k = omega (arith, l, m, k)
+
 -- an end that isn't a drop
-ends_few : (limits : Limits) (a c : StreamSeen) (waits : ℕ) (end : End) → waits < limits.polls → c.waits ≤ a.waits + waits → HasWaitedFew limits.polls a c end
-ends_few limits a c waits end l few = (waits, few, (λ d. l, omega (arith, l)))
+ends_few : (limits : Limits) (a c : StreamSeen) (waits : ℕ) (end : End) → waits < limits.polls → Waited waits a c → HasWaitedFew limits.polls a c end
+ends_few limits a c waits end l w = (waits, w, (λ d. l, omega (arith, l)))
 
 goes_ok : (limits : Limits) (o : Option ServerFault) (a c : ConnSeen) (r : Request) (waits : ℕ) (old new : List Item) (answer : CallAnswer) (told : Answer) → waits < limits.polls → a.broken ≡ o → new ≡ items_with old answer → told ≡ answer_of answer
     → PlayBeat o limits.most a c r waits old (beats.Ends (Ok answer)) → HasEnded limits a c r new (ends.Ok told)
 goes_ok limits None a c r waits old new answer told l e n t h =
     let after = h.3.2 in
-    ended_whole limits a c r new (ends.Ok told) h.3.0 h.3.1 e after.went after.broken (ends_few limits a.stream c.stream waits (ends.Ok told) l (after.few (λ d. absurd cc)))
-    (h.0, answer, n ∙ ap (λ (x : List Item). items_with x answer) h.1, below_items old h.0 limits.most h.1 h.2, t, after.tells.1)
+    ended_whole limits a c r new (ends.Ok told) h.3.0 h.3.1 e after.went after.broken (ends_few limits a.stream c.stream waits (ends.Ok told) l (after.waited (λ d. absurd cc))) (few_calls a c waits (length h.0) limits l (below_items old h.0 limits.most h.1 h.2) after.calls)
+    (record { refused = λ u. absurd (after.unsaid u); flushed = λ f. let x = after.unflushed f in (ap (λ (z : Answer). ends.Ok z) (t ∙ ap answer_of x.0), (n ∙ ap (λ (z : CallAnswer). items_with old z) x.0 ∙ h.1 ∙ ap (map item_of) x.1.0, x.1.1, x.1.2)) })
+    (h.0, answer, n ∙ ap (λ (x : List Item). items_with x answer) h.1, below_items old h.0 limits.most h.1 h.2, t, after.tells.1, after.tells.2)
 goes_ok limits (Some fault) a c r waits old new answer told l e n t h = let x = h.1 in absurd cc
 
 -- without memory for the items of the answer
-goes_unshown : (limits : Limits) (o : Option ServerFault) (a c : ConnSeen) (r : Request) (waits : ℕ) (old new : List Item) (answer : CallAnswer) (f : Error) → waits < limits.polls → a.broken ≡ o → new ≡ [] → f ≡ errors.OutOfMemory
+goes_unshown : (limits : Limits) (o : Option ServerFault) (a c : ConnSeen) (r : Request) (waits : ℕ) (old new : List Item) (answer : CallAnswer) (f : Error) → waits < limits.polls → a.broken ≡ o → new ≡ [] → f ≡ errors.OutOfMemory → has_rows answer ≡ true
     → PlayBeat o limits.most a c r waits old (beats.Ends (Ok answer)) → HasEnded limits a c r new (ends.Err f)
-goes_unshown limits None a c r waits old new answer f l e n t h =
+goes_unshown limits None a c r waits old new answer f l e n t b h =
     let after = h.3.2 in
-    rw t (ended_whole limits a c r new (ends.Err errors.OutOfMemory) h.3.0 h.3.1 e after.went after.broken (ends_few limits a.stream c.stream waits (ends.Err errors.OutOfMemory) l (after.few (λ d. absurd cc))) (inr (h.0, n, refl, after.tells.1.0)))
-goes_unshown limits (Some fault) a c r waits old new answer f l e n t h = let x = h.1 in absurd cc
+    rw t (ended_whole limits a c r new (ends.Err errors.OutOfMemory) h.3.0 h.3.1 e after.went after.broken (ends_few limits a.stream c.stream waits (ends.Err errors.OutOfMemory) l (after.waited (λ d. absurd cc))) (few_calls a c waits (length h.0) limits l (below_items old h.0 limits.most h.1 h.2) after.calls)
+    (not_at_once a c r new (ends.Err errors.OutOfMemory) h.3.1 after.unsaid (λ k. let x = sym (ap has_rows (after.unflushed k).0) ∙ b in absurd cc)) (inr (h.0, n, refl, after.tells.1.0)))
+goes_unshown limits (Some fault) a c r waits old new answer f l e n t b h = let x = h.1 in absurd cc
 
 broken_same : (e : Error) → broken_by (beats.Ends (Err e)) ≡ broken_after None (ends.Err e)
 broken_same (errors.Protocol (protocol.Server fault)) = refl
@@ -320,30 +376,31 @@ same_error e e' h = cc
 goes_err : (limits : Limits) (o : Option ServerFault) (a c : ConnSeen) (r : Request) (waits : ℕ) (shown : List Item) (err : Error) → waits < limits.polls → a.broken ≡ o → PlayBeat o limits.most a c r waits shown (beats.Ends (Err err)) → HasEnded limits a c r shown (ends.Err err)
 goes_err limits None a c r waits shown err l e h =
     let after = h.3.2 in
-    ended_whole limits a c r shown (ends.Err err) h.3.0 h.3.1 e after.went (after.broken ∙ broken_same err) (ends_few limits a.stream c.stream waits (ends.Err err) l (after.few (λ d. absurd cc))) (inl (h.0, h.1, h.2, after.tells.1))
+    ended_whole limits a c r shown (ends.Err err) h.3.0 h.3.1 e after.went (after.broken ∙ broken_same err) (ends_few limits a.stream c.stream waits (ends.Err err) l (after.waited (λ d. absurd cc))) (few_calls a c waits (length h.0) limits l (below_items shown h.0 limits.most h.1 h.2) after.calls)
+    (record { refused = λ u. let x = after.unsaid u in (err, x.0, refl, (h.1 ∙ ap (map item_of) x.1.0, x.1.1, x.1.2)); flushed = λ f. absurd (after.unflushed f) }) (inl (h.0, h.1, h.2, after.tells.1))
 goes_err limits (Some fault) a c r waits shown err l e h = rw (same_error err (errors.Protocol (protocol.Server fault)) h.1, h.2) (ended_broken limits a c r fault (omega (arith, l)) e h.0)
 
 -- ---- a call that is given up
 
 drops : (limits : Limits) (o : Option ServerFault) (most : ℕ) (a c : ConnSeen) (r : Request) (waits : ℕ) (items : List CallItem) (shown : List Item) (said : List FrontendMessage) (fs : List Frame) → a.broken ≡ None → shown ≡ map item_of items → InPlay a c r waits items said fs
-    → waits ≤ limits.polls → IsDropped limits a c shown → length shown ≤ limits.most → HasEnded limits a c r shown ends.Dropped
-drops limits o most a c r waits items shown said fs e k i l d b =
-    ended_whole limits a c r shown ends.Dropped said fs e i.went i.broken (waits, i.few, (λ n. absurd (n refl), l))
+    → ((CanBeSaid r → ⊥) → ⊥) → (is_flushed a ≡ true → ⊥) → waits ≤ limits.polls → IsDropped limits a c shown → length shown ≤ limits.most → HasEnded limits a c r shown ends.Dropped
+drops limits o most a c r waits items shown said fs e k i n m l d b =
+    ended_whole limits a c r shown ends.Dropped said fs e i.went i.broken (waits, i.waited, (λ n. absurd (n refl), l)) (omega (arith, i.calls, l, b, ap (λ (x : List Item). length x) k, length-map items item_of)) (not_at_once a c r shown ends.Dropped fs n m)
     (items, k, leaves_call a.ledger r said (heard fs) items c.ledger c.call i.call, call_well a.ledger r said (heard fs) items c.ledger c.call i.call, d, b)
 
-drops_waiting : (limits : Limits) (o : Option ServerFault) (a c : ConnSeen) (r : Request) (waits : ℕ) (shown : List Item) → IsNoClose r → waits + 1 ≡ limits.polls → a.broken ≡ o → PlayBeat o limits.most a c r waits shown beats.Waits → HasEnded limits a c r shown ends.Dropped
-drops_waiting limits None a c r waits shown n k e h =
+drops_waiting : (limits : Limits) (o : Option ServerFault) (a c : ConnSeen) (r : Request) (waits : ℕ) (shown : List Item) → waits + 1 ≡ limits.polls → a.broken ≡ o → PlayBeat o limits.most a c r waits shown beats.Waits → HasEnded limits a c r shown ends.Dropped
+drops_waiting limits None a c r waits shown k e h =
     let after = h.3.2 in
     let call = after.tells.0 in
-    drops limits None limits.most a c r (waits + 1) h.0 shown h.3.0 h.3.1 e h.1 (record { went = after.went; broken = after.broken; call = call; waited = after.waits_more refl; few = after.few_more refl }) (omega (arith, k))
-    (inl (subst (λ (m : ℕ). Waited m a.stream c.stream) k (after.waits_more refl), after.starved refl (waits_owed a.ledger r h.3.0 (heard h.3.1) h.0 c c.call n refl call after.tells.1))) (omega (arith, h.2))
-drops_waiting limits (Some fault) a c r waits shown n k e h = let x = h.1 in absurd cc
+    drops limits None limits.most a c r (waits + 1) h.0 shown h.3.0 h.3.1 e h.1 (record { went = after.went; broken = after.broken; call = call; waited = after.waits_more refl; calls = omega (arith, after.calls); unsaid = λ u. absurd (after.unsaid u); unflushed = λ f. absurd (after.unflushed f) }) after.unsaid after.unflushed (omega (arith, k))
+    (inl (subst (λ (m : ℕ). Waited m a.stream c.stream) k (after.waits_more refl), after.starved refl after.tells.1)) (omega (arith, h.2))
+drops_waiting limits (Some fault) a c r waits shown k e h = let x = h.1 in absurd cc
 
 drops_shown : (limits : Limits) (o : Option ServerFault) (a c : ConnSeen) (r : Request) (waits : ℕ) (old new : List Item) (item : CallItem) → waits < limits.polls → new ≡ old ++ item_of item ∷ [] → length new ≡ limits.most → a.broken ≡ o → PlayBeat o limits.most a c r waits old (beats.Yields item)
     → HasEnded limits a c r new ends.Dropped
 drops_shown limits None a c r waits old new item l k m e h =
     let after = h.3.2 in
-    drops limits None limits.most a c r waits (h.0 ++ item ∷ []) new h.3.0 h.3.1 e (k ∙ more_shown old h.0 item h.1) (record { went = after.went; broken = after.broken; call = after.tells; waited = after.waited; few = after.few (λ d. absurd cc) }) (omega (arith, l)) (inr m) (omega (arith, m))
+    drops limits None limits.most a c r waits (h.0 ++ item ∷ []) new h.3.0 h.3.1 e (k ∙ more_shown old h.0 item h.1) (record { went = after.went; broken = after.broken; call = after.tells; waited = after.waited (λ d. absurd cc); calls = omega (arith, after.calls, length-append h.0 (item ∷ [])); unsaid = λ u. absurd (after.unsaid u); unflushed = λ f. absurd (after.unflushed f) }) after.unsaid after.unflushed (omega (arith, l)) (inr m) (omega (arith, m))
 drops_shown limits (Some fault) a c r waits old new item l k m e h = let x = h.1 in absurd cc
 
 -- the items before the last one are the first ones
@@ -374,7 +431,7 @@ goes_unkept : (limits : Limits) (o : Option ServerFault) (a c : ConnSeen) (r : R
 goes_unkept limits None a c r waits old new item f l k t e h =
     let after = h.3.2 in
     let more = leaves_call a.ledger r h.3.0 (heard h.3.1) (h.0 ++ item ∷ []) c.ledger c.call after.tells in
-    rw (k, t) (ended_whole limits a c r old (ends.Err errors.OutOfMemory) h.3.0 h.3.1 e after.went after.broken (ends_few limits a.stream c.stream waits (ends.Err errors.OutOfMemory) l (after.few (λ d. absurd cc)))
+    rw (k, t) (ended_whole limits a c r old (ends.Err errors.OutOfMemory) h.3.0 h.3.1 e after.went after.broken (ends_few limits a.stream c.stream waits (ends.Err errors.OutOfMemory) l (after.waited (λ d. absurd cc))) (few_calls a c waits (length h.0) limits l (below_items old h.0 limits.most h.1 h.2) after.calls) (not_at_once a c r old (ends.Err errors.OutOfMemory) h.3.1 after.unsaid after.unflushed)
     (inl (h.0, h.1, h.2, inr (leaves_fewer a.ledger r h.3.0 (heard h.3.1) h.0 item c.ledger more, call_well a.ledger r h.3.0 (heard h.3.1) (h.0 ++ item ∷ []) c.ledger c.call after.tells, inl (tt, tt)))))
 goes_unkept limits (Some fault) a c r waits old new item f l k t e h = let x = h.1 in absurd cc
 
@@ -383,13 +440,13 @@ goes_unkept limits (Some fault) a c r waits old new item f l k t e h = let x = h
 pub poll_goes : (limits : Limits) (a b c : ConnSeen) (r : Request) (waits : ℕ) (shown : List Item) → IsPlaying limits.most a b r waits shown → PollsBy b.broken (begun_with 256 b) b c beats.Waits → PollGives limits a c r (waits + 1) shown None
 poll_goes limits a b c r waits shown i p = goes_waits a.broken limits.most a c r waits shown (play_beat a.broken limits.most a b c r waits shown beats.Waits refl i p)
 
-pub poll_drops : (limits : Limits) (a b c : ConnSeen) (r : Request) (waits : ℕ) (shown : List Item) → IsNoClose r → waits + 1 ≡ limits.polls → IsPlaying limits.most a b r waits shown → PollsBy b.broken (begun_with 256 b) b c beats.Waits → PollGives limits a c r (waits + 1) shown (Some ends.Dropped)
-poll_drops limits a b c r waits shown n k i p = drops_waiting limits a.broken a c r waits shown n k refl (play_beat a.broken limits.most a b c r waits shown beats.Waits refl i p)
+pub poll_drops : (limits : Limits) (a b c : ConnSeen) (r : Request) (waits : ℕ) (shown : List Item) → waits + 1 ≡ limits.polls → IsPlaying limits.most a b r waits shown → PollsBy b.broken (begun_with 256 b) b c beats.Waits → PollGives limits a c r (waits + 1) shown (Some ends.Dropped)
+poll_drops limits a b c r waits shown k i p = drops_waiting limits a.broken a c r waits shown k refl (play_beat a.broken limits.most a b c r waits shown beats.Waits refl i p)
 
 pub poll_ok : (limits : Limits) (a b c : ConnSeen) (r : Request) (old new : Tally) (answer : CallAnswer) (end : End) → old.waits < limits.polls → Finishes answer old new end → IsPlaying limits.most a b r old.waits old.items.items → PollsBy b.broken (begun_with 256 b) b c (beats.Ends (Ok answer))
     → PollGives limits a c r new.waits new.items.items (Some end)
 poll_ok limits a b c r old new answer (ends.Ok told) l f i p = goes_ok limits a.broken a c r old.waits old.items.items new.items.items answer told l refl f.1 f.2 (play_beat a.broken limits.most a b c r old.waits old.items.items (beats.Ends (Ok answer)) refl i p)
-poll_ok limits a b c r old new answer (ends.Err e) l f i p = goes_unshown limits a.broken a c r old.waits old.items.items new.items.items answer e l refl f.1 f.2 (play_beat a.broken limits.most a b c r old.waits old.items.items (beats.Ends (Ok answer)) refl i p)
+poll_ok limits a b c r old new answer (ends.Err e) l f i p = goes_unshown limits a.broken a c r old.waits old.items.items new.items.items answer e l refl f.1 f.2 f.3 (play_beat a.broken limits.most a b c r old.waits old.items.items (beats.Ends (Ok answer)) refl i p)
 poll_ok limits a b c r old new answer ends.Dropped l f i p = absurd f
 
 pub poll_err : (limits : Limits) (a b c : ConnSeen) (r : Request) (waits : ℕ) (shown : List Item) (e : Error) → waits < limits.polls → IsPlaying limits.most a b r waits shown → PollsBy b.broken (begun_with 256 b) b c (beats.Ends (Err e)) → PollGives limits a c r waits shown (Some (ends.Err e))
@@ -437,7 +494,7 @@ play_starts most a r m k = starts_on a.broken refl
       record {
         went = record {
           flows = Flows-none a.stream a.stream refl refl refl refl;
-          tallies = Tallies-none a.stream a.stream (NoneFalls-refl a.stream.link) refl refl;
+          tallies = Tallies-none a.stream a.stream refl refl refl;
           waits = waits_none a.stream;
           groups = (omega arith, omega arith, omega arith);
           heard = (omega arith, omega arith, omega arith);
@@ -446,7 +503,9 @@ play_starts most a r m k = starts_on a.broken refl
         broken = e;
         call = subst (λ (c : Call). CallIs a.ledger r [] [] [] a.ledger c) (sym k) (refl, refl, refl, refl, refl);
         waited = waited_none a.stream a.stream refl;
-        few = omega arith;
+        calls = omega arith;
+        unsaid = λ u. (refl, k, refl);
+        unflushed = λ f. (refl, k, refl);
       },
     )
     starts_on (Some fault) e = (refl, refl)
@@ -459,11 +518,17 @@ ends_idle None limits a c r said hs shown (ends.Err e) h = h
 ends_idle None limits a c r said hs shown ends.Dropped h = h
 ends_idle (Some fault) limits a c r said hs shown end h = h
 
+once_idle : (a c : ConnSeen) (r : Request) (shown : List Item) (end : End) (fs : List Frame) → EndsAtOnce a c r shown end fs → EndsAtOnce a (idle c) r shown end fs
+once_idle a c r shown end fs h = record {
+  refused = λ u. let x = h.refused u in (x.0, x.1, x.2, (x.3.0, x.3.1, ap idle x.3.2));
+  flushed = λ f. let x = h.flushed f in (x.0, (x.1.0, x.1.1, ap idle x.1.2));
+}
+
 -- the call is given up, or was over
 pub given_up : (limits : Limits) (a c : ConnSeen) (r : Request) (shown : List Item) (end : End) → HasEnded limits a c r shown end → HasEnded limits a (idle c) r shown end
 given_up limits a c r shown end h =
     let w = h.2.went in
-    (h.0, h.1, record { went = record { flows = w.flows; tallies = w.tallies; waits = w.waits; groups = w.groups; heard = w.heard; started = w.started }; broken = h.2.broken; kept = h.2.kept; few = h.2.few; ends = ends_idle a.broken limits a c r h.0 (heard h.1) shown end h.2.ends })
+    (h.0, h.1, record { went = record { flows = w.flows; tallies = w.tallies; waits = w.waits; groups = w.groups; heard = w.heard; started = w.started }; broken = h.2.broken; kept = h.2.kept; few = h.2.few; calls = h.2.calls; at_once = λ o. once_idle a c r shown end h.1 (h.2.at_once o); ends = ends_idle a.broken limits a c r h.0 (heard h.1) shown end h.2.ends })
 
 pub plays_call : (limits : Limits) (a c d : ConnSeen) (r : Request) (waits : ℕ) (shown : List Item) (end : End) (out : Outcome) → PollGives limits a c r waits shown (Some end) → d ≡ idle c → out ≡ outcome_of d shown end → PlaysCall limits a d r out
 plays_call limits a c d r waits shown end out g k e =

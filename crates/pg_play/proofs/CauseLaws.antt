@@ -1,7 +1,7 @@
 -- Why a step ended.
 use Rattle.std.proofs.Common.{◌≡◌, ℕ, ◌+◌, ◌^◌, ◌<◌, Bool, true, false, cond, inl, inr, List, [], ◌∷◌, ◌++◌, length, map, refl, sym, ap, ◌∙◌, subst, arith, Option, Some, None, Err}
 use Rattle.std.specs.List.{count_by, AllByRecursion}
-use Rattle.std.proofs.lemmas.List.{length-append, map-append}
+use Rattle.std.proofs.lemmas.List.{length-append, map-append, nil_from_length}
 use Rattle.pg_wire.specs.declared.error.Error.{Error}
 use Rattle.pg_wire.specs.declared.error.Error.TheVariants as errors
 use Rattle.pg_wire.specs.declared.error.IoCause.TheVariants as io
@@ -35,7 +35,7 @@ use Rattle.pg_script.specs.declared.step.Step.{Step}
 use Rattle.pg_play.specs.Shown.{request_of, is_row, item_of}
 use Rattle.pg_play.specs.Calls.{Waited, EndsOn, EndsStarved, limits_of, outcome_of}
 use Rattle.pg_play.specs.Places.{Place, readies, refuses_copy}
-use Rattle.pg_play.specs.Causes.{IsFront, IsUnlawful, ShowsFault, IsAskedToCopy, HasNoRow, Causes, IsStarved, WaitedOften, HasCause}
+use Rattle.pg_play.specs.Causes.{IsFront, IsUnlawful, ShowsFault, IsAskedToCopy, HasNoRow, Causes, IsStarved, AnsweredPending, HasCause}
 use Rattle.pg_play.specs.Plays.{StandsAt}
 use Rattle.pg_play.proofs.PartLaws.{no_error}
 use Rattle.pg_play.proofs.StepLaws.{Summary, QueuedOwn}
@@ -141,6 +141,7 @@ copy_cause start at a b step said fs items items' copied copied' tag st s l e n 
       );
       so_far = c.so_far;
       copies = c.copies;
+      lawful = λ group e. subst (BeginsCopyResponse group) (sym (main_after start at a (request_of step.call) s.own (heard fs) st q)) (c.lawful group (sym q.own_is ∙ e));
     }
   where
     both : (own : List BackendMessage) → AllByRecursion HasBackendFrame own → AllByRecursion HasBackendFrame (own ++ c.last ∷ [])
@@ -169,11 +170,7 @@ row_cause start at a b step said fs items items' copied end st s h =
     }
 
 none_own : (start : Ledger) (r : Request) (said : List FrontendMessage) (hs : List Frame) (items : List CallItem) (ledger : Ledger) (copied : Bool) (s : Summary start r said hs items ledger copied) → hs ≡ [] → ledger ≡ start → s.own ≡ []
-none_own start r said hs items ledger copied s e l = no_group s.own (omega (arith, s.counted, ap (λ (x : List Frame). count_by is_ready x) e, ap (λ (x : Ledger). x.owed) l))
-  where
-    no_group : (gs : List Group) → length gs ≡ 0 → gs ≡ []
-    no_group [] k = refl
-    no_group (g ∷ gs) k = absurd (omega (arith, k))
+none_own start r said hs items ledger copied s e l = nil_from_length s.own (omega (arith, s.counted, ap (λ (x : List Frame). count_by is_ready x) e, ap (λ (x : Ledger). x.owed) l))
 
 call_cause : (start : StreamSeen) (at : Place) (a b : ConnSeen) (step : Step) (said : List FrontendMessage) (fs : List Frame) (items items' : List CallItem) (copied : Bool) (end : End) (e : Error) → StandsAt start at a → (s : Summary a.ledger (request_of step.call) said (heard fs) items' b.ledger copied)
     → CallEnds a.ledger (request_of step.call) said (heard fs) items b.ledger (Err e) → Causes at step s.own (heard fs) (next_place at b said s.own fs end) e
@@ -186,8 +183,9 @@ call_cause start at a b step said fs items items' copied end _ st s h = absurd h
 
 -- ---- a call that was dropped
 
-waited_often : (a b : ConnSeen) (step : Step) (shown : List Item) (end : End) → step.polls < 2 ^ 32 → Waited step.polls (started_call (request_of step.call) a).stream b.stream → WaitedOften step (outcome_of b shown end)
-waited_often a b step shown end p w = (w.write_waits + w.read_waits, w.spent, w.all, omega (arith, p, w.all, w.waits), omega (arith, p, w.all, w.moves))
+-- an outcome counts the waits and the moves of the stream
+pub pending_in : (a b : ConnSeen) (r : Request) (polls : ℕ) (shown : List Item) (end : End) → polls < 2 ^ 32 → Waited polls (started_call r a).stream b.stream → AnsweredPending (outcome_of b shown end) polls
+pending_in a b r polls shown end p w = (w.spent, omega (arith, p, w.all, w.waits), omega (arith, p, w.all, w.moves))
 
 starved_at : (start : StreamSeen) (at : Place) (a b : ConnSeen) (step : Step) (said : List FrontendMessage) (fs : List Frame) (items : List CallItem) (copied : Bool) (shown : List Item) (end : End) → StandsAt start at a → (s : Summary a.ledger (request_of step.call) said (heard fs) items b.ledger copied)
     → EndsStarved (started_call (request_of step.call) a) b → IsStarved at (outcome_of b shown end) (next_place at b said s.own fs end)
@@ -204,7 +202,7 @@ cause_step None start at a b step said fs shown (ends.Err e) items st w p (inl (
 cause_step None start at a b step said fs shown (ends.Err e) items st w p (inl (xs, k, l, inr (left, well, inr front))) s = front_cause start at a b step said fs items xs (refuses_copy (ends.Err e)) (ends.Err e) e st s left front
 cause_step None start at a b step said fs shown (ends.Err e) items st w p (inr (xs, k, z, f)) s = subst (λ (x : Error). Causes at step s.own (heard fs) (next_place at b said s.own fs (ends.Err e)) x) (sym z) tt
 cause_step None start at a b step said fs shown ends.Dropped items st w p h s = elim h.4 [
-  | inl waited ↦ inr (inl (waited_often a b step shown ends.Dropped p waited.0, starved_at start at a b step said fs items false shown ends.Dropped st s waited.1))
+  | inl waited ↦ inr (inl (pending_in a b (request_of step.call) step.polls shown ends.Dropped p waited.0, starved_at start at a b step said fs items false shown ends.Dropped st s waited.1))
   | inr most ↦ inr (inr most)
 ]
 cause_step (Some fault) start at a b step said fs shown end items st w p h s = by end h.0 s

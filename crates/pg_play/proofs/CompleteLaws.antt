@@ -118,7 +118,7 @@ fair_error first at step own slice next last _ g a b n k c = absurd c
 cut_short : (at : Place) (step : Step) (out : Outcome) (next : Place) → IsDropped at step out next → WasCutShort step out
 cut_short at step out next (inl (inl none)) = inl (omega (arith, none))
 cut_short at step out next (inl (inr none)) = inr (omega (arith, none))
-cut_short at step out next (inr (inl w)) = let often = w.0 in inl (omega (arith, often.2, often.3, often.4))
+cut_short at step out next (inr (inl w)) = let often = w.0 in inl (omega (arith, often.1, often.2))
 cut_short at step out next (inr (inr most)) = inr (omega (arith, most))
 
 fair_end : (first : LinkSeen) (at : Place) (step : Step) (out : Outcome) (own : List Group) (slice : List Frame) (next last : Place) (end : End) → Holds first last → NoneFalls first at.seen.link → NoneFalls next.seen.link last.seen.link → AllByRecursion StartsNoCopy slice

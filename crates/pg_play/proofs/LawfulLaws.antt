@@ -29,6 +29,16 @@ record SplitFront (heards : List Frame) (front : Frame) (rs : List BackendMessag
   front_is : front ≡ backend_frame message
   whole : rs ≡ before ++ message ∷ behind
 
+split_more : (h : Frame) (r : BackendMessage) (hs : List Frame) (front : Frame) (rs : List BackendMessage) → h ≡ backend_frame r → SplitFront hs front rs → SplitFront (h ∷ hs) front (r ∷ rs)
+split_more h r hs front rs head s = record {
+  before = r ∷ s.before;
+  message = s.message;
+  behind = s.behind;
+  heards_are = ap₂ (λ (x : Frame) (xs : List Frame). x ∷ xs) head s.heards_are;
+  front_is = s.front_is;
+  whole = ap (λ (x : List BackendMessage). r ∷ x) s.whole;
+}
+
 split_front : (heards : List Frame) (front : Frame) (rest : List Frame) (rs : List BackendMessage) → (heards ++ front ∷ []) ++ rest ≡ map backend_frame rs → SplitFront heards front rs
 split_front [] front rest [] e = absurd cc
 split_front [] front rest (r ∷ rs) e = let head : front ≡ backend_frame r = cc in record { before = []; message = r; behind = rs; heards_are = refl; front_is = head; whole = refl }
@@ -36,8 +46,7 @@ split_front (h ∷ hs) front rest [] e = absurd cc
 split_front (h ∷ hs) front rest (r ∷ rs) e =
     let head : h ≡ backend_frame r = cc in
     let tails : (hs ++ front ∷ []) ++ rest ≡ map backend_frame rs = cc in
-    let s = split_front hs front rest rs tails in
-    record { before = r ∷ s.before; message = s.message; behind = s.behind; heards_are = ap₂ (λ (x : Frame) (xs : List Frame). x ∷ xs) head s.heards_are; front_is = s.front_is; whole = ap (λ (x : List BackendMessage). r ∷ x) s.whole }
+    split_more h r hs front rs head (split_front hs front rest rs tails)
 
 -- ---- the messages so far, response by response
 

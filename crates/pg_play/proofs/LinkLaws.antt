@@ -2,8 +2,8 @@
 use Rattle.std.proofs.Common.{◌≡◌, ℕ, zero, suc, ◌+◌, List, [], ◌∷◌, ◌++◌, map, refl, sym, ap, ◌∙◌, subst, append_assoc, append-nil, Option, Some, None, ◌⊎◌, inl, inr, sum_by, arith}
 use Rattle.std.specs.List.{AllByRecursion}
 use Rattle.std.proofs.lemmas.List.Sums.{sum_by-append}
-use Rattle.pg_stream.specs.Links.{LinkSeen, NoneFalls}
 use Rattle.pg_stream.specs.Streams.{HeaderFault, IsMalformedFront}
+use Rattle.pg_stream.proofs.StreamLemmas.{GrewBy-then}
 use Rattle.pg_wire.specs.declared.error.Error.TheVariants as errors
 use Rattle.pg_wire.specs.declared.error.ProtocolFault.TheVariants as protocol
 use Rattle.pg_wire.specs.declared.error.ServerFault.{ServerFault}
@@ -26,6 +26,7 @@ use Rattle.pg_report.specs.declared.outcome.Outcome.{Outcome}
 use Rattle.pg_script.specs.declared.step.Step.{Step}
 use Rattle.pg_play.specs.Calls.{IsUnpolled, broken_after}
 use Rattle.pg_play.specs.Places.{Place}
+use Rattle.pg_play.specs.Told.{CountsTo}
 use Rattle.pg_play.specs.Causes.{IsFront, HasNoMessage, ShowsFault, HasCause}
 use Rattle.pg_play.specs.Plays.{Plays_step, Plays_from, AsksForNoCopy, NoneUnlawful, WhereLawful, Totals}
 use Rattle.pg_play.proofs.RepliesLaws.{StartsNoCopy, all_prefix, replies_start_no_copy, asks_for_none, replies_to_all}
@@ -100,7 +101,7 @@ breaks_on at step out next one so fault e = by at.broken refl
         let same : at.broken ≡ Some fault = w ∙ sym (ap (λ (x : Option ServerFault). broken_after x out.end) w) ∙ sym one.queued.broken ∙ e in
         elim (polled step) [
           | inl u ↦ subst (Refutes fault) (sym (one.duly.unpolled u).1) (so fault same)
-          | inr n ↦ keeps_so fault at next next.seen.waits next.seen.moves (one.duly.kept kept w n).2 (so fault same)
+          | inr n ↦ keeps_so fault at next next.seen.waits next.seen.moves (one.duly.kept kept w n).1 (so fault same)
         ]
 
 breaks_all : (at : Place) (steps : List Step) (outs : List Outcome) (last : Place) → Plays_from at steps outs last → BreaksSo at → BreaksSo last
@@ -124,8 +125,8 @@ fault_breaks at step out next one fault e = by at.broken refl
     by (Some kept) w = elim (polled step) [
       | inl u ↦ let x = sym e ∙ ap (λ (z : Outcome). z.end) (one.duly.unpolled u).0 in absurd cc
       | inr n ↦ elim (one.duly.kept kept w n).0 [
-        | inl k ↦ let x = sym e ∙ k in let same : fault ≡ kept = cc in one.queued.broken ∙ ap (λ (z : Option ServerFault). broken_after z out.end) w ∙ ap (λ (z : ServerFault). Some z) (sym same)
-        | inr k ↦ let x = sym e ∙ k in absurd cc
+        | inl k ↦ let x = sym e ∙ ap (λ (z : Outcome). z.end) k in let same : fault ≡ kept = cc in one.queued.broken ∙ ap (λ (z : Option ServerFault). broken_after z out.end) w ∙ ap (λ (z : ServerFault). Some z) (sym same)
+        | inr k ↦ let x = sym e ∙ ap (λ (z : Outcome). z.end) k in absurd cc
       ]
     ]
 
@@ -203,41 +204,40 @@ where_lawful first last steps outs run w can groups whole plain sent read rest p
 -- ---- the numbers of all steps
 
 totals_none : (at : Place) → Totals at.seen.link at.seen.link []
-totals_none at = record { write_waits = 0; read_waits = 0; moves = 0; waits = omega arith; moved = omega arith; writes = omega arith; reads = omega arith; moving = omega arith }
+totals_none at = record {
+  write_waits = 0;
+  read_waits = 0;
+  moves = 0;
+  waits = (omega arith, omega arith);
+  moved = (omega arith, omega arith);
+  writes = omega arith;
+  reads = omega arith;
+  moving = omega arith;
+}
+
+-- numbers that count so many in sum
+counts_more : (n m k l sum : ℕ) → sum ≡ k + l → CountsTo n k → CountsTo m l → CountsTo (n + m) sum
+counts_more n m k l sum e g h = (omega (arith, e, g.0, h.0), omega (arith, e, g.1, h.1))
 
 totals_more : (at next last : Place) (step : Step) (out : Outcome) (outs : List Outcome) → Plays_step at step out next → Totals next.seen.link last.seen.link outs → Totals at.seen.link last.seen.link (out ∷ outs)
 totals_more at next last step out outs one t =
     let n = one.numbers in
     let waits : sum_by (λ o. o.waits) (out ∷ outs) ≡ out.waits + sum_by (λ o. o.waits) outs = sum_by-append (λ (o : Outcome). o.waits) (out ∷ []) outs ∙ omega arith in
     let moved : sum_by (λ o. o.moved) (out ∷ outs) ≡ out.moved + sum_by (λ o. o.moved) outs = sum_by-append (λ (o : Outcome). o.moved) (out ∷ []) outs ∙ omega arith in
+    let both : CountsTo ((n.write_waits + n.read_waits) + (t.write_waits + t.read_waits)) (sum_by (λ o. o.waits) (out ∷ outs)) = counts_more _ _ _ _ _ waits n.waits t.waits in
     record {
       write_waits = n.write_waits + t.write_waits;
       read_waits = n.read_waits + t.read_waits;
       moves = n.moves + t.moves;
-      waits = omega (arith, waits, n.waits.0, t.waits);
-      moved = omega (arith, moved, n.moved.0, t.moved);
-      writes = omega (arith, n.writes, t.writes);
-      reads = omega (arith, n.reads, t.reads);
-      moving = omega (arith, n.moving, t.moving);
+      waits = subst (λ (k : ℕ). CountsTo k (sum_by (λ o. o.waits) (out ∷ outs))) (omega arith) both;
+      moved = counts_more _ _ _ _ _ moved n.moved t.moved;
+      writes = GrewBy-then _ _ _ _ _ _ n.writes t.writes refl;
+      reads = GrewBy-then _ _ _ _ _ _ n.reads t.reads refl;
+      moving = GrewBy-then _ _ _ _ _ _ n.moving t.moving refl;
     }
 
-totals_all : (at : Place) (steps : List Step) (outs : List Outcome) (last : Place) → Plays_from at steps outs last → Totals at.seen.link last.seen.link outs
+pub totals_all : (at : Place) (steps : List Step) (outs : List Outcome) (last : Place) → Plays_from at steps outs last → Totals at.seen.link last.seen.link outs
 totals_all at [] [] last run = subst (λ (p : Place). Totals at.seen.link p.seen.link []) (sym run) (totals_none at)
 totals_all at [] (o ∷ outs) last run = absurd run
 totals_all at (s ∷ steps) [] last run = absurd run
 totals_all at (s ∷ steps) (o ∷ outs) last run = totals_more at run.0 last s o outs run.1 (totals_all run.0 steps outs last run.2)
-
--- from the link as start-up found it
-pub totals_from : (first : LinkSeen) (at : Place) (steps : List Step) (outs : List Outcome) (last : Place) → NoneFalls first at.seen.link → Plays_from at steps outs last → Totals first last.seen.link outs
-totals_from first at steps outs last n run =
-    let t = totals_all at steps outs last run in
-    record {
-      write_waits = t.write_waits;
-      read_waits = t.read_waits;
-      moves = t.moves;
-      waits = t.waits;
-      moved = t.moved;
-      writes = omega (arith, n.write_waits, t.writes);
-      reads = omega (arith, n.read_waits, t.reads);
-      moving = omega (arith, n.moved, t.moving);
-    }

@@ -26,7 +26,7 @@ use Rattle.pg_call.specs.Hearing.{fails_of}
 use Rattle.pg_call.specs.Calls.{CallEnds, owner_failed}
 use Rattle.pg_call.proofs.DrainLaws.{after_nil, before_nil}
 use Rattle.pg_conn.specs.Connections.{ConnSeen, idle}
-use Rattle.pg_conn.specs.Turns.{FailsBy}
+use Rattle.pg_conn.specs.Turns.{FailsBy, ends_request}
 use Rattle.pg_report.specs.declared.outcome.Item.{Item}
 use Rattle.pg_report.specs.declared.outcome.End.{End}
 use Rattle.pg_report.specs.declared.outcome.End.TheVariants as ends
@@ -42,7 +42,7 @@ use Rattle.pg_startup.proofs.FlowLaws.{Flows-then}
 use Rattle.pg_play.proofs.PartLaws.{after_more, fails_count, fails_none}
 use Rattle.pg_play.proofs.StepLaws.{Summary, QueuedOwn, leaves_summary, fine_summary, no_close}
 use Rattle.pg_wire.proofs.Each.{each_join}
-use Rattle.pg_conn.proofs.TurnLaws.{spelled-append}
+use Rattle.pg_conn.proofs.TurnLaws.{spelled-append, counts-append, no_groups}
 
 -- ---- the summary of an end
 
@@ -213,6 +213,36 @@ between_next start at a own fs st =
     ∙ after_more (heard at.frames) (heard fs) (length (at.groups ++ own)) (a.ledger.owed + length own) (omega (arith, st.ledger, length-append at.groups own))
     (λ z. let n : length (at.groups ++ own) ≡ length at.groups = omega (arith, z, length-append at.groups own) in ap (λ (k : ℕ). after_readys k (heard at.frames)) n ∙ st.between (omega (arith, z)))
 
+-- ---- Query and Sync messages, one in each group
+
+requests_failed : (n : ℕ) → count_by ends_request (replicate n copy_fail) ≡ 0
+requests_failed zero = refl
+requests_failed (suc n) = omega (arith, counts-append (copy_fail ∷ []) (replicate n copy_fail), no_groups true, requests_failed n)
+
+requests_asked : (call : Call) → count_by ends_request (said_in (groups_of (request_of call))) ≡ length (groups_of (request_of call))
+requests_asked (calls.Execute query) = refl
+requests_asked (calls.ExecuteMany query) = refl
+requests_asked (calls.Fetch query) = refl
+requests_asked (calls.FetchMany query) = refl
+requests_asked (calls.FetchAll query) = refl
+requests_asked (calls.FetchOptional query) = refl
+requests_asked (calls.FetchOne query) = refl
+requests_asked calls.Ping = refl
+requests_asked calls.Flush = refl
+
+requests_own : (p : ℕ) (call : Call) (own : List Group) (hs : List Frame) → (own ≡ []) ⊎ QueuedOwn p (request_of call) own hs → count_by ends_request (said_in own) ≡ length own
+requests_own p call own hs (inl e) = rw e refl
+requests_own p call own hs (inr q) = rw q.own_is (requests_asked call)
+
+requests_next : (start : StreamSeen) (at : Place) (a : ConnSeen) (call : Call) (said : List FrontendMessage) (hs : List Frame) (items : List CallItem) (ledger : Ledger) (end : End) → StandsAt start at a → (s : Summary a.ledger (request_of call) said hs items ledger (refuses_copy end))
+    → count_by ends_request (at.said ++ said) ≡ length (at.groups ++ s.own)
+requests_next start at a call said hs items ledger end st s =
+    let fails : List FrontendMessage = replicate (unfed at.is_copy_failed (drained at hs)) copy_fail in
+    let all = ap (λ (m : List FrontendMessage). count_by ends_request m) (said_is_queued start at a (request_of call) said hs items ledger end st s) in
+    let parts = counts-append (fails ++ said_in s.own) (fails_of (refuses_copy end)) in
+    let front = counts-append fails (said_in s.own) in
+    omega (arith, counts-append at.said said, st.requests, length-append at.groups s.own, all, parts, front, requests_failed (unfed at.is_copy_failed (drained at hs)), requests_own a.ledger.owed call s.own hs s.queued, no_groups (refuses_copy end))
+
 -- the numbers of the last call are no matter
 pub flows_from : (start s t : StreamSeen) (q : List ℕ) (fs : List Frame) → s ≡ t → Flows start s q fs → Flows start t q fs
 flows_from start s t q fs e f = subst (λ (x : StreamSeen). Flows start x q fs) e f
@@ -231,4 +261,5 @@ stands_next start at a b call said fs items end st s flows broken idle never = r
   are_groups = each_join IsGroup at.groups s.own st.are_groups (own_groups a.ledger.owed call s.own (heard fs) s.queued);
   between = λ z. between_next start at a s.own fs st ∙ s.rests z;
   plain = plain_next start at a (request_of call) said fs items b.ledger end st s never;
+  requests = requests_next start at a call said (heard fs) items b.ledger end st s;
 }

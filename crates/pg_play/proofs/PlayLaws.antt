@@ -1,9 +1,11 @@
 -- A step, steps one after another, and the bytes of a link that tells them.
-use Rattle.std.proofs.Common.{◌≡◌, ◌≢◌, ℕ, zero, suc, ◌^◌, ◌≤◌, ◌<◌, Bool, true, false, ◌&&◌, cond, ◌⊎◌, inl, inr, List, [], ◌∷◌, ◌++◌, length, map, replicate, refl, sym, ap, ◌∙◌, subst, arith, append_assoc, append-nil, Option, Some, None}
+use Rattle.std.proofs.Common.{◌≡◌, ◌≢◌, ℕ, zero, suc, ◌+◌, ◌*◌, ◌^◌, ◌≤◌, ◌<◌, Bool, true, false, ◌&&◌, cond, ◌⊎◌, inl, inr, List, [], ◌∷◌, ◌++◌, length, map, replicate, refl, sym, ap, ◌∙◌, subst, arith, append_assoc, append-nil, Option, Some, None}
 use Rattle.std.specs.List.{count_by, AllByRecursion}
 use Rattle.std.specs.Io.KnownBytes.{Appends}
-use Rattle.std.proofs.lemmas.List.{length-map}
+use Rattle.std.proofs.lemmas.List.{length-map, nil_from_length}
 use Rattle.pg_wire.specs.declared.error.Error.TheVariants as errors
+use Rattle.pg_wire.specs.declared.error.Error.{Error}
+use Rattle.pg_wire.specs.declared.error.ProtocolFault.TheVariants as protocol
 use Rattle.pg_wire.specs.declared.error.ServerFault.{ServerFault}
 use Rattle.pg_wire.specs.declared.error.ServerFault.TheVariants as faults
 use Rattle.pg_wire.specs.Frame.{Frame, text_of, backend_tags}
@@ -13,42 +15,51 @@ use Rattle.pg_wire.specs.Groups.{IsGroup}
 use Rattle.pg_wire.specs.Server.{MayHear}
 use Rattle.pg_wire.proofs.PartLaws.{heard-append}
 use Rattle.pg_wire.proofs.CutLaws.{frame_unique, cut_after_taken}
-use Rattle.pg_stream.specs.Links.{LinkSeen, NoneFalls}
-use Rattle.pg_stream.specs.Streams.{StreamSeen, GrewBy}
-use Rattle.pg_stream.proofs.Known.{Appends-then, NoneFalls-refl, NoneFalls-then}
+use Rattle.pg_stream.specs.Links.{LinkSeen, NoneFalls, GrewBy}
+use Rattle.pg_stream.specs.Streams.{StreamSeen, Sends}
+use Rattle.pg_stream.proofs.Known.{Appends-then, Appends-refl, NoneFalls-refl, NoneFalls-then}
 use Rattle.pg_stream.specs.declared.link.TlsWish.{TlsWish}
 use Rattle.pg_startup.specs.Handshake.{ReadyOf, IsSecured, HasBegun}
 use Rattle.pg_startup.specs.Exchange.{proofs_text}
 use Rattle.pg_startup.specs.Establishing.{EstablishSeen}
+use Rattle.pg_request.specs.Queries.{QueryText}
+use Rattle.pg_request.specs.declared.progress.CacheStep.TheVariants as cache
 use Rattle.pg_call.specs.declared.request.Request.{Request}
+use Rattle.pg_call.specs.declared.request.Request.TheVariants as requests
+use Rattle.pg_call.specs.declared.ledger.Ledger.{Ledger}
 use Rattle.pg_call.specs.declared.answer.CallItem.{CallItem}
-use Rattle.pg_call.specs.Requests.{Group, said_in, spelled, groups_of, copy_fail}
+use Rattle.pg_call.specs.Requests.{Group, said_in, spelled, groups_of, copy_fail, query_of, CanBeSaid, IsRefusal, RefusesQuery}
 use Rattle.pg_call.specs.Items.{items_of}
 use Rattle.pg_call.specs.Drains.{after_readys}
+use Rattle.pg_call.proofs.DrainLaws.{before_nil}
 use Rattle.pg_conn.specs.Connections.{ConnSeen, idle, started_call}
+use Rattle.pg_conn.specs.Turns.{ends_request, is_flushed}
 use Rattle.pg_report.specs.declared.outcome.Item.{Item}
+use Rattle.pg_report.specs.declared.outcome.Answer.TheVariants.{Unit as AnswersUnit}
 use Rattle.pg_report.specs.declared.outcome.End.{End}
 use Rattle.pg_report.specs.declared.outcome.End.TheVariants as ends
 use Rattle.pg_report.specs.declared.outcome.Outcome.{Outcome}
 use Rattle.pg_report.specs.declared.outcome.Started.{Started}
+use Rattle.pg_script.specs.declared.step.Call.{Call}
+use Rattle.pg_script.specs.declared.step.Call.TheVariants as calls
 use Rattle.pg_script.specs.declared.step.Step.{Step}
 use Rattle.pg_play.specs.declared.tally.Limits.{Limits}
-use Rattle.pg_play.specs.Shown.{request_of, shown_by, waits_to_show, item_of}
-use Rattle.pg_play.specs.Calls.{HasWaitedFew, WaitsFew, EndsOn, Ended, PlaysCall, PlaysStep, IsUnpolled, limits_of, untouched, broken_after}
-use Rattle.pg_play.specs.Places.{Place, owed, drained, unfed, queued_by, main_frames, refuses_copy, Queues, first_place}
+use Rattle.pg_play.specs.Shown.{request_of, has_query, shown_by, waits_to_show, item_of}
+use Rattle.pg_play.specs.Calls.{WaitsFew, StaysIdle, EndsOn, Ended, PlaysCall, PlaysStep, IsUnpolled, limits_of, untouched, outcome_of, broken_after}
+use Rattle.pg_play.specs.Places.{Place, ended, owed, drained, unfed, queued_by, main_frames, refuses_copy, Queues, first_place}
 use Rattle.pg_play.specs.Told.{Numbers, CountsTo, WellAtOk}
-use Rattle.pg_play.specs.Causes.{IsFront, IsUnlawful, HasCause, EndsDuly}
+use Rattle.pg_play.specs.Causes.{IsFront, IsUnlawful, AnsweredPending, HasCause, StaysAt, EndsDuly}
 use Rattle.pg_play.specs.WaitPlaces.{LastPlaces}
 use Rattle.pg_play.specs.Plays.{IsNeverUnlawful, Plays_step, Plays_from, places_in, TakesInTime, StandsAt, PlaysOn, TellsBytes, Plays, Totals}
 use Rattle.pg_play.specs.Starts.{Opening, IsOf, HasOpened}
 use Rattle.pg_startup.proofs.FlowLaws.{Flows-none}
 use Rattle.pg_play.proofs.PartLaws.{after_more, take_none}
-use Rattle.pg_play.proofs.StepLaws.{Summary}
-use Rattle.pg_play.proofs.PlaceLaws.{ends_summary, next_place, stands_next, never_copies, own_groups}
+use Rattle.pg_play.proofs.StepLaws.{Summary, QueuedOwn}
+use Rattle.pg_play.proofs.PlaceLaws.{ends_summary, said_is_queued, next_place, stands_next, never_copies, own_groups}
 use Rattle.pg_play.proofs.ToldLaws.{main_after, queued_one, queued_step, numbers_step, told_step}
-use Rattle.pg_play.proofs.CauseLaws.{cause_step}
+use Rattle.pg_play.proofs.CauseLaws.{pending_in, cause_step}
 use Rattle.pg_play.proofs.LawfulLaws.{lawful_begins}
-use Rattle.pg_play.proofs.LinkLaws.{where_lawful, totals_from}
+use Rattle.pg_play.proofs.LinkLaws.{where_lawful, totals_all}
 use Rattle.pg_play.proofs.CompleteLaws.{where_faultless}
 use Rattle.pg_play.proofs.WaitPlaceLaws.{places_step, places_quiet, places_last, given_next, takes_all}
 use Rattle.pg_play.proofs.ShownLaws.{no_items_come}
@@ -108,12 +119,24 @@ and_true : (b : Bool) → b && true ≡ b
 and_true true = refl
 and_true false = refl
 
+-- a step that queues and takes nothing
+still_place : (at : Place) (b : ConnSeen) (said : List FrontendMessage) (own : List Group) (fs : List Frame) (end : End) (seen : StreamSeen) → b.stream ≡ seen → said ≡ [] → own ≡ [] → fs ≡ [] → broken_after at.broken end ≡ at.broken → next_place at b said own fs end ≡ record at { seen = seen }
+still_place at b said own fs end seen x s o f k =
+    rw (o, f, s) (same_place at b.stream (at.said ++ []) (at.groups ++ []) (at.frames ++ []) (at.is_copy_failed && true) (broken_after at.broken end) seen x (append-nil at.said) (append-nil at.groups) (append-nil at.frames) (and_true at.is_copy_failed) k)
+
+same_outcome : (items : List Item) (end end' : End) (groups heard waits moved : ℕ) → items ≡ [] → end ≡ end' → groups ≡ 0 → heard ≡ 0 → waits ≡ 0 → moved ≡ 0
+    → record { items = items; end = end; groups = groups; heard = heard; cache = cache.Same; waits = waits; moved = moved } ≡ untouched end'
+same_outcome items end end' groups heard waits moved a b c d e f = rw (a, b, c, d, e, f) refl
+
+-- the numbers of a call that did nothing
+untouched_by : (b : ConnSeen) (out : Outcome) (end : End) → out ≡ outcome_of b out.items out.end → out.items ≡ [] → out.end ≡ end → (b.groups ≡ 0) × (b.heard ≡ 0) × (b.stream.waits ≡ 0) × (b.stream.moves ≡ 0) → out ≡ untouched end
+untouched_by b out end k i e n = k ∙ same_outcome out.items out.end end b.groups b.heard b.stream.waits b.stream.moves i e n.0 n.1 n.2 n.3
+
 -- what a step on a broken connection leaves
 kept_place : (start : StreamSeen) (at : Place) (a b : ConnSeen) (step : Step) (said : List FrontendMessage) (own : List Group) (fs : List Frame) (end : End) (fault : ServerFault) → StandsAt start at a → at.broken ≡ Some fault → said ≡ [] → own ≡ [] → fs ≡ [] → idle b ≡ idle (started_call (request_of step.call) a)
     → next_place at b said own fs end ≡ record at { seen = record at.seen { waits = b.stream.waits; moves = b.stream.moves } }
 kept_place start at a b step said own fs end fault st w s o f i =
-    rw (o, f, s) (same_place at b.stream (at.said ++ []) (at.groups ++ []) (at.frames ++ []) (at.is_copy_failed && true) (broken_after at.broken end) (record at.seen { waits = b.stream.waits; moves = b.stream.moves })
-    seen (append-nil at.said) (append-nil at.groups) (append-nil at.frames) (and_true at.is_copy_failed) (still at.broken w))
+    still_place at b said own fs end (record at.seen { waits = b.stream.waits; moves = b.stream.moves }) seen s o f (still at.broken w)
   where
     stream : b.stream ≡ record a.stream { waits = 0; moves = 0 }
     stream = ap (λ (c : ConnSeen). c.stream) i
@@ -125,12 +148,8 @@ kept_place start at a b step said own fs end fault st w s o f i =
     still None e = absurd cc
     still (Some g) e = refl
 
-no_group : (gs : List Group) → length gs ≡ 0 → gs ≡ []
-no_group [] k = refl
-no_group (g ∷ gs) k = absurd (omega (arith, k))
-
 kept_own : (a b : ConnSeen) (r : Request) (said : List FrontendMessage) (hs : List Frame) (items : List CallItem) (copied : Bool) → (s : Summary a.ledger r said hs items b.ledger copied) → hs ≡ [] → b.ledger.owed ≡ a.ledger.owed → s.own ≡ []
-kept_own a b r said hs items copied s e o = no_group s.own (omega (arith, s.counted, o, ap (λ (x : List Frame). count_by is_ready x) e))
+kept_own a b r said hs items copied s e o = nil_from_length s.own (omega (arith, s.counted, o, ap (λ (x : List Frame). count_by is_ready x) e))
 
 some_of : (n : ℕ) → (n ≡ 0 → ⊥) → 0 < n
 some_of zero none = absurd (none refl)
@@ -139,26 +158,104 @@ some_of (suc n) none = omega arith
 polled_most : (step : Step) → (IsUnpolled step → ⊥) → 0 < step.most
 polled_most step n = some_of step.most (λ e. n (inr e))
 
--- an outcome counts the waits of the stream
-few_step : (a b : ConnSeen) (r : Request) (polls : ℕ) (out : Outcome) → out.waits ≡ b.stream.waits → HasWaitedFew polls (started_call r a).stream b.stream out.end → WaitsFew polls out.waits out.end
-few_step a b r polls out k few =
-    let waits : b.stream.waits ≤ few.0 = omega (arith, few.1) in
-    (λ d. let l = few.2.0 d in omega (arith, k, waits, l), omega (arith, k, waits, few.2.1))
+-- ---- a request that no frame can say
 
-duly_step : (start : StreamSeen) (at : Place) (a b : ConnSeen) (step : Step) (out : Outcome) (said : List FrontendMessage) (fs : List Frame) (items : List CallItem) → StandsAt start at a → (IsUnpolled step → ⊥) → Ended (limits_of step) (started_call (request_of step.call) a) b (request_of step.call) out.items out.end said fs
-    → (s : Summary a.ledger (request_of step.call) said (heard fs) items b.ledger (refuses_copy out.end)) → out.waits ≡ b.stream.waits → EndsDuly at step out (next_place at b said s.own fs out.end)
-duly_step start at a b step out said fs items st n e s k = record {
+-- a refusal is no copy, and no fault of the server
+refusal_is_plain : (query : Option QueryText) (e : Error) → RefusesQuery query e → (refuses_copy (ends.Err e) ≡ false) × (broken_after None (ends.Err e) ≡ None)
+refusal_is_plain None e h = rw h (refl, refl)
+refusal_is_plain (Some query) errors.OutOfMemory h = (refl, refl)
+refusal_is_plain (Some query) (errors.Protocol (protocol.Caller fault)) h = (refl, refl)
+refusal_is_plain (Some query) _ h = absurd h
+
+memory_refuses : (query : Option QueryText) → RefusesQuery query errors.OutOfMemory
+memory_refuses None = refl
+memory_refuses (Some query) = tt
+
+unsaid_own : (start ledger : Ledger) (r : Request) (said : List FrontendMessage) (hs : List Frame) (items : List CallItem) (copied : Bool) → (CanBeSaid r → ⊥) → (s : Summary start r said hs items ledger copied) → s.own ≡ []
+unsaid_own start ledger r said hs items copied u s = elim s.queued [
+  | inl e ↦ e
+  | inr q ↦ absurd (u q.can)
+]
+
+none_said : (start ledger : Ledger) (r : Request) (said : List FrontendMessage) (hs : List Frame) (items : List CallItem) (copied : Bool) → hs ≡ [] → copied ≡ false → (s : Summary start r said hs items ledger copied) → s.own ≡ [] → said ≡ []
+none_said start ledger r said hs items copied h c s o = rw (o, h, c, before_nil start.owed) at s.said_is
+
+-- a first poll that did nothing leaves the stream as it was
+idle_seen : (start : StreamSeen) (r : Request) (at : Place) (a b : ConnSeen) (fs : List Frame) (shown : List Item) → StandsAt start at a → StaysIdle (started_call r a) b fs shown → b.stream ≡ record at.seen { left = b.stream.left; waits = b.stream.waits; moves = b.stream.moves }
+idle_seen start r at a b fs shown st (none, taken, same) =
+    let stream : b.stream ≡ record a.stream { left = 256; waits = 0; moves = 0 } = ap (λ (c : ConnSeen). c.stream) same in
+    rw (stream, st.seen) refl
+
+idle_outcome : (r : Request) (a b : ConnSeen) (out : Outcome) (end : End) (fs : List Frame) → out ≡ outcome_of b out.items out.end → out.end ≡ end → StaysIdle (started_call r a) b fs out.items → out ≡ untouched end
+idle_outcome r a b out end fs k e (none, taken, same) = untouched_by b out end k none e (ap (λ (c : ConnSeen). c.groups) same, ap (λ (c : ConnSeen). c.heard) same, ap (λ (c : ConnSeen). c.stream.waits) same, ap (λ (c : ConnSeen). c.stream.moves) same)
+
+refused_step : (start : StreamSeen) (at : Place) (a b : ConnSeen) (step : Step) (out : Outcome) (said : List FrontendMessage) (fs : List Frame) (items : List CallItem) → StandsAt start at a → at.broken ≡ None → (CanBeSaid (request_of step.call) → ⊥) → out ≡ outcome_of b out.items out.end
+    → ((e : Error) × IsRefusal (request_of step.call) e × (out.end ≡ ends.Err e) × StaysIdle (started_call (request_of step.call) a) b fs out.items) → (s : Summary a.ledger (request_of step.call) said (heard fs) items b.ledger (refuses_copy out.end))
+    → (e : Error) × IsRefusal (request_of step.call) e × (out ≡ untouched (ends.Err e)) × StaysAt at (next_place at b said s.own fs out.end)
+refused_step start at a b step out said fs items st w u k (e, refuses, ended, (none, taken, same)) s = (
+  e,
+  refuses,
+  idle_outcome (request_of step.call) a b out (ends.Err e) fs k ended (none, taken, same),
+  still_place at b said s.own fs out.end (record at.seen { left = b.stream.left; waits = b.stream.waits; moves = b.stream.moves }) (idle_seen start (request_of step.call) at a b fs out.items st (none, taken, same))
+      (none_said a.ledger b.ledger (request_of step.call) said (heard fs) items (refuses_copy out.end) (ap heard taken) (ap refuses_copy ended ∙ plain.0) s own) own taken
+      (ap (λ (o : Option ServerFault). broken_after o out.end) w ∙ ap (broken_after None) ended ∙ plain.1 ∙ sym w),
+)
+  where
+    own : s.own ≡ []
+    own = unsaid_own a.ledger b.ledger (request_of step.call) said (heard fs) items (refuses_copy out.end) u s
+
+    plain : (refuses_copy (ends.Err e) ≡ false) × (broken_after None (ends.Err e) ≡ None)
+    plain = refusal_is_plain (query_of (request_of step.call)) e refuses
+
+-- ---- a flush with nothing to do
+
+nothing_unsent : (a : ConnSeen) → a.ledger.owed ≡ 0 → a.stream.unsent ≡ [] → is_flushed (started_call requests.Flush a) ≡ true
+nothing_unsent a o u = rw (o, u) refl
+
+flush_at : (start : StreamSeen) (at : Place) (a : ConnSeen) (step : Step) → StandsAt start at a → step.call ≡ calls.Flush → owed at ≡ 0 → at.seen.unsent ≡ [] → is_flushed (started_call (request_of step.call) a) ≡ true
+flush_at start at a step st c o u = ap (λ (x : Call). is_flushed (started_call (request_of x) a)) c ∙ nothing_unsent a (omega (arith, o, st.ledger)) (ap (λ (x : StreamSeen). x.unsent) st.seen ∙ u)
+
+flush_own : (p : ℕ) (r : Request) (own : List Group) (hs : List Frame) → r ≡ requests.Flush → (own ≡ []) ⊎ QueuedOwn p r own hs → own ≡ []
+flush_own p r own hs e (inl n) = n
+flush_own p r own hs e (inr q) = absurd (omega (arith, q.one, ap (λ (g : List Group). length g) q.own_is, ap (λ (x : Request). length (groups_of x)) e))
+
+flushed_step : (start : StreamSeen) (at : Place) (a b : ConnSeen) (step : Step) (out : Outcome) (said : List FrontendMessage) (fs : List Frame) (items : List CallItem) → StandsAt start at a → step.call ≡ calls.Flush → out ≡ outcome_of b out.items out.end
+    → (out.end ≡ ends.Ok AnswersUnit) × StaysIdle (started_call (request_of step.call) a) b fs out.items → (s : Summary a.ledger (request_of step.call) said (heard fs) items b.ledger (refuses_copy out.end))
+    → (out ≡ untouched (ends.Ok AnswersUnit)) × StaysAt at (next_place at b said s.own fs out.end)
+flushed_step start at a b step out said fs items st c k (ended, (none, taken, same)) s =
+    let own : s.own ≡ [] = flush_own a.ledger.owed (request_of step.call) s.own (heard fs) (ap request_of c) s.queued in (
+      idle_outcome (request_of step.call) a b out (ends.Ok AnswersUnit) fs k ended (none, taken, same),
+      still_place at b said s.own fs out.end (record at.seen { left = b.stream.left; waits = b.stream.waits; moves = b.stream.moves }) (idle_seen start (request_of step.call) at a b fs out.items st (none, taken, same))
+          (none_said a.ledger b.ledger (request_of step.call) said (heard fs) items (refuses_copy out.end) (ap heard taken) (ap refuses_copy ended) s own) own taken
+          (ap (broken_after at.broken) ended ∙ ok_breaks_none at.broken),
+    )
+  where
+    ok_breaks_none : (o : Option ServerFault) → broken_after o (ends.Ok AnswersUnit) ≡ o
+    ok_breaks_none None = refl
+    ok_breaks_none (Some fault) = refl
+
+duly_step : (start : StreamSeen) (at : Place) (a b : ConnSeen) (step : Step) (out : Outcome) (said : List FrontendMessage) (fs : List Frame) (items : List CallItem) → StandsAt start at a → (IsUnpolled step → ⊥) → step.polls < 2 ^ 32
+    → Ended (limits_of step) (started_call (request_of step.call) a) b (request_of step.call) out.items out.end said fs → (s : Summary a.ledger (request_of step.call) said (heard fs) items b.ledger (refuses_copy out.end)) → out ≡ outcome_of b out.items out.end → EndsDuly at step out (next_place at b said s.own fs out.end)
+duly_step start at a b step out said fs items st n p e s k = record {
   unpolled = λ u. absurd (n u);
   kept = λ fault w m.
       let broken : a.broken ≡ Some fault = st.broken ∙ w in
-      let k = subst (λ (o : Option ServerFault). EndsOn o (limits_of step) (started_call (request_of step.call) a) b (request_of step.call) said (heard fs) out.items out.end) broken e.ends in
-      let own = kept_own a b (request_of step.call) said (heard fs) items (refuses_copy out.end) s k.2 (ap (λ (c : ConnSeen). c.ledger.owed) k.4) in
-      (inl k.0, k.3, kept_place start at a b step said s.own fs out.end fault st w k.1 own (e.kept fault broken) k.4);
-  few = few_step a b (request_of step.call) step.polls out k e.few;
+      let h = subst (λ (o : Option ServerFault). EndsOn o (limits_of step) (started_call (request_of step.call) a) b (request_of step.call) said (heard fs) out.items out.end) broken e.ends in
+      let own = kept_own a b (request_of step.call) said (heard fs) items (refuses_copy out.end) s h.2 (ap (λ (c : ConnSeen). c.ledger.owed) h.4) in (
+        inl (untouched_by b out (ends.Err (errors.Protocol (protocol.Server fault))) k h.3 h.0 (ap (λ (c : ConnSeen). c.groups) h.4, ap (λ (c : ConnSeen). c.heard) h.4, ap (λ (c : ConnSeen). c.stream.waits) h.4, ap (λ (c : ConnSeen). c.stream.moves) h.4)),
+        kept_place start at a b step said s.own fs out.end fault st w h.1 own (e.kept fault broken) h.4,
+      );
+  refused = λ w m u. refused_step start at a b step out said fs items st w u k ((e.at_once (st.broken ∙ w)).refused u) s;
+  flushed = λ w m c o u. flushed_step start at a b step out said fs items st c k ((e.at_once (st.broken ∙ w)).flushed (flush_at start at a step st c o u)) s;
+  few = (e.few.0, subst (λ (x : Outcome). AnsweredPending x e.few.0) (sym k) (pending_in a b (request_of step.call) e.few.0 out.items out.end (omega (arith, p, e.few.2.1)) e.few.1), e.few.2);
   most = λ w. most_by a.broken (limits_of step) (started_call (request_of step.call) a) b step said (heard fs) out.items out.end w (polled_most step n) e.ends;
 }
 
 -- ---- one step
+
+-- replies are owed for the Query and Sync messages that have had none
+owes_requests : (start : StreamSeen) (at : Place) (c : ConnSeen) → StandsAt start at c → ended at + owed at ≡ count_by ends_request at.said
+owes_requests start at c st = omega (arith, st.ledger, st.requests)
 
 polled_step : (start : StreamSeen) (at : Place) (a b : ConnSeen) (step : Step) (out : Outcome) → StandsAt start at a → (IsUnpolled step → ⊥) → step.polls < 2 ^ 32 → PlaysCall (limits_of step) (started_call (request_of step.call) a) b (request_of step.call) out
     → (next : Place) × Plays_step at step out next × StandsAt start next b
@@ -171,22 +268,27 @@ polled_step start at a b step out st n p h =
     let s = found.1 in
     let at_place = subst (λ (o : Option ServerFault). EndsOn o (limits_of step) begun b (request_of step.call) said (heard fs) out.items out.end) st.broken e.ends in
     let cause = subst (λ (x : Outcome). HasCause at step x s.own (heard fs) (next_place at b said s.own fs out.end) out.end) (sym h.1) (cause_step at.broken start at a b step said fs out.items out.end found.0 st refl p at_place s) in
-    let went = e.went in (
+    let went = e.went in
+    let stands = stands_next start at a b step.call said fs found.0 out.end st s (record { counts = went.flows.counts; secured = went.flows.secured; sent = went.flows.sent; read = went.flows.read }) e.broken (sym (ap (λ (c : ConnSeen). c.call) h.2))
+    (never_copies a.broken (limits_of step) begun b (request_of step.call) said (heard fs) out.items out.end e.ends) in (
       next_place at b said s.own fs out.end,
       record {
         own = s.own;
         slice = heard fs;
         queued = queued_step a.broken (limits_of step) start at a b step out said fs out.items found.0 st e.ends s;
+        sends = subst (λ (x : StreamSeen). Sends x b.stream (spelled (queued_by at s.own (heard fs) out.end))) st.seen
+            (subst (λ (m : List FrontendMessage). Sends a.stream b.stream (spelled m)) (said_is_queued start at a (request_of step.call) said (heard fs) found.0 b.ledger out.end st s) went.flows.sent);
         told = told_step a.broken (limits_of step) start at a b step out said fs found.0 st e.ends s found.2;
         numbers = subst (λ (x : Outcome). Numbers at x s.own (heard fs) (next_place at b said s.own fs out.end)) (sym h.1) (numbers_step start at a b step.call said fs out.items out.end found.0 st went s);
         waits = places_step start at a b (request_of step.call) step.polls out said s.own fs st p (ap (λ (x : Outcome). x.waits) h.1) e.few went.waits;
         counts = subst (λ (x : StreamSeen). NoneFalls x.link b.stream.link) st.seen went.flows.counts;
+        calls = subst (λ (x : StreamSeen). b.stream.link.calls ≤ x.link.calls + 256 * (step.polls + step.most)) st.seen e.calls;
         cause = cause;
-        duly = duly_step start at a b step out said fs found.0 st n e s (ap (λ (x : Outcome). x.waits) h.1);
+        duly = duly_step start at a b step out said fs found.0 st n p e s h.1;
         lawful = never_unlawful start at a b step out said fs found.0 (refuses_copy out.end) st s cause;
+        ledger = owes_requests start (next_place at b said s.own fs out.end) b stands;
       },
-      stands_next start at a b step.call said fs found.0 out.end st s (record { counts = went.flows.counts; secured = went.flows.secured; sent = went.flows.sent; read = went.flows.read }) e.broken (sym (ap (λ (c : ConnSeen). c.call) h.2))
-          (never_copies a.broken (limits_of step) begun b (request_of step.call) said (heard fs) out.items out.end e.ends),
+      stands,
     )
 
 -- a step that does nothing, and is no failure of the server
@@ -242,8 +344,8 @@ quiet_numbers at end = record {
   moving = omega arith;
 }
 
-quiet_step : (at : Place) (step : Step) (out : Outcome) (end : End) → out ≡ untouched end → IsQuiet end → HasCause at step out [] [] at end → EndsDuly at step out at → Plays_step at step out at
-quiet_step at step out end k q c d =
+quiet_step : (at : Place) (step : Step) (out : Outcome) (end : End) → ended at + owed at ≡ count_by ends_request at.said → out ≡ untouched end → IsQuiet end → HasCause at step out [] [] at end → EndsDuly at step out at → Plays_step at step out at
+quiet_step at step out end o k q c d =
     let ends_so : out.end ≡ end = ap (λ (x : Outcome). x.end) k in
     let shows_none : out.items ≡ [] = ap (λ (x : Outcome). x.items) k in
     let quiet : IsQuiet out.end = subst IsQuiet (sym ends_so) q in
@@ -260,6 +362,7 @@ quiet_step at step out end k q c d =
         broken = sym (quiet_breaks at.broken out.end quiet);
         in_turn = λ n. absurd (n refl);
       };
+      sends = ([], Appends-refl at.seen.link.taken, ap (λ (m : List FrontendMessage). at.seen.unsent ++ spelled m) (quiet_said at out.end quiet) ∙ append-nil at.seen.unsent);
       told = record {
         response = [];
         says = (refl, tt);
@@ -271,36 +374,42 @@ quiet_step at step out end k q c d =
       numbers = subst (λ (x : Outcome). Numbers at x [] [] at) (sym k) (quiet_numbers at end);
       waits = places_quiet at out (ap (λ (x : Outcome). x.waits) k);
       counts = NoneFalls-refl at.seen.link;
+      calls = omega arith;
       cause = subst (λ (z : End). HasCause at step out [] [] at z) (sym ends_so) c;
       duly = d;
       lawful = quiet_lawful at out quiet;
+      ledger = o;
     }
 
 quiet_most : (step : Step) (out : Outcome) (end : End) → out ≡ untouched end → (out.end ≢ ends.Dropped → 0 < step.most) → WithinMost out.end out.items step.most
 quiet_most step out end k m = let z : length out.items ≡ 0 = ap (λ (x : Outcome). length x.items) k in (λ n. omega (arith, z, m n), omega (arith, z))
 
-quiet_few : (step : Step) (out : Outcome) (end : End) → out ≡ untouched end → (out.end ≢ ends.Dropped → 0 < step.polls) → WaitsFew step.polls out.waits out.end
-quiet_few step out end k m = let z : out.waits ≡ 0 = ap (λ (x : Outcome). x.waits) k in (λ n. omega (arith, z, m n), omega (arith, z))
+quiet_few : (step : Step) (out : Outcome) (end : End) → out ≡ untouched end → (out.end ≢ ends.Dropped → 0 < step.polls) → (pending : ℕ) × AnsweredPending out pending × WaitsFew step.polls pending out.end
+quiet_few step out end k m = let z : out.waits ≡ 0 = ap (λ (x : Outcome). x.waits) k in (0, (0, omega (arith, z), omega arith), (m, omega arith))
 
-unpolled_step : (at : Place) (step : Step) (out : Outcome) → IsUnpolled step → out ≡ untouched ends.Dropped → Plays_step at step out at
-unpolled_step at step out u k = quiet_step at step out ends.Dropped k (inl refl) (inl u) (record {
+unpolled_step : (at : Place) (step : Step) (out : Outcome) → ended at + owed at ≡ count_by ends_request at.said → IsUnpolled step → out ≡ untouched ends.Dropped → Plays_step at step out at
+unpolled_step at step out o u k = quiet_step at step out ends.Dropped o k (inl refl) (inl u) (record {
   unpolled = λ v. (k, refl);
   kept = λ fault w n. absurd (n u);
+  refused = λ w n. absurd (n u);
+  flushed = λ w n. absurd (n u);
   few = quiet_few step out ends.Dropped k (λ n. absurd (n (ap (λ (x : Outcome). x.end) k)));
   most = λ w. quiet_most step out ends.Dropped k (λ n. absurd (n (ap (λ (x : Outcome). x.end) k)));
 })
 
-unmade_step : (at : Place) (step : Step) (out : Outcome) → (IsUnpolled step → ⊥) → out ≡ untouched (ends.Err errors.OutOfMemory) → Plays_step at step out at
-unmade_step at step out n k = quiet_step at step out (ends.Err errors.OutOfMemory) k (inr refl) tt (record {
+unmade_step : (at : Place) (step : Step) (out : Outcome) → ended at + owed at ≡ count_by ends_request at.said → (IsUnpolled step → ⊥) → has_query step.call ≡ true → out ≡ untouched (ends.Err errors.OutOfMemory) → Plays_step at step out at
+unmade_step at step out o n h k = quiet_step at step out (ends.Err errors.OutOfMemory) o k (inr refl) tt (record {
   unpolled = λ u. absurd (n u);
-  kept = λ fault w m. (inr (ap (λ (x : Outcome). x.end) k), ap (λ (x : Outcome). x.items) k, refl);
+  kept = λ fault w m. (inr k, refl);
+  refused = λ w m u. (errors.OutOfMemory, memory_refuses (query_of (request_of step.call)), k, refl);
+  flushed = λ w m c. let x = sym h ∙ ap has_query c in absurd cc;
   few = quiet_few step out (ends.Err errors.OutOfMemory) k (λ z. some_of step.polls (λ e. n (inl e)));
   most = λ w. quiet_most step out (ends.Err errors.OutOfMemory) k (λ z. polled_most step n);
 })
 
 pub plays_step : (start : StreamSeen) (at : Place) (a b : ConnSeen) (step : Step) (out : Outcome) → StandsAt start at a → PlaysStep a b step out → (next : Place) × Plays_step at step out next × StandsAt start next b
-plays_step start at a b step out st (inl h) = (at, unpolled_step at step out h.0 h.2, subst (StandsAt start at) (sym h.1) st)
-plays_step start at a b step out st (inr (n, p, inl h)) = (at, unmade_step at step out n h.1, subst (StandsAt start at) (sym h.0) st)
+plays_step start at a b step out st (inl h) = (at, unpolled_step at step out (owes_requests start at a st) h.0 h.2, subst (StandsAt start at) (sym h.1) st)
+plays_step start at a b step out st (inr (n, p, inl h)) = (at, unmade_step at step out (owes_requests start at a st) n h.2 h.1, subst (StandsAt start at) (sym h.0) st)
 plays_step start at a b step out st (inr (n, p, inr h)) = polled_step start at a b step out st n p h
 
 -- ---- steps one after another
@@ -322,8 +431,8 @@ plays_none a start at st = (at, refl, st)
 
 -- ---- from the end of start-up on
 
-stands_first : (opening : Opening) (link : LinkSeen) (a : ConnSeen) → HasOpened opening link a → StandsAt a.stream (first_place a.stream) a
-stands_first opening link a g = rw g.fresh (record {
+stands_first : (opening : Opening) (polls : ℕ) (link : LinkSeen) (a : ConnSeen) → HasOpened opening polls link a → StandsAt a.stream (first_place a.stream) a
+stands_first opening polls link a g = rw g.fresh (record {
   flows = Flows-none g.ready.stream g.ready.stream refl refl refl refl;
   ledger = refl;
   failed = λ o. absurd (omega (arith, o));
@@ -334,6 +443,7 @@ stands_first opening link a g = rw g.fresh (record {
   are_groups = tt;
   between = λ z. refl;
   plain = λ h. refl;
+  requests = refl;
 })
 
 tells_new : (x y : Option (List ℕ)) (old new bytes : List ℕ) → x ≡ Some old → y ≡ Some new → Appends x y bytes → new ≡ old ++ bytes
@@ -376,7 +486,7 @@ tells_over opening link e ready b started at of g st s r =
       secured = subst (λ (x : Option TlsWish). IsSecured e.plan g.handshake.answered link.secured x) (sym st.flows.secured) g.secured;
       said_is = counts_to (length g.said) ready.sent started.sent g.sent_counted s;
       read_is = counts_to (length g.read) ready.read started.read g.read_counted r;
-      sent = λ old new x y. (g.taken ++ sent.0, tells_new link.taken b.stream.link.taken old new (g.taken ++ sent.0) x y (Appends-then link.taken ready.stream.link.taken b.stream.link.taken g.taken sent.0 g.took sent.1), (b.stream.unsent, sym gone));
+      sent = λ old new x y. (g.taken ++ sent.0, tells_new link.taken b.stream.link.taken old new (g.taken ++ sent.0) x y (Appends-then link.taken ready.stream.link.taken b.stream.link.taken g.taken sent.0 g.took sent.1), ap (λ (x : StreamSeen). (g.taken ++ sent.0) ++ x.unsent) (sym st.seen) ∙ sym gone);
       gave = λ old new x y. (
         text_of at.frames ++ b.stream.held,
         tells_new link.given b.stream.link.given old new (g.given ++ read.0) x y (Appends-then link.given ready.stream.link.given b.stream.link.given g.given read.0 g.gave read.1)
@@ -386,38 +496,39 @@ tells_over opening link e ready b started at of g st s r =
       );
     }
 
-tells_bytes : (opening : Opening) (link : LinkSeen) (a b : ConnSeen) (started : Started) (at : Place) → HasOpened opening link a → StandsAt a.stream at b → started.sent ≡ a.sent → started.read ≡ a.read → TellsBytes opening link b.stream.link started at
-tells_bytes opening link a b started at g st s r =
+tells_bytes : (opening : Opening) (polls : ℕ) (link : LinkSeen) (a b : ConnSeen) (started : Started) (at : Place) → HasOpened opening polls link a → StandsAt a.stream at b → started.sent ≡ a.sent → started.read ≡ a.read → TellsBytes opening link b.stream.link started at
+tells_bytes opening polls link a b started at g st s r =
     tells_over opening link g.e g.ready b started at g.of g.begun (subst (λ (x : StreamSeen). StandsAt x at b) (ap (λ (c : ConnSeen). c.stream) g.fresh) st) (s ∙ ap (λ (c : ConnSeen). c.sent) g.fresh) (r ∙ ap (λ (c : ConnSeen). c.read) g.fresh)
 
 -- what was given behind the handshake and before a wait
-in_time : (opening : Opening) (link : LinkSeen) (a : ConnSeen) (steps : List Step) (outs : List Outcome) (last : Place) (g : HasOpened opening link a) (run : Plays_from (first_place a.stream) steps outs last) (old new : List ℕ) → link.given ≡ Some old → last.seen.link.given ≡ Some new
+in_time : (opening : Opening) (polls : ℕ) (link : LinkSeen) (a : ConnSeen) (steps : List Step) (outs : List Outcome) (last : Place) (g : HasOpened opening polls link a) (run : Plays_from (first_place a.stream) steps outs last) (old new : List ℕ) → link.given ≡ Some old → last.seen.link.given ≡ Some new
     → TakesInTime (old ++ g.begun.read) new (first_place a.stream) steps outs last run
-in_time opening link a steps outs last g run old new x y =
+in_time opening polls link a steps outs last g run old new x y =
     let gave : Appends link.given a.stream.link.given g.begun.given = subst (λ (c : ConnSeen). Appends link.given c.stream.link.given g.begun.given) (sym g.fresh) g.begun.gave in
     let held : g.begun.given ≡ g.begun.read ++ a.stream.held = subst (λ (c : ConnSeen). g.begun.given ≡ g.begun.read ++ c.stream.held) (sym g.fresh) g.begun.held in
     let behind : old ++ g.begun.given ≡ (old ++ g.begun.read) ++ a.stream.held = ap (λ (z : List ℕ). old ++ z) held ∙ sym (append_assoc old g.begun.read a.stream.held) in
     takes_all (old ++ g.begun.read) (old ++ g.begun.given) new (first_place a.stream) steps outs last run (given_next link.given a.stream.link.given old g.begun.given x gave) behind y
 
-pub plays_begun : (opening : Opening) (link last : LinkSeen) (a b : ConnSeen) (started : Started) (steps : List Step) (outs : List Outcome) → HasOpened opening link a → PlaysOn a b steps outs → started.sent ≡ a.sent → started.read ≡ a.read → last ≡ b.stream.link → Plays opening link last started steps outs
+pub plays_begun : (opening : Opening) (polls : ℕ) (link last : LinkSeen) (a b : ConnSeen) (started : Started) (steps : List Step) (outs : List Outcome) → HasOpened opening polls link a → PlaysOn a b steps outs → started.sent ≡ a.sent → started.read ≡ a.read → last ≡ b.stream.link → Plays opening polls link last started steps outs
 unfolding tells_bytes tells_over
-plays_begun opening link last a b started steps outs g run s r l =
-    let p = run a.stream (first_place a.stream) (stands_first opening link a g) in
+plays_begun opening polls link last a b started steps outs g run s r l =
+    let p = run a.stream (first_place a.stream) (stands_first opening polls link a g) in
     let st = p.2 in
     rw l (record {
       begins = a.stream;
       begun = g.counts;
+      startup = g.waited;
       counts = NoneFalls-then link a.stream.link b.stream.link g.counts st.flows.counts;
       place = p.0;
       plays = p.1;
-      bytes = tells_bytes opening link a b started p.0 g st s r;
+      bytes = tells_bytes opening polls link a b started p.0 g st s r;
       can = st.sayable;
       groups = st.are_groups;
       at_link = sym (ap (λ (x : StreamSeen). x.link) st.seen);
-      totals = subst (λ (x : LinkSeen). Totals link x outs) (sym (ap (λ (x : StreamSeen). x.link) st.seen)) (totals_from link (first_place a.stream) steps outs p.0 g.counts p.1);
+      totals = subst (λ (x : LinkSeen). Totals a.stream.link x outs) (sym (ap (λ (x : StreamSeen). x.link) st.seen)) (totals_all (first_place a.stream) steps outs p.0 p.1);
       waits = subst (λ (x : LinkSeen). LastPlaces link x outs (places_in (first_place a.stream) steps outs p.0 p.1)) (sym (ap (λ (x : StreamSeen). x.link) st.seen))
           (places_last link (first_place a.stream) steps outs p.0 p.1 g.begun.given g.counts (subst (λ (c : ConnSeen). Appends link.given c.stream.link.given g.begun.given) (sym g.fresh) g.begun.gave));
-      in_time = λ old new x y. in_time opening link a steps outs p.0 g p.1 old new x (sym (ap (λ (s : StreamSeen). s.link.given) st.seen) ∙ y);
+      in_time = λ old new x y. in_time opening polls link a steps outs p.0 g p.1 old new x (sym (ap (λ (s : StreamSeen). s.link.given) st.seen) ∙ y);
       lawful = where_lawful (first_place a.stream) p.0 steps outs p.1 refl st.sayable st.are_groups st.flows.read.3 st.plain;
       complete = where_faultless link (first_place a.stream) p.0 steps outs p.1 g.counts refl st.sayable st.flows.read.3 st.plain;
       plain = st.plain;

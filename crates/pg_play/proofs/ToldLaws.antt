@@ -2,7 +2,7 @@
 use Rattle.std.proofs.Common.{◌≡◌, ℕ, zero, suc, ◌+◌, ◌-◌, ◌≤◌, Bool, true, false, cond, nat_le, ◌⊎◌, inl, inr, List, [], ◌∷◌, ◌++◌, length, map, refl, sym, ap, ◌∙◌, subst, arith, append_assoc, append-nil, replicate, Option, Some, None, Ok, Err, MatchBool}
 use Rattle.std.specs.List.{count_by}
 use Rattle.std.proofs.lemmas.Bool.{le-leb}
-use Rattle.std.proofs.lemmas.List.{length-append, map-append}
+use Rattle.std.proofs.lemmas.List.{length-append, map-append, nil_from_length}
 use Rattle.std.proofs.lemmas.List.Sums.{sum_by-append}
 use Rattle.pg_wire.specs.declared.error.Error.{Error}
 use Rattle.pg_wire.specs.declared.error.Error.TheVariants as errors
@@ -14,7 +14,8 @@ use Rattle.pg_wire.specs.Frontend.{FrontendMessage}
 use Rattle.pg_wire.specs.Backend.{BackendMessage, backend_frame}
 use Rattle.pg_wire.specs.Server.{IsPrefixOf}
 use Rattle.pg_wire.proofs.PartLaws.{heard-append}
-use Rattle.pg_stream.specs.Streams.{StreamSeen, GrewBy}
+use Rattle.pg_stream.specs.Links.{GrewBy}
+use Rattle.pg_stream.specs.Streams.{StreamSeen}
 use Rattle.pg_call.specs.declared.request.Request.{Request}
 use Rattle.pg_call.specs.declared.answer.CallItem.{CallItem}
 use Rattle.pg_call.specs.declared.answer.CallAnswer.{CallAnswer}
@@ -73,14 +74,10 @@ queued_one p r own hs (inr q) n = q
 
 -- ---- the request rule
 
-no_groups : (gs : List Group) → length gs ≡ 0 → gs ≡ []
-no_groups [] e = refl
-no_groups (g ∷ gs) e = absurd (omega (arith, e))
-
 -- a call that came to its end queued all
 pub fine_own : (start : Ledger) (r : Request) (said : List FrontendMessage) (hs : List Frame) (items items' : List CallItem) (ledger : Ledger) (copied : Bool) (s : Summary start r said hs items' ledger copied) → IsFine start r said hs items ledger → s.own ≡ groups_of r
 fine_own start r said hs items items' ledger copied s f = elim s.queued [
-  | inl e ↦ e ∙ sym (no_groups (groups_of r) (omega (arith, s.counted, f.counted, f.owes, ap (λ (g : List Group). length g) e)))
+  | inl e ↦ e ∙ sym (nil_from_length (groups_of r) (omega (arith, s.counted, f.counted, f.owes, ap (λ (g : List Group). length g) e)))
   | inr q ↦ q.own_is
 ]
 
@@ -209,8 +206,8 @@ fine_carries start at a call said hs items items' ledger copied st s f = elim s.
 
 well_by : (start : StreamSeen) (at : Place) (a b : ConnSeen) (step : Step) (out : Outcome) (said : List FrontendMessage) (fs : List Frame) (items items' : List CallItem) (answer : CallAnswer) (told : Answer) (response : List BackendMessage) (copied : Bool) → StandsAt start at a
     → (s : Summary a.ledger (request_of step.call) said (heard fs) items' b.ledger copied) → (f : IsFine a.ledger (request_of step.call) said (heard fs) items b.ledger) → answer_to (kind_of (request_of step.call)) (items_of f.reply) ≡ Ok answer
-    → out.items ≡ items_with (map item_of items) answer → told ≡ answer_of answer → items_of response ≡ items_of f.reply → IsWell step out told response (heard fs) (next_place at b said s.own fs out.end)
-well_by start at a b step out said fs items items' answer told response copied st s f e k t same =
+    → out.items ≡ items_with (map item_of items) answer → told ≡ answer_of answer → items_of response ≡ items_of f.reply → b.stream.unsent ≡ [] → IsWell step out told response (heard fs) (next_place at b said s.own fs out.end)
+well_by start at a b step out said fs items items' answer told response copied st s f e k t same sent =
     let xs = items_of f.reply in
     let items_same : items_in response ≡ map item_of xs = items_told response ∙ ap (map item_of) same in
     record {
@@ -220,6 +217,7 @@ well_by start at a b step out said fs items items' answer told response copied s
       no_error = no_error (heard fs) f.well;
       answered = omega (arith, st.ledger, s.counted, f.owes, ended_next at fs, length-append at.groups s.own);
       ready = f.ends;
+      sent = sent;
     }
 
 told_ok : (limits : Limits) (start : StreamSeen) (at : Place) (a b : ConnSeen) (step : Step) (out : Outcome) (said : List FrontendMessage) (fs : List Frame) (items' : List CallItem) (told : Answer) (copied : Bool) → StandsAt start at a → out.end ≡ ends.Ok told
@@ -227,7 +225,7 @@ told_ok : (limits : Limits) (start : StreamSeen) (at : Place) (a b : ConnSeen) (
 told_ok limits start at a b step out said fs items' told copied st e h s =
     let f = h.5.0 in
     let carried = fine_carries start at a step.call said (heard fs) h.0 items' b.ledger copied st s f in
-    let well = well_by start at a b step out said fs h.0 items' h.1 told carried.0 copied st s f h.5.1 h.2 h.4 carried.2 in
+    let well = well_by start at a b step out said fs h.0 items' h.1 told carried.0 copied st s f h.5.1 h.2 h.4 carried.2 h.6 in
     record {
       response = carried.0;
       says = carried.1;

@@ -1,5 +1,5 @@
 -- How the program ends.
-use Rattle.std.proofs.Common.{◌≡◌, ◌+◌, ◌<◌, ◌≤◌, List, [], ◌∷◌, ◌++◌, take, set, ℕ, String, Global, Bool, true, false, Result, Ok, Err, IfOk, length, subst, refl, sym, ap, ◌∙◌, codes, inl, inr}
+use Rattle.std.proofs.Common.{◌≡◌, ◌+◌, ◌<◌, List, [], ◌∷◌, ◌++◌, take, set, ℕ, String, Global, Bool, true, false, Result, Ok, Err, IfOk, length, subst, refl, sym, ap, ◌∙◌, codes, inl, inr}
 use Rattle.std.proofs.lemmas.List.{take_more_set}
 use Rattle.std.specs.Prelude.{IfErr, unwrap_or}
 use Rattle.pg_wire.specs.declared.error.Error.{Error}
@@ -21,7 +21,7 @@ use Rattle.pg_play.specs.declared.played.Played.{Played}
 use Rattle.pg_stream.specs.Outside.{SourceSeen, SinkSeen, Sent}
 use Rattle.pg_play.specs.declared.ending.Ending.{Ending}
 use Rattle.pg_play.specs.declared.ending.Ending.TheVariants as endings
-use Rattle.pg_play.specs.Top.{Handing, HasOutcomes, PlaysSteps, IsPlay, IsLivePlay, LiveEndingIs, DialedIs, DialedOnce, start_status, plan_said, nonce_said, polls_said, TopIs, RunIs, TellsEnding, Writes, status_of, status_after, played_of, live_of}
+use Rattle.pg_play.specs.Top.{Handing, HasOutcomes, PlaysSteps, IsPlay, IsLivePlay, LiveEndingIs, DialedIs, DialedOnce, plan_said, nonce_said, polls_said, TopIs, RunIs, TellsEnding, Writes, status_of, status_after, played_of, live_of}
 
 sent_by : (own : ℕ) (text : List ℕ) (x y : SinkSeen) (whole : Bool) → Sent x y whole text → Writes own text x y (status_after whole own)
 sent_by own text x y true s = inl (s, refl)
@@ -36,7 +36,7 @@ ended seen hands words a b x y f g whole e text r t s = record { ending = e; run
 
 -- ---- what was played
 
-plays_by : (opening : Opening) (polls : ℕ) (first last : LinkSeen) (start : Result Started Error) (steps : List Step) (outs : List Outcome) → IfOk start (λ started. Plays opening first last started steps outs) → IfErr start (StartEnds opening polls first last) → PlaysSteps opening polls steps start outs first last
+plays_by : (opening : Opening) (polls : ℕ) (first last : LinkSeen) (start : Result Started Error) (steps : List Step) (outs : List Outcome) → IfOk start (λ started. Plays opening polls first last started steps outs) → IfErr start (StartEnds opening polls first last) → PlaysSteps opening polls steps start outs first last
 plays_by opening polls first last (Ok started) steps outs h k = h
 plays_by opening polls first last (Err e) steps outs h k = k
 
@@ -52,7 +52,7 @@ plays_same : (o p : ConnectOptions) (n m : List ℕ) (k l : ℕ) (s t : List Ste
 plays_same o p n m k l s t x y u v start outs last a b c d e f h = rw (← a, ← b, ← c, ← d, ← e, ← f) h
 
 pub is_play : (script : Script) (p : Played MemoryLink) (link : MemoryLink) (o : ConnectOptions) (nonce : List ℕ) (polls : ℕ) (steps : List Step) → plan_of link ≡ plan_said script → seen_of link ≡ untouched (plan_of link) → o ≡ options_of script → nonce ≡ nonce_said script → polls ≡ polls_said script → steps ≡ script.steps
-    → HasOutcomes (length steps) p.start (length p.outcomes) → IfOk p.start (λ started. Plays (opening_of o nonce (plan_of link)) (seen_of link) (seen_of p.link) started steps p.outcomes) → IfErr p.start (StartEnds (opening_of o nonce (plan_of link)) polls (seen_of link) (seen_of p.link)) → IsPlay script p
+    → HasOutcomes (length steps) p.start (length p.outcomes) → IfOk p.start (λ started. Plays (opening_of o nonce (plan_of link)) polls (seen_of link) (seen_of p.link) started steps p.outcomes) → IfErr p.start (StartEnds (opening_of o nonce (plan_of link)) polls (seen_of link) (seen_of p.link)) → IsPlay script p
 is_play script p link o nonce polls steps made seen e f g d outcomes plays fails =
     let run = plays_by (opening_of o nonce (plan_of link)) polls (seen_of link) (seen_of p.link) p.start steps p.outcomes plays fails in
     record {
@@ -64,7 +64,7 @@ is_play script p link o nonce polls steps made seen e f g d outcomes plays fails
 -- ---- what was played over a link that was dialled
 
 is_live_play : {A : Type 0} (seen : A → LinkSeen) (hands : Handing A) (o : ConnectOptions) (script : LiveScript) (p : Played A) (link : A) (words nonce : List ℕ) (polls : ℕ) (steps : List Step) → hands o link words → IsUncalled (seen link) → length words ≡ 128 → nonce ≡ nonce_of words → polls ≡ unwrap_or script.start_polls 1000 → steps ≡ script.steps
-    → HasOutcomes (length steps) p.start (length p.outcomes) → IfOk p.start (λ started. Plays (opening_of o nonce (seen link).plan) (seen link) (seen p.link) started steps p.outcomes) → IfErr p.start (StartEnds (opening_of o nonce (seen link).plan) polls (seen link) (seen p.link)) → IsLivePlay seen hands o script p
+    → HasOutcomes (length steps) p.start (length p.outcomes) → IfOk p.start (λ started. Plays (opening_of o nonce (seen link).plan) polls (seen link) (seen p.link) started steps p.outcomes) → IfErr p.start (StartEnds (opening_of o nonce (seen link).plan) polls (seen link) (seen p.link)) → IsLivePlay seen hands o script p
 is_live_play seen hands o script p link words nonce polls steps handed new drawn f g d outcomes plays fails =
     let first = seen link in
     let run = plays_by (opening_of o nonce first.plan) polls first (seen p.link) p.start steps p.outcomes plays fails in
@@ -92,7 +92,7 @@ live_ends seen hands o script f g p endings.ReadFailed h k d = absurd k
 live_ends seen hands o script f g p endings.DialFailed h k d = absurd k
 
 pub dialed : {A : Type 0} (seen : A → LinkSeen) (hands : Handing A) (o : ConnectOptions) (script : LiveScript) (f g : DialSeen) (p : Played A) (e : Ending A) (link : A) (words nonce : List ℕ) (polls : ℕ) (steps : List Step) → hands o link words → IsUncalled (seen link) → length words ≡ 128 → nonce ≡ nonce_of words → polls ≡ unwrap_or script.start_polls 1000 → steps ≡ script.steps
-    → HasOutcomes (length steps) p.start (length p.outcomes) → IfOk p.start (λ started. Plays (opening_of o nonce (seen link).plan) (seen link) (seen p.link) started steps p.outcomes) → IfErr p.start (StartEnds (opening_of o nonce (seen link).plan) polls (seen link) (seen p.link)) → LiveEndingIs e p → DialedOnce f g → DialedIs seen hands o script f g e
+    → HasOutcomes (length steps) p.start (length p.outcomes) → IfOk p.start (λ started. Plays (opening_of o nonce (seen link).plan) polls (seen link) (seen p.link) started steps p.outcomes) → IfErr p.start (StartEnds (opening_of o nonce (seen link).plan) polls (seen link) (seen p.link)) → LiveEndingIs e p → DialedOnce f g → DialedIs seen hands o script f g e
 dialed seen hands o script f g p e link words nonce polls steps handed new drawn n k s outcomes plays fails ends once =
     live_ends seen hands o script f g p e (is_live_play seen hands o script p link words nonce polls steps handed new drawn n k s outcomes plays fails) ends once
 

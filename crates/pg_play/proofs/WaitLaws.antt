@@ -5,8 +5,8 @@ use Rattle.std.specs.List.{AllByRecursion}
 use Rattle.std.specs.Io.KnownBytes.{Keeps, Appends}
 use Rattle.pg_wire.specs.Frame.{Frame, text_of}
 use Rattle.pg_wire.specs.Server.{IsPrefixOf}
-use Rattle.pg_stream.specs.Links.{NoneFalls, AddsPlace}
-use Rattle.pg_stream.specs.Streams.{StreamSeen, GrewBy, Takes, AreFrames, HasNone, NoneWaited, WriteWaited, ReadWaited, PendingCause}
+use Rattle.pg_stream.specs.Links.{GrewBy, AddsPlace}
+use Rattle.pg_stream.specs.Streams.{StreamSeen, Takes, AreFrames, HasNone, NoneWaited, WriteWaited, ReadWaited, PendingCause}
 use Rattle.pg_stream.proofs.Known.{Appends-then, Appends-refl, Appends-keeps}
 use Rattle.pg_stream.proofs.StreamLemmas.{text_of-append}
 use Rattle.pg_play.specs.Waits.{IsWaitPlace, WaitsAt}
@@ -67,6 +67,10 @@ place_now (Some s) (Some t) bytes g = ap (λ (x : List ℕ). length x) g ∙ len
 
 -- ---- one poll more
 
+-- a count that stands still
+pub still_grown : (n x y z : ℕ) → GrewBy n x y → z ≡ y → GrewBy n x z
+still_grown n x y z g e = subst (λ (k : ℕ). GrewBy n x k) (sym e) g
+
 pub waits_none : (a : StreamSeen) → WaitsAt a a []
 waits_none a = record {
   bytes = [];
@@ -76,21 +80,21 @@ waits_none a = record {
   told = told_always a.link.given (Appends a.link.wait_places a.link.wait_places []) (Appends-refl a.link.wait_places);
   write_waits = 0;
   waits = (omega arith, omega arith, omega arith);
-  writes = omega arith;
+  writes = (omega arith, omega arith, omega arith);
   behind = tt;
 }
 
 -- it did not wait
-waits_still : (a b c : StreamSeen) (fs gs : List Frame) → WaitsAt a b fs → NoneFalls b.link c.link → Takes b c gs → NoneWaited b c → WaitsAt a c (fs ++ gs)
-waits_still a b c fs gs w m t n = record {
+waits_still : (a b c : StreamSeen) (fs gs : List Frame) → WaitsAt a b fs → Takes b c gs → NoneWaited b c → WaitsAt a c (fs ++ gs)
+waits_still a b c fs gs w t n = record {
   bytes = w.bytes ++ t.0;
   gave = Appends-then a.link.given b.link.given c.link.given w.bytes t.0 w.gave t.1;
   read = read_then a.held w.bytes t.0 b.held c.held fs gs w.read t.2;
   places = w.places;
   told = told_kept a.link.given a.link.wait_places b.link.wait_places c.link.wait_places w.places w.told n.1;
   write_waits = w.write_waits;
-  waits = subst (λ (k : ℕ). GrewBy (w.write_waits + length w.places) a.waits k) (sym n.0) w.waits;
-  writes = omega (arith, w.writes, m.write_waits);
+  waits = still_grown _ _ _ _ w.waits n.0;
+  writes = still_grown _ _ _ _ w.writes n.2.0;
   behind = places_later a.link.given a.held w.bytes t.0 fs gs w.places w.behind;
 }
 
@@ -109,8 +113,8 @@ waits_write a b c fs gs w t x = record {
 }
 
 -- a read waited behind all whole frames
-waits_read : (a b c : StreamSeen) (fs gs : List Frame) → WaitsAt a b fs → AreFrames (fs ++ gs) → NoneFalls b.link c.link → Takes b c gs → ReadWaited b c → HasNone c.held → WaitsAt a c (fs ++ gs)
-waits_read a b c fs gs w all m t x none =
+waits_read : (a b c : StreamSeen) (fs gs : List Frame) → WaitsAt a b fs → AreFrames (fs ++ gs) → Takes b c gs → ReadWaited b c → HasNone c.held → WaitsAt a c (fs ++ gs)
+waits_read a b c fs gs w all t x none =
     let bytes : List ℕ = w.bytes ++ t.0 in
     let place : ℕ = place_by c.link.given in
     let gave : Appends a.link.given c.link.given bytes = Appends-then a.link.given b.link.given c.link.given w.bytes t.0 w.gave t.1 in
@@ -123,7 +127,7 @@ waits_read a b c fs gs w all m t x none =
       told = told_more a.link.given c.link.given a.link.wait_places b.link.wait_places c.link.wait_places bytes w.places gave w.told x.2;
       write_waits = w.write_waits;
       waits = omega (arith, w.waits, x.1, length-append w.places (place ∷ []));
-      writes = omega (arith, w.writes, m.write_waits);
+      writes = still_grown _ _ _ _ w.writes x.3;
       behind = each_end (IsWaitPlace a.link.given a.held bytes (fs ++ gs)) w.places place (places_later a.link.given a.held w.bytes t.0 fs gs w.places w.behind) (record {
         early = bytes;
         first = ([], append-nil bytes);
@@ -135,8 +139,8 @@ waits_read a b c fs gs w all m t x none =
       });
     }
 
-pub waits_on : (a b c : StreamSeen) (fs gs : List Frame) → WaitsAt a b fs → AreFrames (fs ++ gs) → NoneFalls b.link c.link → Takes b c gs → NoneWaited b c ⊎ PendingCause (record b { left = 256 }) c → WaitsAt a c (fs ++ gs)
-waits_on a b c fs gs w all m t (inl n) = waits_still a b c fs gs w m t n
-waits_on a b c fs gs w all m t (inr (inl x)) = waits_write a b c fs gs w t x
-waits_on a b c fs gs w all m t (inr (inr (inl x))) = waits_read a b c fs gs w all m t x.0 x.2
-waits_on a b c fs gs w all m t (inr (inr (inr x))) = waits_still a b c fs gs w m t x.1.2
+pub waits_on : (a b c : StreamSeen) (fs gs : List Frame) → WaitsAt a b fs → AreFrames (fs ++ gs) → Takes b c gs → NoneWaited b c ⊎ PendingCause (record b { left = 256 }) c → WaitsAt a c (fs ++ gs)
+waits_on a b c fs gs w all t (inl n) = waits_still a b c fs gs w t n
+waits_on a b c fs gs w all t (inr (inl x)) = waits_write a b c fs gs w t x
+waits_on a b c fs gs w all t (inr (inr (inl x))) = waits_read a b c fs gs w all t x.0 x.2
+waits_on a b c fs gs w all t (inr (inr (inr x))) = waits_still a b c fs gs w t x.1.2

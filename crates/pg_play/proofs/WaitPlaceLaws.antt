@@ -57,7 +57,7 @@ places_step start at a b r polls out said own fs st p k few w = record {
   places = w.places;
   told = rw (← st.seen) w.told;
   write_waits = w.write_waits;
-  all = omega (arith, p, k, few.1, few.2.1, w.waits);
+  all = omega (arith, p, k, few.1.all, few.1.waits.1, few.2.1, w.waits);
   writes = rw (← st.seen) w.writes;
   behind = rw (← st.seen) (places_behind a.stream.link.given a.stream.held w.bytes at.frames fs st.flows.read.3 w.places w.behind);
 }
@@ -72,7 +72,7 @@ places_quiet at out z = record {
   told = told_always at.seen.link.given (Appends at.seen.link.wait_places at.seen.link.wait_places []) (Appends-refl at.seen.link.wait_places);
   write_waits = 0;
   all = omega (arith, z);
-  writes = omega arith;
+  writes = (omega arith, omega arith, omega arith);
   behind = tt;
 }
 
@@ -113,7 +113,7 @@ from_more at next last out outs w places t =
       told = told_then a.given b.given a.wait_places b.wait_places c.wait_places w.bytes w.places places w.gave w.told t.told;
       write_waits = w.write_waits + t.write_waits;
       all = omega (arith, sum, w.all, t.all, length-append w.places places);
-      writes = omega (arith, w.writes, t.writes);
+      writes = omega (arith, w.writes.2, t.writes);
     }
 
 from_all : (at : Place) (steps : List Step) (outs : List Outcome) (last : Place) (run : Plays_from at steps outs last) → PlacesFrom at.seen.link last.seen.link outs (places_in at steps outs last run)

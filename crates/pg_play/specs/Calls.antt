@@ -1,5 +1,5 @@
 -- Internal: what a play of one call says, in the words of the connection.
-use Rattle.std.specs.Prelude.{◌≡◌, ◌≢◌, ℕ, ◌+◌, ◌*◌, ◌^◌, ◌<◌, ◌≤◌, ◌⊎◌, false, count_by, List, [], ◌∷◌, ◌++◌, length, map, Option, Some, None, Ok}
+use Rattle.std.specs.Prelude.{◌≡◌, ◌≢◌, ℕ, ◌+◌, ◌*◌, ◌^◌, ◌<◌, ◌≤◌, ◌⊎◌, true, false, count_by, List, [], ◌∷◌, ◌++◌, length, map, Option, Some, None, Ok}
 use Rattle.pg_wire.specs.declared.error.Error.{Error}
 use Rattle.pg_wire.specs.declared.error.Error.TheVariants as errors
 use Rattle.pg_wire.specs.declared.error.ProtocolFault.TheVariants as protocol
@@ -8,17 +8,19 @@ use Rattle.pg_wire.specs.Frame.{Frame}
 use Rattle.pg_wire.specs.Parts.{heard}
 use Rattle.pg_wire.specs.Frontend.{FrontendMessage}
 use Rattle.pg_request.specs.declared.progress.CacheStep.TheVariants as cache
-use Rattle.pg_stream.specs.Links.{RoseBy, Rose}
-use Rattle.pg_stream.specs.Streams.{StreamSeen, Tallies, GrewBy, HasNone}
+use Rattle.pg_stream.specs.Links.{RoseBy, Rose, GrewBy}
+use Rattle.pg_stream.specs.Streams.{StreamSeen, Tallies, HasNone}
 use Rattle.pg_call.specs.declared.request.Request.{Request}
 use Rattle.pg_call.specs.declared.answer.CallItem.{CallItem}
 use Rattle.pg_call.specs.declared.answer.CallAnswer.{CallAnswer}
-use Rattle.pg_call.specs.Requests.{spelled}
+use Rattle.pg_call.specs.declared.calling.Call.TheVariants as calls
+use Rattle.pg_call.specs.Requests.{spelled, CanBeSaid, IsRefusal}
 use Rattle.pg_call.specs.Drains.{is_error}
 use Rattle.pg_call.specs.Calls.{CallIs, CallEnds, IsFine, Leaves}
-use Rattle.pg_conn.specs.Connections.{ConnSeen, idle, started_call}
-use Rattle.pg_conn.specs.Turns.{ends_request, EndsBy}
+use Rattle.pg_conn.specs.Connections.{ConnSeen, idle, begun, started_call}
+use Rattle.pg_conn.specs.Turns.{ends_request, EndsBy, is_flushed}
 use Rattle.pg_report.specs.declared.outcome.Item.{Item}
+use Rattle.pg_report.specs.declared.outcome.Answer.TheVariants.{Unit as AnswersUnit}
 use Rattle.pg_report.specs.declared.outcome.End.{End}
 use Rattle.pg_report.specs.declared.outcome.End.TheVariants as ends
 use Rattle.pg_report.specs.declared.outcome.Outcome.{Outcome}
@@ -26,7 +28,7 @@ use Rattle.pg_script.specs.declared.step.Step.{Step}
 use Rattle.pg_startup.specs.Flows.{Flows}
 use Rattle.pg_play.specs.declared.tally.Limits.{Limits}
 use Rattle.pg_play.specs.declared.tally.Tally.{Tally}
-use Rattle.pg_play.specs.Shown.{request_of, item_of, items_with, answer_of}
+use Rattle.pg_play.specs.Shown.{request_of, has_query, item_of, items_with, has_rows, answer_of}
 use Rattle.pg_play.specs.Waits.{WaitsAt}
 
 -- ---- the tally of a call
@@ -41,7 +43,7 @@ Adds limits item old new (Some (ends.Ok answer)) = ⊥
 -- the answer, and the items that come with it
 abbrev pub Finishes : CallAnswer → Tally → Tally → End → Type 0
 Finishes answer old new (ends.Ok told) = (new.waits ≡ old.waits) × (new.items.items ≡ items_with old.items.items answer) × (told ≡ answer_of answer)
-Finishes answer old new (ends.Err e) = (new.waits ≡ old.waits) × (new.items.items ≡ []) × (e ≡ errors.OutOfMemory)
+Finishes answer old new (ends.Err e) = (new.waits ≡ old.waits) × (new.items.items ≡ []) × (e ≡ errors.OutOfMemory) × (has_rows answer ≡ true)
 Finishes answer old new ends.Dropped = ⊥
 
 -- ---- a call that is played, from the connection a on which it began
@@ -52,10 +54,10 @@ pub record Waited (n : ℕ) (a b : StreamSeen) : Type 0 where
   pub read_waits : ℕ
   pub spent : ℕ
   pub all : write_waits + read_waits + spent ≡ n
-  pub writes : RoseBy write_waits a.link.write_waits b.link.write_waits
-  pub reads : RoseBy read_waits a.link.read_waits b.link.read_waits
+  pub writes : GrewBy write_waits a.link.write_waits b.link.write_waits
+  pub reads : GrewBy read_waits a.link.read_waits b.link.read_waits
   pub moved : RoseBy (256 * spent) a.link.moved b.link.moved
-  pub waits : RoseBy (write_waits + read_waits) a.waits b.waits
+  pub waits : GrewBy (write_waits + read_waits) a.waits b.waits
   pub moves : RoseBy (256 * spent) a.moves b.moves
 
 -- what it queued and took, and what is counted of it
@@ -67,13 +69,21 @@ pub record Went (a b : ConnSeen) (said : List FrontendMessage) (fs : List Frame)
   pub heard : GrewBy (length (heard fs)) a.heard b.heard
   pub started : (b.sent ≡ a.sent) × (b.read ≡ a.read)
 
+-- it was not polled yet
+abbrev pub IsFresh : ConnSeen → ConnSeen → Request → List Frame → Type 0
+IsFresh a b r fs = (b ≡ a) × (a.call ≡ calls.Asked r) × (fs ≡ [])
+
 -- it runs still, and has shown these items
 pub record InPlay (a b : ConnSeen) (r : Request) (waits : ℕ) (items : List CallItem) (said : List FrontendMessage) (fs : List Frame) : Type 0 where
   pub went : Went a b said fs
   pub broken : b.broken ≡ None
   pub call : CallIs a.ledger r said (heard fs) items b.ledger b.call
   pub waited : Waited waits a.stream b.stream
-  pub few : b.stream.waits ≤ a.stream.waits + waits
+  -- each of its polls waited or showed an item
+  pub calls : b.stream.link.calls ≤ a.stream.link.calls + 256 * (waits + length items)
+  -- what the first poll ends was not polled yet
+  pub unsaid : (CanBeSaid r → ⊥) → IsFresh a b r fs
+  pub unflushed : is_flushed a ≡ true → IsFresh a b r fs
 
 -- on a connection that is whole, or is broken, with fewer items than it may show
 abbrev pub IsPlayingOn : Option ServerFault → ℕ → ConnSeen → ConnSeen → Request → ℕ → List Item → Type 0
@@ -108,7 +118,7 @@ EndsByError most a b r said hs shown e =
 -- what the end of a call says of all that it queued, heard and showed
 abbrev pub EndsOn : Option ServerFault → Limits → ConnSeen → ConnSeen → Request → List FrontendMessage → List Frame → List Item → End → Type 0
 EndsOn None limits a b r said hs shown (ends.Ok told) =
-    (items : List CallItem) × (answer : CallAnswer) × (shown ≡ items_with (map item_of items) answer) × (length items < limits.most) × (told ≡ answer_of answer) × CallEnds a.ledger r said hs items b.ledger (Ok answer)
+    (items : List CallItem) × (answer : CallAnswer) × (shown ≡ items_with (map item_of items) answer) × (length items < limits.most) × (told ≡ answer_of answer) × CallEnds a.ledger r said hs items b.ledger (Ok answer) × (b.stream.unsent ≡ [])
 EndsOn None limits a b r said hs shown (ends.Err e) = EndsByError limits.most a b r said hs shown e
 EndsOn None limits a b r said hs shown ends.Dropped =
     (items : List CallItem) × (shown ≡ map item_of items) × Leaves a.ledger r said hs items b.ledger false × (count_by is_error hs ≡ 0) × IsDropped limits a b shown × (length shown ≤ limits.most)
@@ -119,9 +129,18 @@ EndsOn (Some fault) limits a b r said hs shown end =
 abbrev pub WaitsFew : ℕ → ℕ → End → Type 0
 WaitsFew polls waits end = (end ≢ ends.Dropped → waits < polls) × (waits ≤ polls)
 
--- the link waited no more often than the call did, which is few
+-- so many polls had to wait, which are few
 abbrev pub HasWaitedFew : ℕ → StreamSeen → StreamSeen → End → Type 0
-HasWaitedFew polls a b end = (waits : ℕ) × (b.waits ≤ a.waits + waits) × WaitsFew polls waits end
+HasWaitedFew polls a b end = (waits : ℕ) × Waited waits a b × WaitsFew polls waits end
+
+-- the first poll ended it, and did nothing else
+abbrev pub StaysIdle : ConnSeen → ConnSeen → List Frame → List Item → Type 0
+StaysIdle a b fs shown = (shown ≡ []) × (fs ≡ []) × (record b { broken = None } ≡ idle (begun a))
+
+-- what the first poll ends: what no frame can say, and a flush with nothing to do
+pub record EndsAtOnce (a b : ConnSeen) (r : Request) (shown : List Item) (end : End) (fs : List Frame) : Type 0 where
+  pub refused : (CanBeSaid r → ⊥) → (e : Error) × IsRefusal r e × (end ≡ ends.Err e) × StaysIdle a b fs shown
+  pub flushed : is_flushed a ≡ true → (end ≡ ends.Ok AnswersUnit) × StaysIdle a b fs shown
 
 -- it was played to this end
 pub record Ended (limits : Limits) (a b : ConnSeen) (r : Request) (shown : List Item) (end : End) (said : List FrontendMessage) (fs : List Frame) : Type 0 where
@@ -129,6 +148,8 @@ pub record Ended (limits : Limits) (a b : ConnSeen) (r : Request) (shown : List 
   pub broken : b.broken ≡ broken_after a.broken end
   pub kept : (fault : ServerFault) → a.broken ≡ Some fault → fs ≡ []
   pub few : HasWaitedFew limits.polls a.stream b.stream end
+  pub calls : b.stream.link.calls ≤ a.stream.link.calls + 256 * (limits.polls + limits.most)
+  pub at_once : a.broken ≡ None → EndsAtOnce a b r shown end fs
   pub ends : EndsOn a.broken limits a b r said (heard fs) shown end
 
 abbrev pub HasEnded : Limits → ConnSeen → ConnSeen → Request → List Item → End → Type 0
@@ -160,8 +181,8 @@ outcome_of b shown end = record { items = shown; end = end; groups = b.groups; h
 abbrev pub PlaysCall : Limits → ConnSeen → ConnSeen → Request → Outcome → Type 0
 PlaysCall limits a b r out = HasEnded limits a b r out.items out.end × (out ≡ outcome_of b out.items out.end) × (idle b ≡ b)
 
--- a step: not polled; without memory for what it asks; or played
+-- a step: not polled; without memory for its query; or played
 abbrev pub PlaysStep : ConnSeen → ConnSeen → Step → Outcome → Type 0
 PlaysStep a b step out =
     (IsUnpolled step × (b ≡ a) × (out ≡ untouched ends.Dropped))
-    ⊎ ((IsUnpolled step → ⊥) × (step.polls < 2 ^ 32) × (((b ≡ a) × (out ≡ untouched (ends.Err errors.OutOfMemory))) ⊎ PlaysCall (limits_of step) (started_call (request_of step.call) a) b (request_of step.call) out))
+    ⊎ ((IsUnpolled step → ⊥) × (step.polls < 2 ^ 32) × (((b ≡ a) × (out ≡ untouched (ends.Err errors.OutOfMemory)) × (has_query step.call ≡ true)) ⊎ PlaysCall (limits_of step) (started_call (request_of step.call) a) b (request_of step.call) out))

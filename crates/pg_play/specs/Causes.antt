@@ -1,5 +1,5 @@
 -- Each end other than Ok has its cause, and some ends are due.
-use Rattle.std.specs.Prelude.{◌≡◌, ◌≢◌, ℕ, ◌+◌, ◌*◌, ◌≤◌, ◌<◌, ◌⊎◌, true, false, List, [], ◌∷◌, ◌++◌, length, Some}
+use Rattle.std.specs.Prelude.{◌≡◌, ◌≢◌, ℕ, ◌+◌, ◌*◌, ◌≤◌, ◌<◌, ◌⊎◌, true, false, List, [], ◌∷◌, ◌++◌, length, Some, None}
 use Rattle.std.specs.List.{AllByRecursion}
 use Rattle.pg_wire.specs.declared.error.Error.{Error}
 use Rattle.pg_wire.specs.declared.error.Error.TheVariants as errors
@@ -14,15 +14,17 @@ use Rattle.pg_wire.specs.Refusals.{BeginsCopyResponse}
 use Rattle.pg_stream.specs.Links.{Rose}
 use Rattle.pg_stream.specs.Streams.{HeaderFault, HasNone, IsMalformedFront}
 use Rattle.pg_call.specs.declared.judging.Part.{Part}
-use Rattle.pg_call.specs.Requests.{Group, kind_of, groups_of, IsRefusal}
+use Rattle.pg_call.specs.Requests.{Group, kind_of, groups_of, CanBeSaid, IsRefusal}
 use Rattle.pg_call.specs.Replies.{awaits_first, part_after, may_copy}
+use Rattle.pg_report.specs.declared.outcome.Answer.TheVariants.{Unit as AnswersUnit}
 use Rattle.pg_report.specs.declared.outcome.End.{End}
 use Rattle.pg_report.specs.declared.outcome.End.TheVariants as ends
 use Rattle.pg_report.specs.declared.outcome.Outcome.{Outcome}
+use Rattle.pg_script.specs.declared.step.Call.TheVariants as calls
 use Rattle.pg_script.specs.declared.step.Step.{Step}
 use Rattle.pg_play.specs.Shown.{request_of, items_in, is_row, wants_row, waits_to_show}
 use Rattle.pg_play.specs.Calls.{IsUnpolled, WaitsFew, untouched}
-use Rattle.pg_play.specs.Places.{Place, ended, main_frames}
+use Rattle.pg_play.specs.Places.{Place, ended, owed, main_frames}
 use Rattle.pg_play.specs.Told.{HasNoError, Carry}
 
 -- ---- the frame that breaks the connection
@@ -54,7 +56,7 @@ ShowsFault at own slice next (faults.Malformed tag) = IsMalformedFront next.seen
 ShowsFault at own slice next (faults.Unlawful tag) = IsUnlawful at own slice next tag
 ShowsFault at own slice next fault = HeaderFault next.seen.held fault
 
--- the last frame heard begins a copy, which the response to the own group may begin there, and which nobody has asked for
+-- the last frame heard begins a copy, which some server begins there in its response to the own group, and which nobody has asked for
 pub record IsAskedToCopy (at : Place) (step : Step) (own : List Group) (slice : List Frame) (tag : ℕ) : Type 0 where
   pub front : List Frame
   pub last : BackendMessage
@@ -67,6 +69,7 @@ pub record IsAskedToCopy (at : Place) (step : Step) (own : List Group) (slice : 
   pub says : Carry (main_frames at own slice) (before ++ last ∷ [])
   pub so_far : part_after (awaits_first (kind_of (request_of step.call))) before ≡ Some part
   pub copies : may_copy part last ≡ true
+  pub lawful : (group : Group) → own ≡ group ∷ [] → BeginsCopyResponse group (main_frames at own slice)
 
 -- the response to the own group came to its end without an error and without a row
 pub record HasNoRow (at : Place) (step : Step) (own : List Group) (slice : List Frame) (next : Place) : Type 0 where
@@ -100,13 +103,13 @@ IsStarved at out next =
     ⊎ ((256 ≤ out.moved)
     ⊎ ((next.seen.unsent ≡ []) × HasNone next.seen.held × (ended next < length next.groups)))
 
--- it waited in each of its polls: for the link, or after 256 moves
-abbrev pub WaitedOften : Step → Outcome → Type 0
-WaitedOften step out = (waited : ℕ) × (spent : ℕ) × (waited + spent ≡ step.polls) × (waited ≤ out.waits) × (256 * spent ≤ out.moved)
+-- so many of its polls answered `Pending`: each for one wait of the link, or after 256 moves
+abbrev pub AnsweredPending : Outcome → ℕ → Type 0
+AnsweredPending out polls = (spent : ℕ) × (out.waits + spent ≡ polls) × (256 * spent ≤ out.moved)
 
--- a step is dropped unpolled, after so many waits, or with so many items
+-- a step is dropped unpolled, after so many polls that answered `Pending`, or with so many items
 abbrev pub IsDropped : Place → Step → Outcome → Place → Type 0
-IsDropped at step out next = IsUnpolled step ⊎ ((WaitedOften step out × IsStarved at out next) ⊎ (length out.items ≡ step.most))
+IsDropped at step out next = IsUnpolled step ⊎ ((AnsweredPending out step.polls × IsStarved at out next) ⊎ (length out.items ≡ step.most))
 
 abbrev pub HasCause : Place → Step → Outcome → List Group → List Frame → Place → End → Type 0
 HasCause at step out own slice next (ends.Ok answer) = Unit {0}
@@ -115,13 +118,21 @@ HasCause at step out own slice next ends.Dropped = IsDropped at step out next
 
 -- ---- ends that are due
 
+-- nothing is queued and nothing is taken: only the numbers of the last poll and of the last call change
+abbrev pub StaysAt : Place → Place → Type 0
+StaysAt at next = next ≡ record at { seen = record at.seen { left = next.seen.left; waits = next.seen.waits; moves = next.seen.moves } }
+
 pub record EndsDuly (at : Place) (step : Step) (out : Outcome) (next : Place) : Type 0 where
   -- an unpolled step does nothing
   pub unpolled : IsUnpolled step → (out ≡ untouched ends.Dropped) × (next ≡ at)
   -- a broken connection answers its fault, and does nothing else
   pub kept : (fault : ServerFault) → at.broken ≡ Some fault → (IsUnpolled step → ⊥)
-      → ((out.end ≡ ends.Err (errors.Protocol (protocol.Server fault))) ⊎ (out.end ≡ ends.Err errors.OutOfMemory)) × (out.items ≡ []) × (next ≡ record at { seen = record at.seen { waits = next.seen.waits; moves = next.seen.moves } })
-  -- a call waits fewer times than it has polls, or is dropped
-  pub few : WaitsFew step.polls out.waits out.end
+      → ((out ≡ untouched (ends.Err (errors.Protocol (protocol.Server fault)))) ⊎ (out ≡ untouched (ends.Err errors.OutOfMemory))) × (next ≡ record at { seen = record at.seen { waits = next.seen.waits; moves = next.seen.moves } })
+  -- what no frame can say is refused at once, where the connection is whole, or memory is wanting; and nothing else is done
+  pub refused : at.broken ≡ None → (IsUnpolled step → ⊥) → (CanBeSaid (request_of step.call) → ⊥) → (e : Error) × IsRefusal (request_of step.call) e × (out ≡ untouched (ends.Err e)) × StaysAt at next
+  -- a flush with nothing owed and nothing unsent is Ok at once, where the connection is whole; and nothing else is done
+  pub flushed : at.broken ≡ None → (IsUnpolled step → ⊥) → step.call ≡ calls.Flush → owed at ≡ 0 → at.seen.unsent ≡ [] → (out ≡ untouched (ends.Ok AnswersUnit)) × StaysAt at next
+  -- fewer of its polls than it has answer `Pending`, or it is dropped
+  pub few : (pending : ℕ) × AnsweredPending out pending × WaitsFew step.polls pending out.end
   -- a call that shows items as they come shows fewer than it may, or is dropped
   pub most : waits_to_show step.call ≡ false → (out.end ≢ ends.Dropped → length out.items < step.most) × (length out.items ≤ step.most)

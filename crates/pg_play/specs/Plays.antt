@@ -1,5 +1,5 @@
 -- The theorem of a play.
-use Rattle.std.specs.Prelude.{◌≡◌, ◌≢◌, ℕ, ◌+◌, ◌<◌, false, List, [], ◌∷◌, ◌++◌, length, map, flat_map, Some, None, Ok, sum_by, ◌≤◌}
+use Rattle.std.specs.Prelude.{◌≡◌, ◌≢◌, ℕ, ◌+◌, ◌*◌, ◌<◌, false, List, [], ◌∷◌, ◌++◌, length, map, flat_map, Some, None, Ok, sum_by, count_by, ◌≤◌}
 use Rattle.std.specs.List.{AllByRecursion}
 use Rattle.pg_wire.specs.declared.error.Error.TheVariants as errors
 use Rattle.pg_wire.specs.declared.error.ProtocolFault.TheVariants as protocol
@@ -12,12 +12,13 @@ use Rattle.pg_wire.specs.Backend.{BackendMessage, backend_frame, HasBackendFrame
 use Rattle.pg_wire.specs.Frontend.{frontend_frame, HasFrontendFrame}
 use Rattle.pg_wire.specs.Server.{Server, fresh_server, IsPrefixOf, MayHear, AreReplies}
 use Rattle.pg_wire.specs.Groups.{IsGroup, AnswerGroups}
-use Rattle.pg_stream.specs.Links.{LinkSeen, NoneFalls, RoseBy}
-use Rattle.pg_stream.specs.Streams.{StreamSeen}
+use Rattle.pg_stream.specs.Links.{LinkSeen, NoneFalls, GrewBy}
+use Rattle.pg_stream.specs.Streams.{StreamSeen, Sends}
 use Rattle.pg_call.specs.declared.calling.Call.TheVariants as calls
 use Rattle.pg_call.specs.Requests.{Group, said_in, spelled}
 use Rattle.pg_call.specs.Drains.{is_copy_in, after_readys}
 use Rattle.pg_conn.specs.Connections.{ConnSeen}
+use Rattle.pg_conn.specs.Turns.{ends_request}
 use Rattle.pg_report.specs.declared.outcome.End.TheVariants as ends
 use Rattle.pg_report.specs.declared.outcome.Outcome.{Outcome}
 use Rattle.pg_report.specs.declared.outcome.Started.{Started}
@@ -29,8 +30,8 @@ use Rattle.pg_startup.specs.Startups.{startup_of}
 use Rattle.pg_startup.specs.Exchange.{client_of}
 use Rattle.pg_startup.specs.Flows.{Flows}
 use Rattle.pg_startup.specs.Handshake.{IsHandshake, IsSecured}
-use Rattle.pg_play.specs.Starts.{Opening}
-use Rattle.pg_play.specs.Places.{Place, Queued, ended, first_place}
+use Rattle.pg_play.specs.Starts.{Opening, HasWaitedLess}
+use Rattle.pg_play.specs.Places.{Place, Queued, queued_by, ended, owed, first_place}
 use Rattle.pg_play.specs.Told.{Told, Numbers, CountsTo}
 use Rattle.pg_play.specs.Causes.{HasCause, EndsDuly, IsFront}
 use Rattle.pg_play.specs.Complete.{WhereFaultless}
@@ -46,13 +47,19 @@ pub record Plays_step (at : Place) (step : Step) (out : Outcome) (next : Place) 
   pub own : List Group
   pub slice : List Frame
   pub queued : Queued at step out own slice next
+  -- what the link took, and behind it what is not sent yet, are what was not sent and what was queued
+  pub sends : Sends at.seen next.seen (spelled (queued_by at own slice out.end))
   pub told : Told at step out own slice next
   pub numbers : Numbers at out own slice next
   pub waits : WaitPlaces at out next
   pub counts : NoneFalls at.seen.link next.seen.link
+  -- at most 256 calls of the link for each poll that it may have, and for each item that it may show
+  pub calls : next.seen.link.calls ≤ at.seen.link.calls + 256 * (step.polls + step.most)
   pub cause : HasCause at step out own slice next out.end
   pub duly : EndsDuly at step out next
   pub lawful : IsNeverUnlawful at out next
+  -- the replies owed behind it are the Query and Sync messages queued, less the ReadyForQuery messages taken
+  pub ledger : ended next + owed next ≡ count_by ends_request next.said
 
 -- one outcome for each step, each from the place where the one before it ended
 abbrev pub Plays_from : Place → List Step → List Outcome → Place → Type 0
@@ -97,6 +104,7 @@ pub record StandsAt (start : StreamSeen) (at : Place) (c : ConnSeen) : Type 0 wh
   -- where nothing is owed, nothing was heard behind the last response
   pub between : c.ledger.owed ≡ 0 → after_readys (length at.groups) (heard at.frames) ≡ []
   pub plain : AsksForNoCopy (heard at.frames) → at.said ≡ said_in at.groups
+  pub requests : count_by ends_request at.said ≡ length at.groups
 
 -- Internal: whatever place it began at, the play stands at a later one.
 abbrev pub PlaysOn : ConnSeen → ConnSeen → List Step → List Outcome → Type 0
@@ -118,24 +126,24 @@ pub record TellsBytes (opening : Opening) (first last : LinkSeen) (started : Sta
   pub read_is : CountsTo (length read) started.read
   -- no step changes what start-up has made of it
   pub secured : IsSecured plan handshake.answered first.secured last.secured
-  -- what the link took is a front of the messages queued
-  pub sent : (old new : List ℕ) → first.taken ≡ Some old → last.taken ≡ Some new → (bytes : List ℕ) × (new ≡ old ++ bytes) × IsPrefixOf bytes (said ++ spelled at.said)
+  -- what the link took, and behind it what is not sent yet, are the messages queued
+  pub sent : (old new : List ℕ) → first.taken ≡ Some old → last.taken ≡ Some new → (bytes : List ℕ) × (new ≡ old ++ bytes) × (bytes ++ at.seen.unsent ≡ said ++ spelled at.said)
   -- the frames taken are the first of those in all bytes that it gave
   pub gave : (old new : List ℕ) → first.given ≡ Some old → last.given ≡ Some new
       → (bytes : List ℕ) × (new ≡ old ++ read ++ bytes) × (bytes ≡ text_of at.frames ++ at.seen.held) × ((frames : List Frame) (rest : List ℕ) → Cuts backend_tags bytes frames rest → IsPrefixOf at.frames frames)
 
 -- ---- the numbers of all steps
 
--- in sum the steps waited, and moved bytes, at most as often as the link counts
+-- in sum the steps waited, and moved bytes, as often as the link counts from where start-up ended
 pub record Totals (first last : LinkSeen) (outs : List Outcome) : Type 0 where
   pub write_waits : ℕ
   pub read_waits : ℕ
   pub moves : ℕ
-  pub waits : sum_by (λ out. out.waits) outs ≤ write_waits + read_waits
-  pub moved : sum_by (λ out. out.moved) outs ≤ moves
-  pub writes : RoseBy write_waits first.write_waits last.write_waits
-  pub reads : RoseBy read_waits first.read_waits last.read_waits
-  pub moving : RoseBy moves first.moved last.moved
+  pub waits : CountsTo (write_waits + read_waits) (sum_by (λ out. out.waits) outs)
+  pub moved : CountsTo moves (sum_by (λ out. out.moved) outs)
+  pub writes : GrewBy write_waits first.write_waits last.write_waits
+  pub reads : GrewBy read_waits first.read_waits last.read_waits
+  pub moving : GrewBy moves first.moved last.moved
 
 -- ---- a server whose frames are replies
 
@@ -162,9 +170,11 @@ abbrev pub WhereLawful : Place → List Outcome → Type 0
 WhereLawful at outs = (sent read : List Frame) (rest : List ℕ) → IsPrefixOf sent (map frontend_frame at.said) → Cuts backend_tags (text_of at.frames ++ at.seen.held) read rest → AreReplies sent (heard read) → IsLawful at outs
 
 -- The steps were played behind a start-up, from the place where nothing is said and taken yet.
-pub record Plays (opening : Opening) (first last : LinkSeen) (started : Started) (steps : List Step) (outs : List Outcome) : Type 0 where
+pub record Plays (opening : Opening) (polls : ℕ) (first last : LinkSeen) (started : Started) (steps : List Step) (outs : List Outcome) : Type 0 where
   pub begins : StreamSeen
   pub begun : NoneFalls first begins.link
+  -- fewer polls of start-up than it had answered `Pending`
+  pub startup : HasWaitedLess polls first begins.link
   pub counts : NoneFalls first last
   pub place : Place
   pub plays : Plays_from (first_place begins) steps outs place
@@ -173,7 +183,7 @@ pub record Plays (opening : Opening) (first last : LinkSeen) (started : Started)
   pub can : AllByRecursion HasFrontendFrame place.said
   pub groups : AllByRecursion IsGroup place.groups
   pub at_link : place.seen.link ≡ last
-  pub totals : Totals first last outs
+  pub totals : Totals begins.link last outs
   pub waits : LastPlaces first last outs (places_in (first_place begins) steps outs place plays)
   -- the whole frames that the link gave behind the handshake and before a wait are taken by the end of the wait's step
   pub in_time : (old new : List ℕ) → first.given ≡ Some old → last.given ≡ Some new → TakesInTime (old ++ bytes.read) new (first_place begins) steps outs place plays

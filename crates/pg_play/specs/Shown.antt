@@ -27,6 +27,12 @@ request_of (calls.FetchOne query) = requests.FetchOne query
 request_of calls.Ping = requests.Ping
 request_of calls.Flush = requests.Flush
 
+-- whether it has a query, which a connection gets a copy of
+abbrev pub has_query : Call → Bool
+has_query calls.Ping = false
+has_query calls.Flush = false
+has_query _ = true
+
 -- ---- the answer rule
 
 -- a row for each DataRow, and a count for each CommandComplete, in order
@@ -94,6 +100,12 @@ abbrev pub items_with : List Item → CallAnswer → List Item
 items_with items (call_answers.Rows rows) = map Row rows
 items_with items (call_answers.OneRow row) = one_row row
 items_with items _ = items
+
+-- whether items come with the answer
+abbrev pub has_rows : CallAnswer → Bool
+has_rows (call_answers.Rows rows) = true
+has_rows (call_answers.OneRow row) = true
+has_rows _ = false
 
 abbrev pub answer_of : CallAnswer → Answer
 answer_of (call_answers.Total n) = Total n.rows

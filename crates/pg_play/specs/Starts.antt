@@ -1,17 +1,18 @@
 -- A start-up that is played.
-use Rattle.std.specs.Prelude.{◌≡◌, ◌⊎◌, ℕ, ◌+◌, ◌*◌, ◌<◌, ◌≤◌, false, List, Result, Ok, Err, Some, None}
+use Rattle.std.specs.Prelude.{◌≡◌, ◌⊎◌, ℕ, ◌+◌, ◌*◌, ◌<◌, List, Result, Ok, Err, Some, None}
 use Rattle.futures.specs.declared.task.Poll.{Poll}
 use Rattle.futures.specs.declared.task.Poll.TheVariants.{Ready, Pending}
 use Rattle.pg_wire.specs.declared.error.Error.{Error}
 use Rattle.pg_wire.specs.declared.error.Error.TheVariants as errors
 use Rattle.pg_options.specs.Options.{ConnectOptions}
-use Rattle.pg_stream.specs.Links.{LinkPlan, LinkSeen, NoneFalls, RoseBy, Rose}
+use Rattle.pg_stream.specs.Links.{LinkPlan, LinkSeen, NoneFalls, RoseBy, Rose, GrewBy}
 use Rattle.pg_auth.specs.Tls.{tls_plan}
 use Rattle.pg_startup.specs.Nuls.{first_nul_in}
 use Rattle.pg_startup.specs.Startups.{startup_of, startup_texts}
 use Rattle.pg_startup.specs.Exchange.{client_of}
 use Rattle.pg_startup.specs.Handshake.{ReadyOf, HasBegun}
 use Rattle.pg_startup.specs.Establishing.{EstablishOf, EstablishSeen, establish_by, HasLink, IsServersTurn, IsStarting, kept_link, StartFails, RefusesStart}
+use Rattle.pg_startup.specs.Lawful.{HearsLawful, Works}
 use Rattle.pg_conn.specs.Connections.{ConnOf, ConnSeen, seen_by, fresh_connection}
 
 -- What a start-up is to do: the options and the nonce of the client, and what its link is made of.
@@ -30,15 +31,19 @@ pub record IsOf (opening : Opening) (e : EstablishSeen) : Type 0 where
   pub client : e.client ≡ client_of opening.options opening.nonce
   pub message : e.message ≡ startup_of opening.options
 
--- Each of so many polls has its wait of the link, or 256 moves of it.
+-- Each of so many polls is one wait of the link, or 256 moves of it, and the link waited no more.
 pub record HasWaited (n : ℕ) (a b : LinkSeen) : Type 0 where
   pub write_waits : ℕ
   pub read_waits : ℕ
   pub spent : ℕ
-  pub all : n ≤ write_waits + read_waits + spent
-  pub writes : RoseBy write_waits a.write_waits b.write_waits
-  pub reads : RoseBy read_waits a.read_waits b.read_waits
+  pub all : write_waits + read_waits + spent ≡ n
+  pub writes : GrewBy write_waits a.write_waits b.write_waits
+  pub reads : GrewBy read_waits a.read_waits b.read_waits
   pub moved : RoseBy (256 * spent) a.moved b.moved
+
+-- fewer polls than so many answered `Pending`
+abbrev pub HasWaitedLess : ℕ → LinkSeen → LinkSeen → Type 0
+HasWaitedLess polls a b = (n : ℕ) × (n < polls) × HasWaited n a b
 
 -- Over a link that it began with, so many polls have answered `Pending`. Where no write waited and the link moved less often than one poll
 -- may, the server is next, or its half of the TLS handshake.
@@ -50,33 +55,37 @@ pub record IsPending (opening : Opening) (first last : LinkSeen) (n : ℕ) (e : 
   pub waited : HasWaited n first last
   pub next : 0 < n → (Rose first.write_waits last.write_waits → ⊥) → (RoseBy 256 first.moved last.moved → ⊥) → IsServersTurn e.phase
 
--- The error has its cause, over the link as it began and as it stands.
-pub record HasFailed (opening : Opening) (first last : LinkSeen) (e : EstablishSeen) (error : Error) : Type 0 where
+-- The error has its cause, over the link as it began and as it stands; where the link works and the server says what a lawful one does, it is
+-- want of memory.
+pub record HasFailed (opening : Opening) (polls : ℕ) (first last : LinkSeen) (e : EstablishSeen) (error : Error) : Type 0 where
   pub of : IsOf opening e
   pub kept : HasLink e.phase last
   pub counts : NoneFalls first last
+  pub waited : HasWaitedLess polls first last
   pub fails : StartFails first first e e.phase error
+  pub lawful : Works first last → HearsLawful e first last → error ≡ errors.OutOfMemory
 
 -- Why a start-up of so many polls ends with an error: none of them has answered; or it is refused before its link is touched; or it fails.
 abbrev pub StartEnds : Opening → ℕ → LinkSeen → LinkSeen → Error → Type 0
 StartEnds opening polls first last error = ((error ≡ errors.StartupPending) × ((e : EstablishSeen) × IsPending opening first last polls e))
     ⊎ ((last ≡ first) × RefusesStart opening.options opening.made error)
-    ⊎ ((e : EstablishSeen) × HasFailed opening first last e error)
+    ⊎ ((e : EstablishSeen) × HasFailed opening polls first last e error)
 
 -- The exchange is over, and the connection owes nothing.
-pub record HasOpened (opening : Opening) (first : LinkSeen) (a : ConnSeen) : Type 0 where
+pub record HasOpened (opening : Opening) (polls : ℕ) (first : LinkSeen) (a : ConnSeen) : Type 0 where
   pub e : EstablishSeen
   pub of : IsOf opening e
   pub ready : ReadyOf LinkSeen
   pub begun : HasBegun e.client e.plan e.message first ready
   pub counts : NoneFalls first a.stream.link
+  pub waited : HasWaitedLess polls first a.stream.link
   pub fresh : a ≡ fresh_connection ready.stream ready.sent ready.read
 
 -- what a poll makes of a start-up of which so many have answered `Pending`
 abbrev pub StartsOn : {A : Type 0} → (A → LinkSeen) → Opening → LinkSeen → ℕ → EstablishOf A → Poll (Result (ConnOf A) Error) → Type 0
 StartsOn seen opening first n e Pending = (last : LinkSeen) × IsPending opening first last (n + 1) (establish_by seen e)
-StartsOn seen opening first n e (Ready (Ok conn)) = HasOpened opening first (seen_by seen conn)
-StartsOn seen opening first n e (Ready (Err error)) = (last : LinkSeen) × HasFailed opening first last (establish_by seen e) error
+StartsOn seen opening first n e (Ready (Ok conn)) = HasOpened opening (n + 1) first (seen_by seen conn)
+StartsOn seen opening first n e (Ready (Err error)) = (last : LinkSeen) × HasFailed opening (n + 1) first last (establish_by seen e) error
 
 -- the connection, or the error with the link that is kept
 abbrev pub Hands : {A : Type 0} → EstablishOf A → Result (ConnOf A) Error → Result (ConnOf A) (Error × A) → Type 0
@@ -85,5 +94,5 @@ Hands {A} e (Err error) result = (link : A) × (kept_link e.phase ≡ Some link)
 
 -- what comes of a start-up
 abbrev pub StartsAs : {A : Type 0} → (A → LinkSeen) → Opening → ℕ → LinkSeen → Result (ConnOf A) (Error × A) → Type 0
-StartsAs seen opening polls first (Ok conn) = HasOpened opening first (seen_by seen conn)
+StartsAs seen opening polls first (Ok conn) = HasOpened opening polls first (seen_by seen conn)
 StartsAs seen opening polls first (Err (error, link)) = StartEnds opening polls first (seen link) error

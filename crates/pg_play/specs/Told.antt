@@ -7,7 +7,7 @@ use Rattle.pg_wire.specs.Backend.{BackendMessage, backend_frame, HasBackendFrame
 use Rattle.pg_wire.specs.declared.fields.ErrorField.{ErrorField}
 use Rattle.pg_wire.specs.Server.{IsPrefixOf}
 use Rattle.pg_request.specs.declared.progress.CacheStep.TheVariants as cache
-use Rattle.pg_stream.specs.Links.{RoseBy}
+use Rattle.pg_stream.specs.Links.{GrewBy}
 use Rattle.pg_call.specs.Requests.{Group}
 use Rattle.pg_call.specs.Drains.{is_error}
 use Rattle.pg_call.specs.Calls.{EndsByReady}
@@ -26,8 +26,8 @@ Carry frames messages = (frames ≡ map backend_frame messages) × AllByRecursio
 abbrev pub HasNoError : List Frame → Type 0
 HasNoError frames = AllByRecursion (λ frame. is_error frame ≡ false) frames
 
--- at Ok all is shown, the answer is the call's, no error was heard, and every response owed was read to its end: the last frame heard,
--- if there is one, is ReadyForQuery
+-- at Ok all is sent and shown, the answer is the call's, no error was heard, and every response owed was read to its end: the last frame
+-- heard, if there is one, is ReadyForQuery
 pub record IsWell (step : Step) (out : Outcome) (answer : Answer) (response : List BackendMessage) (slice : List Frame) (next : Place) : Type 0 where
   pub items : out.items ≡ shown_by step.call (items_in response)
   pub answers : answer ≡ answered_by step.call (items_in response)
@@ -35,6 +35,7 @@ pub record IsWell (step : Step) (out : Outcome) (answer : Answer) (response : Li
   pub no_error : HasNoError slice
   pub answered : ended next ≡ length next.groups
   pub ready : EndsByReady slice
+  pub sent : next.seen.unsent ≡ []
 
 abbrev pub WellAtOk : End → Step → Outcome → List BackendMessage → List Frame → Place → Type 0
 WellAtOk (ends.Ok answer) step out response slice next = IsWell step out answer response slice next
@@ -68,6 +69,6 @@ pub record Numbers (at : Place) (out : Outcome) (own : List Group) (slice : List
   pub moves : ℕ
   pub waits : CountsTo (write_waits + read_waits) out.waits
   pub moved : CountsTo moves out.moved
-  pub writes : RoseBy write_waits at.seen.link.write_waits next.seen.link.write_waits
-  pub reads : RoseBy read_waits at.seen.link.read_waits next.seen.link.read_waits
-  pub moving : RoseBy moves at.seen.link.moved next.seen.link.moved
+  pub writes : GrewBy write_waits at.seen.link.write_waits next.seen.link.write_waits
+  pub reads : GrewBy read_waits at.seen.link.read_waits next.seen.link.read_waits
+  pub moving : GrewBy moves at.seen.link.moved next.seen.link.moved

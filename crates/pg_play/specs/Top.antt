@@ -44,7 +44,7 @@ HasOutcomes steps (Err _) outcomes = outcomes ≡ 0
 
 -- behind a start-up the headline: each step tells what it queued, heard and showed; and a start-up that fails has its cause
 abbrev pub PlaysSteps : Opening → ℕ → List Step → Result Started Error → List Outcome → LinkSeen → LinkSeen → Type 0
-PlaysSteps opening polls steps (Ok started) outcomes first last = Plays opening first last started steps outcomes
+PlaysSteps opening polls steps (Ok started) outcomes first last = Plays opening polls first last started steps outcomes
 PlaysSteps opening polls steps (Err e) outcomes first last = StartEnds opening polls first last e
 
 -- the link that a script says, of its read and write events and its flags

@@ -3,7 +3,7 @@ use Rattle.std.specs.Prelude.{◌≡◌, ℕ, ◌+◌, List, ◌++◌, length, S
 use Rattle.std.specs.Io.KnownBytes.{Appends}
 use Rattle.std.specs.List.{AllByRecursion}
 use Rattle.pg_wire.specs.Frame.{text_of}
-use Rattle.pg_stream.specs.Links.{LinkSeen, RoseBy, Rose}
+use Rattle.pg_stream.specs.Links.{LinkSeen, GrewBy, Rose}
 use Rattle.pg_report.specs.declared.outcome.Outcome.{Outcome}
 use Rattle.pg_play.specs.Places.{Place}
 use Rattle.pg_play.specs.Waits.{IsWaitPlace}
@@ -20,7 +20,7 @@ pub record WaitPlaces (at : Place) (out : Outcome) (next : Place) : Type 0 where
   -- each wait of the step has its place, but for those of writes
   pub write_waits : ℕ
   pub all : write_waits + length places ≡ out.waits
-  pub writes : RoseBy write_waits at.seen.link.write_waits next.seen.link.write_waits
+  pub writes : GrewBy write_waits at.seen.link.write_waits next.seen.link.write_waits
   -- the whole frames given before a wait are taken by the end of the step
   pub behind : AllByRecursion (IsWaitPlace at.seen.link.given (text_of at.frames ++ at.seen.held) bytes next.frames) places
 

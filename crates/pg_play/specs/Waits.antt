@@ -5,8 +5,8 @@ use Rattle.std.specs.List.{AllByRecursion}
 use Rattle.pg_wire.specs.Frame.{Frame, backend_tags, text_of}
 use Rattle.pg_wire.specs.Cut.{Cuts}
 use Rattle.pg_wire.specs.Server.{IsPrefixOf}
-use Rattle.pg_stream.specs.Links.{RoseBy}
-use Rattle.pg_stream.specs.Streams.{StreamSeen, GrewBy}
+use Rattle.pg_stream.specs.Links.{GrewBy}
+use Rattle.pg_stream.specs.Streams.{StreamSeen}
 
 -- A read waited at this place: behind the old bytes of the link, where it tells them, and the early ones of these, which it gave later. The
 -- frames are those taken of `front`, which the old bytes end with, and of these.
@@ -29,5 +29,5 @@ pub record WaitsAt (a b : StreamSeen) (frames : List Frame) : Type 0 where
   pub told : IfSome a.link.given (λ given. Appends a.link.wait_places b.link.wait_places places)
   pub write_waits : ℕ
   pub waits : GrewBy (write_waits + length places) a.waits b.waits
-  pub writes : RoseBy write_waits a.link.write_waits b.link.write_waits
+  pub writes : GrewBy write_waits a.link.write_waits b.link.write_waits
   pub behind : AllByRecursion (IsWaitPlace a.link.given a.held bytes frames) places

@@ -1,5 +1,5 @@
-ghost use Rattle.std.specs.Prelude.{◌≡◌, IfOk};
-ghost use Rattle.pg_play.specs.Shown.{request_of};
+ghost use Rattle.std.specs.Prelude.{◌≡◌, true, IfOk, OnErr};
+ghost use Rattle.pg_play.specs.Shown.{request_of, has_query};
 
 use pg_conn::Request;
 use pg_script::Call;
@@ -8,7 +8,8 @@ use std::alloc::Global;
 
 /// What the call of a step asks of a connection, in a copy of its own.
 pub(crate) fn request_of(alloc: Global, call: &Call) -> Result<Request, Error>
-    ensures { IfOk result (λ r. r ≡ request_of call.now) }
+    ensures ok { IfOk result (λ r. r ≡ request_of call.now) }
+    ensures err { OnErr result (has_query call.now ≡ true) }
 {
     Ok(match call {
         Call::Execute(query) => Request::Execute(query.to_copy(alloc)?),

@@ -1,4 +1,4 @@
-ghost use Rattle.std.specs.Prelude.{◌≡◌, ◌≤◌, [], length, vec_capacity, Err, IfOk, IfErr};
+ghost use Rattle.std.specs.Prelude.{◌≡◌, ◌≤◌, ℕ, [], length, vec_capacity, Err, IfOk, IfErr};
 ghost use Rattle.pg_auth.specs.Nonce.{IsNonce};
 ghost use Rattle.pg_stream.specs.Links.{LinkSeen};
 ghost use Rattle.pg_conn.specs.Connections.{seen_by};
@@ -41,7 +41,7 @@ fn play_steps<L: Link>(
     requires room { length steps.now ≤ vec_capacity outcomes }
     ensures outcomes { HasOutcomes (length steps.now) result.start (length result.outcomes) }
     ensures started { IfErr result.start (λ e. ⊥) }
-    ensures plays { (opening : Opening) (link : LinkSeen) → HasOpened opening link (seen_by L.seen conn) → IfOk result.start (λ started. Plays opening link (L.seen result.link) started steps.now result.outcomes) }
+    ensures plays { (opening : Opening) (polls : ℕ) (link : LinkSeen) → HasOpened opening polls link (seen_by L.seen conn) → IfOk result.start (λ started. Plays opening polls link (L.seen result.link) started steps.now result.outcomes) }
 {
     let (sent, read) = conn.started();
     for step in steps {
@@ -73,7 +73,7 @@ pub fn play<L: Link>(
     // A start-up that fails has its cause.
     ensures start { IfErr result.start (StartEnds (opening_of options.now nonce.now (L.seen link).plan) start_polls (L.seen link) (L.seen result.link)) }
     // Else the handshake was made, and from there on each outcome tells what its step queued and heard, why it ended so, and what it showed.
-    ensures plays { IfOk result.start (λ started. Plays (opening_of options.now nonce.now (L.seen link).plan) (L.seen link) (L.seen result.link) started steps.now result.outcomes) }
+    ensures plays { IfOk result.start (λ started. Plays (opening_of options.now nonce.now (L.seen link).plan) start_polls (L.seen link) (L.seen result.link) started steps.now result.outcomes) }
 {
     let Ok(outcomes) = Vec::with_capacity(alloc, steps.len()) else {
         return failed(alloc, Error::OutOfMemory, link);

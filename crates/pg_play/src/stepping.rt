@@ -2,8 +2,6 @@ ghost use Rattle.std.specs.Prelude.{◌≡◌, ◌<◌, ◌+◌, ◌-◌, ◌^�
 ghost use Rattle.pg_request.specs.declared.progress.CacheStep.TheVariants as cache;
 ghost use Rattle.pg_conn.specs.Connections.{ConnSeen, seen_by, runs, started_call};
 ghost use Rattle.pg_call.specs.declared.request.Request.{Request};
-ghost use Rattle.pg_call.specs.Requests.{kind_of};
-ghost use Rattle.pg_call.specs.declared.kind.Kind.TheVariants as kinds;
 ghost use Rattle.pg_play.specs.Calls.{IsPlaying, PollGives, PlaysCall, PlaysStep, untouched};
 
 use crate::asking::request_of;
@@ -24,7 +22,7 @@ fn poll_once<L: Link>(
 ) -> Option<End>
     requires runs { runs conn.old.call ≡ true }
     requires waits { tally.old.waits < limits.polls }
-    ensures gives { (a : ConnSeen) (r : Request) → (kind_of r ≡ kinds.Close → ⊥) → IsPlaying limits.most a (seen_by L.seen conn.old) r tally.old.waits tally.old.items.items
+    ensures gives { (a : ConnSeen) (r : Request) → IsPlaying limits.most a (seen_by L.seen conn.old) r tally.old.waits tally.old.items.items
         → PollGives limits a (seen_by L.seen conn.new) r tally.new.waits tally.new.items.items result }
     ensures goes { result ≡ None → tally.new.waits < limits.polls }
     ensures falls { result ≡ None → (limits.polls - tally.new.waits) + (2 ^ 64 - length tally.new.items.items) < (limits.polls - tally.old.waits) + (2 ^ 64 - length tally.old.items.items) }
@@ -82,7 +80,6 @@ fn play_call<L: Link>(
 ) -> Outcome
     requires polls { 0 < limits.polls }
     requires most { 0 < limits.most }
-    requires close { kind_of request ≡ kinds.Close → ⊥ }
     ensures { PlaysCall limits (seen_by L.seen (started_call request conn.old)) (seen_by L.seen conn.new) request result }
 {
     conn.start(request);

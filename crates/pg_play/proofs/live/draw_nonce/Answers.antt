@@ -1,6 +1,5 @@
-use Rattle.std.proofs.Common.{◌<◌, ◌≤◌, ◌≡◌, length, take, arith, ap, ◌∙◌, subst, List, ℕ}
-use Rattle.std.proofs.lemmas.List.{take_all}
-use Rattle.pg_conn.specs.Dials.{Draws, DialSeen}
+use Rattle.std.proofs.Common.{◌<◌, length, arith, ap, ◌∙◌}
+use Rattle.pg_conn.specs.Dials.{DialSeen}
 use Rattle.pg_play.proofs.TopLaws.{draws_more}
 use Rattle.pg_play.proofs.live.draw_nonce.Goals as goal
 

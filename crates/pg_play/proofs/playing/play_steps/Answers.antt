@@ -20,8 +20,8 @@ loop-step-preserved g c =
     }
 
 pub returns-clause-plays : goal.returns-clause-plays
-returns-clause-plays g c opening link begins =
+returns-clause-plays g c opening polls link begins =
     rw c.from_vec.ensures
-    (plays_begun opening link (g.L.Link.seen c.close_hard.result) (seen_by g.L.Link.seen c.args.conn) (seen_by g.L.Link.seen c.loop-step.conn) (record { sent = c.started-sent.result.0; read = c.started-sent.result.1 }) c.args.steps.now c.loop-step.outcomes.items begins
+    (plays_begun opening polls link (g.L.Link.seen c.close_hard.result) (seen_by g.L.Link.seen c.args.conn) (seen_by g.L.Link.seen c.loop-step.conn) (record { sent = c.started-sent.result.0; read = c.started-sent.result.1 }) c.args.steps.now c.loop-step.outcomes.items begins
     (rw (take_all c.loop-step.step-index c.args.steps.now c.loop-step-test.false) at c.loop-step.invariant.plays)
     (ap (λ (p : ℕ × ℕ). p.0) c.started-sent.ensures) (ap (λ (p : ℕ × ℕ). p.1) c.started-sent.ensures) (ap g.L.Link.seen c.close_hard.ensures))

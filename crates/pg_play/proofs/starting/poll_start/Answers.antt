@@ -7,7 +7,7 @@ use Rattle.pg_play.proofs.starting.poll_start.Goals as goal
 pub returns-in-Ready : goal.returns-in-Ready
 returns-in-Ready g c opening first last i =
     let now = c.loop.invariant.pends opening first last i in
-    handed g.L.Link.seen opening c.args.polls c.loop.counter first c.poll_once.new.establish c.in-Ready.answer c.hand_over.result (c.in-Ready.ensures.starts opening first now.0 c.loop.counter now.1) c.hand_over.ensures
+    handed g.L.Link.seen opening c.args.polls c.loop.counter first c.poll_once.new.establish c.in-Ready.answer c.hand_over.result (omega (arith, c.loop-test.true, c.loop.auto.counter-end)) (c.in-Ready.ensures.starts opening first now.0 c.loop.counter now.1) c.hand_over.ensures
 
 pub loop-preserved : goal.loop-preserved
 loop-preserved g c = record {

@@ -14,4 +14,4 @@ pub returns-in-Some : goal.returns-in-Some
 returns-in-Some g c =
     let begun : ConnSeen = seen_by g.L.Link.seen (started_call c.args.request c.args.conn.now) in
     plays_call c.args.limits begun (seen_by g.L.Link.seen c.poll_once.new.conn) (seen_by g.L.Link.seen c.abandon.new.self) c.args.request c.poll_once.new.tally.waits c.poll_once.new.tally.items.items c.in-Some.end c.outcome.result
-    (c.in-Some.ensures.gives begun c.args.request c.requires.close c.loop-end.invariant.playing) (ap (seen_by g.L.Link.seen) c.abandon.ensures) (rw c.progress.ensures at c.outcome.ensures)
+    (c.in-Some.ensures.gives begun c.args.request c.loop-end.invariant.playing) (ap (seen_by g.L.Link.seen) c.abandon.ensures) (rw c.progress.ensures at c.outcome.ensures)

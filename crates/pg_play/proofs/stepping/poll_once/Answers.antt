@@ -3,21 +3,21 @@ use Rattle.pg_play.proofs.CallLaws.{poll_goes, poll_drops, poll_ok, poll_err, po
 use Rattle.pg_play.proofs.stepping.poll_once.Goals as goal
 
 pub returns-then-tally-limits-clause-gives : goal.returns-then-tally-limits-clause-gives
-returns-then-tally-limits-clause-gives g c a r n i =
-    poll_drops c.args.limits a (seen_by g.L.Link.seen c.args.conn.now) (seen_by g.L.Link.seen c.poll_call.new.self) r c.args.tally.now.waits c.args.tally.now.items.items n c.if-tally-limits.true i c.in-Pending.ensures
+returns-then-tally-limits-clause-gives g c a r i =
+    poll_drops c.args.limits a (seen_by g.L.Link.seen c.args.conn.now) (seen_by g.L.Link.seen c.poll_call.new.self) r c.args.tally.now.waits c.args.tally.now.items.items c.if-tally-limits.true i c.in-Pending.ensures
 
 pub returns-else-tally-limits-clause-gives : goal.returns-else-tally-limits-clause-gives
-returns-else-tally-limits-clause-gives g c a r n i =
+returns-else-tally-limits-clause-gives g c a r i =
     poll_goes c.args.limits a (seen_by g.L.Link.seen c.args.conn.now) (seen_by g.L.Link.seen c.poll_call.new.self) r c.args.tally.now.waits c.args.tally.now.items.items i c.in-Pending.ensures
 
 pub returns-in-Ready-Item-clause-gives : goal.returns-in-Ready-Item-clause-gives
-returns-in-Ready-Item-clause-gives g c a r n i =
+returns-in-Ready-Item-clause-gives g c a r i =
     poll_item c.args.limits a (seen_by g.L.Link.seen c.args.conn.now) (seen_by g.L.Link.seen c.poll_call.new.self) r c.args.tally.now c.add.new.self c.in-Ready-Item.item c.add.result c.requires.waits c.add.ensures.adds i (rw c.in-Ready-Item.field-0-is at c.in-Ready-Item.ensures)
 
 pub returns-in-Ready-Ok-clause-gives : goal.returns-in-Ready-Ok-clause-gives
-returns-in-Ready-Ok-clause-gives g c a r n i =
+returns-in-Ready-Ok-clause-gives g c a r i =
     poll_ok c.args.limits a (seen_by g.L.Link.seen c.args.conn.now) (seen_by g.L.Link.seen c.poll_call.new.self) r c.args.tally.now c.finish.new.self c.in-Ready-Ok.answer c.finish.result c.requires.waits c.finish.ensures i (rw c.in-Ready-Ok.field-0-is at c.in-Ready-Ok.ensures)
 
 pub returns-in-Ready-Err-clause-gives : goal.returns-in-Ready-Err-clause-gives
-returns-in-Ready-Err-clause-gives g c a r n i =
+returns-in-Ready-Err-clause-gives g c a r i =
     poll_err c.args.limits a (seen_by g.L.Link.seen c.args.conn.now) (seen_by g.L.Link.seen c.poll_call.new.self) r c.args.tally.now.waits c.args.tally.now.items.items c.in-Ready-Err.e c.requires.waits i (rw c.in-Ready-Err.field-0-is at c.in-Ready-Err.ensures)
