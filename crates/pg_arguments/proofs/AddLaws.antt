@@ -1,9 +1,9 @@
 -- A value added behind its length.
-use Rattle.std.proofs.Common.{◌≡◌, ℕ, ◌-◌, ◌<◌, ◌≤◌, List, [], ◌∷◌, ◌++◌, length, take, map, Option, Some, None, refl, sym, ap, subst, ◌∙◌, arith}
+use Rattle.std.proofs.Common.{◌≡◌, ℕ, ◌+◌, ◌-◌, ◌<◌, ◌≤◌, List, [], ◌∷◌, ◌++◌, length, take, map, Option, Some, None, refl, sym, ap, subst, ◌∙◌, arith}
 use Rattle.std.proofs.lemmas.List.{length-append, take-take, take_at, take_all}
 use Rattle.std.proofs.lemmas.Bool.{le-ltb, lt-ltb}
 use Rattle.pg_wire.specs.Bytes.{number32}
-use Rattle.pg_arguments.specs.Encoded.{Encoded, moved, plain, joined, wire, overwritten, cut_off, AreInside}
+use Rattle.pg_arguments.specs.Encoded.{Encoded, moved, plain, joined, counted, wire, overwritten, cut_off, AreInside}
 use Rattle.pg_arguments.specs.Encoding.{Encoding, Refused, Null, Image, value_of, Extends, Appends, AddsValue}
 use Rattle.pg_arguments.specs.declared.encode.IsNull.{IsNull}
 use Rattle.pg_arguments.specs.declared.encode.IsNull.TheVariants as nulls
@@ -24,11 +24,11 @@ abbrev pub minus_one : List ℕ
 minus_one = 255 ∷ 255 ∷ 255 ∷ 255 ∷ []
 
 abbrev pub with_length : Encoded → ℕ → Encoded → Encoded
-with_length old n new = record { bytes = overwritten (length old.bytes) (number32 n) new.bytes; holes = new.holes }
+with_length old n new = record { bytes = overwritten (length old.bytes) (number32 n) new.bytes; holes = new.holes; values = old.values + 1 }
 
 -- the length is written once the encoding is there
 behind_length : (old e : Encoded) → with_length old (length e.bytes) (joined (joined old (plain minus_one)) e) ≡ joined old (wire (Some e))
-behind_length old e = rewritten old e minus_one (number32 (length e.bytes)) refl ∙ joined-assoc old (plain (number32 (length e.bytes))) e
+behind_length old e = ap (counted (old.values + 1)) (rewritten old e minus_one (number32 (length e.bytes)) refl ∙ joined-assoc old (plain (number32 (length e.bytes))) e)
 
 length_behind : (old e : Encoded) → length (joined (joined old (plain minus_one)) e).bytes - length old.bytes - 4 ≡ length e.bytes
 length_behind old e = omega (arith, length-append (old.bytes ++ minus_one) e.bytes, length-append old.bytes minus_one)
@@ -43,9 +43,9 @@ adds_image (Image e) old mid new n m a size le inside =
     let short : length e.bytes ≤ 2147483647 = omega (arith, le, long) in
     rw (le-ltb 2147483647 (length e.bytes) short, made, long) (behind_length old e, (short, inside_part (joined old (plain minus_one)) e (subst AreInside made inside)))
 
-pub adds_null : (encoding : Encoding) (old mid new : Encoded) → mid ≡ joined old (plain minus_one) → Appends encoding nulls.Yes mid new → AddsValue (value_of encoding) old new
+pub adds_null : (encoding : Encoding) (old mid new : Encoded) → mid ≡ joined old (plain minus_one) → Appends encoding nulls.Yes mid new → AddsValue (value_of encoding) old (counted (old.values + 1) new)
 adds_null Refused old mid new m a = absurd a
-adds_null Null old mid new m a = (a ∙ m, tt)
+adds_null Null old mid new m a = (ap (counted (old.values + 1)) (a ∙ m), tt)
 adds_null (Image e) old mid new m a = absurd a
 
 pub too_long : (encoding : Encoding) (old mid new : Encoded) (n : ℕ) → mid ≡ joined old (plain minus_one) → Appends encoding nulls.No mid new
@@ -75,5 +75,5 @@ pub adds_extends : (value : Option (Option Encoded)) (old new : Encoded) → Add
 adds_extends None old new a = absurd a
 adds_extends (Some v) old new a = extends_by old new (wire v) a.0
 
-pub cut_is_old : (old new : Encoded) → Extends old new → cut_off (length old.bytes) (length old.holes) new ≡ old
+pub cut_is_old : (old new : Encoded) → Extends old new → cut_off (length old.bytes) (length old.holes) old.values new ≡ old
 cut_is_old old new e = rw (e.0, e.1) refl

@@ -3,7 +3,8 @@ use Rattle.std.proofs.Common.{◌≡◌, ℕ, ◌<◌, List, [], ◌∷◌, ◌+
 use Rattle.std.specs.Prelude.{Result, Ok, Err, OnOk, OnErr}
 use Rattle.std.specs.List.{AllByRecursion}
 use Rattle.std.proofs.lemmas.List.{length-append}
-use Rattle.std.proofs.Math.Logic.{∥∥₁_map}
+use Rattle.std.proofs.Math.Logic.{∥∥₁_map, ∥∥₁_elim}
+use Rattle.std.proofs.Math.Nat.{ℕ_set}
 use Rattle.pg_arguments.specs.Types.{TypeParts}
 use Rattle.pg_arguments.specs.Encoded.{Encoded, joined, wire, wires, FitsWire, patched}
 use Rattle.pg_arguments.specs.Encoding.{AddsValue}
@@ -37,6 +38,14 @@ pub adds_to_values : {T E : Type 0} (r : Result T E) (one : TypeParts) (old new 
 adds_to_values (Ok x) one old new None t a = absurd a
 adds_to_values (Ok x) one old new (Some v) t a = λ values m. rw t (made_of_next old.types one old.encoded new.encoded v values a.0 a.1 m)
 adds_to_values (Err e) one old new value t a = tt
+
+count_wires : (values : List (Option Encoded)) → (wires values).values ≡ length values
+count_wires [] = refl
+count_wires (None ∷ vs) = omega (arith, count_wires vs)
+count_wires (Some e ∷ vs) = omega (arith, count_wires vs)
+
+pub one_each : (types : List TypeParts) (e : Encoded) → ∥ ((values : List (Option Encoded)) × AreMadeOf types e values) ∥₁ → e.values ≡ length types
+one_each types e h = ∥∥₁_elim h (ℕ_set e.values (length types)) (λ m. ap (λ (x : Encoded). x.values) m.1.2 ∙ count_wires m.0 ∙ m.1.0)
 
 pub patched_values : (types : List TypeParts) (old new : Encoded) (k oid : ℕ) → k < length old.holes → new ≡ patched k oid old
     → ∥ ((values : List (Option Encoded)) × AreMadeOf types old values) ∥₁ → ∥ ((values : List (Option Encoded)) × AreMadeOf types new values) ∥₁

@@ -6,7 +6,7 @@ use Rattle.pg_wire.specs.declared.error.Error.TheVariants as errors
 use Rattle.pg_arguments.specs.declared.encode.IsNull.TheVariants as nulls
 use Rattle.pg_arguments.specs.Types.{TypeParts}
 use Rattle.pg_arguments.specs.Encoded.{Encoded, joined, wire, wires}
-use Rattle.pg_arguments.specs.Encoding.{Encoding, Refused, value_of, Extends, Appends, AddsValue, RefusesValue, RefusesEncoding}
+use Rattle.pg_arguments.specs.Encoding.{Encoding, Refused, value_of, Extends, Appends, AddsValue, RefusesArgument, RefusesEncoding}
 use Rattle.pg_arguments.specs.Arrays.{array_head, array_encoding, more_elements, elements, AddsElements, RefusesElements}
 use Rattle.pg_arguments.proofs.JoinLaws.{joined-assoc, joined_nil}
 use Rattle.pg_arguments.proofs.AddLaws.{extends_by}
@@ -58,10 +58,10 @@ refused_behind : {X : Type 0} (encoding : X → Encoding) (xs : List X) (x : X) 
 refused_behind encoding [] x ys e = rw e refl
 refused_behind encoding (y ∷ xs) x ys e = ap (more_elements (value_of (encoding y))) (refused_behind encoding xs x ys e) ∙ none_more (value_of (encoding y))
 
-pub element_refuses : {X : Type 0} (encoding : X → Encoding) (all xs : List X) (x : X) (ys : List X) (e : Error) → all ≡ xs ++ x ∷ ys → RefusesValue (value_of (encoding x)) e → RefusesElements (elements encoding all) e
-element_refuses encoding all xs x ys errors.OutOfMemory at r = tt
-element_refuses encoding all xs x ys (errors.Encode index) at r = rw at (refused_behind encoding xs x ys r)
-element_refuses encoding all xs x ys _ at r = absurd r
+pub element_refuses : {X : Type 0} (encoding : X → Encoding) (all xs : List X) (x : X) (ys : List X) (place : ℕ) (e : Error) → all ≡ xs ++ x ∷ ys → RefusesArgument place (value_of (encoding x)) e → RefusesElements (elements encoding all) e
+element_refuses encoding all xs x ys place errors.OutOfMemory at r = tt
+element_refuses encoding all xs x ys place (errors.Encode index) at r = rw at (refused_behind encoding xs x ys r.1)
+element_refuses encoding all xs x ys place _ at r = absurd r
 
 -- ---- the whole array
 

@@ -8,7 +8,7 @@ use Rattle.pg_wire.specs.declared.error.Error.TheVariants as errors
 use Rattle.pg_arguments.specs.declared.encode.IsNull.TheVariants as nulls
 use Rattle.pg_arguments.specs.Types.{TypeParts}
 use Rattle.pg_arguments.specs.Encoded.{Encoded, plain, joined, wires, overwritten}
-use Rattle.pg_arguments.specs.Encoding.{Encoding, Refused, value_of, Extends, Appends, AddsValue, RefusesValue, RefusesEncoding}
+use Rattle.pg_arguments.specs.Encoding.{Encoding, Refused, value_of, Extends, Appends, AddsValue, RefusesArgument, RefusesEncoding}
 use Rattle.pg_arguments.specs.Arrays.{array_front, array_head, array_encoding, elements, AddsElements, RefusesElements}
 use Rattle.pg_arguments.specs.Iterated.{behind, first_and, items_in, comes, goes_on, encoding_unless, iterated, AddsItems, RefusesItems}
 use Rattle.pg_arguments.proofs.JoinLaws.{joined-assoc, rewritten}
@@ -73,12 +73,12 @@ refuses_by most encoding whole errors.OutOfMemory r = tt
 refuses_by most encoding whole (errors.Encode index) r = inr r
 refuses_by most encoding whole _ r = absurd r
 
-pub one_refused : {A : Type 0} (most : ℕ) (encoding : A → Encoding) (whole : ℕ → Option A) (k : ℕ) (here : ℕ → Option A) (x : A) (old mid : Encoded) (e : Error) → Reached most encoding whole k here old mid
-    → k < most → Some x ≡ here 0 → RefusesValue (value_of (encoding x)) e → RefusesItems most encoding whole e
-one_refused most encoding whole k here x old mid e r lt first bad =
+pub one_refused : {A : Type 0} (most : ℕ) (encoding : A → Encoding) (whole : ℕ → Option A) (k : ℕ) (here : ℕ → Option A) (x : A) (old mid : Encoded) (place : ℕ) (e : Error) → Reached most encoding whole k here old mid
+    → k < most → Some x ≡ here 0 → RefusesArgument place (value_of (encoding x)) e → RefusesItems most encoding whole e
+one_refused most encoding whole k here x old mid place e r lt first bad =
     let left : most - k ≡ suc (most - (k + 1)) = omega (arith, lt) in
     let items : items_in (most - k) here ≡ x ∷ items_in (most - (k + 1)) (behind here) = ap (λ n. items_in n here) left ∙ item_first (most - (k + 1)) here (behind here) x (sym first) (λ j. refl) in
-    refuses_by most encoding whole e (element_refuses encoding (items_in most whole) r.0 x (items_in (most - (k + 1)) (behind here)) e (r.2 ∙ ap (λ xs. r.0 ++ xs) items) bad)
+    refuses_by most encoding whole e (element_refuses encoding (items_in most whole) r.0 x (items_in (most - (k + 1)) (behind here)) place e (r.2 ∙ ap (λ xs. r.0 ++ xs) items) bad)
 
 -- ---- the end
 
@@ -146,7 +146,7 @@ abbrev pub no_number : List ℕ
 no_number = 0 ∷ 0 ∷ 0 ∷ 0 ∷ []
 
 iterated_in : (of : TypeParts) (vs : Option (List (Option Encoded))) (n : ℕ) (old front mid end new : Encoded) → front ≡ joined old (array_front of) → mid ≡ joined front (plain (no_number ++ number32 1))
-    → AddsElements vs mid end → new ≡ record { bytes = overwritten (length front.bytes) (number32 n) end.bytes; holes = end.holes } → n ≤ 2147483647 → ((ws : List (Option Encoded)) → vs ≡ Some ws → length ws ≡ n)
+    → AddsElements vs mid end → new ≡ record { bytes = overwritten (length front.bytes) (number32 n) end.bytes; holes = end.holes; values = end.values } → n ≤ 2147483647 → ((ws : List (Option Encoded)) → vs ≡ Some ws → length ws ≡ n)
     → Appends (array_encoding of vs) nulls.No old new
 iterated_in of None n old front mid end new f m a w le h = absurd a
 iterated_in of (Some vs) n old front mid end new f m a w le h =
@@ -154,7 +154,7 @@ iterated_in of (Some vs) n old front mid end new f m a w le h =
     let laid : end ≡ joined (joined front (plain no_number)) rest =
     a ∙ ap (λ (x : Encoded). joined x (wires vs)) (m ∙ sym (joined-assoc front (plain no_number) (plain (number32 1)))) ∙ joined-assoc (joined front (plain no_number)) (plain (number32 1)) (wires vs) in
     let written : new ≡ joined (joined front (plain (number32 n))) rest =
-    w ∙ ap (λ (x : Encoded). record { bytes = overwritten (length front.bytes) (number32 n) x.bytes; holes = x.holes }) laid ∙ rewritten front rest no_number (number32 n) refl in
+    w ∙ ap (λ (x : Encoded). record { bytes = overwritten (length front.bytes) (number32 n) x.bytes; holes = x.holes; values = x.values }) laid ∙ rewritten front rest no_number (number32 n) refl in
     let whole : joined (joined front (plain (number32 n))) rest ≡ joined old (joined (array_head of n) (wires vs)) =
     sym (joined-assoc (joined front (plain (number32 n))) (plain (number32 1)) (wires vs)) ∙ ap (λ (x : Encoded). joined x (wires vs)) (joined-assoc front (plain (number32 n)) (plain (number32 1)))
     ∙ ap (λ (x : Encoded). joined (joined x (plain (number32 n ++ number32 1))) (wires vs)) f ∙ ap (λ (x : Encoded). joined x (wires vs)) (joined-assoc old (array_front of) (plain (number32 n ++ number32 1)))
@@ -167,7 +167,7 @@ appends_unless false e old new h a = a
 
 pub encodes_items : {A : Type 0} (of : TypeParts) (encoding : A → Encoding) (answers : ℕ → Option A) (n : ℕ) (old front mid end new : Encoded) → front ≡ joined old (array_front of)
     → mid ≡ joined front (plain (no_number ++ number32 1)) → AddsItems 2147483647 encoding answers n mid end
-    → new ≡ record { bytes = overwritten (length front.bytes) (number32 n) end.bytes; holes = end.holes } → Appends (iterated 2147483647 of encoding answers) nulls.No old new
+    → new ≡ record { bytes = overwritten (length front.bytes) (number32 n) end.bytes; holes = end.holes; values = end.values } → Appends (iterated 2147483647 of encoding answers) nulls.No old new
 encodes_items of encoding answers n old front mid end new f m a w =
     appends_unless (goes_on 2147483647 answers (length (items_in 2147483647 answers))) (array_encoding of (elements encoding (items_in 2147483647 answers))) old new
     (ap (goes_on 2147483647 answers) (sym a.0) ∙ a.1)

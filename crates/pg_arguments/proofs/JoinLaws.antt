@@ -1,19 +1,27 @@
 -- Encoded values one behind the other, and the places in them that are open.
 use Rattle.std.proofs.Common.{◌≡◌, ℕ, zero, suc, ◌+◌, ◌<◌, ◌≤◌, List, [], ◌∷◌, ◌++◌, length, take, drop, map, get_or, refl, ap, ◌∙◌, append_assoc, append-nil, arith}
 use Rattle.std.specs.Prelude.{remove}
-use Rattle.std.specs.List.{AllByRecursion}
 use Rattle.std.proofs.lemmas.List.{length-append, map-append, take_at, drop_at}
 use Rattle.pg_arguments.specs.declared.hole.Hole.{Hole}
 use Rattle.pg_arguments.specs.Types.{TypeParts}
-use Rattle.pg_arguments.specs.Encoded.{Encoded, plain, open_oid, moved, joined, IsInside, AreInside, overwritten, place_at, patched_with}
+use Rattle.pg_arguments.specs.Encoded.{Encoded, plain, open_oid, moved, joined, AreBetween, AreInside, overwritten, place_at, patched_with}
 
-pub inside_grows : (m n : ℕ) (hs : List Hole) → m ≤ n → AllByRecursion (IsInside m) hs → AllByRecursion (IsInside n) hs
-inside_grows m n [] le h = tt
-inside_grows m n (x ∷ xs) le h = (omega (arith, h.0, le), inside_grows m n xs le h.1)
+pub between_grows : (from m n : ℕ) (hs : List Hole) → m ≤ n → AreBetween from m hs → AreBetween from n hs
+between_grows from m n [] le h = omega (arith, h, le)
+between_grows from m n (x ∷ xs) le h = (h.0, between_grows (x.place + 4) m n xs le h.1)
 
-pub inside_append : (n : ℕ) (hs ks : List Hole) → AllByRecursion (IsInside n) hs → AllByRecursion (IsInside n) ks → AllByRecursion (IsInside n) (hs ++ ks)
-inside_append n [] ks h k = k
-inside_append n (x ∷ xs) ks h k = (h.0, inside_append n xs ks h.1 k)
+pub between_lower : (from to size : ℕ) (hs : List Hole) → from ≤ to → AreBetween to size hs → AreBetween from size hs
+between_lower from to size [] le h = omega (arith, h, le)
+between_lower from to size (x ∷ xs) le h = (omega (arith, h.0, le), h.1)
+
+pub between_room : (from size : ℕ) (hs : List Hole) → AreBetween from size hs → from ≤ size
+between_room from size [] h = h
+between_room from size (x ∷ xs) h = omega (arith, h.0, between_room (x.place + 4) size xs h.1)
+
+-- one more behind the last bytes
+pub between_next : (from size place all : ℕ) (hs : List Hole) (of : TypeParts) → place ≡ size → all ≡ size + 4 → AreBetween from size hs → AreBetween from all (hs ++ record { place = place; of = of } ∷ [])
+between_next from size place all [] of e f h = (omega (arith, h, e), omega (arith, e, f))
+between_next from size place all (x ∷ xs) of e f h = (h.0, between_next (x.place + 4) size place all xs of e f h.1)
 
 pub place_at_is : (hs : List Hole) (k : ℕ) (h : Hole) → k < length hs → h ≡ get_or hs k h → place_at hs k ≡ h.place
 place_at_is [] k h lt e = absurd (omega (arith, lt))
@@ -34,7 +42,7 @@ overwritten_at front old back new n at same =
     let end : drop (n + length new) ((front ++ old) ++ back) ≡ back = drop_at (front ++ old) back (n + length new) (omega (arith, length-append front old, at, same)) in
     rw (start, end) refl
 
-moved_same : (m n : ℕ) (hs : List Hole) → m ≡ n → map (moved m) hs ≡ map (moved n) hs
+pub moved_same : (m n : ℕ) (hs : List Hole) → m ≡ n → map (moved m) hs ≡ map (moved n) hs
 moved_same m n hs e = rw e refl
 
 pub patched_open : (front back : Encoded) (of : TypeParts) (four : List ℕ) (k : ℕ) → length four ≡ 4 → length front.holes ≡ k
@@ -63,35 +71,40 @@ joined-assoc a b c =
     moved_twice (length a.bytes) (length b.bytes) (length (a.bytes ++ b.bytes)) c.holes (omega (arith, length-append a.bytes b.bytes)) in
     let holes : (a.holes ++ map (moved (length a.bytes)) b.holes) ++ map (moved (length (a.bytes ++ b.bytes))) c.holes ≡ a.holes ++ map (moved (length a.bytes)) (b.holes ++ map (moved (length b.bytes)) c.holes) =
     rw (far, map-append (moved (length a.bytes)) b.holes (map (moved (length b.bytes)) c.holes)) (append_assoc a.holes (map (moved (length a.bytes)) b.holes) (map (moved (length a.bytes)) (map (moved (length b.bytes)) c.holes))) in
-    rw (bytes, holes) refl
+    let values : (a.values + b.values) + c.values ≡ a.values + (b.values + c.values) = omega arith in
+    rw (bytes, holes, values) refl
 
 pub joined_nil : (a : Encoded) → joined a (plain []) ≡ a
-joined_nil a = rw (append-nil a.bytes, append-nil a.holes) refl
+joined_nil a = let values : a.values + 0 ≡ a.values = omega arith in rw (append-nil a.bytes, append-nil a.holes, values) refl
 
 moved_none : (hs : List Hole) → map (moved 0) hs ≡ hs
 moved_none [] = refl
 moved_none (h ∷ hs) = let place : 0 + h.place ≡ h.place = omega arith in rw (moved_none hs, place) refl
 
 pub joined_first : (a : Encoded) → joined (plain []) a ≡ a
-joined_first a = rw (moved_none a.holes) refl
+joined_first a = let values : 0 + a.values ≡ a.values = omega arith in rw (moved_none a.holes, values) refl
 
 -- new bytes of the same number behind a first part
 pub rewritten : (old rest : Encoded) (was now : List ℕ) → length now ≡ length was
-    → record { bytes = overwritten (length old.bytes) now (joined (joined old (plain was)) rest).bytes; holes = (joined (joined old (plain was)) rest).holes } ≡ joined (joined old (plain now)) rest
+    → record { bytes = overwritten (length old.bytes) now (joined (joined old (plain was)) rest).bytes; holes = (joined (joined old (plain was)) rest).holes; values = (joined (joined old (plain was)) rest).values } ≡ joined (joined old (plain now)) rest
 rewritten old rest was now same =
     let bytes : overwritten (length old.bytes) now ((old.bytes ++ was) ++ rest.bytes) ≡ (old.bytes ++ now) ++ rest.bytes = overwritten_at old.bytes was rest.bytes now (length old.bytes) refl same in
     let far : map (moved (length (old.bytes ++ was))) rest.holes ≡ map (moved (length (old.bytes ++ now))) rest.holes = moved_same _ _ rest.holes (omega (arith, same, length-append old.bytes was, length-append old.bytes now)) in
     rw (bytes, far) refl
 
-inside_unmoved : (m n k : ℕ) (hs : List Hole) → k ≤ m + n → AllByRecursion (IsInside k) (map (moved m) hs) → AllByRecursion (IsInside n) hs
-inside_unmoved m n k [] le h = tt
-inside_unmoved m n k (x ∷ xs) le h = (omega (arith, h.0, le), inside_unmoved m n k xs le h.1)
+between_unmoved : (m n k from to : ℕ) (hs : List Hole) → k ≤ m + n → m + from ≤ to → AreBetween to k (map (moved m) hs) → AreBetween from n hs
+between_unmoved m n k from to [] le at h = omega (arith, h, le, at)
+between_unmoved m n k from to (x ∷ xs) le at h = (omega (arith, h.0, at), between_unmoved m n k (x.place + 4) (m + x.place + 4) xs le (omega arith) h.1)
 
-inside_second : (k : ℕ) (hs ks : List Hole) → AllByRecursion (IsInside k) (hs ++ ks) → AllByRecursion (IsInside k) ks
-inside_second k [] ks h = h
-inside_second k (x ∷ xs) ks h = inside_second k xs ks h.1
+all_unmoved : (m n k from : ℕ) (hs : List Hole) → k ≤ m + n → AreBetween from k (map (moved m) hs) → AreBetween 0 n hs
+all_unmoved m n k from [] le h = omega arith
+all_unmoved m n k from (x ∷ xs) le h = (omega arith, between_unmoved m n k (x.place + 4) (m + x.place + 4) xs le (omega arith) h.1)
+
+between_second : (from size : ℕ) (hs ks : List Hole) → AreBetween from size (hs ++ ks) → AreBetween 0 size ks
+between_second from size [] ks h = between_lower 0 from size ks (omega arith) h
+between_second from size (x ∷ xs) ks h = between_second (x.place + 4) size xs ks h.1
 
 pub inside_part : (a b : Encoded) → AreInside (joined a b) → AreInside b
 inside_part a b h =
-    inside_unmoved (length a.bytes) (length b.bytes) (length (a.bytes ++ b.bytes)) b.holes (omega (arith, length-append a.bytes b.bytes))
-    (inside_second (length (a.bytes ++ b.bytes)) a.holes (map (moved (length a.bytes)) b.holes) h)
+    all_unmoved (length a.bytes) (length b.bytes) (length (a.bytes ++ b.bytes)) 0 b.holes (omega (arith, length-append a.bytes b.bytes))
+    (between_second 0 (length (a.bytes ++ b.bytes)) a.holes (map (moved (length a.bytes)) b.holes) h)

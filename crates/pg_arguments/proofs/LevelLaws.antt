@@ -1,5 +1,5 @@
 -- The most custom types that stand in each other in one of several attributes.
-use Rattle.std.proofs.Common.{◌≡◌, ℕ, zero, suc, ◌+◌, ◌<◌, max, List, [], ◌∷◌, ◌++◌, length, take, get_or, arith}
+use Rattle.std.proofs.Common.{◌≡◌, ℕ, zero, suc, ◌+◌, ◌<◌, ◌≤◌, length-append, max, List, [], ◌∷◌, ◌++◌, length, take, get_or, arith}
 use Rattle.pg_arguments.specs.Types.{TypeParts, most_levels}
 use Rattle.pg_arguments.specs.Kinds.{attribute_types}
 
@@ -18,3 +18,9 @@ levels_suc (x ∷ xs) (suc i) a lt e =
 pub levels_next : (attributes : List (List ℕ × TypeParts)) (i : ℕ) (a : List ℕ × TypeParts) → i < length attributes → a ≡ get_or attributes i a
     → most_levels (attribute_types (take (i + 1) attributes)) ≡ max (most_levels a.1) (most_levels (attribute_types (take i attributes)))
 levels_next attributes i a lt e = let next : i + 1 ≡ suc i = omega arith in rw next (levels_suc attributes i a lt e)
+
+-- no attribute has more parts than all of them together
+pub attribute_falls : (attributes : List (List ℕ × TypeParts)) (i : ℕ) (a : List ℕ × TypeParts) → i < length attributes → a ≡ get_or attributes i a → length a.1 ≤ length (attribute_types attributes)
+attribute_falls [] i a lt e = absurd (omega (arith, lt))
+attribute_falls (x ∷ xs) zero a lt e = rw e (omega (arith, length-append x.1 (attribute_types xs)))
+attribute_falls (x ∷ xs) (suc i) a lt e = omega (arith, attribute_falls xs i a (omega (arith, lt)) e, length-append x.1 (attribute_types xs))

@@ -1,13 +1,13 @@
 -- An open OID that becomes known stays within the value in which it stands.
-use Rattle.std.proofs.Common.{◌≡◌, ℕ, zero, suc, ◌+◌, ◌-◌, ◌<◌, ◌≤◌, ◌⊎◌, inl, inr, List, [], ◌∷◌, ◌++◌, length, take, drop, map, Option, Some, None, refl, sym, ap, subst, ◌∙◌, append_assoc, arith}
+use Rattle.std.proofs.Common.{◌≡◌, ℕ, zero, suc, ◌+◌, ◌-◌, ◌<◌, ◌≤◌, ◌⊎◌, inl, inr, List, [], ◌∷◌, ◌++◌, length, take, drop, map, Option, Some, None, refl, sym, ap, subst, ◌∙◌, append_assoc, get_or, arith}
 use Rattle.std.specs.Prelude.{remove}
 use Rattle.std.specs.List.{AllByRecursion}
 use Rattle.std.proofs.lemmas.List.{length-append, take-append-le, length-take-le}
 use Rattle.pg_wire.specs.Bytes.{number32}
 use Rattle.pg_arguments.specs.declared.hole.Hole.{Hole}
 use Rattle.pg_arguments.specs.Types.{TypeParts}
-use Rattle.pg_arguments.specs.Encoded.{Encoded, plain, open_oid, moved, joined, IsInside, AreInside, overwritten, place_at, patched_with, wire, wires, FitsWire}
-use Rattle.pg_arguments.proofs.JoinLaws.{inside_grows, joined-assoc, patched_open}
+use Rattle.pg_arguments.specs.Encoded.{Encoded, plain, open_oid, moved, joined, counted, AreBetween, AreInside, overwritten, place_at, patched_with, wire, wires, FitsWire}
+use Rattle.pg_arguments.proofs.JoinLaws.{place_at_is, between_grows, between_lower, between_room, joined-assoc, moved_same, patched_open}
 
 -- ---- places
 
@@ -24,10 +24,13 @@ place_right [] (y ∷ ys) n (suc j) (suc k) e lt = place_right [] ys n j k (omeg
 place_right (x ∷ xs) ks n j zero e lt = absurd (omega (arith, e))
 place_right (x ∷ xs) ks n j (suc k) e lt = place_right xs ks n j k (omega (arith, e)) lt
 
-place_inside : (size : ℕ) (hs : List Hole) (k : ℕ) → k < length hs → AllByRecursion (IsInside size) hs → place_at hs k + 4 ≤ size
-place_inside size [] k lt h = absurd (omega (arith, lt))
-place_inside size (x ∷ xs) zero lt h = h.0
-place_inside size (x ∷ xs) (suc k) lt h = place_inside size xs k (omega (arith, lt)) h.1
+place_inside : (from size : ℕ) (hs : List Hole) (k : ℕ) → k < length hs → AreBetween from size hs → place_at hs k + 4 ≤ size
+place_inside from size [] k lt h = absurd (omega (arith, lt))
+place_inside from size (x ∷ xs) zero lt h = between_room (x.place + 4) size xs h.1
+place_inside from size (x ∷ xs) (suc k) lt h = place_inside (x.place + 4) size xs k (omega (arith, lt)) h.1
+
+pub room_at : (size : ℕ) (hs : List Hole) (k : ℕ) (h : Hole) → k < length hs → h ≡ get_or hs k h → AreBetween 0 size hs → h.place + 4 ≤ size
+room_at size hs k h lt e inside = omega (arith, place_at_is hs k h lt e, place_inside 0 size hs k lt inside)
 
 remove_left : {A : Type 0} (xs ys : List A) (k : ℕ) → k < length xs → remove (xs ++ ys) k ≡ remove xs k ++ ys
 remove_left [] ys k lt = absurd (omega (arith, lt))
@@ -44,11 +47,11 @@ remove_moved n [] k lt = absurd (omega (arith, lt))
 remove_moved n (x ∷ xs) zero lt = refl
 remove_moved n (x ∷ xs) (suc k) lt = ap (λ zs. moved n x ∷ zs) (remove_moved n xs k (omega (arith, lt)))
 
-remove_inside : (size : ℕ) (hs : List Hole) (k : ℕ) → AllByRecursion (IsInside size) hs → AllByRecursion (IsInside size) (remove hs k)
-remove_inside size [] zero h = tt
-remove_inside size [] (suc k) h = tt
-remove_inside size (x ∷ xs) zero h = h.1
-remove_inside size (x ∷ xs) (suc k) h = (h.0, remove_inside size xs k h.1)
+pub remove_between : (from size : ℕ) (hs : List Hole) (k : ℕ) → AreBetween from size hs → AreBetween from size (remove hs k)
+remove_between from size [] zero h = h
+remove_between from size [] (suc k) h = h
+remove_between from size (x ∷ xs) zero h = between_lower from (x.place + 4) size xs (omega (arith, h.0)) h.1
+remove_between from size (x ∷ xs) (suc k) h = (h.0, remove_between (x.place + 4) size xs k h.1)
 
 -- ---- bytes
 
@@ -72,7 +75,7 @@ length_drop zero xs le = omega arith
 length_drop (suc n) [] le = absurd (omega (arith, le))
 length_drop (suc n) (x ∷ xs) le = omega (arith, length_drop n xs (omega (arith, le)))
 
-overwritten_size : (p : ℕ) (new old : List ℕ) → p + length new ≤ length old → length (overwritten p new old) ≡ length old
+pub overwritten_size : (p : ℕ) (new old : List ℕ) → p + length new ≤ length old → length (overwritten p new old) ≡ length old
 overwritten_size p new old le =
     omega (arith, length-append (take p old ++ new) (drop (p + length new) old), length-append (take p old) new, length-take-le p old (omega (arith, le)), length_drop (p + length new) old le)
 
@@ -91,21 +94,18 @@ moved_length : (n : ℕ) (hs : List Hole) → length (map (moved n) hs) ≡ leng
 moved_length n [] = refl
 moved_length n (x ∷ xs) = ap suc (moved_length n xs)
 
-moved_to : (m n : ℕ) (hs : List Hole) → m ≡ n → map (moved m) hs ≡ map (moved n) hs
-moved_to m n hs e = rw e refl
-
 pub patched_size : (k : ℕ) (four : List ℕ) (e : Encoded) → length four ≡ 4 → k < length e.holes → AreInside e → length (patched_with k four e).bytes ≡ length e.bytes
-patched_size k four e size lt h = overwritten_size (place_at e.holes k) four e.bytes (omega (arith, size, place_inside (length e.bytes) e.holes k lt h))
+patched_size k four e size lt h = overwritten_size (place_at e.holes k) four e.bytes (omega (arith, size, place_inside 0 (length e.bytes) e.holes k lt h))
 
 pub patched_inside : (k : ℕ) (four : List ℕ) (e : Encoded) → length four ≡ 4 → k < length e.holes → AreInside e → AreInside (patched_with k four e)
 patched_inside k four e size lt h =
-    inside_grows (length e.bytes) (length (patched_with k four e).bytes) (remove e.holes k) (omega (arith, patched_size k four e size lt h)) (remove_inside (length e.bytes) e.holes k h)
+    between_grows 0 (length e.bytes) (length (patched_with k four e).bytes) (remove e.holes k) (omega (arith, patched_size k four e size lt h)) (remove_between 0 (length e.bytes) e.holes k h)
 
 pub patched_left : (k : ℕ) (four : List ℕ) (a b : Encoded) → length four ≡ 4 → k < length a.holes → AreInside a → patched_with k four (joined a b) ≡ joined (patched_with k four a) b
 patched_left k four a b size lt h =
     let place = place_left a.holes (map (moved (length a.bytes)) b.holes) k lt in
-    let room : place_at a.holes k + length four ≤ length a.bytes = omega (arith, size, place_inside (length a.bytes) a.holes k lt h) in
-    let far : map (moved (length a.bytes)) b.holes ≡ map (moved (length (overwritten (place_at a.holes k) four a.bytes))) b.holes = moved_to _ _ b.holes (sym (overwritten_size (place_at a.holes k) four a.bytes room)) in
+    let room : place_at a.holes k + length four ≤ length a.bytes = omega (arith, size, place_inside 0 (length a.bytes) a.holes k lt h) in
+    let far : map (moved (length a.bytes)) b.holes ≡ map (moved (length (overwritten (place_at a.holes k) four a.bytes))) b.holes = moved_same _ _ b.holes (sym (overwritten_size (place_at a.holes k) four a.bytes room)) in
     rw (place, overwritten_left (place_at a.holes k) four a.bytes b.bytes room, remove_left a.holes (map (moved (length a.bytes)) b.holes) k lt, far) refl
 
 pub patched_right : (k j : ℕ) (four : List ℕ) (a b : Encoded) → k ≡ length a.holes + j → j < length b.holes → patched_with k four (joined a b) ≡ joined a (patched_with j four b)
@@ -115,12 +115,12 @@ patched_right k j four a b e lt =
 
 -- ---- values behind their lengths
 
-inside_moved : (m n k : ℕ) (hs : List Hole) → m + n ≤ k → AllByRecursion (IsInside n) hs → AllByRecursion (IsInside k) (map (moved m) hs)
-inside_moved m n k [] le h = tt
-inside_moved m n k (x ∷ xs) le h = (omega (arith, h.0, le), inside_moved m n k xs le h.1)
+between_moved : (m n k from to : ℕ) (hs : List Hole) → m + n ≤ k → to ≤ m + from → AreBetween from n hs → AreBetween to k (map (moved m) hs)
+between_moved m n k from to [] le at h = omega (arith, h, le, at)
+between_moved m n k from to (x ∷ xs) le at h = (omega (arith, h.0, at), between_moved m n k (x.place + 4) (m + x.place + 4) xs le (omega arith) h.1)
 
 inside_wire : (four : List ℕ) (e : Encoded) → AreInside e → AreInside (joined (plain four) e)
-inside_wire four e h = inside_moved (length four) (length e.bytes) (length (four ++ e.bytes)) e.holes (omega (arith, length-append four e.bytes)) h
+inside_wire four e h = between_moved (length four) (length e.bytes) (length (four ++ e.bytes)) 0 0 e.holes (omega (arith, length-append four e.bytes)) (omega arith) h
 
 sized : (k n : ℕ) → (k < n) ⊎ (n ≤ k)
 sized k zero = inr (omega arith)
@@ -132,7 +132,7 @@ number_of e = number32 (length e.bytes)
 
 patched_wire : (k : ℕ) (four : List ℕ) (e : Encoded) → length four ≡ 4 → k < length e.holes → AreInside e → patched_with k four (wire (Some e)) ≡ wire (Some (patched_with k four e))
 patched_wire k four e size lt h =
-    patched_right k k four (plain (number_of e)) e (omega arith) lt ∙ ap (λ (n : ℕ). joined (plain (number32 n)) (patched_with k four e)) (sym (patched_size k four e size lt h))
+    ap (counted 1) (patched_right k k four (plain (number_of e)) e (omega arith) lt ∙ ap (λ (n : ℕ). joined (plain (number32 n)) (patched_with k four e)) (sym (patched_size k four e size lt h)))
 
 abbrev Patched : ℕ → List ℕ → List (Option Encoded) → Type 0
 Patched k four values = (after : List (Option Encoded)) × (length after ≡ length values) × AllByRecursion FitsWire after × (patched_with k four (wires values) ≡ wires after)
@@ -177,10 +177,12 @@ known_here : (front back rest : Encoded) (of : TypeParts) (four : List ℕ) (k :
     → patched_with k four (joined (wire (Some (joined (joined front (open_oid of)) back))) rest) ≡ joined (wire (Some (joined (joined front (plain four)) back))) rest
 known_here front back rest of four k size at =
     let p : Encoded = plain (number_of (joined (joined front (open_oid of)) back)) in
+    ap (counted (1 + rest.values)) (
     ap (patched_with k four) (regroup p front (open_oid of) back rest)
     ∙ patched_open (joined p front) (joined back rest) of four k size (moved_length 4 front.holes ∙ at)
     ∙ sym (regroup p front (plain four) back rest)
     ∙ ap (λ (n : ℕ). joined (joined (plain (number32 n)) (joined (joined front (plain four)) back)) rest) (same_size front back of four size)
+    )
 
 holes_behind : (xs ys : List (Option Encoded)) → length (wires (xs ++ ys)).holes ≡ length (wires xs).holes + length (wires ys).holes
 holes_behind [] ys = omega arith

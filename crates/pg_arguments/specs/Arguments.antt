@@ -2,8 +2,6 @@
 use Rattle.std.specs.Prelude.{ℕ, ◌≡◌, ◌+◌, List, [], ◌∷◌, ◌++◌, length, Option, Some, None}
 use Rattle.std.specs.List.{AllByRecursion}
 use Rattle.pg_wire.specs.Bytes.{number32}
-use Rattle.pg_wire.specs.declared.error.Error.{Error}
-use Rattle.pg_wire.specs.declared.error.Error.TheVariants as errors
 use Rattle.pg_arguments.specs.Types.{TypeParts}
 use Rattle.pg_arguments.specs.Encoded.{Encoded, plain, open_oid, joined, wire, wires, FitsWire}
 
@@ -27,12 +25,6 @@ AddsArgument of (Some v) old new = (new.types ≡ old.types ++ of ∷ []) × (ne
 abbrev pub AddsToValues : Option (Option Encoded) → Arguments → Arguments → Type 0
 AddsToValues None old new = ⊥
 AddsToValues (Some v) old new = (values : List (Option Encoded)) → HasValues old values → HasValues new (values ++ v ∷ [])
-
--- only a value that has no place among arguments is refused, by its own index, but for want of memory
-abbrev pub RefusesArgument : ℕ → Option (Option Encoded) → Error → Type 0
-RefusesArgument index value errors.OutOfMemory = Unit {0}
-RefusesArgument index value (errors.Encode i) = (i ≡ index) × (value ≡ None)
-RefusesArgument index value _ = ⊥
 
 -- a value in which an OID is known in place of one that was open
 abbrev pub open_in : Encoded → TypeParts → Encoded → Option Encoded

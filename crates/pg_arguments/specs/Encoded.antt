@@ -1,40 +1,46 @@
 -- Encoded values in which the OIDs of some types may still be open.
 use Rattle.std.specs.Prelude.{ℕ, zero, suc, ◌+◌, ◌-◌, ◌^◌, ◌≤◌, List, [], ◌∷◌, ◌++◌, length, map, take, drop, remove, Option, Some, None}
-use Rattle.std.specs.List.{AllByRecursion}
 use Rattle.pg_wire.specs.Bytes.{number32}
 use Rattle.pg_arguments.specs.Types.{TypeParts}
 use Rattle.pg_arguments.specs.declared.hole.Hole.{Hole}
 
--- bytes, and the places among them where the OIDs of types will stand, in order
+-- bytes, the places among them where the OIDs of types will stand, and how many values stand there behind their lengths, not counting
+-- those that are parts of others
 pub record Encoded : Type 0 where
   pub bytes : List ℕ
   pub holes : List Hole
+  pub values : ℕ
 
 -- bytes with nothing open
 abbrev pub plain : List ℕ → Encoded
-plain bytes = record { bytes = bytes; holes = [] }
+plain bytes = record { bytes = bytes; holes = []; values = 0 }
 
 -- the OID of a type that isn't known yet
 abbrev pub open_oid : TypeParts → Encoded
-open_oid of = record { bytes = 0 ∷ 0 ∷ 0 ∷ 0 ∷ []; holes = record { place = 0; of = of } ∷ [] }
+open_oid of = record { bytes = 0 ∷ 0 ∷ 0 ∷ 0 ∷ []; holes = record { place = 0; of = of } ∷ []; values = 0 }
 
 abbrev pub moved : ℕ → Hole → Hole
 moved n h = record { place = n + h.place; of = h.of }
 
 -- one behind the other
 abbrev pub joined : Encoded → Encoded → Encoded
-joined a b = record { bytes = a.bytes ++ b.bytes; holes = a.holes ++ map (moved (length a.bytes)) b.holes }
+joined a b = record { bytes = a.bytes ++ b.bytes; holes = a.holes ++ map (moved (length a.bytes)) b.holes; values = a.values + b.values }
 
--- there is room for each OID that is open
-abbrev pub IsInside : ℕ → Hole → Type 0
-IsInside size h = h.place + 4 ≤ size
+-- each place has four bytes of its own between these two, and they stand in order
+abbrev pub AreBetween : ℕ → ℕ → List Hole → Type 0
+AreBetween from size [] = from ≤ size
+AreBetween from size (h ∷ hs) = (from ≤ h.place) × AreBetween (h.place + 4) size hs
 
 abbrev pub AreInside : Encoded → Type 0
-AreInside e = AllByRecursion (IsInside (length e.bytes)) e.holes
+AreInside e = AreBetween 0 (length e.bytes) e.holes
 
--- so many bytes and open OIDs from the front
-abbrev pub cut_off : ℕ → ℕ → Encoded → Encoded
-cut_off bytes holes e = record { bytes = take bytes e.bytes; holes = take holes e.holes }
+-- the same, with so many values
+abbrev pub counted : ℕ → Encoded → Encoded
+counted n e = record { bytes = e.bytes; holes = e.holes; values = n }
+
+-- so many bytes and open OIDs from the front, which are so many values
+abbrev pub cut_off : ℕ → ℕ → ℕ → Encoded → Encoded
+cut_off bytes holes values e = record { bytes = take bytes e.bytes; holes = take holes e.holes; values = values }
 
 -- new bytes in the place of others
 abbrev pub overwritten : ℕ → List ℕ → List ℕ → List ℕ
@@ -47,7 +53,7 @@ place_at (h ∷ hs) (suc k) = place_at hs k
 
 -- the open OID number k, counted from 0, is known now
 abbrev pub patched_with : ℕ → List ℕ → Encoded → Encoded
-patched_with k bytes e = record { bytes = overwritten (place_at e.holes k) bytes e.bytes; holes = remove e.holes k }
+patched_with k bytes e = record { bytes = overwritten (place_at e.holes k) bytes e.bytes; holes = remove e.holes k; values = e.values }
 
 abbrev pub patched : ℕ → ℕ → Encoded → Encoded
 patched k oid e = patched_with k (number32 oid) e
@@ -56,8 +62,8 @@ patched k oid e = patched_with k (number32 oid) e
 
 -- a value as it stands there: its length and its encoding; the length -1 is a null
 abbrev pub wire : Option Encoded → Encoded
-wire None = plain (number32 (2 ^ 32 - 1))
-wire (Some e) = joined (plain (number32 (length e.bytes))) e
+wire None = counted 1 (plain (number32 (2 ^ 32 - 1)))
+wire (Some e) = counted 1 (joined (plain (number32 (length e.bytes))) e)
 
 abbrev pub wires : List (Option Encoded) → Encoded
 wires [] = plain []

@@ -1,5 +1,5 @@
 -- What a value is as an argument.
-use Rattle.std.specs.Prelude.{◌≡◌, nat_lt, if◌then◌else◌, Option, Some, None, length, take}
+use Rattle.std.specs.Prelude.{ℕ, ◌≡◌, nat_lt, if◌then◌else◌, Option, Some, None, length, take}
 use Rattle.pg_wire.specs.declared.error.Error.{Error}
 use Rattle.pg_wire.specs.declared.error.Error.TheVariants as errors
 use Rattle.pg_arguments.specs.Encoded.{Encoded, joined, wire, FitsWire}
@@ -43,3 +43,9 @@ abbrev pub RefusesValue : Option (Option Encoded) → Error → Type 0
 RefusesValue value errors.OutOfMemory = Unit {0}
 RefusesValue value (errors.Encode index) = value ≡ None
 RefusesValue value _ = ⊥
+
+-- the same, by the place of the argument
+abbrev pub RefusesArgument : ℕ → Option (Option Encoded) → Error → Type 0
+RefusesArgument place value errors.OutOfMemory = Unit {0}
+RefusesArgument place value (errors.Encode index) = (index ≡ place) × (value ≡ None)
+RefusesArgument place value _ = ⊥

@@ -2,11 +2,11 @@ ghost use Rattle.std.specs.Prelude.{◌≡◌, ◌+◌, ◌<◌, ◌≤◌, ◌^
 ghost use Rattle.pg_wire.specs.Bytes.{number32};
 ghost use Rattle.pg_wire.specs.declared.error.Error.TheVariants as errors;
 ghost use Rattle.pg_arguments.specs.Types.{TypeParts};
-ghost use Rattle.pg_arguments.specs.Encoding.{Image, value_of, Extends, AddsValue, RefusesValue};
-ghost use Rattle.pg_arguments.specs.Encoded.{Encoded, plain, open_oid, joined, patched, wire, overwritten, cut_off, AreInside};
+ghost use Rattle.pg_arguments.specs.Encoding.{Image, value_of, Extends, AddsValue, RefusesValue, RefusesArgument};
+ghost use Rattle.pg_arguments.specs.Encoded.{Encoded, plain, open_oid, joined, counted, patched, wire, overwritten, cut_off, AreInside};
 
 use crate::encode::{Encode, IsNull};
-use crate::given::Bytes;
+use crate::given::{Bytes, NoValue};
 use crate::hole::Hole;
 use crate::type_info::PgTypeInfo;
 use pg_wire::{Error, Oid};
@@ -21,16 +21,18 @@ pub const IMAGE_MAX: u64 = 2147483647;
 pub struct PgArgumentBuffer {
     bytes: Vec<u8>,
     holes: Vec<Hole>,
+    values: usize,
 }
 
 impl Model for PgArgumentBuffer {
-    ghost use Rattle.pg_arguments.specs.Encoded.{Encoded, AreInside};
+    ghost use Rattle.std.specs.Prelude.{length, ◌≤◌};
+    ghost use Rattle.pg_arguments.specs.Encoded.{Encoded, AreBetween};
 
     ghost Value = { Encoded };
 
-    ghost view = { λ b. record { bytes = b.bytes.items; holes = b.holes.items } };
+    ghost view = { λ b. record { bytes = b.bytes.items; holes = b.holes.items; values = b.values } };
 
-    ghost invariant = { λ b. AreInside (record { bytes = b.bytes.items; holes = b.holes.items }) };
+    ghost invariant = { λ b. AreBetween 0 (length b.bytes.items) b.holes.items × (b.values ≤ length b.bytes.items) };
 }
 
 // Writes four bytes over those at a place.
@@ -49,6 +51,7 @@ impl PgArgumentBuffer {
         PgArgumentBuffer {
             bytes: Vec::new(alloc),
             holes: Vec::new(alloc),
+            values: 0,
         }
     }
 
@@ -65,6 +68,14 @@ impl PgArgumentBuffer {
         self.bytes.is_empty()
     }
 
+    // The number of values that stand behind their lengths.
+    pub(crate) fn values(&self) -> usize
+        ensures value { result ≡ self.now.values }
+        ensures bound { result ≤ length self.now.bytes }
+    {
+        self.values
+    }
+
     pub(crate) fn allocator(&self) -> Global {
         *self.bytes.allocator()
     }
@@ -75,7 +86,7 @@ impl PgArgumentBuffer {
         &self.bytes
     }
 
-    /// The types whose OIDs are open, in the order in which they were added. Their places are within the bytes.
+    /// The types whose OIDs are open, in the order of their places, which are within the bytes.
     pub fn holes(&self) -> &[Hole]
         ensures holes { result.now ≡ self.now.holes }
         ensures inside { AreInside self.now }
@@ -93,13 +104,23 @@ impl PgArgumentBuffer {
         Ok(())
     }
 
-    // Keeps only so many bytes, and the open OIDs in front of their end.
-    pub(crate) fn cut_back(&mut self, bytes: usize, holes: usize)
-        requires { AreInside (cut_off bytes holes self.old) }
-        ensures { self.new ≡ cut_off bytes holes self.old }
+    // Keeps only so many bytes, and the open OIDs in front of their end, which are so many values.
+    pub(crate) fn cut_back(&mut self, bytes: usize, holes: usize, values: usize)
+        requires inside { AreInside (cut_off bytes holes values self.old) }
+        requires counted { values ≤ length (cut_off bytes holes values self.old).bytes }
+        ensures { self.new ≡ cut_off bytes holes values self.old }
     {
         self.bytes.truncate(bytes);
         self.holes.truncate(holes);
+        self.values = values;
+    }
+
+    // What is there is so many values.
+    fn count(&mut self, values: usize)
+        requires { values ≤ length self.old.bytes }
+        ensures { self.new ≡ counted values self.old }
+    {
+        self.values = values;
     }
 
     /// Adds the four bytes that the OID of a type will take, or nothing.
@@ -114,11 +135,13 @@ impl PgArgumentBuffer {
             place: place as u64,
             of,
         };
-        if self.holes.push(hole).is_err() {
-            self.bytes.truncate(place);
-            return Err(Error::OutOfMemory);
+        match self.holes.push(hole) {
+            Ok(()) => Ok(()),
+            Err(_) => {
+                self.bytes.truncate(place);
+                Err(Error::OutOfMemory)
+            }
         }
-        Ok(())
     }
 
     /// Writes the OID in the place of the open OID of this number, which is open no more: those behind it move up by one.
@@ -134,7 +157,7 @@ impl PgArgumentBuffer {
     // Writes a number over four bytes.
     pub(crate) fn rewrite(&mut self, place: usize, number: u32)
         requires { place + 4 ≤ length self.old.bytes }
-        ensures bytes { self.new ≡ record { bytes = overwritten place (number32 number) self.old.bytes; holes = self.old.holes } }
+        ensures bytes { self.new ≡ record { bytes = overwritten place (number32 number) self.old.bytes; holes = self.old.holes; values = self.old.values } }
         ensures inside { AreInside self.old }
     {
         write_number(&mut self.bytes, place, number);
@@ -147,34 +170,55 @@ impl PgArgumentBuffer {
         ensures cause { IfErr result (RefusesValue (value_of (T.encoding value))) }
     {
         let place = self.len();
+        let values = self.values;
         self.push_bytes(&[255; 4])?;
+        let start = self.len();
         match value.encode(self)? {
-            IsNull::Yes => Ok(()),
+            IsNull::Yes => {
+                self.count(values + 1);
+                Ok(())
+            }
             IsNull::No => {
-                let length = self.len() - place - 4;
+                let length = self.len() - start;
                 if length as u64 > IMAGE_MAX {
                     return Err(Error::Encode { index: 0 });
                 }
                 self.rewrite(place, length as u32);
+                self.count(values + 1);
                 Ok(())
             }
         }
     }
 
-    /// Adds a value behind its length, or nothing; a null has the length -1. In the encoding of another value this is how an element is
-    /// added. (PostgreSQL manual, "Message Formats", Bind.)
-    pub fn add<T: Encode>(&mut self, value: T) -> Result<(), Error>
+    // Adds a value behind its length, or nothing.
+    fn add_whole<T: Encode>(&mut self, value: T) -> Result<(), Error>
         ensures ok { OnOk result (AddsValue (value_of (T.encoding value)) self.old self.new) }
         ensures err { OnErr result (self.new ≡ self.old) }
         ensures cause { IfErr result (RefusesValue (value_of (T.encoding value))) }
     {
         let bytes = self.bytes.len();
         let holes = self.holes.len();
+        let values = self.values;
         let done = self.add_some(value);
         if done.is_err() {
-            self.cut_back(bytes, holes);
+            self.cut_back(bytes, holes, values);
         }
         done
+    }
+
+    /// Adds a value behind its length, or nothing; a null has the length -1. In the encoding of another value this is how an element is
+    /// added. A refusal of the value itself has the number of the values in front of it as its index. (PostgreSQL manual, "Message
+    /// Formats", Bind.)
+    pub fn add<T: Encode>(&mut self, value: T) -> Result<(), Error>
+        ensures ok { OnOk result (AddsValue (value_of (T.encoding value)) self.old self.new) }
+        ensures err { OnErr result (self.new ≡ self.old) }
+        ensures cause { IfErr result (RefusesArgument self.old.values (value_of (T.encoding value))) }
+    {
+        match self.add_whole(value) {
+            Ok(()) => Ok(()),
+            Err(Error::Encode { index: _ }) => Err(Error::Encode { index: self.values }),
+            Err(error) => Err(error),
+        }
     }
 
     /// Adds a null, or nothing.
@@ -183,14 +227,14 @@ impl PgArgumentBuffer {
         ensures err { OnErr result (self.new ≡ self.old) }
         ensures cause { IfErr result (λ e. e ≡ errors.OutOfMemory) }
     {
-        self.push_bytes(&[255; 4])
+        self.add(NoValue)
     }
 
     /// Adds a value of a type that is known only now, by the bytes of its encoding, or nothing.
     pub fn add_image(&mut self, of: PgTypeInfo, image: &[u8]) -> Result<(), Error>
         ensures ok { OnOk result (AddsValue (value_of (Image (plain image.now))) self.old self.new) }
         ensures err { OnErr result (self.new ≡ self.old) }
-        ensures cause { IfErr result (RefusesValue (value_of (Image (plain image.now)))) }
+        ensures cause { IfErr result (RefusesArgument self.old.values (value_of (Image (plain image.now)))) }
     {
         let _ = of;
         self.add(Bytes(image))

@@ -5,9 +5,9 @@ ghost use Rattle.pg_wire.specs.Frontend.{FitsValue};
 ghost use Rattle.pg_wire.specs.declared.error.Error.TheVariants as errors;
 ghost use Rattle.pg_arguments.specs.Types.{TypeParts};
 ghost use Rattle.pg_arguments.specs.Builtin.{type_under};
-ghost use Rattle.pg_arguments.specs.Encoding.{Image, value_of, AddsValue};
-ghost use Rattle.pg_arguments.specs.Encoded.{Encoded, plain, open_oid, joined, patched};
-ghost use Rattle.pg_arguments.specs.Arguments.{HasValues, AddsArgument, AddsToValues, RefusesArgument, AsIfKnown};
+ghost use Rattle.pg_arguments.specs.Encoding.{Image, value_of, AddsValue, RefusesArgument};
+ghost use Rattle.pg_arguments.specs.Encoded.{Encoded, AreInside, plain, open_oid, joined, patched};
+ghost use Rattle.pg_arguments.specs.Arguments.{HasValues, AddsArgument, AddsToValues, AsIfKnown};
 
 use crate::argument_buffer::PgArgumentBuffer;
 use crate::encode::{Encode, Typed};
@@ -37,26 +37,14 @@ impl Model for PgArguments {
     ghost invariant = { λ a. ∥ ((values : List (Option Encoded)) × AreMadeOf a.types.items a.buffer values) ∥₁ };
 }
 
-// Adds a value, or nothing; the index of a refusal is the argument's.
-fn add_at<T: Encode>(buffer: &mut PgArgumentBuffer, index: usize, value: T) -> Result<(), Error>
-    ensures ok { OnOk result (AddsValue (value_of (T.encoding value)) buffer.old buffer.new) }
-    ensures err { OnErr result (buffer.new ≡ buffer.old) }
-    ensures cause { IfErr result (RefusesArgument index (value_of (T.encoding value))) }
-{
-    match buffer.add(value) {
-        Ok(()) => Ok(()),
-        Err(Error::Encode { index: _ }) => Err(Error::Encode { index }),
-        Err(error) => Err(error),
-    }
-}
-
-// Adds a value and its type, or nothing.
+// Adds a value and its type, or nothing, to as many values as there are types.
 fn append<T: Encode>(
     types: &mut Vec<PgTypeInfo>,
     buffer: &mut PgArgumentBuffer,
     value: T,
     of: PgTypeInfo,
 ) -> Result<(), Error>
+    requires { buffer.old.values ≡ length types.old.items }
     ensures types { OnOk result (types.new.items ≡ types.old.items ++ of ∷ []) }
     ensures value { OnOk result (AddsValue (value_of (T.encoding value)) buffer.old buffer.new) }
     ensures same_types { OnErr result (types.new.items ≡ types.old.items) }
@@ -65,9 +53,10 @@ fn append<T: Encode>(
 {
     let bytes = buffer.len();
     let holes = buffer.holes().len();
-    add_at(buffer, types.len(), value)?;
+    let values = buffer.values();
+    buffer.add(value)?;
     if types.push(of).is_err() {
-        buffer.cut_back(bytes, holes);
+        buffer.cut_back(bytes, holes, values);
         return Err(Error::OutOfMemory);
     }
     Ok(())
@@ -114,9 +103,10 @@ impl PgArguments {
         self.buffer.as_bytes()
     }
 
-    /// The types whose OIDs are open, in the order of their arguments.
+    /// The types whose OIDs are open, in the order of their places, which are within the encoded arguments.
     pub fn holes(&self) -> &[Hole]
-        ensures { result.now ≡ self.now.encoded.holes }
+        ensures holes { result.now ≡ self.now.encoded.holes }
+        ensures inside { AreInside self.now.encoded }
     {
         self.buffer.holes()
     }

@@ -22,8 +22,7 @@ pub trait Encode: Sized + Drop {
     ghost encoding: { Self → Encoding };
 
     /// Adds the encoding without its length, by `push_bytes` of the buffer and the calls that stand on it. A null adds nothing. The only
-    /// refusals are `Error::Encode`, whose index the caller sets, and want of memory: what was added then is taken back by
-    /// the caller.
+    /// refusals are `Error::Encode`, whose index `add` sets, and want of memory: what was added then is taken back by `add`.
     fn encode(self, out: &mut PgArgumentBuffer) -> Result<IsNull, Error>
         ensures encoding { IfOk result (λ n. Appends (encoding self) n out.old out.new) }
         ensures kept { OnErr result (Extends out.old out.new) }

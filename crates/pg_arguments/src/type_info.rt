@@ -1,6 +1,6 @@
 ghost use Rattle.std.specs.Prelude.{◌≡◌, ◌<◌, ◌≤◌, ◌++◌, None, codes, IfOk};
 ghost use Rattle.pg_arguments.specs.Types.{oid_of, name_of, levels_of, most_levels, named_type, numbered_type, array_of_named};
-ghost use Rattle.pg_arguments.specs.Kinds.{of_kind, made_of, custom, attribute_types};
+ghost use Rattle.pg_arguments.specs.Kinds.{of_kind, made_of, part_kind, custom, attribute_types};
 
 use pg_wire::{Oid, Sequence, Text};
 use std::alloc::{AllocError, Global};
@@ -154,6 +154,16 @@ impl PgTypeInfo {
         made(alloc, Some(oid), name, levels + 1, kind)
     }
 
+    /// An equal type.
+    #[cycle(copies)]
+    pub fn to_copy(&self, alloc: Global) -> Result<Self, AllocError>
+        ensures { IfOk result (λ t. t ≡ self.now) }
+    {
+        let name = self.of.name.to_copy(alloc)?;
+        let kind = self.of.kind.to_copy(alloc)?;
+        made(alloc, self.of.oid, name, self.of.levels, kind)
+    }
+
     /// The OID, where it is known.
     pub fn oid(&self) -> Option<Oid>
         ensures { result ≡ oid_of self.now }
@@ -196,7 +206,55 @@ fn attribute_levels(attributes: &[(Text, PgTypeInfo)]) -> u8
     most
 }
 
+// Equal attributes.
+#[cycle(copies)]
+fn copied_attributes(
+    alloc: Global,
+    attributes: &[(Text, PgTypeInfo)],
+) -> Result<Vec<(Text, PgTypeInfo)>, AllocError>
+    ensures { IfOk result (λ v. v.items ≡ attributes.now) }
+{
+    let mut copies = Vec::new(alloc);
+    for attribute in attributes {
+        let name = attribute.0.to_copy(alloc)?;
+        let of = attribute.1.to_copy(alloc)?;
+        copies.push((name, of))?;
+    }
+    Ok(copies)
+}
+
+// Equal labels.
+fn copied_labels(alloc: Global, labels: &[Text]) -> Result<Sequence<Text>, AllocError>
+    ensures { IfOk result (λ v. v ≡ labels.now) }
+{
+    let mut copies = Sequence::new(alloc);
+    for label in labels {
+        copies.push(label.to_copy(alloc)?)?;
+    }
+    Ok(copies)
+}
+
 impl PgTypeKind {
+    // An equal kind, made of equal types.
+    #[cycle(copies)]
+    fn to_copy(&self, alloc: Global) -> Result<Self, AllocError>
+        ensures { IfOk result (λ k. (made_of k ≡ made_of self.now) × (part_kind k ≡ part_kind self.now)) }
+    {
+        match self {
+            PgTypeKind::Simple => Ok(PgTypeKind::Simple),
+            PgTypeKind::Pseudo => Ok(PgTypeKind::Pseudo),
+            PgTypeKind::Domain(base) => Ok(PgTypeKind::Domain(base.to_copy(alloc)?)),
+            PgTypeKind::Composite(attributes) => {
+                Ok(PgTypeKind::Composite(copied_attributes(alloc, attributes)?))
+            }
+            PgTypeKind::Array(element) => Ok(PgTypeKind::Array(element.to_copy(alloc)?)),
+            PgTypeKind::Enum(labels) => {
+                Ok(PgTypeKind::Enum(copied_labels(alloc, labels.as_slice())?))
+            }
+            PgTypeKind::Range(bound) => Ok(PgTypeKind::Range(bound.to_copy(alloc)?)),
+        }
+    }
+
     /// How many custom types stand in each other in the types that it is made of.
     pub fn levels(&self) -> u8
         ensures value { result ≡ most_levels (made_of self.now) }

@@ -11,6 +11,7 @@ use Rattle.pg_values.specs.Arrays.{ReadsEach, array_front, IsEmptyArray, HasElem
 use Rattle.pg_values.specs.ArrayReading.{dimensions_at, count_at, head_at, ReadsArray}
 use Rattle.pg_wire.proofs.Tests.{chosen}
 use Rattle.std.proofs.lemmas.Option.{cond_some, same_Some}
+use Rattle.std.proofs.lemmas.List.{nil_from_length}
 
 abbrev Values : Type 0
 Values = List (Option (List ℕ))
@@ -81,14 +82,6 @@ unfolding count_at
 count_again n first rest h k =
     rw (number32_exact.again n (number32 first ++ rest) (omega (arith, h)), number32_exact.again first rest k, lt-ltb n (2 ^ 31) h) refl
 
-nil_of : (xs : List ℕ) → length xs ≡ 0 → xs ≡ []
-nil_of [] e = refl
-nil_of (x ∷ xs) e = absurd (omega (arith, e))
-
-nil_values : (values : Values) → length values ≡ 0 → values ≡ []
-nil_values [] e = refl
-nil_values (x ∷ xs) e = absurd (omega (arith, e))
-
 has_elements : (bytes : List ℕ) (values : Values) → HasElements bytes values → AreElements bytes values
 has_elements bytes [] h = inr h
 has_elements bytes (v ∷ vs) h = h
@@ -101,8 +94,8 @@ empty_takes : (bytes : List ℕ) (d x : ℕ × List ℕ) (flags element : ℕ) (
 empty_takes bytes d x flags element values f m e z g small all =
     let p = cond_some (eqb (length d.1) 0) (at 0 []) x g in
     let t = many_takes x.0 x.1 (values, []) small all in
-    let none : values ≡ [] = nil_values values (t.0 ∙ sym (ap (λ (y : ℕ × List ℕ). y.0) p.1)) in
-    let made : bytes ≡ array_front 0 flags element = e ∙ ap (λ (n : ℕ). array_front n flags element ++ d.1) z ∙ ap (λ (u : List ℕ). array_front 0 flags element ++ u) (nil_of d.1 (eqb-true _ _ p.0)) in
+    let none : values ≡ [] = nil_from_length values (t.0 ∙ sym (ap (λ (y : ℕ × List ℕ). y.0) p.1)) in
+    let made : bytes ≡ array_front 0 flags element = e ∙ ap (λ (n : ℕ). array_front n flags element ++ d.1) z ∙ ap (λ (u : List ℕ). array_front 0 flags element ++ u) (nil_from_length d.1 (eqb-true _ _ p.0)) in
     rw none (inl (flags, element, f, m, made))
 
 full_takes : (bytes : List ℕ) (d x : ℕ × List ℕ) (flags element : ℕ) (values : Values) → flags ≤ 1 → element < 2 ^ 32 → bytes ≡ array_front d.0 flags element ++ d.1 → d.0 ≡ 1

@@ -3,7 +3,7 @@ use Rattle.std.proofs.Common.{◌≡◌, ℕ, zero, suc, ◌+◌, ◌≤◌, ◌
 use Rattle.std.specs.Prelude.{◌≢◌, ◌||◌, ◌&&◌, IsTrue, IsUtf8, bytes_eq}
 use Rattle.std.specs.List.{AllByRecursion}
 use Rattle.std.specs.Str.{is_utf8}
-use Rattle.std.proofs.lemmas.List.{length-append}
+use Rattle.std.proofs.lemmas.List.{length-append, nil_from_length}
 use Rattle.std.proofs.lemmas.Str.{IsUtf8-from_is_utf8, is_utf8-from_IsUtf8}
 use Rattle.std.proofs.lemmas.Slice.Eq.{bytes_eq-Decides}
 use Rattle.pg_wire.proofs.ReaderLaws.{bind_some}
@@ -296,10 +296,6 @@ List' = List (Option (List ℕ))
 none_list : (ys : List') → None ≡ Some ys → ⊥
 none_list ys e = cc
 
-nil_from : (s : List ℕ) → length s ≡ 0 → s ≡ []
-nil_from [] e = refl
-nil_from (c ∷ cs) e = absurd (omega (arith, e))
-
 abbrev TakesAfter : Style → List ℕ → Option (List ℕ) → Type 0
 TakesAfter style rest None = rest ≡ closing style ∷ []
 TakesAfter style rest (Some more) = rest ≡ 44 ∷ more
@@ -325,7 +321,7 @@ after_takes style (c ∷ rest) b e =
       | inr p ↦
           let g = cond_some (eqb c (closing style) && eqb (length rest) 0) no_more b p.1 in
           let t = both_true (eqb c (closing style)) (eqb (length rest) 0) g.0 in
-          subst (TakesAfter style (c ∷ rest)) g.1 (rw (eqb-true c (closing style) t.0, nil_from rest (eqb-true _ _ t.1)) refl)
+          subst (TakesAfter style (c ∷ rest)) g.1 (rw (eqb-true c (closing style) t.0, nil_from_length rest (eqb-true _ _ t.1)) refl)
     ]
 
 abbrev TakesItems : Style → List ℕ → List' → Type 0

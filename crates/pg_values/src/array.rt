@@ -1,4 +1,4 @@
-ghost use Rattle.pg_values.specs.Arrays.{OfItems, IsArray};
+ghost use Rattle.pg_values.specs.Arrays.{OfItems, IsArray, element_type};
 ghost use Rattle.pg_values.specs.Texts.{IsTextArray};
 ghost use Rattle.pg_values.specs.Values.{ReadsBy};
 ghost use Rattle.pg_values.specs.declared.format.PgValueFormat.TheVariants as formats;
@@ -10,7 +10,7 @@ use pg_wire::Error;
 use std::alloc::Global;
 
 impl<T: Decode> Decode for Vec<T> {
-    ghost reads = { ReadsBy (λ bytes. OfItems (IsArray (T.reads formats.Binary) bytes)) (λ bytes. OfItems (IsTextArray (T.reads formats.Text) bytes)) };
+    ghost reads = { λ of. ReadsBy (λ bytes. OfItems (IsArray (T.reads (element_type of) formats.Binary) bytes)) (λ bytes. OfItems (IsTextArray (T.reads (element_type of) formats.Text) bytes)) };
 
     fn decode(alloc: Global, value: PgValueRef<'_>) -> Result<Self, Error> {
         let Some(bytes) = value.value else {

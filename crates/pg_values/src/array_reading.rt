@@ -80,15 +80,15 @@ fn head(bytes: &[u8]) -> Option<(u32, &[u8])>
     }
 }
 
-// So many elements, which are all of the bytes.
+// So many elements of this type, which are all of the bytes.
 fn read_elements<T: Decode>(
     alloc: Global,
     count: u32,
     bytes: &[u8],
     type_info: &PgTypeInfo,
 ) -> Result<Vec<T>, Error>
-    ensures value { IfOk result (OfItems (ReadsElements (T.reads formats.Binary) count bytes.now)) }
-    ensures cause { IfErr result (IsNoValue (OfItems (ReadsElements (T.reads formats.Binary) count bytes.now))) }
+    ensures value { IfOk result (OfItems (ReadsElements (T.reads type_info.now formats.Binary) count bytes.now)) }
+    ensures cause { IfErr result (IsNoValue (OfItems (ReadsElements (T.reads type_info.now formats.Binary) count bytes.now))) }
 {
     let mut items = Vec::new(alloc);
     let mut rest = bytes;
@@ -111,7 +111,7 @@ fn read_elements<T: Decode>(
     }
 }
 
-// The type of the elements, where it is told.
+// The type of the elements: the one that the array's type tells, or else that type itself.
 pub(crate) fn element_of(of: &PgTypeInfo) -> &PgTypeInfo
     ensures { result.now ≡ element_type of.now }
 {
@@ -121,31 +121,31 @@ pub(crate) fn element_of(of: &PgTypeInfo) -> &PgTypeInfo
     }
 }
 
-// An array, read from left to right.
+// An array of elements of this type, read from left to right.
 fn read_parts<T: Decode>(
     alloc: Global,
     bytes: &[u8],
     type_info: &PgTypeInfo,
 ) -> Result<Vec<T>, Error>
-    ensures value { IfOk result (OfItems (ReadsArray (T.reads formats.Binary) bytes.now)) }
-    ensures cause { IfErr result (IsNoValue (OfItems (ReadsArray (T.reads formats.Binary) bytes.now))) }
+    ensures value { IfOk result (OfItems (ReadsArray (T.reads type_info.now formats.Binary) bytes.now)) }
+    ensures cause { IfErr result (IsNoValue (OfItems (ReadsArray (T.reads type_info.now formats.Binary) bytes.now))) }
 {
     match head(bytes) {
-        Some((count, rest)) => read_elements(alloc, count, rest, element_of(type_info)),
+        Some((count, rest)) => read_elements(alloc, count, rest, type_info),
         None => Err(Error::Decode),
     }
 }
 
-// An array in the binary format.
+// An array of this type in the binary format.
 pub(crate) fn read_binary<T: Decode>(
     alloc: Global,
     bytes: &[u8],
     type_info: &PgTypeInfo,
 ) -> Result<Vec<T>, Error>
-    ensures value { IfOk result (OfItems (IsArray (T.reads formats.Binary) bytes.now)) }
-    ensures cause { IfErr result (IsNoValue (OfItems (IsArray (T.reads formats.Binary) bytes.now))) }
+    ensures value { IfOk result (OfItems (IsArray (T.reads (element_type type_info.now) formats.Binary) bytes.now)) }
+    ensures cause { IfErr result (IsNoValue (OfItems (IsArray (T.reads (element_type type_info.now) formats.Binary) bytes.now))) }
 {
-    read_parts(alloc, bytes, type_info)
+    read_parts(alloc, bytes, element_of(type_info))
 }
 
 fn bytes_of(element: &Option<Text>) -> Option<&[u8]>
@@ -157,14 +157,14 @@ fn bytes_of(element: &Option<Text>) -> Option<&[u8]>
     }
 }
 
-// Elements whose texts are there already.
+// Elements of this type whose texts are there already.
 fn read_each<T: Decode>(
     alloc: Global,
     elements: &[Option<Text>],
     type_info: &PgTypeInfo,
 ) -> Result<Vec<T>, Error>
-    ensures value { IfOk result (OfItems (ReadsEach (T.reads formats.Text) elements.now)) }
-    ensures cause { IfErr result (IsNoValue (OfItems (ReadsEach (T.reads formats.Text) elements.now))) }
+    ensures value { IfOk result (OfItems (ReadsEach (T.reads type_info.now formats.Text) elements.now)) }
+    ensures cause { IfErr result (IsNoValue (OfItems (ReadsEach (T.reads type_info.now formats.Text) elements.now))) }
 {
     let mut items = Vec::new(alloc);
     for element in elements {
@@ -178,14 +178,14 @@ fn read_each<T: Decode>(
     Ok(items)
 }
 
-// An array in the text format.
+// An array of this type in the text format.
 pub(crate) fn read_text<T: Decode>(
     alloc: Global,
     bytes: &[u8],
     type_info: &PgTypeInfo,
 ) -> Result<Vec<T>, Error>
-    ensures value { IfOk result (OfItems (IsTextArray (T.reads formats.Text) bytes.now)) }
-    ensures cause { IfErr result (IsNoValue (OfItems (IsTextArray (T.reads formats.Text) bytes.now))) }
+    ensures value { IfOk result (OfItems (IsTextArray (T.reads (element_type type_info.now) formats.Text) bytes.now)) }
+    ensures cause { IfErr result (IsNoValue (OfItems (IsTextArray (T.reads (element_type type_info.now) formats.Text) bytes.now))) }
 {
     let Ok(text) = str::from_utf8(bytes) else {
         return Err(Error::Decode);

@@ -26,7 +26,7 @@ fn text(bytes: &[u8]) -> Option<bool>
 }
 
 impl Decode for bool {
-    ghost reads = { ReadsBy IsBool IsBoolText };
+    ghost reads = { λ _. ReadsBy IsBool IsBoolText };
 
     fn decode(_alloc: Global, value: PgValueRef<'_>) -> Result<Self, Error> {
         let Some(bytes) = value.value else {

@@ -35,7 +35,7 @@ fn char_text(bytes: &[u8]) -> Option<i8>
 }
 
 impl Decode for i8 {
-    ghost reads = { ReadsBy (IsSigned w8) IsCharText };
+    ghost reads = { λ _. ReadsBy (IsSigned w8) IsCharText };
 
     fn decode(_alloc: Global, value: PgValueRef<'_>) -> Result<Self, Error> {
         let Some(bytes) = value.value else {
@@ -65,7 +65,7 @@ fn i16_text(bytes: &[u8]) -> Option<i16>
 }
 
 impl Decode for i16 {
-    ghost reads = { ReadsBy (IsSigned w16) (IsDecimal w16) };
+    ghost reads = { λ _. ReadsBy (IsSigned w16) (IsDecimal w16) };
 
     fn decode(_alloc: Global, value: PgValueRef<'_>) -> Result<Self, Error> {
         let Some(bytes) = value.value else {
@@ -95,7 +95,7 @@ fn i32_text(bytes: &[u8]) -> Option<i32>
 }
 
 impl Decode for i32 {
-    ghost reads = { ReadsBy (IsSigned w32) (IsDecimal w32) };
+    ghost reads = { λ _. ReadsBy (IsSigned w32) (IsDecimal w32) };
 
     fn decode(_alloc: Global, value: PgValueRef<'_>) -> Result<Self, Error> {
         let Some(bytes) = value.value else {
@@ -125,7 +125,7 @@ fn i64_text(bytes: &[u8]) -> Option<i64>
 }
 
 impl Decode for i64 {
-    ghost reads = { ReadsBy (IsSigned w64) (IsDecimal w64) };
+    ghost reads = { λ _. ReadsBy (IsSigned w64) (IsDecimal w64) };
 
     fn decode(_alloc: Global, value: PgValueRef<'_>) -> Result<Self, Error> {
         let Some(bytes) = value.value else {
@@ -156,7 +156,7 @@ fn oid_text(bytes: &[u8]) -> Option<Oid>
 }
 
 impl Decode for Oid {
-    ghost reads = { ReadsBy IsOid IsOidText };
+    ghost reads = { λ _. ReadsBy IsOid IsOidText };
 
     fn decode(_alloc: Global, value: PgValueRef<'_>) -> Result<Self, Error> {
         let Some(bytes) = value.value else {

@@ -6,7 +6,7 @@ use pg_wire::Error;
 use std::alloc::Global;
 
 impl<T: Decode> Decode for Option<T> {
-    ghost reads = { ReadsOptional T.reads };
+    ghost reads = { λ of. ReadsOptional (T.reads of) };
 
     fn decode(alloc: Global, value: PgValueRef<'_>) -> Result<Self, Error> {
         if value.value.is_none() {

@@ -19,7 +19,7 @@ fn text(alloc: Global, bytes: &[u8]) -> Result<Text, Error>
 }
 
 impl Decode for Text {
-    ghost reads = { ReadsBy IsTextOf IsTextOf };
+    ghost reads = { λ _. ReadsBy IsTextOf IsTextOf };
 
     fn decode(alloc: Global, value: PgValueRef<'_>) -> Result<Self, Error> {
         match value.value {
@@ -51,7 +51,7 @@ fn hex_text(alloc: Global, bytes: &[u8]) -> Result<Blob, Error>
 }
 
 impl Decode for Blob {
-    ghost reads = { ReadsBy AreBytesOf AreHexOf };
+    ghost reads = { λ _. ReadsBy AreBytesOf AreHexOf };
 
     fn decode(alloc: Global, value: PgValueRef<'_>) -> Result<Self, Error> {
         let Some(bytes) = value.value else {

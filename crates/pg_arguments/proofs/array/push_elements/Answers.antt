@@ -17,7 +17,7 @@ pub returns-in_err-add-clause-cause : goal.returns-in_err-add-clause-cause
 returns-in_err-add-clause-cause g c =
     let p = err_from_is_err_and c.from_residual.result c.from_residual.ensures.1 in
     let all = sym c.loop-value.invariant.rest ∙ ap (λ xs. c.loop-value.yielded ++ xs) c.in-Some.ensures.steps.0 in
-    rw (p.1, p.2) (element_refuses g.T.Encode.encoding c.args.values.items c.loop-value.yielded c.in-Some.value c.next.new.self.rest.items c.in_err-add.field-0.0 all c.in_err-add.ensures.cause)
+    rw (p.1, p.2) (element_refuses g.T.Encode.encoding c.args.values.items c.loop-value.yielded c.in-Some.value c.next.new.self.rest.items c.loop-value.out.values c.in_err-add.field-0.0 all c.in_err-add.ensures.cause)
 
 pub returns-in_err-add-clause-kept : goal.returns-in_err-add-clause-kept
 returns-in_err-add-clause-kept g c =

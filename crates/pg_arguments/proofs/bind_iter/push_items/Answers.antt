@@ -14,7 +14,7 @@ loop-length-preserved g c =
 pub returns-in_err-add-in-Some-clause-cause : goal.returns-in_err-add-in-Some-clause-cause
 returns-in_err-add-in-Some-clause-cause g c =
     let p = err_from_is_err_and c.from_residual.result c.from_residual.ensures.1 in
-    rw (p.1, p.2) (one_refused 2147483647 g.I.Item.Encode.encoding (g.I.PgBindIterExt.answers c.args.items) c.loop-length.length (g.I.PgBindIterExt.answers c.loop-length.items) c.in-Some.item c.args.out.now c.loop-length.out c.in_err-add-in-Some.field-0.0 c.loop-length.invariant c.loop-length-test.true c.in-Some.ensures.0 c.in_err-add-in-Some.ensures.cause)
+    rw (p.1, p.2) (one_refused 2147483647 g.I.Item.Encode.encoding (g.I.PgBindIterExt.answers c.args.items) c.loop-length.length (g.I.PgBindIterExt.answers c.loop-length.items) c.in-Some.item c.args.out.now c.loop-length.out c.loop-length.out.values c.in_err-add-in-Some.field-0.0 c.loop-length.invariant c.loop-length-test.true c.in-Some.ensures.0 c.in_err-add-in-Some.ensures.cause)
 
 pub returns-in_err-add-in-Some-clause-kept : goal.returns-in_err-add-in-Some-clause-kept
 returns-in_err-add-in-Some-clause-kept g c =

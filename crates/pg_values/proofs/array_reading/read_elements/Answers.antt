@@ -12,26 +12,26 @@ loop-init g c =
     ([], rw whole (begins (many_at value_at c.args.count c.args.bytes.now)), rw c.new-items.ensures.items tt)
 
 pub returns-in_default-clause-cause : goal.returns-in_default-clause-cause
-returns-in_default-clause-cause g c = λ xs. no_value_there (g.T.Decode.reads formats.Binary) c.loop.invariant.0 c.args.count c.loop.counter c.loop.rest.now c.args.bytes.now xs.items c.loop-test.true (sym c.in_default.ensures) c.loop.invariant.1
+returns-in_default-clause-cause g c = λ xs. no_value_there (g.T.Decode.reads c.args.type_info.now formats.Binary) c.loop.invariant.0 c.args.count c.loop.counter c.loop.rest.now c.args.bytes.now xs.items c.loop-test.true (sym c.in_default.ensures) c.loop.invariant.1
 
 pub returns-in_err-decode-clause-cause : goal.returns-in_err-decode-clause-cause
 returns-in_err-decode-clause-cause g c =
     let p = err_from_is_err_and c.from_residual.result c.from_residual.ensures.1 in
-    rw (p.1, p.2) (no_element_there (g.T.Decode.reads formats.Binary) c.loop.invariant.0 c.args.count c.loop.counter c.loop.rest.now c.args.bytes.now _ c.in-Some.after.now _ c.loop-test.true (sym c.in-Some.ensures) c.loop.invariant.1 c.in_err-decode.ensures.cause)
+    rw (p.1, p.2) (no_element_there (g.T.Decode.reads c.args.type_info.now formats.Binary) c.loop.invariant.0 c.args.count c.loop.counter c.loop.rest.now c.args.bytes.now _ c.in-Some.after.now _ c.loop-test.true (sym c.in-Some.ensures) c.loop.invariant.1 c.in_err-decode.ensures.cause)
 
 pub loop-preserved : goal.loop-preserved
 loop-preserved g c = (
   c.loop.invariant.0 ++ _ ∷ [],
   goes_on value_at c.loop.invariant.0 c.args.count c.loop.counter c.loop.rest.now _ c.in-Some.after.now (many_at value_at c.args.count c.args.bytes.now) c.loop-test.true (sym c.in-Some.ensures) c.loop.invariant.1,
-  rw c.in_ok-push.ensures.items (reads_push (g.T.Decode.reads formats.Binary) c.loop.invariant.0 c.loop.items.items _ c.in_ok-decode.field-0 c.loop.invariant.2 c.in_ok-decode.ensures.value),
+  rw c.in_ok-push.ensures.items (reads_push (g.T.Decode.reads c.args.type_info.now formats.Binary) c.loop.invariant.0 c.loop.items.items _ c.in_ok-decode.field-0 c.loop.invariant.2 c.in_ok-decode.ensures.value),
 )
 
 pub returns-then-is_empty-clause-value : goal.returns-then-is_empty-clause-value
 returns-then-is_empty-clause-value g c =
-    all_read (g.T.Decode.reads formats.Binary) c.loop.invariant.0 c.args.count c.loop.counter c.loop.rest.now c.args.bytes.now c.loop.items.items c.loop-test.false
+    all_read (g.T.Decode.reads c.args.type_info.now formats.Binary) c.loop.invariant.0 c.args.count c.loop.counter c.loop.rest.now c.args.bytes.now c.loop.items.items c.loop-test.false
     (eqb-true _ _ (sym c.is_empty.ensures ∙ c.if-is_empty.true)) c.loop.invariant.1 c.loop.invariant.2
 
 pub returns-else-is_empty-clause-cause : goal.returns-else-is_empty-clause-cause
 returns-else-is_empty-clause-cause g c =
-    λ xs. nothing_left (g.T.Decode.reads formats.Binary) c.loop.invariant.0 c.args.count c.loop.counter c.loop.rest.now c.args.bytes.now xs.items c.loop-test.false
+    λ xs. nothing_left (g.T.Decode.reads c.args.type_info.now formats.Binary) c.loop.invariant.0 c.args.count c.loop.counter c.loop.rest.now c.args.bytes.now xs.items c.loop-test.false
     (not_empty c.is_empty.result _ c.is_empty.ensures c.if-is_empty.false) c.loop.invariant.1

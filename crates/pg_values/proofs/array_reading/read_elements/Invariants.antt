@@ -6,4 +6,4 @@ use Rattle.pg_values.specs.declared.format.PgValueFormat.TheVariants as formats
 use Rattle.pg_values.proofs.array_reading.read_elements.Given as goal
 
 abbrev pub invariant-loop : goal.invariant-loop
-invariant-loop g l = (done : List (Option (List ℕ))) × (with_front done (many_at value_at (l.count - l.counter) l.rest) ≡ many_at value_at l.count l.bytes) × ReadsEach (g.T.Decode.reads formats.Binary) done l.items.items
+invariant-loop g l = (done : List (Option (List ℕ))) × (with_front done (many_at value_at (l.count - l.counter) l.rest) ≡ many_at value_at l.count l.bytes) × ReadsEach (g.T.Decode.reads l.type_info formats.Binary) done l.items.items

@@ -5,4 +5,4 @@ use Rattle.pg_values.proofs.array_reading.read_parts.Goals as goal
 
 pub returns-in-Some-clause-cause : goal.returns-in-Some-clause-cause
 returns-in-Some-clause-cause g c =
-    on_err c.read_elements.result _ _ (λ e. no_elements_no_array (g.T.Decode.reads formats.Binary) c.in-Some.count c.in-Some.rest.now c.args.bytes.now e (sym c.in-Some.ensures)) c.read_elements.ensures.cause
+    on_err c.read_elements.result _ _ (λ e. no_elements_no_array (g.T.Decode.reads c.args.type_info.now formats.Binary) c.in-Some.count c.in-Some.rest.now c.args.bytes.now e (sym c.in-Some.ensures)) c.read_elements.ensures.cause
