@@ -1,12 +1,13 @@
-// The links over real sockets, each with its other end in the same test.
+// The links over real sockets, each with its other end in the same case.
+
+use crate::streams::is_read;
 use pg_stream::{
-    Gathered, Link, LinkRead, LinkUpgrade, LinkWrite, SocketLink, StdSink, StdSource, TcpLink,
-    TlsWish, UnixLink, read_all, send,
+    Link, LinkRead, LinkUpgrade, LinkWrite, SocketLink, StdSink, StdSource, TcpLink, TlsWish,
+    UnixLink, send,
 };
 use std::io;
 use std::net::{Ipv4Addr, SocketAddr, TcpListener, TcpStream};
 use std::os::unix::net::UnixStream;
-use std::test::Fail;
 use std::time::{Duration, Instant};
 
 // How often a read is asked again: at 10 ms a time, some seconds.
@@ -76,79 +77,71 @@ fn tcp_pair(rt: &HostRuntime) -> io::Result<(TcpStream, TcpStream)> {
     Ok((near, far))
 }
 
-#[test]
-fn tcp_links_talk(rt: HostRuntime) -> Result<(), Fail> {
-    let (near, far) = tcp_pair(&rt)?;
+/// Two links over TCP, which are not local.
+pub fn tcp_links_talk(rt: &HostRuntime) -> io::Result<bool> {
+    let (near, far) = tcp_pair(rt)?;
     let (near, far) = (TcpLink::new(near)?, TcpLink::new(far)?);
-    assert!(rt; !near.is_local());
-    assert!(rt; talk(near, far));
-    Ok(())
+    let is_local = near.is_local();
+    Ok(talk(near, far) && !is_local)
 }
 
-#[test]
-fn unix_links_talk(rt: HostRuntime) -> Result<(), Fail> {
-    let (near, far) = UnixStream::pair(&rt)?;
+/// Two links over a local socket.
+pub fn unix_links_talk(rt: &HostRuntime) -> io::Result<bool> {
+    let (near, far) = UnixStream::pair(rt)?;
     let (near, far) = (UnixLink::new(near)?, UnixLink::new(far)?);
-    assert!(rt; near.is_local());
-    assert!(rt; talk(near, far));
-    Ok(())
+    let is_local = near.is_local();
+    Ok(talk(near, far) && is_local)
 }
 
-#[test]
-fn socket_links_talk(rt: HostRuntime) -> Result<(), Fail> {
-    let (near, far) = UnixStream::pair(&rt)?;
+/// Two links over a local socket, each seen as a link of either kind.
+pub fn either_unix_links_talk(rt: &HostRuntime) -> io::Result<bool> {
+    let (near, far) = UnixStream::pair(rt)?;
     let near = SocketLink::Unix(UnixLink::new(near)?);
     let far = SocketLink::Unix(UnixLink::new(far)?);
-    assert!(rt; talk(near, far));
-    let (near, far) = tcp_pair(&rt)?;
+    Ok(talk(near, far))
+}
+
+/// Two links over TCP, each seen as a link of either kind.
+pub fn either_tcp_links_talk(rt: &HostRuntime) -> io::Result<bool> {
+    let (near, far) = tcp_pair(rt)?;
     let near = SocketLink::Tcp(TcpLink::new(near)?);
     let far = SocketLink::Tcp(TcpLink::new(far)?);
-    assert!(rt; talk(near, far));
-    Ok(())
+    Ok(talk(near, far))
 }
 
-// A read that finds nothing sleeps, and doesn't spin.
-#[test]
-fn a_read_waits_for_its_time(rt: HostRuntime) -> Result<(), Fail> {
-    let (near, _far) = UnixStream::pair(&rt)?;
+/// A read that finds nothing sleeps, and doesn't spin.
+pub fn a_read_waits_for_its_time(rt: &HostRuntime) -> io::Result<bool> {
+    let (near, _far) = UnixStream::pair(rt)?;
     let mut near = UnixLink::with_timeout(near, Duration::from_millis(50))?;
-    let start = Instant::now(&rt)?;
-    assert!(rt; waits(&mut near));
-    assert!(rt; start.elapsed(&rt)? >= Duration::from_millis(40));
-    Ok(())
+    let start = Instant::now(rt)?;
+    let waited = waits(&mut near);
+    Ok(waited && start.elapsed(rt)? >= Duration::from_millis(40))
 }
 
-#[test]
-fn a_link_without_time_never_waits(rt: HostRuntime) -> Result<(), Fail> {
-    let (near, _far) = tcp_pair(&rt)?;
+/// A link without time never waits, neither for bytes nor for room.
+pub fn a_link_without_time_never_waits(rt: &HostRuntime) -> io::Result<bool> {
+    let (near, _far) = tcp_pair(rt)?;
     let mut near = TcpLink::with_timeout(near, Duration::ZERO)?;
-    assert!(rt; waits(&mut near));
-    assert!(rt; fills(&mut near));
-    Ok(())
+    Ok(waits(&mut near) && fills(&mut near))
 }
 
-#[test]
-fn a_bare_socket_has_no_tls(rt: HostRuntime) -> Result<(), Fail> {
-    let (near, _far) = UnixStream::pair(&rt)?;
+/// A bare socket has no TLS.
+pub fn a_bare_socket_has_no_tls(rt: &HostRuntime) -> io::Result<bool> {
+    let (near, _far) = UnixStream::pair(rt)?;
     let mut near = SocketLink::Unix(UnixLink::new(near)?);
     let wish = TlsWish {
         verify_certificate: false,
         verify_host: false,
     };
-    assert!(rt; !near.can_upgrade());
-    assert_eq!(rt; near.upgrade(wish), LinkUpgrade::Failed);
-    Ok(())
+    Ok(!near.can_upgrade() && near.upgrade(wish) == LinkUpgrade::Failed)
 }
 
-#[test]
-fn std_sink_and_source_over_a_socket(rt: HostRuntime) -> Result<(), Fail> {
-    let (near, far) = UnixStream::pair(&rt)?;
+/// A sink and a source over the two ends of a socket.
+pub fn a_sink_and_a_source_talk(rt: &HostRuntime) -> io::Result<bool> {
+    let (near, far) = UnixStream::pair(rt)?;
     let mut sink = StdSink::new(near);
-    assert!(rt; send(&mut sink, b"abc"));
+    let sent = send(&mut sink, b"abc");
     drop(sink);
     let mut source = StdSource::new(far);
-    let mut bytes = Vec::new(rt.alloc());
-    assert_eq!(rt; read_all(&mut source, &mut bytes), Gathered::Whole);
-    assert!(rt; bytes.as_slice() == b"abc".as_slice());
-    Ok(())
+    Ok(sent && is_read(rt.alloc(), &mut source, b"abc"))
 }

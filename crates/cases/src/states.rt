@@ -1,0 +1,133 @@
+//! Cases of calls by their own states, which `top` never makes. The script is one of `top`: it says what the link does. A step is
+//! polled once, or where it has more polls, to the end of its items.
+
+use crate::calls::{Stand, close, keep, play_step, settled};
+use crate::case::{entry, script};
+use crate::options::options;
+use pg_conn::{PgConnection, establish};
+use pg_options::PgConnectOptions;
+use pg_script::{Script, Step, read_script};
+use pg_stream::MemoryLink;
+use pg_wire::{Poll, Sequence};
+use std::alloc::{AllocError, Global};
+use std::fmt::Write;
+use std::mem;
+
+type Connection = PgConnection<MemoryLink>;
+
+fn ready(answer: Poll<Option<Connection>>) -> Option<Connection> {
+    match answer {
+        Poll::Ready(conn) => conn,
+        Poll::Pending => None,
+    }
+}
+
+fn start(alloc: Global, options: &PgConnectOptions, link: MemoryLink) -> Option<Connection> {
+    match establish(alloc, options, b"n", link) {
+        Ok(mut start) => {
+            let conn = ready(settled(start.poll()));
+            drop(start);
+            conn
+        }
+        Err((error, link)) => {
+            drop(error);
+            drop(link);
+            None
+        }
+    }
+}
+
+// A connection over the link, whose start-up ends with its first poll.
+fn connect(alloc: Global, link: MemoryLink) -> Option<Connection> {
+    match options(alloc, "postgres://u@h") {
+        Ok(options) => {
+            let conn = start(alloc, &options, link);
+            drop(options);
+            conn
+        }
+        Err(error) => {
+            drop(error);
+            drop(link);
+            None
+        }
+    }
+}
+
+fn push_stand(told: &mut String, stand: Stand) -> Result<(), AllocError> {
+    match stand {
+        Stand::Waits => told.push_str("waits\n"),
+        Stand::Shows(rows) => write!(told, "shows {rows}\n"),
+        Stand::Ends(rows) => write!(told, "ends {rows}\n"),
+        Stand::Fails => told.push_str("fails\n"),
+    }
+}
+
+fn play_steps(
+    conn: &mut Connection,
+    steps: Vec<Step>,
+    told: &mut String,
+) -> Result<(), AllocError> {
+    for step in steps {
+        push_stand(told, play_step(conn, step))?;
+    }
+    Ok(())
+}
+
+// What is done with a connection behind its steps.
+fn leave(conn: Connection, case: &str) -> Option<Stand> {
+    match entry(case, "then") {
+        Some("close") => Some(close(conn)),
+        Some(_) => Some(keep(conn)),
+        None => {
+            drop(conn);
+            None
+        }
+    }
+}
+
+fn play_over(
+    mut conn: Connection,
+    case: &str,
+    steps: Vec<Step>,
+    told: &mut String,
+) -> Result<(), AllocError> {
+    let played = play_steps(&mut conn, steps, told);
+    match leave(conn, case) {
+        Some(stand) => push_stand(told, stand),
+        None => played,
+    }
+}
+
+// The link that a script says.
+fn link(alloc: Global, script: &mut Script) -> MemoryLink {
+    let reads = mem::replace(&mut script.events, Sequence::new(alloc));
+    let writes = mem::replace(&mut script.writes, Sequence::new(alloc));
+    MemoryLink::new(alloc, reads, writes, false, false)
+}
+
+fn play_script(
+    alloc: Global,
+    case: &str,
+    mut script: Script,
+    told: &mut String,
+) -> Result<(), AllocError> {
+    let link = link(alloc, &mut script);
+    let steps = mem::replace(&mut script.steps, Sequence::new(alloc)).into_vec();
+    drop(script);
+    match connect(alloc, link) {
+        Some(conn) => play_over(conn, case, steps, told),
+        None => {
+            drop(steps);
+            Ok(())
+        }
+    }
+}
+
+/// Plays a script by the states of calls, and tells how each call stood when it was dropped.
+pub(crate) fn play_states(alloc: Global, case: &str, told: &mut String) -> Result<(), AllocError> {
+    let text = script(alloc, case)?;
+    match read_script(alloc, text.as_bytes()) {
+        Ok(script) => play_script(alloc, case, script, told),
+        Err(_) => Ok(()),
+    }
+}

@@ -1,0 +1,79 @@
+use pg_report::{Answer, End, Item, Outcome, Started, report};
+use pg_request::CacheStep;
+use pg_wire::{Blob, Error, IoCause, Oid, Oids, ProtocolFault, Sequence, ServerFault};
+use std::alloc::{AllocError, Global};
+
+fn outcome(items: Sequence<Item>, cache: CacheStep, end: End) -> Outcome {
+    Outcome {
+        items,
+        end,
+        groups: 1,
+        heard: 2,
+        cache,
+        waits: 3,
+        moved: 4,
+    }
+}
+
+fn bare(alloc: Global, cache: CacheStep, end: End) -> Outcome {
+    outcome(Sequence::new(alloc), cache, end)
+}
+
+fn described(alloc: Global, parameters: Vec<Oid>) -> End {
+    End::Ok(Answer::Described {
+        parameters: Oids::from_vec(parameters),
+        fields: Sequence::new(alloc),
+    })
+}
+
+fn values(alloc: Global) -> Result<Sequence<Option<Blob>>, AllocError> {
+    let bytes = Blob::from_slice(alloc, b"\x07\xfa")?;
+    let values = [None, Some(Blob::new(alloc)), Some(bytes)];
+    Ok(Sequence::from_vec(Vec::from_array(alloc, values)?))
+}
+
+fn items(alloc: Global) -> Result<Sequence<Item>, AllocError> {
+    let values = values(alloc)?;
+    let piece = Blob::from_slice(alloc, b"Q")?;
+    let items = [
+        Item::Row(values),
+        Item::Row(Sequence::new(alloc)),
+        Item::Count(12),
+        Item::Piece(piece),
+        Item::Piece(Blob::new(alloc)),
+    ];
+    Ok(Sequence::from_vec(Vec::from_array(alloc, items)?))
+}
+
+fn all_played(alloc: Global, items: Sequence<Item>, two: Vec<Oid>) -> Result<String, AllocError> {
+    let same = CacheStep::Same;
+    let outcomes = [
+        outcome(items, same, End::Ok(Answer::Total(1))),
+        bare(alloc, CacheStep::Hit, End::Ok(Answer::Unit)),
+        bare(alloc, CacheStep::Put, described(alloc, two)),
+        bare(
+            alloc,
+            CacheStep::PutEvicting,
+            described(alloc, Vec::new(alloc)),
+        ),
+        bare(alloc, same, End::Ok(Answer::Held(true))),
+        bare(alloc, same, End::Ok(Answer::Held(false))),
+        bare(alloc, same, End::Dropped),
+        bare(alloc, same, End::Err(Error::Io(IoCause::End))),
+    ];
+    let start = Ok(Started { sent: 90, read: 15 });
+    report(alloc, &start, &outcomes, b"Q\x00\xff")
+}
+
+// A report of all that can be played.
+pub(crate) fn reported(alloc: Global) -> Result<String, Error> {
+    let items = items(alloc)?;
+    let two = Vec::from_array(alloc, [Oid(23), Oid(25)])?;
+    Ok(all_played(alloc, items, two)?)
+}
+
+pub(crate) fn refused_start(alloc: Global) -> Result<String, AllocError> {
+    let fault = ServerFault::Unlawful { tag: b'R' };
+    let start = Err(Error::Protocol(ProtocolFault::Server(fault)));
+    report(alloc, &start, &[], b"")
+}
