@@ -1,0 +1,12 @@
+pub mod MapLaws
+pub mod RowLaws
+pub mod MeaningLaws
+pub mod WaitingLaws
+pub mod TriedLaws
+pub mod SettlingLaws
+pub mod SoundLaws
+pub mod MeasureLaws
+pub mod TextLaws
+pub mod RoundLaws
+pub mod AgainLaws
+pub mod OrderLaws

@@ -1,0 +1,11 @@
+pub mod Rows
+pub mod Catalog
+pub mod Cached
+pub mod Found
+pub mod Tried
+pub mod Sound
+pub mod Texts
+pub mod Resolving
+pub mod Settling
+pub mod Rounds
+pub mod Columns

@@ -1,0 +1,116 @@
+ghost use Rattle.std.specs.Prelude.{◌≡◌, ◌++◌, ◌∷◌, [], OnOk, IfOk, string_bytes};
+ghost use Rattle.std.specs.List.{flat_map};
+ghost use Rattle.pg_resolve.specs.Columns.{column_text, more_column, columns_text, column_head, column_end, column_lookup, AsksColumns};
+
+use itoa::Buffer;
+use pg_wire::{Error, Oid, Sequence, Text};
+use std::alloc::{AllocError, Global};
+use std::marker::Model;
+
+#[tactic(auto, using(crate::proofs::TextLaws::five_pushed))]
+fn push_column(out: &mut String, column: &(Oid, i16)) -> Result<(), AllocError>
+    ensures { OnOk result (string_bytes out.new ≡ string_bytes out.old ++ column_text column.now) }
+{
+    let mut table = Buffer::new();
+    let mut attribute = Buffer::new();
+    out.push_str("(")?;
+    out.push_str(table.format(column.0.0))?;
+    out.push_str(", ")?;
+    out.push_str(attribute.format(column.1))?;
+    out.push_str(")")
+}
+
+fn push_more(out: &mut String, columns: &[(Oid, i16)]) -> Result<(), AllocError>
+    ensures { OnOk result (string_bytes out.new ≡ string_bytes out.old ++ flat_map more_column columns.now) }
+{
+    for column in columns {
+        out.push_str(", ")?;
+        push_column(out, column)?;
+    }
+    Ok(())
+}
+
+fn push_columns(out: &mut String, columns: &[(Oid, i16)]) -> Result<(), AllocError>
+    ensures { OnOk result (string_bytes out.new ≡ string_bytes out.old ++ columns_text columns.now) }
+{
+    match columns {
+        [] => Ok(()),
+        [first, rest @ ..] => {
+            push_column(out, first)?;
+            push_more(out, rest)
+        }
+    }
+}
+
+#[tactic(auto, unfolding(crate::specs::Columns::column_head))]
+fn push_head(out: &mut String) -> Result<(), AllocError>
+    ensures { OnOk result (string_bytes out.new ≡ string_bytes out.old ++ column_head) }
+{
+    out.push_str(
+        "SELECT\nattrelid table_oid,\nattrelid::regclass::text table_name,\narray_agg(ROW(attnum, attname)) AS columns\nFROM (VALUES ",
+    )
+}
+
+#[tactic(auto, unfolding(crate::specs::Columns::column_end))]
+fn push_end(out: &mut String) -> Result<(), AllocError>
+    ensures { OnOk result (string_bytes out.new ≡ string_bytes out.old ++ column_end) }
+{
+    out.push_str(
+        ") lookup(table_oid, attribute_num)\nINNER JOIN pg_catalog.pg_attribute ON lookup.table_oid = attrelid AND lookup.attribute_num = attnum\nGROUP BY attrelid",
+    )
+}
+
+#[tactic(auto, using(crate::proofs::TextLaws::three_written))]
+fn column_text_of(alloc: Global, columns: &[(Oid, i16)]) -> Result<Text, AllocError>
+    ensures { IfOk result (λ text. text ≡ column_lookup columns.now) }
+{
+    let mut out = String::new(alloc);
+    push_head(&mut out)?;
+    push_columns(&mut out, columns)?;
+    push_end(&mut out)?;
+    Ok(Text::from_string(out))
+}
+
+/// Finds out which columns of tables the fields of a result come from, by one lookup.
+#[derive(Drop)]
+pub struct ColumnResolver {
+    pushed: Sequence<(Oid, i16)>,
+}
+
+impl Model for ColumnResolver {
+    ghost use Rattle.std.specs.Prelude.{List, ℕ, ℤ};
+
+    ghost Value = { List (ℕ × ℤ) };
+
+    ghost view = { λ r. r.pushed };
+}
+
+impl ColumnResolver {
+    pub fn new(alloc: Global) -> Self
+        ensures { result ≡ [] }
+    {
+        ColumnResolver {
+            pushed: Sequence::new(alloc),
+        }
+    }
+
+    /// Asks for a column of a table.
+    pub fn push_column(&mut self, table: Oid, attribute: i16) -> Result<(), Error>
+        ensures { OnOk result (self.new ≡ self.old ++ (table, attribute) ∷ []) }
+    {
+        self.pushed.push((table, attribute))?;
+        Ok(())
+    }
+
+    /// The text of the lookup, or None where nothing is asked.
+    pub fn query(&mut self, alloc: Global) -> Result<Option<Text>, Error>
+        ensures { IfOk result (λ text. AsksColumns self.old text self.new) }
+    {
+        if self.pushed.is_empty() {
+            return Ok(None);
+        }
+        let text = column_text_of(alloc, self.pushed.as_slice())?;
+        self.pushed = Sequence::new(alloc);
+        Ok(Some(text))
+    }
+}

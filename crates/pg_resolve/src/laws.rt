@@ -1,0 +1,73 @@
+//! What follows from the definitions in `specs/`: each law is the contract of a function that does nothing.
+
+ghost use Rattle.std.specs.Prelude.{◌≡◌, ◌⊎◌, ◌≤◌, ◌<◌, Ok, ℕ, suc, Some, None, List, ◌∷◌, ◌++◌, [], length};
+ghost use Rattle.pg_arguments.specs.Types.{TypeParts, most_levels};
+ghost use Rattle.pg_resolve.specs.declared.row.TypeResolverRow.{TypeResolverRow};
+ghost use Rattle.pg_resolve.specs.Cached.{CacheSeen, known};
+ghost use Rattle.pg_resolve.specs.Tried.{tried, Waits, Refuses};
+ghost use Rattle.pg_resolve.specs.Rows.{parts_of, made_from};
+ghost use Rattle.pg_resolve.specs.Settling.{NeedsType, Settles, IsWaiting, IsEntered, AllOf, Has};
+ghost use Rattle.pg_resolve.specs.Rounds.{TakesAll, Reached, IsAnswered, IsAcyclic, IsNew, IsAmong, Runs, ReadsFirst};
+ghost use Rattle.pg_resolve.specs.Resolving.{ResolverSeen, no_rows, again, waiting_for};
+ghost use Rattle.pg_resolve.specs.Sound.{IsSound};
+ghost use Rattle.pg_resolve.specs.Catalog.{Catalog, IsIn, meaning_within, meaning};
+
+/// What an OID means by rows that stand any number of times in each other it means by as many as there are rows.
+pub fn as_many_steps_as_rows_are_enough()
+    ensures { (catalog : Catalog) (n oid : ℕ) (t : TypeParts) → meaning_within catalog n oid ≡ Some t → meaning catalog oid ≡ Some t }
+{}
+
+/// In whatever order rows of one catalog are taken, each cached type is its meaning afterwards if each was before, and each row is cached or
+/// waits.
+pub fn rows_may_come_in_any_order()
+    ensures sound { (catalog : Catalog) (rows : List TypeResolverRow) (s t : ResolverSeen) (c d : CacheSeen) → TakesAll rows s c t d →
+        ((row : TypeResolverRow) → Has rows row → IsIn catalog row) → AllOf catalog s → IsSound catalog c → IsSound catalog d }
+    ensures kept { (rows : List TypeResolverRow) (s t : ResolverSeen) (c d : CacheSeen) → TakesAll rows s c t d →
+        (row : TypeResolverRow) → Has rows row → IsEntered d row ⊎ IsWaiting t row }
+{}
+
+/// A row that waits for a type leaves what is known, and the type that it waits for is one that it needs and that isn't known.
+pub fn a_row_waits_for_what_it_needs()
+    ensures { (row : TypeResolverRow) (p : ℕ) (c d : CacheSeen) → tried c row ≡ Waits p d → NeedsType row p × (known d p ≡ None) × ((oid : ℕ) → known d oid ≡ known c oid) }
+{}
+
+/// A resolver that has taken no step has lost nothing.
+pub fn the_first_step()
+    ensures { (taken : TypeResolverRow) (s : ResolverSeen) (c : CacheSeen) → Settles taken s c (taken ∷ []) s c }
+{}
+
+/// Each round reads a new row: where a row waits, all that was asked was answered and no type needs itself, the next lookup asks for a
+/// type of which no row was taken yet.
+pub fn each_round_reads_a_new_row()
+    ensures { (rank : ℕ → ℕ) (asked read : List ℕ) (s : ResolverSeen) (c : CacheSeen) → Reached asked read s c → IsAnswered asked read → IsAcyclic rank s →
+        (row : TypeResolverRow) → IsWaiting s row → IsNew read s c }
+{}
+
+/// This holds at first, and after each row that is taken.
+pub fn rows_are_kept_track_of()
+    ensures first { (c : CacheSeen) → Reached [] [] no_rows c }
+    ensures next { (asked read : List ℕ) (row : TypeResolverRow) (s t : ResolverSeen) (c d : CacheSeen) →
+        Reached asked read s c → Settles row s c [] t d → Reached asked (read ++ row.oid ∷ []) t d }
+{}
+
+/// 64 rounds are enough for at most 63 types: where each type that is asked has a row and none needs itself, more rounds than types
+/// leave no row waiting, and then `ended` has nothing to say. Where the first round reads a row of one of the types too, as many
+/// rounds as types are enough.
+pub fn as_many_rounds_as_types_are_enough()
+    ensures any { (rank : ℕ → ℕ) (types : List ℕ) (n : ℕ) (asked read : List ℕ) (s : ResolverSeen) (c : CacheSeen) →
+        Runs rank types n asked read s c → IsAcyclic rank s → IsAmong types s → length types < n → s.waiting ≡ [] }
+    ensures first { (rank : ℕ → ℕ) (types : List ℕ) (n : ℕ) (asked read : List ℕ) (s : ResolverSeen) (c : CacheSeen) (runs : Runs rank types (suc n) asked read s c) →
+        ReadsFirst rank types (suc n) asked read s c runs → IsAcyclic rank s → IsAmong types s → length types ≤ suc n → s.waiting ≡ [] }
+{}
+
+/// A row is refused only where it lacks the base, element or subtype of its sort, or its type would have more than 64 levels.
+pub fn a_row_is_refused_for_cause()
+    ensures { (row : TypeResolverRow) (c : CacheSeen) → tried c row ≡ Refuses →
+        (parts_of row ≡ None) ⊎ ((made : TypeParts) × (made_from (known c) row ≡ Some (Ok made)) × (64 ≤ most_levels made)) }
+{}
+
+/// No lookup is needless: what is asked beside what was pushed isn't known, and a row waits for it.
+pub fn no_lookup_is_needless()
+    ensures { (asked read : List ℕ) (s : ResolverSeen) (c : CacheSeen) → Reached asked read s c → (p : ℕ) → Has (again s.waiting [] s.began) p →
+        (known c p ≡ None) × ((row : TypeResolverRow) × Has (waiting_for s p) row) }
+{}
