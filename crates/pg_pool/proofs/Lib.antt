@@ -1,0 +1,4 @@
+pub mod IdLaws
+pub mod HistoryLaws
+pub mod SectionLaws
+pub mod AuditLaws

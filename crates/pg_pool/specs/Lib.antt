@@ -1,0 +1,5 @@
+pub mod PoolHistory
+pub mod PoolLogs
+pub mod Seats
+pub mod Sections
+pub mod Audits
