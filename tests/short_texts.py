@@ -1,7 +1,7 @@
 """Reads every short text by the grammars of array texts and record texts, and prints a digest of all answers.
 
-The test `short_texts` of the crate `value_cases` reads the same texts with `read_array` and `read_composite`, and compares its digests
-with those that this program prints.
+The program `value_cases` reads the same texts with `read_array` and `read_composite`: the row `digests` of its file `stdout` has what this
+program prints.
 
 An array is braces round elements joined by commas, or `{}`. An element is NULL, or a text in quotes in which a backslash keeps the next
 character, or characters other than braces, comma, quote, backslash and white space (PostgreSQL manual, "Array Input and Output Syntax").
