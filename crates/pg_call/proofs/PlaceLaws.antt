@@ -101,3 +101,11 @@ unfitting Synced values e = (refl, refl)
 pub other_width : (part : Part) (values : Values) (body : List ℕ) (e : Error) → Says 68 body (DataRow values) → fits part (length values) ≡ false → IsFault IsAny 68 body e → Judges part 68 body (Err e)
 other_width part values body e s n h =
     because part 68 body e (λ m t. subst (MayNotCome part) (backend_frame_unique (DataRow values) m s.0 t.0 (s.1 ∙ sym t.1)) (unfitting part values n)) h
+
+row_misfits : (part : Part) (body : List ℕ) → ((values : Values) → Says 68 body (DataRow values) → fits part (length values) ≡ false) → (m : BackendMessage) → Says 68 body m → MayNotCome part m
+row_misfits part body f (DataRow values) s = unfitting part values (f values s)
+row_misfits part body f _ s = absurd (omega (arith, ap (λ (g : Frame). g.tag) s.1))
+
+-- a body that claims another width is no row that may come
+pub claims_other_width : (part : Part) (body : List ℕ) (e : Error) → ((values : Values) → Says 68 body (DataRow values) → fits part (length values) ≡ false) → IsFault IsAny 68 body e → Judges part 68 body (Err e)
+claims_other_width part body e f h = because part 68 body e (row_misfits part body f) h

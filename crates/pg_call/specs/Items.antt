@@ -101,6 +101,15 @@ added kind t (Row row) = record t {
   first = if keeps_first kind then first_of t.first row else t.first;
 }
 
+-- whether a row that comes now is shown or kept, where this is the first that was
+abbrev pub keeps_row : Kind → Option Values → Bool
+keeps_row (kinds.Run hows.Fetch) first = true
+keeps_row (kinds.Run hows.FetchMany) first = true
+keeps_row (kinds.Run hows.FetchAll) first = true
+keeps_row (kinds.Run hows.FetchOptional) None = true
+keeps_row (kinds.Run hows.FetchOne) None = true
+keeps_row _ _ = false
+
 abbrev pub shown_if : Bool → CallItem → Option CallItem
 shown_if true item = Some item
 shown_if false item = None

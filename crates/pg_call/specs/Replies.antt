@@ -5,7 +5,7 @@ use Rattle.pg_wire.specs.declared.error.Error.TheVariants as errors
 use Rattle.pg_wire.specs.declared.error.ProtocolFault.TheVariants as protocol
 use Rattle.pg_wire.specs.declared.error.ServerFault.TheVariants as faults
 use Rattle.pg_wire.specs.declared.status.TransactionStatus.{TransactionStatus}
-use Rattle.pg_wire.specs.Backend.{BackendMessage, ReadyForQuery, RowDescription, DataRow, CommandComplete, ErrorResponse, EmptyQueryResponse, CopyInResponse, CopyOutResponse}
+use Rattle.pg_wire.specs.Backend.{BackendMessage, Values, ReadyForQuery, RowDescription, DataRow, CommandComplete, ErrorResponse, EmptyQueryResponse, CopyInResponse, CopyOutResponse}
 use Rattle.pg_wire.specs.Decoding.{Says}
 use Rattle.pg_call.specs.declared.kind.Kind.{Kind}
 use Rattle.pg_call.specs.declared.kind.Kind.TheVariants as kinds
@@ -101,3 +101,8 @@ IsAny m = Unit {0}
 abbrev pub Judges : Part → ℕ → List ℕ → Result Verdict Error → Type 0
 Judges part tag body (Ok verdict) = (m : BackendMessage) × Says tag body m × IsVerdict part m verdict
 Judges part tag body (Err e) = IsFault (MayNotCome part) tag body e
+
+-- a row that may come, of which nothing is kept
+abbrev pub PassesRow : Part → List ℕ → Result (Unit {0}) Error → Type 0
+PassesRow part body (Ok u) = (values : Values) × Says 68 body (DataRow values) × (fits part (length values) ≡ true)
+PassesRow part body (Err e) = IsFault (MayNotCome part) 68 body e

@@ -1,14 +1,17 @@
-ghost use Rattle.std.specs.Prelude.{◌≡◌, true};
+ghost use Rattle.std.specs.Prelude.{◌≡◌, true, length};
+ghost use Rattle.pg_wire.specs.Backend as backend;
+ghost use Rattle.pg_wire.specs.Backend.{Values};
+ghost use Rattle.pg_wire.specs.Decoding.{Says};
 ghost use Rattle.pg_wire.specs.Frame.{is_known};
-ghost use Rattle.pg_call.specs.Replies.{Judges, awaits_first, fits, tags_of};
+ghost use Rattle.pg_call.specs.Replies.{Judges, PassesRow, awaits_first, fits, tags_of};
 
 use crate::format::refuse;
 use crate::{CallItem, Kind, PgQueryResult};
 use pg_rows::PgRow;
 use pg_wire::{
-    Error, PgDatabaseError, decode_command_complete, decode_copy_in_response,
+    Error, Frame, PgDatabaseError, check_data_row, check_row_description, claimed_width, cut_data_row, decode_command_complete, decode_copy_in_response,
     decode_copy_out_response, decode_data_row, decode_empty_query, decode_error_response,
-    decode_ready_for_query, decode_row_description,
+    decode_ready_for_query,
 };
 use std::alloc::Global;
 
@@ -66,6 +69,16 @@ impl Part {
             Part::First | Part::Further | Part::Synced => false,
         }
     }
+
+    // Whether a row may come that has as many values as this body claims.
+    fn fits_claimed(self, body: &[u8]) -> bool
+        ensures { (values : Values) → Says 68 body.now (backend.DataRow values) → result ≡ fits self (length values) }
+    {
+        match claimed_width(body) {
+            Some(width) => self.fits(usize::from(width)),
+            None => false,
+        }
+    }
 }
 
 /// What one message is to a reply.
@@ -79,13 +92,14 @@ pub enum Verdict {
     Copies,
 }
 
-fn describe(alloc: Global, part: Part, body: &[u8]) -> Result<Verdict, Error>
+// The columns of the rows to come, of which the number is kept.
+fn describe(part: Part, body: &[u8]) -> Result<Verdict, Error>
     requires { is_known (tags_of part) 84 ≡ true }
     ensures { Judges part 84 body.now result }
 {
-    let fields = decode_row_description(alloc, body)?;
+    let width = check_row_description(body)?;
     Ok(Verdict::On {
-        part: Part::Rows(fields.len()),
+        part: Part::Rows(usize::from(width)),
         item: None,
     })
 }
@@ -121,6 +135,31 @@ fn row(alloc: Global, part: Part, body: &[u8]) -> Result<Verdict, Error>
     if !part.fits(row.len()) {
         return Err(refuse(alloc, b'D', body));
     }
+    Ok(Verdict::On {
+        part,
+        item: Some(CallItem::Row(row)),
+    })
+}
+
+/// The same of a row of which nothing is kept: it may come, or an `Err` is the server's fault, or want of memory.
+pub fn pass_row(alloc: Global, part: Part, body: &[u8]) -> Result<(), Error>
+    ensures { PassesRow part body.now result }
+{
+    let width = check_data_row(body)?;
+    if !part.fits(usize::from(width)) {
+        return Err(refuse(alloc, b'D', body));
+    }
+    Ok(())
+}
+
+/// The same of a row that is cut from its frame.
+pub fn judge_row(alloc: Global, part: Part, frame: Frame) -> Result<Verdict, Error>
+    ensures { Judges part 68 frame.body result }
+{
+    if !part.fits_claimed(frame.body()) {
+        return Err(refuse(alloc, b'D', frame.body()));
+    }
+    let row = PgRow::new(cut_data_row(alloc, frame)?);
     Ok(Verdict::On {
         part,
         item: Some(CallItem::Row(row)),
@@ -165,7 +204,7 @@ pub fn judge(alloc: Global, part: Part, tag: u8, body: &[u8]) -> Result<Verdict,
         return Err(refuse(alloc, tag, body));
     }
     match tag {
-        b'T' => describe(alloc, part, body),
+        b'T' => describe(part, body),
         b'C' => complete(part, body),
         b'I' => be_empty(part, body),
         b'D' => row(alloc, part, body),

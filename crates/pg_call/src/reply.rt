@@ -1,10 +1,12 @@
 ghost use Rattle.std.specs.Prelude.{◌≡◌, IfOk, IfErr, OnErr};
-ghost use Rattle.pg_call.specs.Items.{finished};
-ghost use Rattle.pg_call.specs.Replies.{IsFault, MayNotCome};
-ghost use Rattle.pg_call.specs.Hearing.{Hears, HearsItem, fresh_reply};
+ghost use Rattle.pg_wire.specs.Backend.{BackendMessage};
+ghost use Rattle.pg_call.specs.Items.{finished, keeps_row};
+ghost use Rattle.pg_call.specs.Replies.{IsFault, IsVerdict, MayNotCome};
+ghost use Rattle.pg_call.specs.Hearing.{Hears, HearsItem, HearsMessage, fresh_reply};
 
-use crate::{CallAnswer, CallItem, Kind, Part, Tally, Verdict, judge};
-use pg_wire::{Error, PgDatabaseError};
+use crate::judging::{judge_row, pass_row};
+use crate::{CallAnswer, CallItem, How, Kind, Part, Tally, Verdict, judge};
+use pg_wire::{Error, Frame, PgDatabaseError};
 use std::alloc::Global;
 
 /// The call's own reply, as far as it has come.
@@ -55,18 +57,51 @@ impl Reply {
         }
     }
 
+    // What a message that may come makes of the reply.
+    fn hear(&mut self, verdict: Verdict) -> Result<Heard, Error>
+        ensures ok { IfOk result (λ heard. (m : BackendMessage) → IsVerdict self.old.part m verdict → HearsMessage self.old self.new m heard) }
+        ensures err { IfErr result (λ e. (e ≡ Error.OutOfMemory) × (self.new ≡ self.old)) }
+    {
+        match verdict {
+            Verdict::On { part, item } => self.go_on(part, item),
+            Verdict::Failed(error) => Ok(Heard::Failed(error)),
+            Verdict::Closed => Ok(Heard::Closed),
+            Verdict::Copies => Ok(Heard::Copies),
+        }
+    }
+
+    /// Whether a row that comes now is shown or kept.
+    pub fn keeps_rows(&self) -> bool
+        ensures { result ≡ keeps_row self.now.kind self.now.tally.first }
+    {
+        match self.kind {
+            Kind::Run(How::Fetch | How::FetchMany | How::FetchAll) => true,
+            Kind::Run(How::FetchOptional | How::FetchOne) => self.tally.first.is_none(),
+            _ => false,
+        }
+    }
+
     /// Takes one message that is no asynchronous one. An `Err` leaves the reply as it is: it is the server's fault, or want of
     /// memory.
     pub fn take(&mut self, alloc: Global, tag: u8, body: &[u8]) -> Result<Heard, Error>
         ensures ok { IfOk result (Hears self.old self.new tag body.now) }
         ensures err { IfErr result (IsFault (MayNotCome self.old.part) tag body.now) }
     {
-        match judge(alloc, self.part, tag, body)? {
-            Verdict::On { part, item } => self.go_on(part, item),
-            Verdict::Failed(error) => Ok(Heard::Failed(error)),
-            Verdict::Closed => Ok(Heard::Closed),
-            Verdict::Copies => Ok(Heard::Copies),
+        if tag == b'D' && !self.keeps_rows() {
+            pass_row(alloc, self.part, body)?;
+            return Ok(Heard::More);
         }
+        let verdict = judge(alloc, self.part, tag, body)?;
+        self.hear(verdict)
+    }
+
+    /// The same of a row, which is cut from its frame.
+    pub fn take_row(&mut self, alloc: Global, frame: Frame) -> Result<Heard, Error>
+        ensures ok { IfOk result (Hears self.old self.new 68 frame.body) }
+        ensures err { IfErr result (IsFault (MayNotCome self.old.part) 68 frame.body) }
+    {
+        let verdict = judge_row(alloc, self.part, frame)?;
+        self.hear(verdict)
     }
 
     /// What the call answers at the end of its reply.

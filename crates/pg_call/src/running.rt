@@ -4,7 +4,7 @@ ghost use Rattle.pg_call.specs.Calls.{IsAwaiting, StaysIn, TakesMessage, Refuses
 ghost use Rattle.pg_call.specs.Hearing.{Drains, Closes, RefusesCopy, Follows, IsReplied, marked};
 
 use crate::{Beat, Call, CallAnswer, CallItem, Heard, Ledger, Taken};
-use pg_wire::{Error, ProtocolFault, decode_error_response, decode_ready_for_query};
+use pg_wire::{Error, Frame, ProtocolFault, decode_error_response, decode_ready_for_query};
 use std::alloc::Global;
 use std::mem;
 
@@ -167,6 +167,35 @@ impl Running {
                 Ok(heard) => Ok(self.follow(tag, heard)),
                 Err(e) => Err(e),
             },
+        }
+    }
+
+    /// Whether a row that comes now is one of the own reply, and shown or kept.
+    pub fn keeps_rows(&self) -> bool
+        ensures { result ≡ true → IsReplied self.now.call }
+    {
+        match &self.call {
+            Call::Own(reply) => reply.keeps_rows(),
+            Call::Idle | Call::Asked(_) | Call::Waiting(_) | Call::Closing => false,
+        }
+    }
+
+    /// The same of a row of the own reply, which is cut from its frame.
+    pub fn take_row(&mut self, alloc: Global, frame: Frame) -> Result<Taken, Error>
+        requires { IsReplied self.old.call }
+        ensures ok { IfOk result (TakesMessage 68 frame.body self.old self.new) }
+        ensures copy { IfOk result (λ taken. taken.fails_copy ≡ false) }
+        ensures goes { IfOk result (λ taken. taken.beat ≢ Beat.Waits) }
+        ensures stays { IfOk result (λ taken. StaysIn self.old.call taken.fails_copy self.new.call) }
+        ensures err { IfErr result (RefusesMessage 68 frame.body self.old) }
+        ensures ledger { OnErr result (self.new.ledger ≡ self.old.ledger) }
+    {
+        match &mut self.call {
+            Call::Own(reply) => match reply.take_row(alloc, frame) {
+                Ok(heard) => Ok(self.follow(b'D', heard)),
+                Err(e) => Err(e),
+            },
+            _ => unreachable!(),
         }
     }
 }

@@ -1,5 +1,5 @@
 -- How one poll of a call moves the connection on, whatever the call had done before.
-use Rattle.std.specs.Prelude.{◌≡◌, ℕ, ◌-◌, ◌<◌, ◌≤◌, ◌⊎◌, ◌==◌, ◌&&◌, Bool, true, false, count_by, List, [], ◌∷◌, ◌++◌, length, nat_eq, Ok, Err, Option, Some, None}
+use Rattle.std.specs.Prelude.{◌≡◌, ◌≢◌, Result, ℕ, ◌-◌, ◌<◌, ◌≤◌, ◌⊎◌, ◌==◌, ◌&&◌, Bool, true, false, count_by, List, [], ◌∷◌, ◌++◌, length, nat_eq, Ok, Err, Option, Some, None}
 use Rattle.futures.specs.declared.task.Poll.{Poll}
 use Rattle.futures.specs.declared.task.Poll.TheVariants.{Ready, Pending}
 use Rattle.pg_wire.specs.declared.error.Error.{Error}
@@ -12,7 +12,7 @@ use Rattle.pg_wire.specs.Parts.{heard, is_asynchronous}
 use Rattle.pg_wire.specs.Frontend.{FrontendMessage, Query, Sync}
 use Rattle.pg_stream.specs.declared.stream.Front.{Front}
 use Rattle.pg_stream.specs.Links.{GrewBy}
-use Rattle.pg_stream.specs.Streams.{StreamOf, Moves, AllMoved, NoneWaited, Passes, WriteWaited, IsSpent, PendingCause, HeardCause}
+use Rattle.pg_stream.specs.Streams.{IsFrontOf, framed, StreamOf, Moves, AllMoved, NoneWaited, Passes, WriteWaited, IsSpent, PendingCause, HeardCause}
 use Rattle.pg_call.specs.declared.ledger.Ledger.{Ledger}
 use Rattle.pg_call.specs.declared.request.Request.{Request}
 use Rattle.pg_call.specs.declared.request.Request.TheVariants as requests
@@ -27,7 +27,9 @@ use Rattle.pg_call.specs.declared.calling.Beat.TheVariants as beats
 use Rattle.pg_call.specs.Requests.{Group, spelled, kind_of, is_flush, CanBeSaid, IsRefusal}
 use Rattle.pg_call.specs.Drains.{is_error}
 use Rattle.pg_call.specs.Hearing.{fails_of}
-use Rattle.pg_call.specs.Calls.{CallIs, IsAwaiting, Leaves, CallEnds, IsFrontFault}
+use Rattle.pg_call.specs.declared.calling.Taken.{Taken}
+use Rattle.pg_call.specs.declared.running.Running.{Running}
+use Rattle.pg_call.specs.Calls.{CallIs, IsAwaiting, Leaves, CallEnds, IsFrontFault, TakesMessage, RefusesMessage, StaysIn}
 use Rattle.pg_conn.specs.Connections.{ConnOf, ConnSeen, idle, started_call, begun, begun_with}
 
 -- Query and Sync end a group ("Simple Query", "Extended Query")
@@ -161,6 +163,17 @@ queued_copy_fail fails s = record s { unsent = s.unsent ++ spelled (fails_of fai
 
 abbrev pub Accepts : {A : Type 0} → Front → Bool → ConnOf A → ConnOf A → Type 0
 Accepts {A} front fails a b = (t : StreamOf A) × Passes front a.stream t × (b ≡ record a { stream = queued_copy_fail fails t; heard = b.heard }) × GrewBy 1 a.heard b.heard
+
+-- the call takes the message at the front, or refuses it and owes what it did
+abbrev pub HearsBy : ℕ → List ℕ → Running → Running → Result Taken Error → Type 0
+HearsBy tag body a b (Ok taken) = TakesMessage tag body a b taken × (taken.fails_copy ≡ true → tag ≡ 71) × (taken.beat ≢ beats.Waits) × StaysIn a.call taken.fails_copy b.call
+HearsBy tag body a b (Err e) = RefusesMessage tag body a e × (b.ledger ≡ a.ledger)
+
+abbrev pub running_of : {A : Type 0} → ConnOf A → Running
+running_of c = record { ledger = c.ledger; call = c.call }
+
+abbrev pub HearsFront : {A : Type 0} → Front → ConnOf A → ConnOf A → Result Taken Error → Type 0
+HearsFront front a b result = (body : List ℕ) × (rest : List ℕ) × IsFrontOf a.stream.held front (framed front.tag body) rest × HearsBy front.tag body (running_of a) (running_of b) result
 
 -- ---- a poll
 

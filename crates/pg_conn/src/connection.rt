@@ -1,6 +1,6 @@
-ghost use Rattle.std.specs.Prelude.{◌≡◌, not, nat_eq, length, option_map, OnErr, Err};
+ghost use Rattle.std.specs.Prelude.{◌≡◌, ◌≤◌, not, nat_eq, length, option_map, OnErr, Err};
 ghost use Rattle.pg_stream.specs.Parameters.{value_of};
-ghost use Rattle.pg_conn.specs.Connections.{fresh_connection, idle, left_by, runs, started_call};
+ghost use Rattle.pg_conn.specs.Connections.{fresh_connection, idle, left_by, runs, started_call, with_room};
 
 use crate::{CacheStep, Progress, Request};
 use pg_call::{Call, Running};
@@ -77,9 +77,10 @@ impl<L> PgConnection<L> {
         self.stream.server_version_num()
     }
 
-    /// Gives up room of the buffers that nothing needs. An `Err` is want of memory, and leaves the connection as it is.
+    /// Gives up room of the buffers that nothing needs. An `Err` is want of memory.
     pub fn shrink_buffers(&mut self) -> Result<(), Error>
-        ensures same { self.new ≡ self.old }
+        ensures same { self.new ≡ with_room self.new.stream.room self.old }
+        ensures room { self.new.stream.room ≤ self.old.stream.room }
         ensures err { OnErr result (result ≡ Err Error.OutOfMemory) }
     {
         self.stream.shrink_buffers()

@@ -5,10 +5,10 @@ ghost use Rattle.pg_conn.specs.Connections.{seen_by, idle, begun_with, begun_by,
 ghost use Rattle.pg_call.specs.Calls.{IsAwaiting};
 ghost use Rattle.pg_call.specs.declared.kind.Kind as declared_kind;
 ghost use Rattle.pg_conn.specs.States.{IsCalling, PollFits};
-ghost use Rattle.pg_conn.specs.Turns.{TakesBeat, Prepares, Readies, Refuses, Accepts, IsAsked, IsSayable, Refused, IsAhead, only_sends, flushes, is_flushed, EndsFlush, queued_copy_fail, PollsBy, PollsWithin, PollsCall, PollsMore, beat_of, broken_by};
+ghost use Rattle.pg_conn.specs.Turns.{TakesBeat, HearsFront, Prepares, Readies, Refuses, Accepts, IsAsked, IsSayable, Refused, IsAhead, only_sends, flushes, is_flushed, EndsFlush, queued_copy_fail, PollsBy, PollsWithin, PollsCall, PollsMore, beat_of, broken_by};
 
 use crate::{PgConnection, Request, Turn};
-use pg_call::{Beat, Call, CallAnswer, Kind, Ledger, Reply, Waiting};
+use pg_call::{Beat, Call, CallAnswer, Kind, Ledger, Reply, Taken, Waiting};
 use pg_stream::{Front, Link};
 use pg_wire::{Blob, Error, Poll, ProtocolFault, ServerFault};
 
@@ -214,6 +214,21 @@ impl<L: Link> PgConnection<L> {
         Ok(())
     }
 
+    // What the message at the front makes of the call. A row that is kept shares the storage in which it came.
+    fn hear_front(&mut self, front: Front) -> Result<Taken, Error>
+        requires awaiting { IsAwaiting self.old.ledger self.old.call }
+        requires front { IsHeardFront self.old.stream.held front }
+        ensures now { self.new ≡ record self.old { ledger = self.new.ledger; call = self.new.call } }
+        ensures hears { HearsFront front self.old self.new result }
+    {
+        if front.tag == b'D' && self.running.keeps_rows() {
+            let frame = self.stream.share(front)?;
+            return self.running.take_row(self.alloc, frame);
+        }
+        self.running
+            .take(self.alloc, front.tag, self.stream.body(front))
+    }
+
     // Takes the message at the front, for which there is room; where it may not come, it stays.
     fn judge_front(&mut self, front: Front) -> Beat
         requires awaiting { IsAwaiting self.old.ledger self.old.call }
@@ -224,10 +239,7 @@ impl<L: Link> PgConnection<L> {
         ensures goes { result ≢ Beat.Waits }
         ensures falls { result ≡ Beat.More → fuel_of (stream_by L.seen self.new.stream) < fuel_of (stream_by L.seen self.old.stream) }
     {
-        match self
-            .running
-            .take(self.alloc, front.tag, self.stream.body(front))
-        {
+        match self.hear_front(front) {
             Ok(taken) => {
                 self.accept(front, taken.fails_copy);
                 taken.beat

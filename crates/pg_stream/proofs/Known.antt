@@ -1,8 +1,23 @@
 -- Known bytes that grow, step after step.
-use Rattle.std.proofs.Common.{ℕ, ◌≡◌, subst, List, [], ◌∷◌, ◌++◌, length, refl, sym, ap, ◌∙◌, append_assoc, Option, Some, None, arith}
+use Rattle.std.proofs.Common.{min, max, inl, inr, ℕ, ◌≡◌, subst, List, [], ◌∷◌, ◌++◌, length, refl, sym, ap, ◌∙◌, append_assoc, Option, Some, None, arith}
 use Rattle.std.specs.Io.KnownBytes.{Keeps, Appends}
 use Rattle.std.proofs.lemmas.List.{append-nil}
-use Rattle.pg_stream.specs.Links.{LinkSeen, StillTold, NoneFalls, Rises, Counts, GrewBy, NoWaits, AddsPlace}
+use Rattle.pg_stream.specs.declared.link.Asked.{Asked}
+use Rattle.pg_stream.specs.Streams.{AskedFor}
+use Rattle.pg_stream.specs.Links.{asked_with, LinkSeen, StillTold, NoneFalls, Rises, Counts, GrewBy, NoWaits, AddsPlace}
+
+-- reads that ask for the same are seen as one
+asked_again : (a : Asked) (n : ℕ) → asked_with (asked_with a n) n ≡ asked_with a n
+asked_again a n =
+    let least : min (min a.least n) n ≡ min a.least n = omega arith in
+    let most : max (max a.most n) n ≡ max a.most n = omega arith in
+    rw (least, most) refl
+
+pub AskedFor-then : (a b c : LinkSeen) → AskedFor a b → AskedFor b c → AskedFor a c
+AskedFor-then a b c p q = elim p [
+  | inl e ↦ elim q [ | inl f ↦ inl (f ∙ e) | inr f ↦ inr (f ∙ ap (λ (x : Asked). asked_with x 8192) e) ]
+  | inr e ↦ elim q [ | inl f ↦ inr (f ∙ e) | inr f ↦ inr (f ∙ ap (λ (x : Asked). asked_with x 8192) e ∙ asked_again a.asked 8192) ]
+]
 
 pub Appends-then : (a b c : Option (List ℕ)) (x y : List ℕ) → Appends a b x → Appends b c y → Appends a c (x ++ y)
 Appends-then None b c x y p q = tt

@@ -16,12 +16,13 @@ use Rattle.std.specs.Io.KnownBytes.{Keeps, Appends}
 use Rattle.pg_stream.specs.declared.link.LinkRead.{LinkRead}
 use Rattle.pg_stream.specs.declared.link.LinkRead.TheVariants as reads
 use Rattle.pg_stream.specs.declared.link.LinkWrite.TheVariants as writes
-use Rattle.pg_stream.specs.Links.{LinkSeen, NoneFalls, Rose, GrewBy, Rises, Counts, read_rises, write_rises, Reads, Writes}
-use Rattle.pg_stream.specs.Streams.{NoneWaited, StreamSeen, Sends, Takes, TakenFrom, Passes, AreFrames, Tallies, Moves, AllMoved, OneMoved, WriteWaited, ReadWaited, SendsOnce, ReadsOnce, HasNone, PollsFront, PollsFrame, PollsHeard, PollsAhead, IsHeardFront, framed, AheadOnce, HeardCause, IsMalformedFront, PassesAside, TakesFront, TakesHeard, StreamOf, stream_by, AreAsynchronous, PendingCause, ErrorCause, IsFrontOf, IsFront}
+use Rattle.pg_stream.specs.Links.{asked_with, LinkSeen, NoneFalls, Rose, GrewBy, Rises, Counts, read_rises, write_rises, Reads, Writes}
+use Rattle.pg_stream.specs.Streams.{AskedFor, NoneWaited, StreamSeen, Sends, Takes, TakenFrom, Passes, AreFrames, Tallies, Moves, AllMoved, OneMoved, WriteWaited, ReadWaited, SendsOnce, ReadsOnce, HasNone, PollsFront, PollsFrame, PollsHeard, PollsAhead, IsHeardFront, framed, AheadOnce, HeardCause, IsMalformedFront, PassesAside, TakesFront, TakesHeard, StreamOf, stream_by, AreAsynchronous, PendingCause, ErrorCause, IsFrontOf, IsFront}
 use Rattle.pg_stream.specs.Parameters.{ParametersSeen, SetsBy, SetsByAll}
 use Rattle.pg_stream.specs.Asynchronous.{IsAside, TakesAside}
 use Rattle.pg_stream.proofs.ParameterLaws.{sets_heard}
-use Rattle.pg_stream.proofs.Known.{Keeps-refl, Keeps-then, AddsPlace-after, Appends-then, Appends-from_keeps, Appends-refl, NoneFalls-refl, NoneFalls-then, NoneFalls-from_counts, NoWaits-from_counts, NoWaits-then, GrewBy-after, GrewBy-still}
+use Rattle.pg_stream.specs.Received.{ReceivedSeen, bytes_in, room_for, given_of, ReadsOnto}
+use Rattle.pg_stream.proofs.Known.{AskedFor-then, Keeps-refl, Keeps-then, AddsPlace-after, Appends-then, Appends-from_keeps, Appends-refl, NoneFalls-refl, NoneFalls-then, NoneFalls-from_counts, NoWaits-from_counts, NoWaits-then, GrewBy-after, GrewBy-still}
 
 pub AreFrames-append : (xs ys : List Frame) → AreFrames xs → AreFrames ys → AreFrames (xs ++ ys)
 AreFrames-append [] ys p q = q
@@ -94,11 +95,20 @@ pub SetsByAll-append : (xs ys : List Frame) (a b c : ParametersSeen) → SetsByA
 SetsByAll-append [] ys a b c p q = subst (λ (m : ParametersSeen). SetsByAll ys m c) p q
 SetsByAll-append (x ∷ xs) ys a b c p q = (p.0, p.1, SetsByAll-append xs ys p.0 b c p.2 q)
 
+-- the room grows by what came in both
+room_then : (a b c : StreamSeen) (x y : List Frame) → Takes b c y → b.room ≤ max a.room (room_for (length (text_of x) + length b.held)) → c.room ≤ max b.room (room_for (length (text_of y) + length c.held))
+    → c.room ≤ max a.room (room_for (length (text_of (x ++ y)) + length c.held))
+room_then a b c x y t p q =
+    let came : length b.held + length t.0 ≡ length (text_of y) + length c.held = sym (length-append b.held t.0) ∙ ap length t.2 ∙ length-append (text_of y) c.held in
+    let both : length (text_of (x ++ y)) ≡ length (text_of x) + length (text_of y) = ap length (text_of-append x y) ∙ length-append (text_of x) (text_of y) in
+    omega (arith, p, q, came, both)
+
 -- one call after another
 pub Moves-then : (a b c : StreamSeen) (s t : List ℕ) (x y : List Frame) → Moves a b s x → Moves b c t y → Moves a c (s ++ t) (x ++ y)
 Moves-then a b c s t x y p q = record {
   counts = NoneFalls-then a.link b.link c.link p.counts q.counts;
   secured = q.secured ∙ p.secured;
+  asked = AskedFor-then a.link b.link c.link p.asked q.asked;
   sent = Sends-then a b c s t p.sent q.sent;
   read = Takes-then a b c x y p.read q.read;
   tallies = Tallies-then a b c p.tallies q.tallies;
@@ -106,6 +116,7 @@ Moves-then a b c s t x y p q = record {
   calls = GrewBy-then _ _ _ _ _ _ p.calls q.calls (omega (arith, p.left, q.left));
   fuel = omega (arith, p.fuel, q.fuel, length-append x y);
   spare = omega (arith, p.spare, q.spare, length-append s t);
+  room = room_then a b c x y q.read p.room q.room;
   parameters = SetsByAll-append x y a.parameters b.parameters c.parameters p.parameters q.parameters;
 }
 
@@ -114,6 +125,7 @@ pub Moves-none : (a : StreamSeen) → Moves a a [] []
 Moves-none a = record {
   counts = NoneFalls-refl a.link;
   secured = refl;
+  asked = inl refl;
   sent = ([], Appends-refl a.link.taken, append-nil a.unsent);
   read = ([], Appends-refl a.link.given, append-nil a.held, tt, GrewBy-none a.taken);
   tallies = Tallies-none a a refl refl refl;
@@ -121,6 +133,7 @@ Moves-none a = record {
   calls = GrewBy-spent a.left a.link.calls;
   fuel = omega arith;
   spare = omega arith;
+  room = omega arith;
   parameters = refl;
 }
 
@@ -185,12 +198,13 @@ one_less : (left x y : ℕ) → 0 < left → GrewBy 1 x y → GrewBy (left - (le
 one_less left x y some grew = subst (λ (n : ℕ). GrewBy n x y) (omega (arith, some)) grew
 
 -- a call that took and gave these bytes, and was counted in the link and in the stream
-called : (a : StreamSeen) (link : LinkSeen) (r : Rises) (unsent held took gave : List ℕ) (w m : ℕ) → Counts a.link link r → link.secured ≡ a.link.secured
+called : (a : StreamSeen) (link : LinkSeen) (r : Rises) (unsent held took gave : List ℕ) (room w m : ℕ) → Counts a.link link r → link.secured ≡ a.link.secured → AskedFor a.link link → room ≤ max a.room (room_for (length a.held))
     → Appends a.link.taken link.taken took → a.unsent ≡ took ++ unsent → Appends a.link.given link.given gave → held ≡ a.held ++ gave → length gave ≤ 8192 → 0 < a.left
-    → GrewBy (r.write_waits + r.read_waits) a.waits w → GrewBy r.moved a.moves m → Moves a (record a { link = link; unsent = unsent; held = held; left = a.left - 1; waits = w; moves = m }) [] []
-called a link r unsent held took gave w m counts secured taken sent given holds fits some waits moves = record {
+    → GrewBy (r.write_waits + r.read_waits) a.waits w → GrewBy r.moved a.moves m → Moves a (record a { link = link; unsent = unsent; held = held; room = room; left = a.left - 1; waits = w; moves = m }) [] []
+called a link r unsent held took gave room w m counts secured asked grows taken sent given holds fits some waits moves = record {
   counts = NoneFalls-from_counts _ _ _ counts;
   secured = secured;
+  asked = asked;
   sent = (took, taken, append-nil a.unsent ∙ sent);
   read = (gave, given, sym holds, tt, GrewBy-none a.taken);
   tallies = record { write_waits = r.write_waits; read_waits = r.read_waits; moved = r.moved; waits = waits; moves = moves; writes = counts.write_waits; reads = counts.read_waits; moving = counts.moved };
@@ -198,13 +212,14 @@ called a link r unsent held took gave w m counts secured taken sent given holds 
   calls = one_less _ _ _ some counts.calls;
   fuel = omega (arith, ap length holds, length-append a.held gave);
   spare = omega arith;
+  room = omega (arith, grows, ap length holds, length-append a.held gave);
   parameters = refl;
 }
 
 pub sends_moved : (a : StreamSeen) (link : LinkSeen) (n m : ℕ) → Writes a.link link (writes.Moved n) a.unsent → 0 < a.left → GrewBy 1 a.moves m
     → SendsOnce a (record a { link = link; unsent = drop n a.unsent; left = a.left - 1; moves = m }) (writes.Moved n)
 sends_moved a link n m w some grew = record {
-  moves = called a link (write_rises (writes.Moved n)) (drop n a.unsent) a.held (take n a.unsent) [] a.waits m w.counts w.secured w.takes.2 (sym (take-append-drop n a.unsent)) (Appends-from_keeps _ _ w.given) (sym (append-nil a.held)) (omega arith) some (GrewBy-none a.waits) grew;
+  moves = called a link (write_rises (writes.Moved n)) (drop n a.unsent) a.held (take n a.unsent) [] a.room a.waits m w.counts w.secured (inl w.asked) (omega arith) w.takes.2 (sym (take-append-drop n a.unsent)) (Appends-from_keeps _ _ w.given) (sym (append-nil a.held)) (omega arith) some (GrewBy-none a.waits) grew;
   held = refl;
   spare = refl;
   left = omega arith;
@@ -214,7 +229,7 @@ sends_moved a link n m w some grew = record {
 pub sends_waited : (a : StreamSeen) (link : LinkSeen) (m : ℕ) → Writes a.link link writes.NotYet a.unsent → 0 < a.left → GrewBy 1 a.waits m
     → SendsOnce a (record a { link = link; left = a.left - 1; waits = m }) writes.NotYet
 sends_waited a link m w some grew = record {
-  moves = called a link (write_rises writes.NotYet) a.unsent a.held [] [] m a.moves w.counts w.secured (Appends-from_keeps _ _ w.takes) refl (Appends-from_keeps _ _ w.given) (sym (append-nil a.held)) (omega arith) some grew (GrewBy-none a.moves);
+  moves = called a link (write_rises writes.NotYet) a.unsent a.held [] [] a.room m a.moves w.counts w.secured (inl w.asked) (omega arith) (Appends-from_keeps _ _ w.takes) refl (Appends-from_keeps _ _ w.given) (sym (append-nil a.held)) (omega arith) some grew (GrewBy-none a.moves);
   held = refl;
   spare = refl;
   left = omega arith;
@@ -223,27 +238,31 @@ sends_waited a link m w some grew = record {
 
 pub sends_failed : (a : StreamSeen) (link : LinkSeen) → Writes a.link link writes.Failed a.unsent → 0 < a.left → SendsOnce a (record a { link = link; left = a.left - 1 }) writes.Failed
 sends_failed a link w some = record {
-  moves = called a link (write_rises writes.Failed) a.unsent a.held [] [] a.waits a.moves w.counts w.secured (Appends-from_keeps _ _ w.takes) refl (Appends-from_keeps _ _ w.given) (sym (append-nil a.held)) (omega arith) some (GrewBy-none a.waits) (GrewBy-none a.moves);
+  moves = called a link (write_rises writes.Failed) a.unsent a.held [] [] a.room a.waits a.moves w.counts w.secured (inl w.asked) (omega arith) (Appends-from_keeps _ _ w.takes) refl (Appends-from_keeps _ _ w.given) (sym (append-nil a.held)) (omega arith) some (GrewBy-none a.waits) (GrewBy-none a.moves);
   held = refl;
   spare = refl;
   left = omega arith;
   cause = (w.counts.faults.2, (refl, w.places, NoWaits-from_counts _ _ _ w.counts refl refl));
 }
 
-pub reads_moved : (a : StreamSeen) (link : LinkSeen) (into : List ℕ) (n m : ℕ) → Reads a.link link (reads.Moved n) into → length into ≤ 8192 → 0 < a.left → GrewBy 1 a.moves m
-    → ReadsOnce a (record a { link = link; held = a.held ++ take n into; left = a.left - 1; moves = m }) (reads.Moved n)
-reads_moved a link into n m r fits some grew = record {
-  moves = called a link (read_rises (reads.Moved n)) a.unsent (a.held ++ take n into) [] (take n into) a.waits m r.counts r.secured (Appends-from_keeps _ _ r.taken) refl r.gives.2 refl (omega (arith, fits, length-take n into)) some (GrewBy-none a.waits) grew;
+-- a read asks for 8192 bytes
+asked_by : (a b : LinkSeen) (into : List ℕ) → b.asked ≡ asked_with a.asked (length into) → length into ≡ 8192 → AskedFor a b
+asked_by a b into e size = inr (e ∙ ap (asked_with a.asked) size)
+
+pub reads_moved : (a : StreamSeen) (link : LinkSeen) (into : List ℕ) (room n m : ℕ) → Reads a.link link (reads.Moved n) into → length into ≡ 8192 → room ≤ max a.room (room_for (length a.held)) → 0 < a.left → GrewBy 1 a.moves m
+    → ReadsOnce a (record a { link = link; held = a.held ++ take n into; room = room; left = a.left - 1; moves = m }) (reads.Moved n)
+reads_moved a link into room n m r size grows some grew = record {
+  moves = called a link (read_rises (reads.Moved n)) a.unsent (a.held ++ take n into) [] (take n into) room a.waits m r.counts r.secured (asked_by _ _ into r.asked size) grows (Appends-from_keeps _ _ r.taken) refl r.gives.2 refl (omega (arith, size, length-take n into)) some (GrewBy-none a.waits) grew;
   unsent = refl;
   spare = refl;
   left = omega arith;
   cause = (r.counts.moved, grew, (refl, r.gives.3, NoWaits-from_counts _ _ _ r.counts refl refl));
 }
 
-pub reads_waited : (a : StreamSeen) (link : LinkSeen) (into : List ℕ) (m : ℕ) → Reads a.link link reads.NotYet into → 0 < a.left → GrewBy 1 a.waits m
-    → ReadsOnce a (record a { link = link; left = a.left - 1; waits = m }) reads.NotYet
-reads_waited a link into m r some grew = record {
-  moves = called a link (read_rises reads.NotYet) a.unsent a.held [] [] m a.moves r.counts r.secured (Appends-from_keeps _ _ r.taken) refl (Appends-from_keeps _ _ r.gives.0) (sym (append-nil a.held)) (omega arith) some grew (GrewBy-none a.moves);
+pub reads_waited : (a : StreamSeen) (link : LinkSeen) (into : List ℕ) (room m : ℕ) → Reads a.link link reads.NotYet into → length into ≡ 8192 → room ≤ max a.room (room_for (length a.held)) → 0 < a.left → GrewBy 1 a.waits m
+    → ReadsOnce a (record a { link = link; room = room; left = a.left - 1; waits = m }) reads.NotYet
+reads_waited a link into room m r size grows some grew = record {
+  moves = called a link (read_rises reads.NotYet) a.unsent a.held [] [] room m a.moves r.counts r.secured (asked_by _ _ into r.asked size) grows (Appends-from_keeps _ _ r.taken) refl (Appends-from_keeps _ _ r.gives.0) (sym (append-nil a.held)) (omega arith) some grew (GrewBy-none a.moves);
   unsent = refl;
   spare = refl;
   left = omega arith;
@@ -251,24 +270,26 @@ reads_waited a link into m r some grew = record {
 }
 
 -- a read that gave nothing and waited for nothing
-read_over : (a : StreamSeen) (link : LinkSeen) (answer : LinkRead) (into : List ℕ) → Reads a.link link answer into → Keeps a.link.given link.given → (read_rises answer).moved ≡ 0 → (read_rises answer).write_waits + (read_rises answer).read_waits ≡ 0 → 0 < a.left
-    → Moves a (record a { link = link; left = a.left - 1 }) [] []
-read_over a link answer into r kept still calm some =
-    called a link (read_rises answer) a.unsent a.held [] [] a.waits a.moves r.counts r.secured (Appends-from_keeps _ _ r.taken) refl (Appends-from_keeps _ _ kept) (sym (append-nil a.held)) (omega arith) some
+read_over : (a : StreamSeen) (link : LinkSeen) (answer : LinkRead) (into : List ℕ) (room : ℕ) → Reads a.link link answer into → length into ≡ 8192 → room ≤ max a.room (room_for (length a.held)) → Keeps a.link.given link.given → (read_rises answer).moved ≡ 0
+    → (read_rises answer).write_waits + (read_rises answer).read_waits ≡ 0 → 0 < a.left → Moves a (record a { link = link; room = room; left = a.left - 1 }) [] []
+read_over a link answer into room r size grows kept still calm some =
+    called a link (read_rises answer) a.unsent a.held [] [] room a.waits a.moves r.counts r.secured (asked_by _ _ into r.asked size) grows (Appends-from_keeps _ _ r.taken) refl (Appends-from_keeps _ _ kept) (sym (append-nil a.held)) (omega arith) some
     (subst (λ (k : ℕ). GrewBy k a.waits a.waits) (sym calm) (GrewBy-none a.waits)) (subst (λ (k : ℕ). GrewBy k a.moves a.moves) (sym still) (GrewBy-none a.moves))
 
-pub reads_ended : (a : StreamSeen) (link : LinkSeen) (into : List ℕ) → Reads a.link link reads.End into → 0 < a.left → ReadsOnce a (record a { link = link; left = a.left - 1 }) reads.End
-reads_ended a link into r some = record {
-  moves = read_over a link reads.End into r r.gives.0 refl (omega arith) some;
+pub reads_ended : (a : StreamSeen) (link : LinkSeen) (into : List ℕ) (room : ℕ) → Reads a.link link reads.End into → length into ≡ 8192 → room ≤ max a.room (room_for (length a.held)) → 0 < a.left
+    → ReadsOnce a (record a { link = link; room = room; left = a.left - 1 }) reads.End
+reads_ended a link into room r size grows some = record {
+  moves = read_over a link reads.End into room r size grows r.gives.0 refl (omega arith) some;
   unsent = refl;
   spare = refl;
   left = omega arith;
   cause = (r.counts.ends.2, refl, (refl, r.gives.1, NoWaits-from_counts _ _ _ r.counts refl refl));
 }
 
-pub reads_failed : (a : StreamSeen) (link : LinkSeen) (into : List ℕ) → Reads a.link link reads.Failed into → 0 < a.left → ReadsOnce a (record a { link = link; left = a.left - 1 }) reads.Failed
-reads_failed a link into r some = record {
-  moves = read_over a link reads.Failed into r r.gives.0 refl (omega arith) some;
+pub reads_failed : (a : StreamSeen) (link : LinkSeen) (into : List ℕ) (room : ℕ) → Reads a.link link reads.Failed into → length into ≡ 8192 → room ≤ max a.room (room_for (length a.held)) → 0 < a.left
+    → ReadsOnce a (record a { link = link; room = room; left = a.left - 1 }) reads.Failed
+reads_failed a link into room r size grows some = record {
+  moves = read_over a link reads.Failed into room r size grows r.gives.0 refl (omega arith) some;
   unsent = refl;
   spare = refl;
   left = omega arith;
@@ -398,6 +419,7 @@ takes_front a b front frame rest f t =
     let taken : Moves a c [] (frame ∷ []) = record {
       counts = counts;
       secured = refl;
+      asked = inl refl;
       sent = ([], Appends-refl a.link.taken, append-nil a.unsent);
       read = ([], Appends-refl a.link.given, parts, (f.whole, tt), subst (λ (n : ℕ). GrewBy n a.taken b.taken) long t.1);
       tallies = Tallies-none a c refl refl refl;
@@ -405,6 +427,7 @@ takes_front a b front frame rest f t =
       calls = GrewBy-spent a.left a.link.calls;
       fuel = omega (arith, size);
       spare = omega arith;
+      room = omega arith;
       parameters = (b.parameters, t.2, refl);
     } in
     subst (λ (s : StreamSeen). Moves a s [] (frame ∷ [])) (sym t.0) taken
@@ -542,12 +565,14 @@ queues_by {A} seen a b bytes spare room e =
     let moves : Moves s t bytes [] = record {
       counts = counts;
       secured = refl;
+      asked = inl refl;
       sent = ([], Appends-refl s.link.taken, refl);
       read = ([], Appends-refl s.link.given, append-nil s.held, tt, GrewBy-none s.taken);
       tallies = Tallies-none s t refl refl refl;
       left = omega arith;
       calls = GrewBy-spent s.left s.link.calls;
       fuel = omega arith;
+      room = omega arith;
       spare = room;
       parameters = refl;
     } in

@@ -1,4 +1,5 @@
 pub mod Links
+pub mod Received
 pub mod Streams
 pub mod Asynchronous
 pub mod Events

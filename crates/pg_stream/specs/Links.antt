@@ -1,8 +1,9 @@
 -- What is seen of a link: the bytes that it gave and took, where it tells them, and its counts.
-use Rattle.std.specs.Prelude.{◌≡◌, ℕ, Bool, ◌+◌, ◌-◌, ◌^◌, ◌<◌, ◌≤◌, min, List, [], ◌∷◌, take, length, Option, Some, None}
+use Rattle.std.specs.Prelude.{◌≡◌, ℕ, Bool, ◌+◌, ◌-◌, ◌^◌, ◌<◌, ◌≤◌, min, max, List, [], ◌∷◌, take, length, Option, Some, None}
 use Rattle.std.specs.Io.KnownBytes.{Keeps, Appends}
 use Rattle.pg_stream.specs.declared.events.ReadEvent.{ReadEvent}
 use Rattle.pg_stream.specs.declared.events.WriteEvent.{WriteEvent}
+use Rattle.pg_stream.specs.declared.link.Asked.{Asked}
 use Rattle.pg_stream.specs.declared.link.TlsWish.{TlsWish}
 use Rattle.pg_stream.specs.declared.link.LinkRead.{LinkRead}
 use Rattle.pg_stream.specs.declared.link.LinkRead.TheVariants as reads
@@ -28,6 +29,8 @@ pub record LinkSeen : Type 0 where
   pub taken : Option (List ℕ)
   -- for each read that answered NotYet, how many bytes had been given before it
   pub wait_places : Option (List ℕ)
+  -- how many bytes reads asked for
+  pub asked : Asked
   -- reads, writes and upgrades, whatever they answered
   pub calls : ℕ
   -- calls that answered Moved or Done
@@ -39,6 +42,13 @@ pub record LinkSeen : Type 0 where
   -- reads and writes that answered Failed
   pub faults : ℕ
   pub upgrade_faults : ℕ
+
+abbrev pub asked_none : Asked
+asked_none = record { least = 2 ^ 64 - 1; most = 0 }
+
+-- one more read asked for so many bytes
+abbrev pub asked_with : Asked → ℕ → Asked
+asked_with a bytes = record { least = min a.least bytes; most = max a.most bytes }
 
 -- a count rose by so many at least, or stands at its type's end
 abbrev pub RoseBy : ℕ → ℕ → ℕ → Type 0
@@ -129,6 +139,7 @@ ReadGives a b reads.Failed into = Keeps a.given b.given × Keeps a.wait_places b
 pub record Reads (a b : LinkSeen) (answer : LinkRead) (into : List ℕ) : Type 0 where
   pub counts : Counts a b (read_rises answer)
   pub secured : b.secured ≡ a.secured
+  pub asked : b.asked ≡ asked_with a.asked (length into)
   pub taken : Keeps a.taken b.taken
   pub gives : ReadGives a b answer into
 
@@ -141,6 +152,7 @@ WriteTakes a b writes.Failed from = Keeps a.taken b.taken
 pub record Writes (a b : LinkSeen) (answer : LinkWrite) (from : List ℕ) : Type 0 where
   pub counts : Counts a b (write_rises answer)
   pub secured : b.secured ≡ a.secured
+  pub asked : b.asked ≡ a.asked
   pub given : Keeps a.given b.given
   pub places : Keeps a.wait_places b.wait_places
   pub takes : WriteTakes a b answer from
@@ -154,6 +166,7 @@ SecuredBy wish before now _ = now ≡ before
 pub record Upgrades (a b : LinkSeen) (wish : TlsWish) (answer : LinkUpgrade) : Type 0 where
   pub counts : Counts a b (upgrade_rises answer)
   pub secured : SecuredBy wish a.secured b.secured answer
+  pub asked : b.asked ≡ a.asked
   pub given : Keeps a.given b.given
   pub taken : Keeps a.taken b.taken
   pub places : Keeps a.wait_places b.wait_places

@@ -8,7 +8,7 @@ use Rattle.pg_stream.specs.declared.link.LinkRead.TheVariants as reads
 use Rattle.pg_stream.specs.declared.link.LinkWrite.{LinkWrite}
 use Rattle.pg_stream.specs.declared.link.LinkWrite.TheVariants as writes
 use Rattle.pg_stream.specs.declared.memory.MemoryLink.{MemoryLink}
-use Rattle.pg_stream.specs.Links.{LinkPlan, LinkSeen}
+use Rattle.pg_stream.specs.Links.{LinkPlan, LinkSeen, asked_none}
 use Rattle.pg_stream.specs.Events.{pieces_in, given_by, places_by, ahead_of, IsRead, IsFull}
 
 -- what a link in memory was made with
@@ -22,6 +22,7 @@ seen_of m = record {
   given = Some (given_by m.reads);
   taken = Some m.taken.items;
   wait_places = Some (places_by m.reads);
+  asked = m.asked;
   calls = m.calls;
   moved = m.moved;
   read_waits = m.read_waits;
@@ -39,6 +40,7 @@ untouched made = record {
   given = Some [];
   taken = Some [];
   wait_places = Some [];
+  asked = asked_none;
   calls = 0;
   moved = 0;
   read_waits = 0;

@@ -2,7 +2,7 @@
 use Rattle.std.specs.Prelude.{Bool, true, false, None, []}
 use Rattle.std.specs.declared.io.ErrorKind.{ErrorKind}
 use Rattle.std.specs.declared.io.ErrorKind.TheVariants.{WouldBlock, TimedOut, Interrupted}
-use Rattle.pg_stream.specs.Links.{LinkPlan, LinkSeen}
+use Rattle.pg_stream.specs.Links.{LinkPlan, LinkSeen, asked_none}
 
 -- there are no events
 abbrev pub socket_plan : Bool → Bool → LinkPlan
@@ -16,6 +16,7 @@ uncalled near = record {
   given = None;
   taken = None;
   wait_places = None;
+  asked = asked_none;
   calls = 0;
   moved = 0;
   read_waits = 0;

@@ -1,5 +1,5 @@
 -- What is seen of a stream, and how its calls move it on.
-use Rattle.std.specs.Prelude.{◌≡◌, ℕ, ◌+◌, ◌-◌, ◌*◌, ◌≤◌, length, ◌⊎◌, List, [], ◌∷◌, ◌++◌, Bool, true, false, Option, Some, None, Result, Ok, Err}
+use Rattle.std.specs.Prelude.{◌≡◌, ℕ, ◌+◌, ◌-◌, ◌*◌, ◌≤◌, max, length, ◌⊎◌, List, [], ◌∷◌, ◌++◌, Bool, true, false, Option, Some, None, Result, Ok, Err}
 use Rattle.std.specs.List.{AllByRecursion}
 use Rattle.std.specs.Io.KnownBytes.{Keeps, Appends}
 use Rattle.futures.specs.declared.task.Poll.{Poll}
@@ -19,7 +19,8 @@ use Rattle.pg_stream.specs.declared.link.LinkRead.TheVariants as reads
 use Rattle.pg_stream.specs.declared.link.LinkWrite.{LinkWrite}
 use Rattle.pg_stream.specs.declared.link.LinkWrite.TheVariants as writes
 use Rattle.pg_wire.specs.Backend.{BackendMessage}
-use Rattle.pg_stream.specs.Links.{LinkSeen, NoneFalls, Rose, GrewBy, NoWaits, AddsPlace}
+use Rattle.pg_stream.specs.Links.{LinkSeen, NoneFalls, Rose, GrewBy, NoWaits, AddsPlace, asked_with}
+use Rattle.pg_stream.specs.Received.{room_for}
 use Rattle.pg_stream.specs.Parameters.{ParametersSeen, no_parameters, Carries, SetsBy, SetsByAll}
 use Rattle.pg_stream.specs.Asynchronous.{IsAside}
 
@@ -32,6 +33,8 @@ pub record StreamOf (A : Type 0) : Type 0 where
   pub spare : ℕ
   -- read and not taken
   pub held : List ℕ
+  -- how many more bytes can be read without taking memory
+  pub room : ℕ
   -- the link calls that this poll may still make
   pub left : ℕ
   -- the link's waits and moves since the last call began, up to u64's greatest value
@@ -46,11 +49,11 @@ abbrev pub StreamSeen : Type 0
 StreamSeen = StreamOf LinkSeen
 
 abbrev pub stream_by : {A : Type 0} → (A → LinkSeen) → StreamOf A → StreamSeen
-stream_by f s = record { link = f s.link; unsent = s.unsent; spare = s.spare; held = s.held; left = s.left; waits = s.waits; moves = s.moves; taken = s.taken; parameters = s.parameters }
+stream_by f s = record { link = f s.link; unsent = s.unsent; spare = s.spare; held = s.held; room = s.room; left = s.left; waits = s.waits; moves = s.moves; taken = s.taken; parameters = s.parameters }
 
 -- a stream that has queued and read nothing
 abbrev pub fresh_stream : {A : Type 0} → A → StreamOf A
-fresh_stream link = record { link = link; unsent = []; spare = 0; held = []; left = 256; waits = 0; moves = 0; taken = 0; parameters = no_parameters }
+fresh_stream link = record { link = link; unsent = []; spare = 0; held = []; room = 0; left = 256; waits = 0; moves = 0; taken = 0; parameters = no_parameters }
 
 -- how much a poll can still do: a link call adds at most 8192 bytes, and a frame takes five away at least
 abbrev pub fuel_of : StreamSeen → ℕ
@@ -78,10 +81,15 @@ pub record Tallies (a b : StreamSeen) : Type 0 where
   pub reads : GrewBy read_waits a.link.read_waits b.link.read_waits
   pub moving : GrewBy moved a.link.moved b.link.moved
 
+-- each read asked for 8192 bytes
+abbrev pub AskedFor : LinkSeen → LinkSeen → Type 0
+AskedFor a b = (b.asked ≡ a.asked) ⊎ (b.asked ≡ asked_with a.asked 8192)
+
 -- Calls within one poll that queued these bytes and took these frames.
 pub record Moves (a b : StreamSeen) (queued : List ℕ) (frames : List Frame) : Type 0 where
   pub counts : NoneFalls a.link b.link
   pub secured : b.link.secured ≡ a.link.secured
+  pub asked : AskedFor a.link b.link
   pub sent : Sends a b queued
   pub read : Takes a b frames
   pub tallies : Tallies a b
@@ -91,6 +99,8 @@ pub record Moves (a b : StreamSeen) (queued : List ℕ) (frames : List Frame) : 
   pub fuel : 5 * length frames + fuel_of b ≤ fuel_of a
   -- only what was queued can have taken of the cleanup reserve
   pub spare : a.spare ≤ b.spare + length queued
+  -- the receive buffer's room grows by bytes that came, whatever a frame claims
+  pub room : b.room ≤ max a.room (room_for (length (text_of frames) + length b.held))
   pub parameters : SetsByAll frames a.parameters b.parameters
 
 -- no read waited, so the link has no further place of a wait

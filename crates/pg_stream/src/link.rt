@@ -1,5 +1,5 @@
 ghost use Rattle.std.specs.Prelude.{◌<◌, ◌≡◌, length};
-ghost use Rattle.pg_stream.specs.Links.{LinkSeen, Reads, Writes, Upgrades};
+ghost use Rattle.pg_stream.specs.Links.{LinkSeen, Reads, Writes, Upgrades, asked_none, asked_with};
 
 /// What one read of a link gave.
 #[derive(Clone, Copy, Debug, PartialEq, Eq)]
@@ -28,6 +28,35 @@ pub enum LinkUpgrade {
     Failed,
 }
 
+/// How many bytes reads asked for: the least and the most that one read did.
+#[derive(Clone, Copy, Debug, PartialEq, Eq)]
+pub struct Asked {
+    pub least: usize,
+    pub most: usize,
+}
+
+impl Asked {
+    /// Nothing was read.
+    pub fn none() -> Self
+        ensures { result ≡ asked_none }
+    {
+        Asked {
+            least: usize::MAX,
+            most: 0,
+        }
+    }
+
+    /// One more read asks for so many bytes.
+    pub fn with(self, bytes: usize) -> Self
+        ensures { result ≡ asked_with self bytes }
+    {
+        Asked {
+            least: self.least.min(bytes),
+            most: self.most.max(bytes),
+        }
+    }
+}
+
 /// What a TLS handshake has to verify.
 #[derive(Clone, Copy, Debug, PartialEq, Eq)]
 pub struct TlsWish {
@@ -39,7 +68,7 @@ pub struct TlsWish {
 ///
 /// It counts its calls and their answers in `u64`s: each `read`, `write` and `upgrade` raises the count of calls by one, and the
 /// count of its answer by one, and no other. A count that stands at the type's end stays there. A link in memory also tells the
-/// bytes themselves; one over a socket does not.
+/// bytes themselves; one over a socket does not. It keeps how many bytes its reads were asked for.
 pub trait Link {
     /// What it is made of, which no call changes; what the last TLS handshake that was made had to verify; the bytes that it gave and took,
     /// where it tells them; and its counts.

@@ -3,7 +3,7 @@ ghost use Rattle.pg_stream.specs.Links.{Reads, Writes, Upgrades};
 ghost use Rattle.pg_stream.specs.Memory.{seen_of, untouched, plan_of, reads_ahead, writes_ahead, ReadFollows, WriteFollows, TakesFirst};
 
 use crate::read_list::ReadList;
-use crate::{Link, LinkRead, LinkUpgrade, LinkWrite, ReadEvent, TlsWish, WriteEvent};
+use crate::{Asked, Link, LinkRead, LinkUpgrade, LinkWrite, ReadEvent, TlsWish, WriteEvent};
 use pg_wire::Sequence;
 use std::alloc::Global;
 
@@ -20,6 +20,7 @@ pub struct MemoryLink {
     can_upgrade: bool,
     is_local: bool,
     secured: Option<TlsWish>,
+    asked: Asked,
     calls: u64,
     moved: u64,
     read_waits: u64,
@@ -51,6 +52,7 @@ impl MemoryLink {
             can_upgrade,
             is_local,
             secured: None,
+            asked: Asked::none(),
             calls: 0,
             moved: 0,
             read_waits: 0,
@@ -125,6 +127,7 @@ impl Link for MemoryLink {
         ensures follows { ReadFollows self.old self.new result (length into.new) }
     {
         self.calls = self.calls.saturating_add(1);
+        self.asked = self.asked.with(into.len());
         match self.reads.read(into) {
             LinkRead::Moved(count) => {
                 self.moved = self.moved.saturating_add(1);

@@ -2,7 +2,7 @@ ghost use Rattle.std.specs.Prelude.{◌≡◌, ◌<◌, length};
 ghost use Rattle.pg_stream.specs.Links.{Reads, Writes, Upgrades};
 ghost use Rattle.pg_stream.specs.Sockets.{uncalled, is_wait};
 
-use crate::{LinkRead, LinkUpgrade, LinkWrite, TlsWish};
+use crate::{Asked, LinkRead, LinkUpgrade, LinkWrite, TlsWish};
 use std::io::{ErrorKind, Read, Write};
 use std::marker::Model;
 
@@ -14,6 +14,7 @@ pub(crate) const WAIT_MS: u64 = 10;
 pub(crate) struct SocketCounts {
     can_upgrade: bool,
     is_local: bool,
+    asked: Asked,
     calls: u64,
     moved: u64,
     read_waits: u64,
@@ -30,7 +31,7 @@ impl Model for SocketCounts {
 
     ghost Value = { LinkSeen };
 
-    ghost view = { λ c. record { plan = socket_plan c.can_upgrade c.is_local; secured = None; given = None; taken = None; wait_places = None; calls = c.calls; moved = c.moved; read_waits = c.read_waits; write_waits = c.write_waits; ends = c.ends; faults = c.faults; upgrade_faults = c.upgrade_faults } };
+    ghost view = { λ c. record { plan = socket_plan c.can_upgrade c.is_local; secured = None; given = None; taken = None; wait_places = None; asked = c.asked; calls = c.calls; moved = c.moved; read_waits = c.read_waits; write_waits = c.write_waits; ends = c.ends; faults = c.faults; upgrade_faults = c.upgrade_faults } };
 }
 
 impl SocketCounts {
@@ -41,6 +42,7 @@ impl SocketCounts {
         SocketCounts {
             can_upgrade: false,
             is_local,
+            asked: Asked::none(),
             calls: 0,
             moved: 0,
             read_waits: 0,
@@ -71,6 +73,7 @@ impl SocketCounts {
         ensures { Reads self.old self.new result into.new }
     {
         self.calls = self.calls.saturating_add(1);
+        self.asked = self.asked.with(into.len());
         match socket.read(into) {
             Ok(count) if count > 0 => {
                 self.moved = self.moved.saturating_add(1);

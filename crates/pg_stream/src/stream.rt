@@ -6,17 +6,14 @@ ghost use Rattle.pg_stream.specs.Parameters.{value_of};
 use crate::asynchronous::take_aside;
 use crate::outgoing::Outgoing;
 use crate::parameters::Parameters;
+use crate::received::Received;
 use crate::{Link, LinkRead, LinkWrite};
-use bytes::BytesMut;
 use pg_wire::{Blob, Cut, Error, Frame, IoCause, Poll, ProtocolFault, ServerFault, cut};
 use std::alloc::{AllocError, Global};
 use std::marker::Model;
 
 /// The link calls that one poll may make.
 pub const CALLS_MAX: u16 = 256;
-
-/// How many bytes one read asks for.
-const READ_SIZE: usize = 8192;
 
 /// The link's waits and moves since a call began, each up to `u64`'s greatest value.
 #[derive(Clone, Copy, Debug, PartialEq, Eq)]
@@ -30,7 +27,7 @@ pub struct LinkCalls {
 pub struct PgStream<L> {
     link: L,
     unsent: Outgoing,
-    held: BytesMut,
+    held: Received,
     left: u16,
     waits: u64,
     moves: u64,
@@ -40,10 +37,11 @@ pub struct PgStream<L> {
 
 impl<L> Model for PgStream<L> {
     ghost use Rattle.pg_stream.specs.Streams.{StreamOf};
+    ghost use Rattle.pg_stream.specs.Received.{bytes_in};
 
     ghost Value = { StreamOf L };
 
-    ghost view = { λ s. record { link = s.link; unsent = s.unsent.bytes; spare = s.unsent.spare; held = s.held.items; left = s.left; waits = s.waits; moves = s.moves; taken = s.taken; parameters = s.parameters } };
+    ghost view = { λ s. record { link = s.link; unsent = s.unsent.bytes; spare = s.unsent.spare; held = bytes_in s.held; room = s.held.room; left = s.left; waits = s.waits; moves = s.moves; taken = s.taken; parameters = s.parameters } };
 }
 
 /// The whole frame at the front of what is held: its tag, and its size with the header.
@@ -75,11 +73,11 @@ fn server_fault(fault: ServerFault) -> Error
 }
 
 // The body of the frame at the front.
-fn body_of(held: &BytesMut, front: Front) -> &[u8]
-    requires { IsFront held.now.items front }
-    ensures { (rest : List ℕ) × IsFrontOf held.now.items front (framed front.tag result.now) rest }
+fn body_of(held: &[u8], front: Front) -> &[u8]
+    requires { IsFront held.now front }
+    ensures { (rest : List ℕ) × IsFrontOf held.now front (framed front.tag result.now) rest }
 {
-    &held.as_slice()[5..front.total]
+    &held[5..front.total]
 }
 
 impl<L> PgStream<L> {
@@ -90,7 +88,7 @@ impl<L> PgStream<L> {
         PgStream {
             link,
             unsent: Outgoing::new(alloc),
-            held: BytesMut::new(alloc),
+            held: Received::new(alloc),
             left: CALLS_MAX,
             waits: 0,
             moves: 0,
@@ -177,11 +175,12 @@ impl<L> PgStream<L> {
 
     /// Gives up the room of the buffers that neither bytes nor the cleanup reserve need.
     pub fn shrink_buffers(&mut self) -> Result<(), Error>
-        ensures same { self.new ≡ self.old }
+        ensures same { self.new ≡ record self.old { room = self.new.room } }
+        ensures room { self.new.room ≤ self.old.room }
         ensures err { OnErr result (result ≡ Err Error.OutOfMemory) }
     {
         self.unsent.shrink()?;
-        self.held = BytesMut::copy_from_slice(*self.held.allocator(), self.held.as_slice())?;
+        self.held.shrink()?;
         Ok(())
     }
 
@@ -244,7 +243,21 @@ impl<L> PgStream<L> {
         requires { IsFront self.now.held front }
         ensures { (rest : List ℕ) × IsFrontOf self.now.held front (framed front.tag result.now) rest }
     {
-        body_of(&self.held, front)
+        body_of(self.held.as_slice(), front)
+    }
+
+    /// The frame at the front, which stays, in storage that it shares with what was received beside it. An `Err` is want of
+    /// memory.
+    pub fn share(&mut self, front: Front) -> Result<Frame, Error>
+        requires { IsFront self.old.held front }
+        ensures same { self.new ≡ self.old }
+        ensures ok { IfOk result (λ frame. (rest : List ℕ) × IsFrontOf self.old.held front frame rest) }
+        ensures err { OnErr result (result ≡ Err Error.OutOfMemory) }
+    {
+        match self.held.share(5, front.total) {
+            Ok(body) => Ok(Frame::new(front.tag, body)),
+            Err(_) => Err(Error::OutOfMemory),
+        }
     }
 
     /// Takes the frame at the front, of which nothing is kept.
@@ -265,13 +278,13 @@ impl<L> PgStream<L> {
     }
 
     // Takes the frame at the front, which is no asynchronous message; without memory it stays.
-    fn take_heard(&mut self, alloc: Global, front: Front) -> Result<Frame, Error>
+    fn take_heard(&mut self, front: Front) -> Result<Frame, Error>
         requires { IsHeardFront self.old.held front }
         ensures { TakesHeard front self.old self.new result }
     {
-        let body = Blob::from_slice(alloc, self.body(front))?;
+        let frame = self.share(front)?;
         self.skip(front);
-        Ok(Frame::new(front.tag, body))
+        Ok(frame)
     }
 
     // Takes the frame at the front, and keeps the parameter that it tells; without memory it stays.
@@ -279,10 +292,10 @@ impl<L> PgStream<L> {
         requires { IsFront self.old.held front }
         ensures { TakesFront front self.old self.new result }
     {
-        let body = Blob::from_slice(alloc, body_of(&self.held, front))?;
-        self.parameters.note(alloc, front.tag, body.as_bytes())?;
+        let frame = self.share(front)?;
+        self.parameters.note(alloc, front.tag, frame.body())?;
         self.skip(front);
-        Ok(Frame::new(front.tag, body))
+        Ok(frame)
     }
 
     // Takes the frame at the front aside where it is an asynchronous message; without memory it stays.
@@ -290,7 +303,7 @@ impl<L> PgStream<L> {
         requires { IsFront self.old.held front }
         ensures { PassesAside front self.old self.new result }
     {
-        let body = body_of(&self.held, front);
+        let body = body_of(self.held.as_slice(), front);
         match take_aside(&mut self.parameters, alloc, front.tag, body) {
             Ok(true) => {
                 self.skip(front);
@@ -324,18 +337,16 @@ impl<L: Link> PgStream<L> {
         }
     }
 
-    // One read behind what is held. The room is made before, so that no byte that the link gave is lost.
+    // One read behind what is held.
     fn read_once(&mut self) -> Result<LinkRead, AllocError>
         requires { 0 < self.old.left }
         ensures ok { IfOk result (λ answer. ReadsOnce (stream_by L.seen self.old) (stream_by L.seen self.new) answer) }
         ensures err { OnErr result (self.new ≡ self.old) }
     {
-        self.held.reserve(READ_SIZE)?;
-        let mut chunk = [0u8; READ_SIZE];
+        let answer = self.held.read_from(&mut self.link)?;
         self.left -= 1;
-        match self.link.read(&mut chunk) {
+        match answer {
             LinkRead::Moved(count) => {
-                self.held.extend_reserved(&chunk[..count]);
                 self.moves = self.moves.saturating_add(1);
                 Ok(LinkRead::Moved(count))
             }
@@ -445,7 +456,7 @@ impl<L: Link> PgStream<L> {
         ensures { PollsHeard (stream_by L.seen self.old) (stream_by L.seen self.new) result }
     {
         match self.poll_ahead(alloc) {
-            Poll::Ready(Ok(front)) => Poll::Ready(self.take_heard(alloc, front)),
+            Poll::Ready(Ok(front)) => Poll::Ready(self.take_heard(front)),
             Poll::Ready(Err(e)) => Poll::Ready(Err(e)),
             Poll::Pending => Poll::Pending,
         }

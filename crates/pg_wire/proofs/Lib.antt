@@ -31,6 +31,7 @@ pub mod ReaderLaws
 pub mod MessageLaws
 pub mod LoopLaws
 pub mod ListLaws
+pub mod RowLaws
 pub mod FieldLaws
 pub mod UntilLaws
 pub mod DetailLaws

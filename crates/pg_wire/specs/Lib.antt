@@ -18,5 +18,6 @@ pub mod Reports
 pub mod Encoding
 pub mod Decoding
 pub mod Reading
+pub mod Rows
 pub mod Fields
 pub mod Requests

@@ -1,14 +1,14 @@
 ghost use Rattle.std.specs.Prelude.{◌≡◌};
 
-use crate::Blob;
+use bytes::Bytes;
 use std::marker::Model;
 
-/// One frame of a server: its tag, and the body behind its length.
+/// One frame of a server: its tag, and the body behind its length. The body shares the storage that it was cut from.
 /// (PostgreSQL manual, "Frontend/Backend Protocol", "Messaging Overview".)
 #[derive(Debug, Drop)]
 pub struct Frame {
     tag: u8,
-    body: Blob,
+    body: Bytes,
 }
 
 impl Model for Frame {
@@ -20,7 +20,7 @@ impl Model for Frame {
 }
 
 impl Frame {
-    pub fn new(tag: u8, body: Blob) -> Self
+    pub fn new(tag: u8, body: Bytes) -> Self
         ensures { result ≡ record { tag = tag; body = body } }
     {
         Frame { tag, body }
@@ -35,6 +35,14 @@ impl Frame {
     pub fn body(&self) -> &[u8]
         ensures { result.now ≡ self.now.body }
     {
-        self.body.as_bytes()
+        self.body.as_slice()
+    }
+
+    /// The body, without taking memory.
+    pub fn into_body(self) -> Bytes
+        ensures { result ≡ self.body }
+    {
+        let Frame { tag: _, body } = self;
+        body
     }
 }

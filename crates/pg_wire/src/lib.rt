@@ -34,16 +34,17 @@ pub use futures::task::Poll;
 pub use message::{
     Authentication, BackendKeyData, CommandComplete, CopyResponseData, DataRow, Field, FormatCodes,
     Mechanisms, Notice, Notification, ParameterStatus, ParseComplete, RowDescription, SslRequest,
-    decode_authentication, decode_backend_key_data, decode_bind_complete, decode_close_complete,
-    decode_command_complete, decode_copy_data, decode_copy_done, decode_copy_in_response,
-    decode_copy_out_response, decode_data_row, decode_empty_query, decode_error_response,
-    decode_no_data, decode_notice_response, decode_notification_response,
-    decode_parameter_description, decode_parameter_status, decode_parse_complete,
-    decode_portal_suspended, decode_ready_for_query, decode_row_description, encode_bind,
-    encode_close_portal, encode_close_statement, encode_copy_bytes, encode_copy_done,
-    encode_copy_fail, encode_describe_portal, encode_describe_statement, encode_execute,
-    encode_parse, encode_password, encode_query, encode_sasl_initial, encode_sasl_response,
-    encode_startup, encode_sync, encode_terminate,
+    check_data_row, check_row_description, claimed_width, cut_data_row, decode_authentication,
+    decode_backend_key_data, decode_bind_complete, decode_close_complete, decode_command_complete,
+    decode_copy_data, decode_copy_done, decode_copy_in_response, decode_copy_out_response,
+    decode_data_row, decode_empty_query, decode_error_response, decode_no_data,
+    decode_notice_response, decode_notification_response, decode_parameter_description,
+    decode_parameter_status, decode_parse_complete, decode_portal_suspended,
+    decode_ready_for_query, decode_row_description, encode_bind, encode_close_portal,
+    encode_close_statement, encode_copy_bytes, encode_copy_done, encode_copy_fail,
+    encode_describe_portal, encode_describe_statement, encode_execute, encode_parse,
+    encode_password, encode_query, encode_sasl_initial, encode_sasl_response, encode_startup,
+    encode_sync, encode_terminate,
 };
 pub use oid::{Oid, Oids};
 pub use pool::{PoolAct, PoolEntry};

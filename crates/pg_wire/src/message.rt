@@ -43,7 +43,7 @@ pub use copy_fail::encode_copy_fail;
 pub use copy_response::{
     CopyResponseData, FormatCodes, decode_copy_in_response, decode_copy_out_response,
 };
-pub use data_row::{DataRow, decode_data_row};
+pub use data_row::{DataRow, check_data_row, claimed_width, cut_data_row, decode_data_row};
 pub use describe::{encode_describe_portal, encode_describe_statement};
 pub use error_response::decode_error_response;
 pub use execute::encode_execute;
@@ -56,7 +56,7 @@ pub use parse::encode_parse;
 pub use password::encode_password;
 pub use query::encode_query;
 pub use ready_for_query::decode_ready_for_query;
-pub use row_description::{Field, RowDescription, decode_row_description};
+pub use row_description::{Field, RowDescription, check_row_description, decode_row_description};
 pub use sasl::{encode_sasl_initial, encode_sasl_response};
 pub use ssl_request::SslRequest;
 pub use startup::encode_startup;

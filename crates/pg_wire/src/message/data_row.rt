@@ -1,35 +1,55 @@
-ghost use Rattle.std.specs.Prelude.{◌≡◌, ◌<◌, ◌↔◌, [], None, length, slice_index_or, option_map, IsTrue, IfOk};
+ghost use Rattle.std.specs.Prelude.{◌≡◌, ◌≤◌, ◌<◌, ◌↔◌, ◌++◌, [], None, Some, List, ℕ, length, drop, map, slice_index_or, option_map, IsTrue, IfOk, IfSome, All};
 ghost use Rattle.pg_wire.specs.Backend as backend;
-ghost use Rattle.pg_wire.specs.Decoding.{Decodes};
+ghost use Rattle.pg_wire.specs.Backend.{Values};
+ghost use Rattle.pg_wire.specs.Decoding.{Decodes, DecodesAs, Says};
 ghost use Rattle.pg_wire.specs.Reading.{whole, counted_at, many_at, value_at};
+ghost use Rattle.pg_wire.specs.Rows.{value_by, IsPlace, passed, count_passed};
 
 use crate::reading::{malformed, number16, value};
-use crate::{Blob, Error};
+use crate::{Error, Frame};
+use bytes::Bytes;
+use smallvec::SmallVec;
 use std::alloc::{AllocError, Global};
 use std::marker::Model;
 
-/// The values of a row, in order: contracts see the list of their bytes, in which a null is None.
-/// (PostgreSQL manual, "Message Formats", DataRow.)
+/// A row of so many values at most keeps their places without taking memory.
+const FEW: usize = 8;
+
+/// The values of a row, in order, in the storage that their message was cut from: contracts see the list of their bytes, in
+/// which a null is None. (PostgreSQL manual, "Message Formats", DataRow.)
 #[derive(Debug, Drop)]
 pub struct DataRow {
-    values: Vec<Option<Blob>>,
+    storage: Bytes,
+    places: SmallVec<u32, FEW>,
 }
 
 impl Model for DataRow {
-    ghost use Rattle.std.specs.Prelude.{List, ℕ, Option};
+    ghost use Rattle.std.specs.Prelude.{List, ℕ, Option, map, All};
+    ghost use Rattle.pg_wire.specs.Rows.{value_by, IsPlace};
 
     ghost Value = { List (Option (List ℕ)) };
 
-    ghost view = { λ r. r.values.items };
+    ghost view = { λ r. map (value_by r.storage) r.places.items };
+
+    ghost invariant = { λ r. All (IsPlace r.storage) r.places.items };
 }
 
 impl DataRow {
+    // The values at these places of a body.
+    fn over(storage: Bytes, places: SmallVec<u32, FEW>) -> Self
+        requires { All (IsPlace storage) places.items }
+        ensures { result ≡ map (value_by storage) places.items }
+    {
+        DataRow { storage, places }
+    }
+
     /// No values, which takes no memory.
     pub fn new(alloc: Global) -> Self
         ensures { result ≡ [] }
     {
         DataRow {
-            values: Vec::new(alloc),
+            storage: Bytes::new(),
+            places: SmallVec::new(alloc),
         }
     }
 
@@ -37,13 +57,13 @@ impl DataRow {
     pub fn len(&self) -> usize
         ensures { result ≡ length self.now }
     {
-        self.values.len()
+        self.places.len()
     }
 
     pub fn is_empty(&self) -> bool
         ensures { IsTrue result ↔ (length self.now ≡ 0) }
     {
-        self.values.is_empty()
+        self.len() == 0
     }
 
     /// The bytes of a value, or None for a null.
@@ -51,60 +71,144 @@ impl DataRow {
         requires { index < length self.now }
         ensures { option_map (λ x. x.now) result ≡ slice_index_or self.now index None }
     {
-        match &self.values[index] {
-            Some(value) => Some(value.as_bytes()),
-            None => None,
-        }
+        value_in(self.storage.as_slice(), self.places.as_slice()[index])
+    }
+
+    /// The bytes that the values lie in, which other rows may share.
+    pub fn storage(&self) -> &Bytes {
+        &self.storage
     }
 }
 
-fn kept(alloc: Global, value: Option<&[u8]>) -> Result<Option<Blob>, AllocError>
-    ensures { IfOk result (λ v. v ≡ option_map (λ x. x.now) value.entry) }
+// The value whose length stands at this place.
+fn value_in(body: &[u8], place: u32) -> Option<&[u8]>
+    requires { IsPlace body.now place }
+    ensures { option_map (λ x. x.now) result ≡ value_by body.now place }
 {
-    match value {
-        Some(bytes) => Ok(Some(Blob::from_slice(alloc, bytes)?)),
-        None => Ok(None),
+    match value(&body[place as usize..]) {
+        Some((value, _)) => value,
+        None => None,
     }
 }
 
-fn values(
+// The place of the rest of a body. One that `u32` can't tell, which no frame has, is want of memory.
+fn place_of(body: &[u8], rest: &[u8]) -> Result<u32, AllocError>
+    requires { (front : List ℕ) × (body.now ≡ front ++ rest.now) }
+    ensures within { IfOk result (λ place. place ≤ length body.now) }
+    ensures rest { IfOk result (λ place. drop place body.now ≡ rest.now) }
+{
+    let place = body.len() - rest.len();
+    if place > u32::MAX as usize {
+        return Err(AllocError);
+    }
+    Ok(place as u32)
+}
+
+// The places of so many values of a body, one behind the other, and the bytes behind them.
+fn places<'a>(
     alloc: Global,
     count: u16,
-    bytes: &[u8],
-) -> Result<Option<(Vec<Option<Blob>>, &[u8])>, AllocError>
-    ensures { IfOk result (λ r. option_map (λ x. (x.0.items, x.1.now)) r ≡ many_at value_at count bytes.now) }
+    body: &'a [u8],
+    values: &'a [u8],
+) -> Result<Option<(SmallVec<u32, FEW>, &'a [u8])>, AllocError>
+    requires { (front : List ℕ) × (body.now ≡ front ++ values.now) }
+    ensures value { IfOk result (λ r. option_map (λ x. (map (value_by body.now) x.0.items, x.1.now)) r ≡ many_at value_at count values.now) }
+    ensures places { IfOk result (λ r. IfSome r (λ x. All (IsPlace body.now) x.0.items)) }
 {
-    let mut values = Vec::new(alloc);
-    let mut rest = bytes;
+    let mut places = SmallVec::new(alloc);
+    let mut rest = values;
     for _ in 0..count {
-        let Some((value, after)) = value(rest) else {
+        let place = place_of(body, rest)?;
+        let Some((_, after)) = value(rest) else {
             return Ok(None);
         };
-        values.push(kept(alloc, value)?)?;
+        places.push(place)?;
         rest = after;
     }
-    Ok(Some((values, rest)))
+    Ok(Some((places, rest)))
 }
 
 #[tactic(auto, unfolding(crate::specs::Reading::whole, crate::specs::Reading::counted_at))]
-fn all_values(alloc: Global, body: &[u8]) -> Result<Option<Vec<Option<Blob>>>, AllocError>
-    ensures { IfOk result (λ r. option_map (λ v. v.items) r ≡ whole (counted_at value_at) body.now) }
+fn all_places(alloc: Global, body: &[u8]) -> Result<Option<SmallVec<u32, FEW>>, AllocError>
+    ensures value { IfOk result (λ r. option_map (λ v. map (value_by body.now) v.items) r ≡ whole (counted_at value_at) body.now) }
+    ensures places { IfOk result (λ r. IfSome r (λ v. All (IsPlace body.now) v.items)) }
 {
     let Some((count, rest)) = number16(body) else {
         return Ok(None);
     };
-    match values(alloc, count, rest)? {
-        Some((values, [])) => Ok(Some(values)),
+    match places(alloc, count, body, rest)? {
+        Some((places, [])) => Ok(Some(places)),
         _ => Ok(None),
     }
 }
 
-/// Reads the body of a `D` message.
+// The places of a row's values in the body of its message.
+fn find_values(alloc: Global, body: &[u8]) -> Result<SmallVec<u32, FEW>, Error>
+    ensures values { Decodes (λ v. backend.DataRow (map (value_by body.now) v.items)) 68 body.now result }
+    ensures places { IfOk result (λ v. All (IsPlace body.now) v.items) }
+{
+    match all_places(alloc, body)? {
+        Some(places) => Ok(places),
+        None => Err(malformed(b'D')),
+    }
+}
+
+/// Reads a frame whose body is that of a `D` message. The row shares the frame's storage, and no value is copied.
+pub fn cut_data_row(alloc: Global, frame: Frame) -> Result<DataRow, Error>
+    ensures { Decodes backend.DataRow 68 frame.body result }
+{
+    let places = find_values(alloc, frame.body())?;
+    Ok(DataRow::over(frame.into_body(), places))
+}
+
+/// Reads the body of a `D` message, into storage of the row's own.
 pub fn decode_data_row(alloc: Global, body: &[u8]) -> Result<DataRow, Error>
     ensures { Decodes backend.DataRow 68 body.now result }
 {
-    match all_values(alloc, body)? {
-        Some(values) => Ok(DataRow { values }),
+    let storage = Bytes::copy_from_slice(alloc, body)?;
+    cut_data_row(alloc, Frame::new(b'D', storage))
+}
+
+// Passes over so many values, and answers the bytes behind them.
+fn pass_values(count: u16, bytes: &[u8]) -> Option<&[u8]>
+    ensures { option_map (λ x. x.now) result ≡ passed value_at count bytes.now }
+{
+    let mut rest = bytes;
+    for _ in 0..count {
+        let Some((_, after)) = value(rest) else {
+            return None;
+        };
+        rest = after;
+    }
+    Some(rest)
+}
+
+fn count_values(body: &[u8]) -> Option<u16>
+    ensures { result ≡ count_passed value_at body.now }
+{
+    let (count, rest) = number16(body)?;
+    match pass_values(count, rest)? {
+        [] => Some(count),
+        _ => None,
+    }
+}
+
+/// Checks that a body is that of a `D` message, and answers its number of values. Nothing is kept of it.
+pub fn check_data_row(body: &[u8]) -> Result<u16, Error>
+    ensures { DecodesAs (λ n m. (values : Values) × (m ≡ backend.DataRow values) × (length values ≡ n)) 68 body.now result }
+{
+    match count_values(body) {
+        Some(count) => Ok(count),
         None => Err(malformed(b'D')),
+    }
+}
+
+/// The number of values that a row with this body has, if it is one. It looks at two bytes alone.
+pub fn claimed_width(body: &[u8]) -> Option<u16>
+    ensures { (values : Values) → Says 68 body.now (backend.DataRow values) → result ≡ Some (length values) }
+{
+    match number16(body) {
+        Some((count, _)) => Some(count),
+        None => None,
     }
 }

@@ -1,9 +1,11 @@
-ghost use Rattle.std.specs.Prelude.{◌≡◌, ◌≢◌, ◌↔◌, [], length, map, option_map, unwrap_or, pos, IsTrue, IfOk, IfSome};
+ghost use Rattle.std.specs.Prelude.{◌≡◌, ◌≢◌, ◌↔◌, [], List, length, map, option_map, unwrap_or, pos, IsTrue, IfOk, IfSome};
 ghost use Rattle.std.specs.List.{AllByRecursion};
 ghost use Rattle.pg_wire.specs.Backend as backend;
-ghost use Rattle.pg_wire.specs.Decoding.{Decodes};
+ghost use Rattle.pg_wire.specs.Decoding.{Decodes, DecodesAs};
 ghost use Rattle.pg_wire.specs.Fields.{described, TellsNone};
+ghost use Rattle.pg_wire.specs.Backend.{FieldDescription};
 ghost use Rattle.pg_wire.specs.Reading.{whole, counted_at, many_at, field_at};
+ghost use Rattle.pg_wire.specs.Rows.{passed, count_passed};
 
 use crate::reading::{malformed, number16, number32, signed16, signed32, text};
 use crate::{Error, Oid, Text};
@@ -183,6 +185,40 @@ pub fn decode_row_description(alloc: Global, body: &[u8]) -> Result<RowDescripti
 {
     match all_fields(alloc, body)? {
         Some(fields) => Ok(RowDescription { fields }),
+        None => Err(malformed(b'T')),
+    }
+}
+
+// Passes over so many columns, and answers the bytes behind them.
+fn pass_fields(count: u16, bytes: &[u8]) -> Option<&[u8]>
+    ensures { option_map (λ x. x.now) result ≡ passed field_at count bytes.now }
+{
+    let mut rest = bytes;
+    for _ in 0..count {
+        let Some((_, after)) = parts_at(rest) else {
+            return None;
+        };
+        rest = after;
+    }
+    Some(rest)
+}
+
+fn count_fields(body: &[u8]) -> Option<u16>
+    ensures { result ≡ count_passed field_at body.now }
+{
+    let (count, rest) = number16(body)?;
+    match pass_fields(count, rest)? {
+        [] => Some(count),
+        _ => None,
+    }
+}
+
+/// Checks that a body is that of a `T` message, and answers its number of columns. Nothing is kept of it.
+pub fn check_row_description(body: &[u8]) -> Result<u16, Error>
+    ensures { DecodesAs (λ n m. (fields : List FieldDescription) × (m ≡ backend.RowDescription fields) × (length fields ≡ n)) 84 body.now result }
+{
+    match count_fields(body) {
+        Some(count) => Ok(count),
         None => Err(malformed(b'T')),
     }
 }
