@@ -1,4 +1,5 @@
 pub mod PlaceLaws
+pub mod RowLaws
 pub mod DrainLaws
 pub mod ItemLaws
 pub mod RefusedLaws

@@ -1,5 +1,5 @@
 -- What may come where, by its tag.
-use Rattle.std.proofs.Common.{◌≡◌, ℕ, true, false, List, length, Some, refl, sym, ◌∙◌, ap, subst, Err}
+use Rattle.std.proofs.Common.{◌≡◌, ℕ, true, false, List, length, Some, refl, sym, ◌∙◌, ap, subst, Err, arith}
 use Rattle.pg_wire.specs.declared.error.Error.{Error}
 use Rattle.pg_wire.specs.declared.error.Error.TheVariants as errors
 use Rattle.pg_wire.specs.declared.error.ProtocolFault.TheVariants as protocol

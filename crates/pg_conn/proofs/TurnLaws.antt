@@ -1,5 +1,5 @@
 -- How the beats of a call follow one another.
-use Rattle.std.proofs.Common.{◌≡◌, ◌≢◌, ◌⊎◌, ℕ, ◌+◌, ◌-◌, ◌<◌, ◌≤◌, cond, inl, inr, Bool, true, false, ◌&&◌, ◌||◌, ◌==◌, nat_eq, List, [], ◌∷◌, ◌++◌, length, map, refl, sym, ap, ◌∙◌, subst, append_assoc, append-nil, length-append, arith, Ok, Err, Option, Some, None}
+use Rattle.std.proofs.Common.{◌≡◌, ◌≢◌, ◌⊎◌, ℕ, ◌+◌, ◌-◌, ◌<◌, ◌≤◌, cond, inl, inr, Bool, true, false, ◌&&◌, ◌||◌, ◌==◌, nat_eq, List, [], ◌∷◌, ◌++◌, length, map, refl, sym, ap, ◌∙◌, subst, append_assoc, append-nil, length-append, arith, Ok, Err, Option, Some, None, Result, IfOk, IfErr, OnErr}
 use Rattle.std.specs.List.{count_by}
 use Rattle.std.proofs.lemmas.Bool.{eqb-true}
 use Rattle.std.proofs.lemmas.List.{map-append, same_from_push}
@@ -32,11 +32,12 @@ use Rattle.pg_call.specs.declared.calling.Beat.TheVariants as beats
 use Rattle.pg_call.specs.declared.calling.Taken.{Taken}
 use Rattle.pg_call.specs.declared.running.Running.{Running}
 use Rattle.pg_call.specs.Requests.{Group, spelled, kind_of, messages_of, is_flush, is_close, query_of, CanBeSaid, IsRefusal, RefusesQuery}
-use Rattle.pg_call.specs.Hearing.{framed, fails_of}
+use Rattle.pg_call.specs.Hearing.{framed, fails_of, IsReplied}
 use Rattle.pg_call.specs.Calls.{CallIs, IsAwaiting, CallEnds, CallTakes, EndsByReady, StaysIn, TakesMessage, RefusesMessage}
+use Rattle.pg_call.proofs.CallLaws.{own_errs}
 use Rattle.pg_call.proofs.LeaveLaws.{leaves_call, call_well, closing_fine, flush_fine, draining_none, replying_from, closing_from}
 use Rattle.pg_conn.specs.Connections.{ConnOf, ConnSeen, seen_by, idle, with_spare, queued_call, awaiting, closing, frames_in}
-use Rattle.pg_conn.specs.Turns.{ends_request, IsMissed, FailsBy, EndsBy, Tells, SendCause, BeatCause, Turns, TakesBeat, IsAsked, cleanup_of, HasRoom, IsSayable, Prepares, Refuses, Refused, Polled, broken_by, only_sends, flushes, is_flushed, EndsFlush, IsAhead, Readies, Accepts, queued_copy_fail}
+use Rattle.pg_conn.specs.Turns.{HearsBy, HearsFront, running_of, ends_request, IsMissed, FailsBy, EndsBy, Tells, SendCause, BeatCause, Turns, TakesBeat, IsAsked, cleanup_of, HasRoom, IsSayable, Prepares, Refuses, Refused, Polled, broken_by, only_sends, flushes, is_flushed, EndsFlush, IsAhead, Readies, Accepts, queued_copy_fail}
 use Rattle.pg_startup.proofs.GreetLaws.{heard_none, heard_one}
 
 -- the bytes of messages, one after another
@@ -580,6 +581,33 @@ takes_message {A} seen a b new front body rest taken f of takes stays_in room co
             (fails_of fails, refl, rw none (grew-none a.groups), told (seen_by seen a) c start r (said ++ fails_of fails) hs frame items taken.beat fails copy (sends_none t fails unsent) (takes start r said hs items i));
       },
     )
+
+-- ---- what the call makes of the message at the front
+
+pub hears_by : (tag : ℕ) (body : List ℕ) (a b : Running) (r : Result Taken Error) → IfOk r (TakesMessage tag body a b) → IfOk r (λ taken. taken.fails_copy ≡ true → tag ≡ 71) → IfOk r (λ taken. taken.beat ≢ beats.Waits)
+    → IfOk r (λ taken. StaysIn a.call taken.fails_copy b.call) → IfErr r (RefusesMessage tag body a) → OnErr r (b.ledger ≡ a.ledger) → HearsBy tag body a b r
+hears_by tag body a b (Ok taken) takes copy goes stays refuses ledger = (takes, copy, goes, stays)
+hears_by tag body a b (Err e) takes copy goes stays refuses ledger = (refuses, ledger)
+
+pub hears_row : (tag : ℕ) (body : List ℕ) (a b : Running) (r : Result Taken Error) → tag ≡ 68 → IfOk r (TakesMessage 68 body a b) → IfOk r (λ taken. taken.fails_copy ≡ false) → IfOk r (λ taken. taken.beat ≢ beats.Waits)
+    → IfOk r (λ taken. StaysIn a.call taken.fails_copy b.call) → IfErr r (RefusesMessage 68 body a) → OnErr r (b.ledger ≡ a.ledger) → HearsBy tag body a b r
+hears_row tag body a b (Ok taken) is takes copy goes stays refuses ledger = (rw is takes, λ e. absurd cc, goes, stays)
+hears_row tag body a b (Err e) is takes copy goes stays refuses ledger = (rw is refuses, ledger)
+
+-- a frame at the front, by the front's tag
+pub framed_front : (held : List ℕ) (front : Front) (frame : Frame) (rest : List ℕ) → IsFrontOf held front frame rest → IsFrontOf held front (framed front.tag frame.body) rest
+framed_front held front frame rest is = subst (λ (t : ℕ). IsFrontOf held front (framed t frame.body) rest) is.tag is
+
+-- want of memory leaves the message at the front
+pub starves_message : (tag : ℕ) (body : List ℕ) (a : Running) → IsReplied a.call → RefusesMessage tag body a errors.OutOfMemory
+starves_message tag body a replied = by a.call refl replied
+  where
+    by : (call : Call) → a.call ≡ call → IsReplied call → RefusesMessage tag body a errors.OutOfMemory
+    by (calls.Own reply) e h = own_errs tag body a reply errors.OutOfMemory e tt
+    by calls.Idle e h = absurd h
+    by (calls.Asked asked) e h = absurd h
+    by (calls.Waiting waiting) e h = absurd h
+    by calls.Closing e h = absurd h
 
 -- ---- the rest is sent
 

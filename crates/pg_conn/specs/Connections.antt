@@ -71,11 +71,11 @@ is_over (Some request) call = false
 
 -- ---- within a poll
 
--- only the cleanup reserve has changed
--- the same with so much room for what is received
+-- only the room for what is received has changed
 abbrev pub with_room : {A : Type 0} → ℕ → ConnOf A → ConnOf A
 with_room n c = record c { stream = record c.stream { room = n } }
 
+-- only the cleanup reserve has changed
 abbrev pub with_spare : {A : Type 0} → ℕ → ConnOf A → ConnOf A
 with_spare n c = record c { stream = record c.stream { spare = n } }
 

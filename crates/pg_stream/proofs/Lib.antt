@@ -1,5 +1,6 @@
 pub mod Known
 pub mod StreamLemmas
+pub mod ReceivedLaws
 pub mod EventLaws
 pub mod OutsideLaws
 pub mod VersionLaws

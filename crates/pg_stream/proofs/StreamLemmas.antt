@@ -252,7 +252,7 @@ asked_by a b into e size = inr (e ∙ ap (asked_with a.asked) size)
 pub reads_moved : (a : StreamSeen) (link : LinkSeen) (into : List ℕ) (room n m : ℕ) → Reads a.link link (reads.Moved n) into → length into ≡ 8192 → room ≤ max a.room (room_for (length a.held)) → 0 < a.left → GrewBy 1 a.moves m
     → ReadsOnce a (record a { link = link; held = a.held ++ take n into; room = room; left = a.left - 1; moves = m }) (reads.Moved n)
 reads_moved a link into room n m r size grows some grew = record {
-  moves = called a link (read_rises (reads.Moved n)) a.unsent (a.held ++ take n into) [] (take n into) room a.waits m r.counts r.secured (asked_by _ _ into r.asked size) grows (Appends-from_keeps _ _ r.taken) refl r.gives.2 refl (omega (arith, size, length-take n into)) some (GrewBy-none a.waits) grew;
+  moves = called a link (read_rises (reads.Moved n)) a.unsent (a.held ++ take n into) [] (take n into) room a.waits m r.counts r.secured (asked_by a.link link into r.asked size) grows (Appends-from_keeps _ _ r.taken) refl r.gives.2 refl (omega (arith, size, length-take n into)) some (GrewBy-none a.waits) grew;
   unsent = refl;
   spare = refl;
   left = omega arith;
@@ -262,7 +262,7 @@ reads_moved a link into room n m r size grows some grew = record {
 pub reads_waited : (a : StreamSeen) (link : LinkSeen) (into : List ℕ) (room m : ℕ) → Reads a.link link reads.NotYet into → length into ≡ 8192 → room ≤ max a.room (room_for (length a.held)) → 0 < a.left → GrewBy 1 a.waits m
     → ReadsOnce a (record a { link = link; room = room; left = a.left - 1; waits = m }) reads.NotYet
 reads_waited a link into room m r size grows some grew = record {
-  moves = called a link (read_rises reads.NotYet) a.unsent a.held [] [] room m a.moves r.counts r.secured (asked_by _ _ into r.asked size) grows (Appends-from_keeps _ _ r.taken) refl (Appends-from_keeps _ _ r.gives.0) (sym (append-nil a.held)) (omega arith) some grew (GrewBy-none a.moves);
+  moves = called a link (read_rises reads.NotYet) a.unsent a.held [] [] room m a.moves r.counts r.secured (asked_by a.link link into r.asked size) grows (Appends-from_keeps _ _ r.taken) refl (Appends-from_keeps _ _ r.gives.0) (sym (append-nil a.held)) (omega arith) some grew (GrewBy-none a.moves);
   unsent = refl;
   spare = refl;
   left = omega arith;
@@ -273,7 +273,7 @@ reads_waited a link into room m r size grows some grew = record {
 read_over : (a : StreamSeen) (link : LinkSeen) (answer : LinkRead) (into : List ℕ) (room : ℕ) → Reads a.link link answer into → length into ≡ 8192 → room ≤ max a.room (room_for (length a.held)) → Keeps a.link.given link.given → (read_rises answer).moved ≡ 0
     → (read_rises answer).write_waits + (read_rises answer).read_waits ≡ 0 → 0 < a.left → Moves a (record a { link = link; room = room; left = a.left - 1 }) [] []
 read_over a link answer into room r size grows kept still calm some =
-    called a link (read_rises answer) a.unsent a.held [] [] room a.waits a.moves r.counts r.secured (asked_by _ _ into r.asked size) grows (Appends-from_keeps _ _ r.taken) refl (Appends-from_keeps _ _ kept) (sym (append-nil a.held)) (omega arith) some
+    called a link (read_rises answer) a.unsent a.held [] [] room a.waits a.moves r.counts r.secured (asked_by a.link link into r.asked size) grows (Appends-from_keeps _ _ r.taken) refl (Appends-from_keeps _ _ kept) (sym (append-nil a.held)) (omega arith) some
     (subst (λ (k : ℕ). GrewBy k a.waits a.waits) (sym calm) (GrewBy-none a.waits)) (subst (λ (k : ℕ). GrewBy k a.moves a.moves) (sym still) (GrewBy-none a.moves))
 
 pub reads_ended : (a : StreamSeen) (link : LinkSeen) (into : List ℕ) (room : ℕ) → Reads a.link link reads.End into → length into ≡ 8192 → room ≤ max a.room (room_for (length a.held)) → 0 < a.left

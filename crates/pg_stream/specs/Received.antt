@@ -19,6 +19,11 @@ bytes_in r = r.shared ++ r.own
 abbrev pub room_for : ℕ → ℕ
 room_for size = 131072 + 2 * size
 
+-- how many bytes a read gave
+abbrev pub size_of : LinkRead → ℕ
+size_of (reads.Moved n) = n
+size_of _ = 0
+
 -- what a read gave of the bytes that it wrote
 abbrev pub given_of : LinkRead → List ℕ → List ℕ
 given_of (reads.Moved n) into = take n into

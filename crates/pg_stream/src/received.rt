@@ -1,6 +1,6 @@
 ghost use Rattle.std.specs.Prelude.{◌≡◌, ◌≤◌, ◌+◌, ◌-◌, ◌++◌, [], List, ℕ, drop, length, take, max, slice_range, IfOk, OnOk, OnErr};
 ghost use Rattle.pg_stream.specs.Links.{Reads};
-ghost use Rattle.pg_stream.specs.Received.{bytes_in, room_for, given_of, ReadsOnto};
+ghost use Rattle.pg_stream.specs.Received.{bytes_in, room_for, given_of, size_of, ReadsOnto};
 
 use crate::{Link, LinkRead};
 use bytes::{Bytes, BytesMut};
@@ -162,7 +162,7 @@ impl Received {
 
 // How many bytes a read gave.
 fn count_of(answer: LinkRead) -> usize
-    ensures { (into : List ℕ) → take result into ≡ given_of answer into }
+    ensures { result ≡ size_of answer }
 {
     match answer {
         LinkRead::Moved(count) => count,
@@ -180,7 +180,7 @@ fn block_of(alloc: Global, bytes: &[u8]) -> Result<BytesMut, AllocError>
     let mut block = BytesMut::with_capacity(alloc, bytes.len().saturating_add(room))?;
     block.extend_from_slice(bytes)?;
     let spare = block.capacity() - block.len();
-    if spare < READ_SIZE || spare / 2 > room {
+    if spare < READ_SIZE || spare / 2 >= room {
         return Err(AllocError);
     }
     Ok(block)

@@ -6,4 +6,4 @@ use Rattle.pg_stream.proofs.stream.PgStream.skip.Goals as goal
 pub returns : goal.returns
 returns g c =
     let grew : GrewBy c.args.front.total c.self.inside.taken c.saturating_add-self-inside.result = search rules in
-    rw (← c.self.view_is, c.advance.ensures.items) (passes _ c.args.front _ grew)
+    rw (← c.self.view_is, c.advance.ensures.bytes, c.advance.ensures.room) (passes _ c.args.front _ grew)
