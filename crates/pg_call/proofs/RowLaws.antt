@@ -1,6 +1,7 @@
 -- A row that is neither shown nor kept changes nothing.
-use Rattle.std.proofs.Common.{◌≡◌, ℕ, true, false, List, [], ◌∷◌, length, Option, Some, None, filter, refl, sym, ap}
-use Rattle.pg_wire.specs.Backend.{Values, DataRow}
+use Rattle.std.proofs.Common.{◌≡◌, ℕ, true, false, List, [], ◌∷◌, length, Option, Some, None, Result, Ok, Err, IfOk, filter, refl, sym, ap}
+use Rattle.pg_wire.specs.declared.error.Error.{Error}
+use Rattle.pg_wire.specs.Backend.{BackendMessage, Values, DataRow}
 use Rattle.pg_wire.specs.Decoding.{Says}
 use Rattle.pg_call.specs.declared.kind.How.TheVariants as hows
 use Rattle.pg_call.specs.declared.kind.Kind.{Kind}
@@ -8,10 +9,12 @@ use Rattle.pg_call.specs.declared.kind.Kind.TheVariants as kinds
 use Rattle.pg_call.specs.declared.answer.CallItem.TheVariants.{Row}
 use Rattle.pg_call.specs.declared.tally.Tally.{Tally}
 use Rattle.pg_call.specs.declared.reply.Reply.{Reply}
+use Rattle.pg_call.specs.declared.judging.Verdict.{Verdict}
+use Rattle.pg_call.specs.declared.reply.Heard.{Heard}
 use Rattle.pg_call.specs.declared.reply.Heard.TheVariants as heards
 use Rattle.pg_call.specs.Items.{added, first_of, keeps_row, yields}
-use Rattle.pg_call.specs.Replies.{fits}
-use Rattle.pg_call.specs.Hearing.{Hears}
+use Rattle.pg_call.specs.Replies.{fits, IsVerdict, Judges}
+use Rattle.pg_call.specs.Hearing.{Hears, HearsMessage}
 use Rattle.pg_call.proofs.PlaceLaws.{fitting}
 
 first_stays : (first : Option Values) (values : Values) → keeps_row (kinds.Run hows.FetchOne) first ≡ false → first_of first values ≡ first
@@ -51,3 +54,8 @@ passes_row a body values says fit keeps =
     let none : yields a.kind (Row values) ≡ false = yields_none a.kind a.tally.first values keeps in
     let same : added a.kind a.tally (Row values) ≡ a.tally = adds_none a.kind a.tally values keeps in
     (DataRow values, says, (a.part, fitting a.part values fit, ap (λ (t : Tally). record a { tally = t }) (sym same), rw none refl))
+
+-- what a verdict makes of the reply is what its message does
+pub hears_verdict : (a b : Reply) (tag : ℕ) (body : List ℕ) (verdict : Verdict) (r : Result Heard Error) → Judges a.part tag body (Ok verdict) → IfOk r (λ heard. (m : BackendMessage) → IsVerdict a.part m verdict → HearsMessage a b m heard) → IfOk r (Hears a b tag body)
+hears_verdict a b tag body verdict (Ok heard) judged f = (judged.0, judged.1, f judged.0 judged.2)
+hears_verdict a b tag body verdict (Err e) judged f = tt
