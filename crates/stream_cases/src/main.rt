@@ -24,6 +24,7 @@ fn in_memory(alloc: Global, word: &str) -> Result<Option<bool>, AllocError> {
         "writer-without-room" => streams::std_writer_without_room(),
         "parameters" => streams::keeps_the_last_parameters(alloc)?,
         "cleanup" => streams::keeps_room_for_cleanup(alloc)?,
+        "shared-rows" => streams::rows_share_a_piece(alloc)?,
         _ => return Ok(None),
     };
     Ok(Some(is_so))

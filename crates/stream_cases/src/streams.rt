@@ -5,7 +5,7 @@ use pg_stream::{
     Gathered, Link, MemoryLink, MemorySink, MemorySource, PgStream, ReadEvent, Sink, SinkWrite,
     Source, StdSink, StdSource, read_all, send,
 };
-use pg_wire::{Blob, Error, Poll, Sequence};
+use pg_wire::{Blob, DataRow, Error, Poll, Sequence, cut_data_row};
 use std::alloc::{AllocError, Global};
 
 // Whether a source is read with this answer, and gives just these bytes.
@@ -121,4 +121,49 @@ pub fn keeps_room_for_cleanup(alloc: Global) -> Result<bool, AllocError> {
     );
     let mut stream = PgStream::new(alloc, link);
     Ok(keeps_room(&mut stream, &frames))
+}
+
+// The next row, which shares what was received.
+fn next_row(alloc: Global, stream: &mut PgStream<MemoryLink>) -> Result<Option<DataRow>, Error> {
+    match stream.poll_ahead(alloc) {
+        Poll::Ready(Ok(front)) => {
+            let frame = stream.share(front)?;
+            stream.pass(front);
+            Ok(Some(cut_data_row(alloc, frame)?))
+        }
+        Poll::Ready(Err(e)) => Err(e),
+        Poll::Pending => Ok(None),
+    }
+}
+
+fn is_row(row: &DataRow, value: &[u8]) -> bool {
+    row.len() == 1 && row.get(0) == Some(value)
+}
+
+fn shares(alloc: Global, stream: &mut PgStream<MemoryLink>) -> Result<bool, Error> {
+    let (Some(first), Some(second)) = (next_row(alloc, stream)?, next_row(alloc, stream)?) else {
+        return Ok(false);
+    };
+    let Some(third) = next_row(alloc, stream)? else {
+        return Ok(false);
+    };
+    let is_shared = !first.storage().is_unique();
+    Ok(is_shared && is_row(&first, b"1") && is_row(&second, b"22") && is_row(&third, b"333"))
+}
+
+fn rows(alloc: Global) -> Result<Sequence<ReadEvent>, AllocError> {
+    let mut reads = Sequence::new(alloc);
+    reads.push(piece(
+        alloc,
+        b"D\x00\x00\x00\x0b\x00\x01\x00\x00\x00\x011D\x00\x00\x00\x0c\x00\x01\x00\x00\x00\x0222D\x00\x00",
+    )?)?;
+    reads.push(piece(alloc, b"\x00\x0d\x00\x01\x00\x00\x00\x03333")?)?;
+    Ok(reads)
+}
+
+/// Rows that came in one piece share its storage, and stay the same whatever is read later.
+pub fn rows_share_a_piece(alloc: Global) -> Result<bool, AllocError> {
+    let link = MemoryLink::new(alloc, rows(alloc)?, Sequence::new(alloc), false, false);
+    let mut stream = PgStream::new(alloc, link);
+    Ok(matches!(shares(alloc, &mut stream), Ok(true)))
 }
