@@ -609,6 +609,17 @@ starves_message tag body a replied = by a.call refl replied
     by (calls.Waiting waiting) e h = absurd h
     by calls.Closing e h = absurd h
 
+pub taken_front : {A : Type 0} (seen : A → LinkSeen) (a m b : ConnOf A) (front : Front) (taken : Taken) → IsHeardFront a.stream.held front → (front.tag ≡ 71 → 57 ≤ a.stream.spare) → a.stream.unsent ≡ [] → m ≡ record a { ledger = m.ledger; call = m.call }
+    → HearsFront front a m (Ok taken) → Accepts front taken.fails_copy m b → TakesBeat (seen_by seen a) (seen_by seen b) taken.beat
+taken_front {A} seen a m b front taken f room sent now h acc =
+    takes_message seen a b (running_of m) front h.0 h.1 taken f h.2 h.3.0 h.3.3 (λ e. room (h.3.1 e)) h.3.1 sent h.3.2 (subst (λ (x : ConnOf A). Accepts front taken.fails_copy x b) now acc)
+
+pub refused_front : {A : Type 0} (seen : A → LinkSeen) (a m b : ConnOf A) (front : Front) (e : Error) (beat : Beat) → IsHeardFront a.stream.held front → m ≡ record a { ledger = m.ledger; call = m.call } → HearsFront front a m (Err e) → b ≡ idle m → beat ≡ beats.Ends (Err e)
+    → TakesBeat (seen_by seen a) (seen_by seen b) beat
+refused_front {A} seen a m b front e beat f now h stops ends =
+    let same : idle m ≡ idle a = ap (λ (x : ConnOf A). idle x) now ∙ ap (λ (l : Ledger). record a { ledger = l; call = calls.Idle }) h.3.1 in
+    rw ends (subst (λ (x : ConnOf A). TakesBeat (seen_by seen a) (seen_by seen x) (beats.Ends (Err e))) (sym (stops ∙ same)) (front_refused (seen_by seen a) front h.0 h.1 e f h.2 h.3.0))
+
 -- ---- the rest is sent
 
 sends_fine : (start : Ledger) (r : Request) (said : List FrontendMessage) (hs : List Frame) (items : List CallItem) (ledger : Ledger) (call : Call) → only_sends ledger call ≡ true → CallIs start r said hs items ledger call → CallEnds start r said hs items ledger (Ok answers.Unit)

@@ -3,6 +3,7 @@ ghost use Rattle.pg_stream.specs.Links.{GrewBy};
 ghost use Rattle.pg_stream.specs.Streams.{stream_by, fuel_of, IsHeardFront, Passes};
 ghost use Rattle.pg_conn.specs.Connections.{seen_by, idle, begun_with, begun_by, is_over, runs, with_spare, queued_call, awaiting, closing};
 ghost use Rattle.pg_call.specs.Calls.{IsAwaiting};
+ghost use Rattle.pg_call.specs.Hearing.{IsReplied};
 ghost use Rattle.pg_call.specs.declared.kind.Kind as declared_kind;
 ghost use Rattle.pg_conn.specs.States.{IsCalling, PollFits};
 ghost use Rattle.pg_conn.specs.Turns.{TakesBeat, HearsFront, Prepares, Readies, Refuses, Accepts, IsAsked, IsSayable, Refused, IsAhead, only_sends, flushes, is_flushed, EndsFlush, queued_copy_fail, PollsBy, PollsWithin, PollsCall, PollsMore, beat_of, broken_by};
@@ -214,16 +215,34 @@ impl<L: Link> PgConnection<L> {
         Ok(())
     }
 
-    // What the message at the front makes of the call. A row that is kept shares the storage in which it came.
+    // Whether the message at the front is a row of the own reply that is shown or kept.
+    fn keeps(&self, front: Front) -> bool
+        ensures { result ≡ true → (front.tag ≡ 68) × IsReplied self.now.call }
+    {
+        front.tag == b'D' && self.running.keeps_rows()
+    }
+
+    // What the row at the front makes of the call. It shares the storage in which it came.
+    fn hear_row(&mut self, front: Front) -> Result<Taken, Error>
+        requires tag { front.tag ≡ 68 }
+        requires replied { IsReplied self.old.call }
+        requires front { IsHeardFront self.old.stream.held front }
+        ensures now { self.new ≡ record self.old { ledger = self.new.ledger; call = self.new.call } }
+        ensures hears { HearsFront front self.old self.new result }
+    {
+        let frame = self.stream.share(front)?;
+        self.running.take_row(self.alloc, frame)
+    }
+
+    // What the message at the front makes of the call.
     fn hear_front(&mut self, front: Front) -> Result<Taken, Error>
         requires awaiting { IsAwaiting self.old.ledger self.old.call }
         requires front { IsHeardFront self.old.stream.held front }
         ensures now { self.new ≡ record self.old { ledger = self.new.ledger; call = self.new.call } }
         ensures hears { HearsFront front self.old self.new result }
     {
-        if front.tag == b'D' && self.running.keeps_rows() {
-            let frame = self.stream.share(front)?;
-            return self.running.take_row(self.alloc, frame);
+        if self.keeps(front) {
+            return self.hear_row(front);
         }
         self.running
             .take(self.alloc, front.tag, self.stream.body(front))

@@ -70,7 +70,7 @@ fn append_parts(
     out.append(second)
 }
 
-// Adds a frame whose body is in two parts, or nothing.
+// Adds a frame whose body is in two parts, or nothing. The room for all of it is made at once.
 pub(crate) fn append_frame(
     out: &mut Blob,
     tag: u8,
@@ -81,6 +81,7 @@ pub(crate) fn append_frame(
     ensures ok { OnOk result (out.new ≡ out.old ++ (tag ∷ number32 size) ++ first.now ++ second.now) }
     ensures err { OnErr result (out.new ≡ out.old) }
 {
+    out.reserve(1 + size as usize)?;
     let start = out.len();
     let done = append_parts(out, tag, size, first, second);
     if done.is_err() {

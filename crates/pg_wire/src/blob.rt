@@ -77,6 +77,13 @@ impl Blob {
         self.bytes.extend_from_slice(bytes)
     }
 
+    // Makes room for so many bytes more.
+    pub(crate) fn reserve(&mut self, bytes: usize) -> Result<(), AllocError>
+        ensures { self.new ≡ self.old }
+    {
+        self.bytes.reserve(bytes)
+    }
+
     /// Keeps only the first `n` bytes.
     pub fn truncate(&mut self, n: usize)
         ensures { self.new ≡ take n self.old }
