@@ -1,5 +1,5 @@
 -- The rows of the table: what each asks, and that each call has one.
-use Rattle.std.proofs.Common.{◌≡◌, ℕ, zero, suc, ◌-◌, ◌<◌, ◌^◌, Bool, true, false, cond, nat_eq, List, [], ◌∷◌, ◌++◌, map, Option, Some, None, IfSome, codes, decimal, refl, sym, ap, ◌∙◌, subst, arith, ◌⊎◌, inl, inr}
+use Rattle.std.proofs.Common.{◌≡◌, ℕ, zero, suc, ◌<◌, ◌^◌, List, [], ◌∷◌, ◌++◌, map, Option, Some, IfSome, refl, sym, ap, ◌∙◌, subst, arith, ◌⊎◌, inl, inr}
 use Rattle.std.specs.List.{AllByRecursion}
 use Rattle.pg_wire.specs.Bytes.{HasNoNul}
 use Rattle.pg_wire.specs.Frame.{Frame}
@@ -11,42 +11,12 @@ use Rattle.pg_wire.specs.Acceptor.{FirstSegment}
 use Rattle.pg_request.specs.Queries.{QueryText}
 use Rattle.pg_exchanges.specs.Expecting.{Widths, Expected, InQuery, InSteps, behind, expected, HasWidths, MayNotFollow, BeginsKnowing}
 use Rattle.pg_rule.specs.declared.rule.Rule.{Rule}
-use Rattle.pg_rule.specs.Texts.{savepoint, opening_text, begin_text, commit_text, rollback_text}
+use Rattle.pg_rule.specs.Texts.{begin_text, commit_text, rollback_text}
 use Rattle.pg_rule.specs.Rows.{Group, Asked, Run, Begin, Commit, Rollback, Ping, Flush, Close, Exchange, Plan, Main, awaited_by, known_widths, AsksOnce, MayBegin, IsRow, Asks, CanBeAsked, AsksNothing}
-use Rattle.pg_wire.proofs.NameLaws.{nul_free_append, decimal_nul_free}
+use Rattle.pg_rule.proofs.TextLaws.{begin_said, commit_said, rollback_said}
 use Rattle.pg_exchanges.proofs.ExpectingLaws.{refused_begins_no_group_response}
 use Rattle.pg_exchanges.proofs.AcceptedLaws.{accepted_begins_query_response}
 use Rattle.pg_exchanges.proofs.KindLaws.{closing_begins}
-
--- ---- the texts hold no zero byte
-
-savepoint_said : (front : List ℕ) (depth : ℕ) → HasNoNul front → depth < 2 ^ 64 → HasNoNul (front ++ savepoint depth)
-savepoint_said front depth h lt = nul_free_append front (savepoint depth) h (nul_free_append (codes "_sqlx_savepoint_") (decimal depth) refl (decimal_nul_free depth lt))
-
-opening_said : (text : Option (List ℕ)) → IfSome text HasNoNul → HasNoNul (opening_text text)
-opening_said None h = refl
-opening_said (Some sql) h = h
-
-begin_said : (text : Option (List ℕ)) (depth : ℕ) → IfSome text HasNoNul → depth < 2 ^ 64 → HasNoNul (begin_text text depth)
-begin_said text depth h lt = by (nat_eq depth 0)
-  where
-    by : (b : Bool) → HasNoNul (cond b (opening_text text) (codes "SAVEPOINT " ++ savepoint depth))
-    by true = opening_said text h
-    by false = savepoint_said (codes "SAVEPOINT ") depth refl lt
-
-commit_said : (depth : ℕ) → depth < 2 ^ 64 → HasNoNul (commit_text depth)
-commit_said depth lt = by (nat_eq depth 1)
-  where
-    by : (b : Bool) → HasNoNul (cond b (codes "COMMIT") (codes "RELEASE SAVEPOINT " ++ savepoint (depth - 1)))
-    by true = refl
-    by false = savepoint_said (codes "RELEASE SAVEPOINT ") (depth - 1) refl (omega (arith, lt))
-
-rollback_said : (depth : ℕ) → depth < 2 ^ 64 → HasNoNul (rollback_text depth)
-rollback_said depth lt = by (nat_eq depth 1)
-  where
-    by : (b : Bool) → HasNoNul (cond b (codes "ROLLBACK") (codes "ROLLBACK TO SAVEPOINT " ++ savepoint (depth - 1)))
-    by true = refl
-    by false = savepoint_said (codes "ROLLBACK TO SAVEPOINT ") (depth - 1) refl (omega (arith, lt))
 
 -- ---- each row
 

@@ -1,8 +1,10 @@
 -- What is known of a session that decides which groups its calls queue, and how it moves: one equation each.
-use Rattle.std.specs.Prelude.{ℕ, ◌+◌, ◌-◌, List, [], Option, Some, None, ltb, if◌then◌else◌}
+use Rattle.std.specs.Prelude.{ℕ, ◌+◌, ◌-◌, ◌<◌, ◌≤◌, List, [], length, Option, Some, None, ltb, if◌then◌else◌}
+use Rattle.std.specs.List.{AllByRecursion}
+use Rattle.pg_exchanges.specs.Expecting.{AreDistinct}
 use Rattle.pg_rule.specs.declared.cache.Entry.{Entry}
 use Rattle.pg_rule.specs.declared.rule.Rule.{Rule}
-use Rattle.pg_rule.specs.Caches.{used, put}
+use Rattle.pg_rule.specs.Caches.{used, put, widths_in}
 
 -- a session behind its start-up: no transaction is open, no statement is kept, and the first number is 1
 abbrev pub new_rule : ℕ → Rule
@@ -33,3 +35,16 @@ kept e rule = record rule { cache = put e rule.capacity rule.cache }
 
 abbrev pub cleared : Rule → Rule
 cleared rule = record rule { cache = [] }
+
+-- ---- what holds of each session
+
+-- numbers begin at 1; no more statements are kept than may be; each has a number that was drawn, and a name of its own
+pub record IsOrderly (rule : Rule) : Type 0 where
+  pub starts : 0 < rule.next
+  pub fits : length rule.cache ≤ rule.capacity
+  pub numbered : AllByRecursion (λ e. (0 < e.number) × (e.number < rule.next)) rule.cache
+  pub distinct : AreDistinct (widths_in rule.cache)
+
+-- a statement that may be kept next: its number was drawn behind those of all that are kept
+abbrev pub IsNewest : Entry → Rule → Type 0
+IsNewest e rule = (0 < e.number) × (e.number < rule.next) × AllByRecursion (λ f. f.number < e.number) rule.cache

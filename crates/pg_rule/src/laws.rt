@@ -1,6 +1,6 @@
 //! What follows from the table of the calls and their groups, each the contract of a function that does nothing.
 
-ghost use Rattle.std.specs.Prelude.{◌≡◌, ◌⊎◌, ◌<◌, ◌^◌, ℕ, List, [], ◌∷◌, ◌++◌, Option, Some, None, IfSome, map, codes};
+ghost use Rattle.std.specs.Prelude.{◌≡◌, ◌⊎◌, ◌<◌, ◌≤◌, ◌^◌, ℕ, List, [], ◌∷◌, ◌++◌, Option, Some, None, IfSome, map, codes};
 ghost use Rattle.std.specs.List.{AllByRecursion};
 ghost use Rattle.pg_wire.specs.Bytes.{HasNoNul};
 ghost use Rattle.pg_wire.specs.Frame.{Frame};
@@ -11,9 +11,11 @@ ghost use Rattle.pg_wire.specs.Groups.{IsBetween};
 ghost use Rattle.pg_wire.specs.Acceptor.{FirstSegment};
 ghost use Rattle.pg_request.specs.Queries.{QueryText};
 ghost use Rattle.pg_exchanges.specs.Expecting.{Expected, InQuery, InSteps, behind, HasWidths, MayNotFollow, BeginsKnowing};
+ghost use Rattle.pg_rule.specs.declared.cache.Entry.{Entry as EntryOf};
 ghost use Rattle.pg_rule.specs.declared.rule.Rule.{Rule as RuleOf};
+ghost use Rattle.pg_rule.specs.Rules.{new_rule, opened, closed, drawn, hit, kept, cleared, IsOrderly, IsNewest};
 ghost use Rattle.pg_rule.specs.Texts.{begin_text, commit_text, rollback_text};
-ghost use Rattle.pg_rule.specs.Rows.{Group, Asked, Run, Begin, Commit, Rollback, Ping, Exchange, Plan, Main, awaited_by, known_widths, MayBegin, Asks, CanBeAsked, AsksNothing};
+ghost use Rattle.pg_rule.specs.Rows.{Group, Asked, Run, Begin, Commit, Rollback, Ping, Exchange, Plan, Main, awaited_by, known_widths, MayBegin, Asks, CanBeAsked, AsksNothing, start_rollback};
 
 /// A query without arguments is one Query, and what is known of the session stays.
 pub fn a_query_without_arguments_is_one_query()
@@ -61,6 +63,28 @@ pub fn a_response_to_a_row_is_what_is_awaited()
         Asks old asked done plan group rule → IsBetween server → HasWidths server (known_widths rule done) →
         behind (awaited_by plan) own ≡ Some e → AllByRecursion HasBackendFrame own →
         BeginsKnowing (known_widths rule done) group (map backend_frame own) }
+{}
+
+/// A rollback without a call is one Query where something is open, which a frame can carry, and else nothing.
+pub fn a_rollback_without_a_call_is_one_query_at_most()
+    ensures open { (rule : RuleOf) → 0 < rule.depth →
+        start_rollback rule ≡ (frontend.Query (rollback_text rule.depth) ∷ []) ∷ [] }
+    ensures said { (rule : RuleOf) → rule.depth < 2 ^ 64 → HasNoNul (rollback_text rule.depth) }
+    ensures nothing { (rule : RuleOf) → rule.depth ≡ 0 → start_rollback rule ≡ [] }
+{}
+
+/// What is known of a session stays orderly: behind start-up, by each move, and behind a put of a statement whose number was drawn last. So the
+/// widths of the kept statements are those of some server.
+pub fn a_session_stays_orderly()
+    ensures new { (capacity : ℕ) → IsOrderly (new_rule capacity) }
+    ensures depth { (rule : RuleOf) → IsOrderly rule → IsOrderly (opened rule) × IsOrderly (closed rule) }
+    ensures draw { (rule : RuleOf) → IsOrderly rule → IsOrderly (drawn rule) }
+    ensures touch { (rule : RuleOf) (sql : List ℕ) → IsOrderly rule → IsOrderly (hit sql rule) }
+    ensures keep { (rule : RuleOf) (e : EntryOf) → rule.next ≤ 2 ^ 32 → 0 < rule.capacity → IsOrderly rule → IsNewest e rule →
+        IsOrderly (kept e rule) }
+    ensures clear { (rule : RuleOf) → IsOrderly rule → IsOrderly (cleared rule) }
+    ensures server { (rule : RuleOf) (done : List Exchange) → IsOrderly rule →
+        (server : Server) × IsBetween server × HasWidths server (known_widths rule done) }
 {}
 
 /// Transactions and savepoints at their depths, by their texts.

@@ -7,6 +7,7 @@
 mod cache;
 pub mod laws;
 mod rule;
+mod texts;
 
 pub use cache::{Cache, Entry};
 pub use rule::Rule;
