@@ -1,0 +1,3 @@
+pub mod ExpectingLaws
+pub mod AcceptedLaws
+pub mod KindLaws

@@ -1,0 +1,4 @@
+pub mod CacheLaws
+pub mod TextLaws
+pub mod RowLaws
+pub mod OrderLaws

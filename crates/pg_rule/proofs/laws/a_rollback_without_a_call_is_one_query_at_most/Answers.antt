@@ -1,0 +1,12 @@
+use Rattle.pg_rule.proofs.TextLaws.{rollback_said}
+use Rattle.pg_rule.proofs.OrderLaws.{rolls_open, rolls_nothing}
+use Rattle.pg_rule.proofs.laws.a_rollback_without_a_call_is_one_query_at_most.Goals as goal
+
+pub returns-clause-open : goal.returns-clause-open
+returns-clause-open c = rolls_open
+
+pub returns-clause-said : goal.returns-clause-said
+returns-clause-said c rule = rollback_said rule.depth
+
+pub returns-clause-nothing : goal.returns-clause-nothing
+returns-clause-nothing c = rolls_nothing

@@ -1,0 +1,4 @@
+pub mod Caches
+pub mod Rules
+pub mod Texts
+pub mod Rows
