@@ -17,7 +17,7 @@ use Rattle.pg_wire.proofs.PartLaws.{heard-append}
 use Rattle.pg_stream.specs.Links.{LinkSeen, NoneFalls, GrewBy}
 use Rattle.pg_stream.specs.declared.stream.Front.{Front}
 use Rattle.pg_stream.specs.Streams.{StreamOf, StreamSeen, stream_by, Moves, AllMoved, Passes, IsFrontOf, IsHeardFront, AreAsynchronous, PollsAhead, PollsSend, SendGives, PendingCause}
-use Rattle.pg_stream.proofs.StreamLemmas.{NoneWaited-none, NoneWaited-then, Moves-none, Moves-then, AllMoved-none, AllMoved-then, WriteWaited-after, PendingCause-after, text_of-append, queues_by, took_frame, GrewBy-then, HeardCause-after}
+use Rattle.pg_stream.proofs.StreamLemmas.{NoneWaited-none, NoneWaited-then, Moves-none, Moves-then, AllMoved-none, AllMoved-then, WriteWaited-after, PendingCause-after, text_of-append, queues_by, took_frame, GrewBy-then, HeardCause-after, front_frame, IsFront-from_heard}
 use Rattle.pg_request.specs.Queries.{QueryText}
 use Rattle.pg_call.specs.declared.request.Request.{Request}
 use Rattle.pg_call.specs.declared.request.Request.TheVariants as requests
@@ -598,6 +598,13 @@ hears_row tag body a b (Err e) is takes copy goes stays refuses ledger = (rw is 
 pub framed_front : (held : List ℕ) (front : Front) (frame : Frame) (rest : List ℕ) → IsFrontOf held front frame rest → IsFrontOf held front (framed front.tag frame.body) rest
 framed_front held front frame rest is = subst (λ (t : ℕ). IsFrontOf held front (framed t frame.body) rest) is.tag is
 
+error_in : {A : Type 0} → Result A Error → Error
+error_in (Ok x) = errors.OutOfMemory
+error_in (Err e) = e
+
+pub same_error : {A : Type 0} (e : Error) → Err {T = A} e ≡ Err errors.OutOfMemory → e ≡ errors.OutOfMemory
+same_error e is = ap error_in is
+
 -- want of memory leaves the message at the front
 pub starves_message : (tag : ℕ) (body : List ℕ) (a : Running) → IsReplied a.call → RefusesMessage tag body a errors.OutOfMemory
 starves_message tag body a replied = by a.call refl replied
@@ -608,6 +615,11 @@ starves_message tag body a replied = by a.call refl replied
     by (calls.Asked asked) e h = absurd h
     by (calls.Waiting waiting) e h = absurd h
     by calls.Closing e h = absurd h
+
+pub starves_front : {A : Type 0} (a b : ConnOf A) (front : Front) (e : Error) → IsHeardFront a.stream.held front → IsReplied a.call → e ≡ errors.OutOfMemory → b.ledger ≡ a.ledger → HearsFront front a b (Err e)
+starves_front a b front e f replied oom same =
+    let is = front_frame a.stream.held front (IsFront-from_heard a.stream.held front f) in
+    (_, _, is, (rw oom (starves_message front.tag _ (running_of a) replied), same))
 
 pub taken_front : {A : Type 0} (seen : A → LinkSeen) (a m b : ConnOf A) (front : Front) (taken : Taken) → IsHeardFront a.stream.held front → (front.tag ≡ 71 → 57 ≤ a.stream.spare) → a.stream.unsent ≡ [] → m ≡ record a { ledger = m.ledger; call = m.call }
     → HearsFront front a m (Ok taken) → Accepts front taken.fails_copy m b → TakesBeat (seen_by seen a) (seen_by seen b) taken.beat

@@ -230,8 +230,10 @@ impl<L: Link> PgConnection<L> {
         ensures now { self.new ≡ record self.old { ledger = self.new.ledger; call = self.new.call } }
         ensures hears { HearsFront front self.old self.new result }
     {
-        let frame = self.stream.share(front)?;
-        self.running.take_row(self.alloc, frame)
+        match self.stream.share(front) {
+            Ok(frame) => self.running.take_row(self.alloc, frame),
+            Err(e) => Err(e),
+        }
     }
 
     // What the message at the front makes of the call.
