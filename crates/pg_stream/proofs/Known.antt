@@ -15,8 +15,8 @@ asked_again a n =
 
 pub AskedFor-then : (a b c : LinkSeen) → AskedFor a b → AskedFor b c → AskedFor a c
 AskedFor-then a b c p q = elim p [
-  | inl e ↦ elim q [ | inl f ↦ inl (f ∙ e) | inr f ↦ inr (f ∙ ap (λ (x : Asked). asked_with x 8192) e) ]
-  | inr e ↦ elim q [ | inl f ↦ inr (f ∙ e) | inr f ↦ inr (f ∙ ap (λ (x : Asked). asked_with x 8192) e ∙ asked_again a.asked 8192) ]
+  | inl e ↦ elim q [ inl f ↦ inl (f ∙ e) | inr f ↦ inr (f ∙ ap (λ (x : Asked). asked_with x 8192) e) ]
+  | inr e ↦ elim q [ inl f ↦ inr (f ∙ e) | inr f ↦ inr (f ∙ ap (λ (x : Asked). asked_with x 8192) e ∙ asked_again a.asked 8192) ]
 ]
 
 pub Appends-then : (a b c : Option (List ℕ)) (x y : List ℕ) → Appends a b x → Appends b c y → Appends a c (x ++ y)

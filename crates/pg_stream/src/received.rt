@@ -13,6 +13,9 @@ const READ_SIZE: usize = 8192;
 /// The room of a new block, beside the bytes that it takes over; a block that takes over more has as much room again.
 const BLOCK: usize = 65_536;
 
+/// What a new block is filled with, piece by piece.
+const ZEROS: [u8; 1024] = [0; 1024];
+
 /// What was received and is not taken yet. Reads go into a block that the buffer alone has. Once a part of it is to be kept, all
 /// that stands there is shared, and what is read later goes behind it or into another block: what was handed out stays as it is.
 #[derive(Drop)]
@@ -170,6 +173,15 @@ fn count_of(answer: LinkRead) -> usize
     }
 }
 
+// So many zeros, or some more.
+fn zeros(alloc: Global, count: usize) -> Result<Vec<u8>, AllocError> {
+    let mut zeros = Vec::with_capacity(alloc, count)?;
+    for _ in 0..count.div_ceil(ZEROS.len()) {
+        zeros.extend_from_slice(&ZEROS)?;
+    }
+    Ok(zeros)
+}
+
 // The bytes in a block of their own, with room behind them. One that would have more than is asked twice over is refused.
 fn block_of(alloc: Global, bytes: &[u8]) -> Result<BytesMut, AllocError>
     ensures bytes { IfOk result (λ b. b.items ≡ bytes.now) }
@@ -177,7 +189,8 @@ fn block_of(alloc: Global, bytes: &[u8]) -> Result<BytesMut, AllocError>
     ensures room { IfOk result (λ b. b.spare ≤ room_for (length bytes.now)) }
 {
     let room = bytes.len().max(BLOCK);
-    let mut block = BytesMut::with_capacity(alloc, bytes.len().saturating_add(room))?;
+    let mut block = BytesMut::from_vec(zeros(alloc, bytes.len().saturating_add(room))?);
+    block.clear();
     block.extend_from_slice(bytes)?;
     let spare = block.capacity() - block.len();
     if spare < READ_SIZE || spare / 2 >= room {

@@ -15,8 +15,7 @@ returns-clause-reads g c =
     let clear = rw (← c.self.view_is) at c.requires.open in
     let long : length c.advance_mut.new.self.items ≡ c.len-len.result + 8192 = omega (arith, c.advance_mut.ensures.len, c.len-len.ensures.value) in
     let fits = size_fits _ _ c.read-answer.result c.read-answer.new.into c.read-answer.ensures in
-    let items = c.truncate.ensures.items ∙ filled old c.advance_mut.new.self.items c.as_mut_slice.result.now c.read-answer.new.into _ _ c.len-len.result c.count_of.result c.read-answer.result c.len-len.ensures.value c.advance_mut.ensures.front long c.as_mut_slice.ensures.value asked fits c.count_of.ensures in
-    (
+    let items = c.truncate.ensures.items ∙ filled old c.advance_mut.new.self.items c.as_mut_slice.result.now c.read-answer.new.into _ _ c.len-len.result c.count_of.result c.read-answer.result c.len-len.ensures.value c.advance_mut.ensures.front long c.as_mut_slice.ensures.value asked fits c.count_of.ensures in (
       c.read-answer.new.into,
       c.read-answer.ensures,
       asked,
