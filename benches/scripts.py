@@ -1,35 +1,56 @@
 """Writes a long script to standard output.
 
-  scripts.py steps N   N calls, each with a reply of its own
-  scripts.py rows N    one call, whose reply has N rows, each a piece of its own
+  scripts.py steps N                  N calls, each with a reply of its own
+  scripts.py rows N [CALL [COLUMNS]]  one call, `execute` if none is said, whose reply has N rows of so many int columns, one if
+                                      no number is said, each row a piece of its own
 """
+import struct
 import sys
 
-GREETING = r'R\x00\x00\x00\x08\x00\x00\x00\x00Z\x00\x00\x00\x05I'
-FIELDS = (r'T\x00\x00\x00!\x00\x01?column?\x00\x00\x00\x00\x00\x00\x00\x00\x00\x00\x17\x00\x04'
-          r'\xff\xff\xff\xff\x00\x00')
-ROW = r'D\x00\x00\x00\x0b\x00\x01\x00\x00\x00\x011'
-END = r'C\x00\x00\x00\x0dSELECT 1\x00Z\x00\x00\x00\x05I'
+COLUMN = struct.pack('>ihihih', 0, 0, 23, 4, -1, 0)
+
+
+def spelled(data):
+    plain = range(32, 127)
+    return ''.join(chr(b) if b in plain and b not in b'"\\' else f'\\x{b:02x}' for b in data)
+
+
+def message(tag, body):
+    return tag + struct.pack('>i', 4 + len(body)) + body
+
+
+def fields(names):
+    return message(b'T', struct.pack('>h', len(names)) + b''.join(name + b'\0' + COLUMN for name in names))
+
+
+def row(values):
+    return message(b'D', struct.pack('>h', len(values)) + b''.join(struct.pack('>i', len(v)) + v for v in values))
+
+
+READY = message(b'Z', b'I')
+GREETING = message(b'R', struct.pack('>i', 0)) + READY
+END = message(b'C', b'SELECT 1\0') + READY
+NAMES = [b'?column?', b'id', b'owner', b'amount', b'parts']
+VALUES = [b'1', b'204', b'31', b'70000', b'6']
 
 
 def server(piece):
-    return f'server "{piece}"\n'
+    return f'server "{spelled(piece)}"\n'
 
 
 def steps(count):
-    call = server(FIELDS + ROW + END) + 'step 9 fetch_all raw "SELECT 1"\n'
-    return call * count
+    return (server(fields(NAMES[:1]) + row(VALUES[:1]) + END) + 'step 9 fetch_all raw "SELECT 1"\n') * count
 
 
-def rows(count):
-    return (server(FIELDS) + server(ROW) * count + server(END)
-            + 'step 4000000000 execute raw "SELECT 1"\n')
+def rows(count, call='execute', columns='1'):
+    many = int(columns)
+    return (server(fields(NAMES[:many])) + server(row(VALUES[:many])) * count + server(END)
+            + f'step 4000000000 {call} raw "SELECT 1"\n')
 
 
-def main():
-    kind, count = sys.argv[1], int(sys.argv[2])
-    body = {'steps': steps, 'rows': rows}[kind](count)
-    sys.stdout.write('user "u"\n' + server(GREETING) + body)
+def script(kind, count, *more):
+    return 'user "u"\n' + server(GREETING) + {'steps': steps, 'rows': rows}[kind](count, *more)
 
 
-main()
+if __name__ == '__main__':
+    sys.stdout.write(script(sys.argv[1], int(sys.argv[2]), *sys.argv[3:]))

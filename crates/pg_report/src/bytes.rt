@@ -3,9 +3,9 @@ ghost use Rattle.std.specs.Char.{digit_char};
 ghost use Rattle.std.specs.Fmt.{decimal};
 ghost use Rattle.pg_report.specs.Bytes.{hex, hex_byte, hex_or_dash, quoted_text, quoted_byte, named_number, behind_comma, numbers_or_dash};
 
+use itoa::Buffer;
 use pg_wire::Oid;
 use std::alloc::AllocError;
-use std::fmt::Write;
 
 // A lower-case hexadecimal digit.
 fn digit(n: u8) -> char
@@ -30,7 +30,8 @@ pub(crate) fn put_byte(out: &mut String, byte: u8) -> Result<(), AllocError>
 pub(crate) fn put_number(out: &mut String, n: u64) -> Result<(), AllocError>
     ensures { OnOk result (string_bytes out.new ≡ string_bytes out.old ++ decimal n) }
 {
-    write!(out, "{n}")
+    let mut digits = Buffer::new();
+    out.push_str(digits.format(n))
 }
 
 fn put_hex(out: &mut String, bytes: &[u8]) -> Result<(), AllocError>

@@ -5,13 +5,13 @@ use Rattle.std.proofs.lemmas.Bool.Decides.{nat_tests}
 use Rattle.pg_script.specs.declared.token.Token.{Token}
 use Rattle.pg_script.specs.declared.token.Token.TheVariants.{Space, Word, Number, SslMode, Text}
 use Rattle.pg_script.specs.declared.token.Keyword.{Keyword}
-use Rattle.pg_script.specs.declared.lexer.Mode.{Mode}
-use Rattle.pg_script.specs.declared.lexer.Mode.TheVariants as modes
+use Rattle.pg_script.specs.Lexing.{Mode}
+use Rattle.pg_script.specs.Lexing.{Mode as modes}
 use Rattle.pg_options.specs.declared.ssl_mode.PgSslMode.{PgSslMode}
 use Rattle.pg_options.specs.SslModes.{ssl_mode_from}
 use Rattle.pg_script.specs.Reading.{◌>>=◌, run}
 use Rattle.pg_script.specs.Words.{spelling_of, number_of, keyword_of, all_words, token_of, digits_after, is_digit}
-use Rattle.pg_script.specs.Lexing.{LexerState, step, finish, tokens_in}
+use Rattle.pg_script.specs.Lexing.{step, finish, tokens_in, at, lexed}
 use Rattle.std.specs.Prelude.{◌&&◌, not}
 use Rattle.std.specs.List.{list_all}
 use Rattle.pg_script.specs.Grammar.{IsCharacter, IsText, IsNumber, SpellsToken, SpellsAll}
@@ -22,12 +22,6 @@ use Rattle.pg_script.proofs.ModeLaws.{mode_word, mode_utf8}
 use Rattle.pg_script.proofs.SpellingLaws.{none_some, unless, number_of-again, ordinary_tests, hex_value-again, byte_halves}
 use Rattle.pg_wire.proofs.Tests.{both_true, negated, guarded}
 use Rattle.pg_script.proofs.GrammarLaws.{bind_some}
-
-abbrev at : List Token → List ℕ → Mode → LexerState
-at ts held mode = record { tokens = ts; held = held; mode = mode }
-
-abbrev lexed : LexerState → List ℕ → Option (List Token)
-lexed s bytes = run step finish s bytes
 
 -- ---- texts
 

@@ -7,14 +7,14 @@ use Rattle.std.proofs.lemmas.Bool.{eqb-true}
 use Rattle.pg_script.specs.declared.token.Token.{Token}
 use Rattle.pg_script.specs.declared.token.Token.TheVariants as tokens
 use Rattle.pg_script.specs.declared.token.Keyword.{Keyword}
-use Rattle.pg_script.specs.declared.lexer.Mode.{Mode}
-use Rattle.pg_script.specs.declared.lexer.Mode.TheVariants as modes
+use Rattle.pg_script.specs.Lexing.{Mode}
+use Rattle.pg_script.specs.Lexing.{Mode as modes}
 use Rattle.pg_options.specs.declared.ssl_mode.PgSslMode.{PgSslMode}
 use Rattle.pg_options.specs.SslModes.{ssl_mode_from}
 use Rattle.pg_script.specs.Reading.{run}
 use Rattle.pg_script.specs.Arguments.{text_in}
 use Rattle.pg_script.specs.Words.{spelling_of, number_of, first_of, keyword_of, keyword_among, all_words, mode_of, token_of}
-use Rattle.pg_script.specs.Lexing.{LexerState, start_state, hex_value, word_in, with_byte, with_mode, step_word, step_text, step_escape, step_digit, step_in, step, finish_in, finish, tokens_in}
+use Rattle.pg_script.specs.Lexing.{LexerState, start_state, hex_value, word_in, with_byte, with_mode, step_word, step_text, step_escape, step_digit, step_in, step, finish_in, finish, tokens_in, at}
 use Rattle.pg_script.specs.Grammar.{IsCharacter, IsText, SpellsToken, SpellsAll}
 use Rattle.pg_script.proofs.SpellingLaws.{none_some, bytes_eq-is, number_of-takes, ordinary_from, hex_pair-takes}
 use Rattle.pg_wire.proofs.Tests.{chosen, guarded}
@@ -72,9 +72,6 @@ Partial (modes.Low x) held r = (a : List ℕ) × (h : ℕ) × IsText held a × (
 -- the bytes read so far are the tokens, and a part of one
 abbrev pub Holds : LexerState → List ℕ → Type 0
 Holds s p = (q r : List ℕ) × SpellsAll s.tokens q × Partial s.mode s.held r × (p ≡ q ++ r)
-
-abbrev at : List Token → List ℕ → Mode → LexerState
-at ts held mode = record { tokens = ts; held = held; mode = mode }
 
 held_word : (ts : List Token) (held p q : List ℕ) (mode : Mode) (t : LexerState) → SpellsAll ts q → p ≡ q ++ held → word_in held (at ts held mode) ≡ Some t
     → (us : List Token) × (at us [] mode ≡ t) × SpellsAll us p

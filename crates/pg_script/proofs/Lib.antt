@@ -1,5 +1,4 @@
 pub mod TextLaws
-pub mod Runs
 pub mod LineLaws
 pub mod ReadLaws
 pub mod Apart
@@ -9,6 +8,7 @@ pub mod GrammarLaws
 pub mod SpellingLaws
 pub mod ModeLaws
 pub mod LexerTakes
+pub mod LexerSteps
 pub mod LexerAgain
 pub mod ScriptLaws
 pub mod LiveLaws

@@ -1,23 +1,36 @@
 -- A text and its lines.
-use Rattle.std.proofs.Common.{ℕ, ◌≡◌, List, [], ◌∷◌, ◌++◌, Bool, true, false, cond, nat_eq, refl, ap, ◌∙◌, arith}
+use Rattle.std.proofs.Common.{ℕ, zero, suc, ◌≡◌, ◌<◌, List, [], ◌∷◌, ◌++◌, Bool, true, false, cond, nat_eq, length, take, drop, refl, ap, ◌∙◌, arith}
 use Rattle.std.specs.List.{list_any}
+use Rattle.std.proofs.lemmas.List.{take_all, drop_all}
 use Rattle.std.proofs.lemmas.Bool.{eqb-true}
 use Rattle.std.proofs.lemmas.Bool.Decides.{nat_tests}
-use Rattle.pg_script.specs.Scripts.{onto_first, lines_of}
+use Rattle.memchr.specs.Find.{Passes, Nowhere, is_byte}
+use Rattle.pg_script.specs.Scripts.{onto_first, lines_of, lines_behind}
 use Rattle.pg_script.specs.Grammar.{AreLines}
-use Rattle.pg_wire.proofs.Tests.{neither_true}
+use Rattle.pg_wire.proofs.Tests.{neither_true, not_true}
 
-abbrev pub onto_front : List ℕ → List (List ℕ) → List (List ℕ)
-onto_front front [] = front ∷ []
-onto_front front (l ∷ ls) = (front ++ l) ∷ ls
+-- ---- where the first line ends
 
-first_front : (b : ℕ) (ls : List (List ℕ)) → onto_first b ls ≡ onto_front [] (onto_first b ls)
-first_front b [] = refl
-first_front b (l ∷ ls) = refl
+no_feed_first : (b : ℕ) (bs : List ℕ) (n : ℕ) → Nowhere (Passes (is_byte 10) (b ∷ bs)) 0 (suc n) → nat_eq b 10 ≡ false
+no_feed_first b bs n h = not_true (nat_eq b 10) (λ e. h 0 (omega arith) (omega arith) e)
 
-pub no_front : (bs : List ℕ) → lines_of bs ≡ onto_front [] (lines_of bs)
-no_front [] = refl
-no_front (b ∷ bs) = (elim (nat_eq b 10) as (λ t. cond t ([] ∷ lines_of bs) (onto_first b (lines_of bs)) ≡ onto_front [] (cond t ([] ∷ lines_of bs) (onto_first b (lines_of bs)))) [ true ↦ refl | false ↦ first_front b (lines_of bs) ])
+no_feed_behind : (b : ℕ) (bs : List ℕ) (n : ℕ) → Nowhere (Passes (is_byte 10) (b ∷ bs)) 0 (suc n) → Nowhere (Passes (is_byte 10) bs) 0 n
+no_feed_behind b bs n h = λ k le lt p. h (suc k) (omega arith) (omega (arith, lt)) p
+
+pub cut_at : (n : ℕ) (text : List ℕ) → n < length text → Nowhere (Passes (is_byte 10) text) 0 n → Passes (is_byte 10) text n → lines_of text ≡ take n text ∷ lines_behind (drop n text)
+cut_at n [] lt h p = absurd (omega (arith, lt))
+cut_at zero (b ∷ bs) lt h p = rw p refl
+cut_at (suc n) (b ∷ bs) lt h p = rw (no_feed_first b bs n h) (ap (onto_first b) (cut_at n bs (omega (arith, lt)) (no_feed_behind b bs n h) p))
+
+uncut : (text : List ℕ) → Nowhere (Passes (is_byte 10) text) 0 (length text) → lines_of text ≡ text ∷ []
+uncut [] h = refl
+uncut (b ∷ bs) h = rw (no_feed_first b bs (length bs) h) (ap (onto_first b) (uncut bs (no_feed_behind b bs (length bs) h)))
+
+pub uncut_all : (text : List ℕ) → Nowhere (Passes (is_byte 10) text) 0 (length text) → lines_of text ≡ take (length text) text ∷ lines_behind (drop (length text) text)
+uncut_all text h =
+    let front = take_all (length text) text (omega arith) in
+    let back = drop_all (length text) text (omega arith) in
+    rw (front, back) (uncut text h)
 
 -- ---- the lines joined again are the text
 

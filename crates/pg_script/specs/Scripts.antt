@@ -1,5 +1,5 @@
 -- A script, read line by line.
-use Rattle.std.specs.Prelude.{Bool, true, false, ◌≡◌, ◌+◌, ◌∷◌, ◌++◌, [], List, ℕ, Option, Some, None, Result, Ok, Err, nat_eq, nat_lt, length, replicate, unwrap_or, if◌then◌else◌}
+use Rattle.std.specs.Prelude.{Bool, true, false, ◌≡◌, ◌+◌, ◌∷◌, ◌++◌, [], List, ℕ, Option, Some, None, Result, Ok, Err, nat_eq, nat_lt, length, unwrap_or, if◌then◌else◌}
 use Rattle.pg_stream.specs.declared.events.ReadEvent.{ReadEvent}
 use Rattle.pg_stream.specs.declared.events.ReadEvent.TheVariants as reads
 use Rattle.pg_stream.specs.declared.events.WriteEvent.{WriteEvent}
@@ -37,8 +37,8 @@ empty_script = record {
 abbrev pub with_event : Script → ReadEvent → Option Script
 with_event s e = Some (record s { events = s.events ++ e ∷ [] })
 
-abbrev pub with_writes : Script → List WriteEvent → Option Script
-with_writes s es = Some (record s { writes = s.writes ++ es })
+abbrev pub with_write : Script → WriteEvent → Option Script
+with_write s e = Some (record s { writes = s.writes ++ e ∷ [] })
 
 abbrev pub with_step : Script → Step → Option Script
 with_step s step = Some (record s { steps = s.steps ++ step ∷ [] })
@@ -68,9 +68,9 @@ add s (lines.Server bytes) = with_event s (reads.Piece bytes)
 add s lines.Wait = with_event s reads.Wait
 add s lines.End = with_event s reads.End
 add s lines.Fail = with_event s reads.Fail
-add s (lines.Take bytes times) = with_writes s (replicate times (writes.Take bytes))
-add s lines.Hold = with_writes s (writes.Wait ∷ [])
-add s lines.Break = with_writes s (writes.Fail ∷ [])
+add s (lines.Take bytes times) = with_write s (writes.Take bytes times)
+add s lines.Hold = with_write s writes.Wait
+add s lines.Break = with_write s writes.Fail
 add s (lines.Start polls) = set_once s.start_polls polls >>= λ start_polls. Some (record s { start_polls = start_polls })
 add s (lines.Step polls most call) = with_step s (record { call = call; polls = polls; most = unwrap_or most 4294967295 })
 

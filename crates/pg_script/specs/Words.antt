@@ -45,10 +45,9 @@ spelling_of words.Ping = codes "ping"
 spelling_of words.Flush = codes "flush"
 
 abbrev pub all_words : List Keyword
-all_words = words.User ∷ words.Password ∷ words.Database ∷ words.Application ∷ words.Option ∷ words.SslMode ∷ words.Digits ∷ words.None ∷ words.Link ∷ words.Upgrade ∷ words.Local ∷ words.Nonce
-    ∷ words.Server ∷ words.Wait ∷ words.End ∷ words.Fail ∷ words.Take ∷ words.Hold ∷ words.Break
-    ∷ words.Start ∷ words.Step ∷ words.Most ∷ words.Raw ∷ words.Execute ∷ words.ExecuteMany ∷ words.Fetch ∷ words.FetchMany
-    ∷ words.FetchAll ∷ words.FetchOptional ∷ words.FetchOne ∷ words.Ping ∷ words.Flush ∷ []
+all_words = words.Step ∷ words.Server ∷ words.Raw ∷ words.Wait ∷ words.Execute ∷ words.Fetch ∷ words.FetchAll ∷ words.FetchOne ∷ words.FetchOptional ∷ words.FetchMany ∷ words.ExecuteMany ∷ words.Ping
+    ∷ words.Flush ∷ words.Most ∷ words.Take ∷ words.Hold ∷ words.End ∷ words.Fail ∷ words.Break ∷ words.Start ∷ words.User ∷ words.Password
+    ∷ words.Database ∷ words.Application ∷ words.Option ∷ words.SslMode ∷ words.Digits ∷ words.None ∷ words.Link ∷ words.Upgrade ∷ words.Local ∷ words.Nonce ∷ []
 
 abbrev pub is_digit : ℕ → Bool
 is_digit b = nat_le 48 b && nat_le b 57

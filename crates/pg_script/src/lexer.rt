@@ -1,47 +1,22 @@
-ghost use Rattle.std.specs.Prelude.{◌≡◌, ◌<◌, [], ◌∷◌, ◌++◌, Some, IfSome};
+ghost use Rattle.std.specs.Prelude.{◌≡◌, ◌<◌, ◌≤◌, [], ◌∷◌, ◌++◌, List, Some, IfSome, length, take, drop, option_map};
 ghost use Rattle.pg_script.specs.Reading.{Gives};
-ghost use Rattle.pg_script.specs.Lexing.{step, finish, start_state, tokens_in, hex_value, step_word, step_text, step_escape, step_digit, with_byte, after_word};
-ghost use Rattle.pg_script.specs.declared.lexer.Mode.TheVariants.{Word, Text, Escape, High, Low};
+ghost use Rattle.pg_script.specs.Lexing.{hex_value, coded, escaped, character, after, ends_word, tokens_in, at, after_word, EndsWord, Quotes, GoesOn};
+ghost use Rattle.pg_script.specs.Lexing.{Mode as modes};
+ghost use Rattle.pg_script.specs.declared.token.Token.{Token};
 
 use crate::error::LineError;
 use crate::token::Token;
 use crate::words::token_of;
 use pg_wire::Blob;
 use std::alloc::Global;
-use std::marker::Model;
-use std::mem;
 
-/// What the next byte belongs to.
-#[derive(Clone, Copy)]
-enum Mode {
-    /// A word, or nothing yet.
-    Word,
-    Text,
-    /// Behind a backslash.
-    Escape,
-    /// The first digit of a byte.
-    High,
-    /// The second digit, behind the first one.
-    Low(u8),
-}
-
-/// A line that is read byte by byte: the tokens so far, and the bytes of the one that is being read.
+/// Cuts lines into tokens, one line after the other in the same memory.
 #[derive(Drop)]
-struct Lexer {
+pub(crate) struct Lexer {
     alloc: Global,
     tokens: Vec<Token>,
-    held: Blob,
-    mode: Mode,
-}
-
-impl Model for Lexer {
-    ghost use Rattle.pg_script.specs.Lexing.{LexerState, IsSmall};
-
-    ghost Value = { LexerState };
-
-    ghost view = { λ l. record { tokens = l.tokens.items; held = l.held; mode = l.mode } };
-
-    ghost invariant = { λ l. IsSmall l.mode };
+    // The bytes that a quoted text means.
+    text: Vec<u8>,
 }
 
 // The value of a lower-case hexadecimal digit.
@@ -56,157 +31,156 @@ fn hex_value(digit: u8) -> Option<u8>
     }
 }
 
+// The byte that two digits say, and what stands behind them.
+fn coded(bytes: &[u8]) -> Option<(u8, &[u8])>
+    ensures { option_map (λ c. (c.0, c.1.now)) result ≡ coded bytes.now }
+{
+    match bytes {
+        [high, low, rest @ ..] => {
+            let high = hex_value(*high)?;
+            let low = hex_value(*low)?;
+            Some((high * 16 + low, rest))
+        }
+        _ => None,
+    }
+}
+
+// The byte that is said behind a backslash.
+fn escaped(bytes: &[u8]) -> Option<(u8, &[u8])>
+    ensures { option_map (λ c. (c.0, c.1.now)) result ≡ escaped bytes.now }
+{
+    match bytes {
+        [b'x', rest @ ..] => coded(rest),
+        [byte @ (b'"' | b'\\'), rest @ ..] => Some((*byte, rest)),
+        _ => None,
+    }
+}
+
+// The first byte that a text means, and what stands behind its spelling.
+fn character(bytes: &[u8]) -> Option<(u8, &[u8])>
+    ensures { option_map (λ c. (c.0, c.1.now)) result ≡ character bytes.now }
+{
+    match bytes {
+        [b'\\', rest @ ..] => escaped(rest),
+        [byte @ b' '..=b'~', rest @ ..] => Some((*byte, rest)),
+        _ => None,
+    }
+}
+
+// What stands behind a byte, where it stands first.
+fn after(first: u8, bytes: &[u8]) -> Option<&[u8]>
+    ensures { option_map (λ r. r.now) result ≡ after first bytes.now }
+{
+    match bytes {
+        [byte, rest @ ..] if *byte == first => Some(rest),
+        _ => None,
+    }
+}
+
+// Reads a text behind its first quote; answers what stands behind its last one.
+fn read_text<'t>(value: &mut Vec<u8>, text: &'t [u8]) -> Result<&'t [u8], LineError>
+    ensures { Quotes (λ r. r.now) text.now value.new.items result }
+{
+    value.clear();
+    value.reserve(text.len())?;
+    let mut rest = text;
+    loop {
+        if let Some(behind) = after(b'"', rest) {
+            return Ok(behind);
+        }
+        let Some((byte, behind)) = character(rest) else {
+            return Err(LineError::Bad);
+        };
+        value.push_reserved(byte);
+        rest = behind;
+    }
+}
+
+// A space or a quote.
+fn ends_word(byte: u8) -> bool
+    ensures { result ≡ ends_word byte }
+{
+    byte == b' ' || byte == b'"'
+}
+
+// Where a word ends, which may have no bytes.
+fn word_end(bytes: &[u8]) -> usize
+    ensures bound { result ≤ length bytes.now }
+    ensures ends { EndsWord bytes.now (take result bytes.now) (drop result bytes.now) }
+{
+    for (i, byte) in bytes.iter().enumerate() {
+        if ends_word(*byte) {
+            return i;
+        }
+    }
+    bytes.len()
+}
+
 impl Lexer {
-    fn new(alloc: Global) -> Self
-        ensures { result ≡ start_state }
-    {
+    pub(crate) fn new(alloc: Global) -> Self {
         Lexer {
             alloc,
             tokens: Vec::new(alloc),
-            held: Blob::new(alloc),
-            mode: Mode::Word,
+            text: Vec::new(alloc),
         }
     }
 
-    fn hold(&mut self, byte: u8) -> Result<(), LineError>
-        ensures { Gives (λ _. self.new) result (Some (with_byte self.old byte)) }
-    {
-        self.held.append(&[byte])?;
-        self.mode = Mode::Text;
-        Ok(())
-    }
-
-    // Takes what is held.
-    fn take_held(&mut self) -> Blob
-        ensures taken { result ≡ self.old.held }
-        ensures left { self.new ≡ record self.old { held = [] } }
-    {
-        mem::replace(&mut self.held, Blob::new(self.alloc))
-    }
-
-    // Ends the word that is held.
-    fn end_word(&mut self) -> Result<(), LineError>
-        ensures { Gives (λ _. self.new) result (after_word self.old) }
-    {
-        if self.held.is_empty() {
-            return Ok(());
-        }
-        let held = self.take_held();
-        match token_of(held.as_bytes()) {
-            Some(token) => {
-                self.tokens.push(token)?;
-                Ok(())
-            }
-            None => Err(LineError::Bad),
-        }
-    }
-
-    fn push_token(&mut self, token: Token) -> Result<(), LineError>
-        ensures { Gives (λ _. self.new) result (Some (record self.old { tokens = self.old.tokens ++ token ∷ [] })) }
+    fn push(&mut self, token: Token) -> Result<(), LineError>
+        ensures { Gives (λ _. self.new.tokens.items) result (Some (self.old.tokens.items ++ token ∷ [])) }
     {
         self.tokens.push(token)?;
         Ok(())
     }
 
-    fn step_word(&mut self, byte: u8) -> Result<(), LineError>
-        ensures { Gives (λ _. self.new) result (step_word self.old byte) }
+    // Adds the token that a word is, if there is a word.
+    fn push_word(&mut self, word: &[u8]) -> Result<(), LineError>
+        ensures { Gives (λ _. at self.new.tokens.items [] modes.Word) result (after_word (at self.old.tokens.items word.now modes.Word)) }
     {
-        match byte {
-            b' ' => {
-                self.end_word()?;
-                self.push_token(Token::Space)
-            }
-            b'"' => {
-                self.end_word()?;
-                self.mode = Mode::Text;
-                Ok(())
-            }
-            _ => {
-                self.held.append(&[byte])?;
-                Ok(())
-            }
+        if word.is_empty() {
+            return Ok(());
+        }
+        match token_of(word) {
+            Some(token) => self.push(token),
+            None => Err(LineError::Bad),
         }
     }
 
-    fn step_text(&mut self, byte: u8) -> Result<(), LineError>
-        ensures { Gives (λ _. self.new) result (step_text self.old byte) }
+    // Adds the token that a text is, behind its first quote; answers what stands behind its last one.
+    fn push_text<'t>(&mut self, text: &'t [u8]) -> Result<&'t [u8], LineError>
+        ensures { GoesOn (λ r. r.now) (at self.old.tokens.items [] modes.Text) text.now self.new.tokens.items result }
     {
-        match byte {
-            b'"' => {
-                let text = self.take_held();
-                self.mode = Mode::Word;
-                self.push_token(Token::Text(text))
-            }
-            b'\\' => {
-                self.mode = Mode::Escape;
-                Ok(())
-            }
-            b' '..=b'~' => self.hold(byte),
-            _ => Err(LineError::Bad),
-        }
+        let rest = read_text(&mut self.text, text)?;
+        let value = Blob::from_slice(self.alloc, &self.text)?;
+        self.tokens.push(Token::Text(value))?;
+        Ok(rest)
     }
 
-    fn step_escape(&mut self, byte: u8) -> Result<(), LineError>
-        ensures { Gives (λ _. self.new) result (step_escape self.old byte) }
+    /// The tokens of a line.
+    pub(crate) fn tokens_in(&mut self, line: &[u8]) -> Result<&[Token], LineError>
+        ensures { Gives (λ ts. ts.now) result (tokens_in line.now) }
     {
-        match byte {
-            b'"' | b'\\' => self.hold(byte),
-            b'x' => {
-                self.mode = Mode::High;
-                Ok(())
+        self.read(line)?;
+        Ok(&self.tokens)
+    }
+
+    fn read(&mut self, line: &[u8]) -> Result<(), LineError>
+        ensures { Gives (λ _. self.new.tokens.items) result (tokens_in line.now) }
+    {
+        self.tokens.clear();
+        let mut rest = line;
+        loop {
+            let (word, behind) = rest.split_at(word_end(rest));
+            self.push_word(word)?;
+            match after(b' ', behind) {
+                Some(next) => {
+                    self.push(Token::Space)?;
+                    rest = next;
+                }
+                None => match after(b'"', behind) {
+                    Some(text) => rest = self.push_text(text)?,
+                    None => return Ok(()),
+                },
             }
-            _ => Err(LineError::Bad),
         }
     }
-
-    fn step_digit(&mut self, high: Option<u8>, byte: u8) -> Result<(), LineError>
-        requires { IfSome high (λ h. h < 16) }
-        ensures { Gives (λ _. self.new) result (step_digit high self.old byte) }
-    {
-        match (high, hex_value(byte)) {
-            (_, None) => Err(LineError::Bad),
-            (None, Some(digit)) => {
-                self.mode = Mode::Low(digit);
-                Ok(())
-            }
-            (Some(high), Some(digit)) => self.hold(high * 16 + digit),
-        }
-    }
-
-    #[tactic(auto, unfolding(crate::specs::Lexing::step))]
-    fn step(&mut self, byte: u8) -> Result<(), LineError>
-        ensures { Gives (λ _. self.new) result (step self.old byte) }
-    {
-        match self.mode {
-            Mode::Word => self.step_word(byte),
-            Mode::Text => self.step_text(byte),
-            Mode::Escape => self.step_escape(byte),
-            Mode::High => self.step_digit(None, byte),
-            Mode::Low(high) => self.step_digit(Some(high), byte),
-        }
-    }
-
-    #[tactic(auto, unfolding(crate::specs::Lexing::finish))]
-    fn finish(mut self) -> Result<Vec<Token>, LineError>
-        ensures { Gives (λ v. v.items) result (finish self) }
-    {
-        match self.mode {
-            Mode::Word => {
-                self.end_word()?;
-                Ok(self.tokens)
-            }
-            _ => Err(LineError::Bad),
-        }
-    }
-}
-
-/// The tokens of a line.
-pub(crate) fn tokens_in(alloc: Global, line: &[u8]) -> Result<Vec<Token>, LineError>
-    ensures { Gives (λ v. v.items) result (tokens_in line.now) }
-{
-    let mut lexer = Lexer::new(alloc);
-    for byte in line {
-        lexer.step(*byte)?;
-    }
-    lexer.finish()
 }

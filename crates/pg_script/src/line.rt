@@ -7,7 +7,7 @@ use crate::arguments::{
     raw_arg, text_arg,
 };
 use crate::error::LineError;
-use crate::lexer::tokens_in;
+use crate::lexer::Lexer;
 use crate::nonce::Nonce;
 use crate::step::Call;
 use crate::token::{Keyword, Token};
@@ -163,7 +163,7 @@ fn line_from(alloc: Global, tokens: &[Token]) -> Result<Line, LineError>
 }
 
 /// What a line says, which is given without its line feed.
-pub(crate) fn line_in(alloc: Global, line: &[u8]) -> Result<Line, LineError>
+pub(crate) fn line_in(alloc: Global, lexer: &mut Lexer, line: &[u8]) -> Result<Line, LineError>
     ensures { Gives (λ l. l) result (line_in line.now) }
 {
     match line {
@@ -176,8 +176,8 @@ pub(crate) fn line_in(alloc: Global, line: &[u8]) -> Result<Line, LineError>
             }
         }
         _ => {
-            let tokens = tokens_in(alloc, line)?;
-            line_from(alloc, &tokens)
+            let tokens = lexer.tokens_in(line)?;
+            line_from(alloc, tokens)
         }
     }
 }

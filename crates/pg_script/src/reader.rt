@@ -5,8 +5,10 @@ ghost use Rattle.pg_script.specs.Grammar.{Says, Reads, Refuses, SaysLive, ReadsL
 
 use crate::error::{LineError, ReadError};
 use crate::kind::Kind;
+use crate::lexer::Lexer;
 use crate::live::LiveScript;
 use crate::script::Script;
+use memchr::memchr;
 use std::alloc::Global;
 
 /// The most bytes of a script.
@@ -17,12 +19,10 @@ fn line_end(text: &[u8]) -> usize
     ensures bound { result ≤ length text.now }
     ensures cut { lines_of text.now ≡ take result text.now ∷ lines_behind (drop result text.now) }
 {
-    for (i, byte) in text.iter().enumerate() {
-        if *byte == b'\n' {
-            return i;
-        }
+    match memchr(b'\n', text) {
+        Some(end) => end,
+        None => text.len(),
     }
-    text.len()
 }
 
 fn read_lines(alloc: Global, kind: Kind, text: &[u8]) -> Result<Script, ReadError>
@@ -30,11 +30,12 @@ fn read_lines(alloc: Global, kind: Kind, text: &[u8]) -> Result<Script, ReadErro
     ensures { ReadsAs result (read_from kind 0 empty_script (lines_of text.now)) }
 {
     let mut script = Script::new(alloc);
+    let mut lexer = Lexer::new(alloc);
     let mut rest = text;
     let mut number = 0u64;
     loop {
         let (line, behind) = rest.split_at(line_end(rest));
-        match script.add_line(alloc, kind, line) {
+        match script.add_line(alloc, &mut lexer, kind, line) {
             Ok(()) => {}
             Err(LineError::Bad) => return Err(ReadError::BadLine(number + 1)),
             Err(LineError::OutOfMemory) => return Err(ReadError::OutOfMemory),
@@ -56,8 +57,8 @@ fn read_limited(alloc: Global, kind: Kind, text: &[u8]) -> Result<Script, ReadEr
     read_lines(alloc, kind, text)
 }
 
-/// Reads a script, in time and memory that grow with its length and with what its `take` lines count. Nothing in it is
-/// required: a text without any line is the empty script.
+/// Reads a script, in time and memory that grow with its length. Nothing in it is required: a text without any line is the
+/// empty script.
 pub fn read_script(alloc: Global, text: &[u8]) -> Result<Script, ReadError>
     // A script that is read is one that the text spells; a bad line is the text's first one.
     ensures says { Says result text.now }

@@ -1,9 +1,10 @@
-ghost use Rattle.std.specs.Prelude.{◌≡◌, ◌∷◌, [], replicate};
+ghost use Rattle.std.specs.Prelude.{◌≡◌};
 ghost use Rattle.pg_script.specs.Reading.{Gives};
-ghost use Rattle.pg_script.specs.Scripts.{add, add_allowed, add_line, empty_script, with_event, with_writes, with_step, with_option, set_once};
+ghost use Rattle.pg_script.specs.Scripts.{add, add_allowed, add_line, empty_script, with_event, with_write, with_step, with_option, set_once};
 
 use crate::error::LineError;
 use crate::kind::Kind;
+use crate::lexer::Lexer;
 use crate::line::{Line, line_in};
 use crate::nonce::Nonce;
 use crate::step::Step;
@@ -89,18 +90,9 @@ impl Script {
     }
 
     fn push_write(&mut self, event: WriteEvent) -> Result<(), LineError>
-        ensures { Gives (λ _. self.new) result (with_writes self.old (event ∷ [])) }
+        ensures { Gives (λ _. self.new) result (with_write self.old event) }
     {
         self.writes.push(event)?;
-        Ok(())
-    }
-
-    fn push_writes(&mut self, event: WriteEvent, times: u32) -> Result<(), LineError>
-        ensures { Gives (λ _. self.new) result (with_writes self.old (replicate times event)) }
-    {
-        for _ in 0..times {
-            self.push_write(event)?;
-        }
         Ok(())
     }
 
@@ -136,9 +128,10 @@ impl Script {
             Line::Wait => self.push_event(ReadEvent::Wait),
             Line::End => self.push_event(ReadEvent::End),
             Line::Fail => self.push_event(ReadEvent::Fail),
-            Line::Take { bytes, times } => {
-                self.push_writes(WriteEvent::Take(bytes as usize), times)
-            }
+            Line::Take { bytes, times } => self.push_write(WriteEvent::Take {
+                most: bytes as usize,
+                times,
+            }),
             Line::Hold => self.push_write(WriteEvent::Wait),
             Line::Break => self.push_write(WriteEvent::Fail),
             Line::Start(polls) => set_once(&mut self.start_polls, polls),
@@ -165,12 +158,13 @@ impl Script {
     pub(crate) fn add_line(
         &mut self,
         alloc: Global,
+        lexer: &mut Lexer,
         kind: Kind,
         line: &[u8],
     ) -> Result<(), LineError>
         ensures { Gives (λ _. self.new) result (add_line kind self.old line.now) }
     {
-        let line = line_in(alloc, line)?;
+        let line = line_in(alloc, lexer, line)?;
         self.add_allowed(kind, line)
     }
 }

@@ -5,8 +5,28 @@ use crate::arguments::text_in;
 use crate::token::{Keyword, Token};
 use pg_options::PgSslMode;
 
-/// All words of a script.
+/// All words of a script, the most usual first.
 const WORDS: [Keyword; 32] = [
+    Keyword::Step,
+    Keyword::Server,
+    Keyword::Raw,
+    Keyword::Wait,
+    Keyword::Execute,
+    Keyword::Fetch,
+    Keyword::FetchAll,
+    Keyword::FetchOne,
+    Keyword::FetchOptional,
+    Keyword::FetchMany,
+    Keyword::ExecuteMany,
+    Keyword::Ping,
+    Keyword::Flush,
+    Keyword::Most,
+    Keyword::Take,
+    Keyword::Hold,
+    Keyword::End,
+    Keyword::Fail,
+    Keyword::Break,
+    Keyword::Start,
     Keyword::User,
     Keyword::Password,
     Keyword::Database,
@@ -19,26 +39,6 @@ const WORDS: [Keyword; 32] = [
     Keyword::Upgrade,
     Keyword::Local,
     Keyword::Nonce,
-    Keyword::Server,
-    Keyword::Wait,
-    Keyword::End,
-    Keyword::Fail,
-    Keyword::Take,
-    Keyword::Hold,
-    Keyword::Break,
-    Keyword::Start,
-    Keyword::Step,
-    Keyword::Most,
-    Keyword::Raw,
-    Keyword::Execute,
-    Keyword::ExecuteMany,
-    Keyword::Fetch,
-    Keyword::FetchMany,
-    Keyword::FetchAll,
-    Keyword::FetchOptional,
-    Keyword::FetchOne,
-    Keyword::Ping,
-    Keyword::Flush,
 ];
 
 // How a word is spelled.

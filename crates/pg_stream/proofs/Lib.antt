@@ -5,3 +5,4 @@ pub mod EventLaws
 pub mod OutsideLaws
 pub mod VersionLaws
 pub mod ParameterLaws
+pub mod MemoryLaws

@@ -1,5 +1,5 @@
 -- What is seen of a link in memory: all bytes, the places of its waits, and its counts.
-use Rattle.std.specs.Prelude.{◌≡◌, ℕ, ◌++◌, ◌⊎◌, min, max, drop, List, [], ◌∷◌, Option, Some, None, IfSome}
+use Rattle.std.specs.Prelude.{◌≡◌, ℕ, ◌-◌, ◌++◌, ◌⊎◌, min, max, drop, List, [], ◌∷◌, Bool, true, Option, Some, None, IfSome, nat_le, if◌then◌else◌}
 use Rattle.pg_stream.specs.declared.events.ReadEvent.{ReadEvent}
 use Rattle.pg_stream.specs.declared.events.WriteEvent.{WriteEvent}
 use Rattle.pg_stream.specs.declared.events.WriteEvent.TheVariants.{Take, Wait, Fail}
@@ -58,8 +58,23 @@ pieces_of m = pieces_in (plan_of m).reads
 abbrev pub reads_ahead : MemoryLink → List ReadEvent
 reads_ahead m = ahead_of m.reads
 
+-- what is left of a write event behind so many writes
+abbrev pub left_in : ℕ → WriteEvent → WriteEvent
+left_in n (Take most times) = Take most (times - n)
+left_in n event = event
+
+-- it says no write behind the next one
+abbrev pub is_last : WriteEvent → Bool
+is_last (Take most times) = nat_le times 1
+is_last event = true
+
+abbrev pub cut_writes : ℕ → List WriteEvent → List WriteEvent
+cut_writes n [] = []
+cut_writes n (event ∷ events) = left_in n event ∷ events
+
+-- the write events that are ahead; of the next one only the writes that are still to come
 abbrev pub writes_ahead : MemoryLink → List WriteEvent
-writes_ahead m = drop m.writes_passed m.writes
+writes_ahead m = cut_writes m.takes_passed (drop m.writes_passed m.writes)
 
 -- the bytes that are still to come
 abbrev pub left_of : MemoryLink → List ℕ
@@ -73,12 +88,21 @@ GivesItsPieces = (m : MemoryLink) → IfSome (seen_of m).given (λ given. given 
 abbrev pub ReadFollows : MemoryLink → MemoryLink → LinkRead → ℕ → Type 0
 ReadFollows a b answer size = IsRead a.reads b.reads answer size ⊎ (IsFull b.reads × (answer ≡ reads.Failed))
 
+-- the event that says the next write, and the events that are ahead behind that write
+abbrev pub next_write : List WriteEvent → Option WriteEvent × List WriteEvent
+next_write [] = (None, [])
+next_write (event ∷ events) = (Some event, if is_last event then events else left_in 1 event ∷ events)
+
+-- what the next write of so many bytes answers; after the list it takes all
+abbrev pub written : ℕ → Option WriteEvent → LinkWrite
+written size None = writes.Moved size
+written size (Some (Take most times)) = writes.Moved (min (max most 1) size)
+written size (Some Wait) = writes.NotYet
+written size (Some Fail) = writes.Failed
+
 -- one write of so many bytes: its answer, and the events that are then ahead
 abbrev pub write_of : ℕ → List WriteEvent → LinkWrite × List WriteEvent
-write_of size [] = (writes.Moved size, [])
-write_of size (Take most ∷ events) = (writes.Moved (min (max most 1) size), events)
-write_of size (Wait ∷ events) = (writes.NotYet, events)
-write_of size (Fail ∷ events) = (writes.Failed, events)
+write_of size events = (written size (next_write events).0, (next_write events).1)
 
 -- a write that is to take bytes fails where there is no memory for them
 abbrev pub AnswersAs : LinkWrite → LinkWrite → Type 0
@@ -90,7 +114,6 @@ pub record WriteFollows (a b : MemoryLink) (answer : LinkWrite) (size : ℕ) : T
   pub answers : AnswersAs (write_of size (writes_ahead a)).0 answer
   pub ahead : writes_ahead b ≡ (write_of size (writes_ahead a)).1
 
--- the first of some events is taken off
+-- the next write is taken off the events
 abbrev pub TakesFirst : List WriteEvent → Option WriteEvent → List WriteEvent → Type 0
-TakesFirst events (Some event) rest = events ≡ event ∷ rest
-TakesFirst events None rest = (events ≡ []) × (rest ≡ [])
+TakesFirst events event rest = next_write events ≡ (event, rest)

@@ -16,8 +16,8 @@ pub enum ReadEvent {
 /// What the next write of a link in memory does.
 #[derive(Clone, Copy, Debug, PartialEq, Eq)]
 pub enum WriteEvent {
-    /// Takes at most so many bytes, and one at least.
-    Take(usize),
+    /// So many writes, one at least, take at most so many bytes each, and one at least.
+    Take { most: usize, times: u32 },
     /// Takes nothing yet.
     Wait,
     /// Fails.

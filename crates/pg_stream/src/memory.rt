@@ -1,6 +1,6 @@
-ghost use Rattle.std.specs.Prelude.{◌≡◌, ◌<◌, ◌≤◌, ◌⊎◌, length, Some};
+ghost use Rattle.std.specs.Prelude.{◌≡◌, ◌+◌, ◌<◌, ◌≤◌, ◌⊎◌, length, Some, None, if◌then◌else◌};
 ghost use Rattle.pg_stream.specs.Links.{Reads, Writes, Upgrades};
-ghost use Rattle.pg_stream.specs.Memory.{seen_of, untouched, plan_of, reads_ahead, writes_ahead, ReadFollows, WriteFollows, TakesFirst};
+ghost use Rattle.pg_stream.specs.Memory.{seen_of, untouched, plan_of, reads_ahead, writes_ahead, left_in, is_last, ReadFollows, WriteFollows, TakesFirst};
 
 use crate::read_list::ReadList;
 use crate::{Asked, Link, LinkRead, LinkUpgrade, LinkWrite, ReadEvent, TlsWish, WriteEvent};
@@ -16,6 +16,8 @@ pub struct MemoryLink {
     reads: ReadList,
     writes: Sequence<WriteEvent>,
     writes_passed: usize,
+    // How many writes the next event said already.
+    takes_passed: u32,
     taken: Vec<u8>,
     can_upgrade: bool,
     is_local: bool,
@@ -28,6 +30,35 @@ pub struct MemoryLink {
     ends: u64,
     faults: u64,
     upgrade_faults: u64,
+}
+
+// What is left of an event that said so many writes.
+fn left_in(event: WriteEvent, passed: u32) -> WriteEvent
+    ensures { result ≡ left_in passed event }
+{
+    match event {
+        WriteEvent::Take { most, times } => WriteEvent::Take {
+            most,
+            times: times.saturating_sub(passed),
+        },
+        _ => event,
+    }
+}
+
+// How many writes the event said with one more, if it says more than that.
+fn passed_by(event: WriteEvent, passed: u32) -> Option<u32>
+    ensures { result ≡ (if is_last (left_in passed event) then None else Some (passed + 1)) }
+{
+    match event {
+        WriteEvent::Take { times, .. } => {
+            if times.saturating_sub(passed) <= 1 {
+                None
+            } else {
+                Some(passed + 1)
+            }
+        }
+        _ => None,
+    }
 }
 
 impl MemoryLink {
@@ -48,6 +79,7 @@ impl MemoryLink {
             reads: ReadList::new(reads),
             writes,
             writes_passed: 0,
+            takes_passed: 0,
             taken: Vec::new(alloc),
             can_upgrade,
             is_local,
@@ -78,18 +110,27 @@ impl MemoryLink {
     }
 
     // What the next write does, if the list says it.
+    #[tactic(auto, using(crate::proofs::MemoryLaws::left_again, crate::proofs::MemoryLaws::cut_none))]
     fn next_write(&mut self) -> Option<WriteEvent>
         ensures seen { seen_of self.new ≡ seen_of self.old }
         ensures plan { plan_of self.new ≡ plan_of self.old }
         ensures first { TakesFirst (writes_ahead self.old) result (writes_ahead self.new) }
     {
-        match self.writes.as_slice().get(self.writes_passed) {
-            Some(event) => {
-                let event = *event;
-                self.writes_passed += 1;
-                Some(event)
+        let event = match self.writes.as_slice().get(self.writes_passed) {
+            Some(event) => *event,
+            None => return None,
+        };
+        let next = left_in(event, self.takes_passed);
+        match passed_by(event, self.takes_passed) {
+            Some(passed) => {
+                self.takes_passed = passed;
+                Some(next)
             }
-            None => None,
+            None => {
+                self.writes_passed += 1;
+                self.takes_passed = 0;
+                Some(next)
+            }
         }
     }
 
@@ -157,7 +198,7 @@ impl Link for MemoryLink {
     {
         match self.next_write() {
             None => self.take(from, from.len()),
-            Some(WriteEvent::Take(most)) => self.take(from, most.max(1).min(from.len())),
+            Some(WriteEvent::Take { most, .. }) => self.take(from, most.max(1).min(from.len())),
             Some(WriteEvent::Wait) => {
                 self.calls = self.calls.saturating_add(1);
                 self.write_waits = self.write_waits.saturating_add(1);

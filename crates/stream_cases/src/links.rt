@@ -54,9 +54,9 @@ pub fn gives_pieces_and_waits(alloc: Global) -> Result<bool, AllocError> {
 
 fn some_taken(alloc: Global) -> Result<Sequence<WriteEvent>, AllocError> {
     let mut writes = Sequence::new(alloc);
-    writes.push(WriteEvent::Take(2))?;
-    writes.push(WriteEvent::Take(0))?;
-    writes.push(WriteEvent::Take(9))?;
+    writes.push(WriteEvent::Take { most: 2, times: 1 })?;
+    writes.push(WriteEvent::Take { most: 0, times: 1 })?;
+    writes.push(WriteEvent::Take { most: 9, times: 1 })?;
     writes.push(WriteEvent::Wait)?;
     writes.push(WriteEvent::Fail)?;
     Ok(writes)

@@ -6,20 +6,20 @@ use Rattle.pg_script.proofs.reader.read_lines.Goals as goal
 pub returns-in-Err-Bad : goal.returns-in-Err-Bad
 returns-in-Err-Bad c =
     let bad = rw c.in-Err-Bad.field-0-is at c.in-Err-Bad.ensures in
-    let cut : lines_of c.loop-script.rest.now ≡ c.split_at.result.0.now ∷ lines_behind c.split_at.result.1.now = rw (c.split_at.ensures.front, c.split_at.ensures.back) c.line_end.ensures.cut in
-    bad_read c.args.kind c.loop-script.number c.loop-script.script c.split_at.result.0.now c.split_at.result.1.now c.loop-script.rest.now (read_from c.args.kind 0 empty_script (lines_of c.args.text.now)) cut bad c.loop-script.invariant.reads
+    let cut : lines_of c.loop-lexer.rest.now ≡ c.split_at.result.0.now ∷ lines_behind c.split_at.result.1.now = rw (c.split_at.ensures.front, c.split_at.ensures.back) c.line_end.ensures.cut in
+    bad_read c.args.kind c.loop-lexer.number c.loop-lexer.script c.split_at.result.0.now c.split_at.result.1.now c.loop-lexer.rest.now (read_from c.args.kind 0 empty_script (lines_of c.args.text.now)) cut bad c.loop-lexer.invariant.reads
 
 pub returns-in-empty : goal.returns-in-empty
 returns-in-empty c =
-    let cut : lines_of c.loop-script.rest.now ≡ c.split_at.result.0.now ∷ lines_behind c.split_at.result.1.now = rw (c.split_at.ensures.front, c.split_at.ensures.back) c.line_end.ensures.cut in
-    last_read c.args.kind (c.loop-script.number + 1) c.add_line.new.self c.split_at.result.1.now (read_from c.args.kind 0 empty_script (lines_of c.args.text.now)) c.in-empty.len_below
-    (next_read c.args.kind c.loop-script.number c.loop-script.script c.add_line.new.self c.split_at.result.0.now c.split_at.result.1.now c.loop-script.rest.now (read_from c.args.kind 0 empty_script (lines_of c.args.text.now)) cut c.in-Ok.ensures c.loop-script.invariant.reads)
+    let cut : lines_of c.loop-lexer.rest.now ≡ c.split_at.result.0.now ∷ lines_behind c.split_at.result.1.now = rw (c.split_at.ensures.front, c.split_at.ensures.back) c.line_end.ensures.cut in
+    last_read c.args.kind (c.loop-lexer.number + 1) c.add_line.new.self c.split_at.result.1.now (read_from c.args.kind 0 empty_script (lines_of c.args.text.now)) c.in-empty.len_below
+    (next_read c.args.kind c.loop-lexer.number c.loop-lexer.script c.add_line.new.self c.split_at.result.0.now c.split_at.result.1.now c.loop-lexer.rest.now (read_from c.args.kind 0 empty_script (lines_of c.args.text.now)) cut c.in-Ok.ensures c.loop-lexer.invariant.reads)
 
-pub loop-script-preserved : goal.loop-script-preserved
-loop-script-preserved c =
-    let cut : lines_of c.loop-script.rest.now ≡ c.split_at.result.0.now ∷ lines_behind c.split_at.result.1.now = rw (c.split_at.ensures.front, c.split_at.ensures.back) c.line_end.ensures.cut in
+pub loop-lexer-preserved : goal.loop-lexer-preserved
+loop-lexer-preserved c =
+    let cut : lines_of c.loop-lexer.rest.now ≡ c.split_at.result.0.now ∷ lines_behind c.split_at.result.1.now = rw (c.split_at.ensures.front, c.split_at.ensures.back) c.line_end.ensures.cut in
     record {
-      short = omega (arith, length-take (length c.split_at.result.1.now - 1) (drop 1 c.split_at.result.1.now), length-drop 1 c.split_at.result.1.now, c.split_at.ensures.back_len, c.loop-script.invariant.short);
-      reads = ap (read_from c.args.kind (c.loop-script.number + 1) c.add_line.new.self) (sym (behind_one c.split_at.result.1.now c.in-len1-up.len_at_least))
-          ∙ next_read c.args.kind c.loop-script.number c.loop-script.script c.add_line.new.self c.split_at.result.0.now c.split_at.result.1.now c.loop-script.rest.now (read_from c.args.kind 0 empty_script (lines_of c.args.text.now)) cut c.in-Ok.ensures c.loop-script.invariant.reads;
+      short = omega (arith, length-take (length c.split_at.result.1.now - 1) (drop 1 c.split_at.result.1.now), length-drop 1 c.split_at.result.1.now, c.split_at.ensures.back_len, c.loop-lexer.invariant.short);
+      reads = ap (read_from c.args.kind (c.loop-lexer.number + 1) c.add_line.new.self) (sym (behind_one c.split_at.result.1.now c.in-len1-up.len_at_least))
+          ∙ next_read c.args.kind c.loop-lexer.number c.loop-lexer.script c.add_line.new.self c.split_at.result.0.now c.split_at.result.1.now c.loop-lexer.rest.now (read_from c.args.kind 0 empty_script (lines_of c.args.text.now)) cut c.in-Ok.ensures c.loop-lexer.invariant.reads;
     }
