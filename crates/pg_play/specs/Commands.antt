@@ -23,6 +23,7 @@ abbrev pub argued_command : List ℕ → Argued
 argued_command word =
     if bytes_eq word (codes "options") then argued.Options
     else if bytes_eq word (codes "live") then argued.Live
+    else if bytes_eq word (codes "sample") then argued.Sample
     else argued.Unknown
 
 -- the lines of options with their URL, or why they have none

@@ -17,6 +17,9 @@ use Rattle.pg_script.specs.Grammar.{Says, SaysLive}
 use Rattle.pg_report.specs.declared.outcome.Outcome.{Outcome}
 use Rattle.pg_report.specs.declared.outcome.Started.{Started}
 use Rattle.pg_report.specs.Report.{report, live_report}
+use Rattle.pg_report.specs.Summary.{summary}
+use Rattle.pg_sample.specs.Counts.{count_of}
+use Rattle.pg_sample.specs.Sample.{sample_script}
 use Rattle.pg_report.specs.Errors.{error_text}
 use Rattle.pg_options.specs.Options.{ConnectOptions, no_settings}
 use Rattle.pg_options.specs.FromUrl.{options_of_text}
@@ -80,6 +83,11 @@ LiveEndingIs (endings.Live q) p = (q ≡ p) × (start_status p.start ≤ 1)
 LiveEndingIs endings.NoMemory p = Unit {0}
 LiveEndingIs _ p = ⊥
 
+abbrev pub SampleEndingIs : {A : Type 0} → Ending A → Played MemoryLink → Type 0
+SampleEndingIs (endings.Sampled q) p = (q ≡ p) × (start_status p.start ≤ 1)
+SampleEndingIs endings.NoMemory p = Unit {0}
+SampleEndingIs _ p = ⊥
+
 -- the source was read to its end, and this was played from its text
 abbrev pub PlaysText : SourceSeen → SourceSeen → Played MemoryLink → Type 0
 PlaysText a b p = (text : List ℕ) × (script : Script) × Consumes a.left b.left text × IsAtEnd b.left × Says (Ok script) text × IsPlay script p
@@ -107,6 +115,16 @@ WordIs commands.Script a b e = ScriptIs a b e
 WordIs commands.Help a b e = (e ≡ endings.Help) × (b ≡ a)
 WordIs commands.Version a b e = (e ≡ endings.Version) × (b ≡ a)
 WordIs commands.Unknown a b e = (e ≡ endings.BadWords) × (b ≡ a)
+
+abbrev pub SampledOrStarved : {A : Type 0} → Script → Ending A → Type 0
+SampledOrStarved script (endings.Sampled p) = IsPlay script p × (start_status p.start ≤ 1)
+SampledOrStarved script endings.NoMemory = Unit {0}
+SampledOrStarved script _ = ⊥
+
+-- the script of so many steps was played, where the word says a number of them
+abbrev pub SampleIs : {A : Type 0} → Option ℕ → Ending A → Type 0
+SampleIs (Some count) e = SampledOrStarved (sample_script count) e
+SampleIs None e = e ≡ endings.BadWords
 
 -- what a URL made of it
 abbrev pub OptionsIs : {A : Type 0} → List ℕ → Ending A → Type 0
@@ -181,6 +199,7 @@ LiveUrlIs seen hands (Err error) a b f g e = ((e ≡ endings.Refused error) ⊎ 
 abbrev pub ArgumentIs : {A : Type 0} → (A → LinkSeen) → Handing A → Argued → List ℕ → SourceSeen → SourceSeen → DialSeen → DialSeen → Ending A → Type 0
 ArgumentIs seen hands argued.Options argument a b f g e = OptionsIs argument e × (b ≡ a) × (g ≡ f)
 ArgumentIs seen hands argued.Live argument a b f g e = LiveUrlIs seen hands (options_of_text no_settings argument) a b f g e
+ArgumentIs seen hands argued.Sample argument a b f g e = SampleIs (count_of argument) e × (b ≡ a) × (g ≡ f)
 ArgumentIs seen hands argued.Unknown argument a b f g e = (e ≡ endings.BadWords) × (b ≡ a) × (g ≡ f)
 
 -- what the words, the source and the dial made of it
@@ -199,9 +218,14 @@ bad_script_text n = codes "bad script: line " ++ decimal n ++ 10 ∷ []
 abbrev pub Reports : Played MemoryLink → List ℕ → Type 0
 Reports p text = (sent : List ℕ) × ((seen_of p.link).taken ≡ Some sent) × (text ≡ report p.start p.outcomes sent)
 
+-- the line that sums up what was played, with the number of bytes that the link took
+abbrev pub SumsUp : Played MemoryLink → List ℕ → Type 0
+SumsUp p text = (sent : List ℕ) × ((seen_of p.link).taken ≡ Some sent) × (text ≡ summary p.start p.outcomes sent)
+
 abbrev pub TellsEnding : {A : Type 0} → Ending A → List ℕ → Type 0
 TellsEnding (endings.Played p) text = Reports p text
 TellsEnding (endings.Live p) text = text ≡ live_report p.start p.outcomes
+TellsEnding (endings.Sampled p) text = SumsUp p text
 TellsEnding (endings.Shown lines) text = text ≡ string_bytes lines
 TellsEnding endings.Help text = text ≡ HELP.now
 TellsEnding endings.Version text = text ≡ VERSION.now
@@ -215,6 +239,7 @@ TellsEnding endings.NoMemory text = text ≡ codes "out of memory\n"
 abbrev pub status_of : {A : Type 0} → Ending A → ℕ
 status_of (endings.Played p) = start_status p.start
 status_of (endings.Live p) = start_status p.start
+status_of (endings.Sampled p) = start_status p.start
 status_of (endings.Shown lines) = 0
 status_of endings.Help = 0
 status_of endings.Version = 0
@@ -227,6 +252,7 @@ status_of endings.DialFailed = 6
 
 abbrev pub played_of : {A : Type 0} → Ending A → Option (Played MemoryLink)
 played_of (endings.Played p) = Some p
+played_of (endings.Sampled p) = Some p
 played_of _ = None
 
 abbrev pub live_of : {A : Type 0} → Ending A → Option (Played A)

@@ -15,6 +15,7 @@ pub(crate) enum Command {
 pub(crate) enum Argued {
     Options,
     Live,
+    Sample,
     Unknown,
 }
 
@@ -26,6 +27,8 @@ impl Argued {
             Argued::Options
         } else if word == "live" {
             Argued::Live
+        } else if word == "sample" {
+            Argued::Sample
         } else {
             Argued::Unknown
         }

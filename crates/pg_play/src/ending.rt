@@ -1,8 +1,8 @@
 ghost use Rattle.std.specs.Prelude.{◌≡◌, IfOk, string_bytes};
-ghost use Rattle.pg_play.specs.Top.{EndingIs, LiveEndingIs, TellsEnding, bad_script_text, refused_text, start_status, status_of, played_of, live_of};
+ghost use Rattle.pg_play.specs.Top.{EndingIs, LiveEndingIs, SampleEndingIs, TellsEnding, bad_script_text, refused_text, start_status, status_of, played_of, live_of};
 
 use crate::played::Played;
-use pg_report::{Started, live_report, put_error, report};
+use pg_report::{Started, live_report, put_error, report, summary};
 use pg_stream::MemoryLink;
 use pg_wire::Error;
 use std::alloc::{AllocError, Global};
@@ -12,6 +12,7 @@ use std::fmt::Write;
 pub(crate) const HELP: &str = "zapoteboom WORD
 script       reads a script from standard input, plays it in memory and writes the report
 live URL     dials the server of a URL, plays the steps of a script there and writes the report
+sample N     plays a made script of N steps in memory, from 1 to 100000, and writes one line that sums it up
 options URL  writes the connect options that a URL says
 --help       writes this text
 --version    writes the name and the version
@@ -26,6 +27,8 @@ pub(crate) enum Ending<L> {
     Played(Played<MemoryLink>),
     /// What was played over a link that was dialled.
     Live(Played<L>),
+    /// What was played of a script that was made and not read.
+    Sampled(Played<MemoryLink>),
     /// The lines of connect options.
     Shown(String),
     Help,
@@ -61,6 +64,16 @@ impl<L: Drop> Ending<L> {
         }
     }
 
+    /// What was played of a script that was made. A start-up without memory counts as none.
+    pub(crate) fn of_sample(played: Played<MemoryLink>) -> Self
+        ensures { SampleEndingIs result played }
+    {
+        match start_status(&played.start) {
+            5 => Ending::NoMemory,
+            _ => Ending::Sampled(played),
+        }
+    }
+
     /// What was played over a link that was dialled. A start-up without memory counts as none.
     pub(crate) fn of_live(played: Played<L>) -> Self
         ensures { LiveEndingIs result played }
@@ -77,6 +90,7 @@ impl<L: Drop> Ending<L> {
         match self {
             Ending::Played(played) => start_status(&played.start),
             Ending::Live(played) => start_status(&played.start),
+            Ending::Sampled(played) => start_status(&played.start),
             Ending::Shown(_) | Ending::Help | Ending::Version => 0,
             Ending::BadWords | Ending::Refused(_) | Ending::BadScript(_) => 2,
             Ending::ReadFailed => 3,
@@ -91,6 +105,7 @@ impl<L: Drop> Ending<L> {
     {
         match self {
             Ending::Played(played) => (Some(played), None),
+            Ending::Sampled(played) => (Some(played), None),
             Ending::Live(played) => (None, Some(played)),
             _ => (None, None),
         }
@@ -108,6 +123,12 @@ impl<L: Drop> Ending<L> {
                 played.link.taken(),
             ),
             Ending::Live(played) => live_report(alloc, &played.start, played.outcomes.as_slice()),
+            Ending::Sampled(played) => summary(
+                alloc,
+                &played.start,
+                played.outcomes.as_slice(),
+                played.link.taken(),
+            ),
             Ending::Shown(lines) => String::from_str(alloc, lines.as_str()),
             Ending::Help => String::from_str(alloc, HELP),
             Ending::Version => String::from_str(alloc, VERSION),

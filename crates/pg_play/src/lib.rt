@@ -1,8 +1,8 @@
 //! Plays of scripts, and the top call of the program.
 //!
 //! `play` runs a start-up and then steps over any link. `top` is the whole program, but for its source, sink and dial: it
-//! reads a script, plays it over a link in memory, or its steps over a link that it dials, and writes the report; or it shows the
-//! connect options that a URL says.
+//! reads a script, plays it over a link in memory, or its steps over a link that it dials, and writes the report; or it plays a script
+//! that it makes, of as many steps as its words say, and writes one line; or it shows the connect options that a URL says.
 #![tactic(auto)]
 
 mod asking;
@@ -14,6 +14,7 @@ mod live;
 mod played;
 mod playing;
 mod program;
+mod sampling;
 mod showing;
 mod showing_options;
 mod starting;

@@ -11,6 +11,7 @@ use crate::ending::Ending;
 use crate::live::run_live;
 use crate::played::{Played, Ran};
 use crate::playing::play;
+use crate::sampling::run_sample;
 use crate::showing_options::show_options;
 use pg_conn::Dial;
 use pg_options::PgConnectOptions;
@@ -53,8 +54,8 @@ fn play_over(alloc: Global, options: &PgConnectOptions, script: Script) -> Playe
     play(alloc, options, nonce, polls, script.steps.as_slice(), link)
 }
 
-// Plays a script, where its options can be had.
-fn play_script(alloc: Global, script: Script) -> Result<Played<MemoryLink>, Error>
+/// Plays a script, where its options can be had.
+pub(crate) fn play_script(alloc: Global, script: Script) -> Result<Played<MemoryLink>, Error>
     ensures { IfOk result (λ p. IsPlay script p) }
 {
     let options = options_of(alloc, &script)?;
@@ -71,7 +72,7 @@ fn play_or_starve<L: Drop>(alloc: Global, script: Script) -> Ending<L>
     }
 }
 
-// Reads a script and plays it.
+// Reads a script, lets its text go, and plays it.
 fn run_script<S: Source, L: Drop>(alloc: Global, source: &mut S) -> Ending<L>
     ensures { ScriptIs (S.seen source.old) (S.seen source.new) result }
 {
@@ -80,11 +81,15 @@ fn run_script<S: Source, L: Drop>(alloc: Global, source: &mut S) -> Ending<L>
         Gathered::Failed => Ending::ReadFailed,
         Gathered::OutOfMemory => Ending::NoMemory,
         Gathered::TooLong => Ending::BadScript(0),
-        Gathered::Whole => match read_script(alloc, &bytes) {
-            Ok(script) => play_or_starve(alloc, script),
-            Err(ReadError::BadLine(line)) => Ending::BadScript(line),
-            Err(ReadError::OutOfMemory) => Ending::NoMemory,
-        },
+        Gathered::Whole => {
+            let said = read_script(alloc, &bytes);
+            drop(bytes);
+            match said {
+                Ok(script) => play_or_starve(alloc, script),
+                Err(ReadError::BadLine(line)) => Ending::BadScript(line),
+                Err(ReadError::OutOfMemory) => Ending::NoMemory,
+            }
+        }
     }
 }
 
@@ -115,6 +120,7 @@ where
     match Argued::of(word) {
         Argued::Options => show_options(alloc, argument),
         Argued::Live => run_live(alloc, argument, source, dial),
+        Argued::Sample => run_sample(alloc, argument),
         Argued::Unknown => Ending::BadWords,
     }
 }

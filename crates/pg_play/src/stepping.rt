@@ -36,7 +36,7 @@ fn poll_once<L: Link>(
                 None
             }
         }
-        Poll::Ready(Turn::Item(item)) => tally.add(alloc, item, limits),
+        Poll::Ready(Turn::Item(item)) => tally.add(item, limits),
         Poll::Ready(Turn::Ok(answer)) => Some(tally.finish(alloc, answer)),
         Poll::Ready(Turn::Err(e)) => Some(End::Err(e)),
     }

@@ -1,11 +1,9 @@
-ghost use Rattle.std.specs.Prelude.{◌≡◌, ◌∷◌, ◌<◌, ◌-◌, ◌^◌, [], None, IfOk, OnErr, length};
-ghost use Rattle.pg_report.specs.declared.outcome.Item.TheVariants as items;
+ghost use Rattle.std.specs.Prelude.{◌≡◌, ◌<◌, ◌-◌, ◌^◌, [], None, IfOk, OnErr, length};
 ghost use Rattle.pg_play.specs.Calls.{Adds, Finishes};
 
-use crate::showing::{item_of, row_of, rows_of};
+use crate::showing::{item_of, one_row, rows_of};
 use pg_conn::{CallAnswer, CallItem};
 use pg_report::{Answer, End, Item};
-use pg_rows::PgRow;
 use pg_wire::Error;
 use std::alloc::{AllocError, Global};
 
@@ -35,14 +33,11 @@ impl Tally {
     }
 
     /// One more item, which ends the call where it is the last that it may show, or where there is no memory for it.
-    pub(crate) fn add(&mut self, alloc: Global, item: CallItem, limits: Limits) -> Option<End>
+    pub(crate) fn add(&mut self, item: CallItem, limits: Limits) -> Option<End>
         ensures adds { Adds limits item self.old self.new result }
         ensures falls { result ≡ None → (2 ^ 64 - length self.new.items.items) < (2 ^ 64 - length self.old.items.items) }
     {
-        let Ok(item) = item_of(alloc, item) else {
-            return Some(End::Err(Error::OutOfMemory));
-        };
-        match self.items.push(item) {
+        match self.items.push(item_of(item)) {
             Err(_) => Some(End::Err(Error::OutOfMemory)),
             Ok(()) => {
                 if self.items.len() == limits.most as usize {
@@ -79,18 +74,9 @@ impl Tally {
         match answer {
             CallAnswer::Unit => End::Ok(Answer::Unit),
             CallAnswer::Total(total) => End::Ok(Answer::Total(total.rows_affected())),
-            CallAnswer::Rows(rows) => self.show(alloc, rows_of(alloc, rows.as_slice())),
+            CallAnswer::Rows(rows) => self.show(alloc, rows_of(alloc, rows.into_vec())),
             CallAnswer::OneRow(None) => self.show(alloc, Ok(Vec::new(alloc))),
-            CallAnswer::OneRow(Some(row)) => self.show(alloc, one_row(alloc, &row)),
+            CallAnswer::OneRow(Some(row)) => self.show(alloc, one_row(alloc, row)),
         }
     }
-}
-
-// One row alone.
-fn one_row(alloc: Global, row: &PgRow) -> Result<Vec<Item>, AllocError>
-    ensures { IfOk result (λ told. told.items ≡ items.Row row.now ∷ []) }
-{
-    let mut items = Vec::new(alloc);
-    items.push(row_of(alloc, row)?)?;
-    Ok(items)
 }

@@ -2,4 +2,5 @@ pub mod Bytes
 pub mod Errors
 pub mod Steps
 pub mod Report
+pub mod Summary
 pub mod Options

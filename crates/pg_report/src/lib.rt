@@ -10,7 +10,7 @@
 //!   `ok held t`, `ok held f`, `dropped` or `error ERROR`.
 //! - `sent HEX`, all bytes that were sent, or `sent -`.
 //!
-//! The lines of connect options stand at `option_lines`.
+//! A summary is one line in place of all these. The lines of connect options stand at `option_lines`.
 //!
 //! Begin with `Outcome`, what came of one step, and with `report`. The words of an ERROR stand at `put_error`.
 #![tactic(auto)]
@@ -21,8 +21,10 @@ mod lines;
 mod options;
 mod outcome;
 mod steps;
+mod summing;
 
 pub use errors::put_error;
 pub use lines::{live_report, report};
 pub use options::option_lines;
 pub use outcome::{Answer, End, Item, Outcome, Started};
+pub use summing::summary;

@@ -1,11 +1,11 @@
 use pg_request::CacheStep;
+use pg_rows::PgRow;
 use pg_wire::{Blob, Error, Field, Oids, Sequence};
 
 /// One thing that a call showed.
 #[derive(Debug, Drop)]
 pub enum Item {
-    /// The values of a row; a null is None.
-    Row(Sequence<Option<Blob>>),
+    Row(PgRow),
     /// The rows that a statement counted.
     Count(u64),
     /// A piece of a copy.

@@ -1,31 +1,31 @@
-ghost use Rattle.std.specs.Prelude.{◌≡◌, ◌++◌, OnOk, flat_map, string_bytes};
+ghost use Rattle.std.specs.Prelude.{◌≡◌, ◌++◌, OnOk, flat_map, option_map, string_bytes};
 ghost use Rattle.pg_report.specs.Steps.{value_text, item_text, item_line, answer_words, answer_rest, answer_text, end_text, cache_word, progress_text, step_line, step_lines};
 
 use crate::bytes::{put_hex_or_dash, put_named_number, put_number, put_oids};
 use crate::errors::put_error;
 use crate::outcome::{Answer, End, Item, Outcome};
 use pg_request::CacheStep;
-use pg_wire::Blob;
+use pg_rows::PgRow;
 use std::alloc::AllocError;
 
 #[tactic(auto, unfolding(crate::specs::Steps::value_text))]
-fn put_value(out: &mut String, value: &Option<Blob>) -> Result<(), AllocError>
-    ensures { OnOk result (string_bytes out.new ≡ string_bytes out.old ++ value_text value.now) }
+fn put_value(out: &mut String, value: Option<&[u8]>) -> Result<(), AllocError>
+    ensures { OnOk result (string_bytes out.new ≡ string_bytes out.old ++ value_text (option_map (λ x. x.now) value.entry)) }
 {
     match value {
         None => out.push_str(" null"),
         Some(bytes) => {
             out.push_str(" ")?;
-            put_hex_or_dash(out, bytes.as_bytes())
+            put_hex_or_dash(out, bytes)
         }
     }
 }
 
-fn put_values(out: &mut String, values: &[Option<Blob>]) -> Result<(), AllocError>
-    ensures { OnOk result (string_bytes out.new ≡ string_bytes out.old ++ flat_map value_text values.now) }
+fn put_values(out: &mut String, row: &PgRow) -> Result<(), AllocError>
+    ensures { OnOk result (string_bytes out.new ≡ string_bytes out.old ++ flat_map value_text row.now) }
 {
-    for value in values {
-        put_value(out, value)?;
+    for index in 0..row.len() {
+        put_value(out, row.value(index))?;
     }
     Ok(())
 }
@@ -35,9 +35,9 @@ fn put_item(out: &mut String, item: &Item) -> Result<(), AllocError>
     ensures { OnOk result (string_bytes out.new ≡ string_bytes out.old ++ item_text item.now) }
 {
     match item {
-        Item::Row(values) => {
+        Item::Row(row) => {
             out.push_str("row")?;
-            put_values(out, values.as_slice())
+            put_values(out, row)
         }
         Item::Count(count) => {
             out.push_str("count ")?;

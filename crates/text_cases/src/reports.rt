@@ -1,6 +1,9 @@
 use pg_report::{Answer, End, Item, Outcome, Started, report};
 use pg_request::CacheStep;
-use pg_wire::{Blob, Error, IoCause, Oid, Oids, ProtocolFault, Sequence, ServerFault};
+use pg_rows::PgRow;
+use pg_wire::{
+    Blob, Error, IoCause, Oid, Oids, ProtocolFault, Sequence, ServerFault, decode_data_row,
+};
 use std::alloc::{AllocError, Global};
 
 fn outcome(items: Sequence<Item>, cache: CacheStep, end: End) -> Outcome {
@@ -26,18 +29,20 @@ fn described(alloc: Global, parameters: Vec<Oid>) -> End {
     })
 }
 
-fn values(alloc: Global) -> Result<Sequence<Option<Blob>>, AllocError> {
-    let bytes = Blob::from_slice(alloc, b"\x07\xfa")?;
-    let values = [None, Some(Blob::new(alloc)), Some(bytes)];
-    Ok(Sequence::from_vec(Vec::from_array(alloc, values)?))
+// A row of a null, of no bytes and of two bytes.
+const THREE_VALUES: [u8; 16] = *b"\x00\x03\xff\xff\xff\xff\x00\x00\x00\x00\x00\x00\x00\x02\x07\xfa";
+
+fn row(alloc: Global, body: &[u8]) -> Result<Item, Error> {
+    Ok(Item::Row(PgRow::new(decode_data_row(alloc, body)?)))
 }
 
-fn items(alloc: Global) -> Result<Sequence<Item>, AllocError> {
-    let values = values(alloc)?;
+fn items(alloc: Global) -> Result<Sequence<Item>, Error> {
+    let three = row(alloc, &THREE_VALUES)?;
+    let none = row(alloc, b"\x00\x00")?;
     let piece = Blob::from_slice(alloc, b"Q")?;
     let items = [
-        Item::Row(values),
-        Item::Row(Sequence::new(alloc)),
+        three,
+        none,
         Item::Count(12),
         Item::Piece(piece),
         Item::Piece(Blob::new(alloc)),

@@ -1,6 +1,6 @@
-use Rattle.std.proofs.Common.{◌≡◌, take, map}
+use Rattle.std.proofs.Common.{◌≡◌, map}
 use Rattle.pg_report.specs.declared.outcome.Item.TheVariants as items
 use Rattle.pg_play.proofs.showing.rows_of.Given as goal
 
 abbrev pub invariant-loop-row : goal.invariant-loop-row
-invariant-loop-row l = l.items.items ≡ map items.Row (take l.row-index l.fn.rows)
+invariant-loop-row l = l.items.items ≡ map items.Row l.yielded

@@ -1,6 +1,9 @@
-use Rattle.std.proofs.Common.{◌≡◌, ◌++◌, take, string_bytes, flat_map}
+use Rattle.std.proofs.Common.{◌≡◌, ◌++◌, take, length, string_bytes, flat_map}
 use Rattle.pg_report.specs.Steps.{value_text}
 use Rattle.pg_report.proofs.steps.put_values.Given as goal
 
-abbrev pub invariant-loop-value : goal.invariant-loop-value
-invariant-loop-value l = string_bytes l.out ≡ string_bytes l.initial.out ++ flat_map value_text (take l.value-index l.values)
+abbrev pub invariant-loop-index : goal.invariant-loop-index
+invariant-loop-index l = record {
+  told : string_bytes l.out ≡ string_bytes l.initial.out ++ flat_map value_text (take l.index l.row);
+  end : l.index-end ≡ length l.row;
+}

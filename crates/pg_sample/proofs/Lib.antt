@@ -1,0 +1,3 @@
+pub mod CountLaws
+pub mod AnswerLaws
+pub mod ScriptLaws
