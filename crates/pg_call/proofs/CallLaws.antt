@@ -47,6 +47,7 @@ use Rattle.pg_call.proofs.ItemLaws.{items-push, tally-more}
 use Rattle.pg_wire.specs.Refusals.{BeginsCopyResponse}
 use Rattle.pg_call.proofs.RefusedLaws.{group_refused, group_copies}
 use Rattle.pg_wire.proofs.Each.{each_end}
+use Rattle.pg_wire.proofs.Unique.{backend_frame_unique}
 
 -- ---- a reply that no one waits for
 
@@ -428,7 +429,7 @@ fault_at start r said hs items reply f errors.OutOfMemory h i = tt
 fault_at start r said hs items reply f (errors.Protocol (protocol.Server (faults.Malformed t))) h i = (h.0, λ m have same. h.1 m (have, same))
 fault_at start r said hs items reply f (errors.Protocol (protocol.Server (faults.Unlawful t))) h i =
     let g = one_group (groups_of r) i.one in
-    (h.0, refl, i.counted, (g.0, g.1, λ b. group_refused r g.0 i.own reply.part f g.1 i.own_have_frames (rw i.kind_is at i.so_far) (λ m have same. h.1 m (have, same)) (rw i.own_is at b)))
+    (h.0, (h.1, h.2.0, h.2.1), refl, i.counted, (g.0, g.1, λ b. group_refused r g.0 i.own reply.part f g.1 i.own_have_frames (rw i.kind_is at i.so_far) (λ m have same. subst (MayNotCome reply.part) (backend_frame_unique h.1 m h.2.0 have (h.2.1 ∙ sym same)) h.3) (rw i.own_is at b)))
 fault_at start r said hs items reply f _ h i = absurd h
 
 pub own_refuses : (f : Frame) (ledger : Ledger) (reply : Reply) (e : Error) → IsFault (MayNotCome reply.part) f.tag f.body e

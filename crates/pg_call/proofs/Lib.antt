@@ -7,3 +7,4 @@ pub mod CopyBegun
 pub mod CallLaws
 pub mod LeaveLaws
 pub mod FitLaws
+pub mod FormatLaws

@@ -78,7 +78,7 @@ out_of_place part m tag body s k = untold part m (ap (λ (f : Frame). is_known (
 because : (part : Part) (tag : ℕ) (body : List ℕ) (e : Error) → ((m : BackendMessage) → Says tag body m → MayNotCome part m) → IsFault IsAny tag body e → Judges part tag body (Err e)
 because part tag body errors.OutOfMemory f h = tt
 because part tag body (errors.Protocol (protocol.Server (faults.Malformed t))) f h = h
-because part tag body (errors.Protocol (protocol.Server (faults.Unlawful t))) f h = (h.0, f)
+because part tag body (errors.Protocol (protocol.Server (faults.Unlawful t))) f h = (h.0, h.1, h.2, f h.1 h.2)
 because part tag body _ f h = absurd h
 
 pub misplaced : (part : Part) (tag : ℕ) (body : List ℕ) (e : Error) → is_known (tags_of part) tag ≡ false → IsFault IsAny tag body e → Judges part tag body (Err e)

@@ -157,11 +157,15 @@ CallEnds start r said hs items ledger (Err (errors.Protocol (protocol.Reply tag)
 CallEnds start r said hs items ledger (Err (errors.Protocol (protocol.Caller fault))) = (said ≡ []) × (hs ≡ []) × (items ≡ []) × (ledger ≡ start) × IsRefusal r (errors.Protocol (protocol.Caller fault))
 CallEnds start r said hs items ledger (Err _) = ⊥
 
--- Why the frame at the front is refused: no message has it; or it begins no response to the call's group, behind what has come of it.
+-- some message has this frame
+abbrev pub HasMessage : Frame → Type 0
+HasMessage f = (m : BackendMessage) × HasBackendFrame m × (backend_frame m ≡ f)
+
+-- Why the frame at the front is refused: no message has it; or one has, and it begins no response to the call's group, behind what has come of it.
 abbrev pub IsFrontFault : Ledger → Request → List Group → List Frame → Frame → Error → Type 0
 IsFrontFault start r own hs f errors.OutOfMemory = Unit {0}
 IsFrontFault start r own hs f (errors.Protocol (protocol.Server (faults.Malformed tag))) = (tag ≡ f.tag) × ((m : BackendMessage) → HasBackendFrame m → backend_frame m ≡ f → ⊥)
-IsFrontFault start r own hs f (errors.Protocol (protocol.Server (faults.Unlawful tag))) = (tag ≡ f.tag) × (own ≡ groups_of r) × (count_by is_ready hs ≡ start.owed)
+IsFrontFault start r own hs f (errors.Protocol (protocol.Server (faults.Unlawful tag))) = (tag ≡ f.tag) × HasMessage f × (own ≡ groups_of r) × (count_by is_ready hs ≡ start.owed)
     × ((group : Group) × (groups_of r ≡ group ∷ []) × (BeginsCopyResponse group (after_readys start.owed hs ++ f ∷ []) → ⊥))
 IsFrontFault start r own hs f _ = ⊥
 

@@ -6,7 +6,7 @@ use Rattle.pg_wire.specs.declared.error.ProtocolFault.TheVariants as protocol
 use Rattle.pg_wire.specs.declared.error.ServerFault.TheVariants as faults
 use Rattle.pg_wire.specs.declared.status.TransactionStatus.{TransactionStatus}
 use Rattle.pg_wire.specs.Backend.{BackendMessage, Values, ReadyForQuery, RowDescription, DataRow, CommandComplete, ErrorResponse, EmptyQueryResponse, CopyInResponse, CopyOutResponse}
-use Rattle.pg_wire.specs.Decoding.{Says}
+use Rattle.pg_wire.specs.Decoding.{Says, IsRefused}
 use Rattle.pg_call.specs.declared.kind.Kind.{Kind}
 use Rattle.pg_call.specs.declared.kind.Kind.TheVariants as kinds
 use Rattle.pg_call.specs.declared.answer.CallItem.{CallItem}
@@ -87,11 +87,16 @@ IsVerdict part m (verdicts.Failed error) = m ≡ ErrorResponse error
 IsVerdict part m verdicts.Closed = (may_close part ≡ true) × (status : TransactionStatus) × (m ≡ ReadyForQuery status)
 IsVerdict part m verdicts.Copies = may_copy part m ≡ true
 
--- why a message is refused: its body is not in its format, or it may not come
+-- the body is that of a message with this tag, or is refused
+abbrev pub Checks : {X : Type 0} → ℕ → List ℕ → Result X Error → Type 0
+Checks tag body (Ok x) = (m : BackendMessage) × Says tag body m
+Checks tag body (Err e) = IsRefused tag body e
+
+-- why a message is refused: its body is not in its format, or is that of a message that may not come
 abbrev pub IsFault : (BackendMessage → Type 0) → ℕ → List ℕ → Error → Type 0
 IsFault IsOut tag body errors.OutOfMemory = Unit {0}
 IsFault IsOut tag body (errors.Protocol (protocol.Server (faults.Malformed t))) = (t ≡ tag) × ((m : BackendMessage) → Says tag body m → ⊥)
-IsFault IsOut tag body (errors.Protocol (protocol.Server (faults.Unlawful t))) = (t ≡ tag) × ((m : BackendMessage) → Says tag body m → IsOut m)
+IsFault IsOut tag body (errors.Protocol (protocol.Server (faults.Unlawful t))) = (t ≡ tag) × (m : BackendMessage) × Says tag body m × IsOut m
 IsFault IsOut tag body _ = ⊥
 
 -- any message

@@ -1,6 +1,5 @@
-ghost use Rattle.std.specs.Prelude.{◌≡◌, IfErr, Err};
-ghost use Rattle.pg_wire.specs.Decoding.{IsRefused};
-ghost use Rattle.pg_call.specs.Replies.{IsFault, IsAny};
+ghost use Rattle.std.specs.Prelude.{ℕ, List};
+ghost use Rattle.pg_call.specs.Replies.{Checks, IsFault, IsAny};
 
 use pg_wire::{
     Error, ProtocolFault, ServerFault, decode_authentication, decode_backend_key_data,
@@ -14,7 +13,7 @@ use std::alloc::Global;
 
 // What is left of a message of which nothing is kept.
 fn checked<T: Drop>(read: Result<T, Error>) -> Result<(), Error>
-    ensures { IfErr result (λ e. read ≡ Err e) }
+    ensures { (tag : ℕ) (body : List ℕ) → Checks tag body read → Checks tag body result }
 {
     match read {
         Ok(_) => Ok(()),
@@ -22,9 +21,9 @@ fn checked<T: Drop>(read: Result<T, Error>) -> Result<(), Error>
     }
 }
 
-// The messages of start-up and those that may come at any time.
-fn check_session(alloc: Global, tag: u8, body: &[u8]) -> Result<(), Error>
-    ensures { IfErr result (IsRefused tag body.now) }
+// Whether the body of a message with this tag is in its format. No message has any other tag.
+fn check_message(alloc: Global, tag: u8, body: &[u8]) -> Result<(), Error>
+    ensures { Checks tag body.now result }
 {
     match tag {
         b'R' => checked(decode_authentication(alloc, body)),
@@ -34,15 +33,6 @@ fn check_session(alloc: Global, tag: u8, body: &[u8]) -> Result<(), Error>
         b'E' => checked(decode_error_response(alloc, body)),
         b'N' => checked(decode_notice_response(alloc, body)),
         b'A' => checked(decode_notification_response(alloc, body)),
-        _ => Ok(()),
-    }
-}
-
-// The messages of simple queries and of copies.
-fn check_query(alloc: Global, tag: u8, body: &[u8]) -> Result<(), Error>
-    ensures { IfErr result (IsRefused tag body.now) }
-{
-    match tag {
         b'T' => checked(decode_row_description(alloc, body)),
         b'D' => checked(decode_data_row(alloc, body)),
         b'C' => checked(decode_command_complete(body)),
@@ -51,32 +41,14 @@ fn check_query(alloc: Global, tag: u8, body: &[u8]) -> Result<(), Error>
         b'H' => checked(decode_copy_out_response(alloc, body)),
         b'd' => checked(decode_copy_data(alloc, body)),
         b'c' => checked(decode_copy_done(body)),
-        _ => Ok(()),
-    }
-}
-
-// The messages of extended queries.
-fn check_extended(alloc: Global, tag: u8, body: &[u8]) -> Result<(), Error>
-    ensures { IfErr result (IsRefused tag body.now) }
-{
-    match tag {
         b't' => checked(decode_parameter_description(alloc, body)),
         b'1' => checked(decode_parse_complete(body)),
         b'2' => checked(decode_bind_complete(body)),
         b'3' => checked(decode_close_complete(body)),
         b'n' => checked(decode_no_data(body)),
         b's' => checked(decode_portal_suspended(body)),
-        _ => Ok(()),
+        _ => Err(Error::Protocol(ProtocolFault::Server(ServerFault::Malformed { tag }))),
     }
-}
-
-// Whether the body of a message with this tag is in its format.
-fn check_message(alloc: Global, tag: u8, body: &[u8]) -> Result<(), Error>
-    ensures { IfErr result (IsRefused tag body.now) }
-{
-    check_session(alloc, tag, body)?;
-    check_query(alloc, tag, body)?;
-    check_extended(alloc, tag, body)
 }
 
 /// The fault of a message that may not come where it came: that its body is not in its format comes before that.

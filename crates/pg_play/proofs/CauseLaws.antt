@@ -84,13 +84,14 @@ front_cause start at a b step said fs items items' copied end e st s l (front, r
     is_front = record { rest = rest; whole = whole; answers = answers; held = held }
 
     unlawful : (tag : ℕ) → IsFrontFault a.ledger (request_of step.call) l.own (heard fs) front (errors.Protocol (protocol.Server (faults.Unlawful tag))) → IsUnlawful at s.own (heard fs) (next_place at b said s.own fs end) tag
-    unlawful tag (t, own, count, (group, is, none)) =
+    unlawful tag (t, message, own, count, (group, is, none)) =
         let one : length l.own ≡ 1 = ap (λ (g : List Group). length g) (own ∙ is) in
         let q = whole_own a.ledger (request_of step.call) said (heard fs) items' items b.ledger copied false s l own one in
         record {
           front = front;
           is_front = is_front;
           tagged = t;
+          message = message;
           group = group;
           last = q.own_is ∙ is;
           in_own = omega (arith, st.ledger, count, ended_next at fs);

@@ -16,6 +16,7 @@ use Rattle.pg_stream.specs.Streams.{HeaderFault, HasNone, IsMalformedFront}
 use Rattle.pg_call.specs.declared.judging.Part.{Part}
 use Rattle.pg_call.specs.Requests.{Group, kind_of, groups_of, CanBeSaid, IsRefusal}
 use Rattle.pg_call.specs.Replies.{awaits_first, part_after, may_copy}
+use Rattle.pg_call.specs.Calls.{HasMessage}
 use Rattle.pg_report.specs.declared.outcome.Answer.TheVariants.{Unit as AnswersUnit}
 use Rattle.pg_report.specs.declared.outcome.End.{End}
 use Rattle.pg_report.specs.declared.outcome.End.TheVariants as ends
@@ -40,11 +41,12 @@ pub record IsFront (next : Place) (front : Frame) : Type 0 where
 abbrev pub HasNoMessage : Frame → Type 0
 HasNoMessage frame = (m : BackendMessage) → HasBackendFrame m → backend_frame m ≡ frame → ⊥
 
--- behind what has come of the response, the front begins no response of any server to the group, copies allowed
+-- the front is in its format; but behind what has come of the response, it begins no response of any server to the group, copies allowed
 pub record IsUnlawful (at : Place) (own : List Group) (slice : List Frame) (next : Place) (tag : ℕ) : Type 0 where
   pub front : Frame
   pub is_front : IsFront next front
   pub tagged : tag ≡ front.tag
+  pub message : HasMessage front
   pub group : Group
   pub last : own ≡ group ∷ []
   pub in_own : ended next ≡ length at.groups
