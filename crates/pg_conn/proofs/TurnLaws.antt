@@ -1,5 +1,5 @@
 -- How the beats of a call follow one another.
-use Rattle.std.proofs.Common.{◌≡◌, ◌≢◌, ◌⊎◌, ℕ, ◌+◌, ◌-◌, ◌<◌, ◌≤◌, cond, inl, inr, Bool, true, false, ◌&&◌, ◌||◌, ◌==◌, nat_eq, List, [], ◌∷◌, ◌++◌, length, map, refl, sym, ap, ◌∙◌, subst, append_assoc, append-nil, length-append, arith, Ok, Err, Option, Some, None, Result, IfOk, IfErr, OnErr}
+use Rattle.std.proofs.Common.{◌≡◌, ◌≢◌, ◌⊎◌, ℕ, ◌+◌, ◌-◌, ◌<◌, ◌≤◌, cond, inl, inr, Bool, true, false, ◌&&◌, ◌||◌, ◌==◌, nat_eq, List, [], ◌∷◌, ◌++◌, length, map, refl, sym, ap, ◌∙◌, subst, append_assoc, append-nil, length-append, arith, Ok, Err, Option, Some, None, Result, IfOk, IfErr, OnErr, take, drop}
 use Rattle.std.specs.List.{count_by}
 use Rattle.std.proofs.lemmas.Bool.{eqb-true}
 use Rattle.std.proofs.lemmas.List.{map-append, same_from_push}
@@ -602,8 +602,8 @@ error_in : {A : Type 0} → Result A Error → Error
 error_in (Ok x) = errors.OutOfMemory
 error_in (Err e) = e
 
-pub same_error : {A : Type 0} (e : Error) → Err {T = A} e ≡ Err errors.OutOfMemory → e ≡ errors.OutOfMemory
-same_error e is = ap error_in is
+pub same_error : {A : Type 0} (e : Error) → ◌≡◌ {A = Result A Error} (Err e) (Err errors.OutOfMemory) → e ≡ errors.OutOfMemory
+same_error {A} e is = ap (λ (r : Result A Error). error_in r) is
 
 -- want of memory leaves the message at the front
 pub starves_message : (tag : ℕ) (body : List ℕ) (a : Running) → IsReplied a.call → RefusesMessage tag body a errors.OutOfMemory
@@ -618,8 +618,8 @@ starves_message tag body a replied = by a.call refl replied
 
 pub starves_front : {A : Type 0} (a b : ConnOf A) (front : Front) (e : Error) → IsHeardFront a.stream.held front → IsReplied a.call → e ≡ errors.OutOfMemory → b.ledger ≡ a.ledger → HearsFront front a b (Err e)
 starves_front a b front e f replied oom same =
-    let is = front_frame a.stream.held front (IsFront-from_heard a.stream.held front f) in
-    (_, _, is, (rw oom (starves_message front.tag _ (running_of a) replied), same))
+    let body : List ℕ = take (front.total - 5) (drop 5 a.stream.held) in
+    (body, drop front.total a.stream.held, front_frame a.stream.held front (IsFront-from_heard a.stream.held front f), (rw oom (starves_message front.tag body (running_of a) replied), same))
 
 pub taken_front : {A : Type 0} (seen : A → LinkSeen) (a m b : ConnOf A) (front : Front) (taken : Taken) → IsHeardFront a.stream.held front → (front.tag ≡ 71 → 57 ≤ a.stream.spare) → a.stream.unsent ≡ [] → m ≡ record a { ledger = m.ledger; call = m.call }
     → HearsFront front a m (Ok taken) → Accepts front taken.fails_copy m b → TakesBeat (seen_by seen a) (seen_by seen b) taken.beat
