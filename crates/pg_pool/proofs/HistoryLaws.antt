@@ -15,14 +15,10 @@ pub state_after-more : (s : PoolState) (es : List PoolEntry) (e : PoolEntry) →
 state_after-more s [] e = refl
 state_after-more s (x ∷ es) e = state_after-more (after s x.act) es e
 
-both : (a b c : Bool) → (a && b) ≡ true → (b ≡ true → c ≡ true) → (a && c) ≡ true
-both true b c h f = f h
-both false b c h f = h
-
 is_legal-more : (most : ℕ) (s : PoolState) (es : List PoolEntry) (e : PoolEntry) → is_legal most s es ≡ true → may most (state_after s es) e.act ≡ true
     → is_legal most s (es ++ e ∷ []) ≡ true
 is_legal-more most s [] e legal allowed = rw allowed refl
-is_legal-more most s (x ∷ es) e legal allowed = both (may most s x.act) _ _ legal (λ h. is_legal-more most (after s x.act) es e h allowed)
+is_legal-more most s (x ∷ es) e legal allowed = let t = both_true (may most s x.act) _ legal in rw (t.0, is_legal-more most (after s x.act) es e t.1 allowed) refl
 
 -- as many are out or idle as before, or one fewer, or one more where there was room
 seats_more : (most : ℕ) (s : PoolState) (act : PoolAct) → length s.idle + length s.out ≤ most → may most s act ≡ true

@@ -23,13 +23,9 @@ clean_rest : {C : Type 0} (clean : C → Bool) (cs : List C) → all_clean clean
 clean_rest clean [] h = refl
 clean_rest clean (c ∷ cs) h = (both_true (clean c) _ h).1
 
-both : (a b c : Bool) → (a && b) ≡ true → (b ≡ true → c ≡ true) → (a && c) ≡ true
-both true b c h f = f h
-both false b c h f = h
-
 clean_more : {C : Type 0} (clean : C → Bool) (cs : List C) (c : C) → all_clean clean cs ≡ true → clean c ≡ true → all_clean clean (cs ++ c ∷ []) ≡ true
 clean_more clean [] c h k = rw k refl
-clean_more clean (d ∷ cs) c h k = both (clean d) _ _ h (λ rest. clean_more clean cs c rest k)
+clean_more clean (d ∷ cs) c h k = let t = both_true (clean d) _ h in rw (t.0, clean_more clean cs c t.1 k) refl
 
 module _ {C : Type 0} (clean : C → Bool) (a r b : LogSeen) (conns : List C) (total now : ℕ) (e : PoolEntry) (step : InStep clean a conns total) (same : r.history ≡ a.history)
     (longer : b.history ≡ r.history ++ e ∷ []) (state : log_state b ≡ after (log_state r) e.act) (counted : now ≡ total + 1) where
