@@ -403,7 +403,7 @@ execute_goes widths portal m new (Some fields) rs steps f p (inr (inr c)) = inr 
 ignored : (widths : Widths) (portal : Option ℕ) (m next : Server) (new : CopyServer) (rs : List BackendMessage) (steps : List Step) → Fits widths portal m → Ignores m rs next → Leaves next NotCopying new → Goes [] steps widths portal rs new
 ignored widths portal m next new rs steps f h l = inl (next, l, subst (Fits widths portal) (sym h.1) f, ap (behind (InSteps steps)) h.0)
 
-plainly : (m next : Server) (message : FrontendMessage) (rs : List BackendMessage) → m.over ≡ false → m.skip ≡ false → ServerStep m message rs next → Steps m message rs next
+pub plainly : (m next : Server) (message : FrontendMessage) (rs : List BackendMessage) → m.over ≡ false → m.skip ≡ false → ServerStep m message rs next → Steps m message rs next
 plainly m next message rs e k h = plain_step m.over m.skip _ _ _ e k h
 
 portal_fits_at : (portal : Option ℕ) (m : Server) (name : List ℕ) → PortalFits portal m.portal → PortalFits portal (portal_at m name)
@@ -478,10 +478,10 @@ skipping_walks (message ∷ inner) m new (rs ∷ rss) i e k run =
     let same : run.0 ≡ plain m = s.2 ∙ ap plain h.1 in
     subst (λ (t : List BackendMessage). Walks (InSteps []) (t ++ flat rss)) (sym h.0) (skipping_walks inner m new rss i.1 e k (subst (λ (x : CopyServer). CopyRun x (inner ++ Sync ∷ []) rss new) same run.2))
 
-went_step : (m : Server) (new : CopyServer) (message : FrontendMessage) (rs : List BackendMessage) → m.over ≡ false → m.skip ≡ false → CopyStep (plain m) message rs new → StepsOutsideCopy m message rs new
+pub went_step : (m : Server) (new : CopyServer) (message : FrontendMessage) (rs : List BackendMessage) → m.over ≡ false → m.skip ≡ false → CopyStep (plain m) message rs new → StepsOutsideCopy m message rs new
 went_step m new message rs e k h = where_neither m.over m.skip _ _ e k h
 
-sync_answered : (m next : Server) (rs : List BackendMessage) → m.over ≡ false → ServerStep m Sync rs next → StepsSync m rs next
+pub sync_answered : (m next : Server) (rs : List BackendMessage) → m.over ≡ false → ServerStep m Sync rs next → StepsSync m rs next
 sync_answered m next rs e h = by m.over m.skip e h
   where
     by : (over skip : Bool) → over ≡ false → cond over (Ignores m rs next) (cond skip (StepsSync m rs next) (StepsSync m rs next)) → StepsSync m rs next
@@ -512,7 +512,7 @@ group_walks (message ∷ inner) widths portal m new (rs ∷ rss) i f run =
 
 -- ---- any group
 
-only_mode : (c : CopyServer) → c.mode ≡ NotCopying → c ≡ plain c.server
+pub only_mode : (c : CopyServer) → c.mode ≡ NotCopying → c ≡ plain c.server
 only_mode c e = ap (λ (mode : CopyMode). record { server = c.server; mode = mode }) e
 
 pub starts_with_steps : (widths : Widths) (inner : List FrontendMessage) → AllByRecursion IsInner inner → expected widths (inner ++ Sync ∷ []) ≡ InSteps (steps_of widths None (inner ++ Sync ∷ []))

@@ -11,7 +11,7 @@ use Rattle.pg_wire.specs.Backend.{FieldDescription, Values, BackendMessage, HasB
 use Rattle.pg_wire.specs.Server.{Server, Statement, statement_at, fresh_server, with_statement, without_statement, IsFree}
 use Rattle.pg_wire.specs.Groups.{IsInner, IsBetween}
 use Rattle.pg_exchanges.specs.Expecting.{Step, Parses, Types, Columns, Binds, Runs, RunsOn, Closes, Expected, InSteps, width_behind, rows_on, behind, Widths, width_at, forget, AreDistinct, steps_of, expected, HasWidths, BeginsKnowing}
-use Rattle.pg_exchanges.specs.Answering.{Tells, MayStandBefore, DescribeWhole, HasStatement, IsAble, describing, running, parsed_running, closing}
+use Rattle.pg_exchanges.specs.Answering.{described, Tells, MayStandBefore, DescribeWhole, HasStatement, IsAble, describing, running, parsed_running, closing}
 use Rattle.pg_wire.proofs.StepLaws.{found_first}
 use Rattle.pg_wire.proofs.RunLaws.{with_over}
 use Rattle.pg_exchanges.proofs.ExpectingLaws.{behind_some, starts_with_steps, with_kept, with_skip}
@@ -170,13 +170,6 @@ parsed_unknown (_ ∷ own) steps t q e = absurd cc
 
 -- ---- a description
 
--- the columns that the messages describe
-abbrev described : List BackendMessage → List FieldDescription
-described [] = []
-described (RowDescription told ∷ own) = told
-described (NoData ∷ own) = []
-described (_ ∷ own) = described own
-
 no_columns : HasBackendFrame (RowDescription [])
 no_columns = (omega arith, tt)
 
@@ -210,7 +203,7 @@ describing_told (_ ∷ own) t e = absurd cc
 
 -- ---- servers that are able
 
-stands_at : (m : Server) (name : List ℕ) (s : Statement) → statement_at (with_statement m name s) name ≡ Some s
+pub stands_at : (m : Server) (name : List ℕ) (s : Statement) → statement_at (with_statement m name s) name ≡ Some s
 stands_at m [] s = refl
 stands_at m (b ∷ bs) s = found_first (b ∷ bs) s m.named
 
@@ -304,7 +297,7 @@ closes_quiet : (names : List (List ℕ)) (widths : Widths) (portal : Option ℕ)
 closes_quiet [] widths portal = tt
 closes_quiet (name ∷ names) widths portal = closes_quiet names (forget name widths) portal
 
-closes_inner : (names : List (List ℕ)) → AllByRecursion IsInner (map CloseStatement names)
+pub closes_inner : (names : List (List ℕ)) → AllByRecursion IsInner (map CloseStatement names)
 closes_inner [] = tt
 closes_inner (name ∷ names) = (tt, closes_inner names)
 

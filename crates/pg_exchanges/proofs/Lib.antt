@@ -1,3 +1,4 @@
 pub mod ExpectingLaws
 pub mod AcceptedLaws
 pub mod KindLaws
+pub mod WidthLaws

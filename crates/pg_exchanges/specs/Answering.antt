@@ -1,6 +1,6 @@
 -- A server that can answer each message of a group without an error, and what its response tells of columns (PostgreSQL manual, "Extended
 -- Query"): what makes messages that are accepted the beginning of a response.
-use Rattle.std.specs.Prelude.{◌≡◌, List, [], ◌∷◌, ◌++◌, length, map, Option, Some, None, ℕ}
+use Rattle.std.specs.Prelude.{◌≡◌, ◌≢◌, ◌⊎◌, List, [], ◌∷◌, ◌++◌, length, map, Option, Some, None, ℕ}
 use Rattle.pg_wire.specs.Frontend.{FrontendMessage, Query, Parse, DescribeStatement, DescribePortal, Bind, Execute, CloseStatement, ClosePortal, Sync, Terminate}
 use Rattle.pg_wire.specs.Backend.{FieldDescription, BackendMessage, HasBackendFrame, RowDescription, ParameterDescription, ErrorResponse, NoData, DataRow}
 use Rattle.pg_wire.specs.Server.{Server, Statement, statement_at, with_statement, without_statement, portal_at, IsFree}
@@ -22,6 +22,17 @@ MayStandBefore _ _ = Unit {0}
 abbrev pub DescribeWhole : List BackendMessage → Type 0
 DescribeWhole [] = Unit {0}
 DescribeWhole (m ∷ ms) = MayStandBefore m ms × DescribeWhole ms
+
+-- the columns that messages describe first, and none where they describe none
+abbrev pub described : List BackendMessage → List FieldDescription
+described [] = []
+described (RowDescription told ∷ ms) = told
+described (NoData ∷ ms) = []
+described (_ ∷ ms) = described ms
+
+abbrev pub IsNoError : BackendMessage → Type 0
+IsNoError (ErrorResponse details) = ⊥
+IsNoError _ = Unit {0}
 
 -- ---- the server, whose statements all have these columns
 
@@ -70,3 +81,12 @@ parsed_running name sql types values limit = Parse name sql types ∷ running na
 -- statements are closed; a Sync alone where there are none
 abbrev pub closing : List (List ℕ) → List FrontendMessage
 closing names = map CloseStatement names ++ Sync ∷ []
+
+-- one of the messages closes the statement of this name
+abbrev pub IsClosedBy : List FrontendMessage → List ℕ → Type 0
+IsClosedBy [] name = ⊥
+IsClosedBy (m ∷ ms) name = (m ≡ CloseStatement name) ⊎ IsClosedBy ms name
+
+-- the name is none of the unnamed statement, and no message closes it
+abbrev pub IsKeptBy : List FrontendMessage → List ℕ × ℕ → Type 0
+IsKeptBy messages w = (w.0 ≢ []) × (IsClosedBy messages w.0 → ⊥)

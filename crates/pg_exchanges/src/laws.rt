@@ -1,6 +1,6 @@
 //! What may come in the response to a request group, as laws of the protocol: each is the contract of a function that does nothing.
 
-ghost use Rattle.std.specs.Prelude.{◌≡◌, ◌≢◌, ℕ, None, List, [], ◌∷◌, ◌++◌, Option, Some, map};
+ghost use Rattle.std.specs.Prelude.{◌≡◌, ◌≢◌, ℕ, None, List, [], ◌∷◌, ◌++◌, Option, Some, length, map, flat_map};
 ghost use Rattle.std.specs.List.{AllByRecursion};
 ghost use Rattle.pg_wire.specs.Frame.{Frame};
 ghost use Rattle.pg_wire.specs.Frontend.{FrontendMessage};
@@ -11,9 +11,10 @@ ghost use Rattle.pg_wire.specs.declared.fields.ErrorField.{ErrorField};
 ghost use Rattle.pg_wire.specs.declared.status.TransactionStatus.{TransactionStatus};
 ghost use Rattle.pg_wire.specs.Server.{Server, IsFree};
 ghost use Rattle.pg_wire.specs.Groups.{IsGroup, IsBetween};
+ghost use Rattle.pg_wire.specs.Copying.{CopyServer, NotCopying, CopyRun};
 ghost use Rattle.pg_wire.specs.Acceptor as acceptor;
-ghost use Rattle.pg_exchanges.specs.Expecting.{Widths, Step, Expected, InQuery, InSteps, following, behind, expected, AreDistinct, HasWidths, BeginsKnowing, MayNotFollow};
-ghost use Rattle.pg_exchanges.specs.Answering.{Tells, DescribeWhole, HasStatement, IsAble, describing, running, parsed_running, closing};
+ghost use Rattle.pg_exchanges.specs.Expecting.{Widths, Step, Expected, InQuery, InSteps, following, behind, expected, AreDistinct, HasWidth, HasWidths, BeginsKnowing, MayNotFollow};
+ghost use Rattle.pg_exchanges.specs.Answering.{IsNoError, IsKeptBy, described, Tells, DescribeWhole, HasStatement, IsAble, describing, running, parsed_running, closing};
 
 /// A message that is refused begins no response: behind messages that were accepted, no server between two groups that has these statements goes
 /// on with a message that may not come there and begins no copy. So a server that keeps to the protocol is never refused.
@@ -96,6 +97,21 @@ pub fn each_kind_of_group_can_be_answered()
 /// Widths are known of some server, whatever they are, where each name stands in them once.
 pub fn widths_of_distinct_names_can_be_had()
     ensures { (widths : Widths) → AreDistinct widths → (server : Server) × IsBetween server × HasWidths server widths }
+{}
+
+/// Widths stay known over messages and whatever is replied to them, copies allowed: those of statements with a name that no message closes.
+pub fn known_widths_stay_known()
+    ensures { (widths : Widths) (messages : List FrontendMessage) (old new : CopyServer) (rss : List (List BackendMessage)) →
+        CopyRun old messages rss new → AllByRecursion (IsKeptBy messages) widths → HasWidths old.server widths →
+        HasWidths new.server widths }
+{}
+
+/// A width is known behind the response to a group that describes, where it has no error: that of the columns which it describes.
+pub fn a_description_makes_a_width_known()
+    ensures { (before after : CopyServer) (name sql types : List ℕ) (rss : List (List BackendMessage)) →
+        before.mode ≡ NotCopying → IsBetween before.server → CopyRun before (describing name sql types) rss after →
+        AllByRecursion IsNoError (flat_map (λ rs. rs) rss) →
+        HasWidth after.server (name, length (described (flat_map (λ rs. rs) rss))) }
 {}
 
 /// An error may come at any point of a response before its ReadyForQuery: in that to a Query, where none came yet, only ReadyForQuery is left

@@ -1,5 +1,5 @@
 -- What is known of a session stays orderly.
-use Rattle.std.proofs.Common.{◌≡◌, ℕ, zero, suc, ◌+◌, ◌-◌, ◌<◌, ◌≤◌, ◌^◌, Bool, true, false, cond, nat_eq, bytes_eq, List, [], ◌∷◌, length, take, Option, Some, None, decimal, refl, sym, ap, ◌∙◌, subst, arith, eq-eqb, ne_eqb}
+use Rattle.std.proofs.Common.{◌≡◌, ℕ, zero, suc, ◌+◌, ◌-◌, ◌<◌, ◌≤◌, ◌^◌, Bool, true, false, cond, nat_eq, bytes_eq, List, [], ◌∷◌, length, take, Option, Some, None, codes, decimal, refl, sym, ap, ◌∙◌, subst, arith, eq-eqb, ne_eqb}
 use Rattle.std.specs.List.{AllByRecursion}
 use Rattle.std.proofs.lemmas.Option.{same_Some}
 use Rattle.std.proofs.lemmas.Fmt.{decimal_is_IsNumeral}
@@ -14,7 +14,7 @@ use Rattle.pg_rule.specs.declared.rule.Rule.{Rule}
 use Rattle.pg_rule.specs.Caches.{entry_at, without, in_front, widths_in}
 use Rattle.pg_rule.specs.Rules.{new_rule, opened, closed, drawn, hit, kept, cleared, IsOrderly, IsNewest}
 use Rattle.pg_rule.specs.Texts.{rollback_text}
-use Rattle.pg_rule.specs.Rows.{Group, Exchange, known_widths, start_rollback}
+use Rattle.pg_rule.specs.Rows.{Group, Exchange, known_widths, start_rollback, rolled_back, Begin}
 use Rattle.pg_exchanges.proofs.KindLaws.{widths_had}
 
 -- ---- names
@@ -187,3 +187,6 @@ rolls_open rule h = open_by (nat_eq rule.depth 0) (Query (rollback_text rule.dep
 
 pub rolls_nothing : (rule : Rule) → rule.depth ≡ 0 → start_rollback rule ≡ []
 rolls_nothing rule e = let same = eq-eqb rule.depth 0 e in rw same refl
+
+pub begin_rolls : (old : Rule) (text : Option (List ℕ)) → old.depth ≡ 0 → rolled_back old (Begin text) ≡ (Query (codes "ROLLBACK") ∷ []) ∷ []
+begin_rolls old text e = rw e refl

@@ -1,22 +1,28 @@
 -- The rows of the table: what each asks, and that each call has one.
-use Rattle.std.proofs.Common.{◌≡◌, ℕ, zero, suc, ◌<◌, ◌^◌, List, [], ◌∷◌, ◌++◌, map, Option, Some, IfSome, refl, sym, ap, ◌∙◌, subst, arith, ◌⊎◌, inl, inr}
+use Rattle.std.proofs.Common.{◌≡◌, ℕ, zero, suc, ◌<◌, ◌≢◌, ◌^◌, List, [], ◌∷◌, ◌++◌, map, Option, Some, None, IfSome, codes, refl, sym, ap, ◌∙◌, subst, arith, ◌⊎◌, inl, inr}
 use Rattle.std.specs.List.{AllByRecursion}
 use Rattle.pg_wire.specs.Bytes.{HasNoNul}
 use Rattle.pg_wire.specs.Frame.{Frame}
-use Rattle.pg_wire.specs.Frontend.{Query, Sync}
+use Rattle.pg_wire.specs.Frontend.{Query, Sync, CloseStatement, HasFrontendFrame, statement_name}
 use Rattle.pg_wire.specs.Backend.{BackendMessage, backend_frame, HasBackendFrame}
 use Rattle.pg_wire.specs.Server.{Server}
 use Rattle.pg_wire.specs.Groups.{IsBetween}
 use Rattle.pg_wire.specs.Acceptor.{FirstSegment}
 use Rattle.pg_request.specs.Queries.{QueryText}
-use Rattle.pg_exchanges.specs.Expecting.{Widths, Expected, InQuery, InSteps, behind, expected, HasWidths, MayNotFollow, BeginsKnowing}
+use Rattle.pg_exchanges.specs.Expecting.{Step, Closes, Widths, Expected, InQuery, InSteps, behind, forget, steps_of, expected, HasWidths, MayNotFollow, BeginsKnowing}
+use Rattle.pg_exchanges.specs.Answering.{closing}
+use Rattle.pg_rule.specs.declared.cache.Entry.{Entry}
 use Rattle.pg_rule.specs.declared.rule.Rule.{Rule}
+use Rattle.pg_rule.specs.Caches.{names_in}
+use Rattle.pg_rule.specs.Rules.{cleared}
 use Rattle.pg_rule.specs.Texts.{begin_text, commit_text, rollback_text}
-use Rattle.pg_rule.specs.Rows.{Group, Asked, Run, Begin, Commit, Rollback, Ping, Flush, Close, Exchange, Plan, Main, awaited_by, known_widths, AsksOnce, MayBegin, IsRow, Asks, CanBeAsked, AsksNothing}
+use Rattle.pg_rule.specs.Rows.{Group, Asked, Run, Begin, Commit, Rollback, Clear, Ping, Flush, Close, Exchange, Plan, Main, awaited_by, known_widths, AsksOnce, MayBegin, IsRow, Asks, CanBeAsked, AsksNothing}
 use Rattle.pg_rule.proofs.TextLaws.{begin_said, commit_said, rollback_said}
-use Rattle.pg_exchanges.proofs.ExpectingLaws.{refused_begins_no_group_response}
+use Rattle.pg_wire.proofs.Each.{each_end}
+use Rattle.pg_wire.proofs.NameLaws.{numbered_nul_free}
+use Rattle.pg_exchanges.proofs.ExpectingLaws.{refused_begins_no_group_response, starts_with_steps}
 use Rattle.pg_exchanges.proofs.AcceptedLaws.{accepted_begins_query_response}
-use Rattle.pg_exchanges.proofs.KindLaws.{closing_begins}
+use Rattle.pg_exchanges.proofs.KindLaws.{closes_inner, closing_begins}
 
 -- ---- each row
 
@@ -35,6 +41,27 @@ asks_commit old lt some = asks_query old Commit (commit_text old.depth) (some, (
 
 pub asks_rollback : (old : Rule) → old.depth < 2 ^ 64 → 0 < old.depth → Asks old Rollback [] (Main (InQuery FirstSegment)) (Query (rollback_text old.depth) ∷ []) old
 asks_rollback old lt some = asks_query old Rollback (rollback_text old.depth) (some, (refl, refl, refl)) (rollback_said old.depth lt)
+
+-- each of the closes awaits one message
+closes_await : (widths : Widths) (portal : Option ℕ) (names : List (List ℕ)) → steps_of widths portal (closing names) ≡ map (λ name. Closes) names
+closes_await widths portal [] = refl
+closes_await widths portal (name ∷ names) = ap (λ (steps : List Step). Closes ∷ steps) (closes_await (forget name widths) portal names)
+
+closes_said : (names : List (List ℕ)) → AllByRecursion HasNoNul names → AllByRecursion HasFrontendFrame (closing names)
+closes_said [] h = (tt, tt)
+closes_said (name ∷ names) h = (h.0, closes_said names h.1)
+
+names_said : (es : List Entry) → AllByRecursion (λ e. e.number < 2 ^ 32) es → AllByRecursion HasNoNul (names_in es)
+names_said [] h = tt
+names_said (e ∷ es) h = each_end HasNoNul (names_in es) (statement_name e.number) (names_said es h.1) (numbered_nul_free (codes "sqlx_s_") e.number refl h.0)
+
+pub asks_clear : (old : Rule) → AllByRecursion (λ e. e.number < 2 ^ 32) old.cache → old.cache ≢ [] → Asks old Clear [] (Main (InSteps (map (λ name. Closes) (names_in old.cache)))) (closing (names_in old.cache)) (cleared old)
+asks_clear old h some = record {
+  row = (some, (refl, refl, refl));
+  can = closes_said (names_in old.cache) (names_said old.cache h);
+  is_group = inr (map CloseStatement (names_in old.cache), closes_inner (names_in old.cache), refl);
+  awaits = starts_with_steps [] (map CloseStatement (names_in old.cache)) (closes_inner (names_in old.cache)) ∙ ap InSteps (closes_await [] None (names_in old.cache));
+}
 
 pub asks_ping : (old : Rule) → Asks old Ping [] (Main (InSteps [])) (Sync ∷ []) old
 asks_ping old = record { row = (refl, refl, refl); can = (tt, tt); is_group = inr ([], tt, refl); awaits = refl }
@@ -56,12 +83,17 @@ row_of_rollback : (old : Rule) → old.depth < 2 ^ 64 → (old.depth ≡ 0) ⊎ 
 row_of_rollback old lt (inl e) = inl e
 row_of_rollback old lt (inr some) = inr ([], Main (InQuery FirstSegment), Query (rollback_text old.depth) ∷ [], old, asks_rollback old lt some)
 
+row_of_clear : (old : Rule) (es : List Entry) → old.cache ≡ es → AllByRecursion (λ e. e.number < 2 ^ 32) old.cache → AsksNothing old Clear ⊎ HasRow old Clear
+row_of_clear old [] e h = inl e
+row_of_clear old (x ∷ es) e h = inr ([], Main (InSteps (map (λ name. Closes) (names_in old.cache))), closing (names_in old.cache), cleared old, asks_clear old h (λ n. absurd cc))
+
 -- each call that can be asked has a row, or asks nothing
 pub has_row : (old : Rule) (asked : Asked) → old.depth < 2 ^ 64 → CanBeAsked old asked → AsksNothing old asked ⊎ HasRow old asked
 has_row old (Run query) lt can = inr ([], Main (InQuery FirstSegment), Query query.sql ∷ [], old, asks_run old query can)
 has_row old (Begin text) lt can = inr ([], Main (InQuery FirstSegment), Query (begin_text text old.depth) ∷ [], old, asks_begin old text lt can.0 can.1)
 has_row old Commit lt can = row_of_commit old lt (none_or_some old.depth)
 has_row old Rollback lt can = row_of_rollback old lt (none_or_some old.depth)
+has_row old Clear lt can = row_of_clear old old.cache refl can
 has_row old Ping lt can = inr ([], Main (InSteps []), Sync ∷ [], old, asks_ping old)
 has_row old Flush lt can = inl tt
 has_row old Close lt can = inl tt
@@ -72,6 +104,7 @@ nothing_or_row old (Run query) done plan group rule n a = n
 nothing_or_row old (Begin text) done plan group rule n a = n
 nothing_or_row old Commit done (Main awaits) group rule n a = absurd (omega (arith, n, a.row.0))
 nothing_or_row old Rollback done (Main awaits) group rule n a = absurd (omega (arith, n, a.row.0))
+nothing_or_row old Clear done (Main awaits) group rule n a = a.row.0 n
 nothing_or_row old Ping done plan group rule n a = n
 nothing_or_row old Flush done (Main awaits) group rule n a = a.row
 nothing_or_row old Close done (Main awaits) group rule n a = a.row
@@ -82,13 +115,19 @@ first_group old (Run query) = Query query.sql ∷ []
 first_group old (Begin text) = Query (begin_text text old.depth) ∷ []
 first_group old Commit = Query (commit_text old.depth) ∷ []
 first_group old Rollback = Query (rollback_text old.depth) ∷ []
+first_group old Clear = closing (names_in old.cache)
 first_group old _ = Sync ∷ []
 
-main_once : (old : Rule) (asked : Asked) (done : List Exchange) (awaits : Expected) (group : Group) (rule : Rule) → IsRow old asked done (Main awaits) group rule → AsksOnce old done group rule (first_group old asked)
+abbrev next_rule : Rule → Asked → Rule
+next_rule old Clear = cleared old
+next_rule old _ = old
+
+main_once : (old : Rule) (asked : Asked) (done : List Exchange) (awaits : Expected) (group : Group) (rule : Rule) → IsRow old asked done (Main awaits) group rule → AsksOnce done group rule (first_group old asked) (next_rule old asked)
 main_once old (Run query) done awaits group rule r = r
 main_once old (Begin text) done awaits group rule r = r.1
 main_once old Commit done awaits group rule r = r.1
 main_once old Rollback done awaits group rule r = r.1
+main_once old Clear done awaits group rule r = r.1
 main_once old Ping done awaits group rule r = r
 main_once old Flush done awaits group rule r = absurd r
 main_once old Close done awaits group rule r = absurd r
@@ -115,6 +154,7 @@ accepted_by_group widths old (Run query) server own e b w k h = accepted_begins_
 accepted_by_group widths old (Begin text) server own e b w k h = accepted_begins_query_response (begin_text text old.depth) widths server own e b w k h
 accepted_by_group widths old Commit server own e b w k h = accepted_begins_query_response (commit_text old.depth) widths server own e b w k h
 accepted_by_group widths old Rollback server own e b w k h = accepted_begins_query_response (rollback_text old.depth) widths server own e b w k h
+accepted_by_group widths old Clear server own e b w k h = closing_begins widths server (names_in old.cache) own e b w k h
 accepted_by_group widths old Ping server own e b w k h = closing_begins widths server [] own e b w k h
 accepted_by_group widths old Flush server own e b w k h = closing_begins widths server [] own e b w k h
 accepted_by_group widths old Close server own e b w k h = closing_begins widths server [] own e b w k h

@@ -1,5 +1,5 @@
 -- The statements that are kept, the one that was used last first.
-use Rattle.std.specs.Prelude.{ℕ, ◌+◌, ◌-◌, List, [], ◌∷◌, length, map, take, Option, Some, None, bytes_eq, if◌then◌else◌}
+use Rattle.std.specs.Prelude.{ℕ, ◌+◌, ◌-◌, List, [], ◌∷◌, ◌++◌, length, map, take, Option, Some, None, bytes_eq, if◌then◌else◌}
 use Rattle.pg_wire.specs.Frontend.{statement_name}
 use Rattle.pg_exchanges.specs.Expecting.{Widths}
 use Rattle.pg_rule.specs.declared.cache.Entry.{Entry}
@@ -32,3 +32,8 @@ put e capacity entries = e ∷ take (capacity - 1) entries
 -- how many columns they have, by their names
 abbrev pub widths_in : List Entry → Widths
 widths_in entries = map (λ e. (statement_name e.number, length e.columns)) entries
+
+-- their names, that of the one that was used last at the end
+abbrev pub names_in : List Entry → List (List ℕ)
+names_in [] = []
+names_in (e ∷ es) = names_in es ++ statement_name e.number ∷ []

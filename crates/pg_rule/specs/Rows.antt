@@ -1,6 +1,6 @@
 -- The request rule: which group a call queues behind the exchanges that it had so far, by what is known of the session (PostgreSQL manual,
 -- "Message Flow", "Simple Query", "Extended Query").
-use Rattle.std.specs.Prelude.{◌≡◌, ℕ, ◌<◌, List, [], ◌∷◌, Option, Some, None, IfSome, nat_eq, if◌then◌else◌}
+use Rattle.std.specs.Prelude.{◌≡◌, ◌≢◌, ℕ, ◌<◌, ◌^◌, List, [], ◌∷◌, Option, Some, None, IfSome, nat_eq, if◌then◌else◌}
 use Rattle.std.specs.List.{AllByRecursion}
 use Rattle.pg_wire.specs.Bytes.{HasNoNul}
 use Rattle.pg_wire.specs.Frontend.{FrontendMessage, HasFrontendFrame, Query, Sync, Terminate}
@@ -9,21 +9,23 @@ use Rattle.pg_wire.specs.Groups.{IsGroup}
 use Rattle.pg_request.specs.Queries.{QueryText}
 use Rattle.pg_exchanges.specs.Expecting.{Widths, Expected, expected}
 use Rattle.pg_rule.specs.declared.rule.Rule.{Rule}
-use Rattle.pg_rule.specs.Caches.{widths_in}
-use Rattle.pg_rule.specs.Rules.{opened, closed}
+use Rattle.pg_exchanges.specs.Answering.{closing}
+use Rattle.pg_rule.specs.Caches.{widths_in, names_in}
+use Rattle.pg_rule.specs.Rules.{opened, closed, cleared}
 use Rattle.pg_rule.specs.Texts.{begin_text, commit_text, rollback_text}
 
 abbrev pub Group : Type 0
 Group = List FrontendMessage
 
 -- what a call asks of a session: that a query is run, in whichever way its rows and counts are shown; that a transaction or a savepoint is
--- opened, by a text of the caller's own where there is one; that it is committed, or rolled back; a sign of life; that what is unsent is sent
--- and what is owed is read; the end of the session
+-- opened, by a text of the caller's own where there is one; that it is committed, or rolled back; that all statements that are kept are closed; a
+-- sign of life; that what is unsent is sent and what is owed is read; the end of the session
 pub data Asked : Type 0 where
   Run : QueryText → Asked
   Begin : (text : Option (List ℕ)) → Asked
   Commit : Asked
   Rollback : Asked
+  Clear : Asked
   Ping : Asked
   Flush : Asked
   Close : Asked
@@ -46,9 +48,9 @@ known_widths rule done = widths_in rule.cache
 
 -- ---- the table
 
--- a call of one group
-abbrev pub AsksOnce : Rule → List Exchange → Group → Rule → Group → Type 0
-AsksOnce old done group rule asked = (done ≡ []) × (group ≡ asked) × (rule ≡ old)
+-- a call of one group, and what is known then
+abbrev pub AsksOnce : List Exchange → Group → Rule → Group → Rule → Type 0
+AsksOnce done group rule asked next = (done ≡ []) × (group ≡ asked) × (rule ≡ next)
 
 -- a text of the caller's own opens a transaction, and no savepoint
 abbrev pub MayBegin : Option (List ℕ) → ℕ → Type 0
@@ -57,11 +59,12 @@ MayBegin (Some sql) depth = depth ≡ 0
 
 -- the group whose response is the call's own
 abbrev pub IsMain : Rule → Asked → List Exchange → Group → Rule → Type 0
-IsMain old (Run query) done group rule = AsksOnce old done group rule (Query query.sql ∷ [])
-IsMain old (Begin text) done group rule = MayBegin text old.depth × AsksOnce old done group rule (Query (begin_text text old.depth) ∷ [])
-IsMain old Commit done group rule = (0 < old.depth) × AsksOnce old done group rule (Query (commit_text old.depth) ∷ [])
-IsMain old Rollback done group rule = (0 < old.depth) × AsksOnce old done group rule (Query (rollback_text old.depth) ∷ [])
-IsMain old Ping done group rule = AsksOnce old done group rule (Sync ∷ [])
+IsMain old (Run query) done group rule = AsksOnce done group rule (Query query.sql ∷ []) old
+IsMain old (Begin text) done group rule = MayBegin text old.depth × AsksOnce done group rule (Query (begin_text text old.depth) ∷ []) old
+IsMain old Commit done group rule = (0 < old.depth) × AsksOnce done group rule (Query (commit_text old.depth) ∷ []) old
+IsMain old Rollback done group rule = (0 < old.depth) × AsksOnce done group rule (Query (rollback_text old.depth) ∷ []) old
+IsMain old Clear done group rule = (old.cache ≢ []) × AsksOnce done group rule (closing (names_in old.cache)) (cleared old)
+IsMain old Ping done group rule = AsksOnce done group rule (Sync ∷ []) old
 IsMain old Flush done group rule = ⊥
 IsMain old Close done group rule = ⊥
 
@@ -76,16 +79,18 @@ pub record Asks (old : Rule) (asked : Asked) (done : List Exchange) (plan : Plan
   pub is_group : IsGroup group
   pub awaits : expected (known_widths rule done) group ≡ awaited_by plan
 
--- its texts can be said, and its own text opens no savepoint
+-- its texts can be said, its own text opens no savepoint, and numbers take four bytes
 abbrev pub CanBeAsked : Rule → Asked → Type 0
 CanBeAsked old (Run query) = HasNoNul query.sql
 CanBeAsked old (Begin text) = IfSome text HasNoNul × MayBegin text old.depth
+CanBeAsked old Clear = AllByRecursion (λ e. e.number < 2 ^ 32) old.cache
 CanBeAsked old _ = Unit {0}
 
--- the calls that queue no group: where nothing is open there is nothing to end
+-- the calls that queue no group: where nothing is open there is nothing to end, and where nothing is kept there is nothing to close
 abbrev pub AsksNothing : Rule → Asked → Type 0
 AsksNothing old Commit = old.depth ≡ 0
 AsksNothing old Rollback = old.depth ≡ 0
+AsksNothing old Clear = old.cache ≡ []
 AsksNothing old Flush = Unit {0}
 AsksNothing old Close = Unit {0}
 AsksNothing old _ = ⊥
@@ -107,3 +112,8 @@ settled _ rule = rule
 -- a rollback that no call asks for, as where a transaction is let go: it waits for no reply
 abbrev pub start_rollback : Rule → List Group
 start_rollback rule = if nat_eq rule.depth 0 then [] else (Query (rollback_text rule.depth) ∷ []) ∷ []
+
+-- a begin that isn't Ok is followed by this, once its group was queued and where it would have opened the transaction
+abbrev pub rolled_back : Rule → Asked → List Group
+rolled_back old (Begin text) = if nat_eq old.depth 0 then start_rollback (opened old) else []
+rolled_back old _ = []

@@ -1,6 +1,6 @@
 //! What follows from the table of the calls and their groups, each the contract of a function that does nothing.
 
-ghost use Rattle.std.specs.Prelude.{◌≡◌, ◌⊎◌, ◌<◌, ◌≤◌, ◌^◌, ℕ, List, [], ◌∷◌, ◌++◌, Option, Some, None, IfSome, map, codes};
+ghost use Rattle.std.specs.Prelude.{◌≡◌, ◌≢◌, ◌⊎◌, ◌<◌, ◌≤◌, ◌^◌, ℕ, List, [], ◌∷◌, ◌++◌, Option, Some, None, IfSome, map, codes};
 ghost use Rattle.std.specs.List.{AllByRecursion};
 ghost use Rattle.pg_wire.specs.Bytes.{HasNoNul};
 ghost use Rattle.pg_wire.specs.Frame.{Frame};
@@ -10,12 +10,14 @@ ghost use Rattle.pg_wire.specs.Server.{Server};
 ghost use Rattle.pg_wire.specs.Groups.{IsBetween};
 ghost use Rattle.pg_wire.specs.Acceptor.{FirstSegment};
 ghost use Rattle.pg_request.specs.Queries.{QueryText};
-ghost use Rattle.pg_exchanges.specs.Expecting.{Expected, InQuery, InSteps, behind, HasWidths, MayNotFollow, BeginsKnowing};
+ghost use Rattle.pg_exchanges.specs.Expecting.{Closes, Expected, InQuery, InSteps, behind, HasWidths, MayNotFollow, BeginsKnowing};
+ghost use Rattle.pg_exchanges.specs.Answering.{closing};
+ghost use Rattle.pg_rule.specs.Caches.{names_in};
 ghost use Rattle.pg_rule.specs.declared.cache.Entry.{Entry as EntryOf};
 ghost use Rattle.pg_rule.specs.declared.rule.Rule.{Rule as RuleOf};
 ghost use Rattle.pg_rule.specs.Rules.{new_rule, opened, closed, drawn, hit, kept, cleared, IsOrderly, IsNewest};
 ghost use Rattle.pg_rule.specs.Texts.{begin_text, commit_text, rollback_text};
-ghost use Rattle.pg_rule.specs.Rows.{Group, Asked, Run, Begin, Commit, Rollback, Ping, Exchange, Plan, Main, awaited_by, known_widths, MayBegin, Asks, CanBeAsked, AsksNothing, start_rollback};
+ghost use Rattle.pg_rule.specs.Rows.{Group, Asked, Run, Begin, Commit, Rollback, Clear, Ping, Exchange, Plan, Main, awaited_by, known_widths, MayBegin, Asks, CanBeAsked, AsksNothing, start_rollback, rolled_back};
 
 /// A query without arguments is one Query, and what is known of the session stays.
 pub fn a_query_without_arguments_is_one_query()
@@ -31,6 +33,13 @@ pub fn a_transaction_call_is_one_query()
         Asks old Commit [] (Main (InQuery FirstSegment)) (frontend.Query (commit_text old.depth) ∷ []) old }
     ensures rollback { (old : RuleOf) → old.depth < 2 ^ 64 → 0 < old.depth →
         Asks old Rollback [] (Main (InQuery FirstSegment)) (frontend.Query (rollback_text old.depth) ∷ []) old }
+{}
+
+/// A clear is one group that closes each kept statement, the one that was used last at the end; then none is kept, and a CloseComplete for each
+/// is awaited.
+pub fn a_clear_is_one_group_of_closes()
+    ensures { (old : RuleOf) → AllByRecursion (λ e. e.number < 2 ^ 32) old.cache → old.cache ≢ [] →
+        Asks old Clear [] (Main (InSteps (map (λ name. Closes) (names_in old.cache)))) (closing (names_in old.cache)) (cleared old) }
 {}
 
 /// A ping is one Sync, of which ReadyForQuery is awaited.
@@ -71,6 +80,8 @@ pub fn a_rollback_without_a_call_is_one_query_at_most()
         start_rollback rule ≡ (frontend.Query (rollback_text rule.depth) ∷ []) ∷ [] }
     ensures said { (rule : RuleOf) → rule.depth < 2 ^ 64 → HasNoNul (rollback_text rule.depth) }
     ensures nothing { (rule : RuleOf) → rule.depth ≡ 0 → start_rollback rule ≡ [] }
+    ensures of_a_begin { (old : RuleOf) (text : Option (List ℕ)) → old.depth ≡ 0 →
+        rolled_back old (Begin text) ≡ (frontend.Query (codes "ROLLBACK") ∷ []) ∷ [] }
 {}
 
 /// What is known of a session stays orderly: behind start-up, by each move, and behind a put of a statement whose number was drawn last. So the

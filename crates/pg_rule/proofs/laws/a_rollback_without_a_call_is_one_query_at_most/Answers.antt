@@ -1,5 +1,5 @@
 use Rattle.pg_rule.proofs.TextLaws.{rollback_said}
-use Rattle.pg_rule.proofs.OrderLaws.{rolls_open, rolls_nothing}
+use Rattle.pg_rule.proofs.OrderLaws.{rolls_open, rolls_nothing, begin_rolls}
 use Rattle.pg_rule.proofs.laws.a_rollback_without_a_call_is_one_query_at_most.Goals as goal
 
 pub returns-clause-open : goal.returns-clause-open
@@ -10,3 +10,6 @@ returns-clause-said c rule = rollback_said rule.depth
 
 pub returns-clause-nothing : goal.returns-clause-nothing
 returns-clause-nothing c = rolls_nothing
+
+pub returns-clause-of_a_begin : goal.returns-clause-of_a_begin
+returns-clause-of_a_begin c = begin_rolls
