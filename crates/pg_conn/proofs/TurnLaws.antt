@@ -598,7 +598,7 @@ hears_row tag body a b (Err e) is takes copy goes stays refuses ledger = (rw is 
 pub framed_front : (held : List ℕ) (front : Front) (frame : Frame) (rest : List ℕ) → IsFrontOf held front frame rest → IsFrontOf held front (framed front.tag frame.body) rest
 framed_front held front frame rest is = subst (λ (t : ℕ). IsFrontOf held front (framed t frame.body) rest) is.tag is
 
-error_in : {A : Type 0} → Result A Error → Error
+abbrev error_in : {A : Type 0} → Result A Error → Error
 error_in (Ok x) = errors.OutOfMemory
 error_in (Err e) = e
 
@@ -616,10 +616,11 @@ starves_message tag body a replied = by a.call refl replied
     by (calls.Waiting waiting) e h = absurd h
     by calls.Closing e h = absurd h
 
-pub starves_front : {A : Type 0} (a b : ConnOf A) (front : Front) (e : Error) → IsHeardFront a.stream.held front → IsReplied a.call → e ≡ errors.OutOfMemory → b.ledger ≡ a.ledger → HearsFront front a b (Err e)
-starves_front a b front e f replied oom same =
-    let body : List ℕ = take (front.total - 5) (drop 5 a.stream.held) in
-    (body, drop front.total a.stream.held, front_frame a.stream.held front (IsFront-from_heard a.stream.held front f), (rw oom (starves_message front.tag body (running_of a) replied), same))
+pub starves_front : (held : List ℕ) (front : Front) (a b : Running) (e : Error) → IsHeardFront held front → IsReplied a.call → e ≡ errors.OutOfMemory → b.ledger ≡ a.ledger
+    → (body : List ℕ) × (rest : List ℕ) × IsFrontOf held front (framed front.tag body) rest × HearsBy front.tag body a b (Err e)
+starves_front held front a b e f replied oom same =
+    let body : List ℕ = take (front.total - 5) (drop 5 held) in
+    (body, drop front.total held, front_frame held front (IsFront-from_heard held front f), (rw oom (starves_message front.tag body a replied), same))
 
 pub taken_front : {A : Type 0} (seen : A → LinkSeen) (a m b : ConnOf A) (front : Front) (taken : Taken) → IsHeardFront a.stream.held front → (front.tag ≡ 71 → 57 ≤ a.stream.spare) → a.stream.unsent ≡ [] → m ≡ record a { ledger = m.ledger; call = m.call }
     → HearsFront front a m (Ok taken) → Accepts front taken.fails_copy m b → TakesBeat (seen_by seen a) (seen_by seen b) taken.beat

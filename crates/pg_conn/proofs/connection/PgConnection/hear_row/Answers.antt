@@ -11,5 +11,7 @@ returns-in-Ok-clause-hears g c =
 
 pub returns-in-Err-clause-hears : goal.returns-in-Err-clause-hears
 returns-in-Err-clause-hears g c =
-    let replied = c.requires.replied in
-    rw (← c.self.view_is) (starves_front _ _ c.args.front c.in-Err.e (rw (← c.self.view_is) at c.requires.front) (rw (← c.self.view_is) at replied) (same_error c.in-Err.e c.in-Err.ensures.err) refl)
+    let running = c.self.inside.running in
+    let front = rw (← c.self.view_is) at c.requires.front in
+    let replied = rw (← c.self.view_is) at c.requires.replied in
+    rw (← c.self.view_is) (starves_front c.self.inside.stream.held c.args.front running running c.in-Err.e front replied (same_error c.in-Err.e c.in-Err.ensures.err) refl)
