@@ -14,6 +14,7 @@ import subprocess
 import sys
 import tempfile
 
+sys.dont_write_bytecode = True
 import scripts
 
 SIZES = {'steps': (1000, 2000)}

@@ -27,9 +27,21 @@ pub(crate) fn put_byte(out: &mut String, byte: u8) -> Result<(), AllocError>
     out.push(digit(byte % 16))
 }
 
+// Most numbers of a report have one digit.
+#[tactic(auto, using(std::proofs::lemmas::Fmt::decimal_digit))]
+fn put_small(out: &mut String, n: u8) -> Result<(), AllocError>
+    requires { n < 10 }
+    ensures { OnOk result (string_bytes out.new ≡ string_bytes out.old ++ decimal n) }
+{
+    out.push(char::from(b'0' + n))
+}
+
 pub(crate) fn put_number(out: &mut String, n: u64) -> Result<(), AllocError>
     ensures { OnOk result (string_bytes out.new ≡ string_bytes out.old ++ decimal n) }
 {
+    if n < 10 {
+        return put_small(out, n as u8);
+    }
     let mut digits = Buffer::new();
     out.push_str(digits.format(n))
 }
@@ -91,7 +103,7 @@ pub(crate) fn put_named_number(out: &mut String, word: &str, n: u64) -> Result<(
     ensures { OnOk result (string_bytes out.new ≡ string_bytes out.old ++ named_number word.now n) }
 {
     out.push_str(word)?;
-    out.push_str(" ")?;
+    out.push(' ')?;
     put_number(out, n)
 }
 

@@ -55,9 +55,9 @@ fn put_item_line(out: &mut String, step: u64, item: &Item) -> Result<(), AllocEr
     ensures { OnOk result (string_bytes out.new ≡ string_bytes out.old ++ item_line step item.now) }
 {
     put_named_number(out, "item", step)?;
-    out.push_str(" ")?;
+    out.push(' ')?;
     put_item(out, item)?;
-    out.push_str("\n")
+    out.push('\n')
 }
 
 fn put_item_lines(out: &mut String, step: u64, items: &[Item]) -> Result<(), AllocError>
@@ -89,7 +89,7 @@ fn put_answer_rest(out: &mut String, answer: &Answer) -> Result<(), AllocError>
         Answer::Total(total) => put_number(out, *total),
         Answer::Described { parameters, fields } => {
             put_oids(out, parameters.as_slice())?;
-            out.push_str(" ")?;
+            out.push(' ')?;
             put_number(out, fields.len() as u64)
         }
         Answer::Unit | Answer::Held(_) => Ok(()),
@@ -148,9 +148,9 @@ fn put_step_line(out: &mut String, step: u64, outcome: &Outcome) -> Result<(), A
 {
     put_named_number(out, "step", step)?;
     put_progress(out, outcome)?;
-    out.push_str(" ")?;
+    out.push(' ')?;
     put_end(out, &outcome.end)?;
-    out.push_str("\n")
+    out.push('\n')
 }
 
 // The items' lines, and then the step's own.
