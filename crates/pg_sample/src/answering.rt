@@ -1,5 +1,4 @@
-ghost use Rattle.std.specs.Prelude.{◌≡◌, ◌∷◌, ◌++◌, ◌≤◌, [], length, decimal, IfOk, OnOk};
-ghost use Rattle.pg_wire.specs.Bytes.{number32};
+ghost use Rattle.std.specs.Prelude.{◌≡◌, ◌++◌, ◌≤◌, length, decimal, IfOk, OnOk};
 ghost use Rattle.pg_sample.specs.Sample.{greeting, response, spelled, row_head, wait_before, events_of};
 
 use itoa::Buffer;
