@@ -4,6 +4,7 @@ pub mod Cached
 pub mod Found
 pub mod Tried
 pub mod Sound
+pub mod Listed
 pub mod Texts
 pub mod Resolving
 pub mod Settling

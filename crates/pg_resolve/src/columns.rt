@@ -1,44 +1,24 @@
 ghost use Rattle.std.specs.Prelude.{◌≡◌, ◌++◌, ◌∷◌, [], OnOk, IfOk, string_bytes};
-ghost use Rattle.std.specs.List.{flat_map};
-ghost use Rattle.pg_resolve.specs.Columns.{column_text, more_column, columns_text, column_head, column_end, column_lookup, AsksColumns};
+ghost use Rattle.pg_resolve.specs.Columns.{column_text, column_head, column_end, column_lookup, AsksColumns};
 
+use crate::listing::{Listed, push_list};
 use itoa::Buffer;
 use pg_wire::{Error, Oid, Sequence, Text};
 use std::alloc::{AllocError, Global};
 use std::marker::Model;
 
-#[tactic(auto, using(crate::proofs::TextLaws::five_pushed))]
-fn push_column(out: &mut String, column: &(Oid, i16)) -> Result<(), AllocError>
-    ensures { OnOk result (string_bytes out.new ≡ string_bytes out.old ++ column_text column.now) }
-{
-    let mut table = Buffer::new();
-    let mut attribute = Buffer::new();
-    out.push_str("(")?;
-    out.push_str(table.format(column.0.0))?;
-    out.push_str(", ")?;
-    out.push_str(attribute.format(column.1))?;
-    out.push_str(")")
-}
+impl Listed for (Oid, i16) {
+    ghost text = { column_text };
 
-fn push_more(out: &mut String, columns: &[(Oid, i16)]) -> Result<(), AllocError>
-    ensures { OnOk result (string_bytes out.new ≡ string_bytes out.old ++ flat_map more_column columns.now) }
-{
-    for column in columns {
+    #[tactic(auto, using(crate::proofs::TextLaws::five_pushed))]
+    fn push_text(&self, out: &mut String) -> Result<(), AllocError> {
+        let mut table = Buffer::new();
+        let mut attribute = Buffer::new();
+        out.push_str("(")?;
+        out.push_str(table.format(self.0.0))?;
         out.push_str(", ")?;
-        push_column(out, column)?;
-    }
-    Ok(())
-}
-
-fn push_columns(out: &mut String, columns: &[(Oid, i16)]) -> Result<(), AllocError>
-    ensures { OnOk result (string_bytes out.new ≡ string_bytes out.old ++ columns_text columns.now) }
-{
-    match columns {
-        [] => Ok(()),
-        [first, rest @ ..] => {
-            push_column(out, first)?;
-            push_more(out, rest)
-        }
+        out.push_str(attribute.format(self.1))?;
+        out.push_str(")")
     }
 }
 
@@ -66,7 +46,7 @@ fn column_text_of(alloc: Global, columns: &[(Oid, i16)]) -> Result<Text, AllocEr
 {
     let mut out = String::new(alloc);
     push_head(&mut out)?;
-    push_columns(&mut out, columns)?;
+    push_list(&mut out, columns)?;
     push_end(&mut out)?;
     Ok(Text::from_string(out))
 }

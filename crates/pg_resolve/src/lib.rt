@@ -12,6 +12,7 @@ mod entering;
 mod entry;
 mod found;
 pub mod laws;
+mod listing;
 mod resolver;
 mod row;
 mod texts;
