@@ -82,6 +82,7 @@ live_ends : {A : Type 0} (seen : A → LinkSeen) (hands : Handing A) (o : Connec
 live_ends seen hands o script f g p (endings.Live q) h (same, low) d = (rw same h, rw same low, d)
 live_ends seen hands o script f g p endings.NoMemory h k d = k
 live_ends seen hands o script f g p (endings.Played q) h k d = k
+live_ends seen hands o script f g p (endings.Sampled q) h k d = k
 live_ends seen hands o script f g p (endings.Shown q) h k d = k
 live_ends seen hands o script f g p endings.Help h k d = k
 live_ends seen hands o script f g p endings.Version h k d = k
