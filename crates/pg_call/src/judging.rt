@@ -9,9 +9,9 @@ use crate::format::refuse;
 use crate::{CallItem, Kind, PgQueryResult};
 use pg_rows::PgRow;
 use pg_wire::{
-    Error, Frame, PgDatabaseError, check_data_row, check_row_description, claimed_width, cut_data_row, decode_command_complete, decode_copy_in_response,
-    decode_copy_out_response, decode_data_row, decode_empty_query, decode_error_response,
-    decode_ready_for_query,
+    Error, Frame, PgDatabaseError, check_data_row, check_row_description, claimed_width,
+    cut_data_row, decode_command_complete, decode_copy_in_response, decode_copy_out_response,
+    decode_data_row, decode_empty_query, decode_error_response, decode_ready_for_query,
 };
 use std::alloc::Global;
 
