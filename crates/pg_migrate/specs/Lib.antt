@@ -1,1 +1,2 @@
 pub mod Crc32
+pub mod Clocks
