@@ -1,1 +1,2 @@
 pub mod CrcLaws
+pub mod QuoteLaws

@@ -1,2 +1,4 @@
 pub mod Crc32
 pub mod Clocks
+pub mod Quoting
+pub mod Texts
