@@ -1,0 +1,5 @@
+pub mod Crc32
+pub mod Clocks
+pub mod Quoting
+pub mod Texts
+pub mod Orders
