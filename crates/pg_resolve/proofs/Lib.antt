@@ -10,3 +10,4 @@ pub mod TextLaws
 pub mod RoundLaws
 pub mod AgainLaws
 pub mod OrderLaws
+pub mod TableLaws

@@ -10,3 +10,4 @@ pub mod Resolving
 pub mod Settling
 pub mod Rounds
 pub mod Columns
+pub mod Tables

@@ -1,8 +1,10 @@
 //! What follows from the definitions in `specs/`: each law is the contract of a function that does nothing.
 
-ghost use Rattle.std.specs.Prelude.{◌≡◌, ◌⊎◌, ◌≤◌, ◌<◌, Ok, ℕ, suc, Some, None, List, ◌∷◌, ◌++◌, [], length};
+ghost use Rattle.std.specs.Prelude.{◌≡◌, ◌≢◌, ◌⊎◌, ◌≤◌, ◌<◌, Ok, ℕ, ℤ, suc, Some, None, List, ◌∷◌, ◌++◌, [], length, unwrap_or, FitsSigned};
+ghost use Rattle.std.specs.Int.{w16};
 ghost use Rattle.pg_arguments.specs.Types.{TypeParts, most_levels};
 ghost use Rattle.pg_resolve.specs.declared.row.TypeResolverRow.{TypeResolverRow};
+ghost use Rattle.pg_resolve.specs.declared.row.ColumnResolverRow.{ColumnResolverRow};
 ghost use Rattle.pg_resolve.specs.Cached.{CacheSeen, known};
 ghost use Rattle.pg_resolve.specs.Tried.{tried, Waits, Refuses};
 ghost use Rattle.pg_resolve.specs.Rows.{parts_of, made_from};
@@ -10,6 +12,7 @@ ghost use Rattle.pg_resolve.specs.Settling.{NeedsType, Settles, IsWaiting, IsEnt
 ghost use Rattle.pg_resolve.specs.Rounds.{TakesAll, Reached, IsAnswered, IsAcyclic, IsNew, IsAmong, Runs, ReadsFirst};
 ghost use Rattle.pg_resolve.specs.Resolving.{ResolverSeen, no_rows, again, waiting_for};
 ghost use Rattle.pg_resolve.specs.Sound.{IsSound};
+ghost use Rattle.pg_resolve.specs.Tables.{TablesSeen, column_key, table_name, column_name, column_named, with_row, HaveNumbers, IsLastName};
 ghost use Rattle.pg_resolve.specs.Catalog.{Catalog, IsIn, meaning_within, meaning};
 
 /// What an OID means by rows that stand any number of times in each other it means by as many as there are rows.
@@ -70,4 +73,15 @@ pub fn a_row_is_refused_for_cause()
 pub fn no_lookup_is_needless()
     ensures { (asked read : List ℕ) (s : ResolverSeen) (c : CacheSeen) → Reached asked read s c → (p : ℕ) → Has (again s.waiting [] s.began) p →
         (known c p ≡ None) × ((row : TypeResolverRow) × Has (waiting_for s p) row) }
+{}
+
+/// Names of columns are kept by table and number: a row that is taken names each of its columns, the last one where a number stands twice,
+/// and changes no other. The first name of a table stays.
+pub fn a_row_names_its_columns()
+    ensures keys { (m n : ℕ) (a b : ℤ) → FitsSigned w16 a → FitsSigned w16 b → column_key m a ≡ column_key n b → (m ≡ n) × (a ≡ b) }
+    ensures named { (row : ColumnResolverRow) (c : TablesSeen) (attribute : ℤ) (name : List ℕ) → HaveNumbers row.columns → IsLastName attribute name row.columns →
+        column_named (with_row row c) row.table_oid attribute ≡ Some (unwrap_or (table_name c row.table_oid) row.table_name, name) }
+    ensures tables { (row : ColumnResolverRow) (c : TablesSeen) (table : ℕ) → table ≢ row.table_oid → table_name (with_row row c) table ≡ table_name c table }
+    ensures columns { (row : ColumnResolverRow) (c : TablesSeen) (table : ℕ) (attribute : ℤ) → HaveNumbers row.columns → FitsSigned w16 attribute →
+        ((name : List ℕ) → Has row.columns (attribute, name) → table ≢ row.table_oid) → column_name (with_row row c) table attribute ≡ column_name c table attribute }
 {}

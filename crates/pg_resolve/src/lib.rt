@@ -15,6 +15,7 @@ pub mod laws;
 mod listing;
 mod resolver;
 mod row;
+mod tables;
 mod texts;
 
 pub use cache::TypeCache;
@@ -22,4 +23,5 @@ pub use codes::{TypCategory, TypType};
 pub use columns::ColumnResolver;
 pub use entry::Wanted;
 pub use resolver::Resolver;
-pub use row::TypeResolverRow;
+pub use row::{ColumnResolverRow, TypeResolverRow};
+pub use tables::TableCache;
