@@ -11,3 +11,4 @@ pub mod RoundLaws
 pub mod AgainLaws
 pub mod OrderLaws
 pub mod TableLaws
+pub mod EndLaws

@@ -1,17 +1,19 @@
 //! What follows from the definitions in `specs/`: each law is the contract of a function that does nothing.
 
-ghost use Rattle.std.specs.Prelude.{◌≡◌, ◌≢◌, ◌⊎◌, ◌≤◌, ◌<◌, Ok, ℕ, ℤ, suc, Some, None, List, ◌∷◌, ◌++◌, [], length, unwrap_or, FitsSigned};
+ghost use Rattle.std.specs.Prelude.{◌≡◌, ◌≢◌, ◌⊎◌, ◌≤◌, ◌<◌, Result, Ok, ℕ, ℤ, suc, Some, None, List, ◌∷◌, ◌++◌, [], length, unwrap_or, FitsSigned};
 ghost use Rattle.std.specs.Int.{w16};
 ghost use Rattle.pg_arguments.specs.Types.{TypeParts, most_levels};
+ghost use Rattle.pg_wire.specs.declared.error.Error.{Error};
+ghost use Rattle.pg_wire.specs.declared.error.Error.TheVariants as errors;
 ghost use Rattle.pg_resolve.specs.declared.row.TypeResolverRow.{TypeResolverRow};
 ghost use Rattle.pg_resolve.specs.declared.row.ColumnResolverRow.{ColumnResolverRow};
 ghost use Rattle.pg_resolve.specs.Cached.{CacheSeen, known};
 ghost use Rattle.pg_resolve.specs.Tried.{tried, Waits, Refuses};
 ghost use Rattle.pg_resolve.specs.Rows.{parts_of, made_from};
-ghost use Rattle.pg_resolve.specs.Settling.{NeedsType, Settles, IsWaiting, IsEntered, AllOf, Has};
-ghost use Rattle.pg_resolve.specs.Rounds.{TakesAll, Reached, IsAnswered, IsAcyclic, IsNew, IsAmong, Runs, ReadsFirst};
-ghost use Rattle.pg_resolve.specs.Resolving.{ResolverSeen, no_rows, again, waiting_for};
-ghost use Rattle.pg_resolve.specs.Sound.{IsSound};
+ghost use Rattle.pg_resolve.specs.Settling.{NeedsType, Settles, IsWaiting, IsEntered, IsRefusal, AllOf, Has};
+ghost use Rattle.pg_resolve.specs.Rounds.{TakesAll, Reached, IsAnswered, IsAcyclic, IsNew, IsAmong, Runs, ReadsFirst, BeginsNew};
+ghost use Rattle.pg_resolve.specs.Resolving.{ResolverSeen, no_rows, again, waiting_for, Queries, Ends};
+ghost use Rattle.pg_resolve.specs.Sound.{IsSound, IsComplete};
 ghost use Rattle.pg_resolve.specs.Tables.{TablesSeen, column_key, table_name, column_name, column_named, with_row, HaveNumbers, IsLastName};
 ghost use Rattle.pg_resolve.specs.Catalog.{Catalog, IsIn, meaning_within, meaning};
 
@@ -61,6 +63,21 @@ pub fn as_many_rounds_as_types_are_enough()
         Runs rank types n asked read s c → IsAcyclic rank s → IsAmong types s → length types < n → s.waiting ≡ [] }
     ensures first { (rank : ℕ → ℕ) (types : List ℕ) (n : ℕ) (asked read : List ℕ) (s : ResolverSeen) (c : CacheSeen) (runs : Runs rank types (suc n) asked read s c) →
         ReadsFirst rank types (suc n) asked read s c runs → IsAcyclic rank s → IsAmong types s → length types ≤ suc n → s.waiting ≡ [] }
+{}
+
+/// Where a resolver hands out no further lookup, because nothing is asked or 64 were made, `ended` is Ok: for at most 63 types, or for 64 where
+/// the first round reads a row of one of them.
+pub fn lookups_come_to_an_end()
+    ensures any { (rank : ℕ → ℕ) (types : List ℕ) (n : ℕ) (asked read : List ℕ) (s t : ResolverSeen) (c : CacheSeen) (result : Result (Unit {0}) Error) (runs : Runs rank types n asked read s c) →
+        BeginsNew rank types n asked read s c runs → IsAcyclic rank s → IsAmong types s → length types < 64 → Queries s None t → Ends t result → result ≡ Ok tt }
+    ensures first { (rank : ℕ → ℕ) (types : List ℕ) (n : ℕ) (asked read : List ℕ) (s t : ResolverSeen) (c : CacheSeen) (result : Result (Unit {0}) Error) (runs : Runs rank types (suc n) asked read s c) →
+        BeginsNew rank types (suc n) asked read s c runs → ReadsFirst rank types (suc n) asked read s c runs → IsAcyclic rank s → IsAmong types s → length types ≤ 64 → Queries s None t → Ends t result → result ≡ Ok tt }
+{}
+
+/// Where all rows are of a complete catalog and each cached type is its meaning, a row is refused only for want of memory.
+pub fn rows_of_a_complete_catalog_are_taken()
+    ensures { (catalog : Catalog) (taken : TypeResolverRow) (s : ResolverSeen) (c : CacheSeen) (e : Error) →
+        IsComplete catalog → IsIn catalog taken → AllOf catalog s → IsSound catalog c → IsRefusal taken s c e → e ≡ errors.OutOfMemory }
 {}
 
 /// A row is refused only where it lacks the base, element or subtype of its sort, or its type would have more than 64 levels.
