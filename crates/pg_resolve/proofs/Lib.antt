@@ -11,3 +11,5 @@ pub mod RoundLaws
 pub mod AgainLaws
 pub mod OrderLaws
 pub mod NullableLaws
+pub mod TableLaws
+pub mod EndLaws

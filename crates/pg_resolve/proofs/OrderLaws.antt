@@ -1,5 +1,5 @@
 -- Rows that are taken one after the other, in any order.
-use Rattle.std.proofs.Common.{◌≡◌, ◌⊎◌, inl, inr, ℕ, List, [], ◌∷◌, refl, sym, subst}
+use Rattle.std.proofs.Common.{◌⊎◌, inl, inr, List, [], ◌∷◌, refl, sym, subst}
 use Rattle.pg_resolve.specs.declared.row.TypeResolverRow.{TypeResolverRow}
 use Rattle.pg_resolve.specs.Cached.{CacheSeen, known}
 use Rattle.pg_resolve.specs.Catalog.{Catalog, IsIn}

@@ -107,9 +107,9 @@ enters_by taken row rest work more rows s t u c d e m is way says none free f al
     subst (λ (w : List TypeResolverRow). Settles taken s c w u e) (sym (all ∙ ap (λ (r : List TypeResolverRow). rest ++ r) free))
     (enters_step taken row rest s t u c d e (way_at taken row rest work s t c d is way) (says ∙ ap (λ (o : Option ℕ). told o e) none) f)
 
-pub refusal_by : (taken row : TypeResolverRow) (rest work : List TypeResolverRow) (s t : ResolverSeen) (c d : CacheSeen) (e : Error) → work ≡ rest ++ row ∷ [] → Settles taken s c work t d → IsRefused d row e → IsRefusal taken s e
-refusal_by taken row rest work s t c d e is way (inl memory) = inl memory
-refusal_by taken row rest work s t c d e is way (inr refused) = inr (row, d, held_now taken row rest work s t c d is way, refused.0, refused.1)
+pub refusal_by : (taken row : TypeResolverRow) (rest work : List TypeResolverRow) (s t : ResolverSeen) (c d : CacheSeen) (e : Error) → work ≡ rest ++ row ∷ [] → Settles taken s c work t d → KeepsSound taken s c d → IsRefused d row e → IsRefusal taken s c e
+refusal_by taken row rest work s t c d e is way sound (inl memory) = inl memory
+refusal_by taken row rest work s t c d e is way sound (inr refused) = inr (row, d, held_now taken row rest work s t c d is way, sound, refused.0, refused.1)
 
 -- ---- the measure, by the same
 

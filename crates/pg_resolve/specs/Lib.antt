@@ -11,3 +11,4 @@ pub mod Settling
 pub mod Rounds
 pub mod Columns
 pub mod Nullable
+pub mod Tables

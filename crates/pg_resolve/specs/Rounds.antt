@@ -64,3 +64,8 @@ abbrev pub ReadsFirst : (rank : ℕ → ℕ) (types : List ℕ) (n : ℕ) (asked
 ReadsFirst rank types zero asked read s c runs = Unit {0}
 ReadsFirst rank types (suc zero) asked read s c runs = (p : ℕ) × Has types p × Has read p
 ReadsFirst rank types (suc (suc n)) asked read s c runs = ReadsFirst rank types (suc n) runs.0 runs.1 runs.2 runs.3 runs.4
+
+-- the resolver had made no lookup before these rounds
+abbrev pub BeginsNew : (rank : ℕ → ℕ) (types : List ℕ) (n : ℕ) (asked read : List ℕ) (s : ResolverSeen) (c : CacheSeen) → Runs rank types n asked read s c → Type 0
+BeginsNew rank types zero asked read s c runs = s.rounds ≡ 0
+BeginsNew rank types (suc n) asked read s c runs = BeginsNew rank types n runs.0 runs.1 runs.2 runs.3 runs.4

@@ -1,7 +1,11 @@
-ghost use Rattle.std.specs.Prelude.{◌≡◌, ◌++◌, ◌∷◌, [], OnOk, IfOk, string_bytes};
+ghost use Rattle.std.specs.Prelude.{◌≡◌, ◌++◌, ◌∷◌, [], OnOk, OnErr, IfOk, IfErr, string_bytes};
+ghost use Rattle.pg_wire.specs.declared.error.Error.TheVariants as errors;
 ghost use Rattle.pg_resolve.specs.Columns.{column_text, column_head, column_end, column_lookup, AsksColumns};
+ghost use Rattle.pg_resolve.specs.Tables.{with_row, KeepsPart};
 
 use crate::listing::{Listed, push_list};
+use crate::row::ColumnResolverRow;
+use crate::tables::TableCache;
 use itoa::Buffer;
 use pg_wire::{Error, Oid, Sequence, Text};
 use std::alloc::{AllocError, Global};
@@ -84,7 +88,8 @@ impl ColumnResolver {
 
     /// The text of the lookup, or None where nothing is asked.
     pub fn query(&mut self, alloc: Global) -> Result<Option<Text>, Error>
-        ensures { IfOk result (λ text. AsksColumns self.old text self.new) }
+        ensures ok { IfOk result (λ text. AsksColumns self.old text self.new) }
+        ensures err { OnErr result (self.new ≡ self.old) }
     {
         if self.pushed.is_empty() {
             return Ok(None);
@@ -92,5 +97,16 @@ impl ColumnResolver {
         let text = column_text_of(alloc, self.pushed.as_slice())?;
         self.pushed = Sequence::new(alloc);
         Ok(Some(text))
+    }
+
+    /// Takes a row of the lookup: the names that it tells are kept.
+    pub fn take_row(&mut self, cache: &mut TableCache, row: ColumnResolverRow) -> Result<(), Error>
+        ensures ok { OnOk result (cache.new ≡ with_row row cache.old) }
+        ensures err { OnErr result (KeepsPart row cache.old cache.new) }
+        ensures cause { IfErr result (λ e. e ≡ errors.OutOfMemory) }
+        ensures asked { self.new ≡ self.old }
+    {
+        cache.keep(row)?;
+        Ok(())
     }
 }

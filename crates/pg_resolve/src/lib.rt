@@ -16,6 +16,7 @@ mod listing;
 mod nullable;
 mod resolver;
 mod row;
+mod tables;
 mod texts;
 
 pub use cache::TypeCache;
@@ -24,4 +25,5 @@ pub use columns::ColumnResolver;
 pub use entry::Wanted;
 pub use nullable::nullable_query;
 pub use resolver::Resolver;
-pub use row::TypeResolverRow;
+pub use row::{ColumnResolverRow, TypeResolverRow};
+pub use tables::TableCache;
