@@ -3,7 +3,8 @@
 //! Each line of standard input begins with a word. `row` keeps a row of a type lookup: its OID, its pretty, catalog and original names, its
 //! two codes, the OIDs of element, base and subtype, its labels and its attributes; a minus stands for none. `forget` forgets all rows.
 //! `take` takes the rows with these OIDs in this order. `serve` asks for a type and answers each lookup by the rows that it asks. `text`
-//! writes a lookup, and `columns` a column lookup. The line is written with what came of it behind it.
+//! writes a lookup, and `columns` a column lookup. `names` takes rows of a column lookup, behind a semicolon each, and tells names of columns.
+//! The line is written with what came of it behind it.
 #![tactic(auto)]
 
 mod columns;
@@ -29,6 +30,7 @@ fn played(alloc: Global, rows: &mut Vec<Text>, verb: &str, rest: &str) -> Result
         "serve" => types::serve(alloc, rows, rest),
         "text" => types::lookup(alloc, rest),
         "columns" => columns::lookup(alloc, rest),
+        "names" => columns::names(alloc, rest),
         _ => Ok(String::from_str(alloc, "no such case")?),
     }
 }

@@ -1,6 +1,6 @@
 // Rows of lookups, made of words.
 
-use pg_resolve::{TypCategory, TypType, TypeResolverRow};
+use pg_resolve::{ColumnResolverRow, TypCategory, TypType, TypeResolverRow};
 use pg_wire::{Error, Oid, Sequence, Text};
 use std::alloc::{AllocError, Global};
 
@@ -96,5 +96,29 @@ pub fn type_row(alloc: Global, words: &str) -> Result<TypeResolverRow, Error> {
         rngsubtype: oid_or_none(next(words)),
         enum_labels: labels(alloc, next(words))?,
         record_attributes: attributes(alloc, next(words))?,
+    })
+}
+
+fn columns(alloc: Global, words: &str) -> Result<Sequence<(i16, Text)>, AllocError> {
+    let mut columns = Sequence::new(alloc);
+    if words == "-" {
+        return Ok(columns);
+    }
+    for word in words.split(',') {
+        let (attribute, name) = word.split_once(':').unwrap_or((word, ""));
+        let attribute = attribute.parse::<i16>().unwrap_or(0);
+        columns.push((attribute, Text::from_str(alloc, name)?))?;
+    }
+    Ok(columns)
+}
+
+/// A row of the column lookup.
+pub fn column_row(alloc: Global, words: &str) -> Result<ColumnResolverRow, Error> {
+    let mut words = words;
+    let words = &mut words;
+    Ok(ColumnResolverRow {
+        table_oid: Oid(number(next(words))),
+        table_name: Text::from_str(alloc, next(words))?,
+        columns: columns(alloc, next(words))?,
     })
 }

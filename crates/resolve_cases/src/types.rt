@@ -75,7 +75,8 @@ pub fn tell_error(alloc: Global, error: &Error) -> Result<String, AllocError> {
     }
 }
 
-fn tell_end(alloc: Global, end: &Result<(), Error>) -> Result<String, AllocError> {
+/// How it ended.
+pub fn tell_end(alloc: Global, end: &Result<(), Error>) -> Result<String, AllocError> {
     match end {
         Ok(()) => String::from_str(alloc, "ok"),
         Err(error) => tell_error(alloc, error),
