@@ -1,4 +1,4 @@
-//! Cases of connect options, of what a client answers to prove a password, of scripts and of reports.
+//! Cases of connect options, of what a client answers to prove a password, of scripts, of reports and of migrations.
 //!
 //! Each line of standard input is a row: a word that says what is tried, and what it is tried on. The row is written with what
 //! came of it behind it. Within a row, the picture of a line feed, tab, unit separator or delete stands for that character.
@@ -7,6 +7,7 @@
 mod calls;
 mod drawing;
 mod failures;
+mod migrations;
 mod proving;
 mod reports;
 mod rows;
@@ -22,6 +23,15 @@ use rows::{plain, two};
 use std::alloc::{AllocError, Global};
 use std::io;
 
+fn migration_answer(alloc: Global, word: &str, rest: &str) -> Result<String, AllocError> {
+    match word {
+        "lock-id" => migrations::lock_id(alloc, rest),
+        "migration" => migrations::migration_text(alloc, rest),
+        "timed" => migrations::timed(alloc, rest),
+        _ => String::from_str(alloc, "no such row"),
+    }
+}
+
 fn report_answer(alloc: Global, word: &str, rest: &str) -> Result<String, Error> {
     match word {
         "script" => Ok(scripts::script(alloc, rest)?),
@@ -30,7 +40,7 @@ fn report_answer(alloc: Global, word: &str, rest: &str) -> Result<String, Error>
         "report" => reports::reported(alloc),
         "refused-start" => Ok(reports::refused_start(alloc)?),
         "error" => failures::failed(alloc, rest),
-        _ => Ok(String::from_str(alloc, "no such row")?),
+        _ => Ok(migration_answer(alloc, word, rest)?),
     }
 }
 
