@@ -4,10 +4,11 @@
 //! two codes, the OIDs of element, base and subtype, its labels and its attributes; a minus stands for none. `forget` forgets all rows.
 //! `take` takes the rows with these OIDs in this order. `serve` asks for a type and answers each lookup by the rows that it asks. `text`
 //! writes a lookup, and `columns` a column lookup. `names` takes rows of a column lookup, behind a semicolon each, and tells names of columns.
-//! The line is written with what came of it behind it.
+//! `nullable` writes the query that asks of so many columns whether they may be null. The line is written with what came of it behind it.
 #![tactic(auto)]
 
 mod columns;
+mod described;
 mod kinds;
 mod rows;
 mod types;
@@ -31,6 +32,7 @@ fn played(alloc: Global, rows: &mut Vec<Text>, verb: &str, rest: &str) -> Result
         "text" => types::lookup(alloc, rest),
         "columns" => columns::lookup(alloc, rest),
         "names" => columns::names(alloc, rest),
+        "nullable" => described::nullable(alloc, rest),
         _ => Ok(String::from_str(alloc, "no such case")?),
     }
 }

@@ -1,4 +1,4 @@
-//! Cases of connect options, of what a client answers to prove a password, of scripts, of reports and of migrations.
+//! Cases of connect options, of what a client answers to prove a password, of advisory locks, of scripts, of reports and of migrations.
 //!
 //! Each line of standard input is a row: a word that says what is tried, and what it is tried on. The row is written with what
 //! came of it behind it. Within a row, the picture of a line feed, tab, unit separator or delete stands for that character.
@@ -7,6 +7,7 @@
 mod calls;
 mod drawing;
 mod failures;
+mod locks;
 mod migrations;
 mod proving;
 mod reports;
@@ -44,6 +45,14 @@ fn report_answer(alloc: Global, word: &str, rest: &str) -> Result<String, Error>
     }
 }
 
+fn lock_answer(alloc: Global, word: &str, rest: &str) -> Result<String, Error> {
+    match word {
+        "key" => locks::key_of_text(alloc, rest),
+        "lock" => Ok(locks::lock_texts(alloc, rest)?),
+        _ => report_answer(alloc, word, rest),
+    }
+}
+
 fn password_answer(alloc: Global, word: &str, rest: &str) -> Result<String, Error> {
     match word {
         "hmac" => proving::keyed_hash(alloc, rest),
@@ -55,7 +64,7 @@ fn password_answer(alloc: Global, word: &str, rest: &str) -> Result<String, Erro
         "nonce-of" => Ok(proving::nonce(alloc, rest)?),
         "drawn-nonce" => Ok(drawing::drawn_nonce(alloc)?),
         "md5" => proving::md5_text(alloc, rest),
-        _ => report_answer(alloc, word, rest),
+        _ => lock_answer(alloc, word, rest),
     }
 }
 
