@@ -15,7 +15,7 @@ use Rattle.pg_wire.specs.Acceptor.{Awaits, FirstSegment, FurtherSegment, RowsOf,
 use Rattle.pg_wire.specs.Copying.{CopyServer, CopyMode, NotCopying, Leaves, IsCopyOut, IsPortalCopy, StepsCopyExecute, StepsOutsideCopy, CopyStep, CopyRun}
 use Rattle.pg_wire.specs.Refusals.{MayBeginCopy, BeginsCopy}
 use Rattle.pg_exchanges.specs.Expecting.{Step, Parses, Types, Columns, Binds, Runs, RunsOn, Closes, Expected, InQuery, InSteps, in_step, in_query, following, behind, Widths, width_at, forget, steps_for, widths_after, portal_width, steps_of, expected, HasWidths, MayCopy, MayNotFollow, BeginsKnowing}
-use Rattle.pg_wire.proofs.RunLaws.{with_over, without_over, plain_step}
+use Rattle.pg_wire.proofs.RunLaws.{with_over, without_over, plain_step, sync_step}
 use Rattle.pg_wire.proofs.StepLaws.{kept_close}
 use Rattle.pg_wire.proofs.CopyLaws.{plain}
 use Rattle.pg_wire.proofs.CopyAcceptorLaws.{Expects, Plain, copy_at, or_copy, takes, answer_taken}
@@ -481,20 +481,12 @@ skipping_walks (message ∷ inner) m new (rs ∷ rss) i e k run =
 pub went_step : (m : Server) (new : CopyServer) (message : FrontendMessage) (rs : List BackendMessage) → m.over ≡ false → m.skip ≡ false → CopyStep (plain m) message rs new → StepsOutsideCopy m message rs new
 went_step m new message rs e k h = where_neither m.over m.skip _ _ e k h
 
-pub sync_answered : (m next : Server) (rs : List BackendMessage) → m.over ≡ false → ServerStep m Sync rs next → StepsSync m rs next
-sync_answered m next rs e h = by m.over m.skip e h
-  where
-    by : (over skip : Bool) → over ≡ false → cond over (Ignores m rs next) (cond skip (StepsSync m rs next) (StepsSync m rs next)) → StepsSync m rs next
-    by true skip e h = absurd cc
-    by false true e h = h
-    by false false e h = h
-
 group_walks : (inner : List FrontendMessage) (widths : Widths) (portal : Option ℕ) (m : Server) (new : CopyServer) (rss : List (List BackendMessage)) → AllByRecursion IsInner inner → Fits widths portal m → CopyRun (plain m) (inner ++ Sync ∷ []) rss new
     → Walks (InSteps (steps_of widths portal (inner ++ Sync ∷ []))) (flat rss)
 group_walks [] widths portal m new [] i f run = tt
 group_walks [] widths portal m new (rs ∷ []) i f run =
     let s = went_step m run.0 Sync rs f.over f.skip run.1 in
-    subst (Walks (InSteps [])) (sym (append-nil rs)) (sync_end m rs s.0 (sync_answered m s.0 rs f.over s.1))
+    subst (Walks (InSteps [])) (sym (append-nil rs)) (sync_end m rs s.0 (sync_step m s.0 rs f.over s.1))
 group_walks [] widths portal m new (rs ∷ more ∷ rss) i f run = absurd run.2
 group_walks (message ∷ inner) widths portal m new [] i f run = absurd run
 group_walks (message ∷ inner) widths portal m new (rs ∷ rss) i f run =

@@ -12,9 +12,9 @@ use Rattle.pg_exchanges.specs.Expecting.{Widths, HasWidth, HasWidths}
 use Rattle.pg_exchanges.specs.Answering.{described, IsNoError, IsClosedBy, IsKeptBy, describing}
 use Rattle.pg_wire.proofs.Each.{each_first, each_last}
 use Rattle.pg_wire.proofs.StepLaws.{statement_stays}
-use Rattle.pg_wire.proofs.RunLaws.{with_over}
+use Rattle.pg_wire.proofs.RunLaws.{with_over, sync_step}
 use Rattle.pg_wire.proofs.CopyLaws.{plain}
-use Rattle.pg_exchanges.proofs.ExpectingLaws.{only_mode, went_step, plainly, sync_answered, with_skip}
+use Rattle.pg_exchanges.proofs.ExpectingLaws.{only_mode, went_step, plainly, with_skip}
 use Rattle.pg_exchanges.proofs.KindLaws.{stands_at}
 
 -- ---- a statement with a name stays
@@ -140,7 +140,7 @@ add_width m name sql types c1 c2 c3 r1 r2 r3 rest o k step1 step2 step3 h1 h2 =
     let d = told_so m1 w2.0 (statement_at m1 name) s r2 (stands_at m name s) h2 (plainly m1 w2.0 (DescribeStatement name) r2 o1 k1 w2.1) in
     let at2 : c2 ≡ plain m1 = w2.2 ∙ ap plain d.4 in
     let w3 = went_step m1 c3 Sync r3 o1 k1 (subst (λ (c : CopyServer). CopyStep c Sync r3 c3) at2 step3) in
-    let y = sync_answered m1 w3.0 r3 o1 w3.1 in
+    let y = sync_step m1 w3.0 r3 o1 w3.1 in
     let stands : statement_at c3.server name ≡ Some s = ap (λ (c : CopyServer). statement_at c.server name) (w3.2 ∙ ap plain y.1) ∙ synced_at m1 name y.0 ∙ stands_at m name s in
     let columns : p.0 ≡ described (r1 ++ (r2 ++ rest)) = described_by p.0 d.0 d.1 rest d.2 ∙ ap described (sym (joined d.0 d.1 p.1 d.3)) in
     (s, stands, ap length columns)
