@@ -1,4 +1,3 @@
 pub mod CacheLaws
-pub mod TextLaws
 pub mod RowLaws
 pub mod OrderLaws

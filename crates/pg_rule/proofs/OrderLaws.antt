@@ -13,7 +13,7 @@ use Rattle.pg_rule.specs.declared.cache.Entry.{Entry}
 use Rattle.pg_rule.specs.declared.rule.Rule.{Rule}
 use Rattle.pg_rule.specs.Caches.{entry_at, without, in_front, widths_in}
 use Rattle.pg_rule.specs.Rules.{new_rule, opened, closed, drawn, hit, kept, cleared, IsOrderly, IsNewest}
-use Rattle.pg_rule.specs.Texts.{rollback_text}
+use Rattle.pg_request.specs.Texts.{rollback_text}
 use Rattle.pg_rule.specs.Rows.{Group, Exchange, known_widths, start_rollback, rolled_back, Begin}
 use Rattle.pg_exchanges.proofs.KindLaws.{widths_had}
 
@@ -182,8 +182,8 @@ open_by false group e = refl
 no_zero : (n : ℕ) → 0 < n → nat_eq n 0 ≡ false
 no_zero n h = ne_eqb n 0 (λ e. absurd (omega (arith, e, h)))
 
-pub rolls_open : (rule : Rule) → 0 < rule.depth → start_rollback rule ≡ (Query (rollback_text rule.depth) ∷ []) ∷ []
-rolls_open rule h = open_by (nat_eq rule.depth 0) (Query (rollback_text rule.depth) ∷ []) (no_zero rule.depth h)
+pub rolls_open : (rule : Rule) → 0 < rule.depth → start_rollback rule ≡ (Query (rollback_text (rule.depth - 1)) ∷ []) ∷ []
+rolls_open rule h = open_by (nat_eq rule.depth 0) (Query (rollback_text (rule.depth - 1)) ∷ []) (no_zero rule.depth h)
 
 pub rolls_nothing : (rule : Rule) → rule.depth ≡ 0 → start_rollback rule ≡ []
 rolls_nothing rule e = let same = eq-eqb rule.depth 0 e in rw same refl

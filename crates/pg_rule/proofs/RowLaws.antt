@@ -1,5 +1,5 @@
 -- The rows of the table: what each asks, and that each call has one.
-use Rattle.std.proofs.Common.{◌≡◌, ℕ, zero, suc, ◌<◌, ◌≢◌, ◌^◌, List, [], ◌∷◌, ◌++◌, map, Option, Some, None, IfSome, codes, refl, sym, ap, ◌∙◌, subst, arith, ◌⊎◌, inl, inr}
+use Rattle.std.proofs.Common.{◌≡◌, ℕ, zero, suc, ◌<◌, ◌≢◌, ◌^◌, List, [], ◌∷◌, ◌++◌, map, Option, Some, None, IfSome, codes, refl, sym, ap, ◌∙◌, subst, arith, ◌⊎◌, inl, inr, ◌-◌}
 use Rattle.std.specs.List.{AllByRecursion}
 use Rattle.pg_wire.specs.Bytes.{HasNoNul}
 use Rattle.pg_wire.specs.Frame.{Frame}
@@ -15,9 +15,9 @@ use Rattle.pg_rule.specs.declared.cache.Entry.{Entry}
 use Rattle.pg_rule.specs.declared.rule.Rule.{Rule}
 use Rattle.pg_rule.specs.Caches.{names_in}
 use Rattle.pg_rule.specs.Rules.{cleared}
-use Rattle.pg_rule.specs.Texts.{begin_text, commit_text, rollback_text}
+use Rattle.pg_request.specs.Texts.{begin_text, commit_text, rollback_text}
 use Rattle.pg_rule.specs.Rows.{Group, Asked, Run, Begin, Commit, Rollback, Clear, Ping, Flush, Close, Exchange, Plan, Main, awaited_by, known_widths, AsksOnce, MayBegin, IsRow, Asks, CanBeAsked, AsksNothing}
-use Rattle.pg_rule.proofs.TextLaws.{begin_said, commit_said, rollback_said}
+use Rattle.pg_request.proofs.TextLaws.{begin_said, commit_said, rollback_said}
 use Rattle.pg_wire.proofs.Each.{each_end}
 use Rattle.pg_wire.proofs.NameLaws.{numbered_nul_free}
 use Rattle.pg_exchanges.proofs.ExpectingLaws.{refused_begins_no_group_response, starts_with_steps}
@@ -36,11 +36,11 @@ asks_run old query h = asks_query old (Run query) query.sql (refl, refl, refl) h
 pub asks_begin : (old : Rule) (text : Option (List ℕ)) → old.depth < 2 ^ 64 → IfSome text HasNoNul → MayBegin text old.depth → Asks old (Begin text) [] (Main (InQuery FirstSegment)) (Query (begin_text text old.depth) ∷ []) old
 asks_begin old text lt h may = asks_query old (Begin text) (begin_text text old.depth) (may, (refl, refl, refl)) (begin_said text old.depth h lt)
 
-pub asks_commit : (old : Rule) → old.depth < 2 ^ 64 → 0 < old.depth → Asks old Commit [] (Main (InQuery FirstSegment)) (Query (commit_text old.depth) ∷ []) old
-asks_commit old lt some = asks_query old Commit (commit_text old.depth) (some, (refl, refl, refl)) (commit_said old.depth lt)
+pub asks_commit : (old : Rule) → old.depth < 2 ^ 64 → 0 < old.depth → Asks old Commit [] (Main (InQuery FirstSegment)) (Query (commit_text (old.depth - 1)) ∷ []) old
+asks_commit old lt some = asks_query old Commit (commit_text (old.depth - 1)) (some, (refl, refl, refl)) (commit_said (old.depth - 1) (omega (arith, lt)))
 
-pub asks_rollback : (old : Rule) → old.depth < 2 ^ 64 → 0 < old.depth → Asks old Rollback [] (Main (InQuery FirstSegment)) (Query (rollback_text old.depth) ∷ []) old
-asks_rollback old lt some = asks_query old Rollback (rollback_text old.depth) (some, (refl, refl, refl)) (rollback_said old.depth lt)
+pub asks_rollback : (old : Rule) → old.depth < 2 ^ 64 → 0 < old.depth → Asks old Rollback [] (Main (InQuery FirstSegment)) (Query (rollback_text (old.depth - 1)) ∷ []) old
+asks_rollback old lt some = asks_query old Rollback (rollback_text (old.depth - 1)) (some, (refl, refl, refl)) (rollback_said (old.depth - 1) (omega (arith, lt)))
 
 -- each of the closes awaits one message
 closes_await : (widths : Widths) (portal : Option ℕ) (names : List (List ℕ)) → steps_of widths portal (closing names) ≡ map (λ name. Closes) names
@@ -77,11 +77,11 @@ none_or_some (suc n) = inr (omega arith)
 
 row_of_commit : (old : Rule) → old.depth < 2 ^ 64 → (old.depth ≡ 0) ⊎ (0 < old.depth) → AsksNothing old Commit ⊎ HasRow old Commit
 row_of_commit old lt (inl e) = inl e
-row_of_commit old lt (inr some) = inr ([], Main (InQuery FirstSegment), Query (commit_text old.depth) ∷ [], old, asks_commit old lt some)
+row_of_commit old lt (inr some) = inr ([], Main (InQuery FirstSegment), Query (commit_text (old.depth - 1)) ∷ [], old, asks_commit old lt some)
 
 row_of_rollback : (old : Rule) → old.depth < 2 ^ 64 → (old.depth ≡ 0) ⊎ (0 < old.depth) → AsksNothing old Rollback ⊎ HasRow old Rollback
 row_of_rollback old lt (inl e) = inl e
-row_of_rollback old lt (inr some) = inr ([], Main (InQuery FirstSegment), Query (rollback_text old.depth) ∷ [], old, asks_rollback old lt some)
+row_of_rollback old lt (inr some) = inr ([], Main (InQuery FirstSegment), Query (rollback_text (old.depth - 1)) ∷ [], old, asks_rollback old lt some)
 
 row_of_clear : (old : Rule) (es : List Entry) → old.cache ≡ es → AllByRecursion (λ e. e.number < 2 ^ 32) old.cache → AsksNothing old Clear ⊎ HasRow old Clear
 row_of_clear old [] e h = inl e
@@ -113,8 +113,8 @@ nothing_or_row old Close done (Main awaits) group rule n a = a.row
 abbrev first_group : Rule → Asked → Group
 first_group old (Run query) = Query query.sql ∷ []
 first_group old (Begin text) = Query (begin_text text old.depth) ∷ []
-first_group old Commit = Query (commit_text old.depth) ∷ []
-first_group old Rollback = Query (rollback_text old.depth) ∷ []
+first_group old Commit = Query (commit_text (old.depth - 1)) ∷ []
+first_group old Rollback = Query (rollback_text (old.depth - 1)) ∷ []
 first_group old Clear = closing (names_in old.cache)
 first_group old _ = Sync ∷ []
 
@@ -152,8 +152,8 @@ accepted_by_group : (widths : Widths) (old : Rule) (asked : Asked) (server : Ser
     → BeginsKnowing widths (first_group old asked) (map backend_frame own)
 accepted_by_group widths old (Run query) server own e b w k h = accepted_begins_query_response query.sql widths server own e b w k h
 accepted_by_group widths old (Begin text) server own e b w k h = accepted_begins_query_response (begin_text text old.depth) widths server own e b w k h
-accepted_by_group widths old Commit server own e b w k h = accepted_begins_query_response (commit_text old.depth) widths server own e b w k h
-accepted_by_group widths old Rollback server own e b w k h = accepted_begins_query_response (rollback_text old.depth) widths server own e b w k h
+accepted_by_group widths old Commit server own e b w k h = accepted_begins_query_response (commit_text (old.depth - 1)) widths server own e b w k h
+accepted_by_group widths old Rollback server own e b w k h = accepted_begins_query_response (rollback_text (old.depth - 1)) widths server own e b w k h
 accepted_by_group widths old Clear server own e b w k h = closing_begins widths server (names_in old.cache) own e b w k h
 accepted_by_group widths old Ping server own e b w k h = closing_begins widths server [] own e b w k h
 accepted_by_group widths old Flush server own e b w k h = closing_begins widths server [] own e b w k h

@@ -1,4 +1,3 @@
 pub mod Caches
 pub mod Rules
-pub mod Texts
 pub mod Rows

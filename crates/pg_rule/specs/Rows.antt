@@ -1,6 +1,6 @@
 -- The request rule: which group a call queues behind the exchanges that it had so far, by what is known of the session (PostgreSQL manual,
 -- "Message Flow", "Simple Query", "Extended Query").
-use Rattle.std.specs.Prelude.{◌≡◌, ◌≢◌, ℕ, ◌<◌, ◌^◌, List, [], ◌∷◌, Option, Some, None, IfSome, nat_eq, if◌then◌else◌}
+use Rattle.std.specs.Prelude.{◌≡◌, ◌≢◌, ℕ, ◌<◌, ◌^◌, List, [], ◌∷◌, Option, Some, None, IfSome, nat_eq, if◌then◌else◌, ◌-◌}
 use Rattle.std.specs.List.{AllByRecursion}
 use Rattle.pg_wire.specs.Bytes.{HasNoNul}
 use Rattle.pg_wire.specs.Frontend.{FrontendMessage, HasFrontendFrame, Query, Sync, Terminate}
@@ -12,7 +12,7 @@ use Rattle.pg_rule.specs.declared.rule.Rule.{Rule}
 use Rattle.pg_exchanges.specs.Answering.{closing}
 use Rattle.pg_rule.specs.Caches.{widths_in, names_in}
 use Rattle.pg_rule.specs.Rules.{opened, closed, cleared}
-use Rattle.pg_rule.specs.Texts.{begin_text, commit_text, rollback_text}
+use Rattle.pg_request.specs.Texts.{begin_text, commit_text, rollback_text}
 
 abbrev pub Group : Type 0
 Group = List FrontendMessage
@@ -61,8 +61,8 @@ MayBegin (Some sql) depth = depth ≡ 0
 abbrev pub IsMain : Rule → Asked → List Exchange → Group → Rule → Type 0
 IsMain old (Run query) done group rule = AsksOnce done group rule (Query query.sql ∷ []) old
 IsMain old (Begin text) done group rule = MayBegin text old.depth × AsksOnce done group rule (Query (begin_text text old.depth) ∷ []) old
-IsMain old Commit done group rule = (0 < old.depth) × AsksOnce done group rule (Query (commit_text old.depth) ∷ []) old
-IsMain old Rollback done group rule = (0 < old.depth) × AsksOnce done group rule (Query (rollback_text old.depth) ∷ []) old
+IsMain old Commit done group rule = (0 < old.depth) × AsksOnce done group rule (Query (commit_text (old.depth - 1)) ∷ []) old
+IsMain old Rollback done group rule = (0 < old.depth) × AsksOnce done group rule (Query (rollback_text (old.depth - 1)) ∷ []) old
 IsMain old Clear done group rule = (old.cache ≢ []) × AsksOnce done group rule (closing (names_in old.cache)) (cleared old)
 IsMain old Ping done group rule = AsksOnce done group rule (Sync ∷ []) old
 IsMain old Flush done group rule = ⊥
@@ -111,7 +111,7 @@ settled _ rule = rule
 
 -- a rollback that no call asks for, as where a transaction is let go: it waits for no reply
 abbrev pub start_rollback : Rule → List Group
-start_rollback rule = if nat_eq rule.depth 0 then [] else (Query (rollback_text rule.depth) ∷ []) ∷ []
+start_rollback rule = if nat_eq rule.depth 0 then [] else (Query (rollback_text (rule.depth - 1)) ∷ []) ∷ []
 
 -- a begin that isn't Ok is followed by this, once its group was queued and where it would have opened the transaction
 abbrev pub rolled_back : Rule → Asked → List Group

@@ -1,6 +1,6 @@
 //! What follows from the table of the calls and their groups, each the contract of a function that does nothing.
 
-ghost use Rattle.std.specs.Prelude.{◌≡◌, ◌≢◌, ◌⊎◌, ◌<◌, ◌≤◌, ◌^◌, ℕ, List, [], ◌∷◌, ◌++◌, Option, Some, None, IfSome, map, codes};
+ghost use Rattle.std.specs.Prelude.{◌≡◌, ◌≢◌, ◌⊎◌, ◌<◌, ◌≤◌, ◌^◌, ℕ, List, [], ◌∷◌, ◌++◌, Option, Some, None, IfSome, map, codes, ◌-◌};
 ghost use Rattle.std.specs.List.{AllByRecursion};
 ghost use Rattle.pg_wire.specs.Bytes.{HasNoNul};
 ghost use Rattle.pg_wire.specs.Frame.{Frame};
@@ -16,7 +16,7 @@ ghost use Rattle.pg_rule.specs.Caches.{names_in};
 ghost use Rattle.pg_rule.specs.declared.cache.Entry.{Entry as EntryOf};
 ghost use Rattle.pg_rule.specs.declared.rule.Rule.{Rule as RuleOf};
 ghost use Rattle.pg_rule.specs.Rules.{new_rule, opened, closed, drawn, hit, kept, cleared, IsOrderly, IsNewest};
-ghost use Rattle.pg_rule.specs.Texts.{begin_text, commit_text, rollback_text};
+ghost use Rattle.pg_request.specs.Texts.{begin_text, commit_text, rollback_text};
 ghost use Rattle.pg_rule.specs.Rows.{Group, Asked, Run, Begin, Commit, Rollback, Clear, Ping, Exchange, Plan, Main, awaited_by, known_widths, MayBegin, Asks, CanBeAsked, AsksNothing, start_rollback, rolled_back};
 
 /// A query without arguments is one Query, and what is known of the session stays.
@@ -30,9 +30,9 @@ pub fn a_transaction_call_is_one_query()
     ensures begin { (old : RuleOf) (text : Option (List ℕ)) → old.depth < 2 ^ 64 → IfSome text HasNoNul → MayBegin text old.depth →
         Asks old (Begin text) [] (Main (InQuery FirstSegment)) (frontend.Query (begin_text text old.depth) ∷ []) old }
     ensures commit { (old : RuleOf) → old.depth < 2 ^ 64 → 0 < old.depth →
-        Asks old Commit [] (Main (InQuery FirstSegment)) (frontend.Query (commit_text old.depth) ∷ []) old }
+        Asks old Commit [] (Main (InQuery FirstSegment)) (frontend.Query (commit_text (old.depth - 1)) ∷ []) old }
     ensures rollback { (old : RuleOf) → old.depth < 2 ^ 64 → 0 < old.depth →
-        Asks old Rollback [] (Main (InQuery FirstSegment)) (frontend.Query (rollback_text old.depth) ∷ []) old }
+        Asks old Rollback [] (Main (InQuery FirstSegment)) (frontend.Query (rollback_text (old.depth - 1)) ∷ []) old }
 {}
 
 /// A clear is one group that closes each kept statement, the one that was used last at the end; then none is kept, and a CloseComplete for each
@@ -77,8 +77,8 @@ pub fn a_response_to_a_row_is_what_is_awaited()
 /// A rollback without a call is one Query where something is open, which a frame can carry, and else nothing.
 pub fn a_rollback_without_a_call_is_one_query_at_most()
     ensures open { (rule : RuleOf) → 0 < rule.depth →
-        start_rollback rule ≡ (frontend.Query (rollback_text rule.depth) ∷ []) ∷ [] }
-    ensures said { (rule : RuleOf) → rule.depth < 2 ^ 64 → HasNoNul (rollback_text rule.depth) }
+        start_rollback rule ≡ (frontend.Query (rollback_text (rule.depth - 1)) ∷ []) ∷ [] }
+    ensures said { (rule : RuleOf) → rule.depth < 2 ^ 64 → HasNoNul (rollback_text (rule.depth - 1)) }
     ensures nothing { (rule : RuleOf) → rule.depth ≡ 0 → start_rollback rule ≡ [] }
     ensures of_a_begin { (old : RuleOf) (text : Option (List ℕ)) → old.depth ≡ 0 →
         rolled_back old (Begin text) ≡ (frontend.Query (codes "ROLLBACK") ∷ []) ∷ [] }
@@ -103,8 +103,8 @@ pub fn transactions_have_these_texts()
     ensures begin { begin_text None 0 ≡ codes "BEGIN" }
     ensures begin_within { begin_text None 1 ≡ codes "SAVEPOINT _sqlx_savepoint_1" }
     ensures begin_with { begin_text (Some (codes "BEGIN READ ONLY")) 0 ≡ codes "BEGIN READ ONLY" }
-    ensures commit { commit_text 1 ≡ codes "COMMIT" }
-    ensures commit_within { commit_text 3 ≡ codes "RELEASE SAVEPOINT _sqlx_savepoint_2" }
-    ensures rollback { rollback_text 1 ≡ codes "ROLLBACK" }
-    ensures rollback_within { rollback_text 2 ≡ codes "ROLLBACK TO SAVEPOINT _sqlx_savepoint_1" }
+    ensures commit { commit_text 0 ≡ codes "COMMIT" }
+    ensures commit_within { commit_text 2 ≡ codes "RELEASE SAVEPOINT _sqlx_savepoint_2" }
+    ensures rollback { rollback_text 0 ≡ codes "ROLLBACK" }
+    ensures rollback_within { rollback_text 1 ≡ codes "ROLLBACK TO SAVEPOINT _sqlx_savepoint_1" }
 {}

@@ -18,7 +18,6 @@
 mod cache;
 pub mod laws;
 mod rule;
-mod texts;
 
 pub use cache::{Cache, Entry};
 pub use rule::Rule;

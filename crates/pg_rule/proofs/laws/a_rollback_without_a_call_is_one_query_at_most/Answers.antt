@@ -1,4 +1,5 @@
-use Rattle.pg_rule.proofs.TextLaws.{rollback_said}
+use Rattle.std.proofs.Common.{◌-◌, arith}
+use Rattle.pg_request.proofs.TextLaws.{rollback_said}
 use Rattle.pg_rule.proofs.OrderLaws.{rolls_open, rolls_nothing, begin_rolls}
 use Rattle.pg_rule.proofs.laws.a_rollback_without_a_call_is_one_query_at_most.Goals as goal
 
@@ -6,7 +7,7 @@ pub returns-clause-open : goal.returns-clause-open
 returns-clause-open c = rolls_open
 
 pub returns-clause-said : goal.returns-clause-said
-returns-clause-said c rule = rollback_said rule.depth
+returns-clause-said c rule lt = rollback_said (rule.depth - 1) (omega (arith, lt))
 
 pub returns-clause-nothing : goal.returns-clause-nothing
 returns-clause-nothing c = rolls_nothing

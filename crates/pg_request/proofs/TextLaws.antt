@@ -1,7 +1,7 @@
 -- The texts of transactions and savepoints hold no zero byte.
-use Rattle.std.proofs.Common.{ℕ, ◌-◌, ◌<◌, ◌^◌, Bool, true, false, cond, nat_eq, List, ◌++◌, Option, Some, None, IfSome, codes, decimal, refl, arith}
+use Rattle.std.proofs.Common.{ℕ, ◌<◌, ◌^◌, Bool, true, false, cond, nat_eq, List, ◌++◌, Option, Some, None, IfSome, codes, decimal, refl}
 use Rattle.pg_wire.specs.Bytes.{HasNoNul}
-use Rattle.pg_rule.specs.Texts.{savepoint, opening_text, begin_text, commit_text, rollback_text}
+use Rattle.pg_request.specs.Texts.{savepoint, opening_text, begin_text, commit_text, rollback_text}
 use Rattle.pg_wire.proofs.NameLaws.{nul_free_append, decimal_nul_free}
 
 pub savepoint_said : (front : List ℕ) (depth : ℕ) → HasNoNul front → depth < 2 ^ 64 → HasNoNul (front ++ savepoint depth)
@@ -18,16 +18,16 @@ begin_said text depth h lt = by (nat_eq depth 0)
     by true = opening_said text h
     by false = savepoint_said (codes "SAVEPOINT ") depth refl lt
 
-pub commit_said : (depth : ℕ) → depth < 2 ^ 64 → HasNoNul (commit_text depth)
-commit_said depth lt = by (nat_eq depth 1)
+pub commit_said : (left : ℕ) → left < 2 ^ 64 → HasNoNul (commit_text left)
+commit_said left lt = by (nat_eq left 0)
   where
-    by : (b : Bool) → HasNoNul (cond b (codes "COMMIT") (codes "RELEASE SAVEPOINT " ++ savepoint (depth - 1)))
+    by : (b : Bool) → HasNoNul (cond b (codes "COMMIT") (codes "RELEASE SAVEPOINT " ++ savepoint left))
     by true = refl
-    by false = savepoint_said (codes "RELEASE SAVEPOINT ") (depth - 1) refl (omega (arith, lt))
+    by false = savepoint_said (codes "RELEASE SAVEPOINT ") left refl lt
 
-pub rollback_said : (depth : ℕ) → depth < 2 ^ 64 → HasNoNul (rollback_text depth)
-rollback_said depth lt = by (nat_eq depth 1)
+pub rollback_said : (left : ℕ) → left < 2 ^ 64 → HasNoNul (rollback_text left)
+rollback_said left lt = by (nat_eq left 0)
   where
-    by : (b : Bool) → HasNoNul (cond b (codes "ROLLBACK") (codes "ROLLBACK TO SAVEPOINT " ++ savepoint (depth - 1)))
+    by : (b : Bool) → HasNoNul (cond b (codes "ROLLBACK") (codes "ROLLBACK TO SAVEPOINT " ++ savepoint left))
     by true = refl
-    by false = savepoint_said (codes "ROLLBACK TO SAVEPOINT ") (depth - 1) refl (omega (arith, lt))
+    by false = savepoint_said (codes "ROLLBACK TO SAVEPOINT ") left refl lt
