@@ -8,14 +8,16 @@ use Rattle.pg_script.specs.declared.token.Token.{Token}
 use Rattle.pg_script.specs.declared.token.Token.TheVariants.{Space, Word, Number, SslMode, Text}
 use Rattle.pg_script.specs.declared.token.Keyword.{Keyword}
 use Rattle.pg_script.specs.declared.token.Keyword.TheVariants as words
+use Rattle.pg_script.specs.declared.token.CallWord.{CallWord}
+use Rattle.pg_script.specs.declared.token.CallWord.TheVariants as call_words
 use Rattle.pg_script.specs.declared.step.Call.{Call}
 use Rattle.pg_script.specs.declared.step.Call.TheVariants as calls
 use Rattle.pg_script.specs.declared.line.Line.{Line}
 use Rattle.pg_script.specs.declared.line.Line.TheVariants as lines
 use Rattle.pg_script.specs.Reading.{◌>>=◌}
-use Rattle.pg_script.specs.Arguments.{alone, bytes_arg, text_in, text_arg, nonce_arg, mode_arg, pair_arg, number_arg, last_number, digits_arg, raw_arg}
+use Rattle.pg_script.specs.Arguments.{alone, bytes_arg, text_in, text_arg, nonce_arg, mode_arg, pair_arg, number_arg, last_number, digits_arg, query_arg, raw_arg}
 use Rattle.pg_script.specs.Lines.{call_with, call_arg, take_of, take_line, most_arg, step_line, link_line, line_with, line_from}
-use Rattle.pg_script.specs.Grammar.{raw_tokens, tokens_of, call_tokens, IsUnicode, QueryFits, LineFits, CallFits}
+use Rattle.pg_script.specs.Grammar.{query_tokens, raw_tokens, tokens_of, call_tokens, IsUnicode, QueryFits, LineFits, CallFits}
 use Rattle.pg_options.specs.declared.ssl_mode.PgSslMode.{PgSslMode}
 use Rattle.pg_script.specs.Nonces.{IsNonce, is_nonce, nonce_in}
 use Rattle.pg_script.proofs.Apart.{apart}
@@ -128,12 +130,15 @@ digits_line None f = (refl, f)
 digits_line (Some (pos n)) f = (refl, f)
 digits_line (Some (negsuc n)) f = absurd f
 
-raw_takes : Takes raw_arg raw_tokens QueryFits
-raw_takes (Space ∷ Word words.Raw ∷ rest) q e =
-    let b = bind_some (text_arg rest) (λ sql. Some (record { sql = sql })) q e in
-    let t = text_takes rest b.0 b.1 in
+query_takes : Takes query_arg query_tokens QueryFits
+query_takes ts q e =
+    let b = bind_some (text_arg ts) (λ sql. Some (record { sql = sql })) q e in
+    let t = text_takes ts b.0 b.1 in
     let is : record { sql = b.0 } ≡ q = same_Some _ q b.2 in
-    subst (λ (r : QueryText). (Space ∷ Word words.Raw ∷ rest ≡ raw_tokens r) × QueryFits r) is (ap (λ (ts : List Token). Space ∷ Word words.Raw ∷ ts) t.0, t.1)
+    subst (λ (r : QueryText). (ts ≡ query_tokens r) × QueryFits r) is (t.0, t.1)
+
+raw_takes : Takes raw_arg raw_tokens QueryFits
+raw_takes (Space ∷ Word words.Raw ∷ rest) q e = let t = query_takes rest q e in (ap (λ (ts : List Token). Space ∷ Word words.Raw ∷ ts) t.0, t.1)
 raw_takes _ q e = absurd cc
 
 alone_takes : {A : Type 0} (x y : A) (ts : List Token) → alone x ts ≡ Some y → (ts ≡ []) × (x ≡ y)
@@ -165,20 +170,24 @@ queried : (k : Keyword) (make : QueryText → Call) → ((q : QueryText) → Que
     → (rest : List Token) (c : Call) → (raw_arg rest >>= λ q. Some (make q)) ≡ Some c → IsCall (Word k ∷ rest) c
 queried k make is rest c e = made IsCall raw_arg raw_tokens QueryFits make k raw_takes is rest c e
 
-call_takes : (k : Keyword) (rest : List Token) (c : Call) → call_with k rest ≡ Some c → IsCall (Word k ∷ rest) c
-call_takes words.Execute rest c e = queried words.Execute (λ q. calls.Execute q) (λ q f. (refl, f)) rest c e
-call_takes words.ExecuteMany rest c e = queried words.ExecuteMany (λ q. calls.ExecuteMany q) (λ q f. (refl, f)) rest c e
-call_takes words.Fetch rest c e = queried words.Fetch (λ q. calls.Fetch q) (λ q f. (refl, f)) rest c e
-call_takes words.FetchMany rest c e = queried words.FetchMany (λ q. calls.FetchMany q) (λ q f. (refl, f)) rest c e
-call_takes words.FetchAll rest c e = queried words.FetchAll (λ q. calls.FetchAll q) (λ q f. (refl, f)) rest c e
-call_takes words.FetchOptional rest c e = queried words.FetchOptional (λ q. calls.FetchOptional q) (λ q f. (refl, f)) rest c e
-call_takes words.FetchOne rest c e = queried words.FetchOne (λ q. calls.FetchOne q) (λ q f. (refl, f)) rest c e
-call_takes words.Ping rest c e = bare IsCall calls.Ping words.Ping (refl, tt) rest c e
-call_takes words.Flush rest c e = bare IsCall calls.Flush words.Flush (refl, tt) rest c e
-call_takes _ rest c e = absurd cc
+call_takes : (k : CallWord) (rest : List Token) (c : Call) → call_with k rest ≡ Some c → IsCall (Word (words.Call k) ∷ rest) c
+call_takes call_words.Execute rest c e = queried (words.Call call_words.Execute) (λ q. calls.Execute q) (λ q f. (refl, f)) rest c e
+call_takes call_words.ExecuteMany rest c e = queried (words.Call call_words.ExecuteMany) (λ q. calls.ExecuteMany q) (λ q f. (refl, f)) rest c e
+call_takes call_words.Fetch rest c e = queried (words.Call call_words.Fetch) (λ q. calls.Fetch q) (λ q f. (refl, f)) rest c e
+call_takes call_words.FetchMany rest c e = queried (words.Call call_words.FetchMany) (λ q. calls.FetchMany q) (λ q f. (refl, f)) rest c e
+call_takes call_words.FetchAll rest c e = queried (words.Call call_words.FetchAll) (λ q. calls.FetchAll q) (λ q f. (refl, f)) rest c e
+call_takes call_words.FetchOptional rest c e = queried (words.Call call_words.FetchOptional) (λ q. calls.FetchOptional q) (λ q f. (refl, f)) rest c e
+call_takes call_words.FetchOne rest c e = queried (words.Call call_words.FetchOne) (λ q. calls.FetchOne q) (λ q f. (refl, f)) rest c e
+call_takes call_words.Ping rest c e = bare IsCall calls.Ping (words.Call call_words.Ping) (refl, tt) rest c e
+call_takes call_words.Flush rest c e = bare IsCall calls.Flush (words.Call call_words.Flush) (refl, tt) rest c e
+call_takes call_words.Begin rest c e = bare IsCall calls.Begin (words.Call call_words.Begin) (refl, tt) rest c e
+call_takes call_words.BeginWith rest c e = made IsCall query_arg query_tokens QueryFits (λ q. calls.BeginWith q) (words.Call call_words.BeginWith) query_takes (λ q f. (refl, f)) rest c e
+call_takes call_words.Commit rest c e = bare IsCall calls.Commit (words.Call call_words.Commit) (refl, tt) rest c e
+call_takes call_words.Rollback rest c e = bare IsCall calls.Rollback (words.Call call_words.Rollback) (refl, tt) rest c e
+call_takes call_words.StartRollback rest c e = bare IsCall calls.StartRollback (words.Call call_words.StartRollback) (refl, tt) rest c e
 
 behind_takes : (ts : List Token) (c : Call) → call_arg ts ≡ Some c → (ts ≡ Space ∷ call_tokens c) × CallFits c
-behind_takes (Space ∷ Word k ∷ rest) c e = let t = call_takes k rest c e in (ap (λ (ts : List Token). Space ∷ ts) t.0, t.1)
+behind_takes (Space ∷ Word (words.Call k) ∷ rest) c e = let t = call_takes k rest c e in (ap (λ (ts : List Token). Space ∷ ts) t.0, t.1)
 behind_takes _ c e = absurd cc
 
 -- and back: a call is read behind a space, is no `most`, and no two of its words stand side by side
@@ -197,6 +206,11 @@ call_again (calls.FetchOptional q) f = record { read = rw f refl; plain = refl; 
 call_again (calls.FetchOne q) f = record { read = rw f refl; plain = refl; parts = refl }
 call_again calls.Ping f = record { read = refl; plain = refl; parts = refl }
 call_again calls.Flush f = record { read = refl; plain = refl; parts = refl }
+call_again calls.Begin f = record { read = refl; plain = refl; parts = refl }
+call_again (calls.BeginWith q) f = record { read = rw f refl; plain = refl; parts = refl }
+call_again calls.Commit f = record { read = refl; plain = refl; parts = refl }
+call_again calls.Rollback f = record { read = refl; plain = refl; parts = refl }
+call_again calls.StartRollback f = record { read = refl; plain = refl; parts = refl }
 
 -- ---- lines
 

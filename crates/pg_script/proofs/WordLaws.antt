@@ -4,6 +4,7 @@ use Rattle.std.specs.Prelude.{◌&&◌, not}
 use Rattle.std.specs.List.{list_all}
 use Rattle.pg_script.specs.declared.token.Keyword.{Keyword}
 use Rattle.pg_script.specs.declared.token.Keyword.TheVariants as words
+use Rattle.pg_script.specs.declared.token.CallWord.TheVariants as call_words
 use Rattle.pg_options.specs.SslModes.{ssl_mode_from}
 use Rattle.pg_script.specs.Words.{spelling_of, keyword_of, is_digit}
 
@@ -46,12 +47,17 @@ word_law words.Start = record { shape = refl; read = refl; no_mode = refl }
 word_law words.Step = record { shape = refl; read = refl; no_mode = refl }
 word_law words.Most = record { shape = refl; read = refl; no_mode = refl }
 word_law words.Raw = record { shape = refl; read = refl; no_mode = refl }
-word_law words.Execute = record { shape = refl; read = refl; no_mode = refl }
-word_law words.ExecuteMany = record { shape = refl; read = refl; no_mode = refl }
-word_law words.Fetch = record { shape = refl; read = refl; no_mode = refl }
-word_law words.FetchMany = record { shape = refl; read = refl; no_mode = refl }
-word_law words.FetchAll = record { shape = refl; read = refl; no_mode = refl }
-word_law words.FetchOptional = record { shape = refl; read = refl; no_mode = refl }
-word_law words.FetchOne = record { shape = refl; read = refl; no_mode = refl }
-word_law words.Ping = record { shape = refl; read = refl; no_mode = refl }
-word_law words.Flush = record { shape = refl; read = refl; no_mode = refl }
+word_law (words.Call call_words.Execute) = record { shape = refl; read = refl; no_mode = refl }
+word_law (words.Call call_words.ExecuteMany) = record { shape = refl; read = refl; no_mode = refl }
+word_law (words.Call call_words.Fetch) = record { shape = refl; read = refl; no_mode = refl }
+word_law (words.Call call_words.FetchMany) = record { shape = refl; read = refl; no_mode = refl }
+word_law (words.Call call_words.FetchAll) = record { shape = refl; read = refl; no_mode = refl }
+word_law (words.Call call_words.FetchOptional) = record { shape = refl; read = refl; no_mode = refl }
+word_law (words.Call call_words.FetchOne) = record { shape = refl; read = refl; no_mode = refl }
+word_law (words.Call call_words.Ping) = record { shape = refl; read = refl; no_mode = refl }
+word_law (words.Call call_words.Flush) = record { shape = refl; read = refl; no_mode = refl }
+word_law (words.Call call_words.Begin) = record { shape = refl; read = refl; no_mode = refl }
+word_law (words.Call call_words.BeginWith) = record { shape = refl; read = refl; no_mode = refl }
+word_law (words.Call call_words.Commit) = record { shape = refl; read = refl; no_mode = refl }
+word_law (words.Call call_words.Rollback) = record { shape = refl; read = refl; no_mode = refl }
+word_law (words.Call call_words.StartRollback) = record { shape = refl; read = refl; no_mode = refl }

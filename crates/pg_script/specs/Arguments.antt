@@ -58,7 +58,11 @@ digits_arg (Space ∷ Word words.None ∷ []) = Some None
 digits_arg (Space ∷ Number n ∷ []) = digit_in n >>= λ digit. Some (Some digit)
 digits_arg _ = None
 
--- a text of SQL behind the word `raw`
+-- a text of SQL
+abbrev pub query_arg : List Token → Option QueryText
+query_arg ts = text_arg ts >>= λ sql. Some (record { sql = sql })
+
+-- the same behind the word `raw`
 abbrev pub raw_arg : List Token → Option QueryText
-raw_arg (Space ∷ Word words.Raw ∷ rest) = text_arg rest >>= λ sql. Some (record { sql = sql })
+raw_arg (Space ∷ Word words.Raw ∷ rest) = query_arg rest
 raw_arg _ = None

@@ -8,6 +8,7 @@ use Rattle.pg_request.specs.Queries.{QueryText}
 use Rattle.pg_script.specs.declared.token.Token.{Token}
 use Rattle.pg_script.specs.declared.token.Token.TheVariants.{Space, Word, Number, SslMode, Text}
 use Rattle.pg_script.specs.declared.token.Keyword.TheVariants as words
+use Rattle.pg_script.specs.declared.token.CallWord.TheVariants as call_words
 use Rattle.pg_script.specs.declared.step.Call.{Call}
 use Rattle.pg_script.specs.declared.step.Call.TheVariants as calls
 use Rattle.pg_script.specs.declared.line.Line.{Line}
@@ -25,19 +26,27 @@ use Rattle.pg_script.specs.declared.error.ReadError.TheVariants as errors
 
 -- ---- lines as tokens: one row a line
 
+abbrev pub query_tokens : QueryText → List Token
+query_tokens query = Space ∷ Text query.sql ∷ []
+
 abbrev pub raw_tokens : QueryText → List Token
-raw_tokens query = Space ∷ Word words.Raw ∷ Space ∷ Text query.sql ∷ []
+raw_tokens query = Space ∷ Word words.Raw ∷ query_tokens query
 
 abbrev pub call_tokens : Call → List Token
-call_tokens (calls.Execute query) = Word words.Execute ∷ raw_tokens query
-call_tokens (calls.ExecuteMany query) = Word words.ExecuteMany ∷ raw_tokens query
-call_tokens (calls.Fetch query) = Word words.Fetch ∷ raw_tokens query
-call_tokens (calls.FetchMany query) = Word words.FetchMany ∷ raw_tokens query
-call_tokens (calls.FetchAll query) = Word words.FetchAll ∷ raw_tokens query
-call_tokens (calls.FetchOptional query) = Word words.FetchOptional ∷ raw_tokens query
-call_tokens (calls.FetchOne query) = Word words.FetchOne ∷ raw_tokens query
-call_tokens calls.Ping = Word words.Ping ∷ []
-call_tokens calls.Flush = Word words.Flush ∷ []
+call_tokens (calls.Execute query) = Word (words.Call call_words.Execute) ∷ raw_tokens query
+call_tokens (calls.ExecuteMany query) = Word (words.Call call_words.ExecuteMany) ∷ raw_tokens query
+call_tokens (calls.Fetch query) = Word (words.Call call_words.Fetch) ∷ raw_tokens query
+call_tokens (calls.FetchMany query) = Word (words.Call call_words.FetchMany) ∷ raw_tokens query
+call_tokens (calls.FetchAll query) = Word (words.Call call_words.FetchAll) ∷ raw_tokens query
+call_tokens (calls.FetchOptional query) = Word (words.Call call_words.FetchOptional) ∷ raw_tokens query
+call_tokens (calls.FetchOne query) = Word (words.Call call_words.FetchOne) ∷ raw_tokens query
+call_tokens calls.Ping = Word (words.Call call_words.Ping) ∷ []
+call_tokens calls.Flush = Word (words.Call call_words.Flush) ∷ []
+call_tokens calls.Begin = Word (words.Call call_words.Begin) ∷ []
+call_tokens (calls.BeginWith query) = Word (words.Call call_words.BeginWith) ∷ query_tokens query
+call_tokens calls.Commit = Word (words.Call call_words.Commit) ∷ []
+call_tokens calls.Rollback = Word (words.Call call_words.Rollback) ∷ []
+call_tokens calls.StartRollback = Word (words.Call call_words.StartRollback) ∷ []
 
 -- digits below 0 have no spelling (`LineFits` has none of them)
 abbrev pub tokens_of : Line → List Token
@@ -84,6 +93,11 @@ CallFits (calls.FetchOptional query) = QueryFits query
 CallFits (calls.FetchOne query) = QueryFits query
 CallFits calls.Ping = Unit {0}
 CallFits calls.Flush = Unit {0}
+CallFits calls.Begin = Unit {0}
+CallFits (calls.BeginWith query) = QueryFits query
+CallFits calls.Commit = Unit {0}
+CallFits calls.Rollback = Unit {0}
+CallFits calls.StartRollback = Unit {0}
 
 abbrev pub LineFits : Line → Type 0
 LineFits lines.Blank = ⊥

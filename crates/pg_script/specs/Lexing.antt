@@ -3,7 +3,6 @@ use Rattle.std.specs.Prelude.{◌≡◌, ◌<◌, ◌==◌, ◌+◌, ◌*◌, �
 use Rattle.pg_script.specs.declared.token.Token.{Token}
 use Rattle.pg_script.specs.declared.token.Token.TheVariants as tokens
 use Rattle.pg_script.specs.declared.error.LineError.{LineError}
-use Rattle.pg_script.specs.declared.error.LineError.TheVariants as errors
 use Rattle.pg_script.specs.Reading.{◌>>=◌, run, Fails}
 use Rattle.pg_script.specs.Words.{token_of, is_digit}
 

@@ -5,30 +5,36 @@ use Rattle.pg_script.specs.declared.token.Token.{Token}
 use Rattle.pg_script.specs.declared.token.Token.TheVariants.{Space, Word}
 use Rattle.pg_script.specs.declared.token.Keyword.{Keyword}
 use Rattle.pg_script.specs.declared.token.Keyword.TheVariants as words
+use Rattle.pg_script.specs.declared.token.CallWord.{CallWord}
+use Rattle.pg_script.specs.declared.token.CallWord.TheVariants as call_words
 use Rattle.pg_script.specs.declared.step.Call.{Call}
 use Rattle.pg_script.specs.declared.step.Call.TheVariants as calls
 use Rattle.pg_script.specs.declared.line.Line.{Line}
 use Rattle.pg_script.specs.declared.line.Line.TheVariants as lines
 use Rattle.pg_script.specs.Lexing.{tokens_in}
 use Rattle.pg_script.specs.Reading.{◌>>=◌}
-use Rattle.pg_script.specs.Arguments.{alone, bytes_arg, text_arg, nonce_arg, mode_arg, pair_arg, number_arg, last_number, digits_arg, raw_arg}
+use Rattle.pg_script.specs.Arguments.{alone, bytes_arg, text_arg, nonce_arg, mode_arg, pair_arg, number_arg, last_number, digits_arg, query_arg, raw_arg}
 
 -- ---- calls
 
-abbrev pub call_with : Keyword → List Token → Option Call
-call_with words.Execute rest = raw_arg rest >>= λ query. Some (calls.Execute query)
-call_with words.ExecuteMany rest = raw_arg rest >>= λ query. Some (calls.ExecuteMany query)
-call_with words.Fetch rest = raw_arg rest >>= λ query. Some (calls.Fetch query)
-call_with words.FetchMany rest = raw_arg rest >>= λ query. Some (calls.FetchMany query)
-call_with words.FetchAll rest = raw_arg rest >>= λ query. Some (calls.FetchAll query)
-call_with words.FetchOptional rest = raw_arg rest >>= λ query. Some (calls.FetchOptional query)
-call_with words.FetchOne rest = raw_arg rest >>= λ query. Some (calls.FetchOne query)
-call_with words.Ping rest = alone calls.Ping rest
-call_with words.Flush rest = alone calls.Flush rest
-call_with _ rest = None
+abbrev pub call_with : CallWord → List Token → Option Call
+call_with call_words.Execute rest = raw_arg rest >>= λ query. Some (calls.Execute query)
+call_with call_words.ExecuteMany rest = raw_arg rest >>= λ query. Some (calls.ExecuteMany query)
+call_with call_words.Fetch rest = raw_arg rest >>= λ query. Some (calls.Fetch query)
+call_with call_words.FetchMany rest = raw_arg rest >>= λ query. Some (calls.FetchMany query)
+call_with call_words.FetchAll rest = raw_arg rest >>= λ query. Some (calls.FetchAll query)
+call_with call_words.FetchOptional rest = raw_arg rest >>= λ query. Some (calls.FetchOptional query)
+call_with call_words.FetchOne rest = raw_arg rest >>= λ query. Some (calls.FetchOne query)
+call_with call_words.Ping rest = alone calls.Ping rest
+call_with call_words.Flush rest = alone calls.Flush rest
+call_with call_words.Begin rest = alone calls.Begin rest
+call_with call_words.BeginWith rest = query_arg rest >>= λ query. Some (calls.BeginWith query)
+call_with call_words.Commit rest = alone calls.Commit rest
+call_with call_words.Rollback rest = alone calls.Rollback rest
+call_with call_words.StartRollback rest = alone calls.StartRollback rest
 
 abbrev pub call_arg : List Token → Option Call
-call_arg (Space ∷ Word word ∷ rest) = call_with word rest
+call_arg (Space ∷ Word (words.Call word) ∷ rest) = call_with word rest
 call_arg _ = None
 
 -- ---- lines

@@ -2,12 +2,31 @@
 use Rattle.std.specs.Prelude.{◌+◌, ◌*◌, ◌-◌, ◌^◌, ◌∷◌, ◌&&◌, [], List, ℕ, Bool, Option, Some, None, codes, bytes_eq, nat_lt, nat_le, length, if◌then◌else◌}
 use Rattle.pg_script.specs.declared.token.Keyword.{Keyword}
 use Rattle.pg_script.specs.declared.token.Keyword.TheVariants as words
+use Rattle.pg_script.specs.declared.token.CallWord.{CallWord}
+use Rattle.pg_script.specs.declared.token.CallWord.TheVariants as call_words
 use Rattle.pg_script.specs.declared.token.Token.{Token}
 use Rattle.pg_script.specs.declared.token.Token.TheVariants as tokens
 use Rattle.pg_options.specs.declared.ssl_mode.PgSslMode.{PgSslMode}
 use Rattle.pg_options.specs.SslModes.{ssl_mode_from}
 use Rattle.pg_script.specs.Reading.{◌>>=◌}
 use Rattle.pg_script.specs.Arguments.{text_in}
+
+-- how a word that names a call is spelled
+abbrev pub call_spelling : CallWord → List ℕ
+call_spelling call_words.Execute = codes "execute"
+call_spelling call_words.ExecuteMany = codes "execute_many"
+call_spelling call_words.Fetch = codes "fetch"
+call_spelling call_words.FetchMany = codes "fetch_many"
+call_spelling call_words.FetchAll = codes "fetch_all"
+call_spelling call_words.FetchOptional = codes "fetch_optional"
+call_spelling call_words.FetchOne = codes "fetch_one"
+call_spelling call_words.Ping = codes "ping"
+call_spelling call_words.Flush = codes "flush"
+call_spelling call_words.Begin = codes "begin"
+call_spelling call_words.BeginWith = codes "begin_with"
+call_spelling call_words.Commit = codes "commit"
+call_spelling call_words.Rollback = codes "rollback"
+call_spelling call_words.StartRollback = codes "start_rollback"
 
 -- how a word is spelled
 abbrev pub spelling_of : Keyword → List ℕ
@@ -34,20 +53,14 @@ spelling_of words.Start = codes "start"
 spelling_of words.Step = codes "step"
 spelling_of words.Most = codes "most"
 spelling_of words.Raw = codes "raw"
-spelling_of words.Execute = codes "execute"
-spelling_of words.ExecuteMany = codes "execute_many"
-spelling_of words.Fetch = codes "fetch"
-spelling_of words.FetchMany = codes "fetch_many"
-spelling_of words.FetchAll = codes "fetch_all"
-spelling_of words.FetchOptional = codes "fetch_optional"
-spelling_of words.FetchOne = codes "fetch_one"
-spelling_of words.Ping = codes "ping"
-spelling_of words.Flush = codes "flush"
+spelling_of (words.Call word) = call_spelling word
 
 abbrev pub all_words : List Keyword
-all_words = words.Step ∷ words.Server ∷ words.Raw ∷ words.Wait ∷ words.Execute ∷ words.Fetch ∷ words.FetchAll ∷ words.FetchOne ∷ words.FetchOptional ∷ words.FetchMany ∷ words.ExecuteMany ∷ words.Ping
-    ∷ words.Flush ∷ words.Most ∷ words.Take ∷ words.Hold ∷ words.End ∷ words.Fail ∷ words.Break ∷ words.Start ∷ words.User ∷ words.Password
-    ∷ words.Database ∷ words.Application ∷ words.Option ∷ words.SslMode ∷ words.Digits ∷ words.None ∷ words.Link ∷ words.Upgrade ∷ words.Local ∷ words.Nonce ∷ []
+all_words = words.Step ∷ words.Server ∷ words.Raw ∷ words.Wait ∷ words.Call call_words.Execute ∷ words.Call call_words.Fetch ∷ words.Call call_words.FetchAll ∷ words.Call call_words.FetchOne
+    ∷ words.Call call_words.FetchOptional ∷ words.Call call_words.FetchMany ∷ words.Call call_words.ExecuteMany ∷ words.Call call_words.Ping ∷ words.Call call_words.Flush ∷ words.Call call_words.Begin
+    ∷ words.Call call_words.BeginWith ∷ words.Call call_words.Commit ∷ words.Call call_words.Rollback ∷ words.Call call_words.StartRollback ∷ words.Most ∷ words.Take ∷ words.Hold ∷ words.End
+    ∷ words.Fail ∷ words.Break ∷ words.Start ∷ words.User ∷ words.Password ∷ words.Database ∷ words.Application ∷ words.Option ∷ words.SslMode ∷ words.Digits ∷ words.None ∷ words.Link ∷ words.Upgrade
+    ∷ words.Local ∷ words.Nonce ∷ []
 
 abbrev pub is_digit : ℕ → Bool
 is_digit b = nat_le 48 b && nat_le b 57

@@ -1,7 +1,7 @@
 ghost use Rattle.std.specs.Prelude.{◌≡◌, option_map};
 ghost use Rattle.std.specs.Str.{is_utf8};
 ghost use Rattle.pg_script.specs.Reading.{Gives};
-ghost use Rattle.pg_script.specs.Arguments.{text_in, alone, bytes_arg, text_arg, nonce_arg, mode_arg, pair_arg, number_arg, last_number, digit_in, digits_arg, raw_arg};
+ghost use Rattle.pg_script.specs.Arguments.{text_in, alone, bytes_arg, text_arg, nonce_arg, mode_arg, pair_arg, number_arg, last_number, digit_in, digits_arg, query_arg, raw_arg};
 
 use crate::error::LineError;
 use crate::nonce::Nonce;
@@ -150,15 +150,20 @@ pub(crate) fn digits_arg(tokens: &[Token]) -> Result<Option<i8>, LineError>
     }
 }
 
-/// One text of SQL behind the word `raw`.
+/// One text of SQL.
+pub(crate) fn query_arg(alloc: Global, tokens: &[Token]) -> Result<Query, LineError>
+    ensures { Gives (λ q. q) result (query_arg tokens.now) }
+{
+    let sql = text_arg(alloc, tokens)?;
+    Ok(Query::from_text(sql))
+}
+
+/// The same behind the word `raw`.
 pub(crate) fn raw_arg(alloc: Global, tokens: &[Token]) -> Result<Query, LineError>
     ensures { Gives (λ q. q) result (raw_arg tokens.now) }
 {
     match tokens {
-        [Token::Space, Token::Word(Keyword::Raw), rest @ ..] => {
-            let sql = text_arg(alloc, rest)?;
-            Ok(Query::from_text(sql))
-        }
+        [Token::Space, Token::Word(Keyword::Raw), rest @ ..] => query_arg(alloc, rest),
         _ => Err(LineError::Bad),
     }
 }

@@ -18,7 +18,8 @@
 //!
 //! The options, the events of reads, those of writes and the steps each keep their order, and else the lines may stand in any.
 //! A CALL is `execute`, `execute_many`, `fetch`, `fetch_many`, `fetch_all`, `fetch_optional` or `fetch_one`, each with `raw TEXT`
-//! behind it, a text of SQL; or `ping` or `flush`.
+//! behind it, a text of SQL; `begin_with TEXT`, where the text is one of SQL as well; or `ping`, `flush`, `begin`, `commit`,
+//! `rollback` or `start_rollback`.
 //!
 //! A TEXT stands between quotes, and is printable ASCII other than a quote and a backslash, or `\"`, `\\`, or `\xHH` for any
 //! byte, with two lower-case hexadecimal digits. But for `server` its bytes are UTF-8; a zero byte among them is no fault of the

@@ -4,13 +4,13 @@ ghost use Rattle.pg_script.specs.Lines.{call_with, call_arg, take_line, most_arg
 
 use crate::arguments::{
     alone, bytes_arg, digits_arg, is_utf8, last_number, mode_arg, nonce_arg, number_arg, pair_arg,
-    raw_arg, text_arg,
+    query_arg, raw_arg, text_arg,
 };
 use crate::error::LineError;
 use crate::lexer::Lexer;
 use crate::nonce::Nonce;
 use crate::step::Call;
-use crate::token::{Keyword, Token};
+use crate::token::{CallWord, Keyword, Token};
 use pg_options::PgSslMode;
 use pg_wire::{Blob, Text};
 use std::alloc::Global;
@@ -52,20 +52,24 @@ pub(crate) enum Line {
     },
 }
 
-fn call_with(alloc: Global, word: Keyword, rest: &[Token]) -> Result<Call, LineError>
+fn call_with(alloc: Global, word: CallWord, rest: &[Token]) -> Result<Call, LineError>
     ensures { Gives (λ c. c) result (call_with word rest.now) }
 {
     match word {
-        Keyword::Execute => Ok(Call::Execute(raw_arg(alloc, rest)?)),
-        Keyword::ExecuteMany => Ok(Call::ExecuteMany(raw_arg(alloc, rest)?)),
-        Keyword::Fetch => Ok(Call::Fetch(raw_arg(alloc, rest)?)),
-        Keyword::FetchMany => Ok(Call::FetchMany(raw_arg(alloc, rest)?)),
-        Keyword::FetchAll => Ok(Call::FetchAll(raw_arg(alloc, rest)?)),
-        Keyword::FetchOptional => Ok(Call::FetchOptional(raw_arg(alloc, rest)?)),
-        Keyword::FetchOne => Ok(Call::FetchOne(raw_arg(alloc, rest)?)),
-        Keyword::Ping => alone(Call::Ping, rest),
-        Keyword::Flush => alone(Call::Flush, rest),
-        _ => Err(LineError::Bad),
+        CallWord::Execute => Ok(Call::Execute(raw_arg(alloc, rest)?)),
+        CallWord::ExecuteMany => Ok(Call::ExecuteMany(raw_arg(alloc, rest)?)),
+        CallWord::Fetch => Ok(Call::Fetch(raw_arg(alloc, rest)?)),
+        CallWord::FetchMany => Ok(Call::FetchMany(raw_arg(alloc, rest)?)),
+        CallWord::FetchAll => Ok(Call::FetchAll(raw_arg(alloc, rest)?)),
+        CallWord::FetchOptional => Ok(Call::FetchOptional(raw_arg(alloc, rest)?)),
+        CallWord::FetchOne => Ok(Call::FetchOne(raw_arg(alloc, rest)?)),
+        CallWord::Ping => alone(Call::Ping, rest),
+        CallWord::Flush => alone(Call::Flush, rest),
+        CallWord::Begin => alone(Call::Begin, rest),
+        CallWord::BeginWith => Ok(Call::BeginWith(query_arg(alloc, rest)?)),
+        CallWord::Commit => alone(Call::Commit, rest),
+        CallWord::Rollback => alone(Call::Rollback, rest),
+        CallWord::StartRollback => alone(Call::StartRollback, rest),
     }
 }
 
@@ -73,7 +77,9 @@ fn call_arg(alloc: Global, tokens: &[Token]) -> Result<Call, LineError>
     ensures { Gives (λ c. c) result (call_arg tokens.now) }
 {
     match tokens {
-        [Token::Space, Token::Word(word), rest @ ..] => call_with(alloc, *word, rest),
+        [Token::Space, Token::Word(Keyword::Call(word)), rest @ ..] => {
+            call_with(alloc, *word, rest)
+        }
         _ => Err(LineError::Bad),
     }
 }

@@ -16,6 +16,14 @@ pub enum Call {
     FetchOne(Query),
     Ping,
     Flush,
+    /// Opens a transaction, or a savepoint in one.
+    Begin,
+    /// The same by a text of its own, which opens no savepoint.
+    BeginWith(Query),
+    Commit,
+    Rollback,
+    /// Queues a rollback without waiting for it.
+    StartRollback,
 }
 
 impl Call {
@@ -34,6 +42,11 @@ impl Call {
             Call::FetchOne(query) => Call::FetchOne(query.to_copy(alloc)?),
             Call::Ping => Call::Ping,
             Call::Flush => Call::Flush,
+            Call::Begin => Call::Begin,
+            Call::BeginWith(query) => Call::BeginWith(query.to_copy(alloc)?),
+            Call::Commit => Call::Commit,
+            Call::Rollback => Call::Rollback,
+            Call::StartRollback => Call::StartRollback,
         })
     }
 }

@@ -1,6 +1,25 @@
 use pg_options::PgSslMode;
 use pg_wire::Blob;
 
+/// The words that name a call.
+#[derive(Clone, Copy)]
+pub(crate) enum CallWord {
+    Execute,
+    ExecuteMany,
+    Fetch,
+    FetchMany,
+    FetchAll,
+    FetchOptional,
+    FetchOne,
+    Ping,
+    Flush,
+    Begin,
+    BeginWith,
+    Commit,
+    Rollback,
+    StartRollback,
+}
+
 /// The words of a script.
 #[derive(Clone, Copy)]
 pub(crate) enum Keyword {
@@ -27,15 +46,7 @@ pub(crate) enum Keyword {
     Step,
     Most,
     Raw,
-    Execute,
-    ExecuteMany,
-    Fetch,
-    FetchMany,
-    FetchAll,
-    FetchOptional,
-    FetchOne,
-    Ping,
-    Flush,
+    Call(CallWord),
 }
 
 /// A token of a line.

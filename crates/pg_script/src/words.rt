@@ -1,25 +1,30 @@
 ghost use Rattle.std.specs.Prelude.{◌≡◌};
-ghost use Rattle.pg_script.specs.Words.{spelling_of, number_of, keyword_among, keyword_of, mode_of, token_of};
+ghost use Rattle.pg_script.specs.Words.{call_spelling, spelling_of, number_of, keyword_among, keyword_of, mode_of, token_of};
 
 use crate::arguments::text_in;
-use crate::token::{Keyword, Token};
+use crate::token::{CallWord, Keyword, Token};
 use pg_options::PgSslMode;
 
 /// All words of a script, the most usual first.
-const WORDS: [Keyword; 32] = [
+const WORDS: [Keyword; 37] = [
     Keyword::Step,
     Keyword::Server,
     Keyword::Raw,
     Keyword::Wait,
-    Keyword::Execute,
-    Keyword::Fetch,
-    Keyword::FetchAll,
-    Keyword::FetchOne,
-    Keyword::FetchOptional,
-    Keyword::FetchMany,
-    Keyword::ExecuteMany,
-    Keyword::Ping,
-    Keyword::Flush,
+    Keyword::Call(CallWord::Execute),
+    Keyword::Call(CallWord::Fetch),
+    Keyword::Call(CallWord::FetchAll),
+    Keyword::Call(CallWord::FetchOne),
+    Keyword::Call(CallWord::FetchOptional),
+    Keyword::Call(CallWord::FetchMany),
+    Keyword::Call(CallWord::ExecuteMany),
+    Keyword::Call(CallWord::Ping),
+    Keyword::Call(CallWord::Flush),
+    Keyword::Call(CallWord::Begin),
+    Keyword::Call(CallWord::BeginWith),
+    Keyword::Call(CallWord::Commit),
+    Keyword::Call(CallWord::Rollback),
+    Keyword::Call(CallWord::StartRollback),
     Keyword::Most,
     Keyword::Take,
     Keyword::Hold,
@@ -40,6 +45,28 @@ const WORDS: [Keyword; 32] = [
     Keyword::Local,
     Keyword::Nonce,
 ];
+
+// How a word that names a call is spelled.
+fn call_spelling(word: CallWord) -> &'static [u8]
+    ensures { result.now ≡ call_spelling word }
+{
+    match word {
+        CallWord::Execute => b"execute",
+        CallWord::ExecuteMany => b"execute_many",
+        CallWord::Fetch => b"fetch",
+        CallWord::FetchMany => b"fetch_many",
+        CallWord::FetchAll => b"fetch_all",
+        CallWord::FetchOptional => b"fetch_optional",
+        CallWord::FetchOne => b"fetch_one",
+        CallWord::Ping => b"ping",
+        CallWord::Flush => b"flush",
+        CallWord::Begin => b"begin",
+        CallWord::BeginWith => b"begin_with",
+        CallWord::Commit => b"commit",
+        CallWord::Rollback => b"rollback",
+        CallWord::StartRollback => b"start_rollback",
+    }
+}
 
 // How a word is spelled.
 fn spelling_of(word: Keyword) -> &'static [u8]
@@ -69,15 +96,7 @@ fn spelling_of(word: Keyword) -> &'static [u8]
         Keyword::Step => b"step",
         Keyword::Most => b"most",
         Keyword::Raw => b"raw",
-        Keyword::Execute => b"execute",
-        Keyword::ExecuteMany => b"execute_many",
-        Keyword::Fetch => b"fetch",
-        Keyword::FetchMany => b"fetch_many",
-        Keyword::FetchAll => b"fetch_all",
-        Keyword::FetchOptional => b"fetch_optional",
-        Keyword::FetchOne => b"fetch_one",
-        Keyword::Ping => b"ping",
-        Keyword::Flush => b"flush",
+        Keyword::Call(word) => call_spelling(word),
     }
 }
 

@@ -1,4 +1,4 @@
-use Rattle.std.proofs.Common.{refl, ◌∙◌, ◌≡◌, ◌<◌, ◌∷◌, ◌++◌, [], length, sym, ap, arith, List, ℕ}
+use Rattle.std.proofs.Common.{refl, ◌∙◌, sym, ap, arith, List, ℕ}
 use Rattle.pg_script.specs.Lexing.{at, lexed}
 use Rattle.pg_script.specs.Lexing.{Mode as modes}
 use Rattle.pg_script.proofs.LexerSteps.{character_takes, character_fails, character_shorter, text_ends, after_shorter}
