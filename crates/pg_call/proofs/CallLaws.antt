@@ -1,5 +1,6 @@
 -- One more message of a call.
 use Rattle.std.proofs.Common.{◌≡◌, ◌≢◌, inl, inr, ℕ, ◌+◌, ◌-◌, ◌<◌, Bool, true, false, not, ◌&&◌, ◌||◌, cond, ◌==◌, List, [], ◌∷◌, ◌++◌, length, map, filter, refl, sym, ap, ◌∙◌, subst, arith, append-nil, Result, Ok, Err, IfOk, IfErr, OnOk, Option, Some, None, option_and_then}
+use Rattle.pg_wire.specs.declared.status.TransactionStatus.TheVariants as statuses
 use Rattle.std.specs.List.{AllByRecursion, count_by, list_any}
 use Rattle.std.proofs.lemmas.Bool.{eqb-true}
 use Rattle.std.proofs.lemmas.List.{map-append}
@@ -37,7 +38,7 @@ use Rattle.pg_call.specs.declared.calling.Beat.TheVariants as beats
 use Rattle.pg_call.specs.declared.calling.Taken.{Taken}
 use Rattle.pg_call.specs.declared.running.Running.{Running}
 use Rattle.pg_call.specs.Requests.{Group, said_in, kind_of, groups_of, messages_of, farewell, CanBeSaid}
-use Rattle.pg_call.specs.Items.{item_of, items_of, yields, shown, tally_of, answer_to, finished, one_row}
+use Rattle.pg_call.specs.Items.{item_of, items_of, yields, shown, tally_of, answer_to, finished, one_row, begun}
 use Rattle.pg_call.specs.Replies.{awaits_first, goes_on, part_after, may_copy, MayNotCome, IsFault}
 use Rattle.pg_call.specs.Drains.{is_error, is_copy_in, before_readys, after_readys, failed_behind, fails_for, drain_fails}
 use Rattle.pg_call.specs.Hearing.{framed, added_all, gone_on, HearsMessage, Hears, marked, ledger_behind, fails_of, DrainsBy, Drains, Follows}
@@ -231,6 +232,10 @@ no_groups_close (requests.FetchMany query) e = absurd cc
 no_groups_close (requests.FetchAll query) e = absurd cc
 no_groups_close (requests.FetchOptional query) e = absurd cc
 no_groups_close (requests.FetchOne query) e = absurd cc
+no_groups_close (requests.Begin depth) e = absurd cc
+no_groups_close (requests.BeginWith query) e = absurd cc
+no_groups_close (requests.Commit left) e = absurd cc
+no_groups_close (requests.Rollback left) e = absurd cc
 
 on_ok : {A E : Type 0} (result : Result A E) (P : Type 0) → P → OnOk result P
 on_ok (Ok a) P p = p
@@ -240,27 +245,37 @@ on_ok (Err e) P p = tt
 abbrev IsLast : Result CallAnswer Error → Type 0
 IsLast (Ok a) = Unit {0}
 IsLast (Err errors.RowNotFound) = Unit {0}
+IsLast (Err (errors.BeginFailed status)) = Unit {0}
 IsLast (Err _) = ⊥
 
 one_row_last : (o : Option Values) → IsLast (one_row o)
 one_row_last None = tt
 one_row_last (Some row) = tt
 
-finished_last : (kind : Kind) (t : Tally) → IsLast (finished kind t)
-finished_last (kinds.Run hows.Execute) t = tt
-finished_last (kinds.Run hows.ExecuteMany) t = tt
-finished_last (kinds.Run hows.Fetch) t = tt
-finished_last (kinds.Run hows.FetchMany) t = tt
-finished_last (kinds.Run hows.FetchAll) t = tt
-finished_last (kinds.Run hows.FetchOptional) t = tt
-finished_last (kinds.Run hows.FetchOne) t = one_row_last t.first
-finished_last kinds.Ping t = tt
-finished_last kinds.Flush t = tt
-finished_last kinds.Close t = tt
+begun_last : (status : TransactionStatus) → IsLast (begun status)
+begun_last statuses.Idle = tt
+begun_last statuses.Transaction = tt
+begun_last statuses.Error = tt
+
+finished_last : (kind : Kind) (t : Tally) (status : TransactionStatus) → IsLast (finished kind t status)
+finished_last (kinds.Run hows.Execute) t status = tt
+finished_last (kinds.Run hows.ExecuteMany) t status = tt
+finished_last (kinds.Run hows.Fetch) t status = tt
+finished_last (kinds.Run hows.FetchMany) t status = tt
+finished_last (kinds.Run hows.FetchAll) t status = tt
+finished_last (kinds.Run hows.FetchOptional) t status = tt
+finished_last (kinds.Run hows.FetchOne) t status = one_row_last t.first
+finished_last kinds.Begin t status = begun_last status
+finished_last kinds.Commit t status = tt
+finished_last kinds.Rollback t status = tt
+finished_last kinds.Ping t status = tt
+finished_last kinds.Flush t status = tt
+finished_last kinds.Close t status = tt
 
 ends_fine : (start : Ledger) (r : Request) (said : List FrontendMessage) (hs : List Frame) (items : List CallItem) (ledger : Ledger) (answer : Result CallAnswer Error) → IsLast answer → EndsFine start r said hs items ledger answer → CallEnds start r said hs items ledger answer
 ends_fine start r said hs items ledger (Ok a) k f = f
 ends_fine start r said hs items ledger (Err errors.RowNotFound) k f = f
+ends_fine start r said hs items ledger (Err (errors.BeginFailed status)) k f = f
 ends_fine start r said hs items ledger (Err _) k f = absurd k
 
 pub plain_messages : (r : Request) → length (groups_of r) ≡ 1 → said_in (groups_of r) ≡ messages_of r
@@ -271,6 +286,10 @@ plain_messages (requests.FetchMany query) n = refl
 plain_messages (requests.FetchAll query) n = refl
 plain_messages (requests.FetchOptional query) n = refl
 plain_messages (requests.FetchOne query) n = refl
+plain_messages (requests.Begin depth) n = refl
+plain_messages (requests.BeginWith query) n = refl
+plain_messages (requests.Commit left) n = refl
+plain_messages (requests.Rollback left) n = refl
 plain_messages requests.Ping n = refl
 plain_messages requests.Flush n = absurd (omega (arith, n))
 plain_messages requests.Close n = absurd (omega (arith, n))
@@ -282,6 +301,7 @@ closed_fine start r said hs items reply i status can =
     let f = backend_frame m in
     record {
       reply = i.own ++ m ∷ [];
+      status = status;
       can = can;
       said_is = i.said_is ∙ ap (λ (t : List Frame). drain_fails start.is_copy_failed t ++ said_in (groups_of r)) (sym (before_from hs start.owed f (omega (arith, i.counted)))) ∙ ap (λ (t : List FrontendMessage). drain_fails start.is_copy_failed (before_readys start.owed (hs ++ f ∷ [])) ++ t) (plain_messages r i.one);
       owes = refl;
@@ -291,18 +311,19 @@ closed_fine start r said hs items reply i status can =
       reply_has_frames = each_end HasBackendFrame i.own m i.own_have_frames tt;
       items_are = i.items_are ∙ ap (λ (k : Kind). shown k (items_of i.own)) i.kind_is ∙ ap (shown (kind_of r)) (sym (items_same i.own m refl));
       ends = inr (hs, f, refl, refl);
+      last = inr (hs, refl);
     }
 
 own_not_close : (r : Request) → length (groups_of r) ≡ 1 → kind_of r ≡ kinds.Close → ⊥
 own_not_close r n k = let z = ap (λ (g : List Group). length g) (no_groups_close r k).0 in absurd (omega (arith, n, z))
 
 own_closes : (start : Ledger) (r : Request) (said : List FrontendMessage) (hs : List Frame) (items : List CallItem) (reply : Reply) (status : TransactionStatus) → CanBeSaid r → IsReplying start r said hs items reply
-    → CallTakes start r (said ++ []) (hs ++ backend_frame (ReadyForQuery status) ∷ []) items owes_none calls.Idle (beats.Ends (finished reply.kind reply.tally))
+    → CallTakes start r (said ++ []) (hs ++ backend_frame (ReadyForQuery status) ∷ []) items owes_none calls.Idle (beats.Ends (finished reply.kind reply.tally status))
 unfolding closed_fine
 own_closes start r said hs items reply status can i =
-    let same : answer_to (kind_of r) (items_of (i.own ++ ReadyForQuery status ∷ [])) ≡ finished reply.kind reply.tally =
-    ap (answer_to (kind_of r)) (items_same i.own (ReadyForQuery status) refl) ∙ ap (λ (k : Kind). answer_to k (items_of i.own)) (sym i.kind_is) ∙ ap (finished reply.kind) (sym i.tally_is) in
-    (refl, ends_fine start r (said ++ []) _ items owes_none _ (finished_last reply.kind reply.tally) (rw (append-nil said) (closed_fine start r said hs items reply i status can, same)), on_ok (finished reply.kind reply.tally) (kind_of r ≡ kinds.Close → ⊥) (λ k. own_not_close r i.one k))
+    let same : answer_to (kind_of r) (items_of (i.own ++ ReadyForQuery status ∷ [])) status ≡ finished reply.kind reply.tally status =
+    ap (λ (t : List CallItem). answer_to (kind_of r) t status) (items_same i.own (ReadyForQuery status) refl) ∙ ap (λ (k : Kind). answer_to k (items_of i.own) status) (sym i.kind_is) ∙ ap (λ (t : Tally). finished reply.kind t status) (sym i.tally_is) in
+    (refl, ends_fine start r (said ++ []) _ items owes_none _ (finished_last reply.kind reply.tally status) (rw (append-nil said) (closed_fine start r said hs items reply i status can, same)), on_ok (finished reply.kind reply.tally status) (kind_of r ≡ kinds.Close → ⊥) (λ k. own_not_close r i.one k))
 
 -- ---- a copy that nobody asked for
 
@@ -414,9 +435,8 @@ own_takes start r said hs items reply reply' m (heards.Yields item) ledger b tak
     rw (f.1, f.0, append-nil said, h.2) (o, can, rw h.3 at (went_on start r said hs items reply h.0 m have h.1 g.0 g.1 i))
 own_takes start r said hs items reply reply' m (heards.Failed error) ledger b taken have h f o can i =
     rw (f.1, f.0, o, h.0) (own_fails start r said hs items reply error can (rw h.0 at have) i)
-own_takes start r said hs items reply reply' m heards.Closed ledger b taken have h f o can i =
-    let status = h.1.0 in
-    rw (f.1, f.0, h.1.1, h.2) (own_closes start r said hs items reply status can i)
+own_takes start r said hs items reply reply' m (heards.Closed status) ledger b taken have h f o can i =
+    rw (f.1, f.0, h.1, h.2) (own_closes start r said hs items reply status can i)
 own_takes start r said hs items reply reply' m heards.Copies ledger b taken have h f o can i =
     let p = copies_plain reply.part m h.0 in
     rw (f.1, f.0, o) (own_copies start r said hs items reply m can have h.0 p.0 p.1 p.2 i)
@@ -511,5 +531,5 @@ pub own_stays : (tag : ℕ) (a b : Running) (reply reply' : Reply) (heard : Hear
 own_stays tag a b reply reply' heards.More taken k f = rw (k, f.0, f.1) refl
 own_stays tag a b reply reply' (heards.Yields item) taken k f = rw (k, f.0, f.1) refl
 own_stays tag a b reply reply' (heards.Failed error) taken k f = rw f.0 tt
-own_stays tag a b reply reply' heards.Closed taken k f = rw f.0 tt
+own_stays tag a b reply reply' (heards.Closed status) taken k f = rw f.0 tt
 own_stays tag a b reply reply' heards.Copies taken k f = rw f.0 tt

@@ -1,5 +1,7 @@
 -- What a call shows and answers fits its kind.
 use Rattle.std.proofs.Common.{◌≡◌, Bool, true, false, cond, List, [], ◌∷◌, ◌++◌, filter, refl, ap, subst, ◌∙◌, Result, Ok, Option, Some, None}
+use Rattle.pg_wire.specs.declared.status.TransactionStatus.TheVariants as statuses
+use Rattle.pg_wire.specs.declared.status.TransactionStatus.{TransactionStatus}
 use Rattle.pg_wire.specs.declared.error.Error.{Error}
 use Rattle.pg_wire.specs.Frame.{Frame}
 use Rattle.pg_wire.specs.Frontend.{FrontendMessage}
@@ -16,7 +18,7 @@ use Rattle.pg_call.specs.declared.ledger.Ledger.{Ledger}
 use Rattle.pg_call.specs.declared.calling.Call.{Call}
 use Rattle.pg_call.specs.declared.calling.Call.TheVariants as calls
 use Rattle.pg_call.specs.Requests.{kind_of}
-use Rattle.pg_call.specs.Items.{yields, finished, one_row}
+use Rattle.pg_call.specs.Items.{yields, finished, one_row, begun}
 use Rattle.pg_call.specs.Answers.{AnswerFits}
 use Rattle.pg_call.specs.Calls.{CallIs}
 
@@ -62,14 +64,22 @@ the_ok : (a b : CallAnswer) → ◌≡◌ {A = Result CallAnswer Error} (Ok a) (
 the_ok a b e = cc
 
 -- an answer is of its kind
-pub finished_fits : (kind : Kind) (t : Tally) (answer : CallAnswer) → finished kind t ≡ Ok answer → AnswerFits kind answer
-finished_fits (kinds.Run hows.Execute) t answer e = subst (AnswerFits (kinds.Run hows.Execute)) (the_ok _ _ e) tt
-finished_fits (kinds.Run hows.ExecuteMany) t answer e = subst (AnswerFits (kinds.Run hows.ExecuteMany)) (the_ok _ _ e) tt
-finished_fits (kinds.Run hows.Fetch) t answer e = subst (AnswerFits (kinds.Run hows.Fetch)) (the_ok _ _ e) tt
-finished_fits (kinds.Run hows.FetchMany) t answer e = subst (AnswerFits (kinds.Run hows.FetchMany)) (the_ok _ _ e) tt
-finished_fits (kinds.Run hows.FetchAll) t answer e = subst (AnswerFits (kinds.Run hows.FetchAll)) (the_ok _ _ e) tt
-finished_fits (kinds.Run hows.FetchOptional) t answer e = subst (AnswerFits (kinds.Run hows.FetchOptional)) (the_ok _ _ e) tt
-finished_fits (kinds.Run hows.FetchOne) t answer e = one_fits t.first answer e
-finished_fits kinds.Ping t answer e = subst (AnswerFits kinds.Ping) (the_ok _ _ e) tt
-finished_fits kinds.Flush t answer e = subst (AnswerFits kinds.Flush) (the_ok _ _ e) tt
-finished_fits kinds.Close t answer e = subst (AnswerFits kinds.Close) (the_ok _ _ e) tt
+begun_fits : (status : TransactionStatus) (answer : CallAnswer) → begun status ≡ Ok answer → AnswerFits kinds.Begin answer
+begun_fits statuses.Transaction answer e = subst (AnswerFits kinds.Begin) (the_ok _ _ e) tt
+begun_fits statuses.Idle answer e = absurd cc
+begun_fits statuses.Error answer e = absurd cc
+
+pub finished_fits : (kind : Kind) (t : Tally) (status : TransactionStatus) (answer : CallAnswer) → finished kind t status ≡ Ok answer → AnswerFits kind answer
+finished_fits (kinds.Run hows.Execute) t status answer e = subst (AnswerFits (kinds.Run hows.Execute)) (the_ok _ _ e) tt
+finished_fits (kinds.Run hows.ExecuteMany) t status answer e = subst (AnswerFits (kinds.Run hows.ExecuteMany)) (the_ok _ _ e) tt
+finished_fits (kinds.Run hows.Fetch) t status answer e = subst (AnswerFits (kinds.Run hows.Fetch)) (the_ok _ _ e) tt
+finished_fits (kinds.Run hows.FetchMany) t status answer e = subst (AnswerFits (kinds.Run hows.FetchMany)) (the_ok _ _ e) tt
+finished_fits (kinds.Run hows.FetchAll) t status answer e = subst (AnswerFits (kinds.Run hows.FetchAll)) (the_ok _ _ e) tt
+finished_fits (kinds.Run hows.FetchOptional) t status answer e = subst (AnswerFits (kinds.Run hows.FetchOptional)) (the_ok _ _ e) tt
+finished_fits (kinds.Run hows.FetchOne) t status answer e = one_fits t.first answer e
+finished_fits kinds.Begin t status answer e = begun_fits status answer e
+finished_fits kinds.Commit t status answer e = subst (AnswerFits kinds.Commit) (the_ok _ _ e) tt
+finished_fits kinds.Rollback t status answer e = subst (AnswerFits kinds.Rollback) (the_ok _ _ e) tt
+finished_fits kinds.Ping t status answer e = subst (AnswerFits kinds.Ping) (the_ok _ _ e) tt
+finished_fits kinds.Flush t status answer e = subst (AnswerFits kinds.Flush) (the_ok _ _ e) tt
+finished_fits kinds.Close t status answer e = subst (AnswerFits kinds.Close) (the_ok _ _ e) tt

@@ -1,5 +1,6 @@
 -- What a call leaves wherever it stands, and at the end of a flush and of a close.
 use Rattle.std.proofs.Common.{◌≡◌, ◌≢◌, ◌⊎◌, inl, inr, ℕ, zero, suc, ◌+◌, Bool, true, false, not, ◌&&◌, cond, List, [], ◌∷◌, ◌++◌, length, refl, sym, ap, ◌∙◌, arith, append-nil, Ok, None}
+use Rattle.pg_wire.specs.declared.status.TransactionStatus.TheVariants as statuses
 use Rattle.std.specs.List.{count_by}
 use Rattle.pg_wire.specs.Frame.{Frame}
 use Rattle.pg_wire.specs.Parts.{is_ready}
@@ -137,11 +138,16 @@ no_groups_flush (requests.FetchMany query) e = absurd cc
 no_groups_flush (requests.FetchAll query) e = absurd cc
 no_groups_flush (requests.FetchOptional query) e = absurd cc
 no_groups_flush (requests.FetchOne query) e = absurd cc
+no_groups_flush (requests.Begin depth) e = absurd cc
+no_groups_flush (requests.BeginWith query) e = absurd cc
+no_groups_flush (requests.Commit left) e = absurd cc
+no_groups_flush (requests.Rollback left) e = absurd cc
 
 fine_drained : (start : Ledger) (r : Request) (said drained : List FrontendMessage) (hs : List Frame) (items : List CallItem) (ledger : Ledger) (failed : Bool) → CanBeSaid r → groups_of r ≡ [] → ledger.owed ≡ 0 → said ≡ drained ++ messages_of r → IsDraining start drained hs items ledger failed
     → IsFine start r said hs items ledger
 fine_drained start r said drained hs items ledger failed can none owes s d = record {
   reply = [];
+  status = statuses.Idle;
   can = can;
   said_is = s ∙ ap (λ (t : List FrontendMessage). t ++ messages_of r) (d.said_is ∙ ap (drain_fails start.is_copy_failed) (sym d.all));
   owes = owes;
@@ -151,6 +157,7 @@ fine_drained start r said drained hs items ledger failed can none owes s d = rec
   reply_has_frames = tt;
   items_are = d.items_are;
   ends = drained_ends hs start.owed (omega (arith, d.counted, owes)) d.none;
+  last = inl none;
 }
 
 pub flush_fine : (start : Ledger) (r : Request) (said : List FrontendMessage) (hs : List Frame) (items : List CallItem) (ledger : Ledger) (w : Waiting) → is_flush w.kind ≡ true → ledger.owed ≡ 0 → CallIs start r said hs items ledger (calls.Waiting w)
@@ -177,6 +184,10 @@ one_of (requests.FetchMany query) f c = (refl, refl)
 one_of (requests.FetchAll query) f c = (refl, refl)
 one_of (requests.FetchOptional query) f c = (refl, refl)
 one_of (requests.FetchOne query) f c = (refl, refl)
+one_of (requests.Begin depth) f c = (refl, refl)
+one_of (requests.BeginWith query) f c = (refl, refl)
+one_of (requests.Commit left) f c = (refl, refl)
+one_of (requests.Rollback left) f c = (refl, refl)
 one_of requests.Ping f c = (refl, refl)
 one_of requests.Flush f c = absurd cc
 one_of requests.Close f c = absurd cc
@@ -192,6 +203,10 @@ close_kind (requests.FetchMany query) e = absurd cc
 close_kind (requests.FetchAll query) e = absurd cc
 close_kind (requests.FetchOptional query) e = absurd cc
 close_kind (requests.FetchOne query) e = absurd cc
+close_kind (requests.Begin depth) e = absurd cc
+close_kind (requests.BeginWith query) e = absurd cc
+close_kind (requests.Commit left) e = absurd cc
+close_kind (requests.Rollback left) e = absurd cc
 
 abbrev tally_by : Bool → Bool → Tally
 tally_by a b = record { total = 0; rows = cond a [] []; first = cond b None None }

@@ -1,5 +1,6 @@
 -- A message that may not come begins no response of any server, and a copy that may come begins one.
 use Rattle.std.proofs.Common.{◌≡◌, ◌∙◌, ℕ, Bool, true, false, cond, ◌==◌, List, [], ◌∷◌, ◌++◌, length, map, refl, ap, subst, Option, Some, None, option_and_then}
+use Rattle.pg_request.specs.Texts.{begin_text, commit_text, rollback_text}
 use Rattle.std.specs.List.{AllByRecursion}
 use Rattle.pg_wire.specs.Frame.{Frame}
 use Rattle.pg_wire.specs.Frontend.{Query, Sync}
@@ -135,6 +136,10 @@ group_refused (requests.FetchMany query) group own part f g have e out b = query
 group_refused (requests.FetchAll query) group own part f g have e out b = query_refused query.sql own part f have e out (rw (← the_first _ _ g) at b)
 group_refused (requests.FetchOptional query) group own part f g have e out b = query_refused query.sql own part f have e out (rw (← the_first _ _ g) at b)
 group_refused (requests.FetchOne query) group own part f g have e out b = query_refused query.sql own part f have e out (rw (← the_first _ _ g) at b)
+group_refused (requests.Begin depth) group own part f g have e out b = query_refused (begin_text None depth) own part f have e out (rw (← the_first _ _ g) at b)
+group_refused (requests.BeginWith query) group own part f g have e out b = query_refused query.sql own part f have e out (rw (← the_first _ _ g) at b)
+group_refused (requests.Commit left) group own part f g have e out b = query_refused (commit_text left) own part f have e out (rw (← the_first _ _ g) at b)
+group_refused (requests.Rollback left) group own part f g have e out b = query_refused (rollback_text left) own part f have e out (rw (← the_first _ _ g) at b)
 group_refused requests.Ping group own part f g have e out b = sync_refused own part f e out (rw (← the_first _ _ g) at b)
 group_refused requests.Flush group own part f g have e out b = absurd cc
 group_refused requests.Close group own part f g have e out b = absurd cc
@@ -168,6 +173,10 @@ group_copies (requests.FetchMany query) group own part m g have h e may = query_
 group_copies (requests.FetchAll query) group own part m g have h e may = query_copies query.sql group own part m g have h e may
 group_copies (requests.FetchOptional query) group own part m g have h e may = query_copies query.sql group own part m g have h e may
 group_copies (requests.FetchOne query) group own part m g have h e may = query_copies query.sql group own part m g have h e may
+group_copies (requests.Begin depth) group own part m g have h e may = query_copies (begin_text None depth) group own part m g have h e may
+group_copies (requests.BeginWith query) group own part m g have h e may = query_copies query.sql group own part m g have h e may
+group_copies (requests.Commit left) group own part m g have h e may = query_copies (commit_text left) group own part m g have h e may
+group_copies (requests.Rollback left) group own part m g have h e may = query_copies (rollback_text left) group own part m g have h e may
 group_copies requests.Ping group own part m g have h e may = absurd (no_copy_synced own part m e may)
 group_copies requests.Flush group own part m g have h e may = absurd cc
 group_copies requests.Close group own part m g have h e may = absurd cc

@@ -1,5 +1,5 @@
 -- A row that is neither shown nor kept changes nothing.
-use Rattle.std.proofs.Common.{◌≡◌, ℕ, true, false, List, [], ◌∷◌, length, Option, Some, None, Result, Ok, Err, IfOk, filter, refl, sym, ap}
+use Rattle.std.proofs.Common.{◌≡◌, ℕ, true, false, List, length, Option, Some, None, Result, Ok, Err, IfOk, refl, sym, ap}
 use Rattle.pg_wire.specs.declared.error.Error.{Error}
 use Rattle.pg_wire.specs.Backend.{BackendMessage, Values, DataRow}
 use Rattle.pg_wire.specs.Decoding.{Says}
@@ -33,6 +33,9 @@ adds_none (kinds.Run hows.FetchOptional) t values e = ap (λ (first : Option Val
     optional_stays None values e = absurd cc
     optional_stays (Some row) values e = refl
 adds_none (kinds.Run hows.FetchOne) t values e = ap (λ (first : Option Values). record t { first = first }) (first_stays t.first values e)
+adds_none kinds.Begin t values e = refl
+adds_none kinds.Commit t values e = refl
+adds_none kinds.Rollback t values e = refl
 adds_none kinds.Ping t values e = refl
 adds_none kinds.Flush t values e = refl
 adds_none kinds.Close t values e = refl
@@ -45,6 +48,9 @@ yields_none (kinds.Run hows.FetchMany) first values e = absurd cc
 yields_none (kinds.Run hows.FetchAll) first values e = refl
 yields_none (kinds.Run hows.FetchOptional) first values e = refl
 yields_none (kinds.Run hows.FetchOne) first values e = refl
+yields_none kinds.Begin first values e = refl
+yields_none kinds.Commit first values e = refl
+yields_none kinds.Rollback first values e = refl
 yields_none kinds.Ping first values e = refl
 yields_none kinds.Flush first values e = refl
 yields_none kinds.Close first values e = refl

@@ -5,10 +5,11 @@ use Rattle.pg_wire.specs.declared.error.Error.{Error}
 use Rattle.pg_wire.specs.declared.error.Error.TheVariants as errors
 use Rattle.pg_wire.specs.declared.error.ProtocolFault.TheVariants as protocol
 use Rattle.pg_wire.specs.declared.error.ServerFault.TheVariants as faults
+use Rattle.pg_wire.specs.declared.status.TransactionStatus.{TransactionStatus}
 use Rattle.pg_wire.specs.Frame.{Frame}
 use Rattle.pg_wire.specs.Parts.{is_ready}
 use Rattle.pg_wire.specs.Frontend.{FrontendMessage}
-use Rattle.pg_wire.specs.Backend.{BackendMessage, backend_frame, HasBackendFrame, ErrorResponse}
+use Rattle.pg_wire.specs.Backend.{BackendMessage, backend_frame, HasBackendFrame, ErrorResponse, ReadyForQuery}
 use Rattle.pg_wire.specs.Server.{IsPrefixOf}
 use Rattle.pg_wire.specs.Refusals.{BeginsCopyResponse}
 use Rattle.pg_call.specs.declared.kind.Kind.TheVariants as kinds
@@ -115,9 +116,15 @@ pub record Leaves (start : Ledger) (r : Request) (said : List FrontendMessage) (
 abbrev pub EndsByReady : List Frame → Type 0
 EndsByReady hs = (hs ≡ []) ⊎ ((front : List Frame) × (last : Frame) × (hs ≡ front ++ last ∷ []) × (is_ready last ≡ true))
 
+-- the last of these frames is ReadyForQuery of this status
+abbrev pub EndsByStatus : List Frame → TransactionStatus → Type 0
+EndsByStatus hs status = (front : List Frame) × (hs ≡ front ++ backend_frame (ReadyForQuery status) ∷ [])
+
 -- What a call leaves that has come to its end: all was asked, all was read without an error, and all was shown.
 pub record IsFine (start : Ledger) (r : Request) (said : List FrontendMessage) (hs : List Frame) (items : List CallItem) (ledger : Ledger) : Type 0 where
   pub reply : List BackendMessage
+  -- of the last message
+  pub status : TransactionStatus
   pub can : CanBeSaid r
   pub said_is : said ≡ drain_fails start.is_copy_failed (before_readys start.owed hs) ++ messages_of r
   pub owes : ledger.owed ≡ 0
@@ -127,10 +134,11 @@ pub record IsFine (start : Ledger) (r : Request) (said : List FrontendMessage) (
   pub reply_has_frames : AllByRecursion HasBackendFrame reply
   pub items_are : items ≡ shown (kind_of r) (items_of reply)
   pub ends : EndsByReady hs
+  pub last : (groups_of r ≡ []) ⊎ EndsByStatus hs status
 
 -- it ends with the answer to its reply
 abbrev pub EndsFine : Ledger → Request → List FrontendMessage → List Frame → List CallItem → Ledger → Result CallAnswer Error → Type 0
-EndsFine start r said hs items ledger answer = (f : IsFine start r said hs items ledger) × (answer_to (kind_of r) (items_of f.reply) ≡ answer)
+EndsFine start r said hs items ledger answer = (f : IsFine start r said hs items ledger) × (answer_to (kind_of r) (items_of f.reply) f.status ≡ answer)
 
 -- the last message is a copy, which some server begins there in its response to the call's group, and which nobody has asked for
 pub record EndsInCopy (start : Ledger) (r : Request) (hs : List Frame) (tag : ℕ) : Type 0 where
@@ -151,6 +159,7 @@ pub record EndsInCopy (start : Ledger) (r : Request) (hs : List Frame) (tag : �
 abbrev pub CallEnds : Ledger → Request → List FrontendMessage → List Frame → List CallItem → Ledger → Result CallAnswer Error → Type 0
 CallEnds start r said hs items ledger (Ok answer) = EndsFine start r said hs items ledger (Ok answer)
 CallEnds start r said hs items ledger (Err errors.RowNotFound) = EndsFine start r said hs items ledger (Err errors.RowNotFound)
+CallEnds start r said hs items ledger (Err (errors.BeginFailed status)) = EndsFine start r said hs items ledger (Err (errors.BeginFailed status))
 CallEnds start r said hs items ledger (Err (errors.Database error)) = Leaves start r said hs items ledger false
     × ((front : List Frame) × (hs ≡ front ++ backend_frame (ErrorResponse error) ∷ []) × HasBackendFrame (ErrorResponse error) × (count_by is_error front ≡ 0))
 CallEnds start r said hs items ledger (Err (errors.Protocol (protocol.Reply tag))) = ((l : Leaves start r said hs items ledger (tag == 71)) × (l.own ≡ groups_of r) × (length l.own ≡ 1)) × (count_by is_error hs ≡ 0) × EndsInCopy start r hs tag

@@ -58,7 +58,7 @@ HearsItem a b part item heard = (b ≡ gone_on a part (list_of item)) × Shows (
 
 abbrev pub HearsMessage : Reply → Reply → BackendMessage → Heard → Type 0
 HearsMessage a b m (heards.Failed error) = (m ≡ ErrorResponse error) × (b ≡ a)
-HearsMessage a b m heards.Closed = (may_close a.part ≡ true) × ((status : TransactionStatus) × (m ≡ ReadyForQuery status)) × (b ≡ a)
+HearsMessage a b m (heards.Closed status) = (may_close a.part ≡ true) × (m ≡ ReadyForQuery status) × (b ≡ a)
 HearsMessage a b m heards.Copies = (may_copy a.part m ≡ true) × (b ≡ a)
 HearsMessage a b m heard = (next : Part) × (goes_on a.part m ≡ Some next) × (b ≡ gone_on a next (item_of m)) × Shows (filter (yields a.kind) (item_of m)) heard
 
@@ -98,12 +98,12 @@ just beat = record { beat = beat; fails_copy = false }
 abbrev pub idle_with : Ledger → Running
 idle_with ledger = record { ledger = ledger; call = calls.Idle }
 
-abbrev pub finished_by : Call → Result CallAnswer Error
-finished_by (calls.Own reply) = finished reply.kind reply.tally
-finished_by _ = Err errors.OutOfMemory
+abbrev pub finished_by : TransactionStatus → Call → Result CallAnswer Error
+finished_by status (calls.Own reply) = finished reply.kind reply.tally status
+finished_by status _ = Err errors.OutOfMemory
 
-abbrev pub Closes : Running → Running → Taken → Type 0
-Closes a b taken = (b ≡ idle_with (record { owed = 0; is_copy_failed = false })) × (taken ≡ just (beats.Ends (finished_by a.call)))
+abbrev pub Closes : TransactionStatus → Running → Running → Taken → Type 0
+Closes status a b taken = (b ≡ idle_with (record { owed = 0; is_copy_failed = false })) × (taken ≡ just (beats.Ends (finished_by status a.call)))
 
 abbrev pub RefusesCopy : ℕ → Running → Running → Taken → Type 0
 RefusesCopy tag a b taken = (b ≡ idle_with (record { owed = a.ledger.owed; is_copy_failed = tag == 71 }))
@@ -113,5 +113,5 @@ abbrev pub Follows : ℕ → Heard → Running → Running → Taken → Type 0
 Follows tag heards.More a b taken = (b ≡ a) × (taken ≡ just beats.More)
 Follows tag (heards.Yields item) a b taken = (b ≡ a) × (taken ≡ just (beats.Yields item))
 Follows tag (heards.Failed error) a b taken = (b ≡ idle_with a.ledger) × (taken ≡ just (beats.Ends (Err (errors.Database error))))
-Follows tag heards.Closed a b taken = Closes a b taken
+Follows tag (heards.Closed status) a b taken = Closes status a b taken
 Follows tag heards.Copies a b taken = RefusesCopy tag a b taken

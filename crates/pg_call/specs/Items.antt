@@ -2,6 +2,8 @@
 use Rattle.std.specs.Prelude.{ℕ, ◌+◌, ◌-◌, ◌^◌, min, Bool, true, false, List, [], ◌∷◌, ◌++◌, filter, flat_map, sum_by, Option, Some, None, Result, Ok, Err, if◌then◌else◌}
 use Rattle.pg_wire.specs.declared.error.Error.{Error}
 use Rattle.pg_wire.specs.declared.error.Error.TheVariants as errors
+use Rattle.pg_wire.specs.declared.status.TransactionStatus.{TransactionStatus}
+use Rattle.pg_wire.specs.declared.status.TransactionStatus.TheVariants as statuses
 use Rattle.pg_wire.specs.Backend.{Values, BackendMessage, DataRow, CommandComplete}
 use Rattle.pg_wire.specs.Completion.{rows_affected}
 use Rattle.pg_call.specs.declared.kind.How.TheVariants as hows
@@ -70,20 +72,26 @@ tally_of kind items = record {
   first = if keeps_first kind then first_row (rows_in items) else None;
 }
 
--- the answer to all items, or that there is no row where there must be one
+-- the answer to all items and to the status behind them, or that there is no row where there must be one
 abbrev pub one_row : Option Values → Result CallAnswer Error
 one_row None = Err errors.RowNotFound
 one_row (Some row) = Ok (answers.OneRow (Some row))
 
-abbrev pub finished : Kind → Tally → Result CallAnswer Error
-finished (kinds.Run hows.Execute) t = Ok (answers.Total (record { rows = t.total }))
-finished (kinds.Run hows.FetchAll) t = Ok (answers.Rows t.rows)
-finished (kinds.Run hows.FetchOptional) t = Ok (answers.OneRow t.first)
-finished (kinds.Run hows.FetchOne) t = one_row t.first
-finished _ t = Ok answers.Unit
+-- a begin is answered by the status behind it: a transaction is open, or none is, or it has failed
+abbrev pub begun : TransactionStatus → Result CallAnswer Error
+begun statuses.Transaction = Ok answers.Unit
+begun status = Err (errors.BeginFailed status)
 
-abbrev pub answer_to : Kind → List CallItem → Result CallAnswer Error
-answer_to kind items = finished kind (tally_of kind items)
+abbrev pub finished : Kind → Tally → TransactionStatus → Result CallAnswer Error
+finished (kinds.Run hows.Execute) t status = Ok (answers.Total (record { rows = t.total }))
+finished (kinds.Run hows.FetchAll) t status = Ok (answers.Rows t.rows)
+finished (kinds.Run hows.FetchOptional) t status = Ok (answers.OneRow t.first)
+finished (kinds.Run hows.FetchOne) t status = one_row t.first
+finished kinds.Begin t status = begun status
+finished _ t status = Ok answers.Unit
+
+abbrev pub answer_to : Kind → List CallItem → TransactionStatus → Result CallAnswer Error
+answer_to kind items status = finished kind (tally_of kind items) status
 
 -- ---- item by item
 

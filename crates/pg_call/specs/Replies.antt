@@ -4,7 +4,6 @@ use Rattle.pg_wire.specs.declared.error.Error.{Error}
 use Rattle.pg_wire.specs.declared.error.Error.TheVariants as errors
 use Rattle.pg_wire.specs.declared.error.ProtocolFault.TheVariants as protocol
 use Rattle.pg_wire.specs.declared.error.ServerFault.TheVariants as faults
-use Rattle.pg_wire.specs.declared.status.TransactionStatus.{TransactionStatus}
 use Rattle.pg_wire.specs.Backend.{BackendMessage, Values, ReadyForQuery, RowDescription, DataRow, CommandComplete, ErrorResponse, EmptyQueryResponse, CopyInResponse, CopyOutResponse}
 use Rattle.pg_wire.specs.Decoding.{Says, IsRefused}
 use Rattle.pg_call.specs.declared.kind.Kind.{Kind}
@@ -19,6 +18,9 @@ use Rattle.pg_call.specs.Items.{item_of}
 -- what a call awaits first of its own reply
 abbrev pub awaits_first : Kind → Part
 awaits_first (kinds.Run how) = First
+awaits_first kinds.Begin = First
+awaits_first kinds.Commit = First
+awaits_first kinds.Rollback = First
 awaits_first _ = Synced
 
 -- the first message of a segment, and what comes behind it
@@ -84,7 +86,7 @@ list_of (Some item) = item ∷ []
 abbrev pub IsVerdict : Part → BackendMessage → Verdict → Type 0
 IsVerdict part m (verdicts.On next item) = (goes_on part m ≡ Some next) × (list_of item ≡ item_of m)
 IsVerdict part m (verdicts.Failed error) = m ≡ ErrorResponse error
-IsVerdict part m verdicts.Closed = (may_close part ≡ true) × (status : TransactionStatus) × (m ≡ ReadyForQuery status)
+IsVerdict part m (verdicts.Closed status) = (may_close part ≡ true) × (m ≡ ReadyForQuery status)
 IsVerdict part m verdicts.Copies = may_copy part m ≡ true
 
 -- the body is that of a message with this tag, or is refused

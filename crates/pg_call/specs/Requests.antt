@@ -8,9 +8,12 @@ use Rattle.pg_wire.specs.Frame.{text_of}
 use Rattle.pg_wire.specs.Frontend.{FrontendMessage, frontend_frame, HasFrontendFrame, Query, Sync, Terminate, CopyFail}
 use Rattle.pg_wire.specs.Encoding.{Refuses}
 use Rattle.pg_request.specs.Queries.{QueryText}
+use Rattle.pg_request.specs.Texts.{begin_text, commit_text, rollback_text}
 use Rattle.pg_call.specs.declared.kind.How.TheVariants as hows
 use Rattle.pg_call.specs.declared.kind.Kind.{Kind}
 use Rattle.pg_call.specs.declared.kind.Kind.TheVariants as kinds
+use Rattle.pg_call.specs.declared.kind.Change.{Change}
+use Rattle.pg_call.specs.declared.kind.Change.TheVariants as changes
 use Rattle.pg_call.specs.declared.request.Request.{Request}
 use Rattle.pg_call.specs.declared.request.Request.TheVariants as requests
 
@@ -33,10 +36,15 @@ kind_of (requests.FetchMany query) = kinds.Run hows.FetchMany
 kind_of (requests.FetchAll query) = kinds.Run hows.FetchAll
 kind_of (requests.FetchOptional query) = kinds.Run hows.FetchOptional
 kind_of (requests.FetchOne query) = kinds.Run hows.FetchOne
+kind_of (requests.Begin depth) = kinds.Begin
+kind_of (requests.BeginWith query) = kinds.Begin
+kind_of (requests.Commit left) = kinds.Commit
+kind_of (requests.Rollback left) = kinds.Rollback
 kind_of requests.Ping = kinds.Ping
 kind_of requests.Flush = kinds.Flush
 kind_of requests.Close = kinds.Close
 
+-- what its Query says
 abbrev pub query_of : Request → Option QueryText
 query_of (requests.Execute query) = Some query
 query_of (requests.ExecuteMany query) = Some query
@@ -45,9 +53,13 @@ query_of (requests.FetchMany query) = Some query
 query_of (requests.FetchAll query) = Some query
 query_of (requests.FetchOptional query) = Some query
 query_of (requests.FetchOne query) = Some query
+query_of (requests.Begin depth) = Some (record { sql = begin_text None depth })
+query_of (requests.BeginWith query) = Some query
+query_of (requests.Commit left) = Some (record { sql = commit_text left })
+query_of (requests.Rollback left) = Some (record { sql = rollback_text left })
 query_of _ = None
 
--- the groups of a call: one Query for a query, one Sync for a ping, and none for a flush and a close
+-- the groups of a call: one Query for a query and for what opens or ends a transaction, one Sync for a ping, and none for a flush and a close
 abbrev pub groups_by : Kind → Option QueryText → List Group
 groups_by kind (Some query) = (Query query.sql ∷ []) ∷ []
 groups_by kinds.Ping None = (Sync ∷ []) ∷ []
@@ -55,6 +67,13 @@ groups_by _ None = []
 
 abbrev pub groups_of : Request → List Group
 groups_of request = groups_by (kind_of request) (query_of request)
+
+-- what an Ok of it makes of the transactions that are open
+abbrev pub change_of : Kind → Change
+change_of kinds.Begin = changes.Opens
+change_of kinds.Commit = changes.Closes
+change_of kinds.Rollback = changes.Closes
+change_of _ = changes.Stays
 
 -- Flush asks nothing of the server, and Close ends the session
 abbrev pub is_flush : Kind → Bool

@@ -9,9 +9,10 @@ use crate::format::refuse;
 use crate::{CallItem, Kind, PgQueryResult};
 use pg_rows::PgRow;
 use pg_wire::{
-    Error, Frame, PgDatabaseError, check_data_row, check_row_description, claimed_width,
-    cut_data_row, decode_command_complete, decode_copy_in_response, decode_copy_out_response,
-    decode_data_row, decode_empty_query, decode_error_response, decode_ready_for_query,
+    Error, Frame, PgDatabaseError, TransactionStatus, check_data_row, check_row_description,
+    claimed_width, cut_data_row, decode_command_complete, decode_copy_in_response,
+    decode_copy_out_response, decode_data_row, decode_empty_query, decode_error_response,
+    decode_ready_for_query,
 };
 use std::alloc::Global;
 
@@ -43,7 +44,7 @@ impl Part {
         ensures { result ≡ awaits_first kind }
     {
         match kind {
-            Kind::Run(_) => Part::First,
+            Kind::Run(_) | Kind::Begin | Kind::Commit | Kind::Rollback => Part::First,
             Kind::Ping | Kind::Flush | Kind::Close => Part::Synced,
         }
     }
@@ -87,7 +88,7 @@ pub enum Verdict {
     /// The reply goes on, and this item came with the message.
     On { part: Part, item: Option<CallItem> },
     Failed(PgDatabaseError),
-    Closed,
+    Closed(TransactionStatus),
     /// A copy begins, for which nobody has asked.
     Copies,
 }
@@ -176,8 +177,8 @@ fn close(part: Part, body: &[u8]) -> Result<Verdict, Error>
     requires { is_known (tags_of part) 90 ≡ true }
     ensures { Judges part 90 body.now result }
 {
-    let _ = decode_ready_for_query(body)?;
-    Ok(Verdict::Closed)
+    let status = decode_ready_for_query(body)?;
+    Ok(Verdict::Closed(status))
 }
 
 fn copy_in(alloc: Global, part: Part, body: &[u8]) -> Result<Verdict, Error>

@@ -1,5 +1,5 @@
 ghost use Rattle.std.specs.Prelude.{◌≡◌};
-ghost use Rattle.pg_call.specs.Requests.{is_close, is_flush};
+ghost use Rattle.pg_call.specs.Requests.{change_of, is_close, is_flush};
 
 /// A way to run a query: what of its reply is shown, and when.
 #[derive(Clone, Copy, Debug, PartialEq, Eq)]
@@ -24,12 +24,39 @@ pub enum How {
 #[derive(Clone, Copy, Debug, PartialEq, Eq)]
 pub enum Kind {
     Run(How),
+    /// A transaction is opened, or a savepoint in one.
+    Begin,
+    /// It is committed, or the savepoint released.
+    Commit,
+    /// It is rolled back, or to the savepoint.
+    Rollback,
     Ping,
     Flush,
     Close,
 }
 
+/// What a call makes of the number of transactions and savepoints that are open, where it is Ok.
+#[derive(Clone, Copy, Debug, PartialEq, Eq)]
+pub enum Change {
+    Stays,
+    /// One more is open.
+    Opens,
+    /// One fewer is.
+    Closes,
+}
+
 impl Kind {
+    /// What it makes of the transactions that are open.
+    pub fn change(self) -> Change
+        ensures { result ≡ change_of self }
+    {
+        match self {
+            Kind::Begin => Change::Opens,
+            Kind::Commit | Kind::Rollback => Change::Closes,
+            Kind::Run(_) | Kind::Ping | Kind::Flush | Kind::Close => Change::Stays,
+        }
+    }
+
     /// Whether nothing is asked of the server.
     pub fn is_flush(self) -> bool
         ensures { result ≡ is_flush self }

@@ -6,7 +6,7 @@ ghost use Rattle.pg_call.specs.Hearing.{Hears, HearsItem, HearsMessage, fresh_re
 
 use crate::judging::{judge_row, pass_row};
 use crate::{CallAnswer, CallItem, How, Kind, Part, Tally, Verdict, judge};
-use pg_wire::{Error, Frame, PgDatabaseError};
+use pg_wire::{Error, Frame, PgDatabaseError, TransactionStatus};
 use std::alloc::Global;
 
 /// The call's own reply, as far as it has come.
@@ -24,7 +24,7 @@ pub enum Heard {
     More,
     Yields(CallItem),
     Failed(PgDatabaseError),
-    Closed,
+    Closed(TransactionStatus),
     /// A copy begins, for which nobody has asked.
     Copies,
 }
@@ -65,7 +65,7 @@ impl Reply {
         match verdict {
             Verdict::On { part, item } => self.go_on(part, item),
             Verdict::Failed(error) => Ok(Heard::Failed(error)),
-            Verdict::Closed => Ok(Heard::Closed),
+            Verdict::Closed(status) => Ok(Heard::Closed(status)),
             Verdict::Copies => Ok(Heard::Copies),
         }
     }
@@ -104,15 +104,15 @@ impl Reply {
         self.hear(verdict)
     }
 
-    /// What the call answers at the end of its reply.
-    pub fn finish(self) -> Result<CallAnswer, Error>
-        ensures { result ≡ finished self.kind self.tally }
+    /// What the call answers at the end of its reply, which told this status.
+    pub fn finish(self, status: TransactionStatus) -> Result<CallAnswer, Error>
+        ensures { result ≡ finished self.kind self.tally status }
     {
         let Reply {
             kind,
             tally,
             part: _,
         } = self;
-        tally.finish(kind)
+        tally.finish(kind, status)
     }
 }

@@ -2,7 +2,7 @@ ghost use Rattle.std.specs.Prelude.{◌≡◌, ◌++◌, [], IfOk, OnOk, IfErr, 
 ghost use Rattle.pg_call.specs.Requests.{kind_of, query_of, messages_of, spelled, CanBeSaid, IsRefusal};
 
 use crate::{How, Kind};
-use pg_request::Query;
+use pg_request::{Query, begin_text, commit_text, rollback_text};
 use pg_wire::{Blob, Error, encode_query, encode_sync, encode_terminate};
 use std::alloc::Global;
 
@@ -16,6 +16,14 @@ pub enum Request {
     FetchAll(Query),
     FetchOptional(Query),
     FetchOne(Query),
+    /// Opens a transaction, or a savepoint in one; so many are open before.
+    Begin(u64),
+    /// Opens a transaction by this text.
+    BeginWith(Query),
+    /// Commits the transaction, or releases the last savepoint; so many stay open.
+    Commit(u64),
+    /// Rolls the transaction back, or to the last savepoint; so many stay open.
+    Rollback(u64),
     /// Asks for a sign of life: a Sync, which the server answers by ReadyForQuery.
     Ping,
     /// Sends what is unsent, and reads what is owed.
@@ -37,25 +45,12 @@ impl Request {
             Request::FetchAll(_) => Kind::Run(How::FetchAll),
             Request::FetchOptional(_) => Kind::Run(How::FetchOptional),
             Request::FetchOne(_) => Kind::Run(How::FetchOne),
+            Request::Begin(_) | Request::BeginWith(_) => Kind::Begin,
+            Request::Commit(_) => Kind::Commit,
+            Request::Rollback(_) => Kind::Rollback,
             Request::Ping => Kind::Ping,
             Request::Flush => Kind::Flush,
             Request::Close => Kind::Close,
-        }
-    }
-
-    // The query that is asked to be run, if one is.
-    fn query(&self) -> Option<&Query>
-        ensures { option_map (λ q. q.now) result ≡ query_of self.now }
-    {
-        match self {
-            Request::Execute(query)
-            | Request::ExecuteMany(query)
-            | Request::Fetch(query)
-            | Request::FetchMany(query)
-            | Request::FetchAll(query)
-            | Request::FetchOptional(query)
-            | Request::FetchOne(query) => Some(query),
-            Request::Ping | Request::Flush | Request::Close => None,
         }
     }
 
@@ -66,25 +61,22 @@ impl Request {
         ensures err { IfErr result (IsRefusal self.now) }
     {
         let mut frames = Blob::new(alloc);
-        match self.query() {
-            Some(query) => encode_query(&mut frames, query.sql())?,
-            None => self.encode_plain(&mut frames)?,
+        match self {
+            Request::Execute(query)
+            | Request::ExecuteMany(query)
+            | Request::Fetch(query)
+            | Request::FetchMany(query)
+            | Request::FetchAll(query)
+            | Request::FetchOptional(query)
+            | Request::FetchOne(query)
+            | Request::BeginWith(query) => encode_query(&mut frames, query.sql())?,
+            Request::Begin(depth) => encode_query(&mut frames, begin_text(*depth).as_str())?,
+            Request::Commit(left) => encode_query(&mut frames, commit_text(*left).as_str())?,
+            Request::Rollback(left) => encode_query(&mut frames, rollback_text(*left).as_str())?,
+            Request::Ping => encode_sync(&mut frames)?,
+            Request::Close => encode_terminate(&mut frames)?,
+            Request::Flush => {}
         }
         Ok(frames)
-    }
-
-    // The frames of a request without a query.
-    fn encode_plain(&self, frames: &mut Blob) -> Result<(), Error>
-        requires plain { query_of self.now ≡ None }
-        requires empty { frames.old ≡ [] }
-        ensures ok { OnOk result (frames.new ≡ spelled (messages_of self.now)) }
-        ensures said { OnOk result (CanBeSaid self.now) }
-        ensures err { IfErr result (λ e. e ≡ Error.OutOfMemory) }
-    {
-        match self.kind() {
-            Kind::Ping => encode_sync(frames),
-            Kind::Close => encode_terminate(frames),
-            Kind::Flush | Kind::Run(_) => Ok(()),
-        }
     }
 }

@@ -4,7 +4,9 @@ ghost use Rattle.pg_call.specs.Calls.{IsAwaiting, StaysIn, TakesMessage, Refuses
 ghost use Rattle.pg_call.specs.Hearing.{Drains, Closes, RefusesCopy, Follows, IsReplied, marked};
 
 use crate::{Beat, Call, CallAnswer, CallItem, Heard, Ledger, Taken};
-use pg_wire::{Error, Frame, ProtocolFault, decode_error_response, decode_ready_for_query};
+use pg_wire::{
+    Error, Frame, ProtocolFault, TransactionStatus, decode_error_response, decode_ready_for_query,
+};
 use std::alloc::Global;
 use std::mem;
 
@@ -106,14 +108,14 @@ impl Running {
     }
 
     // The own reply has come to its end. It was the last that was owed.
-    fn close(&mut self) -> Taken
+    fn close(&mut self, status: TransactionStatus) -> Taken
         requires { IsReplied self.old.call }
-        ensures { Closes self.old self.new result }
+        ensures { Closes status self.old self.new result }
     {
         match mem::replace(&mut self.call, Call::Idle) {
             Call::Own(reply) => {
                 self.ledger = Ledger::new();
-                plain(Beat::Ends(reply.finish()))
+                plain(Beat::Ends(reply.finish(status)))
             }
             _ => unreachable!(),
         }
@@ -141,7 +143,7 @@ impl Running {
             Heard::More => plain(Beat::More),
             Heard::Yields(item) => plain(Beat::Yields(item)),
             Heard::Failed(error) => self.end(Err(Error::Database(error))),
-            Heard::Closed => self.close(),
+            Heard::Closed(status) => self.close(status),
             Heard::Copies => self.refuse_copy(tag),
         }
     }

@@ -3,7 +3,7 @@ ghost use Rattle.pg_call.specs.Items.{empty_tally, added, first_of, finished, yi
 
 use crate::{CallAnswer, CallItem, How, Kind, PgQueryResult};
 use pg_rows::PgRow;
-use pg_wire::{Error, Sequence};
+use pg_wire::{Error, Sequence, TransactionStatus};
 use std::alloc::{AllocError, Global};
 
 /// What was made so far of the items of a call's own reply, for its answer.
@@ -76,9 +76,9 @@ impl Tally {
         }
     }
 
-    /// What the call answers at the end of its reply.
-    pub fn finish(self, kind: Kind) -> Result<CallAnswer, Error>
-        ensures { result ≡ finished kind self }
+    /// What the call answers at the end of its reply, which told this status.
+    pub fn finish(self, kind: Kind, status: TransactionStatus) -> Result<CallAnswer, Error>
+        ensures { result ≡ finished kind self status }
     {
         let Tally { total, rows, first } = self;
         match kind {
@@ -88,6 +88,10 @@ impl Tally {
             Kind::Run(How::FetchOne) => match first {
                 Some(row) => Ok(CallAnswer::OneRow(Some(row))),
                 None => Err(Error::RowNotFound),
+            },
+            Kind::Begin => match status {
+                TransactionStatus::Transaction => Ok(CallAnswer::Unit),
+                _ => Err(Error::BeginFailed(status)),
             },
             _ => Ok(CallAnswer::Unit),
         }

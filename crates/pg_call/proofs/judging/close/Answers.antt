@@ -5,5 +5,5 @@ use Rattle.pg_call.proofs.judging.close.Goals as goal
 
 pub returns : goal.returns
 returns c =
-    let status = c.in_ok-decode_ready_for_query.field-0 in
-    (ReadyForQuery status, c.in_ok-decode_ready_for_query.ensures.exact, (closes_at c.args.part c.requires, status, refl))
+    let status = c.in_ok-status.status in
+    (ReadyForQuery status, c.in_ok-status.ensures.exact, (closes_at c.args.part c.requires, refl))

@@ -1,0 +1,34 @@
+ghost use Rattle.std.specs.Prelude.{◌≡◌, ◌+◌, ◌≤◌, ◌++◌, ◌∷◌, [], length};
+ghost use Rattle.arrayvec.specs.ArrayVec.{array_vec_len};
+ghost use Rattle.pg_wire.specs.Frontend.{Query};
+ghost use Rattle.pg_request.specs.Texts.{rollback_text};
+ghost use Rattle.pg_call.specs.Requests.{spelled};
+
+use arrayvec::ArrayVec;
+use pg_request::rollback_text;
+
+// Adds bytes for which there is room.
+fn extend(frame: &mut ArrayVec<u8, 64>, bytes: &[u8])
+    requires { array_vec_len frame.old + length bytes.now ≤ 64 }
+    ensures items { frame.new.items ≡ frame.old.items ++ bytes.now }
+    ensures len { array_vec_len frame.new ≡ array_vec_len frame.old + length bytes.now }
+{
+    match frame.try_extend_from_slice(bytes) {
+        Ok(()) => {}
+        Err(_) => unreachable!(),
+    }
+}
+
+/// The frame of the Query that rolls back the transaction, or to the last savepoint, so many of both staying open. It takes no memory.
+pub fn rollback_frame(left: u64) -> ArrayVec<u8, 64>
+    ensures { result.items ≡ spelled (Query (rollback_text left) ∷ []) }
+{
+    let text = rollback_text(left);
+    let length = text.len() as u32 + 5;
+    let mut frame = ArrayVec::new();
+    extend(&mut frame, b"Q");
+    extend(&mut frame, &length.to_be_bytes());
+    extend(&mut frame, text.as_bytes());
+    extend(&mut frame, &[0]);
+    frame
+}
