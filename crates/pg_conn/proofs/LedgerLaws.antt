@@ -1,5 +1,6 @@
 -- What is owed between any two polls follows from where the call stands before and behind each.
-use Rattle.std.proofs.Common.{◌≡◌, ◌⊎◌, inl, inr, ℕ, ◌+◌, Bool, true, false, not, ◌&&◌, ◌==◌, cond, List, [], ◌∷◌, ◌++◌, length, codes, refl, sym, ap, ◌∙◌, subst, arith, Result, Ok, Err, Option, Some, None}
+use Rattle.std.proofs.Common.{◌≡◌, ◌⊎◌, inl, inr, ℕ, ◌+◌, Bool, true, false, not, ◌&&◌, ◌==◌, cond, List, [], ◌∷◌, ◌++◌, length, codes, refl, sym, ap, ◌∙◌, subst, arith, Result, Ok, Err, Option, Some, None, ◌-◌, nat_eq}
+use Rattle.pg_conn.proofs.CleanupLaws.{group_moves, fits_room}
 use Rattle.std.specs.List.{count_by}
 use Rattle.std.proofs.lemmas.List.Sums.{sum_by-append, sum_by-cons}
 use Rattle.futures.specs.declared.task.Poll.{Poll}
@@ -10,8 +11,8 @@ use Rattle.pg_wire.specs.declared.error.ServerFault.{ServerFault}
 use Rattle.pg_wire.specs.Frame.{Frame, is_known}
 use Rattle.pg_wire.specs.Parts.{heard, is_asynchronous, is_ready}
 use Rattle.pg_wire.specs.Frontend.{FrontendMessage}
-use Rattle.pg_stream.specs.Streams.{Sends}
-use Rattle.pg_stream.proofs.StreamLemmas.{Moves-none}
+use Rattle.pg_stream.specs.Streams.{Sends, Takes, StreamSeen}
+use Rattle.pg_stream.proofs.StreamLemmas.{Moves-none, Sends-then, Takes-then}
 use Rattle.pg_call.specs.declared.kind.Kind.{Kind}
 use Rattle.pg_call.specs.declared.kind.Kind.TheVariants as kinds
 use Rattle.pg_call.specs.declared.request.Request.{Request}
@@ -24,15 +25,15 @@ use Rattle.pg_call.specs.declared.calling.Call.{Call}
 use Rattle.pg_call.specs.declared.calling.Call.TheVariants as calls
 use Rattle.pg_call.specs.declared.calling.Beat.{Beat}
 use Rattle.pg_call.specs.declared.calling.Beat.TheVariants as beats
-use Rattle.pg_call.specs.Requests.{Group, said_in, kind_of, groups_of, messages_of, farewell, CanBeSaid, copy_fail}
+use Rattle.pg_call.specs.Requests.{Group, said_in, kind_of, groups_of, messages_of, farewell, CanBeSaid, copy_fail, spelled}
 use Rattle.pg_call.specs.Drains.{before_readys, is_copy_in, failed_behind, fails_for, drain_fails}
 use Rattle.pg_call.specs.Hearing.{fails_of}
 use Rattle.pg_call.specs.Calls.{CallIs, IsDraining, Leaves, IsFine, CallEnds}
-use Rattle.pg_conn.specs.Connections.{ConnSeen, idle, started_call, begun_with}
-use Rattle.pg_conn.specs.Turns.{ends_request, Tells, TakesBeat, PollsBy, PollsWithin, beat_of}
+use Rattle.pg_conn.specs.Connections.{ConnSeen, idle, started_call, begun_with, left, cleaned, settled, ended, rolled, rolled_back, counted_anew, queued_group, with_group, has_room_for, rollback, may_open, runs}
+use Rattle.pg_conn.specs.Turns.{ends_request, Tells, TakesBeat, PollsBy, PollsWithin, beat_of, behind, broken_by}
 use Rattle.pg_conn.specs.States.{IsCalling}
 use Rattle.pg_conn.specs.Ledgers.{Owes, OwesSome}
-use Rattle.pg_conn.proofs.TurnLaws.{counts-append, no_groups, is_Z}
+use Rattle.pg_conn.proofs.TurnLaws.{counts-append, no_groups, is_Z, spelled-append}
 
 -- ---- ReadyForQuery is no asynchronous message
 
@@ -87,12 +88,19 @@ groups_ask (requests.FetchMany query) = refl
 groups_ask (requests.FetchAll query) = refl
 groups_ask (requests.FetchOptional query) = refl
 groups_ask (requests.FetchOne query) = refl
+groups_ask (requests.Begin depth) = refl
+groups_ask (requests.BeginWith query) = refl
+groups_ask (requests.Commit left) = refl
+groups_ask (requests.Rollback left) = refl
 groups_ask requests.Ping = refl
 groups_ask requests.Flush = refl
 groups_ask requests.Close = refl
 
 farewell_asks_none : (kind : Kind) → count_by ends_request (farewell kind) ≡ 0
 farewell_asks_none (kinds.Run how) = refl
+farewell_asks_none kinds.Begin = refl
+farewell_asks_none kinds.Commit = refl
+farewell_asks_none kinds.Rollback = refl
 farewell_asks_none kinds.Ping = refl
 farewell_asks_none kinds.Flush = refl
 farewell_asks_none kinds.Close = refl
@@ -151,6 +159,7 @@ fine_counts start r said hs items ledger f =
 ends_count : (start : Ledger) (r : Request) (said : List FrontendMessage) (hs : List Frame) (items : List CallItem) (ledger : Ledger) (answer : Result CallAnswer Error) → CallEnds start r said hs items ledger answer → Counts start said hs ledger
 ends_count start r said hs items ledger (Ok answer) h = fine_counts start r said hs items ledger h.0
 ends_count start r said hs items ledger (Err errors.RowNotFound) h = fine_counts start r said hs items ledger h.0
+ends_count start r said hs items ledger (Err (errors.BeginFailed status)) h = fine_counts start r said hs items ledger h.0
 ends_count start r said hs items ledger (Err (errors.Database error)) h = left_counts start r said hs items ledger false h.0
 ends_count start r said hs items ledger (Err (errors.Protocol (protocol.Reply tag))) h = left_counts start r said hs items ledger (tag == 71) h.0.0
 ends_count start r said hs items ledger (Err (errors.Protocol (protocol.Caller fault))) h = rw (h.0, h.1, h.3) (omega arith)
@@ -184,17 +193,96 @@ owes_beat a b kind beat t i =
       },
     )
 
-pub owes_idle : (a : ConnSeen) → Owes a (idle a) [] []
-owes_idle a = let m = Moves-none a.stream in record { sent = m.sent; read = m.read; owed = omega arith }
+-- nothing was queued and nothing read
+owes_same : (a b : ConnSeen) → b.stream ≡ a.stream → b.ledger ≡ a.ledger → Owes a b [] []
+owes_same a b s l =
+    let m = Moves-none a.stream in
+    record { sent = subst (λ (t : StreamSeen). Sends a.stream t []) (sym s) m.sent; read = subst (λ (t : StreamSeen). Takes a.stream t []) (sym s) m.read; owed = rw l (omega arith) }
 
-pub owes_started : (a : ConnSeen) (request : Request) → Owes a (started_call request a) [] []
-owes_started a request = let m = Moves-none a.stream in record { sent = m.sent; read = m.read; owed = omega arith }
+Owes-then : (a b c : ConnSeen) (said more : List FrontendMessage) (fs gs : List Frame) → Owes a b said fs → Owes b c more gs → Owes a c (said ++ more) (fs ++ gs)
+Owes-then a b c said more fs gs s t = record {
+  sent = subst (λ (q : List ℕ). Sends a.stream c.stream q) (sym (spelled-append said more)) (Sends-then a.stream b.stream c.stream (spelled said) (spelled more) s.sent t.sent);
+  read = Takes-then a.stream b.stream c.stream fs gs s.read t.read;
+  owed = omega (arith, s.owed, t.owed, readies-append fs gs, counts-append said more);
+}
+
+OwesSome-then : (a b c : ConnSeen) → OwesSome a b → OwesSome b c → OwesSome a c
+OwesSome-then a b c s t = (s.0 ++ t.0, s.1 ++ t.1, Owes-then a b c s.0 t.0 s.1 t.1 s.2 t.2)
+
+-- a rollback is queued, where there is room for it
+owes_group : (left : ℕ) (c : ConnSeen) → has_room_for (spelled (rollback left)) c ≡ true → Owes c (with_group (spelled (rollback left)) c) (rollback left) []
+owes_group left c e =
+    let m = group_moves (spelled (rollback left)) c (fits_room (spelled (rollback left)) c e).0 in
+    let one : count_by ends_request (rollback left) ≡ 1 = refl in
+    record { sent = m.sent; read = m.read; owed = omega (arith, one) }
+
+owes_queued : (left : ℕ) (c : ConnSeen) → OwesSome c (queued_group (spelled (rollback left)) c)
+owes_queued left c = by (has_room_for (spelled (rollback left)) c) refl
+  where
+    by : (b : Bool) → has_room_for (spelled (rollback left)) c ≡ b → OwesSome c (cond b (with_group (spelled (rollback left)) c) c)
+    by true e = (rollback left, [], owes_group left c e)
+    by false e = ([], [], owes_same c c refl refl)
+
+-- the call and its numbers are no matter
+owes_by : (a b c : ConnSeen) → OwesSome a b → c.stream ≡ record b.stream { waits = c.stream.waits; moves = c.stream.moves } → c.ledger ≡ b.ledger → OwesSome a c
+owes_by a b c o s l = (
+  o.0,
+  o.1,
+  record {
+    sent = subst (λ (t : StreamSeen). Sends a.stream t (spelled o.0)) (sym s) o.2.sent;
+    read = subst (λ (t : StreamSeen). Takes a.stream t o.1) (sym s) o.2.read;
+    owed = rw l o.2.owed;
+  },
+)
+
+owes_cleaned : (c : ConnSeen) → OwesSome c (cleaned c)
+owes_cleaned c = by (may_open c.change c.groups c.depth)
+  where
+    by : (b : Bool) → OwesSome c (ended (cond b (queued_group (spelled (rollback 0)) c) c))
+    by true = owes_by c (queued_group (spelled (rollback 0)) c) (ended (queued_group (spelled (rollback 0)) c)) (owes_queued 0 c) refl refl
+    by false = ([], [], owes_same c (ended c) refl refl)
+
+pub owes_left : (c : ConnSeen) → OwesSome c (left c)
+owes_left c = by (runs c.call)
+  where
+    by : (b : Bool) → OwesSome c (cond b (idle (cleaned c)) c)
+    by true = owes_by c (cleaned c) (idle (cleaned c)) (owes_cleaned c) refl refl
+    by false = ([], [], owes_same c c refl refl)
+
+pub owes_started : (a : ConnSeen) (request : Request) → OwesSome a (started_call request a)
+owes_started a request = owes_by a (left a) (started_call request a) (owes_left a) refl refl
+
+owes_rolled : (c : ConnSeen) → OwesSome c (rolled c)
+owes_rolled c = by (nat_eq c.depth 0)
+  where
+    by : (b : Bool) → OwesSome c (cond b c (queued_group (spelled (rollback (c.depth - 1))) (record c { depth = c.depth - 1 })))
+    by true = ([], [], owes_same c c refl refl)
+    by false =
+        let d : ConnSeen = record c { depth = c.depth - 1 } in
+        let o = owes_queued (c.depth - 1) d in
+        (o.0, o.1, record { sent = o.2.sent; read = o.2.read; owed = o.2.owed })
+
+pub owes_rolled_back : (a : ConnSeen) → OwesSome a (rolled_back a)
+owes_rolled_back a =
+    let d : ConnSeen = ended (counted_anew (left a)) in
+    OwesSome-then a d (rolled d) (owes_by a (left a) d (owes_left a) refl refl) (owes_rolled d)
+
+owes_behind : (beat : Beat) (c : ConnSeen) → OwesSome c (behind beat c)
+owes_behind (beats.Ends (Ok answer)) c = ([], [], owes_same c (settled c) refl refl)
+owes_behind (beats.Ends (Err e)) c =
+    let d : ConnSeen = record c { broken = broken_by (beats.Ends (Err e)) } in
+    let o = owes_cleaned d in
+    (o.0, o.1, record { sent = o.2.sent; read = o.2.read; owed = o.2.owed })
+owes_behind beats.More c = ([], [], owes_same c c refl refl)
+owes_behind beats.Waits c = ([], [], owes_same c c refl refl)
+owes_behind (beats.Yields item) c = ([], [], owes_same c c refl refl)
 
 pub owes_poll : (kind : Kind) (left : ℕ) (a b : ConnSeen) (answer : Poll Turn) → IsCalling kind a → PollsWithin left a b answer → OwesSome a b
 owes_poll kind left a b answer i p = by a.broken p
   where
     by : (o : Option ServerFault) → PollsBy o (begun_with left a) a b (beat_of answer) → OwesSome a b
     by None p =
-        let some = owes_beat (begun_with left a) (record b { broken = None }) kind (beat_of answer) p.turns i in
-        (some.0, some.1, record { sent = some.2.sent; read = some.2.read; owed = some.2.owed })
-    by (Some fault) p = subst (OwesSome a) (sym p.0) ([], [], owes_idle a)
+        let some = owes_beat (begun_with left a) p.stopped kind (beat_of answer) p.turns i in
+        let at : OwesSome a p.stopped = (some.0, some.1, record { sent = some.2.sent; read = some.2.read; owed = some.2.owed }) in
+        subst (OwesSome a) (sym p.behind_is) (OwesSome-then a p.stopped (behind (beat_of answer) p.stopped) at (owes_behind (beat_of answer) p.stopped))
+    by (Some fault) p = subst (OwesSome a) (sym p.0) ([], [], owes_same a (ended (idle a)) refl refl)

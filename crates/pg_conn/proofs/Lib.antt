@@ -1,4 +1,5 @@
 pub mod TurnLaws
+pub mod CleanupLaws
 pub mod StateLaws
 pub mod RefusalLaws
 pub mod LedgerLaws

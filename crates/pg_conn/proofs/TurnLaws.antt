@@ -1,5 +1,6 @@
 -- How the beats of a call follow one another.
-use Rattle.std.proofs.Common.{◌≡◌, ◌≢◌, ◌⊎◌, ℕ, ◌+◌, ◌-◌, ◌<◌, ◌≤◌, cond, inl, inr, Bool, true, false, ◌&&◌, ◌||◌, ◌==◌, nat_eq, List, [], ◌∷◌, ◌++◌, length, map, refl, sym, ap, ◌∙◌, subst, append_assoc, append-nil, length-append, arith, Ok, Err, Option, Some, None, Result, IfOk, IfErr, OnErr, take, drop}
+use Rattle.std.proofs.Common.{◌≡◌, ◌≢◌, ◌⊎◌, ℕ, ◌+◌, ◌-◌, ◌<◌, ◌≤◌, cond, inl, inr, Bool, true, false, ◌&&◌, ◌||◌, ◌==◌, nat_eq, List, [], ◌∷◌, ◌++◌, length, map, refl, sym, ap, ◌∙◌, subst, append_assoc, append-nil, length-append, arith, Ok, Err, Option, Some, None, Result, IfOk, IfErr, OnErr, take, drop, ◌*◌}
+use Rattle.pg_call.specs.declared.kind.Change.{Change}
 use Rattle.std.specs.List.{count_by}
 use Rattle.std.proofs.lemmas.Bool.{eqb-true}
 use Rattle.std.proofs.lemmas.List.{map-append, same_from_push}
@@ -9,7 +10,6 @@ use Rattle.pg_wire.specs.declared.error.Error.{Error}
 use Rattle.pg_wire.specs.declared.error.Error.TheVariants as errors
 use Rattle.pg_wire.specs.declared.error.IoCause.TheVariants as io
 use Rattle.pg_wire.specs.declared.error.ProtocolFault.TheVariants as protocol
-use Rattle.pg_wire.specs.declared.error.ServerFault.{ServerFault}
 use Rattle.pg_wire.specs.Frame.{Frame, text_of}
 use Rattle.pg_wire.specs.Frontend.{FrontendMessage, frontend_frame}
 use Rattle.pg_wire.specs.Parts.{heard, is_asynchronous, is_ready}
@@ -36,8 +36,8 @@ use Rattle.pg_call.specs.Hearing.{framed, fails_of, IsReplied}
 use Rattle.pg_call.specs.Calls.{CallIs, IsAwaiting, CallEnds, CallTakes, EndsByReady, StaysIn, TakesMessage, RefusesMessage}
 use Rattle.pg_call.proofs.CallLaws.{own_errs}
 use Rattle.pg_call.proofs.LeaveLaws.{leaves_call, call_well, closing_fine, flush_fine, draining_none, replying_from, closing_from}
-use Rattle.pg_conn.specs.Connections.{ConnOf, ConnSeen, seen_by, idle, with_spare, queued_call, awaiting, closing, frames_in}
-use Rattle.pg_conn.specs.Turns.{HearsBy, HearsFront, running_of, ends_request, IsMissed, FailsBy, EndsBy, Tells, SendCause, BeatCause, Turns, TakesBeat, IsAsked, cleanup_of, HasRoom, IsSayable, Prepares, Refuses, Refused, Polled, broken_by, only_sends, flushes, is_flushed, EndsFlush, IsAhead, Readies, Accepts, queued_copy_fail}
+use Rattle.pg_conn.specs.Connections.{ConnOf, ConnSeen, seen_by, idle, with_spare, queued_call, awaiting, closing, frames_in, opens, cleaned, may_open, has_room_for, rollback, with_group, ended}
+use Rattle.pg_conn.specs.Turns.{HearsBy, HearsFront, running_of, ends_request, IsMissed, FailsBy, EndsBy, Tells, SendCause, BeatCause, Turns, TakesBeat, IsAsked, cleanup_of, IsSayable, Prepares, Refuses, Refused, Polled, broken_by, only_sends, flushes, is_flushed, EndsFlush, IsAhead, Readies, Accepts, queued_copy_fail, level_of, HasRoomBeside, behind}
 use Rattle.pg_startup.proofs.GreetLaws.{heard_none, heard_one}
 
 -- the bytes of messages, one after another
@@ -87,9 +87,9 @@ Turns-then a b c beat q q' fs fs' hs hs' s t = record {
   cause = cause_after a b c beat s.cause s.moves.left t.moves.left t.cause;
   broken = t.broken ∙ s.broken;
   counted = GrewBy-then (length hs) (length hs') (length (hs ++ hs')) a.heard b.heard c.heard s.counted t.counted (length-append hs hs');
-  started = (t.started.0 ∙ s.started.0, t.started.1 ∙ s.started.1);
+  started = (t.started.0 ∙ s.started.0, t.started.1 ∙ s.started.1, t.started.2 ∙ s.started.2, t.started.3 ∙ s.started.3);
   asked = λ i. s.asked (t.asked i);
-  room = λ h. t.room (s.room h);
+  room = λ n l h. t.room n (omega (arith, l, s.started.2)) (s.room n l h);
   tells = λ start r said heards items i.
       let one = s.tells start r said heards items i in
       let two = t.tells start r (said ++ one.0) (heards ++ hs) items one.3 in (
@@ -116,11 +116,14 @@ keeps call = (λ i. i, omega arith)
 keeps_idle : (call : Call) → Keeps call calls.Idle
 keeps_idle call = (λ i. absurd i, omega arith)
 
+same_level : (c d : Change) (m n : ℕ) → d ≡ c → n ≡ m → level_of d n ≡ level_of c m
+same_level c d m n e f = rw (e, f) refl
+
 -- the stream has moved by nothing, and nothing was heard
-stays : (a b : ConnSeen) (beat : Beat) → Moves a.stream b.stream [] [] → BeatCause a b beat → Keeps a.call b.call → b.broken ≡ a.broken → b.heard ≡ a.heard → b.groups ≡ a.groups → b.sent ≡ a.sent → b.read ≡ a.read
+stays : (a b : ConnSeen) (beat : Beat) → Moves a.stream b.stream [] [] → BeatCause a b beat → Keeps a.call b.call → b.broken ≡ a.broken → b.heard ≡ a.heard → b.groups ≡ a.groups → b.sent ≡ a.sent → b.read ≡ a.read → b.depth ≡ a.depth → b.change ≡ a.change
     → ((start : Ledger) (r : Request) (said : List FrontendMessage) (hs : List Frame) (items : List CallItem) → CallIs start r said hs items a.ledger a.call → Tells a b start r said hs items beat)
     → TakesBeat a b beat
-stays a b beat m c keep k h g s t tells = (
+stays a b beat m c keep k h g s t d e tells = (
   [],
   [],
   [],
@@ -130,15 +133,15 @@ stays a b beat m c keep k h g s t tells = (
     cause = c;
     broken = k;
     counted = rw h (grew-none a.heard);
-    started = (s, t);
+    started = (s, t, d, e);
     asked = keep.0;
-    room = λ r. omega (arith, r, keep.1, m.spare);
+    room = λ n l r. omega (arith, r, keep.1, m.spare, same_level a.change b.change a.groups b.groups e g);
     tells = λ start r said hs items i. ([], refl, rw g (grew-none a.groups), rw (append-nil said, append-nil hs) (tells start r said hs items i));
   },
 )
 
 pub TakesBeat-none : (a : ConnSeen) → TakesBeat a a beats.More
-TakesBeat-none a = stays a a beats.More (Moves-none a.stream) (AllMoved-none a.stream) (keeps a.call) refl refl refl refl refl (λ start r said hs items i. i)
+TakesBeat-none a = stays a a beats.More (Moves-none a.stream) (AllMoved-none a.stream) (keeps a.call) refl refl refl refl refl refl refl (λ start r said hs items i. i)
 
 call_at : (start : Ledger) (r : Request) (said : List FrontendMessage) (hs : List Frame) (items : List CallItem) (l : Ledger) (k k' : Call) → k ≡ k' → CallIs start r said hs items l k → CallIs start r said hs items l k'
 call_at start r said hs items l k k' e i = subst (λ (c : Call). CallIs start r said hs items l c) e i
@@ -151,7 +154,7 @@ asked_waits start r asked said hs items ledger frames f can i =
 
 pub prepared : (a : ConnSeen) (asked : Request) (frames : List ℕ) → a.call ≡ calls.Asked asked → frames ≡ spelled (messages_of asked) → CanBeSaid asked
     → TakesBeat a (record a { call = calls.Waiting (record { kind = kind_of asked; frames = frames; is_copy_failed = a.ledger.is_copy_failed }) }) beats.More
-prepared a asked frames e f can = stays a _ beats.More (Moves-none a.stream) (AllMoved-none a.stream) (λ i. absurd i, omega arith) refl refl refl refl refl (λ start r said hs items i. asked_waits start r asked said hs items a.ledger frames f can (call_at start r said hs items a.ledger a.call (calls.Asked asked) e i))
+prepared a asked frames e f can = stays a _ beats.More (Moves-none a.stream) (AllMoved-none a.stream) (λ i. absurd i, omega arith) refl refl refl refl refl refl refl (λ start r said hs items i. asked_waits start r asked said hs items a.ledger frames f can (call_at start r said hs items a.ledger a.call (calls.Asked asked) e i))
 
 pub prepares : (a : ConnSeen) (asked : Request) (frames : List ℕ) → a.call ≡ calls.Asked asked → frames ≡ spelled (messages_of asked) → CanBeSaid asked
     → Prepares a (record a { call = calls.Waiting (record { kind = kind_of asked; frames = frames; is_copy_failed = a.ledger.is_copy_failed }) })
@@ -169,7 +172,7 @@ prepares_none a n = record { beat = TakesBeat-none a; asked = n; sayable = not_a
 
 -- memory is wanting
 pub starved : (a : ConnSeen) (n : ℕ) → Moves a.stream (with_spare n a).stream [] [] → TakesBeat a (idle (with_spare n a)) (beats.Ends (Err errors.OutOfMemory))
-starved a n m = stays a (idle (with_spare n a)) (beats.Ends (Err errors.OutOfMemory)) m (NoneWaited-none a.stream) (keeps_idle a.call) refl refl refl refl refl (λ start r said hs items i. (refl, inr (leaves_call start r said hs items a.ledger a.call i, call_well start r said hs items a.ledger a.call i, inl (tt, tt))))
+starved a n m = stays a (idle (with_spare n a)) (beats.Ends (Err errors.OutOfMemory)) m (NoneWaited-none a.stream) (keeps_idle a.call) refl refl refl refl refl refl refl (λ start r said hs items i. (refl, inr (leaves_call start r said hs items a.ledger a.call i, call_well start r said hs items a.ledger a.call i, inl (tt, tt))))
 
 -- a request that has no frame
 refusal_by : (a : ConnSeen) (asked : Request) (e : Error) (o : Option QueryText) → query_of asked ≡ o → RefusesQuery o e → (start : Ledger) (r : Request) (said : List FrontendMessage) (hs : List Frame) (items : List CallItem) → CallIs start r said hs items a.ledger (calls.Asked asked)
@@ -184,7 +187,7 @@ pub refused : (a : ConnSeen) (e : Error) → Refuses a.call e → TakesBeat a (i
 refused a e h = by a.call refl h
   where
     by : (call : Call) → a.call ≡ call → Refuses call e → TakesBeat a (idle a) (beats.Ends (Err e))
-    by (calls.Asked asked) k h = stays a (idle a) (beats.Ends (Err e)) (Moves-none a.stream) (NoneWaited-none a.stream) (keeps_idle a.call) refl refl refl refl refl (λ start r said hs items i. (refl, refusal_by a asked e (query_of asked) refl h start r said hs items (call_at start r said hs items a.ledger a.call (calls.Asked asked) k i)))
+    by (calls.Asked asked) k h = stays a (idle a) (beats.Ends (Err e)) (Moves-none a.stream) (NoneWaited-none a.stream) (keeps_idle a.call) refl refl refl refl refl refl refl (λ start r said hs items i. (refl, refusal_by a asked e (query_of asked) refl h start r said hs items (call_at start r said hs items a.ledger a.call (calls.Asked asked) k i)))
     by calls.Idle k h = absurd h
     by (calls.Waiting w) k h = absurd h
     by (calls.Own reply) k h = absurd h
@@ -203,6 +206,10 @@ groups_said (requests.FetchMany query) f c = refl
 groups_said (requests.FetchAll query) f c = refl
 groups_said (requests.FetchOptional query) f c = refl
 groups_said (requests.FetchOne query) f c = refl
+groups_said (requests.Begin depth) f c = refl
+groups_said (requests.BeginWith query) f c = refl
+groups_said (requests.Commit left) f c = refl
+groups_said (requests.Rollback left) f c = refl
 groups_said requests.Ping f c = refl
 groups_said requests.Flush f c = absurd cc
 groups_said requests.Close f c = absurd cc
@@ -218,16 +225,20 @@ groups_farewell (requests.FetchMany query) c = absurd cc
 groups_farewell (requests.FetchAll query) c = absurd cc
 groups_farewell (requests.FetchOptional query) c = absurd cc
 groups_farewell (requests.FetchOne query) c = absurd cc
+groups_farewell (requests.Begin depth) c = absurd cc
+groups_farewell (requests.BeginWith query) c = absurd cc
+groups_farewell (requests.Commit left) c = absurd cc
+groups_farewell (requests.Rollback left) c = absurd cc
 
 flush_false : (b : Bool) (n : ℕ) → n ≡ 0 → b && n == 0 ≡ false → b ≡ false
 flush_false true n z e = let w : true && 0 == 0 ≡ false = rw z at e in absurd cc
 flush_false false n z e = refl
 
 -- the state b stands where what waited was queued
-queues_waiting : (a b : ConnSeen) (w : Waiting) → a.call ≡ calls.Waiting w → Moves a.stream b.stream w.frames [] → AllMoved a.stream b.stream → (IsAsked b.call → ⊥) → HasRoom b → b.broken ≡ a.broken → b.heard ≡ a.heard → b.sent ≡ a.sent → b.read ≡ a.read
+queues_waiting : (a b : ConnSeen) (w : Waiting) → a.call ≡ calls.Waiting w → Moves a.stream b.stream w.frames [] → AllMoved a.stream b.stream → (IsAsked b.call → ⊥) → ((n : ℕ) → n ≤ 64 * a.depth → HasRoomBeside n b) → b.broken ≡ a.broken → b.heard ≡ a.heard → b.sent ≡ a.sent → b.read ≡ a.read → b.depth ≡ a.depth → b.change ≡ a.change
     → ((start : Ledger) (r : Request) (said : List FrontendMessage) (hs : List Frame) (items : List CallItem) → CallIs start r said hs items a.ledger (calls.Waiting w) → GrewBy (count_by ends_request (messages_of r)) a.groups b.groups × CallIs start r (said ++ messages_of r) hs items b.ledger b.call)
     → TakesBeat a b beats.More
-queues_waiting a b w k m moved asked room broken h s t tells = (
+queues_waiting a b w k m moved asked room broken h s t d e tells = (
   w.frames,
   [],
   [],
@@ -237,9 +248,9 @@ queues_waiting a b w k m moved asked room broken h s t tells = (
     cause = moved;
     broken = broken;
     counted = rw h (grew-none a.heard);
-    started = (s, t);
+    started = (s, t, d, e);
     asked = λ i. absurd (asked i);
-    room = λ r. room;
+    room = λ n l r. room n l;
     tells = λ start r said hs items i.
         let j = call_at start r said hs items a.ledger a.call (calls.Waiting w) k i in
         let g = tells start r said hs items j in
@@ -247,21 +258,29 @@ queues_waiting a b w k m moved asked room broken h s t tells = (
   },
 )
 
-pub asks_reply : (a : ConnSeen) (n g : ℕ) (w : Waiting) → a.call ≡ calls.Waiting w → a.ledger.owed ≡ 0 → only_sends a.ledger a.call ≡ false → is_close w.kind ≡ false → Moves a.stream (queued_call n a).stream w.frames [] × AllMoved a.stream (queued_call n a).stream → 128 ≤ n → GrewBy 1 a.groups g
+-- what is kept for a begin once its group is queued is the most
+level_most : (c : Change) (g : ℕ) → level_of c g ≤ level_of c 1
+level_most c g = by (nat_eq g 0)
+  where
+    by : (b : Bool) → cond b 0 (cond (opens c) 64 0) ≤ cond (opens c) 64 0
+    by true = omega arith
+    by false = omega arith
+
+pub asks_reply : (a : ConnSeen) (n g : ℕ) (w : Waiting) → a.call ≡ calls.Waiting w → a.ledger.owed ≡ 0 → only_sends a.ledger a.call ≡ false → is_close w.kind ≡ false → Moves a.stream (queued_call n a).stream w.frames [] × AllMoved a.stream (queued_call n a).stream → 64 * a.depth + level_of a.change 1 + 128 ≤ n → GrewBy 1 a.groups g
     → Readies a (awaiting w.kind g (queued_call n a))
 asks_reply a n g w k z f c m room grew =
     let flush : is_flush w.kind ≡ false = flush_false (is_flush w.kind) a.ledger.owed z (subst (λ (x : Call). only_sends a.ledger x ≡ false) k f) in
     record {
-      beat = queues_waiting a (awaiting w.kind g (queued_call n a)) w k m.0 m.1 (λ i. i) room refl refl refl refl (λ start r said hs items i.
+      beat = queues_waiting a (awaiting w.kind g (queued_call n a)) w k m.0 m.1 (λ i. i) (λ k l. omega (arith, room, l, level_most a.change g)) refl refl refl refl refl refl (λ start r said hs items i.
           let one = groups_said r (rw i.0 at flush) (rw i.0 at c) in
           (rw one grew, replying_from start r said hs items a.ledger w flush c z i));
       ahead = tt;
     }
 
-pub asks_nothing : (a : ConnSeen) (n : ℕ) (w : Waiting) → a.call ≡ calls.Waiting w → a.ledger.owed ≡ 0 → is_close w.kind ≡ true → Moves a.stream (queued_call n a).stream w.frames [] × AllMoved a.stream (queued_call n a).stream
+pub asks_nothing : (a : ConnSeen) (n : ℕ) (w : Waiting) → a.call ≡ calls.Waiting w → a.ledger.owed ≡ 0 → is_close w.kind ≡ true → Moves a.stream (queued_call n a).stream w.frames [] × AllMoved a.stream (queued_call n a).stream → 64 * a.depth + level_of a.change 1 + 128 ≤ n
     → Readies a (closing (queued_call n a))
-asks_nothing a n w k z c m = record {
-  beat = queues_waiting a (closing (queued_call n a)) w k m.0 m.1 (λ i. i) (omega arith) refl refl refl refl (λ start r said hs items i.
+asks_nothing a n w k z c m room = record {
+  beat = queues_waiting a (closing (queued_call n a)) w k m.0 m.1 (λ i. i) (λ k l. omega (arith, room, l, level_most a.change a.groups)) refl refl refl refl refl refl (λ start r said hs items i.
       let none = groups_farewell r (rw i.0 at c) in
       (rw none (grew-none a.groups), closing_from start r said hs items a.ledger w c z i));
   ahead = tt;
@@ -282,7 +301,7 @@ ahead_other ledger calls.Idle n h = tt
 
 -- ---- a flush is done
 
-both : (x y : Bool) → x && y ≡ true → (x ≡ true) × (y ≡ true)
+pub both : (x y : Bool) → x && y ≡ true → (x ≡ true) × (y ≡ true)
 both true y e = (refl, e)
 both false y e = absurd cc
 
@@ -297,6 +316,10 @@ flush_said (requests.FetchMany query) e = absurd cc
 flush_said (requests.FetchAll query) e = absurd cc
 flush_said (requests.FetchOptional query) e = absurd cc
 flush_said (requests.FetchOne query) e = absurd cc
+flush_said (requests.Begin depth) e = absurd cc
+flush_said (requests.BeginWith query) e = absurd cc
+flush_said (requests.Commit left) e = absurd cc
+flush_said (requests.Rollback left) e = absurd cc
 
 -- a flush that is owed nothing ends, whether its frames are written or not
 flush_ends : (start : Ledger) (r : Request) (said : List FrontendMessage) (hs : List Frame) (items : List CallItem) (ledger : Ledger) (call : Call) → flushes call ≡ true → ledger.owed ≡ 0 → CallIs start r said hs items ledger call → CallEnds start r said hs items ledger (Ok answers.Unit)
@@ -316,7 +339,7 @@ pub flushed : (a : ConnSeen) → is_flushed a ≡ true → TakesBeat a (idle a) 
 flushed a f =
     let sent = both (flushes a.call && a.ledger.owed == 0) (nat_eq (length a.stream.unsent) 0) f in
     let owed = both (flushes a.call) (a.ledger.owed == 0) sent.0 in
-    stays a (idle a) (beats.Ends (Ok answers.Unit)) (Moves-none a.stream) (NoneWaited-none a.stream) (keeps_idle a.call) refl refl refl refl refl (λ start r said hs items i.
+    stays a (idle a) (beats.Ends (Ok answers.Unit)) (Moves-none a.stream) (NoneWaited-none a.stream) (keeps_idle a.call) refl refl refl refl refl refl refl (λ start r said hs items i.
     (refl, flush_ends start r said hs items a.ledger a.call owed.0 (eqb-true _ _ owed.1) i, all_sent a.stream.unsent sent.1))
 
 pub flush_done : (a : ConnSeen) → EndsFlush a (idle a) (beats.Ends (Ok answers.Unit))
@@ -334,23 +357,50 @@ flush_sayable a f = by a.call (both (flushes a.call) (a.ledger.owed == 0) (both 
 
 -- ---- a poll
 
--- a beat on a connection that is whole, which is broken or not behind it
-pub polled : {A : Type 0} (seen : A → LinkSeen) (a m b : ConnOf A) (beat : Beat) → a.broken ≡ None → TakesBeat (seen_by seen a) (seen_by seen m) beat → IsSayable a.call ⊎ Refused (seen_by seen a) (seen_by seen m) beat → EndsFlush (seen_by seen a) (seen_by seen m) beat → (IsAsked m.call → ⊥)
-    → b ≡ record m { broken = broken_by beat } → Polled (seen_by seen a) (seen_by seen b) beat
-polled {A} seen a m b beat whole takes says flush asked is =
-    let same : m.broken ≡ None = takes.3.broken ∙ whole in
-    let after : ConnSeen = seen_by seen m in
-    subst (λ (x : ConnOf A). Polled (seen_by seen a) (seen_by seen x) beat) (sym is) (record {
-      turns = subst (λ (o : Option ServerFault). TakesBeat (seen_by seen a) (record after { broken = o }) beat) same takes;
-      broken = refl;
-      says = subst (λ (o : Option ServerFault). IsSayable a.call ⊎ Refused (seen_by seen a) (record after { broken = o }) beat) same says;
-      flush = subst (λ (o : Option ServerFault). EndsFlush (seen_by seen a) (record after { broken = o }) beat) same flush;
-      asked = asked;
-    })
+-- what is made of a connection by the end of a call is seen alike
+seen_cleaned : {A : Type 0} (seen : A → LinkSeen) (c : ConnOf A) → seen_by seen (cleaned c) ≡ cleaned (seen_by seen c)
+seen_cleaned {A} seen c = by (may_open c.change c.groups c.depth) (has_room_for (spelled (rollback 0)) c)
+  where
+    by : (b r : Bool) → seen_by seen (ended (cond b (cond r (with_group (spelled (rollback 0)) c) c) c)) ≡ ended (cond b (cond r (with_group (spelled (rollback 0)) (seen_by seen c)) (seen_by seen c)) (seen_by seen c))
+    by true true = refl
+    by true false = refl
+    by false r = refl
 
-pub polled_whole : {A : Type 0} (seen : A → LinkSeen) (a m : ConnOf A) (beat : Beat) → a.broken ≡ None → TakesBeat (seen_by seen a) (seen_by seen m) beat → IsSayable a.call ⊎ Refused (seen_by seen a) (seen_by seen m) beat → EndsFlush (seen_by seen a) (seen_by seen m) beat → (IsAsked m.call → ⊥)
-    → broken_by beat ≡ None → Polled (seen_by seen a) (seen_by seen m) beat
-polled_whole {A} seen a m beat whole takes says flush asked none = polled seen a m m beat whole takes says flush asked (ap (λ (o : Option ServerFault). record m { broken = o }) (takes.3.broken ∙ whole ∙ sym none))
+pub seen_behind : {A : Type 0} (seen : A → LinkSeen) (beat : Beat) (c : ConnOf A) → seen_by seen (behind beat c) ≡ behind beat (seen_by seen c)
+seen_behind seen (beats.Ends (Ok answer)) c = refl
+seen_behind seen (beats.Ends (Err e)) c = seen_cleaned seen (record c { broken = broken_by (beats.Ends (Err e)) })
+seen_behind seen beats.More c = refl
+seen_behind seen beats.Waits c = refl
+seen_behind seen (beats.Yields item) c = refl
+
+-- it has the same call
+cleaned_call : {A : Type 0} (c : ConnOf A) → (cleaned c).call ≡ c.call
+cleaned_call {A} c = by (may_open c.change c.groups c.depth) (has_room_for (spelled (rollback 0)) c)
+  where
+    by : (b r : Bool) → (ended (cond b (cond r (with_group (spelled (rollback 0)) c) c) c)).call ≡ c.call
+    by true true = refl
+    by true false = refl
+    by false r = refl
+
+behind_call : {A : Type 0} (beat : Beat) (c : ConnOf A) → (behind beat c).call ≡ c.call
+behind_call (beats.Ends (Ok answer)) c = refl
+behind_call (beats.Ends (Err e)) c = cleaned_call (record c { broken = broken_by (beats.Ends (Err e)) })
+behind_call beats.More c = refl
+behind_call beats.Waits c = refl
+behind_call (beats.Yields item) c = refl
+
+-- a beat on a connection that is whole, and what its end makes of it
+pub polled : {A : Type 0} (seen : A → LinkSeen) (a m b : ConnOf A) (beat : Beat) → a.broken ≡ None → TakesBeat (seen_by seen a) (seen_by seen m) beat → IsSayable a.call ⊎ Refused (seen_by seen a) (seen_by seen m) beat → EndsFlush (seen_by seen a) (seen_by seen m) beat → (IsAsked m.call → ⊥)
+    → b ≡ behind beat m → Polled (seen_by seen a) (seen_by seen b) beat
+polled {A} seen a m b beat whole takes says flush asked is = record {
+  stopped = seen_by seen m;
+  turns = takes;
+  whole = takes.3.broken ∙ whole;
+  behind_is = ap (λ (x : ConnOf A). seen_by seen x) is ∙ seen_behind seen beat m;
+  says = says;
+  flush = flush;
+  asked = λ i. asked (subst IsAsked (ap (λ (x : ConnOf A). x.call) is ∙ behind_call beat m) i);
+}
 
 -- ---- messages
 
@@ -363,10 +413,10 @@ awaiting_owed start r said hs items ledger calls.Closing h i = absurd h
 awaiting_owed start r said hs items ledger calls.Idle h i = absurd i
 
 -- asynchronous messages alone were taken
-asides : (a b : ConnSeen) (beat : Beat) (aside : List Frame) → AreAsynchronous aside → Moves a.stream b.stream [] aside → BeatCause a b beat → Keeps a.call b.call → b.broken ≡ a.broken → b.heard ≡ a.heard → b.groups ≡ a.groups → b.sent ≡ a.sent → b.read ≡ a.read
+asides : (a b : ConnSeen) (beat : Beat) (aside : List Frame) → AreAsynchronous aside → Moves a.stream b.stream [] aside → BeatCause a b beat → Keeps a.call b.call → b.broken ≡ a.broken → b.heard ≡ a.heard → b.groups ≡ a.groups → b.sent ≡ a.sent → b.read ≡ a.read → b.depth ≡ a.depth → b.change ≡ a.change
     → ((start : Ledger) (r : Request) (said : List FrontendMessage) (hs : List Frame) (items : List CallItem) → CallIs start r said hs items a.ledger a.call → Tells a b start r said hs items beat)
     → TakesBeat a b beat
-asides a b beat aside n m c keep k h g s t tells = (
+asides a b beat aside n m c keep k h g s t d e tells = (
   [],
   aside,
   [],
@@ -376,9 +426,9 @@ asides a b beat aside n m c keep k h g s t tells = (
     cause = c;
     broken = k;
     counted = rw h (grew-none a.heard);
-    started = (s, t);
+    started = (s, t, d, e);
     asked = keep.0;
-    room = λ r. omega (arith, r, keep.1, m.spare);
+    room = λ n l r. omega (arith, r, keep.1, m.spare, same_level a.change b.change a.groups b.groups e g);
     tells = λ start r said hs items i. ([], refl, rw g (grew-none a.groups), rw (append-nil said, append-nil hs) (tells start r said hs items i));
   },
 )
@@ -395,28 +445,28 @@ abbrev pub over_stream : ConnSeen → StreamSeen → ConnSeen
 over_stream a t = record a { stream = t }
 
 pub hears_nothing : (a : ConnSeen) (t : StreamSeen) → IsAwaiting a.ledger a.call → PollsAhead a.stream t Pending → TakesBeat a (over_stream a t) beats.Waits
-hears_nothing a t w p = asides a (over_stream a t) beats.Waits p.0 p.1 p.2 (p.3, λ s. absurd (hears_more a.ledger a.call w s)) (keeps a.call) refl refl refl refl refl (λ start r said hs items i. (i, inl (awaiting_owed start r said hs items a.ledger a.call w i)))
+hears_nothing a t w p = asides a (over_stream a t) beats.Waits p.0 p.1 p.2 (p.3, λ s. absurd (hears_more a.ledger a.call w s)) (keeps a.call) refl refl refl refl refl refl refl (λ start r said hs items i. (i, inl (awaiting_owed start r said hs items a.ledger a.call w i)))
 
 missed : (ledger : Ledger) (e : Error) → 0 < ledger.owed → IsMissed ledger e
 missed ledger (errors.Io io.End) h = h
 missed ledger _ h = tt
 
 pub hears_fault : (a : ConnSeen) (t : StreamSeen) (e : Error) → IsAwaiting a.ledger a.call → PollsAhead a.stream t (Ready (Err e)) → TakesBeat a (idle (over_stream a t)) (beats.Ends (Err e))
-hears_fault a t e w p = asides a (idle (over_stream a t)) (beats.Ends (Err e)) p.0 p.1 p.2 p.5 (keeps_idle a.call) refl refl refl refl refl (λ start r said hs items i.
+hears_fault a t e w p = asides a (idle (over_stream a t)) (beats.Ends (Err e)) p.0 p.1 p.2 p.5 (keeps_idle a.call) refl refl refl refl refl refl refl (λ start r said hs items i.
     (refl, inr (leaves_call start r said hs items a.ledger a.call i, call_well start r said hs items a.ledger a.call i, inl (p.3, missed a.ledger e (awaiting_owed start r said hs items a.ledger a.call w i)))))
 
 pub hears_front : (a : ConnSeen) (t : StreamSeen) (front : Front) → PollsAhead a.stream t (Ready (Ok front)) → TakesBeat a (over_stream a t) beats.More
-hears_front a t front p = asides a (over_stream a t) beats.More p.0 p.1 p.2 p.4 (keeps a.call) refl refl refl refl refl (λ start r said hs items i. i)
+hears_front a t front p = asides a (over_stream a t) beats.More p.0 p.1 p.2 p.4 (keeps a.call) refl refl refl refl refl refl refl (λ start r said hs items i. i)
 
 -- the cleanup reserve has grown
 pub makes_room : (a : ConnSeen) (n : ℕ) → Moves a.stream (with_spare n a).stream [] [] × AllMoved a.stream (with_spare n a).stream → TakesBeat a (with_spare n a) beats.More
-makes_room a n m = stays a (with_spare n a) beats.More m.0 m.1 (keeps a.call) refl refl refl refl refl (λ start r said hs items i. i)
+makes_room a n m = stays a (with_spare n a) beats.More m.0 m.1 (keeps a.call) refl refl refl refl refl refl refl (λ start r said hs items i. i)
 
 -- ---- a message that is refused
 
 pub front_refused : (a : ConnSeen) (front : Front) (body rest : List ℕ) (e : Error) → IsHeardFront a.stream.held front → IsFrontOf a.stream.held front (framed front.tag body) rest
     → RefusesMessage front.tag body (record { ledger = a.ledger; call = a.call }) e → TakesBeat a (idle a) (beats.Ends (Err e))
-front_refused a front body rest e f of refuses = stays a (idle a) (beats.Ends (Err e)) (Moves-none a.stream) (NoneWaited-none a.stream) (keeps_idle a.call) refl refl refl refl refl (λ start r said hs items i.
+front_refused a front body rest e f of refuses = stays a (idle a) (beats.Ends (Err e)) (Moves-none a.stream) (NoneWaited-none a.stream) (keeps_idle a.call) refl refl refl refl refl refl refl (λ start r said hs items i.
     let x = refuses start r said hs items i in
     (refl, inr (x.0, x.1, inr (framed front.tag body, rest, of.whole, heard_front a.stream.held front (framed front.tag body) rest f of, of.parts, x.2))))
   where
@@ -483,16 +533,20 @@ stays_asked before fails (calls.Waiting w) s i = absurd i
 stays_asked before fails (calls.Own reply) s i = absurd i
 stays_asked before fails calls.Closing s i = absurd i
 
-stays_room : (before : Call) (fails : Bool) (behind : Call) (n : ℕ) → StaysIn before fails behind → cleanup_of before ≤ n → cleanup_of behind ≤ n - length (spelled (fails_of fails))
-stays_room (calls.Own old) fails (calls.Own new) n s h = rw s (omega (arith, h))
-stays_room calls.Idle fails (calls.Own new) n s h = absurd s
-stays_room (calls.Asked request) fails (calls.Own new) n s h = absurd s
-stays_room (calls.Waiting w) fails (calls.Own new) n s h = absurd s
-stays_room calls.Closing fails (calls.Own new) n s h = absurd s
-stays_room before fails calls.Idle n s h = omega arith
-stays_room before fails (calls.Asked request) n s h = omega arith
-stays_room before fails (calls.Waiting w) n s h = omega arith
-stays_room before fails calls.Closing n s h = omega arith
+spares : (fails : Bool) (k n c : ℕ) → (fails ≡ true → k + 57 ≤ n) → k + c ≤ n → k + 0 ≤ n - length (spelled (fails_of fails))
+spares true k n c h r = let x = h refl in omega (arith, x)
+spares false k n c h r = omega (arith, r)
+
+stays_room : (before : Call) (fails : Bool) (behind : Call) (k n : ℕ) → StaysIn before fails behind → (fails ≡ true → k + 57 ≤ n) → k + cleanup_of before ≤ n → k + cleanup_of behind ≤ n - length (spelled (fails_of fails))
+stays_room (calls.Own old) fails (calls.Own new) k n s h r = rw s (omega (arith, r))
+stays_room calls.Idle fails (calls.Own new) k n s h r = absurd s
+stays_room (calls.Asked request) fails (calls.Own new) k n s h r = absurd s
+stays_room (calls.Waiting w) fails (calls.Own new) k n s h r = absurd s
+stays_room calls.Closing fails (calls.Own new) k n s h r = absurd s
+stays_room before fails calls.Idle k n s h r = spares fails k n (cleanup_of before) h r
+stays_room before fails (calls.Asked request) k n s h r = spares fails k n (cleanup_of before) h r
+stays_room before fails (calls.Waiting w) k n s h r = spares fails k n (cleanup_of before) h r
+stays_room before fails calls.Closing k n s h r = spares fails k n (cleanup_of before) h r
 
 -- ---- over a link
 
@@ -513,19 +567,21 @@ queued_moves : {A : Type 0} (seen : A → LinkSeen) (a : ConnOf A) (n : ℕ) (w 
 queued_moves {A} seen a n w k le =
     queues_by seen a.stream (queued_call n a).stream w.frames n (omega (arith, le)) (ap (λ (c : Call). record a.stream { unsent = a.stream.unsent ++ frames_in c; spare = n }) k)
 
-pub asks_closing : {A : Type 0} (seen : A → LinkSeen) (a q b : ConnOf A) (w : Waiting) → a.call ≡ calls.Waiting w → a.ledger.owed ≡ 0 → is_close w.kind ≡ true → a.stream.spare ≤ q.stream.spare → q ≡ queued_call q.stream.spare a → b ≡ closing q
+pub asks_closing : {A : Type 0} (seen : A → LinkSeen) (a q b : ConnOf A) (w : Waiting) → a.call ≡ calls.Waiting w → a.ledger.owed ≡ 0 → is_close w.kind ≡ true → a.stream.spare ≤ q.stream.spare → 64 * q.depth + level_of q.change 1 + 128 ≤ q.stream.spare → q ≡ queued_call q.stream.spare a → b ≡ closing q
     → Readies (seen_by seen a) (seen_by seen b)
-asks_closing {A} seen a q b w k z c le is closes =
+asks_closing {A} seen a q b w k z c le room is closes =
     let n = q.stream.spare in
-    subst (λ (x : ConnOf A). Readies (seen_by seen a) (seen_by seen x)) (sym (closes ∙ ap (λ (x : ConnOf A). closing x) is)) (asks_nothing (seen_by seen a) n w k z c (queued_moves seen a n w k le))
+    let kept = subst (λ (x : ConnOf A). 64 * x.depth + level_of x.change 1 + 128 ≤ n) is room in
+    subst (λ (x : ConnOf A). Readies (seen_by seen a) (seen_by seen x)) (sym (closes ∙ ap (λ (x : ConnOf A). closing x) is)) (asks_nothing (seen_by seen a) n w k z c (queued_moves seen a n w k le) kept)
 
-pub asks_own : {A : Type 0} (seen : A → LinkSeen) (a q b : ConnOf A) (w : Waiting) → a.call ≡ calls.Waiting w → a.ledger.owed ≡ 0 → only_sends a.ledger a.call ≡ false → is_close w.kind ≡ false → a.stream.spare ≤ q.stream.spare → 128 ≤ q.stream.spare → q ≡ queued_call q.stream.spare a
+pub asks_own : {A : Type 0} (seen : A → LinkSeen) (a q b : ConnOf A) (w : Waiting) → a.call ≡ calls.Waiting w → a.ledger.owed ≡ 0 → only_sends a.ledger a.call ≡ false → is_close w.kind ≡ false → a.stream.spare ≤ q.stream.spare → 64 * q.depth + level_of q.change 1 + 128 ≤ q.stream.spare → q ≡ queued_call q.stream.spare a
     → b ≡ awaiting w.kind b.groups q → GrewBy 1 q.groups b.groups → Readies (seen_by seen a) (seen_by seen b)
 asks_own {A} seen a q b w k z f c le room is awaits grew =
     let n = q.stream.spare in
     let g = b.groups in
     let same : q.groups ≡ a.groups = ap (λ (x : ConnOf A). x.groups) is in
-    subst (λ (x : ConnOf A). Readies (seen_by seen a) (seen_by seen x)) (sym (awaits ∙ ap (λ (x : ConnOf A). awaiting w.kind g x) is)) (asks_reply (seen_by seen a) n g w k z f c (queued_moves seen a n w k le) room (rw same at grew))
+    let kept = subst (λ (x : ConnOf A). 64 * x.depth + level_of x.change 1 + 128 ≤ n) is room in
+    subst (λ (x : ConnOf A). Readies (seen_by seen a) (seen_by seen x)) (sym (awaits ∙ ap (λ (x : ConnOf A). awaiting w.kind g x) is)) (asks_reply (seen_by seen a) n g w k z f c (queued_moves seen a n w k le) kept (rw same at grew))
 
 pub with_room : {A : Type 0} (seen : A → LinkSeen) (a r : ConnOf A) → r ≡ with_spare r.stream.spare a → a.stream.spare ≤ r.stream.spare → TakesBeat (seen_by seen a) (seen_by seen r) beats.More
 with_room {A} seen a r room le =
@@ -552,7 +608,7 @@ sends_none t false u e = append-nil t.unsent ∙ u
 sends_none t true u e = absurd cc
 
 pub takes_message : {A : Type 0} (seen : A → LinkSeen) (a b : ConnOf A) (new : Running) (front : Front) (body rest : List ℕ) (taken : Taken) → IsHeardFront a.stream.held front → IsFrontOf a.stream.held front (framed front.tag body) rest
-    → TakesMessage front.tag body (record { ledger = a.ledger; call = a.call }) new taken → StaysIn a.call taken.fails_copy new.call → (taken.fails_copy ≡ true → 57 ≤ a.stream.spare) → (taken.fails_copy ≡ true → front.tag ≡ 71) → a.stream.unsent ≡ [] → (taken.beat ≢ beats.Waits) → Accepts front taken.fails_copy (record a { ledger = new.ledger; call = new.call }) b
+    → TakesMessage front.tag body (record { ledger = a.ledger; call = a.call }) new taken → StaysIn a.call taken.fails_copy new.call → (taken.fails_copy ≡ true → 64 * a.depth + level_of a.change a.groups + 57 ≤ a.stream.spare) → (taken.fails_copy ≡ true → front.tag ≡ 71) → a.stream.unsent ≡ [] → (taken.beat ≢ beats.Waits) → Accepts front taken.fails_copy (record a { ledger = new.ledger; call = new.call }) b
     → TakesBeat (seen_by seen a) (seen_by seen b) taken.beat
 takes_message {A} seen a b new front body rest taken f of takes stays_in room copy sent goes acc =
     let t = acc.0 in
@@ -561,7 +617,7 @@ takes_message {A} seen a b new front body rest taken f of takes stays_in room co
     let h = b.heard in
     let spare : t.spare ≡ a.stream.spare = ap (λ (x : StreamOf A). x.spare) (acc.1 frame rest of).0 in
     let unsent : t.unsent ≡ [] = ap (λ (x : StreamOf A). x.unsent) (acc.1 frame rest of).0 ∙ sent in
-    let m = taken_moves seen a.stream t front body rest fails f of (λ e. rw spare (room e)) acc.1 in
+    let m = taken_moves seen a.stream t front body rest fails f of (λ e. let x = room e in omega (arith, x, spare)) acc.1 in
     let c : ConnSeen = record (seen_by seen a) { stream = stream_by seen (queued_copy_fail fails t); ledger = new.ledger; call = new.call; heard = h } in
     subst (λ (x : ConnOf A). TakesBeat (seen_by seen a) (seen_by seen x) taken.beat) (sym acc.2) (
       spelled (fails_of fails),
@@ -573,9 +629,9 @@ takes_message {A} seen a b new front body rest taken f of takes stays_in room co
         cause = taken_cause (seen_by seen a) c taken.beat goes m.1;
         broken = refl;
         counted = acc.3;
-        started = (refl, refl);
+        started = (refl, refl, refl, refl);
         asked = stays_asked a.call taken.fails_copy new.call stays_in;
-        room = λ h. omega (arith, spare, stays_room a.call taken.fails_copy new.call a.stream.spare stays_in h);
+        room = λ k l h. omega (arith, spare, stays_room a.call taken.fails_copy new.call (k + level_of a.change a.groups) a.stream.spare stays_in (λ e. let x = room e in omega (arith, x, l)) h);
         tells = λ start r said hs items i.
             let none = no_groups fails in
             (fails_of fails, refl, rw none (grew-none a.groups), told (seen_by seen a) c start r (said ++ fails_of fails) hs frame items taken.beat fails copy (sends_none t fails unsent) (takes start r said hs items i));
@@ -622,7 +678,7 @@ starves_front held front a b e f replied oom same =
     let body : List ℕ = take (front.total - 5) (drop 5 held) in
     (body, drop front.total held, front_frame held front (IsFront-from_heard held front f), (rw oom (starves_message front.tag body a replied), same))
 
-pub taken_front : {A : Type 0} (seen : A → LinkSeen) (a m b : ConnOf A) (front : Front) (taken : Taken) → IsHeardFront a.stream.held front → (front.tag ≡ 71 → 57 ≤ a.stream.spare) → a.stream.unsent ≡ [] → m ≡ record a { ledger = m.ledger; call = m.call }
+pub taken_front : {A : Type 0} (seen : A → LinkSeen) (a m b : ConnOf A) (front : Front) (taken : Taken) → IsHeardFront a.stream.held front → (front.tag ≡ 71 → 64 * a.depth + level_of a.change a.groups + 57 ≤ a.stream.spare) → a.stream.unsent ≡ [] → m ≡ record a { ledger = m.ledger; call = m.call }
     → HearsFront front a m (Ok taken) → Accepts front taken.fails_copy m b → TakesBeat (seen_by seen a) (seen_by seen b) taken.beat
 taken_front {A} seen a m b front taken f room sent now h acc =
     takes_message seen a b (running_of m) front h.0 h.1 taken f h.2 h.3.0 h.3.3 (λ e. room (h.3.1 e)) h.3.1 sent h.3.2 (subst (λ (x : ConnOf A). Accepts front taken.fails_copy x b) now acc)
@@ -643,18 +699,18 @@ sends_fine start r said hs items ledger (calls.Own reply) s i = absurd cc
 sends_fine start r said hs items ledger calls.Idle s i = absurd i
 
 pub rest_waits : (a : ConnSeen) (t : StreamSeen) → only_sends a.ledger a.call ≡ true → PollsSend a.stream t Pending → TakesBeat a (over_stream a t) beats.Waits
-rest_waits a t k p = stays a (over_stream a t) beats.Waits p.moves (sent_cause a.stream t p.gives, λ s. p.gives) (keeps a.call) refl refl refl refl refl (λ start r said hs items i. (i, inr k))
+rest_waits a t k p = stays a (over_stream a t) beats.Waits p.moves (sent_cause a.stream t p.gives, λ s. p.gives) (keeps a.call) refl refl refl refl refl refl refl (λ start r said hs items i. (i, inr k))
   where
     sent_cause : (s t : StreamSeen) → SendGives s t Pending → PendingCause s t
     sent_cause s t (inl w) = inl w
     sent_cause s t (inr f) = inr (inr f)
 
 pub rest_fails : (a : ConnSeen) (t : StreamSeen) (e : Error) → PollsSend a.stream t (Ready (Err e)) → TakesBeat a (idle (over_stream a t)) (beats.Ends (Err e))
-rest_fails a t e p = rw p.gives.0 (stays a (idle (over_stream a t)) (beats.Ends (Err (errors.Io io.Fault))) p.moves p.gives.2 (keeps_idle a.call) refl refl refl refl refl (λ start r said hs items i.
+rest_fails a t e p = rw p.gives.0 (stays a (idle (over_stream a t)) (beats.Ends (Err (errors.Io io.Fault))) p.moves p.gives.2 (keeps_idle a.call) refl refl refl refl refl refl refl (λ start r said hs items i.
     (refl, inr (leaves_call start r said hs items a.ledger a.call i, call_well start r said hs items a.ledger a.call i, inl (p.gives.1, tt)))))
 
 pub rest_sent : (a : ConnSeen) (t : StreamSeen) (u : Unit {0}) → only_sends a.ledger a.call ≡ true → PollsSend a.stream t (Ready (Ok u)) → TakesBeat a (idle (over_stream a t)) (beats.Ends (Ok answers.Unit))
-rest_sent a t u k p = stays a (idle (over_stream a t)) (beats.Ends (Ok answers.Unit)) p.moves p.gives.1.2 (keeps_idle a.call) refl refl refl refl refl (λ start r said hs items i.
+rest_sent a t u k p = stays a (idle (over_stream a t)) (beats.Ends (Ok answers.Unit)) p.moves p.gives.1.2 (keeps_idle a.call) refl refl refl refl refl refl refl (λ start r said hs items i.
     (refl, sends_fine start r said hs items a.ledger a.call k i, p.gives.0))
 
 -- ---- a front is accepted, step by step

@@ -1,5 +1,11 @@
 -- What is seen of a connection, and what its calls that ask nothing of the link make of it.
-use Rattle.std.specs.Prelude.{ℕ, Bool, true, false, not, List, [], ◌++◌, Option, Some, None}
+use Rattle.std.specs.Prelude.{ℕ, Bool, true, false, not, List, [], ◌++◌, Option, Some, None, ◌+◌, ◌-◌, ◌^◌, ◌∷◌, ◌&&◌, nat_eq, leb, ltb, min, length, if◌then◌else◌}
+use Rattle.pg_call.specs.declared.kind.Change.TheVariants as changes
+use Rattle.pg_call.specs.declared.kind.Change.{Change}
+use Rattle.pg_call.specs.declared.request.Request.TheVariants as requests
+use Rattle.pg_call.specs.Requests.{spelled, kind_of, change_of}
+use Rattle.pg_request.specs.Texts.{rollback_text}
+use Rattle.pg_wire.specs.Frontend.{FrontendMessage, Query}
 use Rattle.pg_wire.specs.declared.error.ServerFault.{ServerFault}
 use Rattle.pg_stream.specs.Links.{LinkSeen}
 use Rattle.pg_stream.specs.Streams.{StreamOf, stream_by}
@@ -17,6 +23,10 @@ pub record ConnOf (A : Type 0) : Type 0 where
   -- the replies that are owed: Query and Sync messages queued, less ReadyForQuery taken
   pub ledger : Ledger
   pub call : Call
+  -- how many transactions and savepoints are open
+  pub depth : ℕ
+  -- what the end of the last call makes of them where it is Ok; nothing, once it has come
+  pub change : Change
   -- the fault by which the server broke the connection
   pub broken : Option ServerFault
   -- groups queued and frames heard since the last call began, up to u64's greatest value
@@ -30,15 +40,11 @@ abbrev pub ConnSeen : Type 0
 ConnSeen = ConnOf LinkSeen
 
 abbrev pub seen_by : {A : Type 0} → (A → LinkSeen) → ConnOf A → ConnSeen
-seen_by f c = record { stream = stream_by f c.stream; ledger = c.ledger; call = c.call; broken = c.broken; groups = c.groups; heard = c.heard; sent = c.sent; read = c.read }
+seen_by f c = record { stream = stream_by f c.stream; ledger = c.ledger; call = c.call; depth = c.depth; change = c.change; broken = c.broken; groups = c.groups; heard = c.heard; sent = c.sent; read = c.read }
 
 -- behind start-up, before any call
 abbrev pub fresh_connection : {A : Type 0} → StreamOf A → ℕ → ℕ → ConnOf A
-fresh_connection stream sent read = record { stream = stream; ledger = owes_none; call = calls.Idle; broken = None; groups = 0; heard = 0; sent = sent; read = read }
-
--- a call has begun, and its numbers are counted from zero
-abbrev pub started_call : {A : Type 0} → Request → ConnOf A → ConnOf A
-started_call request c = record c { stream = record c.stream { waits = 0; moves = 0 }; call = calls.Asked request; groups = 0; heard = 0 }
+fresh_connection stream sent read = record { stream = stream; ledger = owes_none; call = calls.Idle; depth = 0; change = changes.Stays; broken = None; groups = 0; heard = 0; sent = sent; read = read }
 
 abbrev pub runs : Call → Bool
 runs calls.Idle = false
@@ -46,6 +52,78 @@ runs _ = true
 
 abbrev pub idle : {A : Type 0} → ConnOf A → ConnOf A
 idle c = record c { call = calls.Idle }
+
+-- ---- transactions
+
+abbrev pub opens : Change → Bool
+opens changes.Opens = true
+opens _ = false
+
+-- so many are open behind an Ok, where the call had queued so many groups
+abbrev pub depth_behind : Change → ℕ → ℕ → ℕ
+depth_behind changes.Opens groups depth = if nat_eq groups 0 then depth else min (depth + 1) (2 ^ 64 - 1)
+depth_behind changes.Closes groups depth = depth - 1
+depth_behind changes.Stays groups depth = depth
+
+-- behind an Ok
+abbrev pub settled : {A : Type 0} → ConnOf A → ConnOf A
+settled c = record c { depth = depth_behind c.change c.groups c.depth; change = changes.Stays }
+
+-- a begin that has queued its group, outside of any transaction: it may open one
+abbrev pub may_open : Change → ℕ → ℕ → Bool
+may_open change groups depth = not (nat_eq groups 0) && (nat_eq depth 0 && opens change)
+
+-- a Query that rolls back, so many staying open
+abbrev pub rollback : ℕ → List FrontendMessage
+rollback left = Query (rollback_text left) ∷ []
+
+-- there is room for this frame, and for one reply more
+abbrev pub has_room_for : {A : Type 0} → List ℕ → ConnOf A → Bool
+has_room_for frame c = leb (length frame) c.stream.spare && ltb c.ledger.owed (2 ^ 64 - 1)
+
+-- A group is queued out of that room, for which no call waits. Where no reply was owed its own is the first, for which no CopyFail was queued.
+abbrev pub with_group : {A : Type 0} → List ℕ → ConnOf A → ConnOf A
+with_group frame c = record c {
+  stream = record c.stream { unsent = c.stream.unsent ++ frame; spare = c.stream.spare - length frame };
+  ledger = record { owed = c.ledger.owed + 1; is_copy_failed = not (nat_eq c.ledger.owed 0) && c.ledger.is_copy_failed };
+  groups = min (c.groups + 1) (2 ^ 64 - 1);
+}
+
+abbrev pub queued_group : {A : Type 0} → List ℕ → ConnOf A → ConnOf A
+queued_group frame c = if has_room_for frame c then with_group frame c else c
+
+abbrev pub ended : {A : Type 0} → ConnOf A → ConnOf A
+ended c = record c { change = changes.Stays }
+
+-- behind an end that is no Ok: the transaction that a begin may have opened is rolled back
+abbrev pub cleaned : {A : Type 0} → ConnOf A → ConnOf A
+cleaned c = ended (if may_open c.change c.groups c.depth then queued_group (spelled (rollback 0)) c else c)
+
+-- a call that runs is given up
+abbrev pub left : {A : Type 0} → ConnOf A → ConnOf A
+left c = if runs c.call then idle (cleaned c) else c
+
+-- the numbers of a call are counted from zero
+abbrev pub counted_anew : {A : Type 0} → ConnOf A → ConnOf A
+counted_anew c = record c { stream = record c.stream { waits = 0; moves = 0 }; groups = 0; heard = 0 }
+
+-- a call has begun, in place of one that ran
+abbrev pub started_call : {A : Type 0} → Request → ConnOf A → ConnOf A
+started_call request c = counted_anew (record (left c) { call = calls.Asked request; change = change_of (kind_of request) })
+
+-- a rollback without a call: one is open no more, and the rollback is queued
+abbrev pub rolled : {A : Type 0} → ConnOf A → ConnOf A
+rolled c = if nat_eq c.depth 0 then c else queued_group (spelled (rollback (c.depth - 1))) (record c { depth = c.depth - 1 })
+
+abbrev pub rolled_back : {A : Type 0} → ConnOf A → ConnOf A
+rolled_back c = rolled (ended (counted_anew (left c)))
+
+-- what a commit and a rollback ask where so many are open: nothing where none is
+abbrev pub commit_of : ℕ → Request
+commit_of depth = if nat_eq depth 0 then requests.Flush else requests.Commit (depth - 1)
+
+abbrev pub rollback_of : ℕ → Request
+rollback_of depth = if nat_eq depth 0 then requests.Flush else requests.Rollback (depth - 1)
 
 -- the connection as a poll begins, which may make so many calls of the link
 abbrev pub begun_with : {A : Type 0} → ℕ → ConnOf A → ConnOf A
@@ -61,7 +139,7 @@ begun_by (Some request) c = started_call request c
 
 -- what the drop of a call's state leaves: nothing changes where it was never polled
 abbrev pub left_by : {A R : Type 0} → Option R → ConnOf A → ConnOf A
-left_by None c = idle c
+left_by None c = left c
 left_by (Some request) c = c
 
 -- the state of a call is over where its request was handed on and no call runs

@@ -15,7 +15,7 @@ use Rattle.pg_call.specs.declared.answer.CallItem.{CallItem}
 use Rattle.pg_call.specs.declared.answer.Turn.{Turn}
 use Rattle.pg_call.specs.declared.answer.Turn.TheVariants as turns
 use Rattle.pg_call.specs.Requests.{kind_of}
-use Rattle.pg_call.specs.Answers.{TurnFits}
+use Rattle.pg_call.specs.Answers.{TurnFits, TurnIsPlain}
 use Rattle.pg_call.specs.Calls.{CallIs}
 use Rattle.pg_conn.specs.Connections.{ConnOf, seen_by, begun_by, is_over}
 use Rattle.pg_conn.specs.Turns.{HasRoom, PollsCall}
@@ -38,6 +38,14 @@ PollFits kind b (Ready turn) = TurnFits kind turn × StaysCalling kind b turn
 abbrev pub turn_of : {X : Type 0} → (X → Turn) → Poll X → Poll Turn
 turn_of f Pending = Pending
 turn_of f (Ready x) = Ready (f x)
+
+-- ---- a call without items and without an answer of its own
+
+abbrev pub IsCallingPlainly : {A : Type 0} → ConnOf A → Type 0
+IsCallingPlainly c = (kind : Kind) × TurnIsPlain kind × IsCalling kind c
+
+abbrev pub PollFitsPlainly : {A : Type 0} → ConnOf A → Poll Turn → Type 0
+PollFitsPlainly b answer = (kind : Kind) × TurnIsPlain kind × PollFits kind b answer
 
 -- ---- a close
 

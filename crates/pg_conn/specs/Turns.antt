@@ -1,5 +1,6 @@
 -- How one poll of a call moves the connection on, whatever the call had done before.
-use Rattle.std.specs.Prelude.{◌≡◌, ◌≢◌, Result, ℕ, ◌-◌, ◌<◌, ◌≤◌, ◌⊎◌, ◌==◌, ◌&&◌, Bool, true, false, count_by, List, [], ◌∷◌, ◌++◌, length, nat_eq, Ok, Err, Option, Some, None}
+use Rattle.std.specs.Prelude.{◌≡◌, ◌≢◌, Result, ℕ, ◌-◌, ◌<◌, ◌≤◌, ◌⊎◌, ◌==◌, ◌&&◌, Bool, true, false, count_by, List, [], ◌∷◌, ◌++◌, length, nat_eq, Ok, Err, Option, Some, None, ◌+◌, ◌*◌, if◌then◌else◌}
+use Rattle.pg_call.specs.declared.kind.Change.{Change}
 use Rattle.futures.specs.declared.task.Poll.{Poll}
 use Rattle.futures.specs.declared.task.Poll.TheVariants.{Ready, Pending}
 use Rattle.pg_wire.specs.declared.error.Error.{Error}
@@ -30,7 +31,7 @@ use Rattle.pg_call.specs.Hearing.{fails_of}
 use Rattle.pg_call.specs.declared.calling.Taken.{Taken}
 use Rattle.pg_call.specs.declared.running.Running.{Running}
 use Rattle.pg_call.specs.Calls.{CallIs, IsAwaiting, Leaves, CallEnds, IsFrontFault, TakesMessage, RefusesMessage, StaysIn}
-use Rattle.pg_conn.specs.Connections.{ConnOf, ConnSeen, idle, started_call, begun, begun_with}
+use Rattle.pg_conn.specs.Connections.{ConnOf, ConnSeen, idle, started_call, begun, begun_with, opens, settled, cleaned, ended}
 
 -- Query and Sync end a group ("Simple Query", "Extended Query")
 abbrev pub ends_request : FrontendMessage → Bool
@@ -70,9 +71,21 @@ abbrev pub cleanup_of : Call → ℕ
 cleanup_of (calls.Own reply) = 128
 cleanup_of _ = 0
 
--- there is room for them, which takes no memory
+-- the bytes that are kept for the rollback of what a begin may have opened
+abbrev pub level_of : Change → ℕ → ℕ
+level_of change groups = if nat_eq groups 0 then 0 else (if opens change then 64 else 0)
+
+-- there is room for them beside so many bytes, which takes no memory
+abbrev pub HasRoomBeside : {A : Type 0} → ℕ → ConnOf A → Type 0
+HasRoomBeside n c = n + level_of c.change c.groups + cleanup_of c.call ≤ c.stream.spare
+
+-- there is room for the cleanup of the call
 abbrev pub HasRoom : {A : Type 0} → ConnOf A → Type 0
-HasRoom c = cleanup_of c.call ≤ c.stream.spare
+HasRoom c = HasRoomBeside 0 c
+
+-- and for the rollback of each transaction and savepoint that is open, of 64 bytes at most
+abbrev pub HasAllRoom : {A : Type 0} → ConnOf A → Type 0
+HasAllRoom c = HasRoomBeside (64 * c.depth) c
 
 -- nothing is left to do but to send: for a flush behind the last reply that is owed, and for a close behind its last frame
 abbrev pub only_sends : Ledger → Call → Bool
@@ -113,9 +126,9 @@ pub record Turns (a b : ConnSeen) (beat : Beat) (q : List ℕ) (fs hs : List Fra
   pub cause : BeatCause a b beat
   pub broken : b.broken ≡ a.broken
   pub counted : GrewBy (length hs) a.heard b.heard
-  pub started : (b.sent ≡ a.sent) × (b.read ≡ a.read)
+  pub started : (b.sent ≡ a.sent) × (b.read ≡ a.read) × (b.depth ≡ a.depth) × (b.change ≡ a.change)
   pub asked : IsAsked b.call → IsAsked a.call
-  pub room : HasRoom a → HasRoom b
+  pub room : (n : ℕ) → n ≤ 64 * a.depth → HasRoomBeside n a → HasRoomBeside n b
   pub tells : (start : Ledger) (r : Request) (said : List FrontendMessage) (hs' : List Frame) (items : List CallItem) → CallIs start r said hs' items a.ledger a.call
       → TellsOf a b start r said (hs' ++ hs) items beat q
 
@@ -201,20 +214,30 @@ Refused a b _ = ⊥
 abbrev pub EndsFlush : ConnSeen → ConnSeen → Beat → Type 0
 EndsFlush a b beat = is_flushed a ≡ true → (beat ≡ beats.Ends (Ok answers.Unit)) × (b ≡ idle a)
 
+-- what the end of a call makes of the connection: an Ok counts what it opened or closed, and any other end breaks it where the server is at
+-- fault, and is cleaned up behind
+abbrev pub behind : {A : Type 0} → Beat → ConnOf A → ConnOf A
+behind (beats.Ends (Ok answer)) c = settled c
+behind (beats.Ends (Err e)) c = cleaned (record c { broken = broken_by (beats.Ends (Err e)) })
+behind _ c = c
+
 -- one poll of a call that begins with this connection, which is whole
 pub record Polled (begun b : ConnSeen) (beat : Beat) : Type 0 where
-  pub turns : TakesBeat begun (record b { broken = None }) beat
-  pub broken : b.broken ≡ broken_by beat
+  -- the connection where the call stopped
+  pub stopped : ConnSeen
+  pub turns : TakesBeat begun stopped beat
+  pub whole : stopped.broken ≡ None
+  pub behind_is : b ≡ behind beat stopped
   -- frames can say what is asked, or this poll refuses it
-  pub says : IsSayable begun.call ⊎ Refused begun (record b { broken = None }) beat
-  pub flush : EndsFlush begun (record b { broken = None }) beat
+  pub says : IsSayable begun.call ⊎ Refused begun stopped beat
+  pub flush : EndsFlush begun stopped beat
   -- and behind it no call is merely asked
   pub asked : IsAsked b.call → ⊥
 
 -- one poll of a call, which begins with this connection, or answers at once where the connection is broken
 abbrev pub PollsBy : Option ServerFault → ConnSeen → ConnSeen → ConnSeen → Beat → Type 0
 PollsBy None begun a b beat = Polled begun b beat
-PollsBy (Some fault) begun a b beat = (b ≡ idle a) × (beat ≡ beats.Ends (Err (errors.Protocol (protocol.Server fault))))
+PollsBy (Some fault) begun a b beat = (b ≡ ended (idle a)) × (beat ≡ beats.Ends (Err (errors.Protocol (protocol.Server fault))))
 
 -- a poll within so many calls of the link
 abbrev pub PollsWithin : ℕ → ConnSeen → ConnSeen → Poll Turn → Type 0
@@ -229,7 +252,7 @@ PollsMore a b answer = PollsBy a.broken a a b (beat_of answer)
 
 -- the first poll of a request that refuses it, and does nothing else
 abbrev pub RefusesAtOnce : Request → ConnSeen → ConnSeen → Poll Turn → Type 0
-RefusesAtOnce request a b answer = (e : Error) × (answer ≡ Ready (turns.Err e)) × IsRefusal request e × (b ≡ idle (begun (started_call request a)))
+RefusesAtOnce request a b answer = (e : Error) × (answer ≡ Ready (turns.Err e)) × IsRefusal request e × (b ≡ ended (idle (begun (started_call request a))))
 
 -- the first poll of a flush that has nothing to do, which ends it
 abbrev pub FlushesAtOnce : ConnSeen → ConnSeen → Poll Turn → Type 0

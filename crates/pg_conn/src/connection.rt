@@ -1,9 +1,10 @@
 ghost use Rattle.std.specs.Prelude.{◌≡◌, ◌≤◌, not, nat_eq, length, option_map, OnErr, Err};
 ghost use Rattle.pg_stream.specs.Parameters.{value_of};
-ghost use Rattle.pg_conn.specs.Connections.{fresh_connection, idle, left_by, runs, started_call, with_room};
+ghost use Rattle.pg_conn.specs.Connections.{cleaned, counted_anew, ended, idle, fresh_connection, left, left_by, may_open, queued_group, rolled_back, runs, settled, started_call, with_room};
+ghost use Rattle.pg_conn.specs.Turns.{level_of};
 
 use crate::{CacheStep, Progress, Request};
-use pg_call::{Call, Running};
+use pg_call::{Call, Change, Running, rollback_frame};
 use pg_startup::Ready;
 use pg_stream::PgStream;
 use pg_wire::{Error, ServerFault};
@@ -16,6 +17,8 @@ pub struct PgConnection<L> {
     pub(crate) alloc: Global,
     pub(crate) stream: PgStream<L>,
     pub(crate) running: Running,
+    depth: u64,
+    change: Change,
     pub(crate) broken: Option<ServerFault>,
     pub(crate) groups: u64,
     pub(crate) heard: u64,
@@ -28,7 +31,7 @@ impl<L> Model for PgConnection<L> {
 
     ghost Value = { ConnOf L };
 
-    ghost view = { λ c. record { stream = c.stream; ledger = c.running.ledger; call = c.running.call; broken = c.broken; groups = c.groups; heard = c.heard; sent = c.sent; read = c.read } };
+    ghost view = { λ c. record { stream = c.stream; ledger = c.running.ledger; call = c.running.call; depth = c.depth; change = c.change; broken = c.broken; groups = c.groups; heard = c.heard; sent = c.sent; read = c.read } };
 }
 
 impl<L> PgConnection<L> {
@@ -46,6 +49,8 @@ impl<L> PgConnection<L> {
             alloc,
             stream,
             running: Running::new(),
+            depth: 0,
+            change: Change::Stays,
             broken: None,
             groups: 0,
             heard: 0,
@@ -94,6 +99,8 @@ impl<L> PgConnection<L> {
             alloc: _,
             stream,
             running: _,
+            depth: _,
+            change: _,
             broken: _,
             groups: _,
             heard: _,
@@ -138,11 +145,105 @@ impl<L> PgConnection<L> {
         !matches!(self.running.call, Call::Idle)
     }
 
-    /// Gives the running call up. Replies to what it queued stay owed.
+    /// How many transactions and savepoints are open.
+    pub fn transaction_depth(&self) -> u64
+        ensures { result ≡ self.now.depth }
+    {
+        self.depth
+    }
+
+    // Whether the call is a begin that may have opened a transaction.
+    fn may_open(&self) -> bool
+        ensures { result ≡ may_open self.now.change self.now.groups self.now.depth }
+    {
+        self.groups > 0 && self.depth == 0 && matches!(self.change, Change::Opens)
+    }
+
+    // The bytes that are kept for the rollback of what a begin may open, once so many groups of it are queued.
+    pub(crate) fn level(&self, groups: u64) -> usize
+        ensures { result ≡ level_of self.now.change groups }
+    {
+        if groups > 0 && matches!(self.change, Change::Opens) {
+            64
+        } else {
+            0
+        }
+    }
+
+    // Queues a group for which no call waits, out of the room that is kept for cleanups. It takes no memory.
+    fn queue_group(&mut self, frame: &[u8])
+        ensures { self.new ≡ queued_group frame.now self.old }
+    {
+        if frame.len() <= self.stream.spare() && self.running.ledger.owed < u64::MAX {
+            self.stream.queue_cleanup(frame);
+            self.running.ledger.is_copy_failed &= self.running.ledger.owed > 0;
+            self.running.ledger.owed += 1;
+            self.groups = self.groups.saturating_add(1);
+        }
+    }
+
+    /// The call has come to an Ok: what it opened or closed is counted.
+    pub(crate) fn settle(&mut self)
+        ensures { self.new ≡ settled self.old }
+    {
+        self.depth = match self.change {
+            Change::Opens if self.groups > 0 => self.depth.saturating_add(1),
+            Change::Closes => self.depth.saturating_sub(1),
+            Change::Opens | Change::Stays => self.depth,
+        };
+        self.change = Change::Stays;
+    }
+
+    /// The call has come to another end: the transaction that a begin may have opened is rolled back.
+    pub(crate) fn clean(&mut self)
+        ensures { self.new ≡ cleaned self.old }
+    {
+        if self.may_open() {
+            self.queue_group(&rollback_frame(0));
+        }
+        self.change = Change::Stays;
+    }
+
+    /// Gives the running call up. Replies to what it queued stay owed. Where it is a begin that may have opened a transaction, a rollback is
+    /// queued behind it, which takes no memory and which no call waits for.
     pub fn abandon(&mut self)
-        ensures { self.new ≡ idle self.old }
+        ensures { self.new ≡ left self.old }
+    {
+        if self.is_running() {
+            self.clean();
+            self.turn_to(Call::Idle);
+        }
+    }
+
+    /// The call is over, whatever it would have made of the transactions that are open.
+    pub(crate) fn forget(&mut self)
+        ensures { self.new ≡ ended (idle self.old) }
     {
         self.turn_to(Call::Idle);
+        self.change = Change::Stays;
+    }
+
+    // The numbers of a call are counted from zero.
+    fn count_anew(&mut self)
+        ensures { self.new ≡ counted_anew self.old }
+    {
+        self.groups = 0;
+        self.heard = 0;
+        self.stream.begin_call();
+    }
+
+    /// Rolls back the transaction, or to the last savepoint, without waiting: the next call sends it, and reads its reply away. It takes no
+    /// memory. A call that still runs is given up. Where nothing is open it does nothing else.
+    pub fn start_rollback(&mut self)
+        ensures { self.new ≡ rolled_back self.old }
+    {
+        self.abandon();
+        self.change = Change::Stays;
+        self.count_anew();
+        if self.depth > 0 {
+            self.depth -= 1;
+            self.queue_group(&rollback_frame(self.depth));
+        }
     }
 
     // Another call stands in place of the one that ran. All that replace a call do so here: the old one is dropped in one place.
@@ -156,10 +257,10 @@ impl<L> PgConnection<L> {
     pub fn start(&mut self, request: Request)
         ensures { self.new ≡ started_call request self.old }
     {
+        self.abandon();
+        self.change = request.kind().change();
         self.turn_to(Call::Asked(request));
-        self.groups = 0;
-        self.heard = 0;
-        self.stream.begin_call();
+        self.count_anew();
     }
 
     /// What the drop of a call's state does: nothing where it was never polled.

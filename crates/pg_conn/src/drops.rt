@@ -1,7 +1,7 @@
 //! What a caller knows of a connection once the state of a call on it is dropped: each law as the contract of the shortest user.
 ghost use Rattle.std.specs.Prelude.{◌≡◌};
 ghost use Rattle.pg_call.specs.Answers.{total_turn};
-ghost use Rattle.pg_conn.specs.Connections.{ConnOf, seen_by, started_call, idle};
+ghost use Rattle.pg_conn.specs.Connections.{ConnOf, seen_by, started_call, left};
 ghost use Rattle.pg_conn.specs.States.{turn_of};
 ghost use Rattle.pg_conn.specs.Turns.{PollsCall};
 
@@ -21,7 +21,7 @@ pub fn a_call_that_is_polled_once<L: Link>(
     conn: &mut PgConnection<L>,
     query: Query,
 ) -> Poll<Result<PgQueryResult, Error>>
-    ensures { (b : ConnOf L) × PollsCall (seen_by L.seen (started_call (Request.Execute query) conn.old)) (seen_by L.seen b) (turn_of total_turn result) × (conn.new ≡ idle b) }
+    ensures { (b : ConnOf L) × PollsCall (seen_by L.seen (started_call (Request.Execute query) conn.old)) (seen_by L.seen b) (turn_of total_turn result) × (conn.new ≡ left b) }
 {
     let mut call = conn.execute(query);
     call.poll()

@@ -1,24 +1,32 @@
 //! What follows from the definitions of this crate, each law as the contract of a function that does nothing.
-ghost use Rattle.std.specs.Prelude.{◌≡◌, ℕ, [], None, Some};
+ghost use Rattle.std.specs.Prelude.{◌≡◌, ◌<◌, ◌-◌, ◌^◌, ℕ, [], None, Some, true, false};
 ghost use Rattle.futures.specs.declared.task.Poll.{Poll};
 ghost use Rattle.pg_call.specs.declared.answer.Turn.{Turn};
 ghost use Rattle.pg_call.specs.declared.kind.Kind.{Kind};
 ghost use Rattle.pg_call.specs.declared.request.Request.{Request};
 ghost use Rattle.pg_call.specs.declared.request.Request.TheVariants as requests;
-ghost use Rattle.pg_call.specs.Requests.{CanBeSaid};
-ghost use Rattle.pg_conn.specs.Connections.{ConnSeen, started_call, left_by, idle};
+ghost use Rattle.pg_call.specs.Requests.{CanBeSaid, spelled};
+ghost use Rattle.pg_conn.specs.Connections.{ConnSeen, ended, fresh_connection, idle, left, left_by, may_open, rollback, rolled_back, runs, started_call, with_group};
+ghost use Rattle.pg_stream.specs.Streams.{StreamSeen};
 ghost use Rattle.pg_conn.specs.Ledgers.{Owes, OwesSome};
 ghost use Rattle.pg_conn.specs.States.{IsCalling};
-ghost use Rattle.pg_conn.specs.Turns.{FlushesAtOnce, HasRoom, PollsCall, PollsMore, PollsWithin, RefusesAtOnce};
+ghost use Rattle.pg_conn.specs.Turns.{FlushesAtOnce, HasAllRoom, HasRoom, PollsCall, PollsMore, PollsWithin, RefusesAtOnce};
 
 /// The state of a call that is dropped before its first poll leaves the connection as it was: it has queued and taken nothing.
 pub fn an_unpolled_call_does_nothing()
     ensures { (c : ConnSeen) (request : Request) → left_by (Some request) c ≡ c }
 {}
 
-/// A call that is given up leaves all but itself as it is: what it queued stays queued, and its reply stays owed.
+/// A call that is given up, and that is no begin which may have opened a transaction, leaves all but itself as it is: what it queued stays
+/// queued, and its reply stays owed.
 pub fn a_dropped_call_stays_owed()
-    ensures { (c : ConnSeen) → ((idle c).ledger ≡ c.ledger) × ((idle c).stream ≡ c.stream) }
+    ensures { (c : ConnSeen) → may_open c.change c.groups c.depth ≡ false → ((left c).ledger ≡ c.ledger) × ((left c).stream ≡ c.stream) }
+{}
+
+/// A begin that is given up once its group is queued, outside of any transaction, is followed by a rollback: one reply more is owed. There is
+/// room for it, which takes no memory.
+pub fn a_dropped_begin_is_rolled_back()
+    ensures { (c : ConnSeen) → runs c.call ≡ true → may_open c.change c.groups c.depth ≡ true → HasRoom c → c.ledger.owed < 2 ^ 64 - 1 → left c ≡ idle (ended (with_group (spelled (rollback 0)) c)) }
 {}
 
 /// A request that no frame can say, for a zero byte in its text or for its length, is refused by its first poll, which does nothing
@@ -30,7 +38,7 @@ pub fn what_no_frame_says_is_refused_at_once()
 /// A flush on a connection on which nothing is unsent and no reply is owed is done at its first poll, which calls no link and takes no
 /// memory: it cannot fail.
 pub fn a_flush_with_nothing_to_do_is_done()
-    ensures { (a b : ConnSeen) (answer : Poll Turn) → a.broken ≡ None → a.ledger.owed ≡ 0 → a.stream.unsent ≡ [] → PollsCall (started_call requests.Flush a) b answer → FlushesAtOnce a b answer }
+    ensures { (a b : ConnSeen) (answer : Poll Turn) → a.broken ≡ None → (left a).ledger.owed ≡ 0 → (left a).stream.unsent ≡ [] → PollsCall (started_call requests.Flush a) b answer → FlushesAtOnce a b answer }
 {}
 
 /// The reply ledger law: behind each poll of a call one reply more is owed for each Query and Sync message that it queued, and one less
@@ -38,14 +46,26 @@ pub fn a_flush_with_nothing_to_do_is_done()
 pub fn replies_owed_are_requests_less_readies()
     ensures polls { (kind : Kind) (left : ℕ) (a b : ConnSeen) (answer : Poll Turn) → IsCalling kind a → PollsWithin left a b answer → OwesSome a b }
     ensures more { (kind : Kind) (a b : ConnSeen) (answer : Poll Turn) → IsCalling kind a → PollsMore a b answer → OwesSome a b }
-    ensures starts { (a : ConnSeen) (request : Request) → Owes a (started_call request a) [] [] }
-    ensures leaves { (a : ConnSeen) → Owes a (idle a) [] [] }
+    ensures starts { (a : ConnSeen) (request : Request) → OwesSome a (started_call request a) }
+    ensures leaves { (a : ConnSeen) → OwesSome a (left a) }
+    ensures rolls_back { (a : ConnSeen) → OwesSome a (rolled_back a) }
 {}
 
-/// A running call that has queued a group has room for its cleanup, which takes no memory then: 128 bytes. Each call begins so, and each
-/// poll keeps it so.
+/// A running call that has queued a group has room for its cleanup, which takes no memory then: 128 bytes, and 64 more for a begin. Each call
+/// begins so, and each poll keeps it so.
 pub fn a_call_has_room_for_its_cleanup()
     ensures polls { (left : ℕ) (a b : ConnSeen) (answer : Poll Turn) → HasRoom a → PollsWithin left a b answer → HasRoom b }
     ensures more { (a b : ConnSeen) (answer : Poll Turn) → HasRoom a → PollsMore a b answer → HasRoom b }
     ensures starts { (a : ConnSeen) (request : Request) → HasRoom (started_call request a) }
+{}
+
+/// A connection has room for the cleanup of its call and for a rollback of each transaction and savepoint that is open: 64 bytes each. It begins
+/// so behind start-up, and each poll, start, drop and rollback keeps it so.
+pub fn a_connection_has_room_for_its_rollbacks()
+    ensures polls { (left : ℕ) (a b : ConnSeen) (answer : Poll Turn) → HasAllRoom a → PollsWithin left a b answer → HasAllRoom b }
+    ensures more { (a b : ConnSeen) (answer : Poll Turn) → HasAllRoom a → PollsMore a b answer → HasAllRoom b }
+    ensures starts { (a : ConnSeen) (request : Request) → HasAllRoom a → HasAllRoom (started_call request a) }
+    ensures leaves { (a : ConnSeen) → HasAllRoom a → HasAllRoom (left a) }
+    ensures rolls_back { (a : ConnSeen) → a.depth < 2 ^ 64 → HasAllRoom a → HasAllRoom (rolled_back a) }
+    ensures fresh { (stream : StreamSeen) (sent read : ℕ) → HasAllRoom (fresh_connection stream sent read) }
 {}

@@ -26,5 +26,6 @@ pub use postgres::Postgres;
 pub use socket_dial::SocketDial;
 pub use starting::Establish;
 pub use states::{
-    Close, Execute, ExecuteMany, Fetch, FetchAll, FetchMany, FetchOne, FetchOptional, Flush, Ping,
+    Begin, Close, Commit, Execute, ExecuteMany, Fetch, FetchAll, FetchMany, FetchOne,
+    FetchOptional, Flush, Ping, Rollback, commit_request, rollback_request,
 };

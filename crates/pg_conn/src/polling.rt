@@ -1,19 +1,19 @@
-ghost use Rattle.std.specs.Prelude.{◌≡◌, ◌≢◌, ◌-◌, ◌<◌, ◌≤◌, ◌⊎◌, true, false, [], None, IsSome, OnOk, OnErr, IfErr};
+ghost use Rattle.std.specs.Prelude.{◌≡◌, ◌≢◌, ◌+◌, ◌*◌, ◌-◌, ◌<◌, ◌≤◌, ◌⊎◌, true, false, [], None, IsSome, OnOk, OnErr, IfErr};
 ghost use Rattle.pg_stream.specs.Links.{GrewBy};
 ghost use Rattle.pg_stream.specs.Streams.{stream_by, fuel_of, IsHeardFront, Passes};
-ghost use Rattle.pg_conn.specs.Connections.{seen_by, idle, begun_with, begun_by, is_over, runs, with_spare, queued_call, awaiting, closing};
+ghost use Rattle.pg_conn.specs.Connections.{seen_by, ended, idle, begun_with, begun_by, is_over, runs, with_spare, queued_call, awaiting, closing};
 ghost use Rattle.pg_call.specs.Calls.{IsAwaiting};
 ghost use Rattle.pg_call.specs.Hearing.{IsReplied};
 ghost use Rattle.pg_call.specs.declared.kind.Kind as declared_kind;
 ghost use Rattle.pg_conn.specs.States.{IsCalling, PollFits};
-ghost use Rattle.pg_conn.specs.Turns.{TakesBeat, HearsFront, Prepares, Readies, Refuses, Accepts, IsAsked, IsSayable, Refused, IsAhead, only_sends, flushes, is_flushed, EndsFlush, queued_copy_fail, PollsBy, PollsWithin, PollsCall, PollsMore, beat_of, broken_by};
+ghost use Rattle.pg_conn.specs.Turns.{level_of, TakesBeat, HearsFront, Prepares, Readies, Refuses, Accepts, IsAsked, IsSayable, Refused, IsAhead, only_sends, flushes, is_flushed, EndsFlush, queued_copy_fail, PollsBy, PollsWithin, PollsCall, PollsMore, beat_of, broken_by};
 
 use crate::{PgConnection, Request, Turn};
 use pg_call::{Beat, Call, CallAnswer, Kind, Ledger, Reply, Taken, Waiting};
 use pg_stream::{Front, Link};
 use pg_wire::{Blob, Error, Poll, ProtocolFault, ServerFault};
 
-/// The bytes that are kept for the cleanup of a call that has queued a group: it queues two frames of 64 bytes at most.
+/// The bytes that are kept for the cleanup of a call that has queued a group.
 const RESERVE: usize = 128;
 
 /// The frame that ends a copy from the client which no one feeds. (PostgreSQL manual, "Message Formats", CopyFail.)
@@ -35,7 +35,7 @@ impl<L> PgConnection<L> {
         ensures beat { result ≡ Beat.Ends answer }
         ensures now { self.new ≡ idle self.old }
     {
-        self.abandon();
+        self.turn_to(Call::Idle);
         Beat::Ends(answer)
     }
 
@@ -100,15 +100,34 @@ impl<L> PgConnection<L> {
         self.flushes() && self.running.ledger.owed == 0 && self.stream.is_sent()
     }
 
+    // Keeps room for so many bytes of cleanup, beside the rollbacks of the transactions and savepoints that are open.
+    fn reserve(&mut self, bytes: usize) -> Result<(), Error>
+        requires { bytes ≤ 192 }
+        ensures now { self.new ≡ with_spare self.new.stream.spare self.old }
+        ensures spare { self.old.stream.spare ≤ self.new.stream.spare }
+        ensures ok { OnOk result (64 * self.new.depth + bytes ≤ self.new.stream.spare) }
+        ensures err { IfErr result (λ e. e ≡ Error.OutOfMemory) }
+    {
+        let room = match self.transaction_depth().checked_mul(64) {
+            Some(levels) => levels.checked_add(bytes as u64),
+            None => None,
+        };
+        match room {
+            Some(room) => self.stream.reserve_cleanup(room as usize),
+            None => Err(Error::OutOfMemory),
+        }
+    }
+
     // Keeps room for the cleanup of the call, and queues its frames.
     fn queue(&mut self) -> Result<(), Error>
         ensures ok { OnOk result (self.new ≡ queued_call self.new.stream.spare self.old) }
         ensures err { OnErr result (self.new ≡ with_spare self.new.stream.spare self.old) }
         ensures memory { IfErr result (λ e. e ≡ Error.OutOfMemory) }
         ensures spare { self.old.stream.spare ≤ self.new.stream.spare }
-        ensures reserve { OnOk result (128 ≤ self.new.stream.spare) }
+        ensures reserve { OnOk result (64 * self.new.depth + level_of self.new.change 1 + 128 ≤ self.new.stream.spare) }
     {
-        self.stream.reserve_cleanup(RESERVE)?;
+        let bytes = self.level(1) + RESERVE;
+        self.reserve(bytes)?;
         if let Call::Waiting(waiting) = &self.running.call {
             self.stream.queue(&waiting.frames)?;
         }
@@ -119,11 +138,12 @@ impl<L> PgConnection<L> {
     fn make_room(&mut self, front: Front) -> Result<(), Error>
         ensures now { self.new ≡ with_spare self.new.stream.spare self.old }
         ensures spare { self.old.stream.spare ≤ self.new.stream.spare }
-        ensures ok { OnOk result (front.tag ≡ 71 → 57 ≤ self.new.stream.spare) }
+        ensures ok { OnOk result (front.tag ≡ 71 → 64 * self.new.depth + level_of self.new.change self.new.groups + 57 ≤ self.new.stream.spare) }
         ensures err { IfErr result (λ e. e ≡ Error.OutOfMemory) }
     {
         if front.tag == b'G' {
-            self.stream.reserve_cleanup(COPY_FAIL.len())?;
+            let bytes = self.level(self.groups) + COPY_FAIL.len();
+            self.reserve(bytes)?;
         }
         Ok(())
     }
@@ -254,7 +274,7 @@ impl<L: Link> PgConnection<L> {
     fn judge_front(&mut self, front: Front) -> Beat
         requires awaiting { IsAwaiting self.old.ledger self.old.call }
         requires front { IsHeardFront self.old.stream.held front }
-        requires room { front.tag ≡ 71 → 57 ≤ self.old.stream.spare }
+        requires room { front.tag ≡ 71 → 64 * self.old.depth + level_of self.old.change self.old.groups + 57 ≤ self.old.stream.spare }
         requires sent { self.old.stream.unsent ≡ [] }
         ensures beat { TakesBeat (seen_by L.seen self.old) (seen_by L.seen self.new) result }
         ensures goes { result ≢ Beat.Waits }
@@ -378,9 +398,13 @@ impl<L: Link> PgConnection<L> {
         match self.beat() {
             Beat::More | Beat::Waits => Poll::Pending,
             Beat::Yields(item) => Poll::Ready(Turn::Item(item)),
-            Beat::Ends(Ok(answer)) => Poll::Ready(Turn::Ok(answer)),
+            Beat::Ends(Ok(answer)) => {
+                self.settle();
+                Poll::Ready(Turn::Ok(answer))
+            }
             Beat::Ends(Err(e)) => {
                 self.broken = fault_in(&e);
+                self.clean();
                 Poll::Ready(Turn::Err(e))
             }
         }
@@ -388,10 +412,10 @@ impl<L: Link> PgConnection<L> {
 
     // The answer of every call on a connection that the server broke.
     fn tell_fault(&mut self, fault: ServerFault) -> Poll<Turn>
-        ensures now { self.new ≡ idle self.old }
+        ensures now { self.new ≡ ended (idle self.old) }
         ensures answer { beat_of result ≡ Beat.Ends (Err (Error.Protocol (ProtocolFault.Server fault))) }
     {
-        self.abandon();
+        self.forget();
         Poll::Ready(Turn::Err(Error::Protocol(ProtocolFault::Server(fault))))
     }
 

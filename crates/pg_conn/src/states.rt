@@ -2,7 +2,9 @@
 //!
 //! The type of the request is a parameter, which is left at `Request`: so the contract of the drop can say what is left of the connection.
 
+mod begin;
 mod close;
+mod commit;
 mod execute;
 mod execute_many;
 mod fetch;
@@ -12,8 +14,11 @@ mod fetch_one;
 mod fetch_optional;
 mod flush;
 mod ping;
+mod rollback;
 
+pub use begin::Begin;
 pub use close::Close;
+pub use commit::{Commit, commit_request};
 pub use execute::Execute;
 pub use execute_many::ExecuteMany;
 pub use fetch::Fetch;
@@ -23,3 +28,4 @@ pub use fetch_one::FetchOne;
 pub use fetch_optional::FetchOptional;
 pub use flush::Flush;
 pub use ping::Ping;
+pub use rollback::{Rollback, rollback_request};

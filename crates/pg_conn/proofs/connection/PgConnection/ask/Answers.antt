@@ -23,7 +23,7 @@ pub returns-then-is_close-clause-ok : goal.returns-then-is_close-clause-ok
 returns-then-is_close-clause-ok g c =
     let call = ap (λ (s : ConnOf g.row.L.Denot). s.call) c.self.view_is in
     let owed = ap (λ (s : ConnOf g.row.L.Denot). s.ledger.owed) c.self.view_is in
-    asks_closing g.L.Link.seen c.args.self.now c.queue.new.self c.await_sent.new.self c.in-Waiting.waiting (sym call ∙ c.in-Waiting.is) (omega (arith, owed, c.if-self-gt0.false)) (sym c.if-is_close.ensures) c.queue.ensures.spare c.in_ok-queue.ensures.ok c.await_sent.ensures
+    asks_closing g.L.Link.seen c.args.self.now c.queue.new.self c.await_sent.new.self c.in-Waiting.waiting (sym call ∙ c.in-Waiting.is) (omega (arith, owed, c.if-self-gt0.false)) (sym c.if-is_close.ensures) c.queue.ensures.spare c.in_ok-queue.ensures.reserve c.in_ok-queue.ensures.ok c.await_sent.ensures
 
 pub returns-clause-ok : goal.returns-clause-ok
 returns-clause-ok g c =

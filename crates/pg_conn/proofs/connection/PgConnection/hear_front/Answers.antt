@@ -1,4 +1,3 @@
-use Rattle.std.proofs.Common.{refl}
 use Rattle.pg_conn.proofs.TurnLaws.{hears_by}
 use Rattle.pg_conn.proofs.connection.PgConnection.hear_front.Goals as goal
 

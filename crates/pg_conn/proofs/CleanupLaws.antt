@@ -1,0 +1,210 @@
+-- What the end of a call, a drop and a rollback make of the room for cleanups.
+use Rattle.std.proofs.Common.{◌≡◌, ℕ, zero, suc, ◌+◌, ◌-◌, ◌*◌, ◌^◌, ◌<◌, ◌≤◌, Bool, true, false, ◌&&◌, not, nat_eq, leb, ltb, min, cond, List, [], ◌∷◌, ◌++◌, length, codes, decimal, length-append, Ok, Err, refl, sym, ap, ◌∙◌, subst, arith}
+use Rattle.std.proofs.lemmas.Bool.{leb-true, le-leb, ltb-true, lt-ltb}
+use Rattle.std.proofs.lemmas.Fmt.{length-decimal-le}
+use Rattle.pg_stream.specs.Links.{LinkSeen}
+use Rattle.pg_stream.specs.Streams.{Moves, StreamSeen}
+use Rattle.pg_stream.proofs.StreamLemmas.{cleans}
+use Rattle.pg_request.specs.Texts.{savepoint, rollback_text}
+use Rattle.pg_call.specs.declared.calling.Beat.{Beat}
+use Rattle.pg_call.specs.declared.calling.Beat.TheVariants as beats
+use Rattle.pg_call.specs.declared.kind.Change.{Change}
+use Rattle.pg_call.specs.declared.kind.Change.TheVariants as changes
+use Rattle.pg_call.specs.declared.request.Request.{Request}
+use Rattle.pg_call.specs.Requests.{spelled}
+use Rattle.pg_conn.specs.Connections.{ConnSeen, cleaned, counted_anew, depth_behind, ended, fresh_connection, has_room_for, idle, left, may_open, opens, queued_group, rollback, rolled, rolled_back, runs, settled, started_call, with_group}
+use Rattle.pg_conn.specs.Turns.{HasAllRoom, HasRoom, HasRoomBeside, behind, broken_by, cleanup_of, level_of}
+
+both : (x y : Bool) → x && y ≡ true → (x ≡ true) × (y ≡ true)
+both true y e = (refl, e)
+both false y e = absurd cc
+
+pub fits_room : (bytes : List ℕ) (c : ConnSeen) → has_room_for bytes c ≡ true → (length bytes ≤ c.stream.spare) × (c.ledger.owed < 2 ^ 64 - 1)
+fits_room bytes c e =
+    let b = both (leb (length bytes) c.stream.spare) (ltb c.ledger.owed (2 ^ 64 - 1)) e in
+    (leb-true _ _ b.0, ltb-true _ _ b.1)
+
+pub has_room : (bytes : List ℕ) (c : ConnSeen) → length bytes ≤ c.stream.spare → c.ledger.owed < 2 ^ 64 - 1 → has_room_for bytes c ≡ true
+has_room bytes c l k = rw (le-leb _ _ l, lt-ltb _ _ k) refl
+
+pub group_moves : (frame : List ℕ) (c : ConnSeen) → length frame ≤ c.stream.spare → Moves c.stream (with_group frame c).stream frame []
+group_moves frame c fits = (cleans (λ (link : LinkSeen). link) c.stream (with_group frame c).stream frame fits refl).0
+
+-- ---- the frames of rollbacks
+
+savepoint_short : (n : ℕ) → n < 2 ^ 64 → length (codes "ROLLBACK TO SAVEPOINT " ++ savepoint n) ≤ 58
+savepoint_short n l =
+    let d = length-decimal-le 20 n (omega arith) (omega (arith, l)) l in
+    omega (arith, d, length-append (codes "ROLLBACK TO SAVEPOINT ") (savepoint n), length-append (codes "_sqlx_savepoint_") (decimal n))
+
+text_short : (n : ℕ) → n < 2 ^ 64 → length (rollback_text n) ≤ 58
+text_short n l = by (nat_eq n 0)
+  where
+    by : (b : Bool) → length (cond b (codes "ROLLBACK") (codes "ROLLBACK TO SAVEPOINT " ++ savepoint n)) ≤ 58
+    by true = omega arith
+    by false = savepoint_short n l
+
+pub rollback_short : (n : ℕ) → n < 2 ^ 64 → length (spelled (rollback n)) ≤ 64
+rollback_short n l =
+    let t = text_short n l in
+    omega (arith, t, length-append (rollback_text n) (0 ∷ []), length-append (rollback_text n ++ 0 ∷ []) [])
+
+-- ---- what is kept
+
+pub level_none : (g : ℕ) → level_of changes.Stays g ≡ 0
+level_none g = by (nat_eq g 0)
+  where
+    by : (b : Bool) → ◌≡◌ {A = ℕ} (cond b 0 0) 0
+    by true = refl
+    by false = refl
+
+pub opening : (change : Change) (groups depth : ℕ) → may_open change groups depth ≡ true → level_of change groups ≡ 64
+opening change groups depth e = by (nat_eq groups 0) (nat_eq depth 0) (opens change) e
+  where
+    by : (g d o : Bool) → not g && (d && o) ≡ true → ◌≡◌ {A = ℕ} (cond g 0 (cond o 64 0)) 64
+    by false true true e = refl
+    by true d o e = absurd cc
+    by false false o e = absurd cc
+    by false true false e = absurd cc
+
+room_ended : (n : ℕ) (c : ConnSeen) → n + cleanup_of c.call ≤ c.stream.spare → HasRoomBeside n (ended c)
+room_ended n c h = omega (arith, h, level_none c.groups)
+
+-- a rollback is queued out of the room of one level
+room_queued : (n : ℕ) (frame : List ℕ) (c : ConnSeen) → length frame ≤ 64 → n + 64 + cleanup_of c.call ≤ c.stream.spare → n + cleanup_of (queued_group frame c).call ≤ (queued_group frame c).stream.spare
+room_queued n frame c s h = by (has_room_for frame c)
+  where
+    by : (b : Bool) → n + cleanup_of (cond b (with_group frame c) c).call ≤ (cond b (with_group frame c) c).stream.spare
+    by true = omega (arith, s, h)
+    by false = omega (arith, h)
+
+pub room_cleaned : (n : ℕ) (c : ConnSeen) → HasRoomBeside n c → HasRoomBeside n (cleaned c)
+room_cleaned n c h = by (may_open c.change c.groups c.depth) refl
+  where
+    by : (b : Bool) → may_open c.change c.groups c.depth ≡ b → HasRoomBeside n (ended (cond b (queued_group (spelled (rollback 0)) c) c))
+    by true e =
+        let level = opening c.change c.groups c.depth e in
+        room_ended n (queued_group (spelled (rollback 0)) c) (room_queued n (spelled (rollback 0)) c (rollback_short 0 (omega arith)) (omega (arith, h, level)))
+    by false e = room_ended n c (omega (arith, h))
+
+-- the depth stays
+depth_queued : (frame : List ℕ) (c : ConnSeen) → (queued_group frame c).depth ≡ c.depth
+depth_queued frame c = by (has_room_for frame c)
+  where
+    by : (b : Bool) → (cond b (with_group frame c) c).depth ≡ c.depth
+    by true = refl
+    by false = refl
+
+pub depth_cleaned : (c : ConnSeen) → (cleaned c).depth ≡ c.depth
+depth_cleaned c = by (may_open c.change c.groups c.depth)
+  where
+    by : (b : Bool) → (ended (cond b (queued_group (spelled (rollback 0)) c) c)).depth ≡ c.depth
+    by true = depth_queued (spelled (rollback 0)) c
+    by false = refl
+
+pub all_cleaned : (c : ConnSeen) → HasAllRoom c → HasAllRoom (cleaned c)
+all_cleaned c h = subst (λ (d : ℕ). HasRoomBeside (64 * d) (cleaned c)) (sym (depth_cleaned c)) (room_cleaned (64 * c.depth) c h)
+
+-- an Ok of a begin takes the room that was kept for it
+depth_fits : (change : Change) (groups depth : ℕ) → 64 * depth_behind change groups depth ≤ 64 * depth + level_of change groups
+depth_fits changes.Stays groups depth = omega arith
+depth_fits changes.Closes groups depth = omega arith
+depth_fits changes.Opens groups depth = by (nat_eq groups 0)
+  where
+    by : (b : Bool) → 64 * cond b depth (min (depth + 1) (2 ^ 64 - 1)) ≤ 64 * depth + cond b 0 64
+    by true = omega arith
+    by false = omega arith
+
+pub all_settled : (c : ConnSeen) → HasAllRoom c → HasAllRoom (settled c)
+all_settled c h = omega (arith, h, depth_fits c.change c.groups c.depth, level_none c.groups)
+
+room_settled : (c : ConnSeen) → HasRoom c → HasRoom (settled c)
+room_settled c h = omega (arith, h, level_none c.groups)
+
+pub room_behind : (beat : Beat) (c : ConnSeen) → HasRoom c → HasRoom (behind beat c)
+room_behind (beats.Ends (Ok answer)) c h = room_settled c h
+room_behind (beats.Ends (Err e)) c h = room_cleaned 0 (record c { broken = broken_by (beats.Ends (Err e)) }) h
+room_behind beats.More c h = h
+room_behind beats.Waits c h = h
+room_behind (beats.Yields item) c h = h
+
+pub all_behind : (beat : Beat) (c : ConnSeen) → HasAllRoom c → HasAllRoom (behind beat c)
+all_behind (beats.Ends (Ok answer)) c h = all_settled c h
+all_behind (beats.Ends (Err e)) c h = all_cleaned (record c { broken = broken_by (beats.Ends (Err e)) }) h
+all_behind beats.More c h = h
+all_behind beats.Waits c h = h
+all_behind (beats.Yields item) c h = h
+
+-- ---- drops, starts and rollbacks
+
+pub all_left : (c : ConnSeen) → HasAllRoom c → HasAllRoom (left c)
+all_left c h = by (runs c.call)
+  where
+    by : (b : Bool) → HasAllRoom (cond b (idle (cleaned c)) c)
+    by true = let k = all_cleaned c h in omega (arith, k)
+    by false = h
+
+pub all_started : (a : ConnSeen) (request : Request) → HasAllRoom a → HasAllRoom (started_call request a)
+all_started a request h = let k = all_left a h in omega (arith, k)
+
+pub depth_left : (c : ConnSeen) → (left c).depth ≡ c.depth
+depth_left c = by (runs c.call)
+  where
+    by : (b : Bool) → (cond b (idle (cleaned c)) c).depth ≡ c.depth
+    by true = depth_cleaned c
+    by false = refl
+
+change_queued : (frame : List ℕ) (c : ConnSeen) → (queued_group frame c).change ≡ c.change
+change_queued frame c = by (has_room_for frame c)
+  where
+    by : (b : Bool) → (cond b (with_group frame c) c).change ≡ c.change
+    by true = refl
+    by false = refl
+
+all_of : (n : ℕ) (c : ConnSeen) → c.depth ≡ n → c.change ≡ changes.Stays → 64 * n + cleanup_of c.call ≤ c.stream.spare → HasAllRoom c
+all_of n c e k h =
+    let none : level_of c.change c.groups ≡ 0 = ap (λ (x : Change). level_of x c.groups) k ∙ level_none c.groups in
+    omega (arith, h, e, none)
+
+some : (n : ℕ) → nat_eq n 0 ≡ false → 0 < n
+some zero e = absurd cc
+some (suc n) e = omega arith
+
+pub all_rolled : (c : ConnSeen) → c.depth < 2 ^ 64 → c.change ≡ changes.Stays → HasAllRoom c → HasAllRoom (rolled c)
+all_rolled c l k h = by (nat_eq c.depth 0) refl
+  where
+    by : (b : Bool) → nat_eq c.depth 0 ≡ b → HasAllRoom (cond b c (queued_group (spelled (rollback (c.depth - 1))) (record c { depth = c.depth - 1 })))
+    by true e = h
+    by false e =
+        let d : ConnSeen = record c { depth = c.depth - 1 } in
+        let f : List ℕ = spelled (rollback (c.depth - 1)) in
+        let positive = some c.depth e in
+        let kept = room_queued (64 * (c.depth - 1)) f d (rollback_short (c.depth - 1) (omega (arith, l))) (omega (arith, h, positive)) in
+        all_of (c.depth - 1) (queued_group f d) (depth_queued f d) (change_queued f d ∙ k) kept
+
+pub all_rolled_back : (a : ConnSeen) → a.depth < 2 ^ 64 → HasAllRoom a → HasAllRoom (rolled_back a)
+all_rolled_back a l h =
+    let k = all_left a h in
+    let d : ConnSeen = ended (counted_anew (left a)) in
+    all_rolled d (rw (depth_left a) l) refl (omega (arith, k, level_none 0))
+
+-- ---- a begin that is dropped
+
+pub rolls_dropped : (c : ConnSeen) → runs c.call ≡ true → may_open c.change c.groups c.depth ≡ true → HasRoom c → c.ledger.owed < 2 ^ 64 - 1 → left c ≡ idle (ended (with_group (spelled (rollback 0)) c))
+rolls_dropped c r m h l =
+    let short = rollback_short 0 (omega arith) in
+    let level = opening c.change c.groups c.depth m in
+    let room = has_room (spelled (rollback 0)) c (omega (arith, short, level, h)) l in
+    rw (r, m, room) refl
+
+-- and of another call nothing is queued
+pub stays_dropped : (c : ConnSeen) → may_open c.change c.groups c.depth ≡ false → ((left c).ledger ≡ c.ledger) × ((left c).stream ≡ c.stream)
+stays_dropped c m = by (runs c.call)
+  where
+    by : (b : Bool) → ((cond b (idle (cleaned c)) c).ledger ≡ c.ledger) × ((cond b (idle (cleaned c)) c).stream ≡ c.stream)
+    by true = rw m (refl, refl)
+    by false = (refl, refl)
+
+-- behind start-up nothing is open
+pub all_fresh : (stream : StreamSeen) (sent read : ℕ) → HasAllRoom (fresh_connection stream sent read)
+all_fresh stream sent read = omega arith
