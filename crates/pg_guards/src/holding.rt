@@ -1,0 +1,68 @@
+ghost use Rattle.std.specs.Prelude.{◌≡◌, false, None};
+ghost use Rattle.pg_call.specs.Answers.{unit_turn};
+ghost use Rattle.pg_conn.specs.Connections.{begun_by, is_over, left_by, rolled_back, seen_by};
+ghost use Rattle.pg_conn.specs.States.{IsCallingPlainly, PollFitsPlainly, turn_of};
+ghost use Rattle.pg_conn.specs.Turns.{PollsCall};
+
+use crate::PgExecutor;
+use pg_call::{Kind, Request};
+use pg_conn::PgConnection;
+use pg_stream::Link;
+use pg_wire::{Error, Poll};
+
+// One poll of a call without an answer of its own.
+fn poll_unit<L: Link>(
+    conn: &mut PgConnection<L>,
+    request: &mut Option<Request>,
+) -> Poll<Result<(), Error>>
+    requires over { is_over request.old conn.old.call ≡ false }
+    requires calling { IsCallingPlainly (begun_by request.old conn.old) }
+    ensures asked { request.new ≡ None }
+    ensures polls { PollsCall (seen_by L.seen (begun_by request.old conn.old)) (seen_by L.seen conn.new) (turn_of unit_turn result) }
+    ensures calling { PollFitsPlainly conn.new (turn_of unit_turn result) }
+{
+    match conn.poll_with(request) {
+        Poll::Pending => Poll::Pending,
+        Poll::Ready(turn) => Poll::Ready(turn.into_unit(Kind::Flush)),
+    }
+}
+
+/// One poll of a call without an answer of its own, on the connection that is held. It begins the call where this is its first.
+pub(crate) fn poll_held<C: PgExecutor>(
+    holder: &mut C,
+    request: &mut Option<Request>,
+) -> Poll<Result<(), Error>>
+    requires over { is_over request.old (C.conn holder.old).call ≡ false }
+    requires calling { IsCallingPlainly (begun_by request.old (C.conn holder.old)) }
+    ensures holder { holder.new ≡ C.with_conn holder.old (C.conn holder.new) }
+    ensures asked { request.new ≡ None }
+    ensures polls { PollsCall (seen_by C.L.seen (begun_by request.old (C.conn holder.old))) (seen_by C.L.seen (C.conn holder.new)) (turn_of unit_turn result) }
+    ensures calling { PollFitsPlainly (C.conn holder.new) (turn_of unit_turn result) }
+{
+    poll_unit(holder.conn_mut(), request)
+}
+
+// Rolls back without waiting on the connection that is held.
+fn start_rollback<C: PgExecutor>(holder: &mut C)
+    ensures { holder.new ≡ C.with_conn holder.old (rolled_back (C.conn holder.old)) }
+{
+    holder.conn_mut().start_rollback();
+}
+
+/// The same, of what is owned.
+pub(crate) fn roll_back<C: PgExecutor>(holder: C) -> C
+    ensures { result ≡ C.with_conn holder (rolled_back (C.conn holder)) }
+{
+    let mut holder = holder;
+    start_rollback(&mut holder);
+    holder
+}
+
+/// What the drop of a call's state does, on the connection that is held.
+pub(crate) fn leave<C: PgExecutor>(holder: C, request: Option<Request>) -> C
+    ensures { result ≡ C.with_conn holder (left_by request (C.conn holder)) }
+{
+    let mut holder = holder;
+    holder.conn_mut().leave(request);
+    holder
+}
