@@ -1,5 +1,6 @@
 -- Why a step ended.
 use Rattle.std.proofs.Common.{◌≡◌, ℕ, ◌+◌, ◌^◌, ◌<◌, Bool, true, false, cond, inl, inr, List, [], ◌∷◌, ◌++◌, length, map, refl, sym, ap, ◌∙◌, subst, arith, Option, Some, None, Err}
+use Rattle.pg_wire.specs.declared.status.TransactionStatus.{TransactionStatus}
 use Rattle.std.specs.List.{count_by, AllByRecursion}
 use Rattle.std.proofs.lemmas.List.{length-append, map-append, nil_from_length}
 use Rattle.pg_wire.specs.declared.error.Error.{Error}
@@ -11,7 +12,7 @@ use Rattle.pg_wire.specs.declared.error.ServerFault.TheVariants as faults
 use Rattle.pg_wire.specs.Frame.{Frame}
 use Rattle.pg_wire.specs.Parts.{heard, is_ready}
 use Rattle.pg_wire.specs.Frontend.{FrontendMessage}
-use Rattle.pg_wire.specs.Backend.{BackendMessage, backend_frame, HasBackendFrame, CopyInResponse, CopyOutResponse}
+use Rattle.pg_wire.specs.Backend.{BackendMessage, backend_frame, HasBackendFrame, CopyInResponse, CopyOutResponse, ReadyForQuery}
 use Rattle.pg_wire.specs.Refusals.{BeginsCopyResponse}
 use Rattle.pg_stream.specs.Streams.{StreamSeen, HeardCause}
 use Rattle.pg_call.specs.declared.request.Request.{Request}
@@ -26,22 +27,22 @@ use Rattle.pg_call.specs.Replies.{may_copy, begins_copy}
 use Rattle.pg_call.specs.Drains.{after_readys}
 use Rattle.pg_call.specs.Calls.{Leaves, CallEnds, EndsInCopy, IsFrontFault}
 use Rattle.pg_call.proofs.DrainLaws.{count-push, after_from}
-use Rattle.pg_conn.specs.Connections.{ConnSeen, started_call}
+use Rattle.pg_conn.specs.Connections.{ConnSeen}
 use Rattle.pg_conn.specs.Turns.{FrontFails, IsMissed}
 use Rattle.pg_report.specs.declared.outcome.Item.{Item}
 use Rattle.pg_report.specs.declared.outcome.End.{End}
 use Rattle.pg_report.specs.declared.outcome.End.TheVariants as ends
 use Rattle.pg_script.specs.declared.step.Step.{Step}
 use Rattle.pg_play.specs.Shown.{request_of, is_row, item_of}
-use Rattle.pg_play.specs.Calls.{Waited, EndsOn, EndsStarved, limits_of, outcome_of}
+use Rattle.pg_play.specs.Calls.{Waited, EndsOn, EndsStarved, limits_of, outcome_of, begun_call}
 use Rattle.pg_play.specs.Places.{Place, readies, refuses_copy}
-use Rattle.pg_play.specs.Causes.{IsFront, IsUnlawful, ShowsFault, IsAskedToCopy, HasNoRow, Causes, IsStarved, AnsweredPending, HasCause}
+use Rattle.pg_play.specs.Causes.{IsFront, IsUnlawful, ShowsFault, IsAskedToCopy, HasNoRow, Causes, IsStarved, AnsweredPending, HasCause, BeginsNone}
 use Rattle.pg_play.specs.Plays.{StandsAt}
 use Rattle.pg_play.proofs.PartLaws.{no_error}
-use Rattle.pg_play.proofs.StepLaws.{Summary, QueuedOwn}
+use Rattle.pg_play.proofs.StepLaws.{Summary, QueuedOwn, begins_one}
 use Rattle.pg_play.proofs.PlaceLaws.{next_place, ended_next}
 use Rattle.pg_play.proofs.ToldLaws.{main_after, queued_one, fine_own, fine_carries}
-use Rattle.pg_play.proofs.ShownLaws.{items_told, not_found}
+use Rattle.pg_play.proofs.ShownLaws.{items_told, not_found, begun_failed}
 
 -- ---- what holds at the next place
 
@@ -66,27 +67,27 @@ header_now : (a b : StreamSeen) (fault : ServerFault) → HeardCause a b (errors
 header_now a b (faults.Malformed tag) h = h
 header_now a b _ h = h
 
-stream_cause : (start : StreamSeen) (at : Place) (a b : ConnSeen) (step : Step) (said : List FrontendMessage) (fs : List Frame) (items : List CallItem) (copied : Bool) (end : End) (e : Error) → StandsAt start at a → (s : Summary a.ledger (request_of step.call) said (heard fs) items b.ledger copied)
-    → HeardCause (started_call (request_of step.call) a).stream b.stream e → IsMissed b.ledger e → Causes at step s.own (heard fs) (next_place at b said s.own fs end) e
+stream_cause : (start : StreamSeen) (at : Place) (a b : ConnSeen) (step : Step) (said : List FrontendMessage) (fs : List Frame) (items : List CallItem) (copied : Bool) (end : End) (e : Error) → StandsAt start at a → (s : Summary a.ledger (request_of at.depth step.call) said (heard fs) items b.ledger copied)
+    → HeardCause (begun_call (request_of at.depth step.call) a).stream b.stream e → IsMissed b.ledger e → Causes at step s.own (heard fs) (next_place at b said s.own fs end) e
 stream_cause start at a b step said fs items copied end errors.OutOfMemory st s h m = tt
 stream_cause start at a b step said fs items copied end (errors.Io io.Fault) st s h m = rw (← st.seen) h
-stream_cause start at a b step said fs items copied end (errors.Io io.End) st s h m = (rw (← st.seen) h.0, h.1, owes_next start at a (request_of step.call) said fs items b.ledger copied st s m)
-stream_cause start at a b step said fs items copied end (errors.Protocol (protocol.Server fault)) st s h m = inr (shows_header at b said s.own fs (heard fs) end fault (header_now (started_call (request_of step.call) a).stream b.stream fault h))
+stream_cause start at a b step said fs items copied end (errors.Io io.End) st s h m = (rw (← st.seen) h.0, h.1, owes_next start at a (request_of at.depth step.call) said fs items b.ledger copied st s m)
+stream_cause start at a b step said fs items copied end (errors.Protocol (protocol.Server fault)) st s h m = inr (shows_header at b said s.own fs (heard fs) end fault (header_now (begun_call (request_of at.depth step.call) a).stream b.stream fault h))
 stream_cause start at a b step said fs items copied end _ st s h m = absurd h
 
 -- ---- the frame in front
 
-front_cause : (start : StreamSeen) (at : Place) (a b : ConnSeen) (step : Step) (said : List FrontendMessage) (fs : List Frame) (items items' : List CallItem) (copied : Bool) (end : End) (e : Error) → StandsAt start at a → (s : Summary a.ledger (request_of step.call) said (heard fs) items b.ledger copied)
-    → (l : Leaves a.ledger (request_of step.call) said (heard fs) items' b.ledger false) → FrontFails b a.ledger (request_of step.call) l.own (heard fs) e → Causes at step s.own (heard fs) (next_place at b said s.own fs end) e
+front_cause : (start : StreamSeen) (at : Place) (a b : ConnSeen) (step : Step) (said : List FrontendMessage) (fs : List Frame) (items items' : List CallItem) (copied : Bool) (end : End) (e : Error) → StandsAt start at a → (s : Summary a.ledger (request_of at.depth step.call) said (heard fs) items b.ledger copied)
+    → (l : Leaves a.ledger (request_of at.depth step.call) said (heard fs) items' b.ledger false) → FrontFails b a.ledger (request_of at.depth step.call) l.own (heard fs) e → Causes at step s.own (heard fs) (next_place at b said s.own fs end) e
 front_cause start at a b step said fs items items' copied end e st s l (front, rest, whole, answers, held, why) = by e why
   where
     is_front : IsFront (next_place at b said s.own fs end) front
     is_front = record { rest = rest; whole = whole; answers = answers; held = held }
 
-    unlawful : (tag : ℕ) → IsFrontFault a.ledger (request_of step.call) l.own (heard fs) front (errors.Protocol (protocol.Server (faults.Unlawful tag))) → IsUnlawful at s.own (heard fs) (next_place at b said s.own fs end) tag
+    unlawful : (tag : ℕ) → IsFrontFault a.ledger (request_of at.depth step.call) l.own (heard fs) front (errors.Protocol (protocol.Server (faults.Unlawful tag))) → IsUnlawful at s.own (heard fs) (next_place at b said s.own fs end) tag
     unlawful tag (t, message, own, count, (group, is, none)) =
         let one : length l.own ≡ 1 = ap (λ (g : List Group). length g) (own ∙ is) in
-        let q = whole_own a.ledger (request_of step.call) said (heard fs) items' items b.ledger copied false s l own one in
+        let q = whole_own a.ledger (request_of at.depth step.call) said (heard fs) items' items b.ledger copied false s l own one in
         record {
           front = front;
           is_front = is_front;
@@ -95,10 +96,10 @@ front_cause start at a b step said fs items items' copied end e st s l (front, r
           group = group;
           last = q.own_is ∙ is;
           in_own = omega (arith, st.ledger, count, ended_next at fs);
-          none = subst (λ (x : List Frame). BeginsCopyResponse group (x ++ front ∷ []) → ⊥) (sym (main_after start at a (request_of step.call) s.own (heard fs) st q)) none;
+          none = subst (λ (x : List Frame). BeginsCopyResponse group (x ++ front ∷ []) → ⊥) (sym (main_after start at a (request_of at.depth step.call) s.own (heard fs) st q)) none;
         }
 
-    by : (e : Error) → IsFrontFault a.ledger (request_of step.call) l.own (heard fs) front e → Causes at step s.own (heard fs) (next_place at b said s.own fs end) e
+    by : (e : Error) → IsFrontFault a.ledger (request_of at.depth step.call) l.own (heard fs) front e → Causes at step s.own (heard fs) (next_place at b said s.own fs end) e
     by errors.OutOfMemory h = tt
     by (errors.Protocol (protocol.Server (faults.Malformed tag))) h = inr (inr (front, is_front, h.0, h.1))
     by (errors.Protocol (protocol.Server (faults.Unlawful tag))) h = inr (unlawful tag h)
@@ -119,10 +120,10 @@ copies_begin Further m e = e
 copies_begin (Rows columns) m e = absurd cc
 copies_begin Synced m e = absurd cc
 
-copy_cause : (start : StreamSeen) (at : Place) (a b : ConnSeen) (step : Step) (said : List FrontendMessage) (fs : List Frame) (items items' : List CallItem) (copied copied' : Bool) (tag : ℕ) → StandsAt start at a → (s : Summary a.ledger (request_of step.call) said (heard fs) items b.ledger copied)
-    → (l : Leaves a.ledger (request_of step.call) said (heard fs) items' b.ledger copied') → l.own ≡ groups_of (request_of step.call) → length l.own ≡ 1 → EndsInCopy a.ledger (request_of step.call) (heard fs) tag → IsAskedToCopy at step s.own (heard fs) tag
+copy_cause : (start : StreamSeen) (at : Place) (a b : ConnSeen) (step : Step) (said : List FrontendMessage) (fs : List Frame) (items items' : List CallItem) (copied copied' : Bool) (tag : ℕ) → StandsAt start at a → (s : Summary a.ledger (request_of at.depth step.call) said (heard fs) items b.ledger copied)
+    → (l : Leaves a.ledger (request_of at.depth step.call) said (heard fs) items' b.ledger copied') → l.own ≡ groups_of (request_of at.depth step.call) → length l.own ≡ 1 → EndsInCopy a.ledger (request_of at.depth step.call) (heard fs) tag → IsAskedToCopy at step s.own (heard fs) tag
 copy_cause start at a b step said fs items items' copied copied' tag st s l e n c =
-    let q = whole_own a.ledger (request_of step.call) said (heard fs) items' items b.ledger copied copied' s l e n in
+    let q = whole_own a.ledger (request_of at.depth step.call) said (heard fs) items' items b.ledger copied copied' s l e n in
     let unready = begins_none c.last (copies_begin c.part c.last c.copies) in
     let same : count_by is_ready (heard fs) ≡ count_by is_ready c.front = ap (λ (x : List Frame). count_by is_ready x) c.hs_are ∙ count-push is_ready c.front (backend_frame c.last) ∙ ap (λ (t : Bool). count_by is_ready c.front + cond t 1 0) unready ∙ omega arith in
     let split : after_readys a.ledger.owed (heard fs) ≡ after_readys a.ledger.owed c.front ++ backend_frame c.last ∷ [] =
@@ -137,12 +138,12 @@ copy_cause start at a b step said fs items items' copied copied' tag st s l e n 
       before = c.own;
       part = c.part;
       says = (
-        main_after start at a (request_of step.call) s.own (heard fs) st q ∙ split ∙ ap (λ (x : List Frame). x ++ backend_frame c.last ∷ []) c.own_is ∙ sym (map-append backend_frame c.own (c.last ∷ [])),
+        main_after start at a (request_of at.depth step.call) s.own (heard fs) st q ∙ split ∙ ap (λ (x : List Frame). x ++ backend_frame c.last ∷ []) c.own_is ∙ sym (map-append backend_frame c.own (c.last ∷ [])),
         both c.own c.own_have_frames,
       );
       so_far = c.so_far;
       copies = c.copies;
-      lawful = λ group e. subst (BeginsCopyResponse group) (sym (main_after start at a (request_of step.call) s.own (heard fs) st q)) (c.lawful group (sym q.own_is ∙ e));
+      lawful = λ group e. subst (BeginsCopyResponse group) (sym (main_after start at a (request_of at.depth step.call) s.own (heard fs) st q)) (c.lawful group (sym q.own_is ∙ e));
     }
   where
     both : (own : List BackendMessage) → AllByRecursion HasBackendFrame own → AllByRecursion HasBackendFrame (own ++ c.last ∷ [])
@@ -154,48 +155,67 @@ no_rows [] e = tt
 no_rows (call_items.Row values ∷ xs) e = absurd cc
 no_rows (call_items.Count n ∷ xs) e = (refl, no_rows xs e)
 
-row_cause : (start : StreamSeen) (at : Place) (a b : ConnSeen) (step : Step) (said : List FrontendMessage) (fs : List Frame) (items items' : List CallItem) (copied : Bool) (end : End) → StandsAt start at a → (s : Summary a.ledger (request_of step.call) said (heard fs) items' b.ledger copied)
-    → CallEnds a.ledger (request_of step.call) said (heard fs) items b.ledger (Err errors.RowNotFound) → HasNoRow at step s.own (heard fs) (next_place at b said s.own fs end)
+row_cause : (start : StreamSeen) (at : Place) (a b : ConnSeen) (step : Step) (said : List FrontendMessage) (fs : List Frame) (items items' : List CallItem) (copied : Bool) (end : End) → StandsAt start at a → (s : Summary a.ledger (request_of at.depth step.call) said (heard fs) items' b.ledger copied)
+    → CallEnds a.ledger (request_of at.depth step.call) said (heard fs) items b.ledger (Err errors.RowNotFound) → HasNoRow at step s.own (heard fs) (next_place at b said s.own fs end)
 row_cause start at a b step said fs items items' copied end st s h =
     let f = h.0 in
-    let found = not_found step.call (items_of f.reply) h.1 in
-    let carried = fine_carries start at a step.call said (heard fs) items items' b.ledger copied st s f in
+    let found = not_found at.depth step.call (items_of f.reply) f.status h.1 in
+    let carried = fine_carries start at a at.depth step.call said (heard fs) items items' b.ledger copied st s f in
     record {
       wants = found.0;
       no_error = no_error (heard fs) f.well;
       answered = omega (arith, st.ledger, s.counted, f.owes, ended_next at fs, length-append at.groups s.own);
-      whole = fine_own a.ledger (request_of step.call) said (heard fs) items items' b.ledger copied s f;
+      whole = fine_own a.ledger (request_of at.depth step.call) said (heard fs) items items' b.ledger copied s f;
       response = carried.0;
       says = carried.1;
       no_row = subst (AllByRecursion (λ item. is_row item ≡ false)) (sym (items_told carried.0 ∙ ap (map item_of) carried.2)) (no_rows (items_of f.reply) found.1);
     }
 
+begin_cause : (start : StreamSeen) (at : Place) (a b : ConnSeen) (step : Step) (said : List FrontendMessage) (fs : List Frame) (items items' : List CallItem) (copied : Bool) (end : End) (status : TransactionStatus) → StandsAt start at a → (s : Summary a.ledger (request_of at.depth step.call) said (heard fs) items' b.ledger copied)
+    → CallEnds a.ledger (request_of at.depth step.call) said (heard fs) items b.ledger (Err (errors.BeginFailed status)) → BeginsNone at step s.own (heard fs) status
+begin_cause start at a b step said fs items items' copied end status st s h =
+    let f = h.0 in
+    let found = begun_failed at.depth step.call (items_of f.reply) f.status status h.1 in
+    let whole = fine_own a.ledger (request_of at.depth step.call) said (heard fs) items items' b.ledger copied s f in
+    elim f.last [
+      | inl none ↦ absurd (begins_one at.depth step.call found.0 none)
+      | inr last ↦ record {
+        begins_it = found.0;
+        no_error = no_error (heard fs) f.well;
+        whole = whole;
+        front = last.0;
+        slice_is = last.1 ∙ ap (λ (x : TransactionStatus). last.0 ++ backend_frame (ReadyForQuery x) ∷ []) found.1;
+        other = found.2;
+      }
+    ]
+
 none_own : (start : Ledger) (r : Request) (said : List FrontendMessage) (hs : List Frame) (items : List CallItem) (ledger : Ledger) (copied : Bool) (s : Summary start r said hs items ledger copied) → hs ≡ [] → ledger ≡ start → s.own ≡ []
 none_own start r said hs items ledger copied s e l = nil_from_length s.own (omega (arith, s.counted, ap (λ (x : List Frame). count_by is_ready x) e, ap (λ (x : Ledger). x.owed) l))
 
-call_cause : (start : StreamSeen) (at : Place) (a b : ConnSeen) (step : Step) (said : List FrontendMessage) (fs : List Frame) (items items' : List CallItem) (copied : Bool) (end : End) (e : Error) → StandsAt start at a → (s : Summary a.ledger (request_of step.call) said (heard fs) items' b.ledger copied)
-    → CallEnds a.ledger (request_of step.call) said (heard fs) items b.ledger (Err e) → Causes at step s.own (heard fs) (next_place at b said s.own fs end) e
+call_cause : (start : StreamSeen) (at : Place) (a b : ConnSeen) (step : Step) (said : List FrontendMessage) (fs : List Frame) (items items' : List CallItem) (copied : Bool) (end : End) (e : Error) → StandsAt start at a → (s : Summary a.ledger (request_of at.depth step.call) said (heard fs) items' b.ledger copied)
+    → CallEnds a.ledger (request_of at.depth step.call) said (heard fs) items b.ledger (Err e) → Causes at step s.own (heard fs) (next_place at b said s.own fs end) e
 call_cause start at a b step said fs items items' copied end errors.RowNotFound st s h = row_cause start at a b step said fs items items' copied end st s h
+call_cause start at a b step said fs items items' copied end (errors.BeginFailed status) st s h = begin_cause start at a b step said fs items items' copied end status st s h
 call_cause start at a b step said fs items items' copied end (errors.Database details) st s h = (h.1.0, h.1.1, h.1.2)
 call_cause start at a b step said fs items items' copied end (errors.Protocol (protocol.Reply tag)) st s h = copy_cause start at a b step said fs items' items copied _ tag st s h.0.0 h.0.1 h.0.2 h.2
-call_cause start at a b step said fs items items' copied end (errors.Protocol (protocol.Caller fault)) st s h = (none_own a.ledger (request_of step.call) said (heard fs) items' b.ledger copied s h.1 h.3, h.1, h.4)
+call_cause start at a b step said fs items items' copied end (errors.Protocol (protocol.Caller fault)) st s h = (none_own a.ledger (request_of at.depth step.call) said (heard fs) items' b.ledger copied s h.1 h.3, h.1, h.4)
 call_cause start at a b step said fs items items' copied end (errors.Protocol _) st s h = absurd h
 call_cause start at a b step said fs items items' copied end _ st s h = absurd h
 
 -- ---- a call that was dropped
 
 -- an outcome counts the waits and the moves of the stream
-pub pending_in : (a b : ConnSeen) (r : Request) (polls : ℕ) (shown : List Item) (end : End) → polls < 2 ^ 32 → Waited polls (started_call r a).stream b.stream → AnsweredPending (outcome_of b shown end) polls
+pub pending_in : (a b : ConnSeen) (r : Request) (polls : ℕ) (shown : List Item) (end : End) → polls < 2 ^ 32 → Waited polls (begun_call r a).stream b.stream → AnsweredPending (outcome_of b shown end) polls
 pending_in a b r polls shown end p w = (w.spent, omega (arith, p, w.all, w.waits), omega (arith, p, w.all, w.moves))
 
-starved_at : (start : StreamSeen) (at : Place) (a b : ConnSeen) (step : Step) (said : List FrontendMessage) (fs : List Frame) (items : List CallItem) (copied : Bool) (shown : List Item) (end : End) → StandsAt start at a → (s : Summary a.ledger (request_of step.call) said (heard fs) items b.ledger copied)
-    → EndsStarved (started_call (request_of step.call) a) b → IsStarved at (outcome_of b shown end) (next_place at b said s.own fs end)
+starved_at : (start : StreamSeen) (at : Place) (a b : ConnSeen) (step : Step) (said : List FrontendMessage) (fs : List Frame) (items : List CallItem) (copied : Bool) (shown : List Item) (end : End) → StandsAt start at a → (s : Summary a.ledger (request_of at.depth step.call) said (heard fs) items b.ledger copied)
+    → EndsStarved (begun_call (request_of at.depth step.call) a) b → IsStarved at (outcome_of b shown end) (next_place at b said s.own fs end)
 starved_at start at a b step said fs items copied shown end st s (inl w) = inl (rw (← st.seen) w)
 starved_at start at a b step said fs items copied shown end st s (inr (inl m)) = inr (inl (omega (arith, m)))
-starved_at start at a b step said fs items copied shown end st s (inr (inr x)) = inr (inr (x.0, x.1, owes_next start at a (request_of step.call) said fs items b.ledger copied st s x.2))
+starved_at start at a b step said fs items copied shown end st s (inr (inr x)) = inr (inr (x.0, x.1, owes_next start at a (request_of at.depth step.call) said fs items b.ledger copied st s x.2))
 
 pub cause_step : (o : Option ServerFault) (start : StreamSeen) (at : Place) (a b : ConnSeen) (step : Step) (said : List FrontendMessage) (fs : List Frame) (shown : List Item) (end : End) (items : List CallItem) → StandsAt start at a → at.broken ≡ o → step.polls < 2 ^ 32
-    → EndsOn o (limits_of step) (started_call (request_of step.call) a) b (request_of step.call) said (heard fs) shown end → (s : Summary a.ledger (request_of step.call) said (heard fs) items b.ledger (refuses_copy end))
+    → EndsOn o (limits_of step) (begun_call (request_of at.depth step.call) a) b (request_of at.depth step.call) said (heard fs) shown end → (s : Summary a.ledger (request_of at.depth step.call) said (heard fs) items b.ledger (refuses_copy end))
     → HasCause at step (outcome_of b shown end) s.own (heard fs) (next_place at b said s.own fs end) end
 cause_step None start at a b step said fs shown (ends.Ok told) items st w p h s = tt
 cause_step None start at a b step said fs shown (ends.Err e) items st w p (inl (xs, k, l, inl h)) s = call_cause start at a b step said fs xs items (refuses_copy (ends.Err e)) (ends.Err e) e st s h
@@ -203,12 +223,12 @@ cause_step None start at a b step said fs shown (ends.Err e) items st w p (inl (
 cause_step None start at a b step said fs shown (ends.Err e) items st w p (inl (xs, k, l, inr (left, well, inr front))) s = front_cause start at a b step said fs items xs (refuses_copy (ends.Err e)) (ends.Err e) e st s left front
 cause_step None start at a b step said fs shown (ends.Err e) items st w p (inr (xs, k, z, f)) s = subst (λ (x : Error). Causes at step s.own (heard fs) (next_place at b said s.own fs (ends.Err e)) x) (sym z) tt
 cause_step None start at a b step said fs shown ends.Dropped items st w p h s = elim h.4 [
-  | inl waited ↦ inr (inl (pending_in a b (request_of step.call) step.polls shown ends.Dropped p waited.0, starved_at start at a b step said fs items false shown ends.Dropped st s waited.1))
+  | inl waited ↦ inr (inl (pending_in a b (request_of at.depth step.call) step.polls shown ends.Dropped p waited.0, starved_at start at a b step said fs items false shown ends.Dropped st s waited.1))
   | inr most ↦ inr (inr most)
 ]
 cause_step (Some fault) start at a b step said fs shown end items st w p h s = by end h.0 s
   where
-    by : (end : End) → end ≡ ends.Err (errors.Protocol (protocol.Server fault)) → (s : Summary a.ledger (request_of step.call) said (heard fs) items b.ledger (refuses_copy end)) → HasCause at step (outcome_of b shown end) s.own (heard fs) (next_place at b said s.own fs end) end
+    by : (end : End) → end ≡ ends.Err (errors.Protocol (protocol.Server fault)) → (s : Summary a.ledger (request_of at.depth step.call) said (heard fs) items b.ledger (refuses_copy end)) → HasCause at step (outcome_of b shown end) s.own (heard fs) (next_place at b said s.own fs end) end
     by (ends.Ok told) e s = absurd cc
     by ends.Dropped e s = absurd cc
     by (ends.Err x) e s = kept x (same x e) s
@@ -216,5 +236,5 @@ cause_step (Some fault) start at a b step said fs shown end items st w p h s = b
         same : (x : Error) → ends.Err x ≡ ends.Err (errors.Protocol (protocol.Server fault)) → x ≡ errors.Protocol (protocol.Server fault)
         same x e = cc
 
-        kept : (x : Error) → x ≡ errors.Protocol (protocol.Server fault) → (s : Summary a.ledger (request_of step.call) said (heard fs) items b.ledger (refuses_copy (ends.Err x))) → Causes at step s.own (heard fs) (next_place at b said s.own fs (ends.Err x)) x
+        kept : (x : Error) → x ≡ errors.Protocol (protocol.Server fault) → (s : Summary a.ledger (request_of at.depth step.call) said (heard fs) items b.ledger (refuses_copy (ends.Err x))) → Causes at step s.own (heard fs) (next_place at b said s.own fs (ends.Err x)) x
         kept x e s = subst (λ (z : Error). Causes at step s.own (heard fs) (next_place at b said s.own fs (ends.Err x)) z) (sym e) (inl w)

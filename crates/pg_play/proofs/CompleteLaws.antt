@@ -1,5 +1,6 @@
 -- Where neither the link nor the server failed, no step ends by a failure of theirs.
 use Rattle.std.proofs.Common.{◌≡◌, ℕ, true, false, inl, inr, List, [], ◌∷◌, ◌++◌, refl, sym, ap, ◌∙◌, subst, append_assoc, append-nil, Some, None, arith}
+use Rattle.pg_play.specs.Settling.{Settles}
 use Rattle.std.specs.List.{AllByRecursion}
 use Rattle.pg_wire.specs.declared.error.Error.{Error}
 use Rattle.pg_wire.specs.declared.error.Error.TheVariants as errors
@@ -18,7 +19,7 @@ use Rattle.pg_wire.proofs.CutLaws.{cut_unique, cut_after_taken}
 use Rattle.pg_wire.proofs.HeaderLaws.{none_front}
 use Rattle.pg_wire.proofs.RunLaws.{prefix_trans}
 use Rattle.pg_stream.specs.Links.{LinkSeen, NoneFalls, Rose}
-use Rattle.pg_stream.specs.Streams.{HeaderFault}
+use Rattle.pg_stream.specs.Streams.{HeaderFault, StreamSeen}
 use Rattle.pg_stream.specs.Asynchronous.{IsSaid}
 use Rattle.pg_stream.proofs.Known.{NoneFalls-refl, NoneFalls-then}
 use Rattle.pg_call.specs.Requests.{Group, said_in}
@@ -30,7 +31,7 @@ use Rattle.pg_script.specs.declared.step.Step.{Step}
 use Rattle.pg_play.specs.Places.{Place}
 use Rattle.pg_play.specs.Causes.{IsAskedToCopy, Causes, IsDropped, HasCause}
 use Rattle.pg_play.specs.Complete.{IsFaultless, IsFairError, WasCutShort, IsFairEnd, EndFairly, WhereFaultless}
-use Rattle.pg_play.specs.Plays.{Plays_step, Plays_from, AsksForNoCopy}
+use Rattle.pg_play.specs.Plays.{Plays_from, AsksForNoCopy, Plays_call}
 use Rattle.pg_play.proofs.CauseLaws.{copies_begin}
 use Rattle.pg_play.proofs.RepliesLaws.{starts_copy, StartsNoCopy, all_prefix, replies_start_no_copy, replies_are_said}
 use Rattle.pg_play.proofs.LinkLaws.{Refutes, breaks_first, breaks_last, front_read, front_heard, taken_heard, hears_groups, unlawful_refuted}
@@ -54,7 +55,7 @@ heard_on : (at : Place) (steps : List Step) (outs : List Outcome) (last : Place)
 heard_on at [] [] last run = ([], append-nil (heard at.frames) ∙ sym (ap (λ (p : Place). heard p.frames) run))
 heard_on at [] (o ∷ outs) last run = absurd run
 heard_on at (s ∷ steps) [] last run = absurd run
-heard_on at (s ∷ steps) (o ∷ outs) last run = prefix_trans (heard at.frames) (heard run.0.frames) (heard last.frames) (run.1.slice, sym run.1.queued.taken) (heard_on run.0 steps outs last run.2)
+heard_on at (s ∷ steps) (o ∷ outs) last run = prefix_trans (heard at.frames) (heard run.0.frames) (heard last.frames) (run.1.call.slice, sym run.1.call.queued.taken ∙ sym (ap heard run.1.settles.frames)) (heard_on run.0 steps outs last run.2)
 
 -- ---- the last place isn't broken
 
@@ -110,7 +111,9 @@ fair_error first at step own slice next last (errors.Io _) g a b n k c = absurd 
 fair_error first at step own slice next last (errors.Database details) g a b n k c = tt
 fair_error first at step own slice next last (errors.Protocol (protocol.Server fault)) g a b n k c = absurd (g.unbroken fault (k fault refl))
 fair_error first at step own slice next last (errors.Protocol (protocol.Reply tag)) g a b n k c = absurd (no_copy_asked at step own slice tag c n)
-fair_error first at step own slice next last (errors.Protocol (protocol.Caller fault)) g a b n k c = c.2
+fair_error first at step own slice next last (errors.Protocol (protocol.Caller fault)) g a b n k c = (at.depth, c.2)
+fair_error first at step own slice next last (errors.BeginFailed status) g a b n k c = (c.begins_it, c.other)
+fair_error first at step own slice next last errors.InvalidSavePointStatement g a b n k c = c.0.0
 fair_error first at step own slice next last (errors.Protocol _) g a b n k c = absurd c
 fair_error first at step own slice next last errors.RowNotFound g a b n k c = c.wants
 fair_error first at step own slice next last _ g a b n k c = absurd c
@@ -129,8 +132,17 @@ fair_end first at step out own slice next last (ends.Err e) g a b n k c = fair_e
 
 -- ---- all steps
 
-slice_copies : (at : Place) (step : Step) (out : Outcome) (next last : Place) (one : Plays_step at step out next) → IsPrefixOf (heard next.frames) (heard last.frames) → AllByRecursion StartsNoCopy (heard last.frames) → AllByRecursion StartsNoCopy one.slice
+slice_copies : (at : Place) (step : Step) (out : Outcome) (next last : Place) (one : Plays_call at step out next) → IsPrefixOf (heard next.frames) (heard last.frames) → AllByRecursion StartsNoCopy (heard last.frames) → AllByRecursion StartsNoCopy one.slice
 slice_copies at step out next last one p n = each_last StartsNoCopy (heard at.frames) one.slice (subst (AllByRecursion StartsNoCopy) one.queued.taken (all_prefix StartsNoCopy (heard next.frames) (heard last.frames) p n))
+
+-- the cause of the call's end is that of the step's
+caused : (at : Place) (step : Step) (told out : Outcome) (own : List Group) (slice : List Frame) (mid next : Place) → Settles at step told out own mid next → HasCause at step told own slice mid told.end → HasCause at step out own slice mid out.end
+caused at step told out own slice mid next s c = subst (λ (x : Outcome). HasCause at step x own slice mid x.end) (sym s.outcome) (by told.end c)
+  where
+    by : (end : End) → HasCause at step told own slice mid end → HasCause at step (record told { groups = out.groups }) own slice mid end
+    by (ends.Ok answer) c = c
+    by (ends.Err e) c = c
+    by ends.Dropped c = c
 
 all_fair : (first : LinkSeen) (at : Place) (steps : List Step) (outs : List Outcome) (last : Place) → Holds first last → NoneFalls first at.seen.link → Plays_from at steps outs last → EndFairly steps outs
 all_fair first at [] [] last g a run = tt
@@ -139,7 +151,9 @@ all_fair first at (s ∷ steps) [] last g a run = absurd run
 all_fair first at (s ∷ steps) (o ∷ outs) last g a run =
     let next = run.0 in
     let one = run.1 in (
-      fair_end first at s o one.own one.slice next last o.end g a (counts_on next steps outs last run.2) (slice_copies at s o next last one (heard_on next steps outs last run.2) g.no_copy) (breaks_last at s o next one steps outs last run.2) one.cause,
+      fair_end first at s o one.call.own one.call.slice one.ended_at last o.end g a (subst (λ (x : StreamSeen). NoneFalls x.link last.seen.link) one.settles.seen (counts_on next steps outs last run.2))
+          (slice_copies at s one.told one.ended_at last one.call (subst (λ (f : List Frame). IsPrefixOf (heard f) (heard last.frames)) one.settles.frames (heard_on next steps outs last run.2)) g.no_copy) (breaks_last at s o next one steps outs last run.2)
+          (caused at s one.told o one.call.own one.call.slice one.ended_at next one.settles one.call.cause),
       all_fair first next steps outs last g (NoneFalls-then first at.seen.link next.seen.link a one.counts) run.2,
     )
 

@@ -8,9 +8,12 @@ pub mod ToldLaws
 pub mod CauseLaws
 pub mod LawfulLaws
 pub mod RepliesLaws
+pub mod SettleLaws
+pub mod SettledLaws
 pub mod LinkLaws
 pub mod CompleteLaws
 pub mod WaitPlaceLaws
+pub mod IdleLaws
 pub mod PlayLaws
 pub mod StartLaws
 pub mod TopLaws

@@ -1,8 +1,12 @@
 -- A play against a server whose frames are replies.
-use Rattle.std.proofs.Common.{◌≡◌, ℕ, zero, suc, ◌+◌, List, [], ◌∷◌, ◌++◌, map, refl, sym, ap, ◌∙◌, subst, append_assoc, append-nil, Option, Some, None, ◌⊎◌, inl, inr, sum_by, arith}
+use Rattle.std.proofs.Common.{◌≡◌, ℕ, zero, suc, ◌+◌, List, [], ◌∷◌, ◌++◌, map, refl, sym, ap, ◌∙◌, subst, append_assoc, append-nil, Option, Some, None, ◌⊎◌, inl, inr, sum_by, arith, Bool, true, false}
+use Rattle.pg_stream.specs.Links.{LinkSeen}
+use Rattle.pg_play.specs.Shown.{acts_at_once, begins_with}
+use Rattle.pg_play.proofs.SettleLaws.{held_same, front_behind, heard_before}
+use Rattle.pg_play.specs.Settling.{Settles}
 use Rattle.std.specs.List.{AllByRecursion}
 use Rattle.std.proofs.lemmas.List.Sums.{sum_by-append}
-use Rattle.pg_stream.specs.Streams.{HeaderFault, IsMalformedFront}
+use Rattle.pg_stream.specs.Streams.{HeaderFault, IsMalformedFront, StreamSeen}
 use Rattle.pg_stream.proofs.StreamLemmas.{GrewBy-then}
 use Rattle.pg_wire.specs.declared.error.Error.TheVariants as errors
 use Rattle.pg_wire.specs.declared.error.ProtocolFault.TheVariants as protocol
@@ -19,7 +23,7 @@ use Rattle.pg_wire.proofs.CutLaws.{cut_after_taken}
 use Rattle.pg_wire.proofs.RunLaws.{replies_fewer}
 use Rattle.pg_wire.proofs.SentLaws.{replies_answer, hear_fewer}
 use Rattle.pg_wire.proofs.ReplyLaws.{frames_answer}
-use Rattle.pg_call.specs.Requests.{said_in}
+use Rattle.pg_call.specs.Requests.{said_in, Group}
 use Rattle.pg_report.specs.declared.outcome.End.{End}
 use Rattle.pg_report.specs.declared.outcome.End.TheVariants as ends
 use Rattle.pg_report.specs.declared.outcome.Outcome.{Outcome}
@@ -27,8 +31,8 @@ use Rattle.pg_script.specs.declared.step.Step.{Step}
 use Rattle.pg_play.specs.Calls.{IsUnpolled, broken_after}
 use Rattle.pg_play.specs.Places.{Place}
 use Rattle.pg_play.specs.Told.{CountsTo}
-use Rattle.pg_play.specs.Causes.{IsFront, HasNoMessage, ShowsFault, HasCause}
-use Rattle.pg_play.specs.Plays.{Plays_step, Plays_from, AsksForNoCopy, NoneUnlawful, WhereLawful, Totals}
+use Rattle.pg_play.specs.Causes.{IsFront, HasNoMessage, ShowsFault, HasCause, OpensSavepoint}
+use Rattle.pg_play.specs.Plays.{Plays_step, Plays_from, AsksForNoCopy, NoneUnlawful, WhereLawful, Totals, Plays_call, IsNeverUnlawful}
 use Rattle.pg_play.proofs.RepliesLaws.{StartsNoCopy, all_prefix, replies_start_no_copy, asks_for_none, replies_to_all}
 
 -- ---- a place that is broken
@@ -46,17 +50,26 @@ none_broken : (o : Option ServerFault) (fault : ServerFault) → o ≡ None → 
 none_broken None fault x y = absurd cc
 none_broken (Some g) fault x y = absurd cc
 
-shown_refutes : (at : Place) (step : Step) (out : Outcome) (next : Place) (one : Plays_step at step out next) (fault : ServerFault) → at.broken ≡ None → out.end ≡ ends.Err (errors.Protocol (protocol.Server fault)) → ShowsFault at one.own one.slice next fault → Refutes fault next
-shown_refutes at step out next one (faults.Unlawful tag) w e u = (u.front, u.is_front, one.lawful tag u.front w e u.is_front)
-shown_refutes at step out next one (faults.Malformed tag) w e (inl m) = inl m
-shown_refutes at step out next one (faults.Malformed tag) w e (inr m) = inr (m.0, m.1, m.3)
-shown_refutes at step out next one fault w e h = h
+shown_refutes : (at : Place) (step : Step) (out : Outcome) (next : Place) (one : Plays_call at step out next) (fault : ServerFault) → IsNeverUnlawful at out next → at.broken ≡ None → out.end ≡ ends.Err (errors.Protocol (protocol.Server fault)) → ShowsFault at one.own one.slice next fault → Refutes fault next
+shown_refutes at step out next one (faults.Unlawful tag) n w e u = (u.front, u.is_front, n tag u.front w e u.is_front)
+shown_refutes at step out next one (faults.Malformed tag) n w e (inl m) = inl m
+shown_refutes at step out next one (faults.Malformed tag) n w e (inr m) = inr (m.0, m.1, m.3)
+shown_refutes at step out next one fault n w e h = h
 
-ends_refute : (at : Place) (step : Step) (out : Outcome) (next : Place) (one : Plays_step at step out next) (fault : ServerFault) → at.broken ≡ None → out.end ≡ ends.Err (errors.Protocol (protocol.Server fault)) → Refutes fault next
-ends_refute at step out next one fault w e = elim (subst (λ (z : End). HasCause at step out one.own one.slice next z) e one.cause) [
+ends_refute : (at : Place) (step : Step) (out : Outcome) (next : Place) (one : Plays_call at step out next) (fault : ServerFault) → IsNeverUnlawful at out next → at.broken ≡ None → out.end ≡ ends.Err (errors.Protocol (protocol.Server fault)) → Refutes fault next
+ends_refute at step out next one fault n w e = elim (subst (λ (z : End). HasCause at step out one.own one.slice next z) e one.cause) [
   | inl kept ↦ absurd (none_broken at.broken fault w kept)
-  | inr shown ↦ shown_refutes at step out next one fault w e shown
+  | inr shown ↦ shown_refutes at step out next one fault n w e shown
 ]
+
+-- what stands in front after the call stands there behind its end
+settled_refutes : (fault : ServerFault) (at : Place) (step : Step) (told out : Outcome) (own : List Group) (mid next : Place) → Settles at step told out own mid next → Refutes fault mid → Refutes fault next
+settled_refutes (faults.Unlawful tag) at step told out own mid next s r = (r.0, front_behind mid next r.0 (held_same at step told out own mid next s) r.1, λ l. r.2 (heard_before at step told out own mid next r.0 s l))
+settled_refutes (faults.Malformed tag) at step told out own mid next s (inl m) = inl (subst (λ (held : List ℕ). IsMalformedFront held tag) (sym (held_same at step told out own mid next s)) m)
+settled_refutes (faults.Malformed tag) at step told out own mid next s (inr r) = inr (r.0, front_behind mid next r.0 (held_same at step told out own mid next s) r.1, r.2)
+settled_refutes (faults.ShortLength tag size) at step told out own mid next s r = subst (λ (held : List ℕ). HeaderFault held (faults.ShortLength tag size)) (sym (held_same at step told out own mid next s)) r
+settled_refutes (faults.UnknownTag tag) at step told out own mid next s r = subst (λ (held : List ℕ). HeaderFault held (faults.UnknownTag tag)) (sym (held_same at step told out own mid next s)) r
+settled_refutes _ at step told out own mid next s r = absurd r
 
 -- a step on a broken connection keeps what stands in front
 keeps_so : (fault : ServerFault) (at next : Place) (waits moves : ℕ) → next ≡ record at { seen = record at.seen { waits = waits; moves = moves } } → Refutes fault at → Refutes fault next
@@ -92,17 +105,45 @@ polled step = by step.polls step.most refl refl
         suc_some : (n : ℕ) → suc n ≡ 0 → ⊥
         suc_some n e = cc
 
-breaks_on : (at : Place) (step : Step) (out : Outcome) (next : Place) → Plays_step at step out next → BreaksSo at → BreaksSo next
-breaks_on at step out next one so fault e = by at.broken refl
+-- a step acts at once, or is polled
+at_once_or : (step : Step) → (acts_at_once step.call ≡ true) ⊎ (acts_at_once step.call ≡ false)
+at_once_or step = by (acts_at_once step.call)
   where
-    by : (o : Option ServerFault) → at.broken ≡ o → Refutes fault next
-    by None w = ends_refute at step out next one fault w (ends_so out.end fault (sym (ap (λ (x : Option ServerFault). broken_after x out.end) w) ∙ sym one.queued.broken ∙ e))
-    by (Some kept) w =
+    by : (b : Bool) → (b ≡ true) ⊎ (b ≡ false)
+    by true = inl refl
+    by false = inr refl
+
+-- it would open a savepoint by its own text, or not
+opens_or : (at : Place) (step : Step) → OpensSavepoint at step ⊎ (OpensSavepoint at step → ⊥)
+opens_or at step = by (begins_with step.call) refl at.depth refl
+  where
+    by : (b : Bool) → begins_with step.call ≡ b → (d : ℕ) → at.depth ≡ d → OpensSavepoint at step ⊎ (OpensSavepoint at step → ⊥)
+    by true e zero f = inr (λ o. omega (arith, o.1, f))
+    by true e (suc d) f = inl (e, omega (arith, f))
+    by false e d f = inr (λ o. let x = sym e ∙ o.0 in cc)
+
+called_on : (at : Place) (step : Step) (out : Outcome) (next : Place) → Plays_call at step out next → IsNeverUnlawful at out next → BreaksSo at → BreaksSo next
+called_on at step out next one lawful so fault e = elim (at_once_or step) [
+  | inl now ↦ subst (Refutes fault) (sym (one.at_once now).1) (so fault (sym (ap (λ (p : Place). p.broken) (one.at_once now).1) ∙ e))
+  | inr later ↦ by later at.broken refl
+]
+  where
+    by : acts_at_once step.call ≡ false → (o : Option ServerFault) → at.broken ≡ o → Refutes fault next
+    by later None w = ends_refute at step out next one fault lawful w (ends_so out.end fault (sym (ap (λ (x : Option ServerFault). broken_after x out.end) w) ∙ sym one.queued.broken ∙ e))
+    by later (Some kept) w =
         let same : at.broken ≡ Some fault = w ∙ sym (ap (λ (x : Option ServerFault). broken_after x out.end) w) ∙ sym one.queued.broken ∙ e in
         elim (polled step) [
-          | inl u ↦ subst (Refutes fault) (sym (one.duly.unpolled u).1) (so fault same)
-          | inr n ↦ keeps_so fault at next next.seen.waits next.seen.moves (one.duly.kept kept w n).1 (so fault same)
+          | inl u ↦ subst (Refutes fault) (sym ((one.duly later).unpolled u).1) (so fault same)
+          | inr n ↦ elim (opens_or at step) [
+            | inl opens ↦ subst (Refutes fault) (sym ((one.duly later).savepoint n opens).1) (so fault same)
+            | inr none ↦ keeps_so fault at next next.seen.waits next.seen.moves ((one.duly later).kept kept w n none).1 (so fault same)
+          ]
         ]
+
+breaks_on : (at : Place) (step : Step) (out : Outcome) (next : Place) → Plays_step at step out next → BreaksSo at → BreaksSo next
+breaks_on at step out next one so fault e =
+    let s = one.settles in
+    settled_refutes fault at step one.told out one.call.own one.ended_at next s (called_on at step one.told one.ended_at one.call one.lawful_call so fault (sym s.broken ∙ e))
 
 breaks_all : (at : Place) (steps : List Step) (outs : List Outcome) (last : Place) → Plays_from at steps outs last → BreaksSo at → BreaksSo last
 breaks_all at [] [] last run so = subst BreaksSo (sym run) so
@@ -117,25 +158,34 @@ breaks_first at steps outs last run w = breaks_all at steps outs last run (λ fa
 -- ---- an end by a fault of the server
 
 -- it breaks the connection
-fault_breaks : (at : Place) (step : Step) (out : Outcome) (next : Place) → Plays_step at step out next → (fault : ServerFault) → out.end ≡ ends.Err (errors.Protocol (protocol.Server fault)) → next.broken ≡ Some fault
-fault_breaks at step out next one fault e = by at.broken refl
+call_breaks : (at : Place) (step : Step) (out : Outcome) (next : Place) → Plays_call at step out next → (fault : ServerFault) → out.end ≡ ends.Err (errors.Protocol (protocol.Server fault)) → next.broken ≡ Some fault
+call_breaks at step out next one fault e = elim (at_once_or step) [
+  | inl now ↦ let x = sym e ∙ ap (λ (z : Outcome). z.end) (one.at_once now).0 in absurd cc
+  | inr later ↦ by later at.broken refl
+]
   where
-    by : (o : Option ServerFault) → at.broken ≡ o → next.broken ≡ Some fault
-    by None w = one.queued.broken ∙ ap (λ (x : Option ServerFault). broken_after x out.end) w ∙ ap (broken_after None) e
-    by (Some kept) w = elim (polled step) [
-      | inl u ↦ let x = sym e ∙ ap (λ (z : Outcome). z.end) (one.duly.unpolled u).0 in absurd cc
-      | inr n ↦ elim (one.duly.kept kept w n).0 [
-        | inl k ↦ let x = sym e ∙ ap (λ (z : Outcome). z.end) k in let same : fault ≡ kept = cc in one.queued.broken ∙ ap (λ (z : Option ServerFault). broken_after z out.end) w ∙ ap (λ (z : ServerFault). Some z) (sym same)
-        | inr k ↦ let x = sym e ∙ ap (λ (z : Outcome). z.end) k in absurd cc
+    by : acts_at_once step.call ≡ false → (o : Option ServerFault) → at.broken ≡ o → next.broken ≡ Some fault
+    by later None w = one.queued.broken ∙ ap (λ (x : Option ServerFault). broken_after x out.end) w ∙ ap (broken_after None) e
+    by later (Some kept) w = elim (polled step) [
+      | inl u ↦ let x = sym e ∙ ap (λ (z : Outcome). z.end) ((one.duly later).unpolled u).0 in absurd cc
+      | inr n ↦ elim (opens_or at step) [
+        | inl opens ↦ let x = sym e ∙ ap (λ (z : Outcome). z.end) ((one.duly later).savepoint n opens).0 in absurd cc
+        | inr none ↦ elim ((one.duly later).kept kept w n none).0 [
+          | inl k ↦ let x = sym e ∙ ap (λ (z : Outcome). z.end) k in let same : fault ≡ kept = cc in one.queued.broken ∙ ap (λ (z : Option ServerFault). broken_after z out.end) w ∙ ap (λ (z : ServerFault). Some z) (sym same)
+          | inr k ↦ let x = sym e ∙ ap (λ (z : Outcome). z.end) k in absurd cc
+        ]
       ]
     ]
+
+fault_breaks : (at : Place) (step : Step) (out : Outcome) (next : Place) → Plays_step at step out next → (fault : ServerFault) → out.end ≡ ends.Err (errors.Protocol (protocol.Server fault)) → next.broken ≡ Some fault
+fault_breaks at step out next one fault e = one.settles.broken ∙ call_breaks at step one.told one.ended_at one.call fault (sym (ap (λ (x : Outcome). x.end) one.settles.outcome) ∙ e)
 
 -- what breaks the connection stays
 broken_stays : (fault : ServerFault) (at : Place) (steps : List Step) (outs : List Outcome) (last : Place) → Plays_from at steps outs last → at.broken ≡ Some fault → last.broken ≡ Some fault
 broken_stays fault at [] [] last run w = ap (λ (p : Place). p.broken) run ∙ w
 broken_stays fault at [] (o ∷ outs) last run w = absurd run
 broken_stays fault at (s ∷ steps) [] last run w = absurd run
-broken_stays fault at (s ∷ steps) (o ∷ outs) last run w = broken_stays fault run.0 steps outs last run.2 (run.1.queued.broken ∙ ap (λ (x : Option ServerFault). broken_after x o.end) w)
+broken_stays fault at (s ∷ steps) (o ∷ outs) last run w = broken_stays fault run.0 steps outs last run.2 (run.1.settles.broken ∙ run.1.call.queued.broken ∙ ap (λ (x : Option ServerFault). broken_after x run.1.told.end) w)
 
 pub breaks_last : (at : Place) (step : Step) (out : Outcome) (next : Place) → Plays_step at step out next → (steps : List Step) (outs : List Outcome) (last : Place) → Plays_from next steps outs last
     → (fault : ServerFault) → out.end ≡ ends.Err (errors.Protocol (protocol.Server fault)) → last.broken ≡ Some fault
@@ -219,11 +269,11 @@ totals_none at = record {
 counts_more : (n m k l sum : ℕ) → sum ≡ k + l → CountsTo n k → CountsTo m l → CountsTo (n + m) sum
 counts_more n m k l sum e g h = (omega (arith, e, g.0, h.0), omega (arith, e, g.1, h.1))
 
-totals_more : (at next last : Place) (step : Step) (out : Outcome) (outs : List Outcome) → Plays_step at step out next → Totals next.seen.link last.seen.link outs → Totals at.seen.link last.seen.link (out ∷ outs)
-totals_more at next last step out outs one t =
+totals_more : (at next last : Place) (step : Step) (told out : Outcome) (outs : List Outcome) → Plays_call at step told next → out.waits ≡ told.waits → out.moved ≡ told.moved → Totals next.seen.link last.seen.link outs → Totals at.seen.link last.seen.link (out ∷ outs)
+totals_more at next last step told out outs one w v t =
     let n = one.numbers in
-    let waits : sum_by (λ o. o.waits) (out ∷ outs) ≡ out.waits + sum_by (λ o. o.waits) outs = sum_by-append (λ (o : Outcome). o.waits) (out ∷ []) outs ∙ omega arith in
-    let moved : sum_by (λ o. o.moved) (out ∷ outs) ≡ out.moved + sum_by (λ o. o.moved) outs = sum_by-append (λ (o : Outcome). o.moved) (out ∷ []) outs ∙ omega arith in
+    let waits : sum_by (λ o. o.waits) (out ∷ outs) ≡ told.waits + sum_by (λ o. o.waits) outs = sum_by-append (λ (o : Outcome). o.waits) (out ∷ []) outs ∙ omega (arith, w) in
+    let moved : sum_by (λ o. o.moved) (out ∷ outs) ≡ told.moved + sum_by (λ o. o.moved) outs = sum_by-append (λ (o : Outcome). o.moved) (out ∷ []) outs ∙ omega (arith, v) in
     let both : CountsTo ((n.write_waits + n.read_waits) + (t.write_waits + t.read_waits)) (sum_by (λ o. o.waits) (out ∷ outs)) = counts_more _ _ _ _ _ waits n.waits t.waits in
     record {
       write_waits = n.write_waits + t.write_waits;
@@ -240,4 +290,8 @@ pub totals_all : (at : Place) (steps : List Step) (outs : List Outcome) (last : 
 totals_all at [] [] last run = subst (λ (p : Place). Totals at.seen.link p.seen.link []) (sym run) (totals_none at)
 totals_all at [] (o ∷ outs) last run = absurd run
 totals_all at (s ∷ steps) [] last run = absurd run
-totals_all at (s ∷ steps) (o ∷ outs) last run = totals_more at run.0 last s o outs run.1 (totals_all run.0 steps outs last run.2)
+totals_all at (s ∷ steps) (o ∷ outs) last run =
+    let one = run.1 in
+    let link = ap (λ (x : StreamSeen). x.link) one.settles.seen in
+    totals_more at one.ended_at last s one.told o outs one.call (ap (λ (x : Outcome). x.waits) one.settles.outcome) (ap (λ (x : Outcome). x.moved) one.settles.outcome)
+    (subst (λ (x : LinkSeen). Totals x last.seen.link outs) link (totals_all run.0 steps outs last run.2))

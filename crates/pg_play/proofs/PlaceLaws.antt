@@ -1,5 +1,6 @@
 -- Where the connection stands behind a call that was played.
 use Rattle.std.proofs.Common.{◌≡◌, ℕ, zero, suc, ◌+◌, ◌<◌, Bool, true, false, not, ◌&&◌, ◌||◌, ◌==◌, cond, ◌⊎◌, inl, inr, List, [], ◌∷◌, ◌++◌, length, map, refl, sym, ap, ◌∙◌, subst, arith, append-nil, take, replicate, Option, Some, None, Err, MatchBool}
+use Rattle.pg_request.specs.Texts.{begin_text, commit_text, rollback_text}
 use Rattle.std.specs.List.{count_by, AllByRecursion, list_any}
 use Rattle.std.proofs.lemmas.List.{length-append}
 use Rattle.std.proofs.lemmas.List.Sums.{sum_by-append}
@@ -26,7 +27,7 @@ use Rattle.pg_call.specs.Hearing.{fails_of}
 use Rattle.pg_call.specs.Calls.{CallEnds, owner_failed}
 use Rattle.pg_call.proofs.DrainLaws.{after_nil, before_nil}
 use Rattle.pg_conn.specs.Connections.{ConnSeen, idle}
-use Rattle.pg_conn.specs.Turns.{FailsBy, ends_request}
+use Rattle.pg_conn.specs.Turns.{FailsBy, ends_request, HasAllRoom}
 use Rattle.pg_report.specs.declared.outcome.Item.{Item}
 use Rattle.pg_report.specs.declared.outcome.End.{End}
 use Rattle.pg_report.specs.declared.outcome.End.TheVariants as ends
@@ -77,24 +78,25 @@ ShowsItems end shown items = MatchBool (is_fine end) (Unit {0}) ((shown ≡ map 
 abbrev pub HasSummary : Ledger → Request → List FrontendMessage → List Frame → Ledger → End → List Item → Type 0
 HasSummary start r said hs ledger end shown = (items : List CallItem) × Summary start r said hs items ledger (refuses_copy end) × ShowsItems end shown items
 
-end_summary : (start : Ledger) (call : Call) (said : List FrontendMessage) (hs : List Frame) (items : List CallItem) (ledger : Ledger) (shown : List Item) (e : Error) → shown ≡ map item_of items → CallEnds start (request_of call) said hs items ledger (Err e)
-    → HasSummary start (request_of call) said hs ledger (ends.Err e) shown
-end_summary start call said hs items ledger shown errors.RowNotFound k h = (items, (fine_summary start call said hs items ledger h.0).0, inl k)
-end_summary start call said hs items ledger shown (errors.Database details) k h = (items, leaves_summary start call said hs items ledger false h.0, inl k)
-end_summary start call said hs items ledger shown (errors.Protocol (protocol.Reply tag)) k h = (items, leaves_summary start call said hs items ledger (tag == 71) h.0.0, inl k)
-end_summary start call said hs items ledger shown (errors.Protocol (protocol.Caller fault)) k h = ([], nothing_done start (request_of call) said hs ledger h.0 h.1 h.3, inr (k ∙ ap (map item_of) h.2))
-end_summary start call said hs items ledger shown (errors.Protocol _) k h = absurd h
-end_summary start call said hs items ledger shown _ k h = absurd h
+end_summary : (start : Ledger) (d : ℕ) (call : Call) (said : List FrontendMessage) (hs : List Frame) (items : List CallItem) (ledger : Ledger) (shown : List Item) (e : Error) → shown ≡ map item_of items → CallEnds start (request_of d call) said hs items ledger (Err e)
+    → HasSummary start (request_of d call) said hs ledger (ends.Err e) shown
+end_summary start d call said hs items ledger shown errors.RowNotFound k h = (items, (fine_summary start d call said hs items ledger h.0).0, inl k)
+end_summary start d call said hs items ledger shown (errors.BeginFailed status) k h = (items, (fine_summary start d call said hs items ledger h.0).0, inl k)
+end_summary start d call said hs items ledger shown (errors.Database details) k h = (items, leaves_summary start d call said hs items ledger false h.0, inl k)
+end_summary start d call said hs items ledger shown (errors.Protocol (protocol.Reply tag)) k h = (items, leaves_summary start d call said hs items ledger (tag == 71) h.0.0, inl k)
+end_summary start d call said hs items ledger shown (errors.Protocol (protocol.Caller fault)) k h = ([], nothing_done start (request_of d call) said hs ledger h.0 h.1 h.3, inr (k ∙ ap (map item_of) h.2))
+end_summary start d call said hs items ledger shown (errors.Protocol _) k h = absurd h
+end_summary start d call said hs items ledger shown _ k h = absurd h
 
-pub ends_summary : (o : Option ServerFault) (limits : Limits) (a b : ConnSeen) (call : Call) (said : List FrontendMessage) (hs : List Frame) (shown : List Item) (end : End) → EndsOn o limits a b (request_of call) said hs shown end
-    → HasSummary a.ledger (request_of call) said hs b.ledger end shown
-ends_summary None limits a b call said hs shown (ends.Ok told) h = (h.0, (fine_summary a.ledger call said hs h.0 b.ledger h.5.0).0, tt)
-ends_summary None limits a b call said hs shown (ends.Err e) (inl (items, k, l, inl h)) = end_summary a.ledger call said hs items b.ledger shown e k h
-ends_summary None limits a b call said hs shown (ends.Err e) (inl (items, k, l, inr (left, well, fails))) =
-    (items, rw (fails_plainly a b a.ledger (request_of call) left.own hs e fails) (leaves_summary a.ledger call said hs items b.ledger false left), inl k)
-ends_summary None limits a b call said hs shown (ends.Err e) (inr (items, k, z, f)) = rw z (items, (fine_summary a.ledger call said hs items b.ledger f).0, inr k)
-ends_summary None limits a b call said hs shown ends.Dropped h = (h.0, leaves_summary a.ledger call said hs h.0 b.ledger false h.2, inl h.1)
-ends_summary (Some fault) limits a b call said hs shown end h = rw h.0 ([], nothing_done a.ledger (request_of call) said hs b.ledger h.1 h.2 (ap (λ (c : ConnSeen). c.ledger) h.4), inr h.3)
+pub ends_summary : (o : Option ServerFault) (limits : Limits) (a b : ConnSeen) (d : ℕ) (call : Call) (said : List FrontendMessage) (hs : List Frame) (shown : List Item) (end : End) → EndsOn o limits a b (request_of d call) said hs shown end
+    → HasSummary a.ledger (request_of d call) said hs b.ledger end shown
+ends_summary None limits a b d call said hs shown (ends.Ok told) h = (h.0, (fine_summary a.ledger d call said hs h.0 b.ledger h.5.0).0, tt)
+ends_summary None limits a b d call said hs shown (ends.Err e) (inl (items, k, l, inl h)) = end_summary a.ledger d call said hs items b.ledger shown e k h
+ends_summary None limits a b d call said hs shown (ends.Err e) (inl (items, k, l, inr (left, well, fails))) =
+    (items, rw (fails_plainly a b a.ledger (request_of d call) left.own hs e fails) (leaves_summary a.ledger d call said hs items b.ledger false left), inl k)
+ends_summary None limits a b d call said hs shown (ends.Err e) (inr (items, k, z, f)) = rw z (items, (fine_summary a.ledger d call said hs items b.ledger f).0, inr k)
+ends_summary None limits a b d call said hs shown ends.Dropped h = (h.0, leaves_summary a.ledger d call said hs h.0 b.ledger false h.2, inl h.1)
+ends_summary (Some fault) limits a b d call said hs shown end h = rw h.0 ([], nothing_done a.ledger (request_of d call) said hs b.ledger h.1 h.2 (ap (λ (c : ConnSeen). c.ledger) h.4), inr h.3)
 
 -- ---- what was queued
 
@@ -127,7 +129,7 @@ said_is_queued start at a r said hs items ledger end st s =
 -- ---- the next place
 
 abbrev pub next_place : Place → ConnSeen → List FrontendMessage → List Group → List Frame → End → Place
-next_place at b said own fs end = record { seen = b.stream; said = at.said ++ said; groups = at.groups ++ own; frames = at.frames ++ fs; is_copy_failed = failed_next at own (heard fs) end; broken = broken_after at.broken end }
+next_place at b said own fs end = record { seen = b.stream; said = at.said ++ said; groups = at.groups ++ own; frames = at.frames ++ fs; is_copy_failed = failed_next at own (heard fs) end; broken = broken_after at.broken end; depth = at.depth }
 
 pub readies-append : (xs ys : List Frame) → readies (xs ++ ys) ≡ readies xs + readies ys
 readies-append xs ys = sum_by-append (λ (y : Frame). cond (is_ready y) 1 0) xs ys
@@ -150,26 +152,33 @@ last_said : (b : Bool) → AllByRecursion HasFrontendFrame (fails_of b)
 last_said true = fails_said 1
 last_said false = tt
 
-own_said : (p : ℕ) (call : Call) (own : List Group) (hs : List Frame) → (own ≡ []) ⊎ QueuedOwn p (request_of call) own hs → AllByRecursion HasFrontendFrame (said_in own)
-own_said p call own hs (inl e) = rw e tt
-own_said p call own hs (inr q) =
-    let all : messages_of (request_of call) ≡ said_in (groups_of (request_of call)) = ap (λ (b : List FrontendMessage). said_in (groups_of (request_of call)) ++ b) (no_close call) ∙ append-nil _ in
+own_said : (p : ℕ) (d : ℕ) (call : Call) (own : List Group) (hs : List Frame) → (own ≡ []) ⊎ QueuedOwn p (request_of d call) own hs → AllByRecursion HasFrontendFrame (said_in own)
+own_said p d call own hs (inl e) = rw e tt
+own_said p d call own hs (inr q) =
+    let all : messages_of (request_of d call) ≡ said_in (groups_of (request_of d call)) = ap (λ (b : List FrontendMessage). said_in (groups_of (request_of d call)) ++ b) (no_close d call) ∙ append-nil _ in
     rw q.own_is (subst (AllByRecursion HasFrontendFrame) all q.can)
 
-groups_asked : (call : Call) → AllByRecursion IsGroup (groups_of (request_of call))
-groups_asked (calls.Execute query) = (inl (query.sql, refl), tt)
-groups_asked (calls.ExecuteMany query) = (inl (query.sql, refl), tt)
-groups_asked (calls.Fetch query) = (inl (query.sql, refl), tt)
-groups_asked (calls.FetchMany query) = (inl (query.sql, refl), tt)
-groups_asked (calls.FetchAll query) = (inl (query.sql, refl), tt)
-groups_asked (calls.FetchOptional query) = (inl (query.sql, refl), tt)
-groups_asked (calls.FetchOne query) = (inl (query.sql, refl), tt)
-groups_asked calls.Ping = (inr ([], tt, refl), tt)
-groups_asked calls.Flush = tt
+groups_asked : (d : ℕ) (call : Call) → AllByRecursion IsGroup (groups_of (request_of d call))
+groups_asked d (calls.Execute query) = (inl (query.sql, refl), tt)
+groups_asked d (calls.ExecuteMany query) = (inl (query.sql, refl), tt)
+groups_asked d (calls.Fetch query) = (inl (query.sql, refl), tt)
+groups_asked d (calls.FetchMany query) = (inl (query.sql, refl), tt)
+groups_asked d (calls.FetchAll query) = (inl (query.sql, refl), tt)
+groups_asked d (calls.FetchOptional query) = (inl (query.sql, refl), tt)
+groups_asked d (calls.FetchOne query) = (inl (query.sql, refl), tt)
+groups_asked d calls.Ping = (inr ([], tt, refl), tt)
+groups_asked d calls.Flush = tt
+groups_asked d calls.Begin = (inl (begin_text None d, refl), tt)
+groups_asked d (calls.BeginWith query) = (inl (query.sql, refl), tt)
+groups_asked zero calls.Commit = tt
+groups_asked (suc left) calls.Commit = (inl (commit_text left, refl), tt)
+groups_asked zero calls.Rollback = tt
+groups_asked (suc left) calls.Rollback = (inl (rollback_text left, refl), tt)
+groups_asked d calls.StartRollback = tt
 
-pub own_groups : (p : ℕ) (call : Call) (own : List Group) (hs : List Frame) → (own ≡ []) ⊎ QueuedOwn p (request_of call) own hs → AllByRecursion IsGroup own
-own_groups p call own hs (inl e) = rw e tt
-own_groups p call own hs (inr q) = rw q.own_is (groups_asked call)
+pub own_groups : (p : ℕ) (d : ℕ) (call : Call) (own : List Group) (hs : List Frame) → (own ≡ []) ⊎ QueuedOwn p (request_of d call) own hs → AllByRecursion IsGroup own
+own_groups p d call own hs (inl e) = rw e tt
+own_groups p d call own hs (inr q) = rw q.own_is (groups_asked d call)
 
 -- a call that was asked to copy heard so
 copied_heard : (hs front : List Frame) (m : BackendMessage) (tag : ℕ) → hs ≡ front ++ backend_frame m ∷ [] → tag ≡ (backend_frame m).tag → AsksForNoCopy hs → tag == 71 ≡ false
@@ -219,47 +228,56 @@ requests_failed : (n : ℕ) → count_by ends_request (replicate n copy_fail) �
 requests_failed zero = refl
 requests_failed (suc n) = omega (arith, counts-append (copy_fail ∷ []) (replicate n copy_fail), no_groups true, requests_failed n)
 
-requests_asked : (call : Call) → count_by ends_request (said_in (groups_of (request_of call))) ≡ length (groups_of (request_of call))
-requests_asked (calls.Execute query) = refl
-requests_asked (calls.ExecuteMany query) = refl
-requests_asked (calls.Fetch query) = refl
-requests_asked (calls.FetchMany query) = refl
-requests_asked (calls.FetchAll query) = refl
-requests_asked (calls.FetchOptional query) = refl
-requests_asked (calls.FetchOne query) = refl
-requests_asked calls.Ping = refl
-requests_asked calls.Flush = refl
+requests_asked : (d : ℕ) (call : Call) → count_by ends_request (said_in (groups_of (request_of d call))) ≡ length (groups_of (request_of d call))
+requests_asked d (calls.Execute query) = refl
+requests_asked d (calls.ExecuteMany query) = refl
+requests_asked d (calls.Fetch query) = refl
+requests_asked d (calls.FetchMany query) = refl
+requests_asked d (calls.FetchAll query) = refl
+requests_asked d (calls.FetchOptional query) = refl
+requests_asked d (calls.FetchOne query) = refl
+requests_asked d calls.Ping = refl
+requests_asked d calls.Flush = refl
+requests_asked d calls.Begin = refl
+requests_asked d (calls.BeginWith query) = refl
+requests_asked zero calls.Commit = refl
+requests_asked (suc left) calls.Commit = refl
+requests_asked zero calls.Rollback = refl
+requests_asked (suc left) calls.Rollback = refl
+requests_asked d calls.StartRollback = refl
 
-requests_own : (p : ℕ) (call : Call) (own : List Group) (hs : List Frame) → (own ≡ []) ⊎ QueuedOwn p (request_of call) own hs → count_by ends_request (said_in own) ≡ length own
-requests_own p call own hs (inl e) = rw e refl
-requests_own p call own hs (inr q) = rw q.own_is (requests_asked call)
+requests_own : (p : ℕ) (d : ℕ) (call : Call) (own : List Group) (hs : List Frame) → (own ≡ []) ⊎ QueuedOwn p (request_of d call) own hs → count_by ends_request (said_in own) ≡ length own
+requests_own p d call own hs (inl e) = rw e refl
+requests_own p d call own hs (inr q) = rw q.own_is (requests_asked d call)
 
-requests_next : (start : StreamSeen) (at : Place) (a : ConnSeen) (call : Call) (said : List FrontendMessage) (hs : List Frame) (items : List CallItem) (ledger : Ledger) (end : End) → StandsAt start at a → (s : Summary a.ledger (request_of call) said hs items ledger (refuses_copy end))
+requests_next : (start : StreamSeen) (at : Place) (a : ConnSeen) (d : ℕ) (call : Call) (said : List FrontendMessage) (hs : List Frame) (items : List CallItem) (ledger : Ledger) (end : End) → StandsAt start at a → (s : Summary a.ledger (request_of d call) said hs items ledger (refuses_copy end))
     → count_by ends_request (at.said ++ said) ≡ length (at.groups ++ s.own)
-requests_next start at a call said hs items ledger end st s =
+requests_next start at a d call said hs items ledger end st s =
     let fails : List FrontendMessage = replicate (unfed at.is_copy_failed (drained at hs)) copy_fail in
-    let all = ap (λ (m : List FrontendMessage). count_by ends_request m) (said_is_queued start at a (request_of call) said hs items ledger end st s) in
+    let all = ap (λ (m : List FrontendMessage). count_by ends_request m) (said_is_queued start at a (request_of d call) said hs items ledger end st s) in
     let parts = counts-append (fails ++ said_in s.own) (fails_of (refuses_copy end)) in
     let front = counts-append fails (said_in s.own) in
-    omega (arith, counts-append at.said said, st.requests, length-append at.groups s.own, all, parts, front, requests_failed (unfed at.is_copy_failed (drained at hs)), requests_own a.ledger.owed call s.own hs s.queued, no_groups (refuses_copy end))
+    omega (arith, counts-append at.said said, st.requests, length-append at.groups s.own, all, parts, front, requests_failed (unfed at.is_copy_failed (drained at hs)), requests_own a.ledger.owed d call s.own hs s.queued, no_groups (refuses_copy end))
 
 -- the numbers of the last call are no matter
 pub flows_from : (start s t : StreamSeen) (q : List ℕ) (fs : List Frame) → s ≡ t → Flows start s q fs → Flows start t q fs
 flows_from start s t q fs e f = subst (λ (x : StreamSeen). Flows start x q fs) e f
 
-pub stands_next : (start : StreamSeen) (at : Place) (a b : ConnSeen) (call : Call) (said : List FrontendMessage) (fs : List Frame) (items : List CallItem) (end : End) → StandsAt start at a → (s : Summary a.ledger (request_of call) said (heard fs) items b.ledger (refuses_copy end))
-    → Flows a.stream b.stream (spelled said) fs → b.broken ≡ broken_after a.broken end → b.call ≡ states.Idle → (AsksForNoCopy (heard fs) → refuses_copy end ≡ false) → StandsAt start (next_place at b said s.own fs end) b
-stands_next start at a b call said fs items end st s flows broken idle never = record {
+pub stands_next : (start : StreamSeen) (at : Place) (a b : ConnSeen) (d : ℕ) (call : Call) (said : List FrontendMessage) (fs : List Frame) (items : List CallItem) (end : End) → StandsAt start at a → (s : Summary a.ledger (request_of d call) said (heard fs) items b.ledger (refuses_copy end))
+    → Flows a.stream b.stream (spelled said) fs → b.broken ≡ broken_after a.broken end → b.call ≡ states.Idle → b.depth ≡ a.depth → HasAllRoom b → (AsksForNoCopy (heard fs) → refuses_copy end ≡ false) → StandsAt start (next_place at b said s.own fs end) b
+stands_next start at a b d call said fs items end st s flows broken idle depth room never = record {
   flows = subst (λ (q : List ℕ). Flows start b.stream q (at.frames ++ fs)) (sym (spelled-append at.said said)) (Flows-then start a.stream b.stream (spelled at.said) (spelled said) at.frames fs st.flows flows);
   ledger = omega (arith, st.ledger, s.counted, ended_next at fs, length-append at.groups s.own);
   failed = λ o. failed_here start at a s.own (heard fs) end b.ledger st s.counted o (s.failed_is o);
   broken = broken ∙ ap (λ (o : Option ServerFault). broken_after o end) st.broken;
   seen = refl;
+  depth = depth ∙ st.depth;
+  room = room;
   idle = idle;
-  sayable = each_join HasFrontendFrame at.said said st.sayable (subst (AllByRecursion HasFrontendFrame) (sym (said_is_queued start at a (request_of call) said (heard fs) items b.ledger end st s))
-      (each_join HasFrontendFrame _ _ (each_join HasFrontendFrame _ _ (fails_said (unfed at.is_copy_failed (drained at (heard fs)))) (own_said a.ledger.owed call s.own (heard fs) s.queued)) (last_said (refuses_copy end))));
-  are_groups = each_join IsGroup at.groups s.own st.are_groups (own_groups a.ledger.owed call s.own (heard fs) s.queued);
+  sayable = each_join HasFrontendFrame at.said said st.sayable (subst (AllByRecursion HasFrontendFrame) (sym (said_is_queued start at a (request_of d call) said (heard fs) items b.ledger end st s))
+      (each_join HasFrontendFrame _ _ (each_join HasFrontendFrame _ _ (fails_said (unfed at.is_copy_failed (drained at (heard fs)))) (own_said a.ledger.owed d call s.own (heard fs) s.queued)) (last_said (refuses_copy end))));
+  are_groups = each_join IsGroup at.groups s.own st.are_groups (own_groups a.ledger.owed d call s.own (heard fs) s.queued);
   between = λ z. between_next start at a s.own fs st ∙ s.rests z;
-  plain = plain_next start at a (request_of call) said fs items b.ledger end st s never;
-  requests = requests_next start at a call said (heard fs) items b.ledger end st s;
+  plain = plain_next start at a (request_of d call) said fs items b.ledger end st s never;
+  requests = requests_next start at a d call said (heard fs) items b.ledger end st s;
 }

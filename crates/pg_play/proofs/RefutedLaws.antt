@@ -15,7 +15,7 @@ use Rattle.pg_report.specs.declared.outcome.End.TheVariants as ends
 use Rattle.pg_report.specs.declared.outcome.Outcome.{Outcome}
 use Rattle.pg_script.specs.declared.step.Call.{Call}
 use Rattle.pg_script.specs.declared.step.Call.TheVariants as calls
-use Rattle.pg_play.specs.Shown.{items_in, shown_by, answered_by}
+use Rattle.pg_play.specs.Shown.{items_in, shown_by, answered_by, acts_at_once}
 use Rattle.pg_play.specs.Places.{main_frames}
 use Rattle.pg_play.specs.Told.{Carry, WellAtOk}
 use Rattle.pg_play.specs.Refuted.{TellsSelected, NoTotalOfZero, NoOkWithoutRow, NoOtherRow}
@@ -49,7 +49,7 @@ own_is call out t = carried (main_frames t.at t.own t.slice) t.told.response sel
 pub no_total_of_zero : NoTotalOfZero
 unfolding total_in
 no_total_of_zero query out t e =
-    let well : WellAtOk (ends.Ok (Total 0)) t.step out t.told.response t.slice t.next = subst (λ (end : End). WellAtOk end t.step out t.told.response t.slice t.next) e t.told.well in
+    let well : WellAtOk (ends.Ok (Total 0)) t.step out t.told.response t.slice t.next = subst (λ (end : End). WellAtOk end t.step out t.told.response t.slice t.next) e (t.told.well (ap acts_at_once t.calls)) in
     let answer : Total 0 ≡ answered_by (calls.Execute query) (items_in selected) =
     well.answers ∙ ap (λ (c : Call). answered_by c (items_in t.told.response)) t.calls ∙ ap (λ (r : List BackendMessage). answered_by (calls.Execute query) (items_in r)) (own_is (calls.Execute query) out t) in
     let zero : ◌≡◌ {A = ℕ} 0 1 = ap total_in answer in
@@ -57,7 +57,7 @@ no_total_of_zero query out t e =
 
 pub no_ok_without_row : NoOkWithoutRow
 no_ok_without_row query out t e none =
-    let well : WellAtOk (ends.Ok AnswersUnit) t.step out t.told.response t.slice t.next = subst (λ (end : End). WellAtOk end t.step out t.told.response t.slice t.next) e t.told.well in
+    let well : WellAtOk (ends.Ok AnswersUnit) t.step out t.told.response t.slice t.next = subst (λ (end : End). WellAtOk end t.step out t.told.response t.slice t.next) e (t.told.well (ap acts_at_once t.calls)) in
     let items : [] ≡ shown_by (calls.FetchAll query) (items_in selected) =
     sym none ∙ well.items ∙ ap (λ (c : Call). shown_by c (items_in t.told.response)) t.calls ∙ ap (λ (r : List BackendMessage). shown_by (calls.FetchAll query) (items_in r)) (own_is (calls.FetchAll query) out t) in
     absurd cc

@@ -25,7 +25,7 @@ use Rattle.pg_call.specs.Items.{items_of, shown, answer_to}
 use Rattle.pg_call.specs.Drains.{after_readys}
 use Rattle.pg_call.specs.Hearing.{fails_of}
 use Rattle.pg_call.specs.Calls.{IsFine, CallEnds}
-use Rattle.pg_conn.specs.Connections.{ConnSeen, started_call}
+use Rattle.pg_conn.specs.Connections.{ConnSeen}
 use Rattle.pg_conn.specs.Turns.{ends_request}
 use Rattle.pg_report.specs.declared.outcome.Item.{Item}
 use Rattle.pg_report.specs.declared.outcome.Answer.{Answer}
@@ -37,7 +37,7 @@ use Rattle.pg_script.specs.declared.step.Call.TheVariants as calls
 use Rattle.pg_script.specs.declared.step.Step.{Step}
 use Rattle.pg_play.specs.declared.tally.Limits.{Limits}
 use Rattle.pg_play.specs.Shown.{request_of, items_in, shown_by, answered_by, waits_to_show, item_of, items_with, answer_of}
-use Rattle.pg_play.specs.Calls.{Went, EndsOn, outcome_of}
+use Rattle.pg_play.specs.Calls.{Went, EndsOn, outcome_of, begun_call}
 use Rattle.pg_play.specs.Places.{Place, ended, main_frames, response_within, drained, unfed, is_fine, refuses_copy, Queues, queued_by, Queued}
 use Rattle.pg_play.specs.Told.{Carry, HasNoError, IsWell, WellAtOk, AnswersError, Told, CountsTo, Numbers}
 use Rattle.pg_play.specs.Plays.{StandsAt}
@@ -93,15 +93,16 @@ asks_by None limits a b r said hs shown ends.Dropped items copied h s = prefix_q
 asks_by (Some fault) limits a b r said hs shown end items copied h s = rw h.0 (prefix_queued a.ledger.owed r s.own hs s.queued)
 
 pub queued_step : (o : Option ServerFault) (limits : Limits) (start : StreamSeen) (at : Place) (a b : ConnSeen) (step : Step) (out : Outcome) (said : List FrontendMessage) (fs : List Frame) (shown : List Item) (items : List CallItem) → StandsAt start at a
-    → EndsOn o limits (started_call (request_of step.call) a) b (request_of step.call) said (heard fs) shown out.end → (s : Summary a.ledger (request_of step.call) said (heard fs) items b.ledger (refuses_copy out.end)) → Queued at step out s.own (heard fs) (next_place at b said s.own fs out.end)
+    → EndsOn o limits (begun_call (request_of at.depth step.call) a) b (request_of at.depth step.call) said (heard fs) shown out.end → (s : Summary a.ledger (request_of at.depth step.call) said (heard fs) items b.ledger (refuses_copy out.end)) → Queued at step out s.own (heard fs) (next_place at b said s.own fs out.end)
 queued_step o limits start at a b step out said fs shown items st h s = record {
-  asks = asks_by o limits (started_call (request_of step.call) a) b (request_of step.call) said (heard fs) shown out.end items (refuses_copy out.end) h s;
+  asks = asks_by o limits (begun_call (request_of at.depth step.call) a) b (request_of at.depth step.call) said (heard fs) shown out.end items (refuses_copy out.end) h s;
   can = λ n. elim s.queued [
     | inl e ↦ absurd (n e)
     | inr q ↦ q.can
   ];
-  said = ap (λ (x : List FrontendMessage). at.said ++ x) (said_is_queued start at a (request_of step.call) said (heard fs) items b.ledger out.end st s);
+  said = ap (λ (x : List FrontendMessage). at.said ++ x) (said_is_queued start at a (request_of at.depth step.call) said (heard fs) items b.ledger out.end st s);
   groups = refl;
+  depth = refl;
   taken = heard-append at.frames fs;
   failed = refl;
   broken = refl;
@@ -127,34 +128,41 @@ last_asks : (b : Bool) → asks_of (fails_of b) ≡ 0
 last_asks true = refl
 last_asks false = refl
 
-groups_ask : (call : Call) → asks_of (said_in (groups_of (request_of call))) ≡ length (groups_of (request_of call))
-groups_ask (calls.Execute query) = refl
-groups_ask (calls.ExecuteMany query) = refl
-groups_ask (calls.Fetch query) = refl
-groups_ask (calls.FetchMany query) = refl
-groups_ask (calls.FetchAll query) = refl
-groups_ask (calls.FetchOptional query) = refl
-groups_ask (calls.FetchOne query) = refl
-groups_ask calls.Ping = refl
-groups_ask calls.Flush = refl
+groups_ask : (d : ℕ) (call : Call) → asks_of (said_in (groups_of (request_of d call))) ≡ length (groups_of (request_of d call))
+groups_ask d (calls.Execute query) = refl
+groups_ask d (calls.ExecuteMany query) = refl
+groups_ask d (calls.Fetch query) = refl
+groups_ask d (calls.FetchMany query) = refl
+groups_ask d (calls.FetchAll query) = refl
+groups_ask d (calls.FetchOptional query) = refl
+groups_ask d (calls.FetchOne query) = refl
+groups_ask d calls.Ping = refl
+groups_ask d calls.Flush = refl
+groups_ask d calls.Begin = refl
+groups_ask d (calls.BeginWith query) = refl
+groups_ask zero calls.Commit = refl
+groups_ask (suc left) calls.Commit = refl
+groups_ask zero calls.Rollback = refl
+groups_ask (suc left) calls.Rollback = refl
+groups_ask d calls.StartRollback = refl
 
-own_asks : (p : ℕ) (call : Call) (own : List Group) (hs : List Frame) → (own ≡ []) ⊎ QueuedOwn p (request_of call) own hs → asks_of (said_in own) ≡ length own
-own_asks p call own hs (inl e) = rw e refl
-own_asks p call own hs (inr q) = rw q.own_is (groups_ask call)
+own_asks : (p : ℕ) (d : ℕ) (call : Call) (own : List Group) (hs : List Frame) → (own ≡ []) ⊎ QueuedOwn p (request_of d call) own hs → asks_of (said_in own) ≡ length own
+own_asks p d call own hs (inl e) = rw e refl
+own_asks p d call own hs (inr q) = rw q.own_is (groups_ask d call)
 
-all_ask : (at : Place) (p : ℕ) (call : Call) (own : List Group) (hs : List Frame) (end : End) (said : List FrontendMessage) → (own ≡ []) ⊎ QueuedOwn p (request_of call) own hs → said ≡ queued_by at own hs end → asks_of said ≡ length own
-all_ask at p call own hs end said q e =
+all_ask : (at : Place) (p : ℕ) (d : ℕ) (call : Call) (own : List Group) (hs : List Frame) (end : End) (said : List FrontendMessage) → (own ≡ []) ⊎ QueuedOwn p (request_of d call) own hs → said ≡ queued_by at own hs end → asks_of said ≡ length own
+all_ask at p d call own hs end said q e =
     let n = unfed at.is_copy_failed (drained at hs) in
     ap asks_of e ∙ asks-append (replicate n copy_fail ++ said_in own) (fails_of (refuses_copy end))
-    ∙ omega (arith, asks-append (replicate n copy_fail) (said_in own), fails_ask n, last_asks (refuses_copy end), own_asks p call own hs q)
+    ∙ omega (arith, asks-append (replicate n copy_fail) (said_in own), fails_ask n, last_asks (refuses_copy end), own_asks p d call own hs q)
 
 counts_to : (n number : ℕ) → GrewBy n 0 number → CountsTo n number
 counts_to n number g = (omega (arith, g.1), omega (arith, g.2))
 
-pub numbers_step : (start : StreamSeen) (at : Place) (a b : ConnSeen) (call : Call) (said : List FrontendMessage) (fs : List Frame) (shown : List Item) (end : End) (items : List CallItem) → StandsAt start at a → Went (started_call (request_of call) a) b said fs
-    → (s : Summary a.ledger (request_of call) said (heard fs) items b.ledger (refuses_copy end)) → Numbers at (outcome_of b shown end) s.own (heard fs) (next_place at b said s.own fs end)
-numbers_step start at a b call said fs shown end items st w s =
-    let asked = all_ask at a.ledger.owed call s.own (heard fs) end said s.queued (said_is_queued start at a (request_of call) said (heard fs) items b.ledger end st s) in
+pub numbers_step : (start : StreamSeen) (at : Place) (a b : ConnSeen) (d : ℕ) (call : Call) (said : List FrontendMessage) (fs : List Frame) (shown : List Item) (end : End) (items : List CallItem) → StandsAt start at a → Went (begun_call (request_of d call) a) b said fs
+    → (s : Summary a.ledger (request_of d call) said (heard fs) items b.ledger (refuses_copy end)) → Numbers at (outcome_of b shown end) s.own (heard fs) (next_place at b said s.own fs end)
+numbers_step start at a b d call said fs shown end items st w s =
+    let asked = all_ask at a.ledger.owed d call s.own (heard fs) end said s.queued (said_is_queued start at a (request_of d call) said (heard fs) items b.ledger end st s) in
     let t = w.tallies in
     record {
       groups = subst (λ (n : ℕ). CountsTo n b.groups) asked (counts_to (asks_of said) b.groups w.groups);
@@ -175,6 +183,7 @@ numbers_step start at a b call said fs shown end items st w s =
 pub answers_error : (a b : ConnSeen) (r : Request) (said : List FrontendMessage) (hs : List Frame) (items : List CallItem) (o : Ledger) (e : Error) → CallEnds a.ledger r said hs items o (Err e) → AnswersError (ends.Err e) hs
 answers_error a b r said hs items o (errors.Database details) h = inr (h.1.0, details, no_error h.1.0 h.1.3, h.1.1, refl)
 answers_error a b r said hs items o errors.RowNotFound h = inl (no_error hs h.0.well)
+answers_error a b r said hs items o (errors.BeginFailed status) h = inl (no_error hs h.0.well)
 answers_error a b r said hs items o (errors.Protocol (protocol.Reply tag)) h = inl (no_error hs h.1)
 answers_error a b r said hs items o (errors.Protocol (protocol.Caller fault)) h = inl (subst HasNoError (sym h.1) tt)
 answers_error a b r said hs items o (errors.Protocol _) h = absurd h
@@ -189,13 +198,13 @@ error_by None limits a b r said hs shown ends.Dropped h = inl (no_error hs h.3)
 error_by (Some fault) limits a b r said hs shown end h = inl (subst HasNoError (sym h.2) tt)
 
 -- the own response of a call that came to its end
-pub fine_carries : (start : StreamSeen) (at : Place) (a : ConnSeen) (call : Call) (said : List FrontendMessage) (hs : List Frame) (items items' : List CallItem) (ledger : Ledger) (copied : Bool) → StandsAt start at a → (s : Summary a.ledger (request_of call) said hs items' ledger copied)
-    → (f : IsFine a.ledger (request_of call) said hs items ledger) → (response : List BackendMessage) × Carry (main_frames at s.own hs) response × (items_of response ≡ items_of f.reply)
-fine_carries start at a call said hs items items' ledger copied st s f = elim s.queued [
-  | inr q ↦ (f.reply, (main_after start at a (request_of call) s.own hs st q ∙ f.replied, f.reply_has_frames), refl)
+pub fine_carries : (start : StreamSeen) (at : Place) (a : ConnSeen) (d : ℕ) (call : Call) (said : List FrontendMessage) (hs : List Frame) (items items' : List CallItem) (ledger : Ledger) (copied : Bool) → StandsAt start at a → (s : Summary a.ledger (request_of d call) said hs items' ledger copied)
+    → (f : IsFine a.ledger (request_of d call) said hs items ledger) → (response : List BackendMessage) × Carry (main_frames at s.own hs) response × (items_of response ≡ items_of f.reply)
+fine_carries start at a d call said hs items items' ledger copied st s f = elim s.queued [
+  | inr q ↦ (f.reply, (main_after start at a (request_of d call) s.own hs st q ∙ f.replied, f.reply_has_frames), refl)
   | inl e ↦
-      let mine = (fine_summary a.ledger call said hs items ledger f) in
-      let none : mine.0.own ≡ [] = mine.1 ∙ sym (fine_own a.ledger (request_of call) said hs items items' ledger copied s f) ∙ e in
+      let mine = (fine_summary a.ledger d call said hs items ledger f) in
+      let none : mine.0.own ≡ [] = mine.1 ∙ sym (fine_own a.ledger (request_of d call) said hs items items' ledger copied s f) ∙ e in
       let empty : map backend_frame mine.0.reply ≡ [] = sym mine.0.replied ∙ ap (λ (g : List Group). own_part a.ledger.owed g hs) none in
       ([], (ap (λ (g : List Group). main_frames at g hs) e, tt), sym (ap items_of (nothing mine.0.reply empty)) ∙ mine.2)
 ]
@@ -205,15 +214,15 @@ fine_carries start at a call said hs items items' ledger copied st s f = elim s.
     nothing (m ∷ ms) e = absurd cc
 
 well_by : (start : StreamSeen) (at : Place) (a b : ConnSeen) (step : Step) (out : Outcome) (said : List FrontendMessage) (fs : List Frame) (items items' : List CallItem) (answer : CallAnswer) (told : Answer) (response : List BackendMessage) (copied : Bool) → StandsAt start at a
-    → (s : Summary a.ledger (request_of step.call) said (heard fs) items' b.ledger copied) → (f : IsFine a.ledger (request_of step.call) said (heard fs) items b.ledger) → answer_to (kind_of (request_of step.call)) (items_of f.reply) ≡ Ok answer
+    → (s : Summary a.ledger (request_of at.depth step.call) said (heard fs) items' b.ledger copied) → (f : IsFine a.ledger (request_of at.depth step.call) said (heard fs) items b.ledger) → answer_to (kind_of (request_of at.depth step.call)) (items_of f.reply) f.status ≡ Ok answer
     → out.items ≡ items_with (map item_of items) answer → told ≡ answer_of answer → items_of response ≡ items_of f.reply → b.stream.unsent ≡ [] → IsWell step out told response (heard fs) (next_place at b said s.own fs out.end)
 well_by start at a b step out said fs items items' answer told response copied st s f e k t same sent =
     let xs = items_of f.reply in
     let items_same : items_in response ≡ map item_of xs = items_told response ∙ ap (map item_of) same in
     record {
-      items = k ∙ ap (λ (x : List CallItem). items_with (map item_of x) answer) f.items_are ∙ all_told step.call xs answer e ∙ ap (shown_by step.call) (sym items_same);
-      answers = t ∙ answer_told step.call xs answer e ∙ ap (answered_by step.call) (sym items_same);
-      row = λ w z. has_row step.call xs answer (map item_of items) e w (sym k ∙ z);
+      items = k ∙ ap (λ (x : List CallItem). items_with (map item_of x) answer) f.items_are ∙ all_told at.depth step.call xs f.status answer e ∙ ap (shown_by step.call) (sym items_same);
+      answers = t ∙ answer_told at.depth step.call xs f.status answer e ∙ ap (answered_by step.call) (sym items_same);
+      row = λ w z. has_row at.depth step.call xs f.status answer (map item_of items) e w (sym k ∙ z);
       no_error = no_error (heard fs) f.well;
       answered = omega (arith, st.ledger, s.counted, f.owes, ended_next at fs, length-append at.groups s.own);
       ready = f.ends;
@@ -221,18 +230,18 @@ well_by start at a b step out said fs items items' answer told response copied s
     }
 
 told_ok : (limits : Limits) (start : StreamSeen) (at : Place) (a b : ConnSeen) (step : Step) (out : Outcome) (said : List FrontendMessage) (fs : List Frame) (items' : List CallItem) (told : Answer) (copied : Bool) → StandsAt start at a → out.end ≡ ends.Ok told
-    → EndsOn None limits (started_call (request_of step.call) a) b (request_of step.call) said (heard fs) out.items (ends.Ok told) → (s : Summary a.ledger (request_of step.call) said (heard fs) items' b.ledger copied) → Told at step out s.own (heard fs) (next_place at b said s.own fs out.end)
+    → EndsOn None limits (begun_call (request_of at.depth step.call) a) b (request_of at.depth step.call) said (heard fs) out.items (ends.Ok told) → (s : Summary a.ledger (request_of at.depth step.call) said (heard fs) items' b.ledger copied) → Told at step out s.own (heard fs) (next_place at b said s.own fs out.end)
 told_ok limits start at a b step out said fs items' told copied st e h s =
     let f = h.5.0 in
-    let carried = fine_carries start at a step.call said (heard fs) h.0 items' b.ledger copied st s f in
+    let carried = fine_carries start at a at.depth step.call said (heard fs) h.0 items' b.ledger copied st s f in
     let well = well_by start at a b step out said fs h.0 items' h.1 told carried.0 copied st s f h.5.1 h.2 h.4 carried.2 h.6 in
     record {
       response = carried.0;
       says = carried.1;
       shows = ([], append-nil out.items ∙ well.items);
       with_answer = λ w n. let x = sym (ap is_fine e) ∙ n in absurd cc;
-      well = subst (λ (z : End). WellAtOk z step out carried.0 (heard fs) (next_place at b said s.own fs out.end)) (sym e) well;
-      error = subst (λ (z : End). AnswersError z (heard fs)) (sym e) (error_by None limits (started_call (request_of step.call) a) b (request_of step.call) said (heard fs) out.items (ends.Ok told) h);
+      well = λ m. subst (λ (z : End). WellAtOk z step out carried.0 (heard fs) (next_place at b said s.own fs out.end)) (sym e) well;
+      error = subst (λ (z : End). AnswersError z (heard fs)) (sym e) (error_by None limits (begun_call (request_of at.depth step.call) a) b (request_of at.depth step.call) said (heard fs) out.items (ends.Ok told) h);
     }
 
 not_well : (end : End) (step : Step) (out : Outcome) (response : List BackendMessage) (hs : List Frame) (next : Place) → is_fine end ≡ false → WellAtOk end step out response hs next
@@ -240,17 +249,17 @@ not_well (ends.Ok told) step out response hs next e = absurd cc
 not_well (ends.Err x) step out response hs next e = tt
 not_well ends.Dropped step out response hs next e = tt
 
-shows_by : (call : Call) (out_items : List Item) (items : List CallItem) (reply : List BackendMessage) → IsPrefixOf items (shown (kind_of (request_of call)) (items_of reply)) → (out_items ≡ map item_of items) ⊎ (out_items ≡ [])
+shows_by : (d : ℕ) (call : Call) (out_items : List Item) (items : List CallItem) (reply : List BackendMessage) → IsPrefixOf items (shown (kind_of (request_of d call)) (items_of reply)) → (out_items ≡ map item_of items) ⊎ (out_items ≡ [])
     → IsPrefixOf out_items (shown_by call (items_in reply)) × (waits_to_show call ≡ true → out_items ≡ [])
-shows_by call out_items items reply p (inr e) = ((shown_by call (items_in reply), ap (λ (x : List Item). x ++ shown_by call (items_in reply)) e), λ w. e)
-shows_by call out_items items reply p (inl e) =
-    let front = shown_front call (items_of reply) in
-    let all : map item_of items ++ map item_of p.0 ≡ map item_of (shown (kind_of (request_of call)) (items_of reply)) = sym (map-append item_of items p.0) ∙ ap (map item_of) p.1 in (
+shows_by d call out_items items reply p (inr e) = ((shown_by call (items_in reply), ap (λ (x : List Item). x ++ shown_by call (items_in reply)) e), λ w. e)
+shows_by d call out_items items reply p (inl e) =
+    let front = shown_front d call (items_of reply) in
+    let all : map item_of items ++ map item_of p.0 ≡ map item_of (shown (kind_of (request_of d call)) (items_of reply)) = sym (map-append item_of items p.0) ∙ ap (map item_of) p.1 in (
       (
         map item_of p.0 ++ front.0,
         ap (λ (x : List Item). x ++ (map item_of p.0 ++ front.0)) e ∙ sym (append_assoc (map item_of items) (map item_of p.0) front.0) ∙ ap (λ (x : List Item). x ++ front.0) all ∙ front.1 ∙ ap (shown_by call) (sym (items_told reply)),
       ),
-      λ w. e ∙ ap (map item_of) (first_none items p.0 (p.1 ∙ waits_none call (items_of reply) w)),
+      λ w. e ∙ ap (map item_of) (first_none items p.0 (p.1 ∙ waits_none d call (items_of reply) w)),
     )
   where
     first_none : (xs ys : List CallItem) → xs ++ ys ≡ [] → xs ≡ []
@@ -258,23 +267,23 @@ shows_by call out_items items reply p (inl e) =
     first_none (x ∷ xs) ys e = absurd cc
 
 told_other : (o : Option ServerFault) (limits : Limits) (start : StreamSeen) (at : Place) (a b : ConnSeen) (step : Step) (out : Outcome) (said : List FrontendMessage) (fs : List Frame) (items : List CallItem) → StandsAt start at a → is_fine out.end ≡ false
-    → EndsOn o limits (started_call (request_of step.call) a) b (request_of step.call) said (heard fs) out.items out.end → (s : Summary a.ledger (request_of step.call) said (heard fs) items b.ledger (refuses_copy out.end)) → ShowsItems out.end out.items items → Told at step out s.own (heard fs) (next_place at b said s.own fs out.end)
+    → EndsOn o limits (begun_call (request_of at.depth step.call) a) b (request_of at.depth step.call) said (heard fs) out.items out.end → (s : Summary a.ledger (request_of at.depth step.call) said (heard fs) items b.ledger (refuses_copy out.end)) → ShowsItems out.end out.items items → Told at step out s.own (heard fs) (next_place at b said s.own fs out.end)
 told_other o limits start at a b step out said fs items st n h s k =
-    let shows = shows_by step.call out.items items s.reply s.shows (subst (λ (t : Bool). MatchBool t (Unit {0}) ((out.items ≡ map item_of items) ⊎ (out.items ≡ []))) n k) in
+    let shows = shows_by at.depth step.call out.items items s.reply s.shows (subst (λ (t : Bool). MatchBool t (Unit {0}) ((out.items ≡ map item_of items) ⊎ (out.items ≡ []))) n k) in
     record {
       response = s.reply;
-      says = (main_is start at a s.own (heard fs) st (at_most_one a.ledger.owed (request_of step.call) s.own (heard fs) s.queued) ∙ s.replied, s.reply_has_frames);
+      says = (main_is start at a s.own (heard fs) st (at_most_one a.ledger.owed (request_of at.depth step.call) s.own (heard fs) s.queued) ∙ s.replied, s.reply_has_frames);
       shows = shows.0;
       with_answer = λ w z. shows.1 w;
-      well = not_well out.end step out s.reply (heard fs) (next_place at b said s.own fs out.end) n;
-      error = error_by o limits (started_call (request_of step.call) a) b (request_of step.call) said (heard fs) out.items out.end h;
+      well = λ m. not_well out.end step out s.reply (heard fs) (next_place at b said s.own fs out.end) n;
+      error = error_by o limits (begun_call (request_of at.depth step.call) a) b (request_of at.depth step.call) said (heard fs) out.items out.end h;
     }
 
 pub told_step : (o : Option ServerFault) (limits : Limits) (start : StreamSeen) (at : Place) (a b : ConnSeen) (step : Step) (out : Outcome) (said : List FrontendMessage) (fs : List Frame) (items : List CallItem) → StandsAt start at a
-    → EndsOn o limits (started_call (request_of step.call) a) b (request_of step.call) said (heard fs) out.items out.end → (s : Summary a.ledger (request_of step.call) said (heard fs) items b.ledger (refuses_copy out.end)) → ShowsItems out.end out.items items → Told at step out s.own (heard fs) (next_place at b said s.own fs out.end)
+    → EndsOn o limits (begun_call (request_of at.depth step.call) a) b (request_of at.depth step.call) said (heard fs) out.items out.end → (s : Summary a.ledger (request_of at.depth step.call) said (heard fs) items b.ledger (refuses_copy out.end)) → ShowsItems out.end out.items items → Told at step out s.own (heard fs) (next_place at b said s.own fs out.end)
 told_step o limits start at a b step out said fs items st h s k = by o out.end refl h refl
   where
-    by : (p : Option ServerFault) (end : End) → out.end ≡ end → EndsOn p limits (started_call (request_of step.call) a) b (request_of step.call) said (heard fs) out.items end → o ≡ p → Told at step out s.own (heard fs) (next_place at b said s.own fs out.end)
+    by : (p : Option ServerFault) (end : End) → out.end ≡ end → EndsOn p limits (begun_call (request_of at.depth step.call) a) b (request_of at.depth step.call) said (heard fs) out.items end → o ≡ p → Told at step out s.own (heard fs) (next_place at b said s.own fs out.end)
     by None (ends.Ok told) e g w = told_ok limits start at a b step out said fs items told (refuses_copy out.end) st e g s
     by None (ends.Err x) e g w = told_other o limits start at a b step out said fs items st (ap is_fine e) h s k
     by None ends.Dropped e g w = told_other o limits start at a b step out said fs items st (ap is_fine e) h s k

@@ -15,11 +15,11 @@ use Rattle.pg_stream.proofs.Known.{Appends-then, Appends-refl}
 use Rattle.pg_stream.proofs.StreamLemmas.{AreFrames-append, text_of-append}
 use Rattle.pg_call.specs.declared.request.Request.{Request}
 use Rattle.pg_call.specs.Requests.{Group}
-use Rattle.pg_conn.specs.Connections.{ConnSeen, started_call}
+use Rattle.pg_conn.specs.Connections.{ConnSeen}
 use Rattle.pg_report.specs.declared.outcome.Outcome.{Outcome}
 use Rattle.pg_script.specs.declared.step.Step.{Step}
 use Rattle.pg_play.specs.Waits.{IsWaitPlace, WaitsAt}
-use Rattle.pg_play.specs.Calls.{HasWaitedFew}
+use Rattle.pg_play.specs.Calls.{HasWaitedFew, begun_call}
 use Rattle.pg_play.specs.Places.{Place}
 use Rattle.pg_play.specs.WaitPlaces.{WaitPlaces, LastPlaces}
 use Rattle.pg_play.specs.Plays.{StandsAt, Plays_from, places_in, AreTakenBefore, TakesInTime}
@@ -49,7 +49,7 @@ places_behind old held bytes before frames all [] h = tt
 places_behind old held bytes before frames all (p ∷ ps) h = (place_behind old held bytes before frames p all h.0, places_behind old held bytes before frames all ps h.1)
 
 pub places_step : (start : StreamSeen) (at : Place) (a b : ConnSeen) (r : Request) (polls : ℕ) (out : Outcome) (said : List FrontendMessage) (own : List Group) (fs : List Frame) → StandsAt start at a → polls < 2 ^ 32 → out.waits ≡ b.stream.waits
-    → HasWaitedFew polls (started_call r a).stream b.stream out.end → WaitsAt (started_call r a).stream b.stream fs → WaitPlaces at out (next_place at b said own fs out.end)
+    → HasWaitedFew polls (begun_call r a).stream b.stream out.end → WaitsAt (begun_call r a).stream b.stream fs → WaitPlaces at out (next_place at b said own fs out.end)
 places_step start at a b r polls out said own fs st p k few w = record {
   bytes = w.bytes;
   gave = rw (← st.seen) w.gave;

@@ -1,5 +1,6 @@
 -- Internal: what a play of one call says, in the words of the connection.
 use Rattle.std.specs.Prelude.{◌≡◌, ◌≢◌, ℕ, ◌+◌, ◌*◌, ◌^◌, ◌<◌, ◌≤◌, ◌⊎◌, true, false, count_by, List, [], ◌∷◌, ◌++◌, length, map, Option, Some, None, Ok}
+use Rattle.pg_script.specs.declared.step.Call.TheVariants as script_calls
 use Rattle.pg_wire.specs.declared.error.Error.{Error}
 use Rattle.pg_wire.specs.declared.error.Error.TheVariants as errors
 use Rattle.pg_wire.specs.declared.error.ProtocolFault.TheVariants as protocol
@@ -14,11 +15,11 @@ use Rattle.pg_call.specs.declared.request.Request.{Request}
 use Rattle.pg_call.specs.declared.answer.CallItem.{CallItem}
 use Rattle.pg_call.specs.declared.answer.CallAnswer.{CallAnswer}
 use Rattle.pg_call.specs.declared.calling.Call.TheVariants as calls
-use Rattle.pg_call.specs.Requests.{spelled, CanBeSaid, IsRefusal}
+use Rattle.pg_call.specs.Requests.{spelled, CanBeSaid, IsRefusal, change_of, kind_of}
 use Rattle.pg_call.specs.Drains.{is_error}
 use Rattle.pg_call.specs.Calls.{CallIs, CallEnds, IsFine, Leaves}
-use Rattle.pg_conn.specs.Connections.{ConnSeen, idle, begun, started_call}
-use Rattle.pg_conn.specs.Turns.{ends_request, EndsBy, is_flushed}
+use Rattle.pg_conn.specs.Connections.{ConnSeen, idle, begun, ConnOf, settled, cleaned, runs, rolled_back}
+use Rattle.pg_conn.specs.Turns.{ends_request, EndsBy, is_flushed, HasAllRoom}
 use Rattle.pg_report.specs.declared.outcome.Item.{Item}
 use Rattle.pg_report.specs.declared.outcome.Answer.TheVariants.{Unit as AnswersUnit}
 use Rattle.pg_report.specs.declared.outcome.End.{End}
@@ -28,7 +29,7 @@ use Rattle.pg_script.specs.declared.step.Step.{Step}
 use Rattle.pg_startup.specs.Flows.{Flows}
 use Rattle.pg_play.specs.declared.tally.Limits.{Limits}
 use Rattle.pg_play.specs.declared.tally.Tally.{Tally}
-use Rattle.pg_play.specs.Shown.{request_of, has_query, item_of, items_with, has_rows, answer_of}
+use Rattle.pg_play.specs.Shown.{request_of, has_query, item_of, items_with, has_rows, answer_of, begins_with, acts_at_once}
 use Rattle.pg_play.specs.Waits.{WaitsAt}
 
 -- ---- the tally of a call
@@ -67,7 +68,11 @@ pub record Went (a b : ConnSeen) (said : List FrontendMessage) (fs : List Frame)
   pub waits : WaitsAt a.stream b.stream fs
   pub groups : GrewBy (count_by ends_request said) a.groups b.groups
   pub heard : GrewBy (length (heard fs)) a.heard b.heard
-  pub started : (b.sent ≡ a.sent) × (b.read ≡ a.read)
+  pub started : (b.sent ≡ a.sent) × (b.read ≡ a.read) × (b.depth ≡ a.depth) × (b.change ≡ a.change)
+
+-- a call has begun on a connection on which none ran
+abbrev pub begun_call : Request → ConnSeen → ConnSeen
+begun_call request c = record c { stream = record c.stream { waits = 0; moves = 0 }; call = calls.Asked request; change = change_of (kind_of request); groups = 0; heard = 0 }
 
 -- it was not polled yet
 abbrev pub IsFresh : ConnSeen → ConnSeen → Request → List Frame → Type 0
@@ -78,6 +83,8 @@ pub record InPlay (a b : ConnSeen) (r : Request) (waits : ℕ) (items : List Cal
   pub went : Went a b said fs
   pub broken : b.broken ≡ None
   pub call : CallIs a.ledger r said (heard fs) items b.ledger b.call
+  pub asked : a.change ≡ change_of (kind_of r)
+  pub room : HasAllRoom a → HasAllRoom b
   pub waited : Waited waits a.stream b.stream
   -- each of its polls waited or showed an item
   pub calls : b.stream.link.calls ≤ a.stream.link.calls + 256 * (waits + length items)
@@ -88,7 +95,7 @@ pub record InPlay (a b : ConnSeen) (r : Request) (waits : ℕ) (items : List Cal
 -- on a connection that is whole, or is broken, with fewer items than it may show
 abbrev pub IsPlayingOn : Option ServerFault → ℕ → ConnSeen → ConnSeen → Request → ℕ → List Item → Type 0
 IsPlayingOn None most a b r waits shown = (items : List CallItem) × (said : List FrontendMessage) × (fs : List Frame) × (shown ≡ map item_of items) × (length shown < most) × InPlay a b r waits items said fs
-IsPlayingOn (Some fault) most a b r waits shown = (b ≡ a) × (shown ≡ [])
+IsPlayingOn (Some fault) most a b r waits shown = (b ≡ a) × (shown ≡ []) × (a.groups ≡ 0)
 
 abbrev pub IsPlaying : ℕ → ConnSeen → ConnSeen → Request → ℕ → List Item → Type 0
 IsPlaying most a b r waits shown = IsPlayingOn a.broken most a b r waits shown
@@ -148,6 +155,7 @@ pub record Ended (limits : Limits) (a b : ConnSeen) (r : Request) (shown : List 
   pub broken : b.broken ≡ broken_after a.broken end
   pub kept : (fault : ServerFault) → a.broken ≡ Some fault → fs ≡ []
   pub few : HasWaitedFew limits.polls a.stream b.stream end
+  pub room : HasAllRoom a → HasAllRoom b
   pub calls : b.stream.link.calls ≤ a.stream.link.calls + 256 * (limits.polls + limits.most)
   pub at_once : a.broken ≡ None → EndsAtOnce a b r shown end fs
   pub ends : EndsOn a.broken limits a b r said (heard fs) shown end
@@ -155,10 +163,20 @@ pub record Ended (limits : Limits) (a b : ConnSeen) (r : Request) (shown : List 
 abbrev pub HasEnded : Limits → ConnSeen → ConnSeen → Request → List Item → End → Type 0
 HasEnded limits a b r shown end = (said : List FrontendMessage) × (fs : List Frame) × Ended limits a b r shown end said fs
 
+-- what is made of a connection on which a call has come to this end
+abbrev pub behind_end : {A : Type 0} → End → ConnOf A → ConnOf A
+behind_end (ends.Ok answer) c = settled c
+behind_end _ c = cleaned c
+
+-- It stopped at this connection, of which this was made: its call has ended, or it runs still and is to be given up.
+abbrev pub StopsBy : Limits → ConnSeen → ConnSeen → Request → List Item → End → Type 0
+StopsBy limits a b r shown end = (stopped : ConnSeen) × HasEnded limits a stopped r shown end
+    × (((stopped.call ≡ calls.Idle) × (b ≡ behind_end end stopped)) ⊎ ((runs stopped.call ≡ true) × (b ≡ stopped) × (behind_end end stopped ≡ cleaned stopped)))
+
 -- whatever came before, a poll goes on by so much
 abbrev pub PollGives : Limits → ConnSeen → ConnSeen → Request → ℕ → List Item → Option End → Type 0
 PollGives limits a b r waits shown None = IsPlaying limits.most a b r waits shown
-PollGives limits a b r waits shown (Some end) = HasEnded limits a b r shown end
+PollGives limits a b r waits shown (Some end) = StopsBy limits a b r shown end
 
 -- ---- the whole step
 
@@ -179,10 +197,24 @@ outcome_of b shown end = record { items = shown; end = end; groups = b.groups; h
 
 -- a call that was polled, on the connection as it began
 abbrev pub PlaysCall : Limits → ConnSeen → ConnSeen → Request → Outcome → Type 0
-PlaysCall limits a b r out = HasEnded limits a b r out.items out.end × (out ≡ outcome_of b out.items out.end) × (idle b ≡ b)
+PlaysCall limits a b r out = (stopped : ConnSeen) × HasEnded limits a stopped r out.items out.end × (stopped.call ≡ calls.Idle) × (b ≡ behind_end out.end stopped) × (out ≡ outcome_of b out.items out.end)
 
--- a step: not polled; without memory for its query; or played
+-- the outcome of a rollback without waiting
+abbrev pub rolled_outcome : ConnSeen → Outcome
+rolled_outcome b = record { items = []; end = ends.Ok AnswersUnit; groups = b.groups; heard = b.heard; cache = cache.Same; waits = b.stream.waits; moved = b.stream.moves }
+
+-- a step whose call is polled: not polled; refused, since it would open a savepoint by its own text; without memory for its query; or played
+abbrev pub PlaysPolled : ConnSeen → ConnSeen → Step → Outcome → Type 0
+PlaysPolled a b step out =
+    (IsUnpolled step × (b ≡ a) × (out ≡ untouched ends.Dropped))
+    ⊎ ((IsUnpolled step → ⊥) × (step.polls < 2 ^ 32)
+    × ((((begins_with step.call ≡ true) × (0 < a.depth)) × (b ≡ a) × (out ≡ untouched (ends.Err errors.InvalidSavePointStatement)))
+    ⊎ (((begins_with step.call ≡ true) × (0 < a.depth) → ⊥)
+    × (((b ≡ a) × (out ≡ untouched (ends.Err errors.OutOfMemory)) × (has_query step.call ≡ true))
+    ⊎ (a.call ≡ calls.Idle → PlaysCall (limits_of step) (begun_call (request_of a.depth step.call) a) b (request_of a.depth step.call) out)))))
+
+-- a step: a rollback without waiting, or one whose call is polled
 abbrev pub PlaysStep : ConnSeen → ConnSeen → Step → Outcome → Type 0
 PlaysStep a b step out =
-    (IsUnpolled step × (b ≡ a) × (out ≡ untouched ends.Dropped))
-    ⊎ ((IsUnpolled step → ⊥) × (step.polls < 2 ^ 32) × (((b ≡ a) × (out ≡ untouched (ends.Err errors.OutOfMemory)) × (has_query step.call ≡ true)) ⊎ PlaysCall (limits_of step) (started_call (request_of step.call) a) b (request_of step.call) out))
+    ((step.call ≡ script_calls.StartRollback) × (b ≡ rolled_back a) × (out ≡ rolled_outcome b))
+    ⊎ ((acts_at_once step.call ≡ false) × PlaysPolled a b step out)

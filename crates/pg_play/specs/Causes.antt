@@ -1,5 +1,7 @@
 -- Each end other than Ok has its cause, and some ends are due.
 use Rattle.std.specs.Prelude.{◌≡◌, ◌≢◌, ℕ, ◌+◌, ◌*◌, ◌≤◌, ◌<◌, ◌⊎◌, true, false, List, [], ◌∷◌, ◌++◌, length, Some, None}
+use Rattle.pg_wire.specs.declared.status.TransactionStatus.TheVariants as statuses
+use Rattle.pg_wire.specs.declared.status.TransactionStatus.{TransactionStatus}
 use Rattle.std.specs.List.{AllByRecursion}
 use Rattle.pg_wire.specs.declared.error.Error.{Error}
 use Rattle.pg_wire.specs.declared.error.Error.TheVariants as errors
@@ -9,7 +11,7 @@ use Rattle.pg_wire.specs.declared.error.ServerFault.{ServerFault}
 use Rattle.pg_wire.specs.declared.error.ServerFault.TheVariants as faults
 use Rattle.pg_wire.specs.Frame.{Frame, bytes_of, backend_tags, IsWhole}
 use Rattle.pg_wire.specs.Parts.{is_asynchronous}
-use Rattle.pg_wire.specs.Backend.{BackendMessage, backend_frame, HasBackendFrame, ErrorResponse}
+use Rattle.pg_wire.specs.Backend.{BackendMessage, backend_frame, HasBackendFrame, ErrorResponse, ReadyForQuery}
 use Rattle.pg_wire.specs.Refusals.{BeginsCopyResponse}
 use Rattle.pg_stream.specs.Links.{Rose}
 use Rattle.pg_stream.specs.Streams.{HeaderFault, HasNone, IsMalformedFront}
@@ -23,7 +25,7 @@ use Rattle.pg_report.specs.declared.outcome.End.TheVariants as ends
 use Rattle.pg_report.specs.declared.outcome.Outcome.{Outcome}
 use Rattle.pg_script.specs.declared.step.Call.TheVariants as calls
 use Rattle.pg_script.specs.declared.step.Step.{Step}
-use Rattle.pg_play.specs.Shown.{request_of, items_in, is_row, wants_row, waits_to_show}
+use Rattle.pg_play.specs.Shown.{request_of, items_in, is_row, wants_row, waits_to_show, begins, begins_with}
 use Rattle.pg_play.specs.Calls.{IsUnpolled, WaitsFew, untouched}
 use Rattle.pg_play.specs.Places.{Place, ended, owed, main_frames}
 use Rattle.pg_play.specs.Told.{HasNoError, Carry}
@@ -65,11 +67,11 @@ pub record IsAskedToCopy (at : Place) (step : Step) (own : List Group) (slice : 
   pub slice_is : slice ≡ front ++ backend_frame last ∷ []
   pub last_has_frame : HasBackendFrame last
   pub tagged : tag ≡ (backend_frame last).tag
-  pub whole : own ≡ groups_of (request_of step.call)
+  pub whole : own ≡ groups_of (request_of at.depth step.call)
   pub before : List BackendMessage
   pub part : Part
   pub says : Carry (main_frames at own slice) (before ++ last ∷ [])
-  pub so_far : part_after (awaits_first (kind_of (request_of step.call))) before ≡ Some part
+  pub so_far : part_after (awaits_first (kind_of (request_of at.depth step.call))) before ≡ Some part
   pub copies : may_copy part last ≡ true
   pub lawful : (group : Group) → own ≡ group ∷ [] → BeginsCopyResponse group (main_frames at own slice)
 
@@ -78,10 +80,23 @@ pub record HasNoRow (at : Place) (step : Step) (own : List Group) (slice : List 
   pub wants : wants_row step.call ≡ true
   pub no_error : HasNoError slice
   pub answered : ended next ≡ length next.groups
-  pub whole : own ≡ groups_of (request_of step.call)
+  pub whole : own ≡ groups_of (request_of at.depth step.call)
   pub response : List BackendMessage
   pub says : Carry (main_frames at own slice) response
   pub no_row : AllByRecursion (λ item. is_row item ≡ false) (items_in response)
+
+-- the response to a begin came to its end without an error, and no transaction is open behind it
+pub record BeginsNone (at : Place) (step : Step) (own : List Group) (slice : List Frame) (status : TransactionStatus) : Type 0 where
+  pub begins_it : begins step.call ≡ true
+  pub no_error : HasNoError slice
+  pub whole : own ≡ groups_of (request_of at.depth step.call)
+  pub front : List Frame
+  pub slice_is : slice ≡ front ++ backend_frame (ReadyForQuery status) ∷ []
+  pub other : status ≢ statuses.Transaction
+
+-- a text of its own would open a savepoint
+abbrev pub OpensSavepoint : Place → Step → Type 0
+OpensSavepoint at step = (begins_with step.call ≡ true) × (0 < at.depth)
 
 -- ---- why a step failed
 
@@ -92,8 +107,10 @@ Causes at step own slice next (errors.Io io.End) = Rose at.seen.link.ends next.s
 Causes at step own slice next (errors.Database details) = (front : List Frame) × (slice ≡ front ++ backend_frame (ErrorResponse details) ∷ []) × HasBackendFrame (ErrorResponse details)
 Causes at step own slice next (errors.Protocol (protocol.Server fault)) = (at.broken ≡ Some fault) ⊎ ShowsFault at own slice next fault
 Causes at step own slice next (errors.Protocol (protocol.Reply tag)) = IsAskedToCopy at step own slice tag
-Causes at step own slice next (errors.Protocol (protocol.Caller fault)) = (own ≡ []) × (slice ≡ []) × IsRefusal (request_of step.call) (errors.Protocol (protocol.Caller fault))
+Causes at step own slice next (errors.Protocol (protocol.Caller fault)) = (own ≡ []) × (slice ≡ []) × IsRefusal (request_of at.depth step.call) (errors.Protocol (protocol.Caller fault))
 Causes at step own slice next errors.RowNotFound = HasNoRow at step own slice next
+Causes at step own slice next (errors.BeginFailed status) = BeginsNone at step own slice status
+Causes at step own slice next errors.InvalidSavePointStatement = OpensSavepoint at step × (own ≡ []) × (slice ≡ [])
 Causes at step own slice next _ = ⊥
 
 -- ---- why a step was dropped
@@ -125,13 +142,15 @@ abbrev pub StaysAt : Place → Place → Type 0
 StaysAt at next = next ≡ record at { seen = record at.seen { left = next.seen.left; waits = next.seen.waits; moves = next.seen.moves } }
 
 pub record EndsDuly (at : Place) (step : Step) (out : Outcome) (next : Place) : Type 0 where
+  -- a text of its own opens no savepoint: that is refused before all else
+  pub savepoint : (IsUnpolled step → ⊥) → OpensSavepoint at step → (out ≡ untouched (ends.Err errors.InvalidSavePointStatement)) × (next ≡ at)
   -- an unpolled step does nothing
   pub unpolled : IsUnpolled step → (out ≡ untouched ends.Dropped) × (next ≡ at)
   -- a broken connection answers its fault, and does nothing else
-  pub kept : (fault : ServerFault) → at.broken ≡ Some fault → (IsUnpolled step → ⊥)
+  pub kept : (fault : ServerFault) → at.broken ≡ Some fault → (IsUnpolled step → ⊥) → (OpensSavepoint at step → ⊥)
       → ((out ≡ untouched (ends.Err (errors.Protocol (protocol.Server fault)))) ⊎ (out ≡ untouched (ends.Err errors.OutOfMemory))) × (next ≡ record at { seen = record at.seen { waits = next.seen.waits; moves = next.seen.moves } })
   -- what no frame can say is refused at once, where the connection is whole, or memory is wanting; and nothing else is done
-  pub refused : at.broken ≡ None → (IsUnpolled step → ⊥) → (CanBeSaid (request_of step.call) → ⊥) → (e : Error) × IsRefusal (request_of step.call) e × (out ≡ untouched (ends.Err e)) × StaysAt at next
+  pub refused : at.broken ≡ None → (IsUnpolled step → ⊥) → (OpensSavepoint at step → ⊥) → (CanBeSaid (request_of at.depth step.call) → ⊥) → (e : Error) × IsRefusal (request_of at.depth step.call) e × (out ≡ untouched (ends.Err e)) × StaysAt at next
   -- a flush with nothing owed and nothing unsent is Ok at once, where the connection is whole; and nothing else is done
   pub flushed : at.broken ≡ None → (IsUnpolled step → ⊥) → step.call ≡ calls.Flush → owed at ≡ 0 → at.seen.unsent ≡ [] → (out ≡ untouched (ends.Ok AnswersUnit)) × StaysAt at next
   -- fewer of its polls than it has answer `Pending`, or it is dropped

@@ -1,5 +1,6 @@
 -- How a step may end where nobody failed: neither the link nor the server.
-use Rattle.std.specs.Prelude.{◌≡◌, ◌+◌, ◌*◌, ◌≤◌, ◌⊎◌, ℕ, true, List, [], ◌∷◌, ◌++◌, length, map}
+use Rattle.std.specs.Prelude.{◌≡◌, ◌+◌, ◌*◌, ◌≤◌, ◌⊎◌, ℕ, true, List, [], ◌∷◌, ◌++◌, length, map, ◌≢◌}
+use Rattle.pg_wire.specs.declared.status.TransactionStatus.TheVariants as statuses
 use Rattle.std.specs.List.{AllByRecursion}
 use Rattle.pg_wire.specs.declared.error.Error.{Error}
 use Rattle.pg_wire.specs.declared.error.Error.TheVariants as errors
@@ -19,7 +20,7 @@ use Rattle.pg_report.specs.declared.outcome.End.TheVariants as ends
 use Rattle.pg_report.specs.declared.outcome.Outcome.{Outcome}
 use Rattle.pg_script.specs.declared.step.Call.{Call}
 use Rattle.pg_script.specs.declared.step.Step.{Step}
-use Rattle.pg_play.specs.Shown.{request_of, wants_row}
+use Rattle.pg_play.specs.Shown.{request_of, wants_row, begins, begins_with}
 use Rattle.pg_play.specs.Places.{Place}
 
 -- From this link up to this place no read or write failed, and no read told the end. In all that was read the server kept the protocol: no
@@ -34,13 +35,15 @@ pub record IsFaultless (first : LinkSeen) (at : Place) (sent read : List Frame) 
   pub asides : AllByRecursion (λ frame. is_asynchronous frame ≡ true → IsSaid frame) read
   pub replies : AreReplies sent (heard read)
 
--- an error that is neither the link's nor the server's fault: want of memory; an error of the database; no row where one is wanted; or a
--- text of the caller's that no frame can carry
+-- an error that is neither the link's nor the server's fault: want of memory; an error of the database; no row where one is wanted; a text of
+-- the caller's that no frame can carry, or that would open a savepoint; or a begin behind which no transaction is open
 abbrev pub IsFairError : Call → Error → Type 0
 IsFairError call errors.OutOfMemory = Unit {0}
 IsFairError call (errors.Database details) = Unit {0}
 IsFairError call errors.RowNotFound = wants_row call ≡ true
-IsFairError call (errors.Protocol (protocol.Caller fault)) = IsRefusal (request_of call) (errors.Protocol (protocol.Caller fault))
+IsFairError call (errors.Protocol (protocol.Caller fault)) = (depth : ℕ) × IsRefusal (request_of depth call) (errors.Protocol (protocol.Caller fault))
+IsFairError call (errors.BeginFailed status) = (begins call ≡ true) × (status ≢ statuses.Transaction)
+IsFairError call errors.InvalidSavePointStatement = begins_with call ≡ true
 IsFairError call _ = ⊥
 
 -- it had no more polls than its waits and moves take up, or might show no more items than it showed

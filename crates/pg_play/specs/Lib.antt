@@ -3,9 +3,11 @@ pub mod Waits
 pub mod Calls
 pub mod Places
 pub mod Told
+pub mod Settling
 pub mod WaitPlaces
 pub mod Causes
 pub mod Complete
+pub mod Idles
 pub mod Plays
 pub mod Starts
 pub mod Top

@@ -22,7 +22,7 @@ use Rattle.pg_play.specs.Calls.{broken_after}
 pub record Place : Type 0 where
   -- what is seen of the stream
   pub seen : StreamSeen
-  -- all messages queued, in order, and the request groups among them
+  -- all messages queued, in order, and the request groups among them, cleanups included
   pub said : List FrontendMessage
   pub groups : List Group
   -- all frames taken
@@ -31,9 +31,11 @@ pub record Place : Type 0 where
   pub is_copy_failed : Bool
   -- the fault by which the server broke the connection
   pub broken : Option ServerFault
+  -- how many transactions and savepoints are open
+  pub depth : ℕ
 
 abbrev pub first_place : StreamSeen → Place
-first_place s = record { seen = s; said = []; groups = []; frames = []; is_copy_failed = false; broken = None }
+first_place s = record { seen = s; said = []; groups = []; frames = []; is_copy_failed = false; broken = None; depth = 0 }
 
 -- how many ReadyForQuery are among frames
 abbrev pub readies : List Frame → ℕ
@@ -93,10 +95,11 @@ failed_next at (group ∷ groups) slice end = refuses_copy end
 
 -- From one place to the next a step queued these groups of its own, and heard this slice.
 pub record Queued (at : Place) (step : Step) (out : Outcome) (own : List Group) (slice : List Frame) (next : Place) : Type 0 where
-  pub asks : Queues out.end (groups_of (request_of step.call)) own
-  pub can : own ≢ [] → CanBeSaid (request_of step.call)
+  pub asks : Queues out.end (groups_of (request_of at.depth step.call)) own
+  pub can : own ≢ [] → CanBeSaid (request_of at.depth step.call)
   pub said : next.said ≡ at.said ++ queued_by at own slice out.end
   pub groups : next.groups ≡ at.groups ++ own
+  pub depth : next.depth ≡ at.depth
   -- the slice follows what was heard before, and nothing is left out
   pub taken : heard next.frames ≡ heard at.frames ++ slice
   pub failed : next.is_copy_failed ≡ failed_next at own slice out.end

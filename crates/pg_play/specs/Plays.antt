@@ -1,5 +1,10 @@
 -- The theorem of a play.
-use Rattle.std.specs.Prelude.{◌≡◌, ◌≢◌, ℕ, ◌+◌, ◌*◌, ◌<◌, false, List, [], ◌∷◌, ◌++◌, length, map, flat_map, Some, None, Ok, sum_by, count_by, ◌≤◌}
+use Rattle.std.specs.Prelude.{◌≡◌, ◌≢◌, ℕ, ◌+◌, ◌*◌, ◌<◌, false, List, [], ◌∷◌, ◌++◌, length, map, flat_map, Some, None, Ok, sum_by, count_by, ◌≤◌, true, ◌-◌, ◌^◌}
+use Rattle.pg_play.specs.Idles.{KeepsOrder, SaysIdle, statuses}
+use Rattle.pg_report.specs.declared.outcome.Answer.TheVariants.{Unit as AnswersUnit}
+use Rattle.pg_play.specs.Calls.{untouched}
+use Rattle.pg_play.specs.Shown.{acts_at_once}
+use Rattle.pg_play.specs.Settling.{Settles}
 use Rattle.std.specs.List.{AllByRecursion}
 use Rattle.pg_wire.specs.declared.error.Error.TheVariants as errors
 use Rattle.pg_wire.specs.declared.error.ProtocolFault.TheVariants as protocol
@@ -18,7 +23,7 @@ use Rattle.pg_call.specs.declared.calling.Call.TheVariants as calls
 use Rattle.pg_call.specs.Requests.{Group, said_in, spelled}
 use Rattle.pg_call.specs.Drains.{is_copy_in, after_readys}
 use Rattle.pg_conn.specs.Connections.{ConnSeen}
-use Rattle.pg_conn.specs.Turns.{ends_request}
+use Rattle.pg_conn.specs.Turns.{ends_request, HasAllRoom}
 use Rattle.pg_report.specs.declared.outcome.End.TheVariants as ends
 use Rattle.pg_report.specs.declared.outcome.Outcome.{Outcome}
 use Rattle.pg_report.specs.declared.outcome.Started.{Started}
@@ -42,8 +47,8 @@ abbrev pub IsNeverUnlawful : Place → Outcome → Place → Type 0
 IsNeverUnlawful at out next = (tag : ℕ) (front : Frame) → at.broken ≡ None → out.end ≡ ends.Err (errors.Protocol (protocol.Server (faults.Unlawful tag))) → IsFront next front
     → MayHear (said_in next.groups) (heard next.frames ++ front ∷ []) → ⊥
 
--- what a step queued and heard, why it ended so, and what its outcome tells
-pub record Plays_step (at : Place) (step : Step) (out : Outcome) (next : Place) : Type 0 where
+-- what the call of a step queued and heard, why it ended so, and what is told of it
+pub record Plays_call (at : Place) (step : Step) (out : Outcome) (next : Place) : Type 0 where
   pub own : List Group
   pub slice : List Frame
   pub queued : Queued at step out own slice next
@@ -51,12 +56,22 @@ pub record Plays_step (at : Place) (step : Step) (out : Outcome) (next : Place) 
   pub sends : Sends at.seen next.seen (spelled (queued_by at own slice out.end))
   pub told : Told at step out own slice next
   pub numbers : Numbers at out own slice next
-  pub waits : WaitPlaces at out next
-  pub counts : NoneFalls at.seen.link next.seen.link
   -- at most 256 calls of the link for each poll that it may have, and for each item that it may show
   pub calls : next.seen.link.calls ≤ at.seen.link.calls + 256 * (step.polls + step.most)
   pub cause : HasCause at step out own slice next out.end
-  pub duly : EndsDuly at step out next
+  -- a rollback without waiting is no call
+  pub at_once : acts_at_once step.call ≡ true → (out ≡ untouched (ends.Ok AnswersUnit)) × (next ≡ at)
+  pub duly : acts_at_once step.call ≡ false → EndsDuly at step out next
+
+-- a step: its call, and what the connection makes of its end
+pub record Plays_step (at : Place) (step : Step) (out : Outcome) (next : Place) : Type 0 where
+  pub told : Outcome
+  pub ended_at : Place
+  pub call : Plays_call at step told ended_at
+  pub settles : Settles at step told out call.own ended_at next
+  pub lawful_call : IsNeverUnlawful at told ended_at
+  pub waits : WaitPlaces at out next
+  pub counts : NoneFalls at.seen.link next.seen.link
   pub lawful : IsNeverUnlawful at out next
   -- the replies owed behind it are the Query and Sync messages queued, less the ReadyForQuery messages taken
   pub ledger : ended next + owed next ≡ count_by ends_request next.said
@@ -67,6 +82,24 @@ Plays_from at [] [] last = last ≡ at
 Plays_from at (step ∷ steps) (out ∷ outs) last = (next : Place) × Plays_step at step out next × Plays_from next steps outs last
 Plays_from at [] (out ∷ outs) last = ⊥
 Plays_from at (step ∷ steps) [] last = ⊥
+
+-- the server keeps this order in each step
+abbrev pub AreOrderly : (idle : ℕ → Type 0) (at : Place) (steps : List Step) (outs : List Outcome) (last : Place) → Plays_from at steps outs last → Type 0
+AreOrderly idle at [] [] last run = Unit {0}
+AreOrderly idle at (step ∷ steps) (out ∷ outs) last run = KeepsOrder idle at step run.1.call.own run.1.settles.cleanup run.1.call.slice × AreOrderly idle run.0 steps outs last run.2
+AreOrderly idle at [] (out ∷ outs) last run = ⊥
+AreOrderly idle at (step ∷ steps) [] last run = ⊥
+
+-- behind each step, where nothing is open, the response to the last group queued ends idle
+abbrev pub AreIdle : (idle : ℕ → Type 0) (at : Place) (steps : List Step) (outs : List Outcome) (last : Place) → Plays_from at steps outs last → Type 0
+AreIdle idle at [] [] last run = Unit {0}
+AreIdle idle at (step ∷ steps) (out ∷ outs) last run = (run.0.depth ≡ 0 → idle (length run.0.groups)) × AreIdle idle run.0 steps outs last run.2
+AreIdle idle at [] (out ∷ outs) last run = ⊥
+AreIdle idle at (step ∷ steps) [] last run = ⊥
+
+-- Where the session is idle at first, and the server keeps that order, it is.
+abbrev pub IdlesWhereOrderly : (told : List (List ℕ)) (at : Place) (steps : List Step) (outs : List Outcome) (last : Place) → Plays_from at steps outs last → Type 0
+IdlesWhereOrderly told at steps outs last run = SaysIdle told 0 → AreOrderly (SaysIdle told) at steps outs last run → AreIdle (SaysIdle told) at steps outs last run
 
 -- the places at which the reads of all steps waited, in order
 abbrev pub places_in : (at : Place) (steps : List Step) (outs : List Outcome) (last : Place) → Plays_from at steps outs last → List ℕ
@@ -98,6 +131,8 @@ pub record StandsAt (start : StreamSeen) (at : Place) (c : ConnSeen) : Type 0 wh
   pub failed : 0 < c.ledger.owed → c.ledger.is_copy_failed ≡ at.is_copy_failed
   pub broken : c.broken ≡ at.broken
   pub seen : c.stream ≡ at.seen
+  pub depth : c.depth ≡ at.depth
+  pub room : HasAllRoom c
   pub idle : c.call ≡ calls.Idle
   pub sayable : AllByRecursion HasFrontendFrame at.said
   pub are_groups : AllByRecursion IsGroup at.groups
@@ -187,6 +222,9 @@ pub record Plays (opening : Opening) (polls : ℕ) (first last : LinkSeen) (star
   pub waits : LastPlaces first last outs (places_in (first_place begins) steps outs place plays)
   -- the whole frames that the link gave behind the handshake and before a wait are taken by the end of the wait's step
   pub in_time : (old new : List ℕ) → first.given ≡ Some old → last.given ≡ Some new → TakesInTime (old ++ bytes.read) new (first_place begins) steps outs place plays
+  -- Where start-up's session is idle, and the server opens transactions for what is to begin one alone, it is idle again wherever none is open and all is answered, as long
+  -- as the replies owed can be counted.
+  pub idle : length place.groups < 2 ^ 64 - 1 → IdlesWhereOrderly (statuses bytes.session.status (heard place.frames)) (first_place begins) steps outs place plays
   pub lawful : WhereLawful place outs
   -- where neither the link nor the server failed, no step ends by a fault of theirs
   pub complete : WhereFaultless first place steps outs

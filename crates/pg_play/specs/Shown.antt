@@ -1,5 +1,5 @@
 -- What the call of a step asks, what it shows of the response to it, and what it answers.
-use Rattle.std.specs.Prelude.{ℕ, ◌-◌, ◌^◌, min, Bool, true, false, List, [], ◌∷◌, filter, flat_map, map, take, sum_by, Option, Some, None}
+use Rattle.std.specs.Prelude.{ℕ, ◌-◌, ◌^◌, min, Bool, true, false, List, [], ◌∷◌, filter, flat_map, map, take, sum_by, Option, Some, None, zero, suc}
 use Rattle.pg_wire.specs.Backend.{Values, BackendMessage, DataRow, CommandComplete}
 use Rattle.pg_wire.specs.Completion.{rows_affected}
 use Rattle.pg_call.specs.declared.request.Request.{Request}
@@ -15,23 +15,54 @@ use Rattle.pg_report.specs.declared.outcome.Answer.TheVariants.{Unit as AnswersU
 use Rattle.pg_script.specs.declared.step.Call.{Call}
 use Rattle.pg_script.specs.declared.step.Call.TheVariants as calls
 
--- what a call asks of a connection
-abbrev pub request_of : Call → Request
-request_of (calls.Execute query) = requests.Execute query
-request_of (calls.ExecuteMany query) = requests.ExecuteMany query
-request_of (calls.Fetch query) = requests.Fetch query
-request_of (calls.FetchMany query) = requests.FetchMany query
-request_of (calls.FetchAll query) = requests.FetchAll query
-request_of (calls.FetchOptional query) = requests.FetchOptional query
-request_of (calls.FetchOne query) = requests.FetchOne query
-request_of calls.Ping = requests.Ping
-request_of calls.Flush = requests.Flush
+-- what ends a transaction or a savepoint where so many are open: nothing is asked where none is
+abbrev pub ending : (ℕ → Request) → ℕ → Request
+ending ends zero = requests.Flush
+ending ends (suc left) = ends left
+
+-- What a call asks of a connection on which so many transactions and savepoints are open. A rollback without waiting is no call of the connection,
+-- and asks nothing.
+abbrev pub request_of : ℕ → Call → Request
+request_of depth (calls.Execute query) = requests.Execute query
+request_of depth (calls.ExecuteMany query) = requests.ExecuteMany query
+request_of depth (calls.Fetch query) = requests.Fetch query
+request_of depth (calls.FetchMany query) = requests.FetchMany query
+request_of depth (calls.FetchAll query) = requests.FetchAll query
+request_of depth (calls.FetchOptional query) = requests.FetchOptional query
+request_of depth (calls.FetchOne query) = requests.FetchOne query
+request_of depth calls.Ping = requests.Ping
+request_of depth calls.Flush = requests.Flush
+request_of depth calls.Begin = requests.Begin depth
+request_of depth (calls.BeginWith query) = requests.BeginWith query
+request_of depth calls.Commit = ending requests.Commit depth
+request_of depth calls.Rollback = ending requests.Rollback depth
+request_of depth calls.StartRollback = requests.Flush
 
 -- whether it has a query, which a connection gets a copy of
 abbrev pub has_query : Call → Bool
 has_query calls.Ping = false
 has_query calls.Flush = false
+has_query calls.Begin = false
+has_query calls.Commit = false
+has_query calls.Rollback = false
+has_query calls.StartRollback = false
 has_query _ = true
+
+-- whether it opens a transaction or a savepoint
+abbrev pub begins : Call → Bool
+begins calls.Begin = true
+begins (calls.BeginWith query) = true
+begins _ = false
+
+-- whether it does so by a text of its own, which opens no savepoint
+abbrev pub begins_with : Call → Bool
+begins_with (calls.BeginWith query) = true
+begins_with _ = false
+
+-- whether it acts at once, without a poll
+abbrev pub acts_at_once : Call → Bool
+acts_at_once calls.StartRollback = true
+acts_at_once _ = false
 
 -- ---- the answer rule
 
@@ -67,6 +98,11 @@ shown_by (calls.FetchOptional query) items = take 1 (filter is_row items)
 shown_by (calls.FetchOne query) items = take 1 (filter is_row items)
 shown_by calls.Ping items = []
 shown_by calls.Flush items = []
+shown_by calls.Begin items = []
+shown_by (calls.BeginWith query) items = []
+shown_by calls.Commit items = []
+shown_by calls.Rollback items = []
+shown_by calls.StartRollback items = []
 
 -- whether it shows them with its answer, and so none without it
 abbrev pub waits_to_show : Call → Bool

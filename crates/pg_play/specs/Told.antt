@@ -16,7 +16,7 @@ use Rattle.pg_report.specs.declared.outcome.End.{End}
 use Rattle.pg_report.specs.declared.outcome.End.TheVariants as ends
 use Rattle.pg_report.specs.declared.outcome.Outcome.{Outcome}
 use Rattle.pg_script.specs.declared.step.Step.{Step}
-use Rattle.pg_play.specs.Shown.{items_in, shown_by, answered_by, waits_to_show, wants_row}
+use Rattle.pg_play.specs.Shown.{items_in, shown_by, answered_by, waits_to_show, wants_row, acts_at_once}
 use Rattle.pg_play.specs.Places.{Place, main_frames, ended, is_fine}
 
 -- frames that carry these messages, each in the format of its tag
@@ -52,7 +52,8 @@ pub record Told (at : Place) (step : Step) (out : Outcome) (own : List Group) (s
   pub says : Carry (main_frames at own slice) response
   pub shows : IsPrefixOf out.items (shown_by step.call (items_in response))
   pub with_answer : waits_to_show step.call ≡ true → is_fine out.end ≡ false → out.items ≡ []
-  pub well : WellAtOk out.end step out response slice next
+  -- a step that acts at once has no response
+  pub well : acts_at_once step.call ≡ false → WellAtOk out.end step out response slice next
   pub error : AnswersError out.end slice
 
 -- a number that counts so many, up to u64's greatest value

@@ -6,9 +6,9 @@ use pg_script::Call;
 use pg_wire::Error;
 use std::alloc::Global;
 
-/// What the call of a step asks of a connection, in a copy of its own.
-pub(crate) fn request_of(alloc: Global, call: &Call) -> Result<Request, Error>
-    ensures ok { IfOk result (λ r. r ≡ request_of call.now) }
+/// What the call of a step asks of a connection on which so many transactions and savepoints are open, in a copy of its own.
+pub(crate) fn request_of(alloc: Global, depth: u64, call: &Call) -> Result<Request, Error>
+    ensures ok { IfOk result (λ r. r ≡ request_of depth call.now) }
     ensures err { OnErr result (has_query call.now ≡ true) }
 {
     Ok(match call {
@@ -20,6 +20,10 @@ pub(crate) fn request_of(alloc: Global, call: &Call) -> Result<Request, Error>
         Call::FetchOptional(query) => Request::FetchOptional(query.to_copy(alloc)?),
         Call::FetchOne(query) => Request::FetchOne(query.to_copy(alloc)?),
         Call::Ping => Request::Ping,
-        Call::Flush => Request::Flush,
+        Call::Begin => Request::Begin(depth),
+        Call::BeginWith(query) => Request::BeginWith(query.to_copy(alloc)?),
+        Call::Commit if depth > 0 => Request::Commit(depth - 1),
+        Call::Rollback if depth > 0 => Request::Rollback(depth - 1),
+        Call::Commit | Call::Rollback | Call::Flush | Call::StartRollback => Request::Flush,
     })
 }

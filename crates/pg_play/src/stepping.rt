@@ -1,14 +1,15 @@
 ghost use Rattle.std.specs.Prelude.{◌≡◌, ◌<◌, ◌+◌, ◌-◌, ◌^◌, true, List, ℕ, None, length};
 ghost use Rattle.pg_request.specs.declared.progress.CacheStep.TheVariants as cache;
-ghost use Rattle.pg_conn.specs.Connections.{ConnSeen, seen_by, runs, started_call};
+ghost use Rattle.pg_conn.specs.Connections.{ConnSeen, seen_by, runs};
+ghost use Rattle.pg_call.specs.declared.calling.Call.TheVariants as states;
 ghost use Rattle.pg_call.specs.declared.request.Request.{Request};
-ghost use Rattle.pg_play.specs.Calls.{IsPlaying, PollGives, PlaysCall, PlaysStep, untouched};
+ghost use Rattle.pg_play.specs.Calls.{IsPlaying, PollGives, PlaysCall, PlaysPolled, PlaysStep, begun_call, untouched};
 
 use crate::asking::request_of;
 use crate::tally::{Limits, Tally};
 use pg_conn::{CacheStep, PgConnection, Progress, Request, Turn};
-use pg_report::{End, Item, Outcome};
-use pg_script::Step;
+use pg_report::{Answer, End, Item, Outcome};
+use pg_script::{Call, Step};
 use pg_stream::Link;
 use pg_wire::{Error, Poll, Sequence};
 use std::alloc::Global;
@@ -80,7 +81,7 @@ fn play_call<L: Link>(
 ) -> Outcome
     requires polls { 0 < limits.polls }
     requires most { 0 < limits.most }
-    ensures { PlaysCall limits (seen_by L.seen (started_call request conn.old)) (seen_by L.seen conn.new) request result }
+    ensures { conn.old.call ≡ states.Idle → PlaysCall limits (begun_call request (seen_by L.seen conn.old)) (seen_by L.seen conn.new) request result }
 {
     conn.start(request);
     let mut tally = Tally::new(alloc);
@@ -95,10 +96,16 @@ fn play_call<L: Link>(
     }
 }
 
-/// Plays one step: its call is polled until it ends, or dropped after `polls` polls that answered `Pending`, or after `most`
-/// items. With none of either it is not begun.
-pub(crate) fn play_step<L: Link>(alloc: Global, conn: &mut PgConnection<L>, step: &Step) -> Outcome
-    ensures { PlaysStep (seen_by L.seen conn.old) (seen_by L.seen conn.new) step.now result }
+// A call that is polled: until it ends, or is dropped after `polls` polls that answered `Pending`, or after `most` items. With none of
+// either it is not begun.
+fn play_polled<L: Link>(
+    alloc: Global,
+    conn: &mut PgConnection<L>,
+    depth: u64,
+    step: &Step,
+) -> Outcome
+    requires depth { depth ≡ conn.old.depth }
+    ensures { PlaysPolled (seen_by L.seen conn.old) (seen_by L.seen conn.new) step.now result }
 {
     if step.polls == 0 || step.most == 0 {
         return untouched(alloc, End::Dropped);
@@ -107,8 +114,25 @@ pub(crate) fn play_step<L: Link>(alloc: Global, conn: &mut PgConnection<L>, step
         polls: step.polls,
         most: step.most,
     };
-    match request_of(alloc, &step.call) {
+    if depth > 0 && matches!(step.call, Call::BeginWith(_)) {
+        return untouched(alloc, End::Err(Error::InvalidSavePointStatement));
+    }
+    match request_of(alloc, depth, &step.call) {
         Ok(request) => play_call(alloc, conn, request, limits),
         Err(_) => untouched(alloc, End::Err(Error::OutOfMemory)),
+    }
+}
+
+/// Plays one step: a rollback without waiting, which is done at once, or a call that is polled.
+pub(crate) fn play_step<L: Link>(alloc: Global, conn: &mut PgConnection<L>, step: &Step) -> Outcome
+    ensures plays { PlaysStep (seen_by L.seen conn.old) (seen_by L.seen conn.new) step.now result }
+    ensures counts { conn.old.depth < 2 ^ 64 }
+{
+    let depth = conn.transaction_depth();
+    if let Call::StartRollback = step.call {
+        conn.start_rollback();
+        outcome(Vec::new(alloc), End::Ok(Answer::Unit), conn.progress())
+    } else {
+        play_polled(alloc, conn, depth, step)
     }
 }

@@ -16,7 +16,7 @@ loop-step-preserved g c =
     record {
       count = count;
       room = room;
-      plays = rw (more, items) (plays_on (seen_by g.L.Link.seen c.args.conn) (seen_by g.L.Link.seen c.loop-step.conn) (seen_by g.L.Link.seen c.play_step-outcome.new.conn) (take c.loop-step.step-index c.args.steps.now) c.loop-step.outcomes.items step c.play_step-outcome.result c.loop-step.invariant.plays c.play_step-outcome.ensures);
+      plays = rw (more, items) (plays_on (seen_by g.L.Link.seen c.args.conn) (seen_by g.L.Link.seen c.loop-step.conn) (seen_by g.L.Link.seen c.play_step-outcome.new.conn) (take c.loop-step.step-index c.args.steps.now) c.loop-step.outcomes.items step c.play_step-outcome.result c.loop-step.invariant.plays c.play_step-outcome.ensures.counts c.play_step-outcome.ensures.plays);
     }
 
 pub returns-clause-plays : goal.returns-clause-plays
