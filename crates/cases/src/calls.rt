@@ -10,7 +10,7 @@ type Connection = PgConnection<MemoryLink>;
 
 // What a poll answered, with the rows that it counts or that are as they should be.
 #[derive(Clone, Copy)]
-enum Answer {
+pub(crate) enum Answer {
     Waits,
     Rows(u64),
     Fails,
@@ -25,7 +25,7 @@ pub(crate) enum Stand {
     Fails,
 }
 
-fn stand_of(answer: Answer, is_finished: bool) -> Stand {
+pub(crate) fn stand_of(answer: Answer, is_finished: bool) -> Stand {
     match answer {
         Answer::Waits if !is_finished => Stand::Waits,
         Answer::Rows(rows) if is_finished => Stand::Ends(rows),
@@ -75,7 +75,7 @@ fn item<T: Drop>(answer: Poll<Option<Result<T, Error>>>) -> Poll<Option<T>> {
     }
 }
 
-fn unit(answer: Poll<Option<()>>) -> Answer {
+pub(crate) fn unit(answer: Poll<Option<()>>) -> Answer {
     match answer {
         Poll::Pending => Answer::Waits,
         Poll::Ready(Some(())) => Answer::Rows(0),
@@ -188,6 +188,43 @@ fn flush(conn: &mut Connection) -> Stand {
     stand_of(answer, call.is_finished())
 }
 
+fn begin(conn: &mut Connection) -> Stand {
+    let mut call = conn.begin();
+    let answer = unit(settled(call.poll()));
+    stand_of(answer, call.is_finished())
+}
+
+fn begin_with(conn: &mut Connection, query: Query) -> Stand {
+    match conn.begin_with(query) {
+        Ok(mut call) => {
+            let answer = unit(settled(call.poll()));
+            stand_of(answer, call.is_finished())
+        }
+        Err(error) => {
+            drop(error);
+            Stand::Fails
+        }
+    }
+}
+
+fn commit(conn: &mut Connection) -> Stand {
+    let mut call = conn.commit();
+    let answer = unit(settled(call.poll()));
+    stand_of(answer, call.is_finished())
+}
+
+fn rollback(conn: &mut Connection) -> Stand {
+    let mut call = conn.rollback();
+    let answer = unit(settled(call.poll()));
+    stand_of(answer, call.is_finished())
+}
+
+// A rollback without waiting, which ends at once.
+fn start_rollback(conn: &mut Connection) -> Stand {
+    conn.start_rollback();
+    Stand::Ends(0)
+}
+
 // What a poll behind the last item answered.
 fn end<T: Drop>(answer: Poll<Option<Result<T, Error>>>) -> Answer {
     match answer {
@@ -265,6 +302,11 @@ fn play_once(conn: &mut Connection, call: Call) -> Stand {
         Call::FetchOne(query) => fetch_one(conn, query),
         Call::Ping => ping(conn),
         Call::Flush => flush(conn),
+        Call::Begin => begin(conn),
+        Call::BeginWith(query) => begin_with(conn, query),
+        Call::Commit => commit(conn),
+        Call::Rollback => rollback(conn),
+        Call::StartRollback => start_rollback(conn),
     }
 }
 
@@ -282,11 +324,11 @@ pub(crate) fn play_step(conn: &mut Connection, step: Step) -> Stand {
     }
 }
 
-// A link whose last bytes end the session.
-fn farewell(answer: Poll<Option<MemoryLink>>) -> Answer {
+// A link whose last bytes are these.
+fn farewell(answer: Poll<Option<MemoryLink>>, last: &[u8]) -> Answer {
     match answer {
         Poll::Ready(Some(link)) => {
-            let is_so = link.taken().ends_with(b"X\x00\x00\x00\x04");
+            let is_so = link.taken().ends_with(last);
             drop(link);
             if is_so {
                 Answer::Rows(0)
@@ -299,10 +341,10 @@ fn farewell(answer: Poll<Option<MemoryLink>>) -> Answer {
     }
 }
 
-/// Closes a connection.
-pub(crate) fn close(conn: Connection) -> Stand {
+/// Closes a connection, and looks at the last bytes that its link took.
+pub(crate) fn close(conn: Connection, last: &[u8]) -> Stand {
     let mut call = conn.close();
-    let answer = farewell(settled(call.poll()));
+    let answer = farewell(settled(call.poll()), last);
     let stand = stand_of(answer, call.is_finished());
     drop(call);
     stand

@@ -7,6 +7,7 @@
 mod calls;
 mod case;
 mod dials;
+mod guards;
 mod options;
 mod playing;
 mod states;

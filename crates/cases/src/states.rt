@@ -3,6 +3,7 @@
 
 use crate::calls::{Stand, close, keep, play_step, settled};
 use crate::case::{entry, script};
+use crate::guards::{give_up, transact};
 use crate::options::options;
 use pg_conn::{PgConnection, establish};
 use pg_options::PgConnectOptions;
@@ -73,10 +74,36 @@ fn play_steps(
     Ok(())
 }
 
+// Closes a connection where a transaction on it has come to its end.
+fn close_where(conn: Connection, is_so: bool, last: &[u8]) -> Stand {
+    if is_so {
+        close(conn, last)
+    } else {
+        drop(conn);
+        Stand::Fails
+    }
+}
+
+fn drop_savepoint(mut conn: Connection) -> Stand {
+    let is_so = matches!(transact(&mut conn), Stand::Ends(2));
+    let last =
+        b"Q\x00\x00\x00\x2cROLLBACK TO SAVEPOINT _sqlx_savepoint_1\x00Q\x00\x00\x00\x0bCOMMIT\x00X\x00\x00\x00\x04";
+    close_where(conn, is_so, last)
+}
+
+fn drop_commit(mut conn: Connection) -> Stand {
+    let is_so = matches!(give_up(&mut conn), Stand::Waits);
+    let last =
+        b"Q\x00\x00\x00\x0aBEGIN\x00Q\x00\x00\x00\x0bCOMMIT\x00Q\x00\x00\x00\x0dROLLBACK\x00X\x00\x00\x00\x04";
+    close_where(conn, is_so, last)
+}
+
 // What is done with a connection behind its steps.
 fn leave(conn: Connection, case: &str) -> Option<Stand> {
     match entry(case, "then") {
-        Some("close") => Some(close(conn)),
+        Some("close") => Some(close(conn, b"X\x00\x00\x00\x04")),
+        Some("drop a savepoint") => Some(drop_savepoint(conn)),
+        Some("drop a commit") => Some(drop_commit(conn)),
         Some(_) => Some(keep(conn)),
         None => {
             drop(conn);
