@@ -28,6 +28,8 @@ pub enum Tried {
     Types,
     /// The digests of all short texts.
     Digests,
+    /// A column by its name.
+    Columns,
 }
 
 #[derive(Clone, Copy, PartialEq)]
@@ -53,7 +55,8 @@ enum Kind {
     Unknown,
 }
 
-static TRIED: [(&str, Tried); 9] = [
+static TRIED: [(&str, Tried); 10] = [
+    ("columns", Tried::Columns),
     ("read", Tried::Read),
     ("keep", Tried::Keep),
     ("add", Tried::Add),

@@ -4,6 +4,7 @@
 //! `null`. The row is written with what came of it behind it.
 #![tactic(auto)]
 
+mod columns;
 mod digests;
 mod given;
 mod iterators;
@@ -28,6 +29,7 @@ fn answer(alloc: Global, row: &str) -> Result<String, AllocError> {
     match tried_by(verb) {
         Tried::Types => given::types_alone(alloc),
         Tried::Digests => digests::digests(alloc),
+        Tried::Columns => columns::find(alloc, kind),
         tried if bytes == "null" => play(alloc, tried, kind, None),
         tried => match hex::decode(alloc, bytes) {
             Ok(bytes) => play(alloc, tried, kind, Some(&bytes)),
