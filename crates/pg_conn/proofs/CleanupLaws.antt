@@ -2,6 +2,7 @@
 use Rattle.std.proofs.Common.{◌≡◌, ℕ, zero, suc, ◌+◌, ◌-◌, ◌*◌, ◌^◌, ◌<◌, ◌≤◌, Bool, true, false, ◌&&◌, not, nat_eq, leb, ltb, min, cond, List, [], ◌∷◌, ◌++◌, length, codes, decimal, length-append, Ok, Err, refl, sym, ap, ◌∙◌, subst, arith}
 use Rattle.std.proofs.lemmas.Bool.{leb-true, le-leb, ltb-true, lt-ltb}
 use Rattle.std.proofs.lemmas.Fmt.{length-decimal-le}
+use Rattle.pg_wire.proofs.Tests.{both_true}
 use Rattle.pg_stream.specs.Links.{LinkSeen}
 use Rattle.pg_stream.specs.Streams.{Moves, StreamSeen}
 use Rattle.pg_stream.proofs.StreamLemmas.{cleans}
@@ -15,13 +16,9 @@ use Rattle.pg_call.specs.Requests.{spelled}
 use Rattle.pg_conn.specs.Connections.{ConnSeen, cleaned, counted_anew, depth_behind, ended, fresh_connection, has_room_for, idle, left, may_open, opens, queued_group, rollback, rolled, rolled_back, runs, settled, started_call, with_group}
 use Rattle.pg_conn.specs.Turns.{HasAllRoom, HasRoom, HasRoomBeside, behind, broken_by, cleanup_of, level_of}
 
-both : (x y : Bool) → x && y ≡ true → (x ≡ true) × (y ≡ true)
-both true y e = (refl, e)
-both false y e = absurd cc
-
 pub fits_room : (bytes : List ℕ) (c : ConnSeen) → has_room_for bytes c ≡ true → (length bytes ≤ c.stream.spare) × (c.ledger.owed < 2 ^ 64 - 1)
 fits_room bytes c e =
-    let b = both (leb (length bytes) c.stream.spare) (ltb c.ledger.owed (2 ^ 64 - 1)) e in
+    let b = both_true (leb (length bytes) c.stream.spare) (ltb c.ledger.owed (2 ^ 64 - 1)) e in
     (leb-true _ _ b.0, ltb-true _ _ b.1)
 
 pub has_room : (bytes : List ℕ) (c : ConnSeen) → length bytes ≤ c.stream.spare → c.ledger.owed < 2 ^ 64 - 1 → has_room_for bytes c ≡ true

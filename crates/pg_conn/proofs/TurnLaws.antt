@@ -1,5 +1,6 @@
 -- How the beats of a call follow one another.
 use Rattle.std.proofs.Common.{◌≡◌, ◌≢◌, ◌⊎◌, ℕ, ◌+◌, ◌-◌, ◌<◌, ◌≤◌, cond, inl, inr, Bool, true, false, ◌&&◌, ◌||◌, ◌==◌, nat_eq, List, [], ◌∷◌, ◌++◌, length, map, refl, sym, ap, ◌∙◌, subst, append_assoc, append-nil, length-append, arith, Ok, Err, Option, Some, None, Result, IfOk, IfErr, OnErr, take, drop, ◌*◌}
+use Rattle.pg_wire.proofs.Tests.{both_true}
 use Rattle.pg_call.specs.declared.kind.Change.{Change}
 use Rattle.std.specs.List.{count_by}
 use Rattle.std.proofs.lemmas.Bool.{eqb-true}
@@ -301,10 +302,6 @@ ahead_other ledger calls.Idle n h = tt
 
 -- ---- a flush is done
 
-pub both : (x y : Bool) → x && y ≡ true → (x ≡ true) × (y ≡ true)
-both true y e = (refl, e)
-both false y e = absurd cc
-
 flush_said : (r : Request) → is_flush (kind_of r) ≡ true → CanBeSaid r
 flush_said requests.Flush e = tt
 flush_said requests.Ping e = absurd cc
@@ -337,8 +334,8 @@ all_sent (b ∷ bytes) e = let z = eqb-true _ _ e in absurd (omega (arith, z))
 
 pub flushed : (a : ConnSeen) → is_flushed a ≡ true → TakesBeat a (idle a) (beats.Ends (Ok answers.Unit))
 flushed a f =
-    let sent = both (flushes a.call && a.ledger.owed == 0) (nat_eq (length a.stream.unsent) 0) f in
-    let owed = both (flushes a.call) (a.ledger.owed == 0) sent.0 in
+    let sent = both_true (flushes a.call && a.ledger.owed == 0) (nat_eq (length a.stream.unsent) 0) f in
+    let owed = both_true (flushes a.call) (a.ledger.owed == 0) sent.0 in
     stays a (idle a) (beats.Ends (Ok answers.Unit)) (Moves-none a.stream) (NoneWaited-none a.stream) (keeps_idle a.call) refl refl refl refl refl refl refl (λ start r said hs items i.
     (refl, flush_ends start r said hs items a.ledger a.call owed.0 (eqb-true _ _ owed.1) i, all_sent a.stream.unsent sent.1))
 
@@ -346,7 +343,7 @@ pub flush_done : (a : ConnSeen) → EndsFlush a (idle a) (beats.Ends (Ok answers
 flush_done a f = (refl, refl)
 
 pub flush_sayable : (a : ConnSeen) → is_flushed a ≡ true → IsSayable a.call
-flush_sayable a f = by a.call (both (flushes a.call) (a.ledger.owed == 0) (both (flushes a.call && a.ledger.owed == 0) (nat_eq (length a.stream.unsent) 0) f).0).0
+flush_sayable a f = by a.call (both_true (flushes a.call) (a.ledger.owed == 0) (both_true (flushes a.call && a.ledger.owed == 0) (nat_eq (length a.stream.unsent) 0) f).0).0
   where
     by : (call : Call) → flushes call ≡ true → IsSayable call
     by (calls.Asked asked) e = flush_said asked e
@@ -435,7 +432,7 @@ asides a b beat aside n m c keep k h g s t d e tells = (
 
 -- and does more than send
 hears_more : (ledger : Ledger) (call : Call) → IsAwaiting ledger call → only_sends ledger call ≡ true → ⊥
-hears_more ledger (calls.Waiting w) h s = let z = eqb-true _ _ (both (is_flush w.kind) (ledger.owed == 0) s).1 in omega (arith, h, z)
+hears_more ledger (calls.Waiting w) h s = let z = eqb-true _ _ (both_true (is_flush w.kind) (ledger.owed == 0) s).1 in omega (arith, h, z)
 hears_more ledger (calls.Own reply) h s = absurd cc
 hears_more ledger (calls.Asked asked) h s = absurd h
 hears_more ledger calls.Closing h s = absurd h
@@ -692,7 +689,7 @@ refused_front {A} seen a m b front e beat f now h stops ends =
 -- ---- the rest is sent
 
 sends_fine : (start : Ledger) (r : Request) (said : List FrontendMessage) (hs : List Frame) (items : List CallItem) (ledger : Ledger) (call : Call) → only_sends ledger call ≡ true → CallIs start r said hs items ledger call → CallEnds start r said hs items ledger (Ok answers.Unit)
-sends_fine start r said hs items ledger (calls.Waiting w) s i = let b = both (is_flush w.kind) (ledger.owed == 0) s in flush_fine start r said hs items ledger w b.0 (eqb-true _ _ b.1) i
+sends_fine start r said hs items ledger (calls.Waiting w) s i = let b = both_true (is_flush w.kind) (ledger.owed == 0) s in flush_fine start r said hs items ledger w b.0 (eqb-true _ _ b.1) i
 sends_fine start r said hs items ledger calls.Closing s i = closing_fine start r said hs items ledger i
 sends_fine start r said hs items ledger (calls.Asked asked) s i = absurd cc
 sends_fine start r said hs items ledger (calls.Own reply) s i = absurd cc

@@ -13,17 +13,23 @@ use Rattle.pg_script.specs.declared.step.Call.{Call}
 use Rattle.pg_script.specs.declared.step.Call.TheVariants as calls
 use Rattle.pg_script.specs.declared.step.Step.{Step}
 use Rattle.pg_play.specs.Shown.{request_of, begins, acts_at_once}
-use Rattle.pg_play.specs.Places.{Place, owed, is_fine, Queues}
+use Rattle.pg_play.specs.Places.{Place, owed, ended, is_fine, Queues}
 use Rattle.pg_play.specs.Told.{WellAtOk, HasNoError}
 use Rattle.pg_play.specs.Settling.{cleanup_of, depth_after, rollback_at}
 use Rattle.pg_play.specs.Idles.{KeepsOrder}
 use Rattle.pg_play.specs.Plays.{Plays_step, Plays_from, AreOrderly, AreIdle}
 use Rattle.pg_play.proofs.StepLaws.{at_most_group}
+use Rattle.pg_play.proofs.SettledLaws.{fine_has}
 
 well_error : (end : End) (step : Step) (out : Outcome) (response : List BackendMessage) (slice : List Frame) (next : Place) → is_fine end ≡ true → WellAtOk end step out response slice next → HasNoError slice
 well_error (ends.Ok answer) step out response slice next f w = w.no_error
 well_error (ends.Err e) step out response slice next f w = absurd cc
 well_error ends.Dropped step out response slice next f w = absurd cc
+
+well_ended : (end : End) (step : Step) (out : Outcome) (response : List BackendMessage) (slice : List Frame) (next : Place) → is_fine end ≡ true → WellAtOk end step out response slice next → ended next ≡ length next.groups
+well_ended (ends.Ok answer) step out response slice next f w = w.answered
+well_ended (ends.Err e) step out response slice next f w = absurd cc
+well_ended ends.Dropped step out response slice next f w = absurd cc
 
 queues_few : (end : End) (whole own : List Group) → Queues end whole own → length own ≤ length whole
 queues_few (ends.Ok answer) whole own q = omega (arith, ap (λ (g : List Group). length g) q)
@@ -36,11 +42,6 @@ few_groups d call = by (at_most_group d call)
     by : (groups_of (request_of d call) ≡ []) ⊎ (length (groups_of (request_of d call)) ≡ 1) → length (groups_of (request_of d call)) ≤ 1
     by (inl e) = omega (arith, ap (λ (g : List Group). length g) e)
     by (inr e) = omega (arith, e)
-
-fine_own : (end : End) (whole own : List Group) → is_fine end ≡ true → Queues end whole own → own ≡ whole
-fine_own (ends.Ok answer) whole own f q = q
-fine_own (ends.Err e) whole own f q = absurd cc
-fine_own ends.Dropped whole own f q = absurd cc
 
 -- ---- one step, of plain data
 
@@ -81,7 +82,7 @@ few_own d call end own q = omega (arith, queues_few end (groups_of (request_of d
 
 -- what is queued at Ok where so many are open
 own_at : (d k : ℕ) (call : Call) (end : End) (own : List Group) → d ≡ k → is_fine end ≡ true → Queues end (groups_of (request_of d call)) own → own ≡ groups_of (request_of k call)
-own_at d k call end own e f q = fine_own end (groups_of (request_of d call)) own f q ∙ ap (λ (n : ℕ). groups_of (request_of n call)) e
+own_at d k call end own e f q = fine_has end (groups_of (request_of d call)) own f q ∙ ap (λ (n : ℕ). groups_of (request_of n call)) e
 
 begin_cleans : (own cleanup : List Group) (d : ℕ) (end : End) → d ≡ 0 → is_fine end ≡ false → cleanup ≡ cond (nat_eq d 0 && not (is_fine end)) (rollback 0 ∷ []) [] → cleanup ≡ rollback 0 ∷ []
 begin_cleans own cleanup d end z f c = c ∙ ap (λ (n : ℕ). cond (nat_eq n 0 && not (is_fine end)) (rollback 0 ∷ []) []) z ∙ ap (λ (b : Bool). cond (not b) (rollback 0 ∷ []) []) f
@@ -115,7 +116,7 @@ rolled_idle idle n (suc zero) own cleanup owed o l z i cleans c =
     subst idle (omega (arith, ap (λ (x : List Group). length x) one)) (cleans one)
 rolled_idle idle n (suc (suc k)) own cleanup owed o l z i cleans c = absurd (omega (arith, z))
 
-idle_by : (idle : ℕ → Type 0) (n d : ℕ) (call : Call) (end : End) (own cleanup : List Group) (owed : ℕ) → (begins call ≡ false → own ≢ [] → idle n → idle (n + 1)) → (acts_at_once call ≡ false → is_fine end ≡ true → own ≡ (Query (codes "COMMIT") ∷ []) ∷ [] → idle (n + 1)) → (own ≡ rollback 0 ∷ [] → idle (n + 1)) → (cleanup ≡ rollback 0 ∷ [] → idle (n + length own + 1))
+idle_by : (idle : ℕ → Type 0) (n d : ℕ) (call : Call) (end : End) (own cleanup : List Group) (owed : ℕ) → (begins call ≡ false → own ≢ [] → idle n → idle (n + 1)) → (call ≡ calls.Commit → is_fine end ≡ true → own ≡ (Query (codes "COMMIT") ∷ []) ∷ [] → idle (n + 1)) → (call ≡ calls.Rollback → own ≡ rollback 0 ∷ [] → idle (n + 1)) → (cleanup ≡ rollback 0 ∷ [] → idle (n + length own + 1))
     → cleanup ≡ cleanup_of d call end own owed → Queues end (groups_of (request_of d call)) own → owed < 2 ^ 64 - 1 → (d ≡ 0 → idle n) → depth_after d call end ≡ 0 → idle (n + length own + length cleanup)
 idle_by idle n d (calls.Execute query) end own cleanup owed others commits rolls cleans c q l i z = plain_idle idle n own cleanup (few_own d (calls.Execute query) end own q) (c ∙ no_cleanup d (calls.Execute query) end own owed refl refl) (i z) (others refl)
 idle_by idle n d (calls.ExecuteMany query) end own cleanup owed others commits rolls cleans c q l i z = plain_idle idle n own cleanup (few_own d (calls.ExecuteMany query) end own q) (c ∙ no_cleanup d (calls.ExecuteMany query) end own owed refl refl) (i z) (others refl)
@@ -140,13 +141,21 @@ idle_by idle n d calls.Rollback end own cleanup owed others commits rolls cleans
     let none = c ∙ no_cleanup d calls.Rollback end own owed refl refl in
     elim (closes_to_none (is_fine end) d (z)) [
       | inl e ↦ plain_idle idle n own cleanup (few_own d calls.Rollback end own q) none (i e) (others refl)
-      | inr (e, f) ↦ let last = own_at d 1 calls.Rollback end own e f q in own_last idle n own cleanup (rollback 0) last none (rolls last)
+      | inr (e, f) ↦ let last = own_at d 1 calls.Rollback end own e f q in own_last idle n own cleanup (rollback 0) last none (rolls refl last)
     ]
 idle_by idle n d calls.StartRollback end own cleanup owed others commits rolls cleans c q l i z = rolled_idle idle n d own cleanup owed (none_own end own q) l z i cleans c
 
 -- ---- the steps of a play
 
-idle_step : (idle : ℕ → Type 0) (at : Place) (step : Step) (out : Outcome) (next : Place) (one : Plays_step at step out next) → length next.groups < 2 ^ 64 - 1 → KeepsOrder idle at step one.call.own one.settles.cleanup one.call.slice → (at.depth ≡ 0 → idle (length at.groups)) → next.depth ≡ 0 → idle (length next.groups)
+-- a COMMIT that is Ok is answered, and without an error
+commits_at : {idle : ℕ → Type 0} (at : Place) (step : Step) (out : Outcome) (next : Place) (one : Plays_step at step out next) → KeepsOrder idle at step one.call.own one.settles.cleanup one.call.slice one.ended_at
+    → step.call ≡ calls.Commit → is_fine one.told.end ≡ true → one.call.own ≡ (Query (codes "COMMIT") ∷ []) ∷ [] → idle (length at.groups + 1)
+commits_at at step out next one k c f e =
+    let told = one.call.told in
+    let well = told.well (ap acts_at_once c) in
+    k.commits c e (well_error one.told.end step one.told told.response one.call.slice one.ended_at f well) (well_ended one.told.end step one.told told.response one.call.slice one.ended_at f well)
+
+idle_step : (idle : ℕ → Type 0) (at : Place) (step : Step) (out : Outcome) (next : Place) (one : Plays_step at step out next) → length next.groups < 2 ^ 64 - 1 → KeepsOrder idle at step one.call.own one.settles.cleanup one.call.slice one.ended_at → (at.depth ≡ 0 → idle (length at.groups)) → next.depth ≡ 0 → idle (length next.groups)
 idle_step idle at step out next one l k i z =
     let call = one.call in
     let settles = one.settles in
@@ -154,7 +163,7 @@ idle_step idle at step out next one l k i z =
     let all : length next.groups ≡ length one.ended_at.groups + length settles.cleanup = ap (λ (g : List Group). length g) settles.groups ∙ length-append one.ended_at.groups settles.cleanup in
     let few : owed one.ended_at < 2 ^ 64 - 1 = omega (arith, all, l) in
     subst idle (omega (arith, first, all))
-    (idle_by idle (length at.groups) at.depth step.call one.told.end call.own settles.cleanup (owed one.ended_at) k.others (λ later f e. k.commits e (well_error one.told.end step one.told call.told.response call.slice one.ended_at f (call.told.well later))) k.rolls k.cleans settles.cleans call.queued.asks few i (sym settles.depth ∙ z))
+    (idle_by idle (length at.groups) at.depth step.call one.told.end call.own settles.cleanup (owed one.ended_at) k.others (commits_at at step out next one k) k.rolls k.cleans settles.cleans call.queued.asks few i (sym settles.depth ∙ z))
 
 more_groups : (at : Place) (steps : List Step) (outs : List Outcome) (last : Place) → Plays_from at steps outs last → length at.groups ≤ length last.groups
 more_groups at [] [] last run = omega (arith, ap (λ (p : Place). length p.groups) run)

@@ -143,7 +143,7 @@ called_on at step out next one lawful so fault e = elim (at_once_or step) [
 breaks_on : (at : Place) (step : Step) (out : Outcome) (next : Place) → Plays_step at step out next → BreaksSo at → BreaksSo next
 breaks_on at step out next one so fault e =
     let s = one.settles in
-    settled_refutes fault at step one.told out one.call.own one.ended_at next s (called_on at step one.told one.ended_at one.call one.lawful_call so fault (sym s.broken ∙ e))
+    settled_refutes fault at step one.told out one.call.own one.ended_at next s (called_on at step one.told one.ended_at one.call one.lawful so fault (sym s.broken ∙ e))
 
 breaks_all : (at : Place) (steps : List Step) (outs : List Outcome) (last : Place) → Plays_from at steps outs last → BreaksSo at → BreaksSo last
 breaks_all at [] [] last run so = subst BreaksSo (sym run) so

@@ -100,7 +100,7 @@ ends_summary (Some fault) limits a b d call said hs shown end h = rw h.0 ([], no
 
 -- ---- what was queued
 
-owed_is : (start : StreamSeen) (at : Place) (a : ConnSeen) → StandsAt start at a → owed at ≡ a.ledger.owed
+pub owed_is : (start : StreamSeen) (at : Place) (a : ConnSeen) → StandsAt start at a → owed at ≡ a.ledger.owed
 owed_is start at a st = omega (arith, st.ledger)
 
 fails_at : (start : StreamSeen) (at : Place) (a : ConnSeen) (hs : List Frame) → StandsAt start at a → drain_fails a.ledger.is_copy_failed (before_readys a.ledger.owed hs) ≡ replicate (unfed at.is_copy_failed (drained at hs)) copy_fail

@@ -4,7 +4,7 @@ use Rattle.pg_play.proofs.IdleLaws.{idles_all}
 use Rattle.pg_play.specs.Idles.{SaysIdle, statuses}
 use Rattle.pg_call.specs.declared.calling.Call.TheVariants as states
 use Rattle.pg_play.proofs.SettledLaws.{SettlesTo, settles_call, settles_rollback, cleanup_polled, depth_other}
-use Rattle.pg_play.proofs.SettleLaws.{settled_waits, settled_counts, settled_lawful}
+use Rattle.pg_play.proofs.SettleLaws.{settled_waits, settled_counts}
 use Rattle.std.specs.List.{count_by, AllByRecursion}
 use Rattle.std.specs.Io.KnownBytes.{Appends}
 use Rattle.std.proofs.lemmas.List.{length-map, nil_from_length}
@@ -319,10 +319,9 @@ settled_step start at mid d step told out one lawful waits counts (next, s, stan
     ended_at = mid;
     call = one;
     settles = s;
-    lawful_call = lawful;
     waits = settled_waits at step told out one.own mid next s waits;
     counts = settled_counts at step told out one.own mid next at.seen.link s counts;
-    lawful = settled_lawful at step told out one.own mid next s lawful;
+    lawful = lawful;
     ledger = owes_requests start next d stands;
   },
   stands,

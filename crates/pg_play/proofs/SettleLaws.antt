@@ -39,9 +39,6 @@ held_same at step told out own mid next s = ap (λ (x : StreamSeen). x.held) s.s
 pub settled_counts : (at : Place) (step : Step) (told out : Outcome) (own : List Group) (mid next : Place) (link : LinkSeen) → Settles at step told out own mid next → NoneFalls link mid.seen.link → NoneFalls link next.seen.link
 settled_counts at step told out own mid next link s n = subst (λ (x : LinkSeen). NoneFalls link x) (sym (link_same at step told out own mid next s)) n
 
-front_before : (mid next : Place) (front : Frame) → next.seen.held ≡ mid.seen.held → IsFront next front → IsFront mid front
-front_before mid next front e f = record { rest = f.rest; whole = f.whole; answers = f.answers; held = sym e ∙ f.held }
-
 pub front_behind : (mid next : Place) (front : Frame) → next.seen.held ≡ mid.seen.held → IsFront mid front → IsFront next front
 front_behind mid next front e f = record { rest = f.rest; whole = f.whole; answers = f.answers; held = e ∙ f.held }
 
@@ -50,10 +47,6 @@ pub heard_before : (at : Place) (step : Step) (told out : Outcome) (own : List G
 heard_before at step told out own mid next front s l =
     hear_before mid.groups s.cleanup (heard mid.frames ++ front ∷ [])
     (subst (λ (g : List Group). MayHear (said_in g) (heard mid.frames ++ front ∷ [])) s.groups (subst (λ (f : List Frame). MayHear (said_in next.groups) (heard f ++ front ∷ [])) s.frames l))
-
-pub settled_lawful : (at : Place) (step : Step) (told out : Outcome) (own : List Group) (mid next : Place) → Settles at step told out own mid next → IsNeverUnlawful at told mid → IsNeverUnlawful at out next
-settled_lawful at step told out own mid next s n tag front w e f l =
-    n tag front w (sym (ap (λ (x : Outcome). x.end) s.outcome) ∙ e) (front_before mid next front (held_same at step told out own mid next s) f) (heard_before at step told out own mid next front s l)
 
 pub settled_waits : (at : Place) (step : Step) (told out : Outcome) (own : List Group) (mid next : Place) → Settles at step told out own mid next → WaitPlaces at told mid → WaitPlaces at out next
 settled_waits at step told out own mid next s w =

@@ -28,6 +28,7 @@ use Rattle.pg_script.specs.declared.step.Step.{Step}
 use Rattle.pg_play.specs.Shown.{request_of, begins, acts_at_once}
 use Rattle.pg_play.specs.Places.{Place, owed, is_fine, Queues}
 use Rattle.pg_play.proofs.StepLaws.{begins_one}
+use Rattle.pg_play.proofs.PlaceLaws.{owed_is}
 use Rattle.pg_report.specs.declared.outcome.Answer.TheVariants.{Unit as AnswersUnit}
 use Rattle.pg_play.specs.Told.{CountsTo}
 use Rattle.pg_play.specs.Settling.{Settles, cleanup_of, depth_after, rollback_at}
@@ -44,9 +45,6 @@ rolled_conn m left depth = record (with_group (spelled (rollback left)) m) { dep
 
 said_rollback : (left : ℕ) → left < 2 ^ 64 → AllByRecursion HasFrontendFrame (rollback left)
 said_rollback left l = (rollback_said left l, tt)
-
-owed_is : (start : StreamSeen) (mid : Place) (m : ConnSeen) → StandsAt start mid m → owed mid ≡ m.ledger.owed
-owed_is start mid m st = omega (arith, st.ledger)
 
 flows_group : (start : StreamSeen) (mid : Place) (m : ConnSeen) (left depth : ℕ) → StandsAt start mid m → has_room_for (spelled (rollback left)) m ≡ true
     → Flows start (rolled_conn m left depth).stream (spelled (mid.said ++ rollback left)) mid.frames
@@ -296,7 +294,7 @@ length_some own n e = n (nil_of own e)
 groups_of_call : (own : List Group) (told : Outcome) (m : ConnSeen) → told ≡ outcome_of m told.items told.end → CountsTo (length own) told.groups → length own ≤ 1 → m.groups ≡ length own
 groups_of_call own told m k counts one = omega (arith, counts.0, counts.1, ap (λ (x : Outcome). x.groups) k, one)
 
-fine_has : (end : End) (whole own : List Group) → is_fine end ≡ true → Queues end whole own → own ≡ whole
+pub fine_has : (end : End) (whole own : List Group) → is_fine end ≡ true → Queues end whole own → own ≡ whole
 fine_has (ends.Ok answer) whole own f q = q
 fine_has (ends.Err e) whole own f q = absurd cc
 fine_has ends.Dropped whole own f q = absurd cc

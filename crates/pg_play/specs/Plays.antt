@@ -69,10 +69,9 @@ pub record Plays_step (at : Place) (step : Step) (out : Outcome) (next : Place) 
   pub ended_at : Place
   pub call : Plays_call at step told ended_at
   pub settles : Settles at step told out call.own ended_at next
-  pub lawful_call : IsNeverUnlawful at told ended_at
+  pub lawful : IsNeverUnlawful at told ended_at
   pub waits : WaitPlaces at out next
   pub counts : NoneFalls at.seen.link next.seen.link
-  pub lawful : IsNeverUnlawful at out next
   -- the replies owed behind it are the Query and Sync messages queued, less the ReadyForQuery messages taken
   pub ledger : ended next + owed next ≡ count_by ends_request next.said
 
@@ -86,7 +85,7 @@ Plays_from at (step ∷ steps) [] last = ⊥
 -- the server keeps this order in each step
 abbrev pub AreOrderly : (idle : ℕ → Type 0) (at : Place) (steps : List Step) (outs : List Outcome) (last : Place) → Plays_from at steps outs last → Type 0
 AreOrderly idle at [] [] last run = Unit {0}
-AreOrderly idle at (step ∷ steps) (out ∷ outs) last run = KeepsOrder idle at step run.1.call.own run.1.settles.cleanup run.1.call.slice × AreOrderly idle run.0 steps outs last run.2
+AreOrderly idle at (step ∷ steps) (out ∷ outs) last run = KeepsOrder idle at step run.1.call.own run.1.settles.cleanup run.1.call.slice run.1.ended_at × AreOrderly idle run.0 steps outs last run.2
 AreOrderly idle at [] (out ∷ outs) last run = ⊥
 AreOrderly idle at (step ∷ steps) [] last run = ⊥
 
