@@ -1,5 +1,41 @@
--- What is seen of a query.
-use Rattle.std.specs.Prelude.{ℕ, List}
+-- What is seen of a query and of its arguments.
+use Rattle.std.specs.Prelude.{◌≡◌, ℕ, Bool, false, List, [], length, flat_map, Option, Some, None, Result, Ok, Err}
+use Rattle.pg_wire.specs.Bytes.{value}
+use Rattle.pg_wire.specs.Reading.{value_at, many_at}
 
+-- the types of arguments, and their values in order; a null is None
+pub record ArgumentsSeen : Type 0 where
+  pub types : List ℕ
+  pub values : List (Option (List ℕ))
+
+-- a text; its arguments, where it is one of the extended query; and whether its statement is to be kept
 pub record QueryText : Type 0 where
   pub sql : List ℕ
+  pub arguments : Option ArgumentsSeen
+  pub persistent : Bool
+
+-- a text without arguments
+abbrev pub plain_text : List ℕ → QueryText
+plain_text sql = record { sql = sql; arguments = None; persistent = false }
+
+-- its text and its arguments, where it has some
+abbrev pub parts_by : QueryText → Option ArgumentsSeen → Result (List ℕ × ArgumentsSeen) QueryText
+parts_by query None = Err query
+parts_by query (Some arguments) = Ok (query.sql, arguments)
+
+abbrev pub extended : QueryText → Result (List ℕ × ArgumentsSeen) QueryText
+extended query = parts_by query query.arguments
+
+-- ---- values that stand behind each other as in Bind (PostgreSQL manual, "Message Formats", Bind)
+
+abbrev pub those_in : Option (List (Option (List ℕ)) × List ℕ) → List (Option (List ℕ))
+those_in None = []
+those_in (Some x) = x.0
+
+-- the first values of these bytes, so many
+abbrev pub values_in : ℕ → List ℕ → List (Option (List ℕ))
+values_in count bytes = those_in (many_at value_at count bytes)
+
+-- the bytes are those of so many values
+abbrev pub AreValues : ℕ → List ℕ → Type 0
+AreValues count bytes = (length (values_in count bytes) ≡ count) × (flat_map value (values_in count bytes) ≡ bytes)

@@ -3,10 +3,12 @@
 //! Begin with `Query`, what a caller runs, and `Progress`, what a call tells of itself. `begin_text` and those beside it are the texts of transactions.
 #![tactic(auto)]
 
+mod arguments;
 mod progress;
 mod query;
 mod texts;
 
+pub use arguments::Arguments;
 pub use progress::{CacheStep, Progress};
 pub use query::Query;
 pub use texts::{begin_text, commit_text, rollback_text};

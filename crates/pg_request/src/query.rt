@@ -1,13 +1,19 @@
-ghost use Rattle.std.specs.Prelude.{◌≡◌, IfOk, IfErr};
+ghost use Rattle.std.specs.Prelude.{◌≡◌, None, IfOk, IfErr, OnOk};
+ghost use Rattle.pg_request.specs.Queries.{extended, plain_text, QueryText};
+ghost use Rattle.pg_request.specs.Asked.{missing_type, RefusesType, sent_as, no_arguments, kept_query, AsksWith};
 
+use crate::Arguments;
+use pg_arguments::PgArguments;
 use pg_wire::{Error, Text};
 use std::alloc::Global;
 use std::marker::Model;
 
-/// A text of SQL to run, which the query owns.
+/// A text of SQL to run, which the query owns, perhaps with arguments.
 #[derive(Debug, Drop)]
 pub struct Query {
     sql: Text,
+    arguments: Option<Arguments>,
+    is_persistent: bool,
 }
 
 impl Model for Query {
@@ -15,25 +21,87 @@ impl Model for Query {
 
     ghost Value = { QueryText };
 
-    ghost view = { λ q. record { sql = q.sql } };
+    ghost view = { λ q. record { sql = q.sql; arguments = q.arguments; persistent = q.is_persistent } };
+}
+
+// Arguments in a list of their own, where there are any.
+fn copied(arguments: &Option<Arguments>, alloc: Global) -> Result<Option<Arguments>, Error>
+    ensures copy { IfOk result (λ a. a ≡ arguments.now) }
+    ensures memory { IfErr result (λ e. e ≡ Error.OutOfMemory) }
+{
+    match arguments {
+        Some(arguments) => Ok(Some(arguments.to_copy(alloc)?)),
+        None => Ok(None),
+    }
 }
 
 impl Query {
     /// A simple query without arguments: the text may hold several statements. Only want of memory refuses it.
     /// (PostgreSQL manual, "Message Flow", "Simple Query".)
     pub fn raw(alloc: Global, sql: &str) -> Result<Self, Error>
-        ensures query { IfOk result (λ q. q ≡ record { sql = sql.now }) }
+        ensures query { IfOk result (λ q. q ≡ plain_text sql.now) }
         ensures memory { IfErr result (λ e. e ≡ Error.OutOfMemory) }
     {
         let sql = Text::from_str(alloc, sql)?;
-        Ok(Query { sql })
+        Ok(Query::from_text(sql))
     }
 
     /// The same of a text that is owned, without taking memory.
     pub fn from_text(sql: Text) -> Self
-        ensures { result ≡ record { sql = sql } }
+        ensures { result ≡ plain_text sql }
     {
-        Query { sql }
+        Query {
+            sql,
+            arguments: None,
+            is_persistent: false,
+        }
+    }
+
+    /// An extended query of one statement, without arguments. Only want of memory refuses it.
+    /// (PostgreSQL manual, "Message Flow", "Extended Query".)
+    pub fn new(alloc: Global, sql: &str) -> Result<Self, Error>
+        ensures query { IfOk result (λ q. q ≡ kept_query sql.now no_arguments) }
+        ensures memory { IfErr result (λ e. e ≡ Error.OutOfMemory) }
+    {
+        let sql = Text::from_str(alloc, sql)?;
+        Ok(Query {
+            sql,
+            arguments: Some(Arguments::none(alloc)),
+            is_persistent: true,
+        })
+    }
+
+    /// The same with arguments. Each of their types must have an OID, and none may be open in a value: the first that has to be looked up
+    /// is `TypeNotFound`. Else only want of memory refuses it.
+    pub fn with(alloc: Global, sql: &str, arguments: &PgArguments) -> Result<Self, Error>
+        ensures query { IfOk result (λ q. q ≡ kept_query sql.now (sent_as arguments.now)) }
+        ensures values { IfOk result (λ q. AsksWith arguments.now q.arguments) }
+        ensures known { OnOk result (missing_type arguments.now ≡ None) }
+        ensures cause { IfErr result (RefusesType (missing_type arguments.now)) }
+    {
+        let arguments = Arguments::of(alloc, arguments)?;
+        let sql = Text::from_str(alloc, sql)?;
+        Ok(Query {
+            sql,
+            arguments: Some(arguments),
+            is_persistent: true,
+        })
+    }
+
+    /// The same query, whose statement may be kept for later ones or not. No connection keeps one yet: each is prepared anew, without a name.
+    pub fn persistent(self, yes: bool) -> Self
+        ensures { result ≡ record self { persistent = yes } }
+    {
+        let Query {
+            sql,
+            arguments,
+            is_persistent: _,
+        } = self;
+        Query {
+            sql,
+            arguments,
+            is_persistent: yes,
+        }
     }
 
     pub fn sql(&self) -> &str
@@ -42,12 +110,36 @@ impl Query {
         self.sql.as_str()
     }
 
+    /// Its text and its arguments, or the query itself where it has none.
+    pub fn into_extended(self) -> Result<(Text, Arguments), Query>
+        ensures { result ≡ extended self }
+    {
+        let Query {
+            sql,
+            arguments,
+            is_persistent,
+        } = self;
+        match arguments {
+            Some(arguments) => Ok((sql, arguments)),
+            None => Err(Query {
+                sql,
+                arguments: None,
+                is_persistent,
+            }),
+        }
+    }
+
     /// An equal query. Only want of memory refuses it.
     pub fn to_copy(&self, alloc: Global) -> Result<Self, Error>
         ensures copy { IfOk result (λ q. q ≡ self.now) }
         ensures memory { IfErr result (λ e. e ≡ Error.OutOfMemory) }
     {
         let sql = self.sql.to_copy(alloc)?;
-        Ok(Query { sql })
+        let arguments = copied(&self.arguments, alloc)?;
+        Ok(Query {
+            sql,
+            arguments,
+            is_persistent: self.is_persistent,
+        })
     }
 }

@@ -1,0 +1,129 @@
+ghost use Rattle.std.specs.Prelude.{◌≡◌, Some, None, IfOk, IfErr, OnOk, length, flat_map};
+ghost use Rattle.pg_wire.specs.Bytes.{value};
+ghost use Rattle.pg_request.specs.Asked.{oids_in, unknown_type, open_type, missing_type, RefusesType, sent_as, no_arguments, HasBytesOf};
+
+use pg_arguments::{Hole, PgArguments, PgTypeInfo};
+use pg_wire::{Blob, Error, Oid, Oids, Text};
+use std::alloc::Global;
+use std::marker::Model;
+
+/// The arguments of a query as the server gets them: the OIDs of their types, and their values in binary encoding.
+#[derive(Debug, Drop)]
+pub struct Arguments {
+    types: Oids,
+    count: u64,
+    encoded: Blob,
+}
+
+impl Model for Arguments {
+    ghost use Rattle.pg_request.specs.Queries.{ArgumentsSeen, AreValues, values_in};
+
+    ghost Value = { ArgumentsSeen };
+
+    ghost view = { λ a. record { types = a.types; values = values_in a.count a.encoded } };
+
+    ghost invariant = { λ a. AreValues a.count a.encoded };
+}
+
+// The refusal of a type that has to be looked up.
+fn not_found(alloc: Global, name: &str) -> Error
+    ensures { RefusesType (Some name.now) result }
+{
+    match Text::from_str(alloc, name) {
+        Ok(type_name) => Error::TypeNotFound { type_name },
+        Err(_) => Error::OutOfMemory,
+    }
+}
+
+// The OIDs of types, each of which must have one.
+fn oids_in(alloc: Global, types: &[PgTypeInfo]) -> Result<Oids, Error>
+    ensures oids { IfOk result (λ o. o ≡ oids_in types.now) }
+    ensures known { OnOk result (unknown_type types.now ≡ None) }
+    ensures cause { IfErr result (RefusesType (unknown_type types.now)) }
+{
+    let mut oids = Oids::new(alloc);
+    for of in types {
+        match of.oid() {
+            Some(oid) => oids.push(oid)?,
+            None => return Err(not_found(alloc, of.name())),
+        }
+    }
+    Ok(oids)
+}
+
+// No OID may be open.
+fn none_open(alloc: Global, holes: &[Hole]) -> Result<(), Error>
+    ensures known { OnOk result (open_type holes.now ≡ None) }
+    ensures cause { IfErr result (RefusesType (open_type holes.now)) }
+{
+    match holes {
+        [] => Ok(()),
+        [hole, ..] => Err(not_found(alloc, hole.of.name())),
+    }
+}
+
+impl Arguments {
+    /// No arguments, which takes no memory.
+    pub(crate) fn none(alloc: Global) -> Self
+        ensures { result ≡ no_arguments }
+    {
+        Arguments {
+            types: Oids::new(alloc),
+            count: 0,
+            encoded: Blob::new(alloc),
+        }
+    }
+
+    /// Equal arguments, of which each type has an OID, and none is open in a value.
+    pub(crate) fn of(alloc: Global, arguments: &PgArguments) -> Result<Self, Error>
+        ensures sent { IfOk result (λ a. a ≡ sent_as arguments.now) }
+        ensures values { IfOk result (λ a. HasBytesOf arguments.now a) }
+        ensures known { OnOk result (missing_type arguments.now ≡ None) }
+        ensures cause { IfErr result (RefusesType (missing_type arguments.now)) }
+    {
+        let types = oids_in(alloc, arguments.types())?;
+        none_open(alloc, arguments.holes())?;
+        let encoded = Blob::from_slice(alloc, arguments.encoded())?;
+        Ok(Arguments {
+            types,
+            count: arguments.len() as u64,
+            encoded,
+        })
+    }
+
+    /// The OIDs of the types.
+    pub fn types(&self) -> &[Oid]
+        ensures { result.now ≡ self.now.types }
+    {
+        self.types.as_slice()
+    }
+
+    /// The number of values.
+    pub fn count(&self) -> u64
+        ensures { length self.now.values ≡ result }
+    {
+        self.count
+    }
+
+    /// The values as they stand in Bind: the length of each in four bytes, -1 for a null, and its bytes. (PostgreSQL manual, "Message
+    /// Formats", Bind.)
+    pub fn encoded(&self) -> &[u8]
+        ensures { flat_map value self.now.values ≡ result.now }
+    {
+        self.encoded.as_bytes()
+    }
+
+    /// Equal arguments. Only want of memory refuses them.
+    pub fn to_copy(&self, alloc: Global) -> Result<Self, Error>
+        ensures copy { IfOk result (λ a. a ≡ self.now) }
+        ensures memory { IfErr result (λ e. e ≡ Error.OutOfMemory) }
+    {
+        let types = self.types.to_copy(alloc)?;
+        let encoded = Blob::from_slice(alloc, self.encoded.as_bytes())?;
+        Ok(Arguments {
+            types,
+            count: self.count,
+            encoded,
+        })
+    }
+}
