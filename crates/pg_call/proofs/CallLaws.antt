@@ -20,6 +20,9 @@ use Rattle.pg_call.specs.declared.kind.How.TheVariants as hows
 use Rattle.pg_call.specs.declared.kind.Kind.{Kind}
 use Rattle.pg_call.specs.declared.kind.Kind.TheVariants as kinds
 use Rattle.pg_call.specs.declared.tally.Tally.{Tally}
+use Rattle.pg_call.specs.declared.request.Bound.{Bound}
+use Rattle.pg_call.specs.declared.answer.CallAnswer.TheVariants as answers
+use Rattle.pg_exchanges.specs.Answering.{described}
 use Rattle.pg_call.specs.declared.request.Request.{Request}
 use Rattle.pg_call.specs.declared.request.Request.TheVariants as requests
 use Rattle.pg_call.specs.declared.answer.CallItem.{CallItem}
@@ -37,16 +40,16 @@ use Rattle.pg_call.specs.declared.calling.Beat.{Beat}
 use Rattle.pg_call.specs.declared.calling.Beat.TheVariants as beats
 use Rattle.pg_call.specs.declared.calling.Taken.{Taken}
 use Rattle.pg_call.specs.declared.running.Running.{Running}
-use Rattle.pg_call.specs.Requests.{Group, said_in, kind_of, groups_of, messages_of, farewell, CanBeSaid}
+use Rattle.pg_call.specs.Requests.{Group, said_in, kind_of, groups_of, messages_of, farewell, rest_of, CanBeSaid}
 use Rattle.pg_call.specs.Items.{item_of, items_of, yields, shown, tally_of, answer_to, finished, one_row, begun}
-use Rattle.pg_call.specs.Replies.{awaits_first, goes_on, part_after, may_copy, MayNotCome, IsFault}
+use Rattle.pg_call.specs.Replies.{awaits_first, columns_of, goes_on, may_close, part_after, may_copy, MayNotCome, IsFault}
 use Rattle.pg_call.specs.Drains.{is_error, is_copy_in, before_readys, after_readys, failed_behind, fails_for, drain_fails}
-use Rattle.pg_call.specs.Hearing.{framed, added_all, gone_on, HearsMessage, Hears, marked, ledger_behind, fails_of, DrainsBy, Drains, Follows}
-use Rattle.pg_call.specs.Calls.{IsDraining, IsReplying, owes_own, owes_none, CallIs, owner_failed, Leaves, IsFine, EndsFine, CallEnds, IsFrontFault, CallTakes, StaysIn, TakesMessage, RefusesMessage}
+use Rattle.pg_call.specs.Hearing.{framed, added_all, gone_on, HearsMessage, Hears, marked, ledger_behind, fails_of, DrainsBy, Drains, Follows, handed_on}
+use Rattle.pg_call.specs.Calls.{answer_by, IsDraining, IsReplying, owes_own, owes_none, CallIs, owner_failed, Leaves, IsFine, EndsFine, CallEnds, IsFrontFault, CallTakes, StaysIn, TakesMessage, RefusesMessage}
 use Rattle.pg_call.proofs.DrainLaws.{count-push, count-same, after_below, after_from, before_below, before_from, failed-push, fails-push, still_failed, no_more_failed}
 use Rattle.pg_call.proofs.ItemLaws.{items-push, tally-more}
 use Rattle.pg_wire.specs.Refusals.{BeginsCopyResponse}
-use Rattle.pg_call.proofs.RefusedLaws.{group_refused, group_copies}
+use Rattle.pg_call.proofs.RefusedLaws.{Describes, describes_after, described_columns, group_refused, group_copies}
 use Rattle.pg_wire.proofs.Each.{each_end}
 use Rattle.pg_wire.proofs.Unique.{backend_frame_unique}
 
@@ -135,7 +138,7 @@ test_at t f tag b e h = rw e h
 pub drain_takes : (f : Frame) (a b : Running) (w : Waiting) (beat : Beat) (fails : Bool) → a.call ≡ calls.Waiting w → 0 < a.ledger.owed → DrainsBy f w.is_copy_failed a b beat fails
     → (start : Ledger) (r : Request) (said : List FrontendMessage) (hs : List Frame) (items : List CallItem) → CallIs start r said hs items a.ledger (calls.Waiting w) → CallTakes start r (said ++ fails_of fails) (hs ++ f ∷ []) items b.ledger b.call beat
 drain_takes f a b w beats.More fails k some d start r said hs items i =
-    rw (d.2, d.1, k) (i.0, i.1, i.2, drained start said hs items a.ledger w.is_copy_failed f some d.0 i.3)
+    rw (d.2, d.1, k) (i.0, i.1, i.2, drained start said hs items a.ledger w.is_copy_failed f some d.0 i.3, i.4, i.5)
 drain_takes f a b w beats.Waits fails k some d start r said hs items i = absurd d
 drain_takes f a b w (beats.Yields item) fails k some d start r said hs items i = absurd d
 drain_takes f a b w (beats.Ends answer) fails k some d start r said hs items i =
@@ -224,6 +227,8 @@ own_fails start r said hs items reply error can have i = (
 pub no_groups_close : (r : Request) → kind_of r ≡ kinds.Close → (groups_of r ≡ []) × (messages_of r ≡ farewell kinds.Close)
 no_groups_close requests.Close e = (refl, refl)
 no_groups_close requests.Flush e = absurd cc
+no_groups_close (requests.Describe extended) e = absurd cc
+no_groups_close (requests.Run bound) e = absurd cc
 no_groups_close requests.Ping e = absurd cc
 no_groups_close (requests.Execute query) e = absurd cc
 no_groups_close (requests.ExecuteMany query) e = absurd cc
@@ -265,6 +270,7 @@ finished_last (kinds.Run hows.FetchMany) t status = tt
 finished_last (kinds.Run hows.FetchAll) t status = tt
 finished_last (kinds.Run hows.FetchOptional) t status = tt
 finished_last (kinds.Run hows.FetchOne) t status = one_row_last t.first
+finished_last kinds.Describe t status = tt
 finished_last kinds.Begin t status = begun_last status
 finished_last kinds.Commit t status = tt
 finished_last kinds.Rollback t status = tt
@@ -290,6 +296,8 @@ plain_messages (requests.Begin depth) n = refl
 plain_messages (requests.BeginWith query) n = refl
 plain_messages (requests.Commit left) n = refl
 plain_messages (requests.Rollback left) n = refl
+plain_messages (requests.Describe extended) n = refl
+plain_messages (requests.Run bound) n = refl
 plain_messages requests.Ping n = refl
 plain_messages requests.Flush n = absurd (omega (arith, n))
 plain_messages requests.Close n = absurd (omega (arith, n))
@@ -317,13 +325,37 @@ closed_fine start r said hs items reply i status can =
 own_not_close : (r : Request) → length (groups_of r) ≡ 1 → kind_of r ≡ kinds.Close → ⊥
 own_not_close r n k = let z = ap (λ (g : List Group). length g) (no_groups_close r k).0 in absurd (omega (arith, n, z))
 
-own_closes : (start : Ledger) (r : Request) (said : List FrontendMessage) (hs : List Frame) (items : List CallItem) (reply : Reply) (status : TransactionStatus) → CanBeSaid r → IsReplying start r said hs items reply
-    → CallTakes start r (said ++ []) (hs ++ backend_frame (ReadyForQuery status) ∷ []) items owes_none calls.Idle (beats.Ends (finished reply.kind reply.tally status))
+handed_last : (rest : Option Bound) (part : Part) (answer : Result CallAnswer Error) → IsLast answer → IsLast (handed_on rest part answer)
+handed_last None part answer l = l
+handed_last (Some bound) part answer l = tt
+
+-- what closes a description has described so many columns
+described_at : (own : List BackendMessage) (part : Part) (status : TransactionStatus) → part_after parts.Parsing own ≡ Some part → may_close part ≡ true → columns_of part ≡ Some (length (described (own ++ ReadyForQuery status ∷ [])))
+described_at own part status e c = by part (describes_after parts.Parsing part own tt e) e c
+  where
+    by : (part : Part) → Describes part → part_after parts.Parsing own ≡ Some part → may_close part ≡ true → columns_of part ≡ Some (length (described (own ++ ReadyForQuery status ∷ [])))
+    by (parts.Described columns) d e c = ap (λ (n : ℕ). Some n) (sym (described_columns own columns status e))
+    by parts.Parsing d e c = absurd cc
+    by parts.Typing d e c = absurd cc
+    by parts.Describing d e c = absurd cc
+    by _ d e c = absurd d
+
+answers_same : (r : Request) (own : List BackendMessage) (reply : Reply) (status : TransactionStatus) → reply.rest ≡ rest_of r → part_after (awaits_first r) own ≡ Some reply.part → may_close reply.part ≡ true
+    → answer_to (kind_of r) (items_of (own ++ ReadyForQuery status ∷ [])) status ≡ finished reply.kind reply.tally status → answer_by r (own ++ ReadyForQuery status ∷ []) status ≡ handed_on reply.rest reply.part (finished reply.kind reply.tally status)
+answers_same (requests.Describe x) own reply status k p c e =
+    ap (λ (w : Option ℕ). Ok (answers.Next (requests.Run (record { how = x.how; arguments = x.arguments; width = w })))) (sym (described_at own reply.part status p c))
+    ∙ ap (λ (o : Option Bound). handed_on o reply.part (finished reply.kind reply.tally status)) (sym k)
+answers_same _ own reply status k p c e = e ∙ ap (λ (o : Option Bound). handed_on o reply.part (finished reply.kind reply.tally status)) (sym k)
+
+own_closes : (start : Ledger) (r : Request) (said : List FrontendMessage) (hs : List Frame) (items : List CallItem) (reply : Reply) (status : TransactionStatus) → may_close reply.part ≡ true → CanBeSaid r → IsReplying start r said hs items reply
+    → CallTakes start r (said ++ []) (hs ++ backend_frame (ReadyForQuery status) ∷ []) items owes_none calls.Idle (beats.Ends (handed_on reply.rest reply.part (finished reply.kind reply.tally status)))
 unfolding closed_fine
-own_closes start r said hs items reply status can i =
-    let same : answer_to (kind_of r) (items_of (i.own ++ ReadyForQuery status ∷ [])) status ≡ finished reply.kind reply.tally status =
+own_closes start r said hs items reply status closes can i =
+    let answer = handed_on reply.rest reply.part (finished reply.kind reply.tally status) in
+    let plain : answer_to (kind_of r) (items_of (i.own ++ ReadyForQuery status ∷ [])) status ≡ finished reply.kind reply.tally status =
     ap (λ (t : List CallItem). answer_to (kind_of r) t status) (items_same i.own (ReadyForQuery status) refl) ∙ ap (λ (k : Kind). answer_to k (items_of i.own) status) (sym i.kind_is) ∙ ap (λ (t : Tally). finished reply.kind t status) (sym i.tally_is) in
-    (refl, ends_fine start r (said ++ []) _ items owes_none _ (finished_last reply.kind reply.tally status) (rw (append-nil said) (closed_fine start r said hs items reply i status can, same)), on_ok (finished reply.kind reply.tally status) (kind_of r ≡ kinds.Close → ⊥) (λ k. own_not_close r i.one k))
+    let same = answers_same r i.own reply status i.rest_is i.so_far closes plain in
+    (refl, ends_fine start r (said ++ []) _ items owes_none _ (handed_last reply.rest reply.part _ (finished_last reply.kind reply.tally status)) (rw (append-nil said) (closed_fine start r said hs items reply i status can, same)), on_ok answer (kind_of r ≡ kinds.Close → ⊥) (λ k. own_not_close r i.one k))
 
 -- ---- a copy that nobody asked for
 
@@ -347,11 +379,11 @@ own_copies start r said hs items reply m can have copies z e none i = (
       tagged = refl;
       own_is = i.own_is;
       own_have_frames = i.own_have_frames;
-      so_far = ap (λ (k : Kind). part_after (awaits_first k) i.own) (sym i.kind_is) ∙ i.so_far;
+      so_far = i.so_far;
       copies = copies;
       lawful = λ group g.
           subst (BeginsCopyResponse group) (sym (after_from hs start.owed (backend_frame m) (omega (arith, i.counted)) ∙ ap (λ (x : List Frame). x ++ backend_frame m ∷ []) i.own_is))
-          (group_copies r group i.own reply.part m g i.own_have_frames have (ap (λ (k : Kind). part_after (awaits_first k) i.own) (sym i.kind_is) ∙ i.so_far) copies);
+          (group_copies r group i.own reply.part m g i.own_have_frames have i.so_far copies);
     },
   ),
   tt,
@@ -380,7 +412,8 @@ went_on start r said hs items reply next m have goes z e i = record {
   well = count-same is_error hs (backend_frame m) 0 e i.well;
   own_is = own_push start r said hs items reply i m;
   own_have_frames = each_end HasBackendFrame i.own m i.own_have_frames have;
-  so_far = part-push (awaits_first reply.kind) reply.part next i.own m i.so_far goes;
+  so_far = part-push (awaits_first r) reply.part next i.own m i.so_far goes;
+  rest_is = i.rest_is;
   tally_is = ap (λ (t : Tally). added_all reply.kind t (item_of m)) i.tally_is ∙ tally-more reply.kind (items_of i.own) (item_of m) ∙ ap (tally_of reply.kind) (sym (items-push i.own m));
   items_are = ap (λ (t : List CallItem). t ++ filter (yields reply.kind) (item_of m)) i.items_are ∙ sym (filter-append (yields reply.kind) (items_of i.own) (item_of m)) ∙ ap (shown reply.kind) (sym (items-push i.own m));
 }
@@ -391,12 +424,28 @@ no_ready parts.First next status e = absurd cc
 no_ready parts.Further next status e = absurd cc
 no_ready (parts.Rows columns) next status e = absurd cc
 no_ready parts.Synced next status e = absurd cc
+no_ready parts.Parsing next status e = absurd cc
+no_ready parts.Typing next status e = absurd cc
+no_ready parts.Describing next status e = absurd cc
+no_ready (parts.Described columns) next status e = absurd cc
+no_ready (parts.Binding width) next status e = absurd cc
+no_ready (parts.Running width) next status e = absurd cc
+no_ready (parts.RunningOn columns) next status e = absurd cc
+no_ready parts.Closing next status e = absurd cc
 
 no_error : (part next : Part) (details : List ErrorField) → goes_on part (ErrorResponse details) ≡ Some next → ⊥
 no_error parts.First next details e = absurd cc
 no_error parts.Further next details e = absurd cc
 no_error (parts.Rows columns) next details e = absurd cc
 no_error parts.Synced next details e = absurd cc
+no_error parts.Parsing next details e = absurd cc
+no_error parts.Typing next details e = absurd cc
+no_error parts.Describing next details e = absurd cc
+no_error (parts.Described columns) next details e = absurd cc
+no_error (parts.Binding width) next details e = absurd cc
+no_error (parts.Running width) next details e = absurd cc
+no_error (parts.RunningOn columns) next details e = absurd cc
+no_error parts.Closing next details e = absurd cc
 
 goes_plain : (part next : Part) (m : BackendMessage) → goes_on part m ≡ Some next → (is_ready (backend_frame m) ≡ false) × (is_error (backend_frame m) ≡ false)
 goes_plain part next (ReadyForQuery status) e = absurd (no_ready part next status e)
@@ -410,8 +459,10 @@ copies_plain parts.First _ e = absurd cc
 copies_plain parts.Further (CopyInResponse format columns) e = (refl, refl, refl)
 copies_plain parts.Further (CopyOutResponse format columns) e = (refl, refl, refl)
 copies_plain parts.Further _ e = absurd cc
-copies_plain (parts.Rows columns) m e = absurd cc
-copies_plain parts.Synced m e = absurd cc
+copies_plain (parts.Running width) (CopyInResponse format columns) e = (refl, refl, refl)
+copies_plain (parts.Running width) (CopyOutResponse format columns) e = (refl, refl, refl)
+copies_plain (parts.Running width) _ e = absurd cc
+copies_plain _ m e = absurd cc
 
 -- ---- a message of the own reply
 
@@ -436,7 +487,7 @@ own_takes start r said hs items reply reply' m (heards.Yields item) ledger b tak
 own_takes start r said hs items reply reply' m (heards.Failed error) ledger b taken have h f o can i =
     rw (f.1, f.0, o, h.0) (own_fails start r said hs items reply error can (rw h.0 at have) i)
 own_takes start r said hs items reply reply' m (heards.Closed status) ledger b taken have h f o can i =
-    rw (f.1, f.0, h.1, h.2) (own_closes start r said hs items reply status can i)
+    rw (f.1, f.0, h.1, h.2) (own_closes start r said hs items reply status h.0 can i)
 own_takes start r said hs items reply reply' m heards.Copies ledger b taken have h f o can i =
     let p = copies_plain reply.part m h.0 in
     rw (f.1, f.0, o) (own_copies start r said hs items reply m can have h.0 p.0 p.1 p.2 i)
@@ -449,7 +500,7 @@ fault_at start r said hs items reply f errors.OutOfMemory h i = tt
 fault_at start r said hs items reply f (errors.Protocol (protocol.Server (faults.Malformed t))) h i = (h.0, λ m have same. h.1 m (have, same))
 fault_at start r said hs items reply f (errors.Protocol (protocol.Server (faults.Unlawful t))) h i =
     let g = one_group (groups_of r) i.one in
-    (h.0, (h.1, h.2.0, h.2.1), refl, i.counted, (g.0, g.1, λ b. group_refused r g.0 i.own reply.part f g.1 i.own_have_frames (rw i.kind_is at i.so_far) (λ m have same. subst (MayNotCome reply.part) (backend_frame_unique h.1 m h.2.0 have (h.2.1 ∙ sym same)) h.3) (rw i.own_is at b)))
+    (h.0, (h.1, h.2.0, h.2.1), refl, i.counted, (g.0, g.1, λ b. group_refused r g.0 i.own reply.part f g.1 i.own_have_frames i.so_far (λ m have same. subst (MayNotCome reply.part) (backend_frame_unique h.1 m h.2.0 have (h.2.1 ∙ sym same)) h.3) (rw i.own_is at b)))
 fault_at start r said hs items reply f _ h i = absurd h
 
 pub own_refuses : (f : Frame) (ledger : Ledger) (reply : Reply) (e : Error) → IsFault (MayNotCome reply.part) f.tag f.body e

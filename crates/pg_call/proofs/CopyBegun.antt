@@ -1,15 +1,15 @@
 -- A copy that may begin where a segment may begins a response of some server.
-use Rattle.std.proofs.Common.{◌≡◌, ℕ, Bool, true, false, cond, nat_eq, inl, inr, List, [], ◌∷◌, ◌++◌, length, map, Some, None, refl, sym, ap, ◌∙◌, subst, append_assoc, append-nil, flat_map}
+use Rattle.std.proofs.Common.{◌≡◌, ℕ, Bool, true, false, cond, nat_eq, inl, inr, Option, List, [], ◌∷◌, ◌++◌, length, map, Some, None, refl, sym, ap, ◌∙◌, subst, append_assoc, append-nil, flat_map}
 use Rattle.std.specs.List.{AllByRecursion}
 use Rattle.std.proofs.lemmas.Bool.{eqb-true}
 use Rattle.std.proofs.lemmas.List.{map-append}
 use Rattle.std.proofs.lemmas.Option.{same_Some}
 use Rattle.pg_wire.specs.declared.status.TransactionStatus.TheVariants as statuses
-use Rattle.pg_wire.specs.Frontend.{Query}
-use Rattle.pg_wire.specs.Backend.{Values, BackendMessage, backend_frame, HasBackendFrame, RowDescription, DataRow, CommandComplete, ErrorResponse, EmptyQueryResponse, ReadyForQuery, CopyInResponse, CopyOutResponse, BackendCopyDone}
-use Rattle.pg_wire.specs.Server.{AreWide, fresh_server}
+use Rattle.pg_wire.specs.Frontend.{Query, Bind, Execute, ClosePortal, Sync}
+use Rattle.pg_wire.specs.Backend.{Values, BackendMessage, backend_frame, HasBackendFrame, RowDescription, DataRow, CommandComplete, ErrorResponse, EmptyQueryResponse, ReadyForQuery, BindComplete, CloseComplete, CopyInResponse, CopyOutResponse, BackendCopyDone}
+use Rattle.pg_wire.specs.Server.{Server, AreWide, fresh_server}
 use Rattle.pg_wire.specs.Acceptor.{Awaits, FirstSegment, FurtherSegment, RowsOf, AfterError, NothingMore, begins, next, accepts}
-use Rattle.pg_wire.specs.Copying.{CopyServer, CopyStep, IsCopySegment, NotCopying, QueryCopies, fresh_copy_server}
+use Rattle.pg_wire.specs.Copying.{CopyServer, CopyStep, CopyRun, IsCopySegment, NotCopying, QueryCopies, ExecuteCopies, fresh_copy_server}
 use Rattle.pg_wire.specs.Refusals.{BeginsCopyResponse, BeginsCopy, MayBeginCopy}
 use Rattle.pg_wire.proofs.AcceptorLaws.{and_then_some}
 
@@ -134,3 +134,59 @@ copy_begins_response sql own s m have h e may = by m h (copies s m may) (comes o
         (record { server = record fresh_server { unnamed = None; portal = None }; mode = NotCopying })
         (inl (record { before = p.0; last = last; status = statuses.Idle; whole = p.1; ends = inl (inr (format, columns, [], [], refl)); are = ap (λ (x : List BackendMessage). x ++ CopyOutResponse format columns ∷ tail) p.2 ∙ sym (append_assoc (flat_map (λ rs. rs) p.0) last (ReadyForQuery statuses.Idle ∷ [])) }, refl))
     by _ h c p = absurd c
+
+-- ---- a portal that copies
+
+-- a server whose unnamed statement has no columns
+abbrev prepared : CopyServer
+prepared = record { server = record fresh_server { unnamed = Some (record { sql = []; fields = [] }) }; mode = NotCopying }
+
+run_begins : (values : List (Option (List ℕ))) (m : BackendMessage) (tail : List BackendMessage) (rss : List (List BackendMessage)) (after : CopyServer) → CopyRun prepared (Bind [] values ∷ Execute [] 0 ∷ ClosePortal [] ∷ Sync ∷ []) rss after
+    → flat_map (λ rs. rs) rss ≡ BindComplete ∷ m ∷ tail → AllByRecursion HasBackendFrame (BindComplete ∷ m ∷ tail) → BeginsCopyResponse (Bind [] values ∷ Execute [] 0 ∷ ClosePortal [] ∷ Sync ∷ []) (backend_frame BindComplete ∷ backend_frame m ∷ [])
+run_begins values m tail rss after run e have = record {
+  before = prepared;
+  after = after;
+  replies = rss;
+  between = (refl, (refl, refl));
+  run = run;
+  replies_have_frames = subst (AllByRecursion HasBackendFrame) (sym e) have;
+  begins = (map backend_frame tail, ap (map backend_frame) (sym e));
+}
+
+abbrev bound_server : Server
+bound_server = record prepared.server { portal = Some [] }
+
+pub copy_begins_run : (values : List (Option (List ℕ))) (m : BackendMessage) → HasBackendFrame m → MayBeginCopy FirstSegment m → BeginsCopyResponse (Bind [] values ∷ Execute [] 0 ∷ ClosePortal [] ∷ Sync ∷ []) (backend_frame BindComplete ∷ backend_frame m ∷ [])
+copy_begins_run values (CopyInResponse format columns) h c =
+    let m = CopyInResponse format columns in
+    let failed : Server = record bound_server { skip = true } in
+    run_begins values m (ErrorResponse [] ∷ ReadyForQuery statuses.Transaction ∷ []) ((BindComplete ∷ []) ∷ (m ∷ []) ∷ (ErrorResponse [] ∷ []) ∷ (ReadyForQuery statuses.Transaction ∷ []) ∷ []) (record { server = bound_server; mode = NotCopying }) (
+      record { server = bound_server; mode = NotCopying },
+      (bound_server, inl (refl, refl), refl),
+      (
+        record { server = bound_server; mode = ExecuteCopies },
+        inr (inr (m, (format, columns, refl), refl, refl)),
+        (
+          record { server = failed; mode = NotCopying },
+          ([], refl, refl),
+          (record { server = bound_server; mode = NotCopying }, (bound_server, (statuses.Transaction, refl, inl refl), refl), refl),
+        ),
+      ),
+    ) refl (tt, (h, (tt, (tt, tt))))
+copy_begins_run values (CopyOutResponse format columns) h c =
+    let m = CopyOutResponse format columns in
+    let last : Server = record bound_server { portal = None } in
+    run_begins values m (BackendCopyDone ∷ CommandComplete [] ∷ CloseComplete ∷ ReadyForQuery statuses.Transaction ∷ []) ((BindComplete ∷ []) ∷ (m ∷ BackendCopyDone ∷ CommandComplete [] ∷ []) ∷ (CloseComplete ∷ []) ∷ (ReadyForQuery statuses.Transaction ∷ []) ∷ []) (record { server = last; mode = NotCopying }) (
+      record { server = bound_server; mode = NotCopying },
+      (bound_server, inl (refl, refl), refl),
+      (
+        record { server = bound_server; mode = NotCopying },
+        inl (inr (format, columns, [], [], refl), refl),
+        (
+          record { server = last; mode = NotCopying },
+          (last, inl (refl, refl), refl),
+          (record { server = last; mode = NotCopying }, (last, (statuses.Transaction, refl, inl refl), refl), refl),
+        ),
+      ),
+    ) refl (tt, (h, (tt, (refl, (tt, (tt, tt))))))
+copy_begins_run values _ h c = absurd c

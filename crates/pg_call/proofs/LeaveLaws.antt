@@ -1,5 +1,5 @@
 -- What a call leaves wherever it stands, and at the end of a flush and of a close.
-use Rattle.std.proofs.Common.{◌≡◌, ◌≢◌, ◌⊎◌, inl, inr, ℕ, zero, suc, ◌+◌, Bool, true, false, not, ◌&&◌, cond, List, [], ◌∷◌, ◌++◌, length, refl, sym, ap, ◌∙◌, arith, append-nil, Ok, None}
+use Rattle.std.proofs.Common.{◌≡◌, ◌≢◌, ◌⊎◌, inl, inr, ℕ, zero, suc, ◌+◌, Bool, true, false, not, ◌&&◌, cond, List, [], ◌∷◌, ◌++◌, length, refl, sym, ap, ◌∙◌, arith, append-nil, Ok, Some, None, subst}
 use Rattle.pg_wire.specs.declared.status.TransactionStatus.TheVariants as statuses
 use Rattle.std.specs.List.{count_by}
 use Rattle.pg_wire.specs.Frame.{Frame}
@@ -11,6 +11,7 @@ use Rattle.pg_call.specs.declared.request.Request.{Request}
 use Rattle.pg_call.specs.declared.request.Request.TheVariants as requests
 use Rattle.pg_call.specs.declared.answer.CallItem.{CallItem}
 use Rattle.pg_call.specs.declared.answer.CallAnswer.TheVariants as answers
+use Rattle.pg_call.specs.declared.judging.Part.{Part}
 use Rattle.pg_call.specs.declared.ledger.Ledger.{Ledger}
 use Rattle.pg_call.specs.declared.waiting.Waiting.{Waiting}
 use Rattle.pg_call.specs.declared.calling.Call.{Call}
@@ -20,7 +21,7 @@ use Rattle.pg_call.specs.declared.tally.Tally.{Tally}
 use Rattle.pg_call.specs.Items.{shown, empty_tally, tally_of, keeps_all, keeps_first}
 use Rattle.pg_call.specs.Hearing.{fresh_reply}
 use Rattle.pg_call.specs.Drains.{is_error, before_readys, after_readys, drain_fails}
-use Rattle.pg_call.specs.Calls.{CallIs, IsDraining, IsClosing, Leaves, IsFine, EndsByReady, CallEnds, owes_own}
+use Rattle.pg_call.specs.Calls.{answer_by, CallIs, IsDraining, IsClosing, Leaves, IsFine, EndsByReady, CallEnds, owes_own}
 use Rattle.pg_call.proofs.DrainLaws.{count-cons, after_nil, before_nil}
 use Rattle.pg_call.proofs.CallLaws.{leaves_draining, leaves_own, no_groups_close}
 
@@ -130,6 +131,8 @@ call_well start r said hs items ledger calls.Idle i = absurd i
 no_groups_flush : (r : Request) → is_flush (kind_of r) ≡ true → (groups_of r ≡ []) × (messages_of r ≡ []) × (kind_of r ≡ kinds.Flush)
 no_groups_flush requests.Flush e = (refl, refl, refl)
 no_groups_flush requests.Ping e = absurd cc
+no_groups_flush (requests.Describe extended) e = absurd cc
+no_groups_flush (requests.Run bound) e = absurd cc
 no_groups_flush requests.Close e = absurd cc
 no_groups_flush (requests.Execute query) e = absurd cc
 no_groups_flush (requests.ExecuteMany query) e = absurd cc
@@ -142,6 +145,15 @@ no_groups_flush (requests.Begin depth) e = absurd cc
 no_groups_flush (requests.BeginWith query) e = absurd cc
 no_groups_flush (requests.Commit left) e = absurd cc
 no_groups_flush (requests.Rollback left) e = absurd cc
+
+-- a flush and a close are told by their kinds
+flush_alone : (r : Request) → is_flush (kind_of r) ≡ true → requests.Flush ≡ r
+flush_alone requests.Flush e = refl
+flush_alone _ e = absurd cc
+
+close_alone : (r : Request) → kind_of r ≡ kinds.Close → requests.Close ≡ r
+close_alone requests.Close e = refl
+close_alone _ e = absurd cc
 
 fine_drained : (start : Ledger) (r : Request) (said drained : List FrontendMessage) (hs : List Frame) (items : List CallItem) (ledger : Ledger) (failed : Bool) → CanBeSaid r → groups_of r ≡ [] → ledger.owed ≡ 0 → said ≡ drained ++ messages_of r → IsDraining start drained hs items ledger failed
     → IsFine start r said hs items ledger
@@ -165,14 +177,14 @@ pub flush_fine : (start : Ledger) (r : Request) (said : List FrontendMessage) (h
 unfolding fine_drained
 flush_fine start r said hs items ledger w f z i =
     let g = no_groups_flush r (rw i.0 at f) in
-    (fine_drained start r said said hs items ledger w.is_copy_failed i.2 g.0 z (sym (append-nil said) ∙ ap (λ (t : List FrontendMessage). said ++ t) (sym g.1)) i.3, rw g.2 refl)
+    (fine_drained start r said said hs items ledger w.is_copy_failed i.2 g.0 z (sym (append-nil said) ∙ ap (λ (t : List FrontendMessage). said ++ t) (sym g.1)) i.3, subst (λ (x : Request). answer_by x [] statuses.Idle ≡ Ok answers.Unit) (flush_alone r (rw i.0 at f)) refl)
 
 pub closing_fine : (start : Ledger) (r : Request) (said : List FrontendMessage) (hs : List Frame) (items : List CallItem) (ledger : Ledger) → CallIs start r said hs items ledger calls.Closing → CallEnds start r said hs items ledger (Ok answers.Unit)
 unfolding fine_drained
 closing_fine start r said hs items ledger i =
     let g = no_groups_close r i.0 in
     let c = i.2 in
-    (fine_drained start r said c.drained hs items ledger c.failed i.1 g.0 c.owes (c.said_is ∙ ap (λ (t : List FrontendMessage). c.drained ++ t) (sym g.1)) c.draining, rw i.0 refl)
+    (fine_drained start r said c.drained hs items ledger c.failed i.1 g.0 c.owes (c.said_is ∙ ap (λ (t : List FrontendMessage). c.drained ++ t) (sym g.1)) c.draining, subst (λ (x : Request). answer_by x [] statuses.Idle ≡ Ok answers.Unit) (close_alone r i.0) refl)
 
 -- ---- its own reply begins
 
@@ -188,6 +200,8 @@ one_of (requests.Begin depth) f c = (refl, refl)
 one_of (requests.BeginWith query) f c = (refl, refl)
 one_of (requests.Commit left) f c = (refl, refl)
 one_of (requests.Rollback left) f c = (refl, refl)
+one_of (requests.Describe extended) f c = (refl, refl)
+one_of (requests.Run bound) f c = (refl, refl)
 one_of requests.Ping f c = (refl, refl)
 one_of requests.Flush f c = absurd cc
 one_of requests.Close f c = absurd cc
@@ -196,6 +210,8 @@ close_kind : (r : Request) → is_close (kind_of r) ≡ true → kind_of r ≡ k
 close_kind requests.Close e = refl
 close_kind requests.Flush e = absurd cc
 close_kind requests.Ping e = absurd cc
+close_kind (requests.Describe extended) e = absurd cc
+close_kind (requests.Run bound) e = absurd cc
 close_kind (requests.Execute query) e = absurd cc
 close_kind (requests.ExecuteMany query) e = absurd cc
 close_kind (requests.Fetch query) e = absurd cc
@@ -222,7 +238,7 @@ tally_nil kind = by (keeps_all kind) (keeps_first kind)
 
 -- the frames of a call that owes nothing more are queued
 pub replying_from : (start : Ledger) (r : Request) (said : List FrontendMessage) (hs : List Frame) (items : List CallItem) (ledger : Ledger) (w : Waiting) → is_flush w.kind ≡ false → is_close w.kind ≡ false → ledger.owed ≡ 0
-    → CallIs start r said hs items ledger (calls.Waiting w) → CallIs start r (said ++ messages_of r) hs items owes_own (calls.Own (fresh_reply w.kind))
+    → CallIs start r said hs items ledger (calls.Waiting w) → CallIs start r (said ++ messages_of r) hs items owes_own (calls.Own (fresh_reply w))
 replying_from start r said hs items ledger w f c z i =
     let d = i.3 in
     let one = one_of r (rw i.0 at f) (rw i.0 at c) in (
@@ -237,7 +253,8 @@ replying_from start r said hs items ledger w f c z i =
         well = d.well;
         own_is = d.none;
         own_have_frames = tt;
-        so_far = refl;
+        so_far = ap (λ (p : Part). Some p) (sym i.4);
+        rest_is = i.5;
         tally_is = tally_nil w.kind;
         items_are = d.items_are;
       },

@@ -7,4 +7,6 @@ pub mod CopyBegun
 pub mod CallLaws
 pub mod LeaveLaws
 pub mod FitLaws
+pub mod StateLaws
+pub mod RefusalLaws
 pub mod FormatLaws

@@ -1,46 +1,77 @@
 -- What may come where, by its tag.
-use Rattle.std.proofs.Common.{◌≡◌, ℕ, true, false, List, length, Some, refl, sym, ◌∙◌, ap, subst, Err, arith}
+use Rattle.std.proofs.Common.{◌≡◌, ℕ, true, false, List, [], length, Some, None, refl, sym, ◌∙◌, ap, subst, Ok, Err, arith}
 use Rattle.pg_wire.specs.declared.error.Error.{Error}
 use Rattle.pg_wire.specs.declared.error.Error.TheVariants as errors
 use Rattle.pg_wire.specs.declared.error.ProtocolFault.TheVariants as protocol
 use Rattle.pg_wire.specs.declared.error.ServerFault.TheVariants as faults
 use Rattle.pg_wire.specs.Frame.{Frame, is_known}
-use Rattle.pg_wire.specs.Backend.{FieldDescription, Values, BackendMessage, backend_frame, ReadyForQuery, RowDescription, DataRow, CommandComplete, ErrorResponse, EmptyQueryResponse, CopyInResponse, CopyOutResponse}
+use Rattle.pg_wire.specs.Backend.{FieldDescription, Values, BackendMessage, backend_frame, ReadyForQuery, RowDescription, DataRow, CommandComplete, ErrorResponse, EmptyQueryResponse, ParameterDescription, ParseComplete, BindComplete, CloseComplete, NoData, CopyInResponse, CopyOutResponse}
 use Rattle.pg_wire.specs.Decoding.{Says}
 use Rattle.pg_wire.proofs.Unique.{backend_frame_unique}
 use Rattle.pg_call.specs.declared.judging.Part.{Part}
-use Rattle.pg_call.specs.declared.judging.Part.TheVariants.{First, Further, Rows, Synced}
-use Rattle.pg_call.specs.Replies.{goes_on, may_copy, may_close, fits, tags_of, MayNotCome, IsAny, IsFault, Judges}
+use Rattle.pg_call.specs.declared.judging.Part.TheVariants.{First, Further, Rows, Synced, Parsing, Typing, Describing, Described, Binding, Running, RunningOn, Closing}
+use Rattle.pg_call.specs.Replies.{goes_on, goes_plainly, may_copy, may_close, after_row, after_bind, after_columns, after_end, tags_of, MayNotCome, IsAny, IsFault, Judges}
+use Rattle.pg_call.specs.declared.judging.Verdict.{Verdict}
+use Rattle.pg_call.specs.Items.{item_of}
 
 pub closes_at : (part : Part) → is_known (tags_of part) 90 ≡ true → may_close part ≡ true
-closes_at First k = absurd cc
 closes_at Further k = refl
-closes_at (Rows columns) k = absurd cc
 closes_at Synced k = refl
+closes_at (Described columns) k = refl
+closes_at _ k = absurd cc
 
-pub describes_at : (part : Part) (fields : List FieldDescription) → is_known (tags_of part) 84 ≡ true → goes_on part (RowDescription fields) ≡ Some (Rows (length fields))
+pub describes_at : (part : Part) (fields : List FieldDescription) → is_known (tags_of part) 84 ≡ true → goes_on part (RowDescription fields) ≡ Some (after_columns part (length fields))
 describes_at First fields k = refl
 describes_at Further fields k = refl
-describes_at (Rows columns) fields k = absurd cc
-describes_at Synced fields k = absurd cc
+describes_at Describing fields k = refl
+describes_at _ fields k = absurd cc
 
-pub empties_at : (part : Part) → is_known (tags_of part) 73 ≡ true → goes_on part EmptyQueryResponse ≡ Some Further
+pub describes_none_at : (part : Part) → is_known (tags_of part) 110 ≡ true → goes_on part NoData ≡ Some (Described 0)
+describes_none_at Describing k = refl
+describes_none_at _ k = absurd cc
+
+pub types_at : (part : Part) (types : List ℕ) → is_known (tags_of part) 116 ≡ true → goes_on part (ParameterDescription types) ≡ Some Describing
+types_at Typing types k = refl
+types_at _ types k = absurd cc
+
+pub parses_at : (part : Part) → is_known (tags_of part) 49 ≡ true → goes_on part ParseComplete ≡ Some Typing
+parses_at Parsing k = refl
+parses_at _ k = absurd cc
+
+pub binds_at : (part : Part) → is_known (tags_of part) 50 ≡ true → goes_on part BindComplete ≡ Some (after_bind part)
+binds_at (Binding width) k = refl
+binds_at _ k = absurd cc
+
+pub closes_portal_at : (part : Part) → is_known (tags_of part) 51 ≡ true → goes_on part CloseComplete ≡ Some Synced
+closes_portal_at Closing k = refl
+closes_portal_at _ k = absurd cc
+
+pub ends_at : (part : Part) (tag : List ℕ) → is_known (tags_of part) 67 ≡ true → goes_on part (CommandComplete tag) ≡ Some (after_end part)
+ends_at First tag k = refl
+ends_at Further tag k = refl
+ends_at (Rows columns) tag k = refl
+ends_at (Running width) tag k = refl
+ends_at (RunningOn columns) tag k = refl
+ends_at _ tag k = absurd cc
+
+pub empties_at : (part : Part) → is_known (tags_of part) 73 ≡ true → goes_on part EmptyQueryResponse ≡ Some (after_end part)
 empties_at First k = refl
 empties_at Further k = refl
-empties_at (Rows columns) k = absurd cc
-empties_at Synced k = absurd cc
+empties_at (Running width) k = refl
+empties_at (RunningOn columns) k = refl
+empties_at _ k = absurd cc
 
 pub copies_at : (part : Part) (m : BackendMessage) → is_known (tags_of part) 71 ≡ true → may_copy First m ≡ true → may_copy part m ≡ true
 copies_at First m k e = e
 copies_at Further m k e = e
-copies_at (Rows columns) m k e = absurd cc
-copies_at Synced m k e = absurd cc
+copies_at (Running width) m k e = e
+copies_at _ m k e = absurd cc
 
 pub copies_out_at : (part : Part) (m : BackendMessage) → is_known (tags_of part) 72 ≡ true → may_copy First m ≡ true → may_copy part m ≡ true
 copies_out_at First m k e = e
 copies_out_at Further m k e = e
-copies_out_at (Rows columns) m k e = absurd cc
-copies_out_at Synced m k e = absurd cc
+copies_out_at (Running width) m k e = e
+copies_out_at _ m k e = absurd cc
 
 -- ---- what may not come
 
@@ -70,6 +101,44 @@ untold (Rows columns) _ k = (refl, refl)
 untold Synced (ErrorResponse details) k = absurd cc
 untold Synced (ReadyForQuery status) k = absurd cc
 untold Synced _ k = (refl, refl)
+untold Parsing ParseComplete k = absurd cc
+untold Parsing (ErrorResponse details) k = absurd cc
+untold Parsing (ReadyForQuery status) k = refl
+untold Parsing _ k = (refl, refl)
+untold Typing (ParameterDescription types) k = absurd cc
+untold Typing (ErrorResponse details) k = absurd cc
+untold Typing (ReadyForQuery status) k = refl
+untold Typing _ k = (refl, refl)
+untold Describing (RowDescription fields) k = absurd cc
+untold Describing NoData k = absurd cc
+untold Describing (ErrorResponse details) k = absurd cc
+untold Describing (ReadyForQuery status) k = refl
+untold Describing _ k = (refl, refl)
+untold (Described columns) (ErrorResponse details) k = absurd cc
+untold (Described columns) (ReadyForQuery status) k = absurd cc
+untold (Described columns) _ k = (refl, refl)
+untold (Binding width) BindComplete k = absurd cc
+untold (Binding width) (ErrorResponse details) k = absurd cc
+untold (Binding width) (ReadyForQuery status) k = refl
+untold (Binding width) _ k = (refl, refl)
+untold (Running width) (DataRow values) k = absurd cc
+untold (Running width) (CommandComplete tag) k = absurd cc
+untold (Running width) EmptyQueryResponse k = absurd cc
+untold (Running width) (ErrorResponse details) k = absurd cc
+untold (Running width) (CopyInResponse format columns) k = absurd cc
+untold (Running width) (CopyOutResponse format columns) k = absurd cc
+untold (Running width) (ReadyForQuery status) k = refl
+untold (Running width) _ k = (refl, refl)
+untold (RunningOn columns) (DataRow values) k = absurd cc
+untold (RunningOn columns) (CommandComplete tag) k = absurd cc
+untold (RunningOn columns) EmptyQueryResponse k = absurd cc
+untold (RunningOn columns) (ErrorResponse details) k = absurd cc
+untold (RunningOn columns) (ReadyForQuery status) k = refl
+untold (RunningOn columns) _ k = (refl, refl)
+untold Closing CloseComplete k = absurd cc
+untold Closing (ErrorResponse details) k = absurd cc
+untold Closing (ReadyForQuery status) k = refl
+untold Closing _ k = (refl, refl)
 
 out_of_place : (part : Part) (m : BackendMessage) (tag : ℕ) (body : List ℕ) → Says tag body m → is_known (tags_of part) tag ≡ false → MayNotCome part m
 out_of_place part m tag body s k = untold part m (ap (λ (f : Frame). is_known (tags_of part) f.tag) s.1 ∙ k)
@@ -86,26 +155,47 @@ misplaced part tag body e k h = because part tag body e (λ m s. out_of_place pa
 
 -- ---- rows
 
-pub fitting : (part : Part) (values : Values) → fits part (length values) ≡ true → goes_on part (DataRow values) ≡ Some part
-fitting First values e = absurd cc
-fitting Further values e = absurd cc
-fitting (Rows columns) values e = rw e refl
-fitting Synced values e = absurd cc
+pub row_goes : (part next : Part) (values : Values) → after_row part (length values) ≡ Some next → goes_on part (DataRow values) ≡ Some next
+row_goes (Rows columns) next values e = e
+row_goes (Running width) next values e = e
+row_goes (RunningOn columns) next values e = e
+row_goes First next values e = absurd cc
+row_goes Further next values e = absurd cc
+row_goes Synced next values e = absurd cc
+row_goes Parsing next values e = absurd cc
+row_goes Typing next values e = absurd cc
+row_goes Describing next values e = absurd cc
+row_goes (Described columns) next values e = absurd cc
+row_goes (Binding width) next values e = absurd cc
+row_goes Closing next values e = absurd cc
 
-unfitting : (part : Part) (values : Values) → fits part (length values) ≡ false → MayNotCome part (DataRow values)
+unfitting : (part : Part) (values : Values) → after_row part (length values) ≡ None → MayNotCome part (DataRow values)
+unfitting (Rows columns) values e = (e, refl)
+unfitting (Running width) values e = (e, refl)
+unfitting (RunningOn columns) values e = (e, refl)
 unfitting First values e = (refl, refl)
 unfitting Further values e = (refl, refl)
-unfitting (Rows columns) values e = (rw e refl, refl)
 unfitting Synced values e = (refl, refl)
+unfitting Parsing values e = (refl, refl)
+unfitting Typing values e = (refl, refl)
+unfitting Describing values e = (refl, refl)
+unfitting (Described columns) values e = (refl, refl)
+unfitting (Binding width) values e = (refl, refl)
+unfitting Closing values e = (refl, refl)
 
-pub other_width : (part : Part) (values : Values) (body : List ℕ) (e : Error) → Says 68 body (DataRow values) → fits part (length values) ≡ false → IsFault IsAny 68 body e → Judges part 68 body (Err e)
+pub other_width : (part : Part) (values : Values) (body : List ℕ) (e : Error) → Says 68 body (DataRow values) → after_row part (length values) ≡ None → IsFault IsAny 68 body e → Judges part 68 body (Err e)
 other_width part values body e s n h =
     because part 68 body e (λ m t. subst (MayNotCome part) (backend_frame_unique (DataRow values) m s.0 t.0 (s.1 ∙ sym t.1)) (unfitting part values n)) h
 
-row_misfits : (part : Part) (body : List ℕ) → ((values : Values) → Says 68 body (DataRow values) → fits part (length values) ≡ false) → (m : BackendMessage) → Says 68 body m → MayNotCome part m
+row_misfits : (part : Part) (body : List ℕ) → ((values : Values) → Says 68 body (DataRow values) → after_row part (length values) ≡ None) → (m : BackendMessage) → Says 68 body m → MayNotCome part m
 row_misfits part body f (DataRow values) s = unfitting part values (f values s)
 row_misfits part body f _ s = absurd (omega (arith, ap (λ (g : Frame). g.tag) s.1))
 
 -- a body that claims another width is no row that may come
-pub claims_other_width : (part : Part) (body : List ℕ) (e : Error) → ((values : Values) → Says 68 body (DataRow values) → fits part (length values) ≡ false) → IsFault IsAny 68 body e → Judges part 68 body (Err e)
+pub claims_other_width : (part : Part) (body : List ℕ) (e : Error) → ((values : Values) → Says 68 body (DataRow values) → after_row part (length values) ≡ None) → IsFault IsAny 68 body e → Judges part 68 body (Err e)
 claims_other_width part body e f h = because part 68 body e (row_misfits part body f) h
+
+-- ---- a message of which nothing is kept
+
+pub plainly : (part next : Part) (tag : ℕ) (body : List ℕ) (m : BackendMessage) (verdict : Verdict) → verdict ≡ goes_plainly next → Says tag body m → goes_on part m ≡ Some next → [] ≡ item_of m → Judges part tag body (Ok verdict)
+plainly part next tag body m verdict e s g i = rw e (m, s, (g, i))

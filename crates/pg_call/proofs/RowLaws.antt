@@ -1,5 +1,5 @@
 -- A row that is neither shown nor kept changes nothing.
-use Rattle.std.proofs.Common.{◌≡◌, ℕ, true, false, List, length, Option, Some, None, Result, Ok, Err, IfOk, refl, sym, ap}
+use Rattle.std.proofs.Common.{◌≡◌, ℕ, false, List, Option, Some, None, Result, Ok, Err, IfOk, refl, sym, ap}
 use Rattle.pg_wire.specs.declared.error.Error.{Error}
 use Rattle.pg_wire.specs.Backend.{BackendMessage, Values, DataRow}
 use Rattle.pg_wire.specs.Decoding.{Says}
@@ -13,9 +13,9 @@ use Rattle.pg_call.specs.declared.judging.Verdict.{Verdict}
 use Rattle.pg_call.specs.declared.reply.Heard.{Heard}
 use Rattle.pg_call.specs.declared.reply.Heard.TheVariants as heards
 use Rattle.pg_call.specs.Items.{added, first_of, keeps_row, yields}
-use Rattle.pg_call.specs.Replies.{fits, IsVerdict, Judges}
+use Rattle.pg_call.specs.Replies.{goes_on, IsVerdict, Judges}
+use Rattle.pg_call.specs.declared.judging.Part.{Part}
 use Rattle.pg_call.specs.Hearing.{Hears, HearsMessage}
-use Rattle.pg_call.proofs.PlaceLaws.{fitting}
 
 first_stays : (first : Option Values) (values : Values) → keeps_row (kinds.Run hows.FetchOne) first ≡ false → first_of first values ≡ first
 first_stays None values e = absurd cc
@@ -33,6 +33,7 @@ adds_none (kinds.Run hows.FetchOptional) t values e = ap (λ (first : Option Val
     optional_stays None values e = absurd cc
     optional_stays (Some row) values e = refl
 adds_none (kinds.Run hows.FetchOne) t values e = ap (λ (first : Option Values). record t { first = first }) (first_stays t.first values e)
+adds_none kinds.Describe t values e = refl
 adds_none kinds.Begin t values e = refl
 adds_none kinds.Commit t values e = refl
 adds_none kinds.Rollback t values e = refl
@@ -48,6 +49,7 @@ yields_none (kinds.Run hows.FetchMany) first values e = absurd cc
 yields_none (kinds.Run hows.FetchAll) first values e = refl
 yields_none (kinds.Run hows.FetchOptional) first values e = refl
 yields_none (kinds.Run hows.FetchOne) first values e = refl
+yields_none kinds.Describe first values e = refl
 yields_none kinds.Begin first values e = refl
 yields_none kinds.Commit first values e = refl
 yields_none kinds.Rollback first values e = refl
@@ -55,11 +57,11 @@ yields_none kinds.Ping first values e = refl
 yields_none kinds.Flush first values e = refl
 yields_none kinds.Close first values e = refl
 
-pub passes_row : (a : Reply) (body : List ℕ) (values : Values) → Says 68 body (DataRow values) → fits a.part (length values) ≡ true → keeps_row a.kind a.tally.first ≡ false → Hears a a 68 body heards.More
-passes_row a body values says fit keeps =
+pub passes_row : (a : Reply) (body : List ℕ) (values : Values) (next : Part) → Says 68 body (DataRow values) → goes_on a.part (DataRow values) ≡ Some next → keeps_row a.kind a.tally.first ≡ false → Hears a (record a { part = next }) 68 body heards.More
+passes_row a body values next says goes keeps =
     let none : yields a.kind (Row values) ≡ false = yields_none a.kind a.tally.first values keeps in
     let same : added a.kind a.tally (Row values) ≡ a.tally = adds_none a.kind a.tally values keeps in
-    (DataRow values, says, (a.part, fitting a.part values fit, ap (λ (t : Tally). record a { tally = t }) (sym same), rw none refl))
+    (DataRow values, says, (next, goes, ap (λ (t : Tally). record a { tally = t; part = next }) (sym same), rw none refl))
 
 -- what a verdict makes of the reply is what its message does
 pub hears_verdict : (a b : Reply) (tag : ℕ) (body : List ℕ) (verdict : Verdict) (r : Result Heard Error) → Judges a.part tag body (Ok verdict) → IfOk r (λ heard. (m : BackendMessage) → IsVerdict a.part m verdict → HearsMessage a b m heard) → IfOk r (Hears a b tag body)

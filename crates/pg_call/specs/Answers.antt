@@ -23,6 +23,7 @@ AnswerFits (kinds.Run hows.FetchOne) (answers.OneRow (Some row)) = Unit {0}
 AnswerFits (kinds.Run hows.ExecuteMany) answers.Unit = Unit {0}
 AnswerFits (kinds.Run hows.Fetch) answers.Unit = Unit {0}
 AnswerFits (kinds.Run hows.FetchMany) answers.Unit = Unit {0}
+AnswerFits kinds.Describe (answers.Next request) = Unit {0}
 AnswerFits kinds.Begin answers.Unit = Unit {0}
 AnswerFits kinds.Commit answers.Unit = Unit {0}
 AnswerFits kinds.Rollback answers.Unit = Unit {0}
@@ -39,6 +40,7 @@ TurnFits kind (turns.Err e) = Unit {0}
 -- a kind without items and without an answer of its own
 abbrev pub TurnIsPlain : Kind → Type 0
 TurnIsPlain (kinds.Run how) = ⊥
+TurnIsPlain kinds.Describe = ⊥
 TurnIsPlain _ = Unit {0}
 
 -- ---- what a state of such a call answers, as the core's

@@ -1,5 +1,5 @@
 -- How far a call has come, by all that it queued, heard and showed since it began.
-use Rattle.std.specs.Prelude.{◌≡◌, ℕ, ◌+◌, ◌<◌, ◌⊎◌, Bool, true, false, not, ◌&&◌, ◌==◌, List, [], ◌∷◌, ◌++◌, length, map, count_by, Result, Ok, Err, OnOk, Some}
+use Rattle.std.specs.Prelude.{◌≡◌, ℕ, ◌+◌, ◌<◌, ◌⊎◌, Bool, true, false, not, ◌&&◌, ◌==◌, List, [], ◌∷◌, ◌++◌, length, map, count_by, Result, Ok, Err, OnOk, Option, Some, None}
 use Rattle.std.specs.List.{AllByRecursion, list_any}
 use Rattle.pg_wire.specs.declared.error.Error.{Error}
 use Rattle.pg_wire.specs.declared.error.Error.TheVariants as errors
@@ -12,10 +12,14 @@ use Rattle.pg_wire.specs.Frontend.{FrontendMessage}
 use Rattle.pg_wire.specs.Backend.{BackendMessage, backend_frame, HasBackendFrame, ErrorResponse, ReadyForQuery}
 use Rattle.pg_wire.specs.Server.{IsPrefixOf}
 use Rattle.pg_wire.specs.Refusals.{BeginsCopyResponse}
+use Rattle.pg_exchanges.specs.Expecting.{BeginsKnowing}
+use Rattle.pg_exchanges.specs.Answering.{described}
 use Rattle.pg_call.specs.declared.kind.Kind.TheVariants as kinds
 use Rattle.pg_call.specs.declared.request.Request.{Request}
+use Rattle.pg_call.specs.declared.request.Request.TheVariants as requests
 use Rattle.pg_call.specs.declared.answer.CallItem.{CallItem}
 use Rattle.pg_call.specs.declared.answer.CallAnswer.{CallAnswer}
+use Rattle.pg_call.specs.declared.answer.CallAnswer.TheVariants as answers
 use Rattle.pg_call.specs.declared.judging.Part.{Part}
 use Rattle.pg_call.specs.declared.ledger.Ledger.{Ledger}
 use Rattle.pg_call.specs.declared.reply.Reply.{Reply}
@@ -25,7 +29,7 @@ use Rattle.pg_call.specs.declared.calling.Beat.{Beat}
 use Rattle.pg_call.specs.declared.calling.Beat.TheVariants as beats
 use Rattle.pg_call.specs.declared.calling.Taken.{Taken}
 use Rattle.pg_call.specs.declared.running.Running.{Running}
-use Rattle.pg_call.specs.Requests.{Group, said_in, spelled, kind_of, groups_of, messages_of, farewell, CanBeSaid, IsRefusal}
+use Rattle.pg_call.specs.Requests.{Group, said_in, spelled, kind_of, groups_of, messages_of, farewell, rest_of, widths_of, CanBeSaid, IsRefusal}
 use Rattle.pg_call.specs.Items.{items_of, shown, tally_of, answer_to}
 use Rattle.pg_call.specs.Replies.{awaits_first, part_after, may_copy}
 use Rattle.pg_call.specs.Drains.{is_error, before_readys, after_readys, failed_after, drain_fails}
@@ -62,7 +66,8 @@ pub record IsReplying (start : Ledger) (r : Request) (said : List FrontendMessag
   pub well : count_by is_error hs ≡ 0
   pub own_is : after_readys start.owed hs ≡ map backend_frame own
   pub own_have_frames : AllByRecursion HasBackendFrame own
-  pub so_far : part_after (awaits_first reply.kind) own ≡ Some reply.part
+  pub so_far : part_after (awaits_first r) own ≡ Some reply.part
+  pub rest_is : reply.rest ≡ rest_of r
   pub tally_is : reply.tally ≡ tally_of reply.kind (items_of own)
   pub items_are : items ≡ shown reply.kind (items_of own)
 
@@ -76,7 +81,7 @@ owes_none = record { owed = 0; is_copy_failed = false }
 -- The call r, which began with this ledger, has queued these messages, heard these frames and shown these items.
 abbrev pub CallIs : Ledger → Request → List FrontendMessage → List Frame → List CallItem → Ledger → Call → Type 0
 CallIs start r said hs items ledger (calls.Asked asked) = (asked ≡ r) × (ledger ≡ start) × (said ≡ []) × (hs ≡ []) × (items ≡ [])
-CallIs start r said hs items ledger (calls.Waiting w) = (w.kind ≡ kind_of r) × (w.frames ≡ spelled (messages_of r)) × CanBeSaid r × IsDraining start said hs items ledger w.is_copy_failed
+CallIs start r said hs items ledger (calls.Waiting w) = (w.kind ≡ kind_of r) × (w.frames ≡ spelled (messages_of r)) × CanBeSaid r × IsDraining start said hs items ledger w.is_copy_failed × (w.part ≡ awaits_first r) × (w.rest ≡ rest_of r)
 CallIs start r said hs items ledger (calls.Own reply) = (ledger ≡ owes_own) × CanBeSaid r × IsReplying start r said hs items reply
 CallIs start r said hs items ledger calls.Closing = (kind_of r ≡ kinds.Close) × CanBeSaid r × IsClosing start said hs items ledger
 CallIs start r said hs items ledger calls.Idle = ⊥
@@ -136,9 +141,22 @@ pub record IsFine (start : Ledger) (r : Request) (said : List FrontendMessage) (
   pub ends : EndsByReady hs
   pub last : (groups_of r ≡ []) ⊎ EndsByStatus hs status
 
+-- What is asked behind a description: that the statement is run, whose columns were described. What every other call answers is told by its items
+-- and by the status behind them.
+abbrev pub next_of : Request → List BackendMessage → Option Request
+next_of (requests.Describe extended) reply = Some (requests.Run (record { how = extended.how; arguments = extended.arguments; width = Some (length (described reply)) }))
+next_of _ reply = None
+
+abbrev pub answer_or_next : Option Request → Result CallAnswer Error → Result CallAnswer Error
+answer_or_next None answer = answer
+answer_or_next (Some next) answer = Ok (answers.Next next)
+
+abbrev pub answer_by : Request → List BackendMessage → TransactionStatus → Result CallAnswer Error
+answer_by r reply status = answer_or_next (next_of r reply) (answer_to (kind_of r) (items_of reply) status)
+
 -- it ends with the answer to its reply
 abbrev pub EndsFine : Ledger → Request → List FrontendMessage → List Frame → List CallItem → Ledger → Result CallAnswer Error → Type 0
-EndsFine start r said hs items ledger answer = (f : IsFine start r said hs items ledger) × (answer_to (kind_of r) (items_of f.reply) f.status ≡ answer)
+EndsFine start r said hs items ledger answer = (f : IsFine start r said hs items ledger) × (answer_by r f.reply f.status ≡ answer)
 
 -- the last message is a copy, which some server begins there in its response to the call's group, and which nobody has asked for
 pub record EndsInCopy (start : Ledger) (r : Request) (hs : List Frame) (tag : ℕ) : Type 0 where
@@ -151,7 +169,7 @@ pub record EndsInCopy (start : Ledger) (r : Request) (hs : List Frame) (tag : �
   pub tagged : tag ≡ (backend_frame last).tag
   pub own_is : after_readys start.owed front ≡ map backend_frame own
   pub own_have_frames : AllByRecursion HasBackendFrame own
-  pub so_far : part_after (awaits_first (kind_of r)) own ≡ Some part
+  pub so_far : part_after (awaits_first r) own ≡ Some part
   pub copies : may_copy part last ≡ true
   pub lawful : (group : Group) → groups_of r ≡ group ∷ [] → BeginsCopyResponse group (after_readys start.owed hs)
 
@@ -170,12 +188,13 @@ CallEnds start r said hs items ledger (Err _) = ⊥
 abbrev pub HasMessage : Frame → Type 0
 HasMessage f = (m : BackendMessage) × HasBackendFrame m × (backend_frame m ≡ f)
 
--- Why the frame at the front is refused: no message has it; or one has, and it begins no response to the call's group, behind what has come of it.
+-- Why the frame at the front is refused: no message has it; or one has, and behind what has come of it, it begins no response to the call's group of any server
+-- whose statement has the columns that are known.
 abbrev pub IsFrontFault : Ledger → Request → List Group → List Frame → Frame → Error → Type 0
 IsFrontFault start r own hs f errors.OutOfMemory = Unit {0}
 IsFrontFault start r own hs f (errors.Protocol (protocol.Server (faults.Malformed tag))) = (tag ≡ f.tag) × ((m : BackendMessage) → HasBackendFrame m → backend_frame m ≡ f → ⊥)
 IsFrontFault start r own hs f (errors.Protocol (protocol.Server (faults.Unlawful tag))) = (tag ≡ f.tag) × HasMessage f × (own ≡ groups_of r) × (count_by is_ready hs ≡ start.owed)
-    × ((group : Group) × (groups_of r ≡ group ∷ []) × (BeginsCopyResponse group (after_readys start.owed hs ++ f ∷ []) → ⊥))
+    × ((group : Group) × (groups_of r ≡ group ∷ []) × (BeginsKnowing (widths_of r) group (after_readys start.owed hs ++ f ∷ []) → ⊥))
 IsFrontFault start r own hs f _ = ⊥
 
 -- ---- one message

@@ -1,5 +1,5 @@
 -- Internal: what one message makes of a call, exactly, before any history.
-use Rattle.std.specs.Prelude.{◌≡◌, ℕ, ◌-◌, Bool, true, false, ◌==◌, List, [], ◌∷◌, filter, Result, Err, Option, Some, if◌then◌else◌}
+use Rattle.std.specs.Prelude.{◌≡◌, ℕ, ◌-◌, Bool, true, false, ◌==◌, List, [], ◌∷◌, filter, Result, Ok, Err, Option, Some, None, if◌then◌else◌}
 use Rattle.pg_wire.specs.declared.error.Error.{Error}
 use Rattle.pg_wire.specs.declared.error.Error.TheVariants as errors
 use Rattle.pg_wire.specs.declared.error.ProtocolFault.TheVariants as protocol
@@ -13,6 +13,11 @@ use Rattle.pg_wire.specs.Decoding.{Says}
 use Rattle.pg_call.specs.declared.kind.Kind.{Kind}
 use Rattle.pg_call.specs.declared.answer.CallItem.{CallItem}
 use Rattle.pg_call.specs.declared.answer.CallAnswer.{CallAnswer}
+use Rattle.pg_call.specs.declared.answer.CallAnswer.TheVariants as answers
+use Rattle.pg_call.specs.declared.request.Bound.{Bound}
+use Rattle.pg_call.specs.declared.request.Request.{Request}
+use Rattle.pg_call.specs.declared.request.Request.TheVariants as requests
+use Rattle.pg_call.specs.declared.waiting.Waiting.{Waiting}
 use Rattle.pg_call.specs.declared.tally.Tally.{Tally}
 use Rattle.pg_call.specs.declared.judging.Part.{Part}
 use Rattle.pg_call.specs.declared.ledger.Ledger.{Ledger}
@@ -25,9 +30,9 @@ use Rattle.pg_call.specs.declared.calling.Beat.{Beat}
 use Rattle.pg_call.specs.declared.calling.Beat.TheVariants as beats
 use Rattle.pg_call.specs.declared.calling.Taken.{Taken}
 use Rattle.pg_call.specs.declared.running.Running.{Running}
-use Rattle.pg_call.specs.Requests.{copy_fail}
+use Rattle.pg_call.specs.Requests.{copy_fail, kind_of, rest_of}
 use Rattle.pg_call.specs.Items.{item_of, yields, added, empty_tally, finished}
-use Rattle.pg_call.specs.Replies.{awaits_first, goes_on, may_close, may_copy, list_of}
+use Rattle.pg_call.specs.Replies.{awaits_first, goes_on, may_close, may_copy, list_of, columns_of}
 use Rattle.pg_call.specs.Drains.{is_error, failed_behind, fails_for}
 
 abbrev pub framed : ℕ → List ℕ → Frame
@@ -35,8 +40,8 @@ framed tag body = record { tag = tag; body = body }
 
 -- ---- the own reply
 
-abbrev pub fresh_reply : Kind → Reply
-fresh_reply kind = record { kind = kind; tally = empty_tally; part = awaits_first kind }
+abbrev pub fresh_reply : Waiting → Reply
+fresh_reply w = record { kind = w.kind; tally = empty_tally; part = w.part; rest = w.rest }
 
 -- the tally with more items
 abbrev pub added_all : Kind → Tally → List CallItem → Tally
@@ -64,6 +69,21 @@ HearsMessage a b m heard = (next : Part) × (goes_on a.part m ≡ Some next) × 
 
 abbrev pub Hears : Reply → Reply → ℕ → List ℕ → Heard → Type 0
 Hears a b tag body heard = (m : BackendMessage) × Says tag body m × HearsMessage a b m heard
+
+-- ---- the steps before a reply
+
+-- what is asked stands as frames, and waits
+abbrev pub waiting_for : Request → List ℕ → Bool → Waiting
+waiting_for request frames failed = record { kind = kind_of request; part = awaits_first request; frames = frames; is_copy_failed = failed; rest = rest_of request }
+
+abbrev pub waits : List ℕ → Bool → Call → Call
+waits frames failed (calls.Asked request) = calls.Waiting (waiting_for request frames failed)
+waits frames failed call = call
+
+-- its frames are queued, and the reply to them is awaited
+abbrev pub awaits : Call → Call
+awaits (calls.Waiting waiting) = calls.Own (fresh_reply waiting)
+awaits call = call
 
 -- ---- a reply to an earlier call
 
@@ -98,8 +118,17 @@ just beat = record { beat = beat; fails_copy = false }
 abbrev pub idle_with : Ledger → Running
 idle_with ledger = record { ledger = ledger; call = calls.Idle }
 
+-- what runs behind a description is told how many columns were described
+abbrev pub told : Part → Bound → Bound
+told part bound = record bound { width = columns_of part }
+
+-- it is handed on, where there is something
+abbrev pub handed_on : Option Bound → Part → Result CallAnswer Error → Result CallAnswer Error
+handed_on None part answer = answer
+handed_on (Some bound) part answer = Ok (answers.Next (requests.Run (told part bound)))
+
 abbrev pub finished_by : TransactionStatus → Call → Result CallAnswer Error
-finished_by status (calls.Own reply) = finished reply.kind reply.tally status
+finished_by status (calls.Own reply) = handed_on reply.rest reply.part (finished reply.kind reply.tally status)
 finished_by status _ = Err errors.OutOfMemory
 
 abbrev pub Closes : TransactionStatus → Running → Running → Taken → Type 0

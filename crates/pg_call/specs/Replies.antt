@@ -1,27 +1,38 @@
--- What may come next in the reply to a group, message by message (PostgreSQL manual, "Message Flow", "Simple Query", "COPY Operations").
+-- What may come next in the reply to a group, message by message (PostgreSQL manual, "Message Flow", "Simple Query", "Extended Query",
+-- "COPY Operations").
 use Rattle.std.specs.Prelude.{◌≡◌, ℕ, List, [], ◌∷◌, length, codes, Bool, true, false, ◌==◌, if◌then◌else◌, Option, Some, None, Result, Ok, Err, option_and_then}
 use Rattle.pg_wire.specs.declared.error.Error.{Error}
 use Rattle.pg_wire.specs.declared.error.Error.TheVariants as errors
 use Rattle.pg_wire.specs.declared.error.ProtocolFault.TheVariants as protocol
 use Rattle.pg_wire.specs.declared.error.ServerFault.TheVariants as faults
-use Rattle.pg_wire.specs.Backend.{BackendMessage, Values, ReadyForQuery, RowDescription, DataRow, CommandComplete, ErrorResponse, EmptyQueryResponse, CopyInResponse, CopyOutResponse}
+use Rattle.pg_wire.specs.Backend.{BackendMessage, Values, ReadyForQuery, RowDescription, DataRow, CommandComplete, ErrorResponse, EmptyQueryResponse, ParameterDescription, ParseComplete, BindComplete, CloseComplete, NoData, CopyInResponse, CopyOutResponse}
+use Rattle.pg_wire.specs.Acceptor.{FirstSegment, FurtherSegment, RowsOf}
+use Rattle.pg_exchanges.specs.Expecting.{Parses, Types, Columns, Binds, Runs, RunsOn, Closes, Expected, InQuery, InSteps}
 use Rattle.pg_wire.specs.Decoding.{Says, IsRefused}
 use Rattle.pg_call.specs.declared.kind.Kind.{Kind}
 use Rattle.pg_call.specs.declared.kind.Kind.TheVariants as kinds
+use Rattle.pg_call.specs.declared.request.Request.{Request}
+use Rattle.pg_call.specs.declared.request.Request.TheVariants as requests
+use Rattle.pg_call.specs.Requests.{kind_of}
 use Rattle.pg_call.specs.declared.answer.CallItem.{CallItem}
 use Rattle.pg_call.specs.declared.judging.Part.{Part}
-use Rattle.pg_call.specs.declared.judging.Part.TheVariants.{First, Further, Rows, Synced}
+use Rattle.pg_call.specs.declared.judging.Part.TheVariants.{First, Further, Rows, Synced, Parsing, Typing, Describing, Described, Binding, Running, RunningOn, Closing}
 use Rattle.pg_call.specs.declared.judging.Verdict.{Verdict}
 use Rattle.pg_call.specs.declared.judging.Verdict.TheVariants as verdicts
 use Rattle.pg_call.specs.Items.{item_of}
 
 -- what a call awaits first of its own reply
-abbrev pub awaits_first : Kind → Part
-awaits_first (kinds.Run how) = First
-awaits_first kinds.Begin = First
-awaits_first kinds.Commit = First
-awaits_first kinds.Rollback = First
-awaits_first _ = Synced
+abbrev pub first_part : Kind → Part
+first_part (kinds.Run how) = First
+first_part kinds.Begin = First
+first_part kinds.Commit = First
+first_part kinds.Rollback = First
+first_part _ = Synced
+
+abbrev pub awaits_first : Request → Part
+awaits_first (requests.Describe extended) = Parsing
+awaits_first (requests.Run bound) = Binding bound.width
+awaits_first request = first_part (kind_of request)
 
 -- the first message of a segment, and what comes behind it
 abbrev pub begins : BackendMessage → Option Part
@@ -30,17 +41,51 @@ begins (CommandComplete tag) = Some Further
 begins EmptyQueryResponse = Some Further
 begins _ = None
 
--- a row of so many values may come
-abbrev pub fits : Part → ℕ → Bool
-fits (Rows columns) width = width == columns
-fits _ width = false
+-- behind a row of so many values; None where none may come
+abbrev pub row_of : ℕ → ℕ → Part → Option Part
+row_of columns width part = if width == columns then Some part else None
+
+abbrev pub after_row : Part → ℕ → Option Part
+after_row (Rows columns) width = row_of columns width (Rows columns)
+after_row (Running None) width = Some (RunningOn width)
+after_row (Running (Some columns)) width = row_of columns width (RunningOn columns)
+after_row (RunningOn columns) width = row_of columns width (RunningOn columns)
+after_row _ width = None
+
+-- behind a description of so many columns
+abbrev pub after_columns : Part → ℕ → Part
+after_columns Describing columns = Described columns
+after_columns _ columns = Rows columns
+
+-- behind BindComplete
+abbrev pub after_bind : Part → Part
+after_bind (Binding width) = Running width
+after_bind part = part
+
+-- behind the end of a statement
+abbrev pub after_end : Part → Part
+after_end (Running width) = Closing
+after_end (RunningOn width) = Closing
+after_end _ = Further
 
 -- what is awaited behind one more message; None where the reply doesn't go on by it
 abbrev pub goes_on : Part → BackendMessage → Option Part
 goes_on First m = begins m
 goes_on Further m = begins m
-goes_on (Rows columns) (DataRow values) = if length values == columns then Some (Rows columns) else None
+goes_on (Rows columns) (DataRow values) = after_row (Rows columns) (length values)
 goes_on (Rows columns) (CommandComplete tag) = Some Further
+goes_on Parsing ParseComplete = Some Typing
+goes_on Typing (ParameterDescription types) = Some Describing
+goes_on Describing (RowDescription fields) = Some (Described (length fields))
+goes_on Describing NoData = Some (Described 0)
+goes_on (Binding width) BindComplete = Some (Running width)
+goes_on (Running width) (DataRow values) = after_row (Running width) (length values)
+goes_on (Running width) (CommandComplete tag) = Some Closing
+goes_on (Running width) EmptyQueryResponse = Some Closing
+goes_on (RunningOn columns) (DataRow values) = after_row (RunningOn columns) (length values)
+goes_on (RunningOn columns) (CommandComplete tag) = Some Closing
+goes_on (RunningOn columns) EmptyQueryResponse = Some Closing
+goes_on Closing CloseComplete = Some Synced
 goes_on _ _ = None
 
 -- what is awaited behind these messages
@@ -52,6 +97,7 @@ part_after part (m ∷ ms) = option_and_then (λ next. part_after next ms) (goes
 abbrev pub may_close : Part → Bool
 may_close Further = true
 may_close Synced = true
+may_close (Described columns) = true
 may_close _ = false
 
 -- a copy may begin, from the client or to it
@@ -63,6 +109,7 @@ begins_copy _ = false
 abbrev pub may_copy : Part → BackendMessage → Bool
 may_copy First m = begins_copy m
 may_copy Further m = begins_copy m
+may_copy (Running width) m = begins_copy m
 may_copy _ _ = false
 
 -- the tags of the messages that may come
@@ -71,6 +118,34 @@ tags_of First = codes "TCIEGH"
 tags_of Further = codes "TCIEGHZ"
 tags_of (Rows columns) = codes "DCE"
 tags_of Synced = codes "EZ"
+tags_of Parsing = codes "1E"
+tags_of Typing = codes "tE"
+tags_of Describing = codes "TnE"
+tags_of (Described columns) = codes "EZ"
+tags_of (Binding width) = codes "2E"
+tags_of (Running width) = codes "DCIEGH"
+tags_of (RunningOn columns) = codes "DCIE"
+tags_of Closing = codes "3E"
+
+-- what a part awaits, as the protocol says it
+abbrev pub awaited : Part → Expected
+awaited First = InQuery FirstSegment
+awaited Further = InQuery FurtherSegment
+awaited (Rows columns) = InQuery (RowsOf columns)
+awaited Synced = InSteps []
+awaited Parsing = InSteps (Parses ∷ Types ∷ Columns ∷ [])
+awaited Typing = InSteps (Types ∷ Columns ∷ [])
+awaited Describing = InSteps (Columns ∷ [])
+awaited (Described columns) = InSteps []
+awaited (Binding width) = InSteps (Binds ∷ Runs width ∷ Closes ∷ [])
+awaited (Running width) = InSteps (Runs width ∷ Closes ∷ [])
+awaited (RunningOn columns) = InSteps (RunsOn columns ∷ Closes ∷ [])
+awaited Closing = InSteps (Closes ∷ [])
+
+-- how many columns were described
+abbrev pub columns_of : Part → Option ℕ
+columns_of (Described columns) = Some columns
+columns_of _ = None
 
 -- no error, no end, and nothing that the reply goes on by
 abbrev pub MayNotCome : Part → BackendMessage → Type 0
@@ -81,6 +156,10 @@ MayNotCome part m = (goes_on part m ≡ None) × (may_copy part m ≡ false)
 abbrev pub list_of : Option CallItem → List CallItem
 list_of None = []
 list_of (Some item) = item ∷ []
+
+-- the reply goes on by a message of which nothing is kept
+abbrev pub goes_plainly : Part → Verdict
+goes_plainly part = verdicts.On part None
 
 -- what a message is to a reply of which this is awaited
 abbrev pub IsVerdict : Part → BackendMessage → Verdict → Type 0
@@ -109,7 +188,7 @@ abbrev pub Judges : Part → ℕ → List ℕ → Result Verdict Error → Type 
 Judges part tag body (Ok verdict) = (m : BackendMessage) × Says tag body m × IsVerdict part m verdict
 Judges part tag body (Err e) = IsFault (MayNotCome part) tag body e
 
--- a row that may come, of which nothing is kept
-abbrev pub PassesRow : Part → List ℕ → Result (Unit {0}) Error → Type 0
-PassesRow part body (Ok u) = (values : Values) × Says 68 body (DataRow values) × (fits part (length values) ≡ true)
+-- a row that may come, of which nothing is kept, and what is awaited behind it
+abbrev pub PassesRow : Part → List ℕ → Result Part Error → Type 0
+PassesRow part body (Ok next) = (values : Values) × Says 68 body (DataRow values) × (goes_on part (DataRow values) ≡ Some next)
 PassesRow part body (Err e) = IsFault (MayNotCome part) 68 body e

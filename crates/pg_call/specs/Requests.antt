@@ -1,19 +1,26 @@
 -- The request rule: which messages a call sends (PostgreSQL manual, "Message Flow", "Simple Query").
-use Rattle.std.specs.Prelude.{◌≡◌, ℕ, List, [], ◌∷◌, ◌++◌, length, map, flat_map, codes, Bool, true, false, Option, Some, None}
+use Rattle.std.specs.Prelude.{◌≡◌, ℕ, ◌<◌, ◌≤◌, ◌⊎◌, List, [], ◌∷◌, ◌++◌, length, map, flat_map, codes, Bool, true, false, Option, Some, None}
 use Rattle.std.specs.List.{AllByRecursion}
 use Rattle.pg_wire.specs.declared.error.Error.{Error}
 use Rattle.pg_wire.specs.declared.error.Error.TheVariants as errors
 use Rattle.pg_wire.specs.Bytes.{HasNoNul}
 use Rattle.pg_wire.specs.Frame.{text_of}
-use Rattle.pg_wire.specs.Frontend.{FrontendMessage, frontend_frame, HasFrontendFrame, Query, Sync, Terminate, CopyFail}
-use Rattle.pg_wire.specs.Encoding.{Refuses}
-use Rattle.pg_request.specs.Queries.{QueryText}
+use Rattle.pg_wire.specs.Frontend.{FrontendMessage, frontend_frame, HasFrontendFrame, Query, Parse, Bind, Sync, Terminate, CopyFail}
+use Rattle.pg_wire.specs.declared.error.ProtocolFault.TheVariants as protocol
+use Rattle.pg_wire.specs.declared.error.CallerFault.TheVariants as callers
+use Rattle.pg_wire.specs.Encoding.{Refuses, body_max}
+use Rattle.pg_exchanges.specs.Expecting.{Widths}
+use Rattle.pg_exchanges.specs.Answering.{describing, running}
+use Rattle.pg_request.specs.Queries.{QueryText, ArgumentsSeen, plain_text}
 use Rattle.pg_request.specs.Texts.{begin_text, commit_text, rollback_text}
+use Rattle.pg_call.specs.declared.kind.How.{How}
 use Rattle.pg_call.specs.declared.kind.How.TheVariants as hows
 use Rattle.pg_call.specs.declared.kind.Kind.{Kind}
 use Rattle.pg_call.specs.declared.kind.Kind.TheVariants as kinds
 use Rattle.pg_call.specs.declared.kind.Change.{Change}
 use Rattle.pg_call.specs.declared.kind.Change.TheVariants as changes
+use Rattle.pg_call.specs.declared.request.Extended.{Extended}
+use Rattle.pg_call.specs.declared.request.Bound.{Bound}
 use Rattle.pg_call.specs.declared.request.Request.{Request}
 use Rattle.pg_call.specs.declared.request.Request.TheVariants as requests
 
@@ -40,6 +47,8 @@ kind_of (requests.Begin depth) = kinds.Begin
 kind_of (requests.BeginWith query) = kinds.Begin
 kind_of (requests.Commit left) = kinds.Commit
 kind_of (requests.Rollback left) = kinds.Rollback
+kind_of (requests.Describe extended) = kinds.Describe
+kind_of (requests.Run bound) = kinds.Run bound.how
 kind_of requests.Ping = kinds.Ping
 kind_of requests.Flush = kinds.Flush
 kind_of requests.Close = kinds.Close
@@ -53,10 +62,10 @@ query_of (requests.FetchMany query) = Some query
 query_of (requests.FetchAll query) = Some query
 query_of (requests.FetchOptional query) = Some query
 query_of (requests.FetchOne query) = Some query
-query_of (requests.Begin depth) = Some (record { sql = begin_text None depth })
+query_of (requests.Begin depth) = Some (plain_text (begin_text None depth))
 query_of (requests.BeginWith query) = Some query
-query_of (requests.Commit left) = Some (record { sql = commit_text left })
-query_of (requests.Rollback left) = Some (record { sql = rollback_text left })
+query_of (requests.Commit left) = Some (plain_text (commit_text left))
+query_of (requests.Rollback left) = Some (plain_text (rollback_text left))
 query_of _ = None
 
 -- the groups of a call: one Query for a query and for what opens or ends a transaction, one Sync for a ping, and none for a flush and a close
@@ -65,8 +74,57 @@ groups_by kind (Some query) = (Query query.sql ∷ []) ∷ []
 groups_by kinds.Ping None = (Sync ∷ []) ∷ []
 groups_by _ None = []
 
+-- The unnamed statement is prepared and described, and what is so prepared is run with its arguments ("Extended Query").
 abbrev pub groups_of : Request → List Group
+groups_of (requests.Describe extended) = describing [] extended.sql extended.arguments.types ∷ []
+groups_of (requests.Run bound) = running [] bound.arguments.values 0 ∷ []
 groups_of request = groups_by (kind_of request) (query_of request)
+
+-- how many columns the unnamed statement has, where that is known
+abbrev pub known : Option ℕ → Widths
+known None = []
+known (Some width) = ([], width) ∷ []
+
+abbrev pub widths_of : Request → Widths
+widths_of (requests.Run bound) = known bound.width
+widths_of _ = []
+
+-- ---- what is asked first, and what behind it
+
+-- a query with arguments is described first
+abbrev pub first_by : How → QueryText → Option ArgumentsSeen → Request → Request
+first_by how query None request = request
+first_by how query (Some arguments) request = requests.Describe (record { how = how; sql = query.sql; arguments = arguments })
+
+-- a query without arguments
+abbrev pub raw : How → QueryText → Request
+raw hows.Execute query = requests.Execute query
+raw hows.ExecuteMany query = requests.ExecuteMany query
+raw hows.Fetch query = requests.Fetch query
+raw hows.FetchMany query = requests.FetchMany query
+raw hows.FetchAll query = requests.FetchAll query
+raw hows.FetchOptional query = requests.FetchOptional query
+raw hows.FetchOne query = requests.FetchOne query
+
+abbrev pub first_of : Request → Request
+first_of (requests.Execute query) = first_by hows.Execute query query.arguments (requests.Execute query)
+first_of (requests.ExecuteMany query) = first_by hows.ExecuteMany query query.arguments (requests.ExecuteMany query)
+first_of (requests.Fetch query) = first_by hows.Fetch query query.arguments (requests.Fetch query)
+first_of (requests.FetchMany query) = first_by hows.FetchMany query query.arguments (requests.FetchMany query)
+first_of (requests.FetchAll query) = first_by hows.FetchAll query query.arguments (requests.FetchAll query)
+first_of (requests.FetchOptional query) = first_by hows.FetchOptional query query.arguments (requests.FetchOptional query)
+first_of (requests.FetchOne query) = first_by hows.FetchOne query query.arguments (requests.FetchOne query)
+first_of request = request
+
+-- what is run behind a description, before its columns are known
+abbrev pub rest_of : Request → Option Bound
+rest_of (requests.Describe extended) = Some (record { how = extended.how; arguments = extended.arguments; width = None })
+rest_of _ = None
+
+-- the kind of the last of them, whose response is the call's own
+abbrev pub main_kind : Request → Kind
+main_kind (requests.Describe extended) = kinds.Run extended.how
+main_kind request = kind_of request
 
 -- what an Ok of it makes of the transactions that are open
 abbrev pub change_of : Kind → Change
@@ -93,16 +151,52 @@ farewell _ = []
 abbrev pub messages_of : Request → List FrontendMessage
 messages_of request = said_in (groups_of request) ++ farewell (kind_of request)
 
--- a frame can carry each of them: its texts have no zero byte
+-- what is asked behind it can be said too
+abbrev pub LaterCanBeSaid : Request → Type 0
+LaterCanBeSaid (requests.Describe extended) = HasFrontendFrame (Bind [] extended.arguments.values)
+LaterCanBeSaid _ = Unit {0}
+
+-- a frame can carry each of them: its texts have no zero byte, and there are at most 65535 arguments
 abbrev pub CanBeSaid : Request → Type 0
-CanBeSaid request = AllByRecursion HasFrontendFrame (messages_of request)
+CanBeSaid request = AllByRecursion HasFrontendFrame (messages_of request) × LaterCanBeSaid request
 
 -- why no frame can ask this: a zero byte in the text, or a text that is too long; want of memory is free
 abbrev pub RefusesQuery : Option QueryText → Error → Type 0
 RefusesQuery None e = e ≡ errors.OutOfMemory
 RefusesQuery (Some query) e = Refuses 0 (HasNoNul query.sql) (length (frontend_frame (Query query.sql)).body) e
 
+-- how long Parse and Bind are
+abbrev pub parse_size : Extended → ℕ
+parse_size x = length (frontend_frame (Parse [] x.sql x.arguments.types)).body
+
+abbrev pub bind_size : ArgumentsSeen → ℕ
+bind_size arguments = length (frontend_frame (Bind [] arguments.values)).body
+
+-- a number of arguments or of types that two bytes can't carry
+abbrev pub IsTooMany : ArgumentsSeen → ℕ → Type 0
+IsTooMany arguments n = ((n ≡ length arguments.values) × (65535 < n)) ⊎ ((length arguments.values ≤ 65535) × (n ≡ length arguments.types) × (65535 < n))
+
+abbrev pub AreFew : ArgumentsSeen → Type 0
+AreFew arguments = (length arguments.values ≤ 65535) × (length arguments.types ≤ 65535)
+
+-- the length of Parse, or else of Bind, that is too long
+abbrev pub IsTooLong : Extended → ℕ → Type 0
+IsTooLong x n = ((n ≡ parse_size x) × (body_max < n)) ⊎ ((parse_size x ≤ body_max) × (n ≡ bind_size x.arguments) × (body_max < n))
+
+-- why a query with arguments is refused, the first cause that holds: too many arguments or types, a zero byte in the text, or a message that is too long
+abbrev pub RefusesExtended : Extended → Error → Type 0
+RefusesExtended x (errors.Protocol (protocol.Caller (callers.TooMany n))) = IsTooMany x.arguments n
+RefusesExtended x (errors.Protocol (protocol.Caller callers.Nul)) = AreFew x.arguments × (HasNoNul x.sql → ⊥)
+RefusesExtended x (errors.Protocol (protocol.Caller (callers.TooLong n))) = AreFew x.arguments × HasNoNul x.sql × IsTooLong x n
+RefusesExtended x errors.OutOfMemory = Unit {0}
+RefusesExtended x _ = ⊥
+
+abbrev pub RefusesBind : ArgumentsSeen → Error → Type 0
+RefusesBind arguments e = Refuses (length arguments.values) (Unit {0}) (bind_size arguments) e
+
 abbrev pub IsRefusal : Request → Error → Type 0
+IsRefusal (requests.Describe extended) e = RefusesExtended extended e
+IsRefusal (requests.Run bound) e = RefusesBind bound.arguments e
 IsRefusal request e = RefusesQuery (query_of request) e
 
 -- the message that ends a copy from the client which no one feeds ("COPY Operations")

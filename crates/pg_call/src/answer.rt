@@ -2,7 +2,7 @@ ghost use Rattle.std.specs.Prelude.{◌≡◌};
 ghost use Rattle.pg_call.specs.declared.kind.How.TheVariants as hows;
 ghost use Rattle.pg_call.specs.Answers.{TurnFits, TurnIsPlain, total_turn, unit_turn, rows_turn, optional_turn, one_turn, row_turn, count_turn, either_turn};
 
-use crate::{Kind, PgQueryResult};
+use crate::{Kind, PgQueryResult, Request};
 use either::Either;
 use pg_rows::PgRow;
 use pg_wire::{Error, Sequence};
@@ -22,6 +22,8 @@ pub enum CallAnswer {
     Total(PgQueryResult),
     Rows(Sequence<PgRow>),
     OneRow(Option<PgRow>),
+    /// This is asked next, of the same connection: the call isn't over yet.
+    Next(Request),
 }
 
 /// What a poll of a call comes to.

@@ -3,29 +3,36 @@ ghost use Rattle.pg_wire.specs.Backend as backend;
 ghost use Rattle.pg_wire.specs.Backend.{Values};
 ghost use Rattle.pg_wire.specs.Decoding.{Says};
 ghost use Rattle.pg_wire.specs.Frame.{is_known};
-ghost use Rattle.pg_call.specs.Replies.{Judges, PassesRow, awaits_first, fits, tags_of};
+ghost use Rattle.pg_call.specs.Replies.{Judges, PassesRow, after_bind, after_columns, after_end, after_row, awaits_first, columns_of, goes_plainly, tags_of};
 
 use crate::format::refuse;
-use crate::{CallItem, Kind, PgQueryResult};
+use crate::{CallItem, PgQueryResult, Request};
 use pg_rows::PgRow;
 use pg_wire::{
     Error, Frame, PgDatabaseError, TransactionStatus, check_data_row, check_row_description,
-    claimed_width, cut_data_row, decode_command_complete, decode_copy_in_response,
-    decode_copy_out_response, decode_data_row, decode_empty_query, decode_error_response,
-    decode_ready_for_query,
+    claimed_width, cut_data_row, decode_bind_complete, decode_close_complete,
+    decode_command_complete, decode_copy_in_response, decode_copy_out_response, decode_data_row,
+    decode_empty_query, decode_error_response, decode_no_data, decode_parameter_description,
+    decode_parse_complete, decode_ready_for_query,
 };
 use std::alloc::Global;
 
-/// What the reply to a group awaits. (PostgreSQL manual, "Message Flow", "Simple Query" and "COPY Operations".)
+/// What the reply to a group awaits. (PostgreSQL manual, "Message Flow", "Simple Query", "Extended Query" and "COPY Operations".)
 ///
-/// | Awaited | T | D | C | I | E | G, H | Z |
-/// |---|---|---|---|---|---|---|---|
-/// | `First` | `Rows` | | `Further` | `Further` | fails | copies | |
-/// | `Further` | `Rows` | | `Further` | `Further` | fails | copies | closes |
-/// | `Rows(n)` | | `Rows(n)`, of n values | `Further` | | fails | | |
-/// | `Synced` | | | | | fails | | closes |
+/// | Awaited | Goes on by |
+/// |---|---|
+/// | `First`, `Further` | T: `Rows`; C, I: `Further` |
+/// | `Rows(n)` | D of n values; C: `Further` |
+/// | `Parsing` | 1: `Typing` |
+/// | `Typing` | t: `Describing` |
+/// | `Describing` | T, n: `Described(n)` |
+/// | `Binding(width)` | 2: `Running(width)` |
+/// | `Running(width)` | D of this width, or of any: `RunningOn(n)`; C, I: `Closing` |
+/// | `RunningOn(n)` | D of n values; C, I: `Closing` |
+/// | `Closing` | 3: `Synced` |
 ///
-/// Whatever stands nowhere in the table is refused.
+/// Each fails by E. `Further`, `Described` and `Synced` close by Z. `First`, `Further` and `Running` may begin a copy by G or H. Whatever stands nowhere in
+/// the table is refused.
 #[derive(Clone, Copy, Debug, PartialEq, Eq)]
 pub enum Part {
     /// The first segment of a query.
@@ -36,16 +43,44 @@ pub enum Part {
     Rows(usize),
     /// The end alone, which answers a Sync.
     Synced,
+    /// That the statement is prepared.
+    Parsing,
+    /// The types of its parameters.
+    Typing,
+    /// Its columns, or that it has none.
+    Describing,
+    /// The end; so many columns were described.
+    Described(usize),
+    /// That the statement is bound. Its rows have so many values, where that is known.
+    Binding(Option<usize>),
+    /// The first row, or the end of the rows.
+    Running(Option<usize>),
+    /// A further row, of so many values, or the end of the rows.
+    RunningOn(usize),
+    /// That the portal is closed.
+    Closing,
 }
 
 impl Part {
     /// What a call awaits first.
-    pub fn first(kind: Kind) -> Self
-        ensures { result ≡ awaits_first kind }
+    pub fn first(request: &Request) -> Self
+        ensures { result ≡ awaits_first request.now }
     {
-        match kind {
-            Kind::Run(_) | Kind::Begin | Kind::Commit | Kind::Rollback => Part::First,
-            Kind::Ping | Kind::Flush | Kind::Close => Part::Synced,
+        match request {
+            Request::Describe(_) => Part::Parsing,
+            Request::Run(bound) => Part::Binding(bound.width),
+            Request::Ping | Request::Flush | Request::Close => Part::Synced,
+            _ => Part::First,
+        }
+    }
+
+    /// How many columns were described.
+    pub fn columns(self) -> Option<usize>
+        ensures { result ≡ columns_of self }
+    {
+        match self {
+            Part::Described(columns) => Some(columns),
+            _ => None,
         }
     }
 
@@ -57,27 +92,67 @@ impl Part {
             Part::First => matches!(tag, b'T' | b'C' | b'I' | b'E' | b'G' | b'H'),
             Part::Further => matches!(tag, b'T' | b'C' | b'I' | b'E' | b'G' | b'H' | b'Z'),
             Part::Rows(_) => matches!(tag, b'D' | b'C' | b'E'),
-            Part::Synced => matches!(tag, b'E' | b'Z'),
+            Part::Synced | Part::Described(_) => matches!(tag, b'E' | b'Z'),
+            Part::Parsing => matches!(tag, b'1' | b'E'),
+            Part::Typing => matches!(tag, b't' | b'E'),
+            Part::Describing => matches!(tag, b'T' | b'n' | b'E'),
+            Part::Binding(_) => matches!(tag, b'2' | b'E'),
+            Part::Running(_) => matches!(tag, b'D' | b'C' | b'I' | b'E' | b'G' | b'H'),
+            Part::RunningOn(_) => matches!(tag, b'D' | b'C' | b'I' | b'E'),
+            Part::Closing => matches!(tag, b'3' | b'E'),
         }
     }
 
-    // Whether a row of so many values may come.
-    fn fits(self, width: usize) -> bool
-        ensures { result ≡ fits self width }
+    // Behind a row of so many values; None where none may come.
+    fn after_row(self, width: usize) -> Option<Part>
+        ensures { result ≡ after_row self width }
     {
         match self {
-            Part::Rows(columns) => width == columns,
-            Part::First | Part::Further | Part::Synced => false,
+            Part::Rows(columns) if width == columns => Some(self),
+            Part::Running(None) => Some(Part::RunningOn(width)),
+            Part::Running(Some(columns)) if width == columns => Some(Part::RunningOn(columns)),
+            Part::RunningOn(columns) if width == columns => Some(self),
+            _ => None,
         }
     }
 
-    // Whether a row may come that has as many values as this body claims.
-    fn fits_claimed(self, body: &[u8]) -> bool
-        ensures { (values : Values) → Says 68 body.now (backend.DataRow values) → result ≡ fits self (length values) }
+    // The same of a row that has as many values as this body claims.
+    fn after_claimed(self, body: &[u8]) -> Option<Part>
+        ensures { (values : Values) → Says 68 body.now (backend.DataRow values) → result ≡ after_row self (length values) }
     {
         match claimed_width(body) {
-            Some(width) => self.fits(usize::from(width)),
-            None => false,
+            Some(width) => self.after_row(usize::from(width)),
+            None => None,
+        }
+    }
+
+    // Behind the description of so many columns.
+    fn after_columns(self, columns: usize) -> Part
+        ensures { result ≡ after_columns self columns }
+    {
+        match self {
+            Part::Describing => Part::Described(columns),
+            _ => Part::Rows(columns),
+        }
+    }
+
+    // Behind BindComplete.
+    fn after_bind(self) -> Part
+        ensures { result ≡ after_bind self }
+    {
+        match self {
+            Part::Binding(width) => Part::Running(width),
+            _ => self,
+        }
+    }
+
+    // Behind the end of a statement.
+    fn after_end(self) -> Part
+        ensures { result ≡ after_end self }
+    {
+        match self {
+            Part::Running(_) | Part::RunningOn(_) => Part::Closing,
+            _ => Part::Further,
         }
     }
 }
@@ -93,16 +168,62 @@ pub enum Verdict {
     Copies,
 }
 
+// The reply goes on by a message of which nothing is kept.
+fn go_on(part: Part) -> Verdict
+    ensures { result ≡ goes_plainly part }
+{
+    Verdict::On { part, item: None }
+}
+
 // The columns of the rows to come, of which the number is kept.
 fn describe(part: Part, body: &[u8]) -> Result<Verdict, Error>
     requires { is_known (tags_of part) 84 ≡ true }
     ensures { Judges part 84 body.now result }
 {
     let width = check_row_description(body)?;
-    Ok(Verdict::On {
-        part: Part::Rows(usize::from(width)),
-        item: None,
-    })
+    Ok(go_on(part.after_columns(usize::from(width))))
+}
+
+// A statement without columns.
+fn describe_none(part: Part, body: &[u8]) -> Result<Verdict, Error>
+    requires { is_known (tags_of part) 110 ≡ true }
+    ensures { Judges part 110 body.now result }
+{
+    decode_no_data(body)?;
+    Ok(go_on(Part::Described(0)))
+}
+
+// The types of a statement's parameters.
+fn type_parameters(alloc: Global, part: Part, body: &[u8]) -> Result<Verdict, Error>
+    requires { is_known (tags_of part) 116 ≡ true }
+    ensures { Judges part 116 body.now result }
+{
+    let _ = decode_parameter_description(alloc, body)?;
+    Ok(go_on(Part::Describing))
+}
+
+fn parse(part: Part, body: &[u8]) -> Result<Verdict, Error>
+    requires { is_known (tags_of part) 49 ≡ true }
+    ensures { Judges part 49 body.now result }
+{
+    let _ = decode_parse_complete(body)?;
+    Ok(go_on(Part::Typing))
+}
+
+fn bind(part: Part, body: &[u8]) -> Result<Verdict, Error>
+    requires { is_known (tags_of part) 50 ≡ true }
+    ensures { Judges part 50 body.now result }
+{
+    decode_bind_complete(body)?;
+    Ok(go_on(part.after_bind()))
+}
+
+fn close_portal(part: Part, body: &[u8]) -> Result<Verdict, Error>
+    requires { is_known (tags_of part) 51 ≡ true }
+    ensures { Judges part 51 body.now result }
+{
+    decode_close_complete(body)?;
+    Ok(go_on(Part::Synced))
 }
 
 // The end of a statement, which counts its rows.
@@ -112,7 +233,7 @@ fn complete(part: Part, body: &[u8]) -> Result<Verdict, Error>
 {
     let complete = decode_command_complete(body)?;
     Ok(Verdict::On {
-        part: Part::Further,
+        part: part.after_end(),
         item: Some(CallItem::Count(PgQueryResult::new(complete.rows_affected()))),
     })
 }
@@ -122,10 +243,7 @@ fn be_empty(part: Part, body: &[u8]) -> Result<Verdict, Error>
     ensures { Judges part 73 body.now result }
 {
     decode_empty_query(body)?;
-    Ok(Verdict::On {
-        part: Part::Further,
-        item: None,
-    })
+    Ok(go_on(part.after_end()))
 }
 
 // A row, which has as many values as its description has fields.
@@ -133,38 +251,40 @@ fn row(alloc: Global, part: Part, body: &[u8]) -> Result<Verdict, Error>
     ensures { Judges part 68 body.now result }
 {
     let row = PgRow::new(decode_data_row(alloc, body)?);
-    if !part.fits(row.len()) {
-        return Err(refuse(alloc, b'D', body));
+    match part.after_row(row.len()) {
+        Some(part) => Ok(Verdict::On {
+            part,
+            item: Some(CallItem::Row(row)),
+        }),
+        None => Err(refuse(alloc, b'D', body)),
     }
-    Ok(Verdict::On {
-        part,
-        item: Some(CallItem::Row(row)),
-    })
 }
 
-/// The same of a row of which nothing is kept: it may come, or an `Err` is the server's fault, or want of memory.
-pub fn pass_row(alloc: Global, part: Part, body: &[u8]) -> Result<(), Error>
+/// The same of a row of which nothing is kept: what is awaited behind it, or the server's fault, or want of memory.
+pub fn pass_row(alloc: Global, part: Part, body: &[u8]) -> Result<Part, Error>
     ensures { PassesRow part body.now result }
 {
     let width = check_data_row(body)?;
-    if !part.fits(usize::from(width)) {
-        return Err(refuse(alloc, b'D', body));
+    match part.after_row(usize::from(width)) {
+        Some(part) => Ok(part),
+        None => Err(refuse(alloc, b'D', body)),
     }
-    Ok(())
 }
 
 /// The same of a row that is cut from its frame.
 pub fn judge_row(alloc: Global, part: Part, frame: Frame) -> Result<Verdict, Error>
     ensures { Judges part 68 frame.body result }
 {
-    if !part.fits_claimed(frame.body()) {
-        return Err(refuse(alloc, b'D', frame.body()));
+    match part.after_claimed(frame.body()) {
+        Some(part) => {
+            let row = PgRow::new(cut_data_row(alloc, frame)?);
+            Ok(Verdict::On {
+                part,
+                item: Some(CallItem::Row(row)),
+            })
+        }
+        None => Err(refuse(alloc, b'D', frame.body())),
     }
-    let row = PgRow::new(cut_data_row(alloc, frame)?);
-    Ok(Verdict::On {
-        part,
-        item: Some(CallItem::Row(row)),
-    })
 }
 
 fn fail(alloc: Global, part: Part, body: &[u8]) -> Result<Verdict, Error>
@@ -206,6 +326,11 @@ pub fn judge(alloc: Global, part: Part, tag: u8, body: &[u8]) -> Result<Verdict,
     }
     match tag {
         b'T' => describe(part, body),
+        b'n' => describe_none(part, body),
+        b't' => type_parameters(alloc, part, body),
+        b'1' => parse(part, body),
+        b'2' => bind(part, body),
+        b'3' => close_portal(part, body),
         b'C' => complete(part, body),
         b'I' => be_empty(part, body),
         b'D' => row(alloc, part, body),

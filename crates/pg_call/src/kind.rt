@@ -24,6 +24,8 @@ pub enum How {
 #[derive(Clone, Copy, Debug, PartialEq, Eq)]
 pub enum Kind {
     Run(How),
+    /// A statement is prepared, and what it takes and gives is described.
+    Describe,
     /// A transaction is opened, or a savepoint in one.
     Begin,
     /// It is committed, or the savepoint released.
@@ -53,7 +55,7 @@ impl Kind {
         match self {
             Kind::Begin => Change::Opens,
             Kind::Commit | Kind::Rollback => Change::Closes,
-            Kind::Run(_) | Kind::Ping | Kind::Flush | Kind::Close => Change::Stays,
+            Kind::Run(_) | Kind::Describe | Kind::Ping | Kind::Flush | Kind::Close => Change::Stays,
         }
     }
 

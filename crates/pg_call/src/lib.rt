@@ -17,6 +17,7 @@ mod rollback;
 mod running;
 mod tally;
 mod waiting;
+mod writing;
 
 pub use answer::{CallAnswer, CallItem, Turn};
 pub use calling::{Beat, Call, Taken};
@@ -26,7 +27,7 @@ pub use kind::{Change, How, Kind};
 pub use ledger::Ledger;
 pub use query_result::PgQueryResult;
 pub use reply::{Heard, Reply};
-pub use request::Request;
+pub use request::{Bound, Extended, Request};
 pub use rollback::rollback_frame;
 pub use running::Running;
 pub use tally::Tally;

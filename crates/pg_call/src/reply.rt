@@ -2,10 +2,12 @@ ghost use Rattle.std.specs.Prelude.{◌≡◌, IfOk, IfErr, OnErr};
 ghost use Rattle.pg_wire.specs.Backend.{BackendMessage};
 ghost use Rattle.pg_call.specs.Items.{finished, keeps_row};
 ghost use Rattle.pg_call.specs.Replies.{IsFault, IsVerdict, MayNotCome};
-ghost use Rattle.pg_call.specs.Hearing.{Hears, HearsItem, HearsMessage, fresh_reply};
+ghost use Rattle.pg_call.specs.Hearing.{Hears, HearsItem, HearsMessage, fresh_reply, handed_on};
 
 use crate::judging::{judge_row, pass_row};
-use crate::{CallAnswer, CallItem, How, Kind, Part, Tally, Verdict, judge};
+use crate::{
+    Bound, CallAnswer, CallItem, How, Kind, Part, Request, Tally, Verdict, Waiting, judge,
+};
 use pg_wire::{Error, Frame, PgDatabaseError, TransactionStatus};
 use std::alloc::Global;
 
@@ -16,6 +18,8 @@ pub struct Reply {
     pub tally: Tally,
     /// What is awaited.
     pub part: Part,
+    /// What is run behind it.
+    pub rest: Option<Bound>,
 }
 
 /// What one message made of the reply.
@@ -31,13 +35,21 @@ pub enum Heard {
 
 impl Reply {
     /// Nothing of it has come.
-    pub fn new(alloc: Global, kind: Kind) -> Self
-        ensures { result ≡ fresh_reply kind }
+    pub fn new(alloc: Global, waiting: Waiting) -> Self
+        ensures { result ≡ fresh_reply waiting }
     {
+        let Waiting {
+            kind,
+            part,
+            frames: _,
+            is_copy_failed: _,
+            rest,
+        } = waiting;
         Reply {
             kind,
             tally: Tally::new(alloc),
-            part: Part::first(kind),
+            part,
+            rest,
         }
     }
 
@@ -88,7 +100,7 @@ impl Reply {
         ensures err { IfErr result (IsFault (MayNotCome self.old.part) tag body.now) }
     {
         if tag == b'D' && !self.keeps_rows() {
-            pass_row(alloc, self.part, body)?;
+            self.part = pass_row(alloc, self.part, body)?;
             return Ok(Heard::More);
         }
         let verdict = judge(alloc, self.part, tag, body)?;
@@ -104,15 +116,19 @@ impl Reply {
         self.hear(verdict)
     }
 
-    /// What the call answers at the end of its reply, which told this status.
+    /// What the call answers at the end of its reply, which told this status; or what is asked next.
     pub fn finish(self, status: TransactionStatus) -> Result<CallAnswer, Error>
-        ensures { result ≡ finished self.kind self.tally status }
+        ensures { result ≡ handed_on self.rest self.part (finished self.kind self.tally status) }
     {
         let Reply {
             kind,
             tally,
-            part: _,
+            part,
+            rest,
         } = self;
-        tally.finish(kind, status)
+        match rest {
+            Some(bound) => Ok(CallAnswer::Next(Request::Run(bound.told(part)))),
+            None => tally.finish(kind, status),
+        }
     }
 }

@@ -1,12 +1,79 @@
 ghost use Rattle.std.specs.Prelude.{◌≡◌, ◌++◌, [], IfOk, OnOk, IfErr, option_map};
-ghost use Rattle.pg_call.specs.Requests.{kind_of, query_of, messages_of, spelled, CanBeSaid, IsRefusal};
+ghost use Rattle.pg_call.specs.Hearing.{told};
+ghost use Rattle.pg_call.specs.Requests.{kind_of, query_of, messages_of, spelled, CanBeSaid, IsRefusal, first_by, first_of, raw, rest_of};
 
-use crate::{How, Kind};
-use pg_request::{Query, begin_text, commit_text, rollback_text};
-use pg_wire::{Blob, Error, encode_query, encode_sync, encode_terminate};
+use crate::writing::{encode_description, encode_run};
+use crate::{How, Kind, Part};
+use pg_request::{Arguments, Query, begin_text, commit_text, rollback_text};
+use pg_wire::{Blob, Error, Text, encode_query, encode_sync, encode_terminate};
 use std::alloc::Global;
 
-/// What a caller asks of a connection.
+/// A text with arguments, to be prepared and described before it is run.
+#[derive(Debug, Drop)]
+pub struct Extended {
+    pub how: How,
+    pub sql: Text,
+    pub arguments: Arguments,
+}
+
+impl Extended {
+    /// The same again. Only want of memory refuses it.
+    pub fn to_copy(&self, alloc: Global) -> Result<Self, Error>
+        ensures copy { IfOk result (λ x. x ≡ self.now) }
+        ensures memory { IfErr result (λ e. e ≡ Error.OutOfMemory) }
+    {
+        let sql = self.sql.to_copy(alloc)?;
+        let arguments = self.arguments.to_copy(alloc)?;
+        Ok(Extended {
+            how: self.how,
+            sql,
+            arguments,
+        })
+    }
+}
+
+/// The unnamed statement, to be run with these arguments.
+#[derive(Debug, Drop)]
+pub struct Bound {
+    pub how: How,
+    pub arguments: Arguments,
+    /// How many columns it has, where that is known.
+    pub width: Option<usize>,
+}
+
+impl Bound {
+    /// The same again. Only want of memory refuses it.
+    pub fn to_copy(&self, alloc: Global) -> Result<Self, Error>
+        ensures copy { IfOk result (λ x. x ≡ self.now) }
+        ensures memory { IfErr result (λ e. e ≡ Error.OutOfMemory) }
+    {
+        let arguments = self.arguments.to_copy(alloc)?;
+        Ok(Bound {
+            how: self.how,
+            arguments,
+            width: self.width,
+        })
+    }
+
+    /// The same, once its columns were described.
+    pub(crate) fn told(self, part: Part) -> Self
+        ensures { result ≡ told part self }
+    {
+        let Bound {
+            how,
+            arguments,
+            width: _,
+        } = self;
+        Bound {
+            how,
+            arguments,
+            width: part.columns(),
+        }
+    }
+}
+
+/// What a caller asks of a connection. A query with arguments is asked in two exchanges, `Describe` and then `Run`, which `first` and the answer of
+/// the first of them make. (PostgreSQL manual, "Message Flow", "Extended Query".)
 #[derive(Drop)]
 pub enum Request {
     Execute(Query),
@@ -24,12 +91,45 @@ pub enum Request {
     Commit(u64),
     /// Rolls the transaction back, or to the last savepoint; so many stay open.
     Rollback(u64),
+    /// Prepares the unnamed statement, and asks what it takes and gives.
+    Describe(Extended),
+    /// Runs the unnamed statement.
+    Run(Bound),
     /// Asks for a sign of life: a Sync, which the server answers by ReadyForQuery.
     Ping,
     /// Sends what is unsent, and reads what is owed.
     Flush,
     /// Ends the session.
     Close,
+}
+
+// A query as it is, or its description where it has arguments.
+fn first(how: How, query: Query) -> Request
+    ensures { result ≡ first_by how query query.arguments (raw how query) }
+{
+    match query.into_extended() {
+        Ok((sql, arguments)) => Request::Describe(Extended {
+            how,
+            sql,
+            arguments,
+        }),
+        Err(query) => raw(how, query),
+    }
+}
+
+// A query without arguments.
+fn raw(how: How, query: Query) -> Request
+    ensures { result ≡ raw how query }
+{
+    match how {
+        How::Execute => Request::Execute(query),
+        How::ExecuteMany => Request::ExecuteMany(query),
+        How::Fetch => Request::Fetch(query),
+        How::FetchMany => Request::FetchMany(query),
+        How::FetchAll => Request::FetchAll(query),
+        How::FetchOptional => Request::FetchOptional(query),
+        How::FetchOne => Request::FetchOne(query),
+    }
 }
 
 impl Request {
@@ -48,13 +148,51 @@ impl Request {
             Request::Begin(_) | Request::BeginWith(_) => Kind::Begin,
             Request::Commit(_) => Kind::Commit,
             Request::Rollback(_) => Kind::Rollback,
+            Request::Describe(_) => Kind::Describe,
+            Request::Run(bound) => Kind::Run(bound.how),
             Request::Ping => Kind::Ping,
             Request::Flush => Kind::Flush,
             Request::Close => Kind::Close,
         }
     }
 
-    /// The frames that ask it, or why no frame can: a zero byte in the text, or a text that is too long for a frame.
+    /// What is asked first: a query with arguments is described.
+    pub fn first(self) -> Self
+        ensures { result ≡ first_of self }
+    {
+        match self {
+            Request::Execute(query) => first(How::Execute, query),
+            Request::ExecuteMany(query) => first(How::ExecuteMany, query),
+            Request::Fetch(query) => first(How::Fetch, query),
+            Request::FetchMany(query) => first(How::FetchMany, query),
+            Request::FetchAll(query) => first(How::FetchAll, query),
+            Request::FetchOptional(query) => first(How::FetchOptional, query),
+            Request::FetchOne(query) => first(How::FetchOne, query),
+            other => other,
+        }
+    }
+
+    /// What is run behind its reply.
+    pub(crate) fn into_rest(self) -> Option<Bound>
+        ensures { result ≡ rest_of self }
+    {
+        match self {
+            Request::Describe(
+                Extended {
+                    how,
+                    sql: _,
+                    arguments,
+                },
+            ) => Some(Bound {
+                how,
+                arguments,
+                width: None,
+            }),
+            _ => None,
+        }
+    }
+
+    /// The frames that ask it, or why no frame can: too many arguments, a zero byte in the text, or a text that is too long for a frame.
     pub fn encode(&self, alloc: Global) -> Result<Blob, Error>
         ensures ok { IfOk result (λ frames. frames ≡ spelled (messages_of self.now)) }
         ensures said { OnOk result (CanBeSaid self.now) }
@@ -73,6 +211,8 @@ impl Request {
             Request::Begin(depth) => encode_query(&mut frames, begin_text(*depth).as_str())?,
             Request::Commit(left) => encode_query(&mut frames, commit_text(*left).as_str())?,
             Request::Rollback(left) => encode_query(&mut frames, rollback_text(*left).as_str())?,
+            Request::Describe(extended) => encode_description(&mut frames, extended)?,
+            Request::Run(bound) => encode_run(&mut frames, &bound.arguments)?,
             Request::Ping => encode_sync(&mut frames)?,
             Request::Close => encode_terminate(&mut frames)?,
             Request::Flush => {}

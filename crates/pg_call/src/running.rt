@@ -1,11 +1,12 @@
 ghost use Rattle.std.specs.Prelude.{◌≡◌, ◌≢◌, ◌<◌, true, false, IfOk, IfErr, OnErr};
 ghost use Rattle.pg_wire.specs.Decoding.{IsRefused};
-ghost use Rattle.pg_call.specs.Calls.{IsAwaiting, StaysIn, TakesMessage, RefusesMessage};
-ghost use Rattle.pg_call.specs.Hearing.{Drains, Closes, RefusesCopy, Follows, IsReplied, marked};
+ghost use Rattle.pg_call.specs.Calls.{owes_own, IsAwaiting, StaysIn, TakesMessage, RefusesMessage};
+ghost use Rattle.pg_call.specs.Hearing.{Drains, Closes, RefusesCopy, Follows, IsReplied, awaits, marked, waits};
 
-use crate::{Beat, Call, CallAnswer, CallItem, Heard, Ledger, Taken};
+use crate::{Beat, Call, CallAnswer, CallItem, Heard, Ledger, Part, Reply, Taken, Waiting};
 use pg_wire::{
-    Error, Frame, ProtocolFault, TransactionStatus, decode_error_response, decode_ready_for_query,
+    Blob, Error, Frame, ProtocolFault, TransactionStatus, decode_error_response,
+    decode_ready_for_query,
 };
 use std::alloc::Global;
 use std::mem;
@@ -43,6 +44,40 @@ impl Running {
         ensures { self.new ≡ record self.old { call = Call.Idle } }
     {
         self.call = Call::Idle;
+    }
+
+    /// The frames of what is asked are written, and wait.
+    pub fn wait(&mut self, frames: Blob)
+        ensures { self.new ≡ record self.old { call = waits frames self.old.ledger.is_copy_failed self.old.call } }
+    {
+        match mem::replace(&mut self.call, Call::Idle) {
+            Call::Asked(request) => {
+                let kind = request.kind();
+                let part = Part::first(&request);
+                self.call = Call::Waiting(Waiting {
+                    kind,
+                    part,
+                    frames,
+                    is_copy_failed: self.ledger.is_copy_failed,
+                    rest: request.into_rest(),
+                });
+            }
+            call => self.call = call,
+        }
+    }
+
+    /// The frames that waited are queued, and the reply to them is the only one that is owed.
+    pub fn await_reply(&mut self, alloc: Global)
+        ensures { self.new ≡ record { ledger = owes_own; call = awaits self.old.call } }
+    {
+        self.ledger = Ledger {
+            owed: 1,
+            is_copy_failed: false,
+        };
+        match mem::replace(&mut self.call, Call::Idle) {
+            Call::Waiting(waiting) => self.call = Call::Own(Reply::new(alloc, waiting)),
+            call => self.call = call,
+        }
     }
 
     // The call ends.

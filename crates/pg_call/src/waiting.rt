@@ -1,11 +1,15 @@
-use crate::Kind;
+use crate::{Bound, Kind, Part};
 use pg_wire::Blob;
 
 /// A call whose frames are written, while replies to earlier calls are owed.
 #[derive(Drop)]
 pub struct Waiting {
     pub kind: Kind,
+    /// What its own reply awaits first.
+    pub part: Part,
     pub frames: Blob,
     /// Whether a CopyFail was queued for the reply that is drained now.
     pub is_copy_failed: bool,
+    /// What is run behind its reply.
+    pub rest: Option<Bound>,
 }

@@ -1,11 +1,17 @@
 use Rattle.std.proofs.Common.{refl, sym, ap, ◌∙◌}
 use Rattle.pg_wire.specs.Backend.{DataRow}
-use Rattle.pg_call.specs.Replies.{fits}
-use Rattle.pg_call.proofs.PlaceLaws.{fitting}
+use Rattle.pg_call.specs.Replies.{after_row}
+use Rattle.pg_call.proofs.PlaceLaws.{row_goes, other_width}
 use Rattle.pg_call.proofs.judging.row.Goals as goal
 
-pub returns : goal.returns
-returns c =
+pub returns-in-Some : goal.returns-in-Some
+returns-in-Some c =
     let values = c.new-row.result in
-    let fit = ap (fits c.args.part) (sym c.len.ensures) ∙ sym c.fits.ensures ∙ c.if-not-fits.false in
-    (DataRow values, rw c.new-row.ensures c.in_ok-decode_data_row.ensures, (fitting c.args.part values fit, refl))
+    let goes = ap (after_row c.args.part) (sym c.len.ensures) ∙ sym c.after_row.ensures ∙ c.in-Some.is in
+    (DataRow values, rw c.new-row.ensures c.in_ok-decode_data_row.ensures, (row_goes c.args.part c.in-Some.part values goes, refl))
+
+pub returns-in-None : goal.returns-in-None
+returns-in-None c =
+    let values = c.new-row.result in
+    let none = ap (after_row c.args.part) (sym c.len.ensures) ∙ sym c.after_row.ensures ∙ c.in-None.is in
+    other_width c.args.part values c.args.body.now c.refuse.result (rw c.new-row.ensures c.in_ok-decode_data_row.ensures) none c.refuse.ensures

@@ -1,0 +1,56 @@
+-- A request that is refused is refused for want of memory or by a fault of the caller's.
+use Rattle.std.proofs.Common.{◌≡◌, ◌⊎◌, inl, inr, ℕ, refl, Option, Some, None}
+use Rattle.pg_wire.specs.declared.error.Error.{Error}
+use Rattle.pg_wire.specs.declared.error.Error.TheVariants as errors
+use Rattle.pg_wire.specs.declared.error.CallerFault.{CallerFault}
+use Rattle.pg_wire.specs.declared.error.ProtocolFault.TheVariants as protocol
+use Rattle.pg_wire.specs.Encoding.{Refuses}
+use Rattle.pg_request.specs.Queries.{QueryText}
+use Rattle.pg_call.specs.declared.request.Extended.{Extended}
+use Rattle.pg_call.specs.declared.request.Request.{Request}
+use Rattle.pg_call.specs.declared.request.Request.TheVariants as requests
+use Rattle.pg_call.specs.Requests.{query_of, RefusesQuery, RefusesExtended, IsRefusal}
+
+abbrev pub IsCallers : Error → Type 0
+IsCallers e = (e ≡ errors.OutOfMemory) ⊎ ((fault : CallerFault) × (e ≡ errors.Protocol (protocol.Caller fault)))
+
+refuses_is : (count : ℕ) (Texts : Type 0) (size : ℕ) (e : Error) → Refuses count Texts size e → IsCallers e
+refuses_is count Texts size errors.OutOfMemory h = inl refl
+refuses_is count Texts size (errors.Protocol (protocol.Caller fault)) h = inr (fault, refl)
+refuses_is count Texts size _ h = absurd h
+
+extended_is : (x : Extended) (e : Error) → RefusesExtended x e → IsCallers e
+extended_is x errors.OutOfMemory h = inl refl
+extended_is x (errors.Protocol (protocol.Caller fault)) h = inr (fault, refl)
+extended_is x _ h = absurd h
+
+query_is : (query : Option QueryText) (e : Error) → RefusesQuery query e → IsCallers e
+query_is None e h = inl h
+query_is (Some query) e h = refuses_is 0 _ _ e h
+
+pub refusal_is : (r : Request) (e : Error) → IsRefusal r e → IsCallers e
+refusal_is (requests.Describe extended) e h = extended_is extended e h
+refusal_is (requests.Run bound) e h = refuses_is _ _ _ e h
+refusal_is (requests.Execute query) e h = query_is (Some query) e h
+refusal_is (requests.ExecuteMany query) e h = query_is (Some query) e h
+refusal_is (requests.Fetch query) e h = query_is (Some query) e h
+refusal_is (requests.FetchMany query) e h = query_is (Some query) e h
+refusal_is (requests.FetchAll query) e h = query_is (Some query) e h
+refusal_is (requests.FetchOptional query) e h = query_is (Some query) e h
+refusal_is (requests.FetchOne query) e h = query_is (Some query) e h
+refusal_is (requests.Begin depth) e h = query_is (query_of (requests.Begin depth)) e h
+refusal_is (requests.BeginWith query) e h = query_is (Some query) e h
+refusal_is (requests.Commit left) e h = query_is (query_of (requests.Commit left)) e h
+refusal_is (requests.Rollback left) e h = query_is (query_of (requests.Rollback left)) e h
+refusal_is requests.Ping e h = query_is None e h
+refusal_is requests.Flush e h = query_is None e h
+refusal_is requests.Close e h = query_is None e h
+
+-- want of memory may refuse each
+pub memory_refuses : (r : Request) → IsRefusal r errors.OutOfMemory
+memory_refuses (requests.Describe extended) = tt
+memory_refuses (requests.Run bound) = tt
+memory_refuses requests.Ping = refl
+memory_refuses requests.Flush = refl
+memory_refuses requests.Close = refl
+memory_refuses _ = tt

@@ -1,0 +1,32 @@
+-- What a state of a call that isn't meant stays.
+use Rattle.std.proofs.Common.{◌≡◌, ℕ, ◌+◌, ◌≤◌, Bool, List, length, flat_map, Option, None, refl, ap, arith}
+use Rattle.std.specs.List.{AllByRecursion}
+use Rattle.pg_wire.specs.Bytes.{value}
+use Rattle.pg_wire.specs.Encoding.{body_max}
+use Rattle.pg_wire.specs.Frontend.{FitsValue}
+use Rattle.pg_wire.proofs.BoundLaws.{fit_within}
+use Rattle.pg_call.specs.declared.request.Extended.{Extended}
+use Rattle.pg_call.specs.declared.request.Bound.{Bound}
+use Rattle.pg_call.specs.declared.request.Request.{Request}
+use Rattle.pg_call.specs.declared.request.Request.TheVariants as requests
+use Rattle.pg_call.specs.declared.waiting.Waiting.{Waiting}
+use Rattle.pg_call.specs.declared.calling.Call.{Call}
+use Rattle.pg_call.specs.declared.calling.Call.TheVariants as calls
+use Rattle.pg_call.specs.Requests.{rest_of}
+use Rattle.pg_call.specs.Hearing.{awaits, waits}
+
+pub rests_none : (r : Request) → ((extended : Extended) → r ≡ requests.Describe extended → ⊥) → ◌≡◌ {A = Option Bound} None (rest_of r)
+rests_none (requests.Describe extended) n = absurd (n extended refl)
+rests_none _ n = refl
+
+pub stays_waiting : (call : Call) → ((w : Waiting) → call ≡ calls.Waiting w → ⊥) → call ≡ awaits call
+stays_waiting (calls.Waiting w) n = absurd (n w refl)
+stays_waiting _ n = refl
+
+pub stays_asked : (frames : List ℕ) (failed : Bool) (call : Call) → ((r : Request) → call ≡ calls.Asked r → ⊥) → call ≡ waits frames failed call
+stays_asked frames failed (calls.Asked r) n = absurd (n r refl)
+stays_asked frames failed _ n = refl
+
+-- values that a frame can carry are short enough each
+pub values_fit : (values : List (Option (List ℕ))) (encoded : List ℕ) → flat_map value values ≡ encoded → length encoded + 12 ≤ body_max → AllByRecursion FitsValue values
+values_fit values encoded e l = fit_within values (omega (arith, l, ap (λ (x : List ℕ). length x) e))
