@@ -29,8 +29,9 @@ use Rattle.pg_call.specs.Requests.{Group, said_in, kind_of, groups_of, messages_
 use Rattle.pg_call.specs.Drains.{before_readys, is_copy_in, failed_behind, fails_for, drain_fails}
 use Rattle.pg_call.specs.Hearing.{fails_of}
 use Rattle.pg_call.specs.Calls.{CallIs, IsDraining, Leaves, IsFine, CallEnds}
-use Rattle.pg_conn.specs.Connections.{ConnSeen, idle, started_call, begun_with, left, cleaned, settled, ended, rolled, rolled_back, counted_anew, queued_group, with_group, has_room_for, rollback, may_open, runs}
-use Rattle.pg_conn.specs.Turns.{ends_request, Tells, TakesBeat, PollsBy, PollsWithin, beat_of, behind, broken_by}
+use Rattle.pg_conn.proofs.StateLaws.{handed_calls}
+use Rattle.pg_conn.specs.Connections.{ConnSeen, handed, idle, started_call, begun_with, left, cleaned, settled, ended, rolled, rolled_back, counted_anew, queued_group, with_group, has_room_for, rollback, may_open, runs}
+use Rattle.pg_conn.specs.Turns.{ends_request, Tells, TakesBeat, Polled, PollsThrough, PollsBy, PollsWithin, hands_on, beat_of, behind, broken_by}
 use Rattle.pg_conn.specs.States.{IsCalling}
 use Rattle.pg_conn.specs.Ledgers.{Owes, OwesSome}
 use Rattle.pg_conn.proofs.TurnLaws.{counts-append, no_groups, is_Z, spelled-append}
@@ -92,12 +93,15 @@ groups_ask (requests.Begin depth) = refl
 groups_ask (requests.BeginWith query) = refl
 groups_ask (requests.Commit left) = refl
 groups_ask (requests.Rollback left) = refl
+groups_ask (requests.Describe extended) = refl
+groups_ask (requests.Run bound) = refl
 groups_ask requests.Ping = refl
 groups_ask requests.Flush = refl
 groups_ask requests.Close = refl
 
 farewell_asks_none : (kind : Kind) → count_by ends_request (farewell kind) ≡ 0
 farewell_asks_none (kinds.Run how) = refl
+farewell_asks_none kinds.Describe = refl
 farewell_asks_none kinds.Begin = refl
 farewell_asks_none kinds.Commit = refl
 farewell_asks_none kinds.Rollback = refl
@@ -277,12 +281,21 @@ owes_behind beats.More c = ([], [], owes_same c c refl refl)
 owes_behind beats.Waits c = ([], [], owes_same c c refl refl)
 owes_behind (beats.Yields item) c = ([], [], owes_same c c refl refl)
 
+owes_polled : (kind : Kind) (begun b : ConnSeen) (beat : Beat) → IsCalling kind begun → Polled begun b beat → OwesSome begun b
+owes_polled kind begun b beat i p = subst (OwesSome begun) (sym p.behind_is) (OwesSome-then begun p.stopped (behind beat p.stopped) (owes_beat begun p.stopped kind beat p.turns i) (owes_behind beat p.stopped))
+
+owes_through : (kind : Kind) (begun b : ConnSeen) (answer : Poll Turn) → IsCalling kind begun → PollsThrough begun b answer → OwesSome begun b
+owes_through kind begun b answer i (inl (p, n)) = owes_polled kind begun b (beat_of answer) i p
+owes_through kind begun b answer i (inr two) =
+    let next = handed two.next two.between in
+    let first = owes_by begun two.between next (owes_polled kind begun two.between (beat_of (hands_on two.next)) i two.first) refl refl in
+    OwesSome-then begun next b first (owes_polled kind next b (beat_of answer) (handed_calls begun two.between kind two.next two.first i) two.second)
+
 pub owes_poll : (kind : Kind) (left : ℕ) (a b : ConnSeen) (answer : Poll Turn) → IsCalling kind a → PollsWithin left a b answer → OwesSome a b
 owes_poll kind left a b answer i p = by a.broken p
   where
-    by : (o : Option ServerFault) → PollsBy o (begun_with left a) a b (beat_of answer) → OwesSome a b
+    by : (o : Option ServerFault) → PollsBy o (begun_with left a) a b answer → OwesSome a b
     by None p =
-        let some = owes_beat (begun_with left a) p.stopped kind (beat_of answer) p.turns i in
-        let at : OwesSome a p.stopped = (some.0, some.1, record { sent = some.2.sent; read = some.2.read; owed = some.2.owed }) in
-        subst (OwesSome a) (sym p.behind_is) (OwesSome-then a p.stopped (behind (beat_of answer) p.stopped) at (owes_behind (beat_of answer) p.stopped))
+        let some = owes_through kind (begun_with left a) b answer i p in
+        (some.0, some.1, record { sent = some.2.sent; read = some.2.read; owed = some.2.owed })
     by (Some fault) p = subst (OwesSome a) (sym p.0) ([], [], owes_same a (ended (idle a)) refl refl)

@@ -1,28 +1,26 @@
 -- A request that no frame can say is refused by its first poll, and a flush with nothing to do is done by its first poll.
-use Rattle.std.proofs.Common.{◌≡◌, inl, inr, [], refl, ap, ◌∙◌, subst, Ok, Err, Option, Some, None, Bool, true, false, cond, sym}
+use Rattle.std.proofs.Common.{◌≡◌, ◌⊎◌, inl, inr, [], refl, ap, ◌∙◌, subst, Ok, Err, Option, None, Bool, true, false, cond, sym}
 use Rattle.futures.specs.declared.task.Poll.{Poll}
 use Rattle.futures.specs.declared.task.Poll.TheVariants.{Ready, Pending}
 use Rattle.pg_wire.specs.declared.error.Error.{Error}
-use Rattle.pg_wire.specs.declared.error.Error.TheVariants as errors
-use Rattle.pg_wire.specs.declared.error.ProtocolFault.TheVariants as protocol
 use Rattle.pg_wire.specs.declared.error.ServerFault.{ServerFault}
-use Rattle.pg_request.specs.Queries.{QueryText}
 use Rattle.pg_call.specs.declared.request.Request.{Request}
 use Rattle.pg_call.specs.declared.request.Request.TheVariants as requests
 use Rattle.pg_call.specs.declared.answer.CallAnswer.TheVariants as answers
 use Rattle.pg_call.specs.declared.answer.Turn.{Turn}
 use Rattle.pg_call.specs.declared.answer.Turn.TheVariants as turns
 use Rattle.pg_call.specs.declared.calling.Beat.TheVariants as beats
-use Rattle.pg_call.specs.Requests.{query_of, CanBeSaid, RefusesQuery, spelled}
+use Rattle.pg_call.specs.Requests.{CanBeSaid, first_of, IsRefusal, spelled}
+use Rattle.pg_call.proofs.RefusalLaws.{refusal_is}
 use Rattle.pg_conn.specs.Connections.{ConnSeen, idle, started_call, begun, left, cleaned, settled, ended, runs, may_open, has_room_for, with_group, rollback}
-use Rattle.pg_conn.specs.Turns.{Refused, Polled, PollsBy, PollsCall, beat_of, broken_by, RefusesAtOnce, FlushesAtOnce, behind}
+use Rattle.pg_conn.specs.Turns.{Refused, Polled, PollsThrough, PollsBy, PollsCall, hands_on, beat_of, broken_by, RefusesAtOnce, FlushesAtOnce, behind}
 
 -- a refusal is no fault of the server
-refusal_breaks_none : (query : Option QueryText) (e : Error) → RefusesQuery query e → broken_by (beats.Ends (Err e)) ≡ None
-refusal_breaks_none None e h = rw h refl
-refusal_breaks_none (Some query) errors.OutOfMemory h = refl
-refusal_breaks_none (Some query) (errors.Protocol (protocol.Caller fault)) h = refl
-refusal_breaks_none (Some query) _ h = absurd h
+refusal_breaks_none : (r : Request) (e : Error) → IsRefusal r e → broken_by (beats.Ends (Err e)) ≡ None
+refusal_breaks_none r e h = elim (refusal_is r e h) [
+  | inl memory ↦ ap (λ (x : Error). broken_by (beats.Ends (Err x))) memory
+  | inr (fault, is) ↦ ap (λ (x : Error). broken_by (beats.Ends (Err x))) is
+]
 
 -- a start leaves whole what is whole
 broken_left : (a : ConnSeen) → (left a).broken ≡ a.broken
@@ -37,14 +35,17 @@ broken_left a = by (runs a.call) (may_open a.change a.groups a.depth) (has_room_
 broken_started : (a : ConnSeen) (request : Request) → (started_call request a).broken ≡ a.broken
 broken_started a request = broken_left a
 
-pub refuses_at_once : (a b : ConnSeen) (request : Request) (answer : Poll Turn) → a.broken ≡ None → PollsCall (started_call request a) b answer → (CanBeSaid request → ⊥) → RefusesAtOnce request a b answer
-refuses_at_once a b request answer whole p unsaid =
+-- a poll from a start
+first_polls : (a b : ConnSeen) (request : Request) (answer : Poll Turn) → a.broken ≡ None → PollsCall (started_call request a) b answer → PollsThrough (begun (started_call request a)) b answer
+first_polls a b request answer whole p =
     let first = started_call request a in
-    let polled : Polled (begun first) b (beat_of answer) = subst (λ (o : Option ServerFault). PollsBy o (begun first) first b (beat_of answer)) (broken_started a request ∙ whole) p in
-    elim polled.says [
-      | inl can ↦ absurd (unsaid can)
-      | inr refused ↦ by answer polled.stopped polled.whole polled.behind_is refused
-    ]
+    subst (λ (o : Option ServerFault). PollsBy o (begun first) first b answer) (broken_started a request ∙ whole) p
+
+refuses_once : (a b : ConnSeen) (request : Request) (answer : Poll Turn) → Polled (begun (started_call request a)) b (beat_of answer) → (CanBeSaid (first_of request) → ⊥) → RefusesAtOnce request a b answer
+refuses_once a b request answer polled unsaid = elim polled.says [
+  | inl can ↦ absurd (unsaid can)
+  | inr refused ↦ by answer polled.stopped polled.whole polled.behind_is refused
+]
   where
     by : (answer : Poll Turn) (s : ConnSeen) → s.broken ≡ None → b ≡ behind (beat_of answer) s → Refused (begun (started_call request a)) s (beat_of answer) → RefusesAtOnce request a b answer
     by Pending s w k r = absurd r
@@ -54,13 +55,21 @@ refuses_at_once a b request answer whole p unsaid =
       e,
       refl,
       r.0,
-      k ∙ ap (λ (o : Option ServerFault). cleaned (record s { broken = o })) (refusal_breaks_none (query_of request) e r.0 ∙ sym w) ∙ ap (λ (c : ConnSeen). cleaned c) r.1,
+      k ∙ ap (λ (o : Option ServerFault). cleaned (record s { broken = o })) (refusal_breaks_none (first_of request) e r.0 ∙ sym w) ∙ ap (λ (c : ConnSeen). cleaned c) r.1,
     )
 
-pub flushes_at_once : (a b : ConnSeen) (answer : Poll Turn) → a.broken ≡ None → (left a).ledger.owed ≡ 0 → (left a).stream.unsent ≡ [] → PollsCall (started_call requests.Flush a) b answer → FlushesAtOnce a b answer
-flushes_at_once a b answer whole owed sent p =
-    let first = started_call requests.Flush a in
-    let polled : Polled (begun first) b (beat_of answer) = subst (λ (o : Option ServerFault). PollsBy o (begun first) first b (beat_of answer)) (broken_started a requests.Flush ∙ whole) p in
+pub refuses_at_once : (a b : ConnSeen) (request : Request) (answer : Poll Turn) → a.broken ≡ None → PollsCall (started_call request a) b answer → (CanBeSaid (first_of request) → ⊥) → RefusesAtOnce request a b answer
+refuses_at_once a b request answer whole p unsaid = elim (first_polls a b request answer whole p) [
+  | inl one ↦ refuses_once a b request answer one.0 unsaid
+  | inr two ↦ absurd (said two.first.says)
+]
+  where
+    said : CanBeSaid (first_of request) ⊎ ⊥ → ⊥
+    said (inl can) = unsaid can
+    said (inr refused) = refused
+
+flushes_once : (a b : ConnSeen) (answer : Poll Turn) → (left a).ledger.owed ≡ 0 → (left a).stream.unsent ≡ [] → Polled (begun (started_call requests.Flush a)) b (beat_of answer) → FlushesAtOnce a b answer
+flushes_once a b answer owed sent polled =
     let done = polled.flush (rw (owed, sent) refl) in
     by answer polled.stopped polled.behind_is done.0 done.1
   where
@@ -69,3 +78,12 @@ flushes_at_once a b answer whole owed sent p =
     by (Ready (turns.Item item)) s k e is = absurd cc
     by (Ready (turns.Ok answer)) s k e is = (cc, k ∙ ap (λ (c : ConnSeen). settled c) is)
     by (Ready (turns.Err error)) s k e is = absurd cc
+
+pub flushes_at_once : (a b : ConnSeen) (answer : Poll Turn) → a.broken ≡ None → (left a).ledger.owed ≡ 0 → (left a).stream.unsent ≡ [] → PollsCall (started_call requests.Flush a) b answer → FlushesAtOnce a b answer
+flushes_at_once a b answer whole owed sent p = elim (first_polls a b requests.Flush answer whole p) [
+  | inl one ↦ flushes_once a b answer owed sent one.0
+  | inr two ↦ absurd (other two.next (flushes_once a two.between (hands_on two.next) owed sent two.first).0)
+]
+  where
+    other : (next : Request) → hands_on next ≡ Ready (turns.Ok answers.Unit) → ⊥
+    other next e = cc

@@ -1,5 +1,11 @@
 -- What a poll answers is of the call's kind.
-use Rattle.std.proofs.Common.{◌≡◌, ℕ, [], ◌∷◌, ◌++◌, refl, sym, subst, arith, Result, Err, Option, Some, None, ◌-◌, ◌*◌, nat_eq, cond, Bool, true, false}
+use Rattle.std.proofs.Common.{◌≡◌, ℕ, inl, inr, List, [], ◌∷◌, ◌++◌, refl, sym, ap, ◌∙◌, subst, arith, Result, Ok, Err, Option, Some, None, ◌-◌, ◌*◌, nat_eq, cond, Bool, true, false}
+use Rattle.pg_wire.specs.declared.status.TransactionStatus.{TransactionStatus}
+use Rattle.pg_wire.specs.Backend.{BackendMessage}
+use Rattle.pg_wire.specs.Frame.{Frame}
+use Rattle.pg_wire.specs.Frontend.{FrontendMessage}
+use Rattle.pg_call.specs.declared.ledger.Ledger.{Ledger}
+use Rattle.pg_call.specs.Calls.{CallIs, answer_by}
 use Rattle.pg_call.specs.declared.answer.CallItem.{CallItem}
 use Rattle.pg_call.specs.declared.answer.CallAnswer.{CallAnswer}
 use Rattle.pg_call.specs.declared.answer.CallAnswer.TheVariants as answers
@@ -17,33 +23,54 @@ use Rattle.pg_call.specs.declared.kind.Kind.TheVariants as kinds
 use Rattle.pg_call.specs.declared.request.Request.{Request}
 use Rattle.pg_call.specs.declared.answer.Turn.{Turn}
 use Rattle.pg_call.specs.declared.answer.Turn.TheVariants as turns
+use Rattle.pg_call.specs.declared.calling.Beat.{Beat}
 use Rattle.pg_call.specs.declared.calling.Beat.TheVariants as beats
-use Rattle.pg_call.specs.Requests.{kind_of}
-use Rattle.pg_call.specs.Items.{items_of, tally_of, yields}
+use Rattle.pg_call.specs.Requests.{kind_of, main_kind, first_of}
+use Rattle.pg_call.specs.Items.{yields}
 use Rattle.pg_call.specs.Answers.{TurnFits, AnswerFits, TurnIsPlain}
-use Rattle.pg_call.proofs.FitLaws.{shown_fits, finished_fits}
-use Rattle.pg_conn.specs.Connections.{ConnOf, ConnSeen, seen_by, started_call, begun_with, begun_by, left, commit_of, rollback_of}
-use Rattle.pg_conn.specs.Turns.{HasRoom, TakesBeat, PollsBy, PollsWithin, PollsCall, beat_of, HasRoomBeside, HasAllRoom, behind}
+use Rattle.pg_call.proofs.FitLaws.{shown_fits, answers_main, hands_on_described, main_alone, main_describes_none, main_first, next_is, shows_main}
+use Rattle.pg_conn.specs.Connections.{ConnOf, ConnSeen, seen_by, started_call, begun_with, begun_by, handed, left, commit_of, rollback_of}
+use Rattle.pg_conn.specs.Turns.{HasRoom, TakesBeat, Polled, PollsThrough, PollsBy, PollsWithin, PollsCall, HandsOnNone, hands_on, beat_of, HasRoomBeside, HasAllRoom, behind}
 use Rattle.pg_conn.specs.States.{IsCalling, PollFits, turn_of, closing_turn, KeepsConn, PollsClose, IsCallingPlainly}
 
 -- a call that was started
-pub started_calling : {A : Type 0} (r : Request) (c : ConnOf A) → IsCalling (kind_of r) (started_call r c)
-started_calling r c = ((left c).ledger, r, [], [], [], refl, (refl, refl, refl, refl, refl), omega arith)
+pub started_calling : {A : Type 0} (r : Request) (c : ConnOf A) → IsCalling (main_kind r) (started_call r c)
+started_calling r c = ((left c).ledger, first_of r, [], [], [], main_first r, (refl, refl, refl, refl, refl), omega arith)
 
-fits_beat : (a b : ConnSeen) (kind : Kind) (answer : Poll Turn) → TakesBeat a b (beat_of answer) → IsCalling kind a → PollFits kind b answer
-fits_beat a b kind Pending t i =
-    let told = t.3.tells i.0 i.1 i.2 i.3 i.4 i.6 in
-    (i.0, i.1, i.2 ++ told.0, i.3 ++ t.2, i.4, i.5, told.3.0, t.3.room 0 (omega arith) i.7)
-fits_beat a b kind (Ready (turns.Item item)) t i =
-    let told = t.3.tells i.0 i.1 i.2 i.3 i.4 i.6 in (
-      subst (λ (k : Kind). TurnFits k (turns.Item item)) i.5 (shown_fits i.0 i.1 (i.2 ++ told.0) (i.3 ++ t.2) i.4 item b.ledger b.call told.3),
-      (i.0, i.1, i.2 ++ told.0, i.3 ++ t.2, i.4 ++ item ∷ [], i.5, told.3, t.3.room 0 (omega arith) i.7),
-    )
-fits_beat a b kind (Ready (turns.Ok answer)) t i =
-    let told = t.3.tells i.0 i.1 i.2 i.3 i.4 i.6 in
+-- ---- one exchange
+
+-- this request runs
+abbrev Runs : {A : Type 0} → Request → ConnOf A → Type 0
+Runs r c = (start : Ledger) × (said : List FrontendMessage) × (hs : List Frame) × (items : List CallItem) × CallIs start r said hs items c.ledger c.call × HasRoom c
+
+-- what a poll of it answers
+abbrev Answered : {A : Type 0} → Request → ConnOf A → Poll Turn → Type 0
+Answered r c Pending = Runs r c
+Answered r c (Ready (turns.Item item)) = (yields (kind_of r) item ≡ true) × Runs r c
+Answered r c (Ready (turns.Ok answer)) = (reply : List BackendMessage) × (status : TransactionStatus) × (answer_by r reply status ≡ Ok answer)
+Answered r c (Ready (turns.Err e)) = Unit {0}
+
+answered_beat : (a b : ConnSeen) (r : Request) (answer : Poll Turn) → TakesBeat a b (beat_of answer) → Runs r a → Answered r b answer
+answered_beat a b r Pending t i =
+    let told = t.3.tells i.0 r i.1 i.2 i.3 i.4 in
+    (i.0, i.1 ++ told.0, i.2 ++ t.2, i.3, told.3.0, t.3.room 0 (omega arith) i.5)
+answered_beat a b r (Ready (turns.Item item)) t i =
+    let told = t.3.tells i.0 r i.1 i.2 i.3 i.4 in
+    (shown_fits i.0 r (i.1 ++ told.0) (i.2 ++ t.2) i.3 item b.ledger b.call told.3, (i.0, i.1 ++ told.0, i.2 ++ t.2, i.3 ++ item ∷ [], told.3, t.3.room 0 (omega arith) i.5))
+answered_beat a b r (Ready (turns.Ok answer)) t i =
+    let told = t.3.tells i.0 r i.1 i.2 i.3 i.4 in
     let fine = told.3.1 in
-    (subst (λ (k : Kind). AnswerFits k answer) i.5 (finished_fits (kind_of i.1) (tally_of (kind_of i.1) (items_of fine.0.reply)) fine.0.status answer fine.1), tt)
-fits_beat a b kind (Ready (turns.Err e)) t i = (tt, tt)
+    (fine.0.reply, fine.0.status, fine.1)
+answered_beat a b r (Ready (turns.Err e)) t i = tt
+
+answered_by : (begun b : ConnSeen) (r : Request) (answer : Poll Turn) → Polled begun b (beat_of answer) → Runs r begun → Answered r b answer
+answered_by begun b r answer p i = as_behind p.stopped b r answer p.behind_is (answered_beat begun p.stopped r answer p.turns i)
+  where
+    as_behind : (s b : ConnSeen) (r : Request) (answer : Poll Turn) → b ≡ behind (beat_of answer) s → Answered r s answer → Answered r b answer
+    as_behind s b r Pending e f = subst (λ (c : ConnSeen). Runs r c) (sym e) f
+    as_behind s b r (Ready (turns.Item item)) e f = (f.0, subst (λ (c : ConnSeen). Runs r c) (sym e) f.1)
+    as_behind s b r (Ready (turns.Ok answer)) e f = f
+    as_behind s b r (Ready (turns.Err error)) e f = f
 
 fits_fault : (b : ConnSeen) (kind : Kind) (fault : ServerFault) (answer : Poll Turn) → beat_of answer ≡ beats.Ends (Err (errors.Protocol (protocol.Server fault))) → PollFits kind b answer
 fits_fault b kind fault Pending e = absurd cc
@@ -51,14 +78,57 @@ fits_fault b kind fault (Ready (turns.Item item)) e = absurd cc
 fits_fault b kind fault (Ready (turns.Ok answer)) e = absurd cc
 fits_fault b kind fault (Ready (turns.Err error)) e = (tt, tt)
 
-fits_by : (o : Option ServerFault) (begun a b : ConnSeen) (kind : Kind) (answer : Poll Turn) → PollsBy o begun a b (beat_of answer) → IsCalling kind begun → PollFits kind b answer
-fits_by None begun a b kind answer p i = as_behind p.stopped b kind answer p.behind_is (fits_beat begun p.stopped kind answer p.turns i)
+-- ---- a call
+
+runs_call : {A : Type 0} (kind : Kind) (r : Request) (c : ConnOf A) → main_kind r ≡ kind → Runs r c → IsCalling kind c
+runs_call kind r c k i = (i.0, r, i.1, i.2, i.3, k, i.4, i.5)
+
+fits_main : (kind : Kind) (r : Request) (b : ConnSeen) (answer : Poll Turn) → main_kind r ≡ kind → HandsOnNone answer → Answered r b answer → PollFits kind b answer
+fits_main kind r b Pending k n f = runs_call kind r b k f
+fits_main kind r b (Ready (turns.Item item)) k n f = (subst (λ (x : Kind). yields x item ≡ true) k (shows_main r item f.0), runs_call kind r b k f.1)
+fits_main kind r b (Ready (turns.Ok answer)) k n f = (subst (λ (x : Kind). AnswerFits x answer) k (answers_main r f.0 f.1 answer f.2 (λ next e. n next (ap (λ (x : CallAnswer). Ready (turns.Ok x)) e))), tt)
+fits_main kind r b (Ready (turns.Err e)) k n f = (tt, tt)
+
+-- what is run behind a description hands on nothing
+last_hands_none : (r : Request) (b : ConnSeen) (answer : Poll Turn) → (kind_of r ≡ kinds.Describe → ⊥) → Answered r b answer → HandsOnNone answer
+last_hands_none r b Pending n f next e = absurd cc
+last_hands_none r b (Ready (turns.Item item)) n f next e = absurd cc
+last_hands_none r b (Ready (turns.Err error)) n f next e = absurd cc
+last_hands_none r b (Ready (turns.Ok answer)) n f next e =
+    let same : answer ≡ answers.Next next = the_answer answer (answers.Next next) e in
+    absurd (n (hands_on_described r f.0 f.1 next (f.2 ∙ ap (λ (x : CallAnswer). Ok x) same)))
   where
-    as_behind : (s b : ConnSeen) (kind : Kind) (answer : Poll Turn) → b ≡ behind (beat_of answer) s → PollFits kind s answer → PollFits kind b answer
-    as_behind s b kind Pending e f = subst (λ (c : ConnSeen). IsCalling kind c) (sym e) f
-    as_behind s b kind (Ready (turns.Item item)) e f = (f.0, subst (λ (c : ConnSeen). IsCalling kind c) (sym e) f.1)
-    as_behind s b kind (Ready (turns.Ok answer)) e f = f
-    as_behind s b kind (Ready (turns.Err error)) e f = f
+    the_answer : (x y : CallAnswer) → Ready (turns.Ok x) ≡ Ready (turns.Ok y) → x ≡ y
+    the_answer x y e = cc
+
+-- the next exchange runs, and is of the call's kind
+handed_runs : (r next : Request) (m : ConnSeen) (reply : List BackendMessage) (status : TransactionStatus) → answer_by r reply status ≡ Ok (answers.Next next) → HasRoom m → Runs next (handed next m) × (main_kind next ≡ main_kind r) × (kind_of next ≡ kinds.Describe → ⊥)
+handed_runs r next m reply status e h =
+    let is = next_is r reply status next e in
+    let last : kind_of next ≡ kinds.Describe → ⊥ = λ d. main_describes_none r (sym is.0 ∙ d) in
+    ((m.ledger, [], [], [], (refl, refl, refl, refl, refl), omega (arith, h)), main_alone next last ∙ is.0, last)
+
+keeps_polled : (begun b : ConnSeen) (beat : Beat) → HasRoom begun → Polled begun b beat → HasRoom b
+keeps_polled begun b beat h p = subst (λ (c : ConnSeen). HasRoom c) (sym p.behind_is) (room_behind beat p.stopped (p.turns.3.room 0 (omega arith) h))
+
+fits_through : (begun b : ConnSeen) (kind : Kind) (answer : Poll Turn) → PollsThrough begun b answer → IsCalling kind begun → PollFits kind b answer
+fits_through begun b kind answer (inl (p, n)) i = fits_main kind i.1 b answer i.5 n (answered_by begun b i.1 answer p (i.0, i.2, i.3, i.4, i.6, i.7))
+fits_through begun b kind answer (inr two) i =
+    let first = answered_by begun two.between i.1 (hands_on two.next) two.first (i.0, i.2, i.3, i.4, i.6, i.7) in
+    let room = keeps_polled begun two.between (beat_of (hands_on two.next)) i.7 two.first in
+    let further = handed_runs i.1 two.next two.between first.0 first.1 first.2 room in
+    let last = answered_by (handed two.next two.between) b two.next answer two.second further.0 in
+    fits_main kind two.next b answer (further.1 ∙ i.5) (last_hands_none two.next b answer further.2 last) last
+
+-- the call that an exchange hands on is of the same kind
+pub handed_calls : (begun m : ConnSeen) (kind : Kind) (next : Request) → Polled begun m (beat_of (hands_on next)) → IsCalling kind begun → IsCalling kind (handed next m)
+handed_calls begun m kind next p i =
+    let first = answered_by begun m i.1 (hands_on next) p (i.0, i.2, i.3, i.4, i.6, i.7) in
+    let further = handed_runs i.1 next m first.0 first.1 first.2 (keeps_polled begun m (beat_of (hands_on next)) i.7 p) in
+    runs_call kind next (handed next m) (further.1 ∙ i.5) further.0
+
+fits_by : (o : Option ServerFault) (begun a b : ConnSeen) (kind : Kind) (answer : Poll Turn) → PollsBy o begun a b answer → IsCalling kind begun → PollFits kind b answer
+fits_by None begun a b kind answer p i = fits_through begun b kind answer p i
 fits_by (Some fault) begun a b kind answer p i = fits_fault b kind fault answer p.1
 
 -- over a link
@@ -73,20 +143,33 @@ poll_fits seen a b kind answer p i = unseen seen b kind answer (fits_by a.broken
 
 -- ---- the room for cleanup
 
+room_handed : (next : Request) (m : ConnSeen) → HasRoom m → HasRoom (handed next m)
+room_handed next m h = omega (arith, h)
+
 pub keeps_room : (left : ℕ) (a b : ConnSeen) (answer : Poll Turn) → HasRoom a → PollsWithin left a b answer → HasRoom b
 keeps_room left a b answer h p = by a.broken p
   where
-    by : (o : Option ServerFault) → PollsBy o (begun_with left a) a b (beat_of answer) → HasRoom b
-    by None p = subst (λ (c : ConnSeen). HasRoom c) (sym p.behind_is) (room_behind (beat_of answer) p.stopped (p.turns.3.room 0 (omega arith) h))
+    by : (o : Option ServerFault) → PollsBy o (begun_with left a) a b answer → HasRoom b
+    by None (inl (p, n)) = keeps_polled (begun_with left a) b (beat_of answer) h p
+    by None (inr two) =
+        keeps_polled (handed two.next two.between) b (beat_of answer) (room_handed two.next two.between (keeps_polled (begun_with left a) two.between (beat_of (hands_on two.next)) h two.first)) two.second
     by (Some fault) p = subst (λ (c : ConnSeen). HasRoom c) (sym p.0) (omega (arith, h, level_none a.groups))
+
+keeps_all_polled : (begun b : ConnSeen) (beat : Beat) → HasAllRoom begun → Polled begun b beat → HasAllRoom b
+keeps_all_polled begun b beat h p =
+    let kept : HasAllRoom p.stopped = subst (λ (n : ℕ). HasRoomBeside (64 * n) p.stopped) (sym p.turns.3.started.2) (p.turns.3.room (64 * begun.depth) (omega arith) h) in
+    subst (λ (c : ConnSeen). HasAllRoom c) (sym p.behind_is) (all_behind beat p.stopped kept)
+
+all_handed : (next : Request) (m : ConnSeen) → HasAllRoom m → HasAllRoom (handed next m)
+all_handed next m h = omega (arith, h)
 
 pub keeps_all_room : (left : ℕ) (a b : ConnSeen) (answer : Poll Turn) → HasAllRoom a → PollsWithin left a b answer → HasAllRoom b
 keeps_all_room left a b answer h p = by a.broken p
   where
-    by : (o : Option ServerFault) → PollsBy o (begun_with left a) a b (beat_of answer) → HasAllRoom b
-    by None p =
-        let kept : HasAllRoom p.stopped = subst (λ (n : ℕ). HasRoomBeside (64 * n) p.stopped) (sym p.turns.3.started.2) (p.turns.3.room (64 * a.depth) (omega arith) h) in
-        subst (λ (c : ConnSeen). HasAllRoom c) (sym p.behind_is) (all_behind (beat_of answer) p.stopped kept)
+    by : (o : Option ServerFault) → PollsBy o (begun_with left a) a b answer → HasAllRoom b
+    by None (inl (p, n)) = keeps_all_polled (begun_with left a) b (beat_of answer) h p
+    by None (inr two) =
+        keeps_all_polled (handed two.next two.between) b (beat_of answer) (all_handed two.next two.between (keeps_all_polled (begun_with left a) two.between (beat_of (hands_on two.next)) h two.first)) two.second
     by (Some fault) p = subst (λ (c : ConnSeen). HasAllRoom c) (sym p.0) (omega (arith, h, level_none a.groups))
 
 pub starts_with_room : (a : ConnSeen) (request : Request) → HasRoom (started_call request a)
@@ -102,26 +185,33 @@ closes_by seen a a' b r r' new answer e f polls fits keeps = rw (← e, ← f) (
 
 plain_answer : (kind : Kind) (answer : CallAnswer) → TurnIsPlain kind → AnswerFits kind answer → AnswerFits kinds.Flush answer
 plain_answer (kinds.Run how) answer p f = absurd p
+plain_answer kinds.Describe answer p f = absurd p
 plain_answer kind answers.Unit p f = tt
 plain_answer kinds.Begin (answers.Total total) p f = absurd f
 plain_answer kinds.Begin (answers.Rows rows) p f = absurd f
 plain_answer kinds.Begin (answers.OneRow row) p f = absurd f
+plain_answer kinds.Begin (answers.Next request) p f = absurd f
 plain_answer kinds.Commit (answers.Total total) p f = absurd f
 plain_answer kinds.Commit (answers.Rows rows) p f = absurd f
 plain_answer kinds.Commit (answers.OneRow row) p f = absurd f
+plain_answer kinds.Commit (answers.Next request) p f = absurd f
 plain_answer kinds.Rollback (answers.Total total) p f = absurd f
 plain_answer kinds.Rollback (answers.Rows rows) p f = absurd f
 plain_answer kinds.Rollback (answers.OneRow row) p f = absurd f
+plain_answer kinds.Rollback (answers.Next request) p f = absurd f
 plain_answer kinds.Ping (answers.Total total) p f = absurd f
 plain_answer kinds.Ping (answers.Rows rows) p f = absurd f
 plain_answer kinds.Ping (answers.OneRow row) p f = absurd f
+plain_answer kinds.Ping (answers.Next request) p f = absurd f
 plain_answer kinds.Flush answer p f = f
 plain_answer kinds.Close (answers.Total total) p f = absurd f
 plain_answer kinds.Close (answers.Rows rows) p f = absurd f
 plain_answer kinds.Close (answers.OneRow row) p f = absurd f
+plain_answer kinds.Close (answers.Next request) p f = absurd f
 
 plain_item : (kind : Kind) (item : CallItem) → TurnIsPlain kind → yields kind item ≡ true → yields kinds.Flush item ≡ true
 plain_item (kinds.Run how) item p f = absurd p
+plain_item kinds.Describe item p f = absurd p
 plain_item kinds.Begin item p f = absurd cc
 plain_item kinds.Commit item p f = absurd cc
 plain_item kinds.Rollback item p f = absurd cc

@@ -1,5 +1,5 @@
 -- How the beats of a call follow one another.
-use Rattle.std.proofs.Common.{◌≡◌, ◌≢◌, ◌⊎◌, ℕ, ◌+◌, ◌-◌, ◌<◌, ◌≤◌, cond, inl, inr, Bool, true, false, ◌&&◌, ◌||◌, ◌==◌, nat_eq, List, [], ◌∷◌, ◌++◌, length, map, refl, sym, ap, ◌∙◌, subst, append_assoc, append-nil, length-append, arith, Ok, Err, Option, Some, None, Result, IfOk, IfErr, OnErr, take, drop, ◌*◌}
+use Rattle.std.proofs.Common.{◌≡◌, ◌≢◌, ◌⊎◌, ℕ, ◌+◌, ◌-◌, ◌<◌, ◌≤◌, cond, inl, inr, Bool, true, false, ◌&&◌, ◌||◌, ◌==◌, nat_eq, List, [], ◌∷◌, ◌++◌, length, map, refl, sym, ap, ◌∙◌, subst, append_assoc, append-nil, length-append, arith, Ok, Err, None, Result, IfOk, IfErr, OnErr, take, drop, ◌*◌}
 use Rattle.pg_wire.proofs.Tests.{both_true}
 use Rattle.pg_call.specs.declared.kind.Change.{Change}
 use Rattle.std.specs.List.{count_by}
@@ -19,7 +19,6 @@ use Rattle.pg_stream.specs.Links.{LinkSeen, NoneFalls, GrewBy}
 use Rattle.pg_stream.specs.declared.stream.Front.{Front}
 use Rattle.pg_stream.specs.Streams.{StreamOf, StreamSeen, stream_by, Moves, AllMoved, Passes, IsFrontOf, IsHeardFront, AreAsynchronous, PollsAhead, PollsSend, SendGives, PendingCause}
 use Rattle.pg_stream.proofs.StreamLemmas.{NoneWaited-none, NoneWaited-then, Moves-none, Moves-then, AllMoved-none, AllMoved-then, WriteWaited-after, PendingCause-after, text_of-append, queues_by, took_frame, GrewBy-then, HeardCause-after, front_frame, IsFront-from_heard}
-use Rattle.pg_request.specs.Queries.{QueryText}
 use Rattle.pg_call.specs.declared.request.Request.{Request}
 use Rattle.pg_call.specs.declared.request.Request.TheVariants as requests
 use Rattle.pg_call.specs.declared.answer.CallItem.{CallItem}
@@ -32,10 +31,11 @@ use Rattle.pg_call.specs.declared.calling.Beat.{Beat}
 use Rattle.pg_call.specs.declared.calling.Beat.TheVariants as beats
 use Rattle.pg_call.specs.declared.calling.Taken.{Taken}
 use Rattle.pg_call.specs.declared.running.Running.{Running}
-use Rattle.pg_call.specs.Requests.{Group, spelled, kind_of, messages_of, is_flush, is_close, query_of, CanBeSaid, IsRefusal, RefusesQuery}
-use Rattle.pg_call.specs.Hearing.{framed, fails_of, IsReplied}
-use Rattle.pg_call.specs.Calls.{CallIs, IsAwaiting, CallEnds, CallTakes, EndsByReady, StaysIn, TakesMessage, RefusesMessage}
+use Rattle.pg_call.specs.Requests.{Group, spelled, kind_of, messages_of, is_flush, is_close, CanBeSaid, IsRefusal}
+use Rattle.pg_call.specs.Hearing.{framed, fails_of, fresh_reply, awaits, waits, waiting_for, IsReplied}
+use Rattle.pg_call.specs.Calls.{owes_own, CallIs, IsAwaiting, CallEnds, CallTakes, EndsByReady, StaysIn, TakesMessage, RefusesMessage}
 use Rattle.pg_call.proofs.CallLaws.{own_errs}
+use Rattle.pg_call.proofs.RefusalLaws.{refusal_is}
 use Rattle.pg_call.proofs.LeaveLaws.{leaves_call, call_well, closing_fine, flush_fine, draining_none, replying_from, closing_from}
 use Rattle.pg_conn.specs.Connections.{ConnOf, ConnSeen, seen_by, idle, with_spare, queued_call, awaiting, closing, frames_in, opens, cleaned, may_open, has_room_for, rollback, with_group, ended}
 use Rattle.pg_conn.specs.Turns.{HearsBy, HearsFront, running_of, ends_request, IsMissed, FailsBy, EndsBy, Tells, SendCause, BeatCause, Turns, TakesBeat, IsAsked, cleanup_of, IsSayable, Prepares, Refuses, Refused, Polled, broken_by, only_sends, flushes, is_flushed, EndsFlush, IsAhead, Readies, Accepts, queued_copy_fail, level_of, HasRoomBeside, behind}
@@ -79,7 +79,8 @@ cause_after : (a b c : ConnSeen) (beat : Beat) → AllMoved a.stream b.stream �
 cause_after a b c beats.More h k l t = AllMoved-then a.stream b.stream c.stream h k t l
 cause_after a b c beats.Waits h k l t = (PendingCause-after a.stream b.stream c.stream h k l t.0, λ s. send_after a b c h k l (t.1 s))
 cause_after a b c (beats.Yields item) h k l t = NoneWaited-then a.stream b.stream c.stream h.2 t
-cause_after a b c (beats.Ends answer) h k l t = NoneWaited-then a.stream b.stream c.stream h.2 t
+cause_after a b c (beats.Ends (Ok answer)) h k l t = AllMoved-then a.stream b.stream c.stream h k t l
+cause_after a b c (beats.Ends (Err e)) h k l t = NoneWaited-then a.stream b.stream c.stream h.2 t
 
 pub Turns-then : (a b c : ConnSeen) (beat : Beat) (q q' : List ℕ) (fs fs' hs hs' : List Frame) → Turns a b beats.More q fs hs → Turns b c beat q' fs' hs' → Turns a c beat (q ++ q') (fs ++ fs') (hs ++ hs')
 Turns-then a b c beat q q' fs fs' hs hs' s t = record {
@@ -149,17 +150,17 @@ call_at start r said hs items l k k' e i = subst (λ (c : Call). CallIs start r 
 
 -- what is asked stands as frames
 asked_waits : (start : Ledger) (r asked : Request) (said : List FrontendMessage) (hs : List Frame) (items : List CallItem) (ledger : Ledger) (frames : List ℕ) → frames ≡ spelled (messages_of asked) → CanBeSaid asked → CallIs start r said hs items ledger (calls.Asked asked)
-    → CallIs start r said hs items ledger (calls.Waiting (record { kind = kind_of asked; frames = frames; is_copy_failed = ledger.is_copy_failed }))
+    → CallIs start r said hs items ledger (calls.Waiting (waiting_for asked frames ledger.is_copy_failed))
 asked_waits start r asked said hs items ledger frames f can i =
-    rw (← i.0, i.1, i.2, i.3, i.4) (refl, f, can, draining_none start)
+    rw (← i.0, i.1, i.2, i.3, i.4) (refl, f, can, draining_none start, refl, refl)
 
 pub prepared : (a : ConnSeen) (asked : Request) (frames : List ℕ) → a.call ≡ calls.Asked asked → frames ≡ spelled (messages_of asked) → CanBeSaid asked
-    → TakesBeat a (record a { call = calls.Waiting (record { kind = kind_of asked; frames = frames; is_copy_failed = a.ledger.is_copy_failed }) }) beats.More
+    → TakesBeat a (record a { call = calls.Waiting (waiting_for asked frames a.ledger.is_copy_failed) }) beats.More
 prepared a asked frames e f can = stays a _ beats.More (Moves-none a.stream) (AllMoved-none a.stream) (λ i. absurd i, omega arith) refl refl refl refl refl refl refl (λ start r said hs items i. asked_waits start r asked said hs items a.ledger frames f can (call_at start r said hs items a.ledger a.call (calls.Asked asked) e i))
 
-pub prepares : (a : ConnSeen) (asked : Request) (frames : List ℕ) → a.call ≡ calls.Asked asked → frames ≡ spelled (messages_of asked) → CanBeSaid asked
-    → Prepares a (record a { call = calls.Waiting (record { kind = kind_of asked; frames = frames; is_copy_failed = a.ledger.is_copy_failed }) })
-prepares a asked frames e f can = record { beat = prepared a asked frames e f can; asked = λ w. w; sayable = subst IsSayable (sym e) can }
+pub prepares : (a : ConnSeen) (asked : Request) (frames : List ℕ) → a.call ≡ calls.Asked asked → frames ≡ spelled (messages_of asked) → CanBeSaid asked → Prepares a (record a { call = waits frames a.ledger.is_copy_failed a.call })
+prepares a asked frames e f can =
+    subst (λ (k : Call). Prepares a (record a { call = waits frames a.ledger.is_copy_failed k })) (sym e) (record { beat = prepared a asked frames e f can; asked = λ w. w; sayable = subst IsSayable (sym e) can })
 
 pub prepares_none : (a : ConnSeen) → (IsAsked a.call → ⊥) → Prepares a a
 prepares_none a n = record { beat = TakesBeat-none a; asked = n; sayable = not_asked_sayable a.call n }
@@ -176,19 +177,17 @@ pub starved : (a : ConnSeen) (n : ℕ) → Moves a.stream (with_spare n a).strea
 starved a n m = stays a (idle (with_spare n a)) (beats.Ends (Err errors.OutOfMemory)) m (NoneWaited-none a.stream) (keeps_idle a.call) refl refl refl refl refl refl refl (λ start r said hs items i. (refl, inr (leaves_call start r said hs items a.ledger a.call i, call_well start r said hs items a.ledger a.call i, inl (tt, tt))))
 
 -- a request that has no frame
-refusal_by : (a : ConnSeen) (asked : Request) (e : Error) (o : Option QueryText) → query_of asked ≡ o → RefusesQuery o e → (start : Ledger) (r : Request) (said : List FrontendMessage) (hs : List Frame) (items : List CallItem) → CallIs start r said hs items a.ledger (calls.Asked asked)
-    → EndsBy a (idle a) start r said hs items e
-refusal_by a asked e None k h start r said hs items i = rw h (inr (leaves_call start r said hs items a.ledger (calls.Asked asked) i, call_well start r said hs items a.ledger (calls.Asked asked) i, inl (tt, tt)))
-refusal_by a asked errors.OutOfMemory (Some query) k h start r said hs items i = inr (leaves_call start r said hs items a.ledger (calls.Asked asked) i, call_well start r said hs items a.ledger (calls.Asked asked) i, inl (tt, tt))
-refusal_by a asked (errors.Protocol (protocol.Caller fault)) (Some query) k h start r said hs items i =
-    inl (i.2, i.3, i.4, i.1, subst (λ (q : Request). IsRefusal q (errors.Protocol (protocol.Caller fault))) i.0 (subst (λ (p : Option QueryText). RefusesQuery p (errors.Protocol (protocol.Caller fault))) (sym k) h))
-refusal_by a asked _ (Some query) k h start r said hs items i = absurd h
+refusal_by : (a : ConnSeen) (asked : Request) (e : Error) → IsRefusal asked e → (start : Ledger) (r : Request) (said : List FrontendMessage) (hs : List Frame) (items : List CallItem) → CallIs start r said hs items a.ledger (calls.Asked asked) → EndsBy a (idle a) start r said hs items e
+refusal_by a asked e h start r said hs items i = elim (refusal_is asked e h) [
+  | inl memory ↦ rw memory (inr (leaves_call start r said hs items a.ledger (calls.Asked asked) i, call_well start r said hs items a.ledger (calls.Asked asked) i, inl (tt, tt)))
+  | inr (fault, is) ↦ rw is (inl (i.2, i.3, i.4, i.1, subst (λ (q : Request). IsRefusal q (errors.Protocol (protocol.Caller fault))) i.0 (rw is at h)))
+]
 
 pub refused : (a : ConnSeen) (e : Error) → Refuses a.call e → TakesBeat a (idle a) (beats.Ends (Err e))
 refused a e h = by a.call refl h
   where
     by : (call : Call) → a.call ≡ call → Refuses call e → TakesBeat a (idle a) (beats.Ends (Err e))
-    by (calls.Asked asked) k h = stays a (idle a) (beats.Ends (Err e)) (Moves-none a.stream) (NoneWaited-none a.stream) (keeps_idle a.call) refl refl refl refl refl refl refl (λ start r said hs items i. (refl, refusal_by a asked e (query_of asked) refl h start r said hs items (call_at start r said hs items a.ledger a.call (calls.Asked asked) k i)))
+    by (calls.Asked asked) k h = stays a (idle a) (beats.Ends (Err e)) (Moves-none a.stream) (NoneWaited-none a.stream) (keeps_idle a.call) refl refl refl refl refl refl refl (λ start r said hs items i. (refl, refusal_by a asked e h start r said hs items (call_at start r said hs items a.ledger a.call (calls.Asked asked) k i)))
     by calls.Idle k h = absurd h
     by (calls.Waiting w) k h = absurd h
     by (calls.Own reply) k h = absurd h
@@ -211,6 +210,8 @@ groups_said (requests.Begin depth) f c = refl
 groups_said (requests.BeginWith query) f c = refl
 groups_said (requests.Commit left) f c = refl
 groups_said (requests.Rollback left) f c = refl
+groups_said (requests.Describe extended) f c = refl
+groups_said (requests.Run bound) f c = refl
 groups_said requests.Ping f c = refl
 groups_said requests.Flush f c = absurd cc
 groups_said requests.Close f c = absurd cc
@@ -219,6 +220,8 @@ groups_farewell : (r : Request) → is_close (kind_of r) ≡ true → count_by e
 groups_farewell requests.Close c = refl
 groups_farewell requests.Flush c = absurd cc
 groups_farewell requests.Ping c = absurd cc
+groups_farewell (requests.Describe extended) c = absurd cc
+groups_farewell (requests.Run bound) c = absurd cc
 groups_farewell (requests.Execute query) c = absurd cc
 groups_farewell (requests.ExecuteMany query) c = absurd cc
 groups_farewell (requests.Fetch query) c = absurd cc
@@ -268,15 +271,16 @@ level_most c g = by (nat_eq g 0)
     by false = omega arith
 
 pub asks_reply : (a : ConnSeen) (n g : ℕ) (w : Waiting) → a.call ≡ calls.Waiting w → a.ledger.owed ≡ 0 → only_sends a.ledger a.call ≡ false → is_close w.kind ≡ false → Moves a.stream (queued_call n a).stream w.frames [] × AllMoved a.stream (queued_call n a).stream → 64 * a.depth + level_of a.change 1 + 128 ≤ n → GrewBy 1 a.groups g
-    → Readies a (awaiting w.kind g (queued_call n a))
+    → Readies a (awaiting g (queued_call n a))
 asks_reply a n g w k z f c m room grew =
     let flush : is_flush w.kind ≡ false = flush_false (is_flush w.kind) a.ledger.owed z (subst (λ (x : Call). only_sends a.ledger x ≡ false) k f) in
-    record {
-      beat = queues_waiting a (awaiting w.kind g (queued_call n a)) w k m.0 m.1 (λ i. i) (λ k l. omega (arith, room, l, level_most a.change g)) refl refl refl refl refl refl (λ start r said hs items i.
+    let b : ConnSeen = record (queued_call n a) { ledger = owes_own; call = calls.Own (fresh_reply w); groups = g } in
+    subst (λ (x : Call). Readies a (record (queued_call n a) { ledger = owes_own; call = awaits x; groups = g })) (sym k) (record {
+      beat = queues_waiting a b w k m.0 m.1 (λ i. i) (λ k l. omega (arith, room, l, level_most a.change g)) refl refl refl refl refl refl (λ start r said hs items i.
           let one = groups_said r (rw i.0 at flush) (rw i.0 at c) in
           (rw one grew, replying_from start r said hs items a.ledger w flush c z i));
       ahead = tt;
-    }
+    })
 
 pub asks_nothing : (a : ConnSeen) (n : ℕ) (w : Waiting) → a.call ≡ calls.Waiting w → a.ledger.owed ≡ 0 → is_close w.kind ≡ true → Moves a.stream (queued_call n a).stream w.frames [] × AllMoved a.stream (queued_call n a).stream → 64 * a.depth + level_of a.change 1 + 128 ≤ n
     → Readies a (closing (queued_call n a))
@@ -303,7 +307,9 @@ ahead_other ledger calls.Idle n h = tt
 -- ---- a flush is done
 
 flush_said : (r : Request) → is_flush (kind_of r) ≡ true → CanBeSaid r
-flush_said requests.Flush e = tt
+flush_said requests.Flush e = (tt, tt)
+flush_said (requests.Describe extended) e = absurd cc
+flush_said (requests.Run bound) e = absurd cc
 flush_said requests.Ping e = absurd cc
 flush_said requests.Close e = absurd cc
 flush_said (requests.Execute query) e = absurd cc
@@ -322,7 +328,7 @@ flush_said (requests.Rollback left) e = absurd cc
 flush_ends : (start : Ledger) (r : Request) (said : List FrontendMessage) (hs : List Frame) (items : List CallItem) (ledger : Ledger) (call : Call) → flushes call ≡ true → ledger.owed ≡ 0 → CallIs start r said hs items ledger call → CallEnds start r said hs items ledger (Ok answers.Unit)
 flush_ends start r said hs items ledger (calls.Asked asked) f z i =
     let frames = spelled (messages_of asked) in
-    flush_fine start r said hs items ledger (record { kind = kind_of asked; frames = frames; is_copy_failed = ledger.is_copy_failed }) f z (asked_waits start r asked said hs items ledger frames refl (flush_said asked f) i)
+    flush_fine start r said hs items ledger (waiting_for asked frames ledger.is_copy_failed) f z (asked_waits start r asked said hs items ledger frames refl (flush_said asked f) i)
 flush_ends start r said hs items ledger (calls.Waiting w) f z i = flush_fine start r said hs items ledger w f z i
 flush_ends start r said hs items ledger (calls.Own reply) f z i = absurd cc
 flush_ends start r said hs items ledger calls.Closing f z i = absurd cc
@@ -336,7 +342,7 @@ pub flushed : (a : ConnSeen) → is_flushed a ≡ true → TakesBeat a (idle a) 
 flushed a f =
     let sent = both_true (flushes a.call && a.ledger.owed == 0) (nat_eq (length a.stream.unsent) 0) f in
     let owed = both_true (flushes a.call) (a.ledger.owed == 0) sent.0 in
-    stays a (idle a) (beats.Ends (Ok answers.Unit)) (Moves-none a.stream) (NoneWaited-none a.stream) (keeps_idle a.call) refl refl refl refl refl refl refl (λ start r said hs items i.
+    stays a (idle a) (beats.Ends (Ok answers.Unit)) (Moves-none a.stream) (AllMoved-none a.stream) (keeps_idle a.call) refl refl refl refl refl refl refl (λ start r said hs items i.
     (refl, flush_ends start r said hs items a.ledger a.call owed.0 (eqb-true _ _ owed.1) i, all_sent a.stream.unsent sent.1))
 
 pub flush_done : (a : ConnSeen) → EndsFlush a (idle a) (beats.Ends (Ok answers.Unit))
@@ -501,7 +507,8 @@ taken_cause : (a b : ConnSeen) (beat : Beat) → (beat ≢ beats.Waits) → AllM
 taken_cause a b beats.More n h = h
 taken_cause a b beats.Waits n h = absurd (n refl)
 taken_cause a b (beats.Yields item) n h = h.2
-taken_cause a b (beats.Ends answer) n h = h.2
+taken_cause a b (beats.Ends (Ok answer)) n h = h
+taken_cause a b (beats.Ends (Err e)) n h = h.2
 
 pub no_groups : (fails : Bool) → count_by ends_request (fails_of fails) ≡ 0
 no_groups true = refl
@@ -572,13 +579,13 @@ asks_closing {A} seen a q b w k z c le room is closes =
     subst (λ (x : ConnOf A). Readies (seen_by seen a) (seen_by seen x)) (sym (closes ∙ ap (λ (x : ConnOf A). closing x) is)) (asks_nothing (seen_by seen a) n w k z c (queued_moves seen a n w k le) kept)
 
 pub asks_own : {A : Type 0} (seen : A → LinkSeen) (a q b : ConnOf A) (w : Waiting) → a.call ≡ calls.Waiting w → a.ledger.owed ≡ 0 → only_sends a.ledger a.call ≡ false → is_close w.kind ≡ false → a.stream.spare ≤ q.stream.spare → 64 * q.depth + level_of q.change 1 + 128 ≤ q.stream.spare → q ≡ queued_call q.stream.spare a
-    → b ≡ awaiting w.kind b.groups q → GrewBy 1 q.groups b.groups → Readies (seen_by seen a) (seen_by seen b)
+    → b ≡ awaiting b.groups q → GrewBy 1 q.groups b.groups → Readies (seen_by seen a) (seen_by seen b)
 asks_own {A} seen a q b w k z f c le room is awaits grew =
     let n = q.stream.spare in
     let g = b.groups in
     let same : q.groups ≡ a.groups = ap (λ (x : ConnOf A). x.groups) is in
     let kept = subst (λ (x : ConnOf A). 64 * x.depth + level_of x.change 1 + 128 ≤ n) is room in
-    subst (λ (x : ConnOf A). Readies (seen_by seen a) (seen_by seen x)) (sym (awaits ∙ ap (λ (x : ConnOf A). awaiting w.kind g x) is)) (asks_reply (seen_by seen a) n g w k z f c (queued_moves seen a n w k le) kept (rw same at grew))
+    subst (λ (x : ConnOf A). Readies (seen_by seen a) (seen_by seen x)) (sym (awaits ∙ ap (λ (x : ConnOf A). awaiting g x) is)) (asks_reply (seen_by seen a) n g w k z f c (queued_moves seen a n w k le) kept (rw same at grew))
 
 pub with_room : {A : Type 0} (seen : A → LinkSeen) (a r : ConnOf A) → r ≡ with_spare r.stream.spare a → a.stream.spare ≤ r.stream.spare → TakesBeat (seen_by seen a) (seen_by seen r) beats.More
 with_room {A} seen a r room le =
@@ -707,7 +714,7 @@ rest_fails a t e p = rw p.gives.0 (stays a (idle (over_stream a t)) (beats.Ends 
     (refl, inr (leaves_call start r said hs items a.ledger a.call i, call_well start r said hs items a.ledger a.call i, inl (p.gives.1, tt)))))
 
 pub rest_sent : (a : ConnSeen) (t : StreamSeen) (u : Unit {0}) → only_sends a.ledger a.call ≡ true → PollsSend a.stream t (Ready (Ok u)) → TakesBeat a (idle (over_stream a t)) (beats.Ends (Ok answers.Unit))
-rest_sent a t u k p = stays a (idle (over_stream a t)) (beats.Ends (Ok answers.Unit)) p.moves p.gives.1.2 (keeps_idle a.call) refl refl refl refl refl refl refl (λ start r said hs items i.
+rest_sent a t u k p = stays a (idle (over_stream a t)) (beats.Ends (Ok answers.Unit)) p.moves p.gives.1 (keeps_idle a.call) refl refl refl refl refl refl refl (λ start r said hs items i.
     (refl, sends_fine start r said hs items a.ledger a.call k i, p.gives.0))
 
 -- ---- a front is accepted, step by step

@@ -3,7 +3,7 @@ use Rattle.std.specs.Prelude.{ℕ, Bool, true, false, not, List, [], ◌++◌, O
 use Rattle.pg_call.specs.declared.kind.Change.TheVariants as changes
 use Rattle.pg_call.specs.declared.kind.Change.{Change}
 use Rattle.pg_call.specs.declared.request.Request.TheVariants as requests
-use Rattle.pg_call.specs.Requests.{spelled, kind_of, change_of}
+use Rattle.pg_call.specs.Requests.{spelled, kind_of, change_of, first_of}
 use Rattle.pg_request.specs.Texts.{rollback_text}
 use Rattle.pg_wire.specs.Frontend.{FrontendMessage, Query}
 use Rattle.pg_wire.specs.declared.error.ServerFault.{ServerFault}
@@ -13,8 +13,7 @@ use Rattle.pg_call.specs.declared.ledger.Ledger.{Ledger}
 use Rattle.pg_call.specs.declared.calling.Call.{Call}
 use Rattle.pg_call.specs.declared.calling.Call.TheVariants as calls
 use Rattle.pg_call.specs.declared.request.Request.{Request}
-use Rattle.pg_call.specs.declared.kind.Kind.{Kind}
-use Rattle.pg_call.specs.Hearing.{fresh_reply}
+use Rattle.pg_call.specs.Hearing.{awaits}
 use Rattle.pg_call.specs.Calls.{owes_none, owes_own}
 
 -- A connection over a link, or over what is seen of one.
@@ -109,7 +108,11 @@ counted_anew c = record c { stream = record c.stream { waits = 0; moves = 0 }; g
 
 -- a call has begun, in place of one that ran
 abbrev pub started_call : {A : Type 0} → Request → ConnOf A → ConnOf A
-started_call request c = counted_anew (record (left c) { call = calls.Asked request; change = change_of (kind_of request) })
+started_call request c = counted_anew (record (left c) { call = calls.Asked (first_of request); change = change_of (kind_of request) })
+
+-- the next exchange of a call begins where the one before it has ended: its numbers go on
+abbrev pub handed : {A : Type 0} → Request → ConnOf A → ConnOf A
+handed request c = record c { call = calls.Asked request }
 
 -- a rollback without a call: one is open no more, and the rollback is queued
 abbrev pub rolled : {A : Type 0} → ConnOf A → ConnOf A
@@ -166,8 +169,8 @@ abbrev pub queued_call : {A : Type 0} → ℕ → ConnOf A → ConnOf A
 queued_call n c = record c { stream = record c.stream { unsent = c.stream.unsent ++ frames_in c.call; spare = n } }
 
 -- the reply to them is awaited, which end one group
-abbrev pub awaiting : {A : Type 0} → Kind → ℕ → ConnOf A → ConnOf A
-awaiting kind groups c = record c { ledger = owes_own; call = calls.Own (fresh_reply kind); groups = groups }
+abbrev pub awaiting : {A : Type 0} → ℕ → ConnOf A → ConnOf A
+awaiting groups c = record c { ledger = owes_own; call = awaits c.call; groups = groups }
 
 -- or that they are sent
 

@@ -14,15 +14,19 @@ use Rattle.pg_call.specs.declared.request.Request.{Request}
 use Rattle.pg_call.specs.declared.answer.CallItem.{CallItem}
 use Rattle.pg_call.specs.declared.answer.Turn.{Turn}
 use Rattle.pg_call.specs.declared.answer.Turn.TheVariants as turns
-use Rattle.pg_call.specs.Requests.{kind_of}
+use Rattle.pg_call.specs.Requests.{kind_of, main_kind}
 use Rattle.pg_call.specs.Answers.{TurnFits, TurnIsPlain}
 use Rattle.pg_call.specs.Calls.{CallIs}
 use Rattle.pg_conn.specs.Connections.{ConnOf, seen_by, begun_by, is_over}
 use Rattle.pg_conn.specs.Turns.{HasRoom, PollsCall}
 
--- a call of this kind runs, which has come where it is by messages queued, frames heard and items shown, and has room for its cleanup
+-- an exchange of this kind runs, which has come where it is by messages queued, frames heard and items shown, and has room for its cleanup
+abbrev pub IsExchanging : {A : Type 0} → Kind → ConnOf A → Type 0
+IsExchanging kind c = (start : Ledger) × (r : Request) × (said : List FrontendMessage) × (hs : List Frame) × (items : List CallItem) × (kind_of r ≡ kind) × CallIs start r said hs items c.ledger c.call × HasRoom c
+
+-- the same of a call of this kind, of which an exchange runs
 abbrev pub IsCalling : {A : Type 0} → Kind → ConnOf A → Type 0
-IsCalling kind c = (start : Ledger) × (r : Request) × (said : List FrontendMessage) × (hs : List Frame) × (items : List CallItem) × (kind_of r ≡ kind) × CallIs start r said hs items c.ledger c.call × HasRoom c
+IsCalling kind c = (start : Ledger) × (r : Request) × (said : List FrontendMessage) × (hs : List Frame) × (items : List CallItem) × (main_kind r ≡ kind) × CallIs start r said hs items c.ledger c.call × HasRoom c
 
 -- the call still runs where it waits or has shown an item
 abbrev pub StaysCalling : {A : Type 0} → Kind → ConnOf A → Turn → Type 0

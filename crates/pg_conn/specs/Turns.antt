@@ -25,13 +25,13 @@ use Rattle.pg_call.specs.declared.calling.Call.{Call}
 use Rattle.pg_call.specs.declared.calling.Call.TheVariants as calls
 use Rattle.pg_call.specs.declared.calling.Beat.{Beat}
 use Rattle.pg_call.specs.declared.calling.Beat.TheVariants as beats
-use Rattle.pg_call.specs.Requests.{Group, spelled, kind_of, is_flush, CanBeSaid, IsRefusal}
+use Rattle.pg_call.specs.Requests.{Group, spelled, kind_of, is_flush, first_of, CanBeSaid, IsRefusal}
 use Rattle.pg_call.specs.Drains.{is_error}
 use Rattle.pg_call.specs.Hearing.{fails_of}
 use Rattle.pg_call.specs.declared.calling.Taken.{Taken}
 use Rattle.pg_call.specs.declared.running.Running.{Running}
 use Rattle.pg_call.specs.Calls.{CallIs, IsAwaiting, Leaves, CallEnds, IsFrontFault, TakesMessage, RefusesMessage, StaysIn}
-use Rattle.pg_conn.specs.Connections.{ConnOf, ConnSeen, idle, started_call, begun, begun_with, opens, settled, cleaned, ended}
+use Rattle.pg_conn.specs.Connections.{ConnOf, ConnSeen, idle, started_call, begun, begun_with, handed, opens, settled, cleaned, ended}
 
 -- Query and Sync end a group ("Simple Query", "Extended Query")
 abbrev pub ends_request : FrontendMessage → Bool
@@ -112,6 +112,7 @@ SendCause a b = WriteWaited a.stream b.stream ⊎ IsSpent a.stream b.stream
 abbrev pub BeatCause : ConnSeen → ConnSeen → Beat → Type 0
 BeatCause a b beats.More = AllMoved a.stream b.stream
 BeatCause a b beats.Waits = PendingCause a.stream b.stream × (only_sends b.ledger b.call ≡ true → SendCause a b)
+BeatCause a b (beats.Ends (Ok answer)) = AllMoved a.stream b.stream
 BeatCause a b _ = NoneWaited a.stream b.stream
 
 -- the bytes are the spelling of messages that the call queued now, and this is what the beat says of all
@@ -234,25 +235,43 @@ pub record Polled (begun b : ConnSeen) (beat : Beat) : Type 0 where
   -- and behind it no call is merely asked
   pub asked : IsAsked b.call → ⊥
 
+-- the answer of an exchange that hands on the next one
+abbrev pub hands_on : Request → Poll Turn
+hands_on next = Ready (turns.Ok (answers.Next next))
+
+abbrev pub HandsOnNone : Poll Turn → Type 0
+HandsOnNone answer = (next : Request) → answer ≡ hands_on next → ⊥
+
+-- An exchange ended in a poll, and handed on the next one, which goes on in the same poll with the calls of the link that were left.
+pub record PollsTwo (begun b : ConnSeen) (answer : Poll Turn) : Type 0 where
+  pub next : Request
+  pub between : ConnSeen
+  pub first : Polled begun between (beat_of (hands_on next))
+  pub second : Polled (handed next between) b (beat_of answer)
+
+-- one poll of a call: of the exchange that runs, or of it and of the next one
+abbrev pub PollsThrough : ConnSeen → ConnSeen → Poll Turn → Type 0
+PollsThrough begun b answer = (Polled begun b (beat_of answer) × HandsOnNone answer) ⊎ PollsTwo begun b answer
+
 -- one poll of a call, which begins with this connection, or answers at once where the connection is broken
-abbrev pub PollsBy : Option ServerFault → ConnSeen → ConnSeen → ConnSeen → Beat → Type 0
-PollsBy None begun a b beat = Polled begun b beat
-PollsBy (Some fault) begun a b beat = (b ≡ ended (idle a)) × (beat ≡ beats.Ends (Err (errors.Protocol (protocol.Server fault))))
+abbrev pub PollsBy : Option ServerFault → ConnSeen → ConnSeen → ConnSeen → Poll Turn → Type 0
+PollsBy None begun a b answer = PollsThrough begun b answer
+PollsBy (Some fault) begun a b answer = (b ≡ ended (idle a)) × (beat_of answer ≡ beats.Ends (Err (errors.Protocol (protocol.Server fault))))
 
 -- a poll within so many calls of the link
 abbrev pub PollsWithin : ℕ → ConnSeen → ConnSeen → Poll Turn → Type 0
-PollsWithin left a b answer = PollsBy a.broken (begun_with left a) a b (beat_of answer)
+PollsWithin left a b answer = PollsBy a.broken (begun_with left a) a b answer
 
 abbrev pub PollsCall : ConnSeen → ConnSeen → Poll Turn → Type 0
 PollsCall a b answer = PollsWithin 256 a b answer
 
 -- a poll that goes on with the calls of the link that the last one left
 abbrev pub PollsMore : ConnSeen → ConnSeen → Poll Turn → Type 0
-PollsMore a b answer = PollsBy a.broken a a b (beat_of answer)
+PollsMore a b answer = PollsBy a.broken a a b answer
 
 -- the first poll of a request that refuses it, and does nothing else
 abbrev pub RefusesAtOnce : Request → ConnSeen → ConnSeen → Poll Turn → Type 0
-RefusesAtOnce request a b answer = (e : Error) × (answer ≡ Ready (turns.Err e)) × IsRefusal request e × (b ≡ ended (idle (begun (started_call request a))))
+RefusesAtOnce request a b answer = (e : Error) × (answer ≡ Ready (turns.Err e)) × IsRefusal (first_of request) e × (b ≡ ended (idle (begun (started_call request a))))
 
 -- the first poll of a flush that has nothing to do, which ends it
 abbrev pub FlushesAtOnce : ConnSeen → ConnSeen → Poll Turn → Type 0

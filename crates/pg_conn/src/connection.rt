@@ -1,6 +1,6 @@
 ghost use Rattle.std.specs.Prelude.{◌≡◌, ◌≤◌, not, nat_eq, length, option_map, OnErr, Err};
 ghost use Rattle.pg_stream.specs.Parameters.{value_of};
-ghost use Rattle.pg_conn.specs.Connections.{cleaned, counted_anew, ended, idle, fresh_connection, left, left_by, may_open, queued_group, rolled_back, runs, settled, started_call, with_room};
+ghost use Rattle.pg_conn.specs.Connections.{cleaned, counted_anew, ended, idle, fresh_connection, handed, left, left_by, may_open, queued_group, rolled_back, runs, settled, started_call, with_room};
 ghost use Rattle.pg_conn.specs.Turns.{level_of};
 
 use crate::{CacheStep, Progress, Request};
@@ -259,8 +259,15 @@ impl<L> PgConnection<L> {
     {
         self.abandon();
         self.change = request.kind().change();
-        self.turn_to(Call::Asked(request));
+        self.turn_to(Call::Asked(request.first()));
         self.count_anew();
+    }
+
+    /// The next exchange of a call begins, where the one before it has ended.
+    pub(crate) fn hand_on(&mut self, request: Request)
+        ensures { self.new ≡ handed request self.old }
+    {
+        self.turn_to(Call::Asked(request));
     }
 
     /// What the drop of a call's state does: nothing where it was never polled.

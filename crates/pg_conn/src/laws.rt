@@ -5,7 +5,7 @@ ghost use Rattle.pg_call.specs.declared.answer.Turn.{Turn};
 ghost use Rattle.pg_call.specs.declared.kind.Kind.{Kind};
 ghost use Rattle.pg_call.specs.declared.request.Request.{Request};
 ghost use Rattle.pg_call.specs.declared.request.Request.TheVariants as requests;
-ghost use Rattle.pg_call.specs.Requests.{CanBeSaid, spelled};
+ghost use Rattle.pg_call.specs.Requests.{CanBeSaid, first_of, spelled};
 ghost use Rattle.pg_conn.specs.Connections.{ConnSeen, ended, fresh_connection, idle, left, left_by, may_open, rollback, rolled_back, runs, started_call, with_group};
 ghost use Rattle.pg_stream.specs.Streams.{StreamSeen};
 ghost use Rattle.pg_conn.specs.Ledgers.{Owes, OwesSome};
@@ -32,7 +32,7 @@ pub fn a_dropped_begin_is_rolled_back()
 /// A request that no frame can say, for a zero byte in its text or for its length, is refused by its first poll, which does nothing
 /// else. Only the fault of a broken connection comes before that refusal, and want of memory in its place.
 pub fn what_no_frame_says_is_refused_at_once()
-    ensures { (a b : ConnSeen) (request : Request) (answer : Poll Turn) → a.broken ≡ None → PollsCall (started_call request a) b answer → (CanBeSaid request → ⊥) → RefusesAtOnce request a b answer }
+    ensures { (a b : ConnSeen) (request : Request) (answer : Poll Turn) → a.broken ≡ None → PollsCall (started_call request a) b answer → (CanBeSaid (first_of request) → ⊥) → RefusesAtOnce request a b answer }
 {}
 
 /// A flush on a connection on which nothing is unsent and no reply is owed is done at its first poll, which calls no link and takes no

@@ -3,13 +3,14 @@ ghost use Rattle.pg_stream.specs.Links.{GrewBy};
 ghost use Rattle.pg_stream.specs.Streams.{stream_by, fuel_of, IsHeardFront, Passes};
 ghost use Rattle.pg_conn.specs.Connections.{seen_by, ended, idle, begun_with, begun_by, is_over, runs, with_spare, queued_call, awaiting, closing};
 ghost use Rattle.pg_call.specs.Calls.{IsAwaiting};
-ghost use Rattle.pg_call.specs.Hearing.{IsReplied};
+ghost use Rattle.pg_call.specs.Hearing.{IsReplied, waits};
 ghost use Rattle.pg_call.specs.declared.kind.Kind as declared_kind;
+ghost use Rattle.pg_call.specs.declared.request.Request as declared_request;
 ghost use Rattle.pg_conn.specs.States.{IsCalling, PollFits};
-ghost use Rattle.pg_conn.specs.Turns.{level_of, TakesBeat, HearsFront, Prepares, Readies, Refuses, Accepts, IsAsked, IsSayable, Refused, IsAhead, only_sends, flushes, is_flushed, EndsFlush, queued_copy_fail, PollsBy, PollsWithin, PollsCall, PollsMore, beat_of, broken_by};
+ghost use Rattle.pg_conn.specs.Turns.{level_of, TakesBeat, HearsFront, Prepares, Readies, Refuses, Accepts, IsAsked, IsSayable, Refused, IsAhead, only_sends, flushes, is_flushed, EndsFlush, queued_copy_fail, Polled, PollsThrough, PollsWithin, PollsCall, PollsMore, beat_of, broken_by, hands_on};
 
 use crate::{PgConnection, Request, Turn};
-use pg_call::{Beat, Call, CallAnswer, Kind, Ledger, Reply, Taken, Waiting};
+use pg_call::{Beat, Call, CallAnswer, Taken};
 use pg_stream::{Front, Link};
 use pg_wire::{Blob, Error, Poll, ProtocolFault, ServerFault};
 
@@ -40,27 +41,18 @@ impl<L> PgConnection<L> {
     }
 
     // The frames of the call are written, and wait.
-    fn wait(&mut self, kind: Kind, frames: Blob)
-        ensures { self.new ≡ record self.old { call = Call.Waiting (record { kind = kind; frames = frames; is_copy_failed = self.old.ledger.is_copy_failed }) } }
+    fn wait(&mut self, frames: Blob)
+        ensures { self.new ≡ record self.old { call = waits frames self.old.ledger.is_copy_failed self.old.call } }
     {
-        let is_copy_failed = self.running.ledger.is_copy_failed;
-        self.turn_to(Call::Waiting(Waiting {
-            kind,
-            frames,
-            is_copy_failed,
-        }));
+        self.running.wait(frames);
     }
 
     // The frames of the call are queued, which end one group.
-    fn await_reply(&mut self, kind: Kind)
-        ensures now { self.new ≡ awaiting kind self.new.groups self.old }
+    fn await_reply(&mut self)
+        ensures now { self.new ≡ awaiting self.new.groups self.old }
         ensures groups { GrewBy 1 self.old.groups self.new.groups }
     {
-        self.running.ledger = Ledger {
-            owed: 1,
-            is_copy_failed: false,
-        };
-        self.turn_to(Call::Own(Reply::new(self.alloc, kind)));
+        self.running.await_reply(self.alloc);
         self.groups = self.groups.saturating_add(1);
     }
 
@@ -205,8 +197,7 @@ impl<L: Link> PgConnection<L> {
             return Ok(());
         };
         let frames = request.encode(self.alloc)?;
-        let kind = request.kind();
-        self.wait(kind, frames);
+        self.wait(frames);
         Ok(())
     }
 
@@ -231,7 +222,7 @@ impl<L: Link> PgConnection<L> {
             self.await_sent();
             return Ok(());
         }
-        self.await_reply(kind);
+        self.await_reply();
         Ok(())
     }
 
@@ -393,7 +384,8 @@ impl<L: Link> PgConnection<L> {
     // One poll, which begins with what the connection allows of link calls.
     fn poll_on(&mut self) -> Poll<Turn>
         requires { self.old.broken ≡ None }
-        ensures { PollsBy None (seen_by L.seen self.old) (seen_by L.seen self.old) (seen_by L.seen self.new) (beat_of result) }
+        ensures polled { Polled (seen_by L.seen self.old) (seen_by L.seen self.new) (beat_of result) }
+        ensures whole { (next : declared_request.Request) → result ≡ hands_on next → self.new.broken ≡ None }
     {
         match self.beat() {
             Beat::More | Beat::Waits => Poll::Pending,
@@ -419,6 +411,20 @@ impl<L: Link> PgConnection<L> {
         Poll::Ready(Turn::Err(Error::Protocol(ProtocolFault::Server(fault))))
     }
 
+    // One poll. Where an exchange ends in it, and hands on the next one, that one goes on in it too.
+    fn poll_through(&mut self) -> Poll<Turn>
+        requires { self.old.broken ≡ None }
+        ensures { PollsThrough (seen_by L.seen self.old) (seen_by L.seen self.new) result }
+    {
+        match self.poll_on() {
+            Poll::Ready(Turn::Ok(CallAnswer::Next(request))) => {
+                self.hand_on(request);
+                self.poll_on()
+            }
+            answer => answer,
+        }
+    }
+
     /// Moves the running call on, by at most 256 calls of the link: it first drops what is owed to earlier calls, then sends its
     /// frames, and takes its own reply. On a connection that the server broke it answers the fault that broke it.
     pub fn poll_call(&mut self) -> Poll<Turn>
@@ -429,7 +435,7 @@ impl<L: Link> PgConnection<L> {
             Some(fault) => self.tell_fault(fault),
             None => {
                 self.allow(256);
-                self.poll_on()
+                self.poll_through()
             }
         }
     }
@@ -447,7 +453,7 @@ impl<L: Link> PgConnection<L> {
             Some(fault) => self.tell_fault(fault),
             None => {
                 self.allow(*left);
-                let turn = self.poll_on();
+                let turn = self.poll_through();
                 *left = self.stream.left();
                 turn
             }
@@ -461,7 +467,7 @@ impl<L: Link> PgConnection<L> {
     {
         match self.broken {
             Some(fault) => self.tell_fault(fault),
-            None => self.poll_on(),
+            None => self.poll_through(),
         }
     }
 

@@ -31,7 +31,8 @@ impl<C: PgExecutor> Transaction<C> {
         BeginTransaction::new(conn, request)
     }
 
-    /// Opens a transaction by this text. Where one is open the first poll refuses it, since a savepoint has no text of its own.
+    /// Opens a transaction by this text, without the arguments that the query may have. Where one is open the first poll refuses it, since a savepoint has
+    /// no text of its own.
     /// (PostgreSQL manual, "SQL Commands", BEGIN.)
     pub fn begin_with(conn: C, query: Query) -> BeginTransaction<C>
         ensures conn { result.conn ≡ Some conn }

@@ -31,7 +31,8 @@ impl<L> PgConnection<L> {
         }
     }
 
-    /// Opens a transaction by this text. Where one is open it is refused, since a savepoint has no text of its own.
+    /// Opens a transaction by this text, without the arguments that the query may have. Where one is open it is refused, since a savepoint has no text of
+    /// its own.
     pub fn begin_with(&mut self, query: Query) -> Result<Begin<'_, L>, Error>
         ensures same { IfOk result (λ call. call.conn.ghost_name ≡ self.entry.ghost_name) }
         ensures conn { IfOk result (λ call. call.conn.now ≡ self.old) }

@@ -5,13 +5,13 @@ use Rattle.pg_conn.specs.Connections.{ConnOf, cleaned}
 use Rattle.pg_conn.proofs.TurnLaws.{polled}
 use Rattle.pg_conn.proofs.connection.PgConnection.poll_on.Goals as goal
 
-pub returns-in-Ends-Ok : goal.returns-in-Ends-Ok
-returns-in-Ends-Ok g c =
+pub returns-in-Ends-Ok-clause-polled : goal.returns-in-Ends-Ok-clause-polled
+returns-in-Ends-Ok-clause-polled g c =
     let e = rw c.in-Ends-Ok.field-0-is at c.in-Ends-Ok.ensures in
     polled g.L.Link.seen c.args.self.now c.beat.new.self _ (beats.Ends (Ok c.in-Ends-Ok.answer)) c.requires e.beat e.says e.flush e.asked c.settle.ensures
 
-pub returns-in-Ends-Err : goal.returns-in-Ends-Err
-returns-in-Ends-Err g c =
+pub returns-in-Ends-Err-clause-polled : goal.returns-in-Ends-Err-clause-polled
+returns-in-Ends-Err-clause-polled g c =
     let e = rw c.in-Ends-Err.field-0-is at c.in-Ends-Err.ensures in
     let seen_as = ap (λ (x : ConnOf g.row.L.Denot). cleaned (record x { broken = c.fault_in-self-inside.result })) c.self.view_is in
     let by_fault = ap (λ (o : Option ServerFault). cleaned (record c.beat.new.self { broken = o })) c.fault_in-self-inside.ensures in

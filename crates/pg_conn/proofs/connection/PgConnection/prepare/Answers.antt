@@ -10,4 +10,4 @@ returns-in_default g c =
 
 pub returns-clause-ok : goal.returns-clause-ok
 returns-clause-ok g c =
-    rw (c.wait.ensures, c.kind-kind.ensures, ← c.self.view_is) (prepares _ c.in-Asked.request c.in_ok-frames.frames c.in-Asked.is c.in_ok-frames.ensures.ok c.in_ok-frames.ensures.said)
+    rw (c.wait.ensures, ← c.self.view_is) (prepares _ c.in-Asked.request c.in_ok-frames.frames c.in-Asked.is c.in_ok-frames.ensures.ok c.in_ok-frames.ensures.said)
