@@ -6,8 +6,10 @@ use Rattle.pg_wire.specs.Frame.{text_of}
 use Rattle.pg_wire.specs.Backend.{BackendMessage, backend_frame, Authentication, ReadyForQuery, RowDescription, DataRow, CommandComplete}
 use Rattle.pg_wire.specs.Exchanges.{one_column}
 use Rattle.pg_wire.specs.declared.status.TransactionStatus.TheVariants.{Idle}
+use Rattle.pg_request.specs.Queries.{plain_text}
 use Rattle.pg_stream.specs.declared.events.ReadEvent.{ReadEvent}
 use Rattle.pg_stream.specs.declared.events.ReadEvent.TheVariants.{Piece, Wait}
+use Rattle.pg_request.specs.Queries.{plain_text}
 use Rattle.pg_script.specs.declared.script.Script.{Script}
 use Rattle.pg_script.specs.declared.step.Step.{Step}
 use Rattle.pg_script.specs.declared.step.Call.TheVariants.{FetchAll}
@@ -45,7 +47,7 @@ events_said count = Piece (spelled greeting) ∷ flat_map events_of (range_with_
 
 -- each step asks for its own number, and has one poll
 abbrev pub step_of : ℕ → Step
-step_of k = record { call = FetchAll (record { sql = codes "SELECT " ++ decimal k }); polls = 1; most = 2 ^ 32 - 1 }
+step_of k = record { call = FetchAll (plain_text (codes "SELECT " ++ decimal k)); polls = 1; most = 2 ^ 32 - 1 }
 
 abbrev pub steps_said : ℕ → List Step
 steps_said count = map step_of (range_with_len 1 count)

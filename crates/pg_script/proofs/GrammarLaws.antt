@@ -3,7 +3,7 @@ use Rattle.std.proofs.Common.{ℕ, ◌≡◌, ◌≤◌, ◌∷◌, [], List, Op
 use Rattle.std.specs.Prelude.{◌||◌, ℤ, pos, negsuc}
 use Rattle.std.specs.Str.{is_utf8}
 use Rattle.std.proofs.lemmas.Bool.Decides.{nat_tests}
-use Rattle.pg_request.specs.Queries.{QueryText}
+use Rattle.pg_request.specs.Queries.{QueryText, plain_text}
 use Rattle.pg_script.specs.declared.token.Token.{Token}
 use Rattle.pg_script.specs.declared.token.Token.TheVariants.{Space, Word, Number, SslMode, Text}
 use Rattle.pg_script.specs.declared.token.Keyword.{Keyword}
@@ -15,22 +15,25 @@ use Rattle.pg_script.specs.declared.step.Call.TheVariants as calls
 use Rattle.pg_script.specs.declared.line.Line.{Line}
 use Rattle.pg_script.specs.declared.line.Line.TheVariants as lines
 use Rattle.pg_script.specs.Reading.{◌>>=◌}
-use Rattle.pg_script.specs.Arguments.{alone, bytes_arg, text_in, text_arg, nonce_arg, mode_arg, pair_arg, number_arg, last_number, digits_arg, query_arg, raw_arg}
+use Rattle.pg_script.specs.Arguments.{alone, bytes_arg, text_in, text_arg, nonce_arg, mode_arg, pair_arg, number_arg, last_number, digits_arg}
+use Rattle.pg_script.specs.Asking.{query_arg, asked_arg}
 use Rattle.pg_script.specs.Lines.{call_with, call_arg, take_of, take_line, most_arg, step_line, link_line, line_with, line_from}
-use Rattle.pg_script.specs.Grammar.{query_tokens, raw_tokens, tokens_of, call_tokens, IsUnicode, QueryFits, LineFits, CallFits}
+use Rattle.pg_script.specs.Grammar.{Asked, Raw, Once, query_tokens, asked_tokens, tokens_of, call_tokens, IsUnicode, QueryFits, AskedFits, LineFits, CallFits}
 use Rattle.pg_options.specs.declared.ssl_mode.PgSslMode.{PgSslMode}
 use Rattle.pg_script.specs.Nonces.{IsNonce, is_nonce, nonce_in}
+use Rattle.pg_script.proofs.Found.{bind_some, utf8_takes}
 use Rattle.pg_script.proofs.Apart.{apart}
+use Rattle.pg_script.proofs.AskedLaws.{once_takes, once_again, arguments_apart}
 use Rattle.pg_script.proofs.NonceLaws.{nonce_lawful, nonce_passes}
 use Rattle.std.proofs.lemmas.Option.{same_Some}
 
-pub bind_some : {A B : Type 0} (o : Option A) (f : A → Option B) (y : B) → (o >>= f) ≡ Some y → (x : A) × (o ≡ Some x) × (f x ≡ Some y)
-bind_some (Some x) f y e = (x, refl, e)
-bind_some None f y e = absurd cc
-
 -- the tokens are those of the line, which may have its values
 abbrev pub IsLine : List Token → Line → Type 0
-IsLine ts l = (ts ≡ tokens_of l) × LineFits l
+IsLine ts l = (asked : Asked) × (ts ≡ tokens_of asked l) × LineFits asked l
+
+-- what is asked where nothing is
+abbrev nothing : Asked
+nothing = Raw []
 
 -- ---- arguments
 
@@ -50,10 +53,6 @@ number_tokens n = Space ∷ Number n ∷ []
 bytes_takes : Takes bytes_arg text_tokens anything
 bytes_takes (Space ∷ Text s ∷ []) t e = (cc, tt)
 bytes_takes _ t e = absurd cc
-
-utf8_takes : (utf8 : Bool) (s t : List ℕ) → cond utf8 (Some s) None ≡ Some t → (utf8 ≡ true) × (s ≡ t)
-utf8_takes true s t e = (refl, cc)
-utf8_takes false s t e = absurd cc
 
 text_takes : Takes text_arg text_tokens IsUnicode
 text_takes ts s e =
@@ -126,20 +125,32 @@ digits_take (Space ∷ Number n ∷ []) d e = number_digits n (nat_le n 3) d ref
 digits_take _ d e = absurd cc
 
 digits_line : (d : Option ℤ) → AreDigits d → IsLine (Word words.Digits ∷ digits_tokens d) (lines.Digits d)
-digits_line None f = (refl, f)
-digits_line (Some (pos n)) f = (refl, f)
+digits_line None f = (nothing, refl, f)
+digits_line (Some (pos n)) f = (nothing, refl, f)
 digits_line (Some (negsuc n)) f = absurd f
 
-query_takes : Takes query_arg query_tokens QueryFits
+query_takes : Takes query_arg (λ q. query_tokens q.sql) QueryFits
 query_takes ts q e =
-    let b = bind_some (text_arg ts) (λ sql. Some (record { sql = sql })) q e in
+    let b = bind_some (text_arg ts) (λ sql. Some (plain_text sql)) q e in
     let t = text_takes ts b.0 b.1 in
-    let is : record { sql = b.0 } ≡ q = same_Some _ q b.2 in
-    subst (λ (r : QueryText). (ts ≡ query_tokens r) × QueryFits r) is (t.0, t.1)
+    subst (λ (r : QueryText). (ts ≡ query_tokens r.sql) × QueryFits r) (same_Some (plain_text b.0) q b.2) (t.0, (t.1, refl))
 
-raw_takes : Takes raw_arg raw_tokens QueryFits
-raw_takes (Space ∷ Word words.Raw ∷ rest) q e = let t = query_takes rest q e in (ap (λ (ts : List Token). Space ∷ Word words.Raw ∷ ts) t.0, t.1)
-raw_takes _ q e = absurd cc
+asked_takes : (ts : List Token) (q : QueryText) → asked_arg ts ≡ Some q → (asked : Asked) × (ts ≡ asked_tokens asked) × AskedFits asked q
+asked_takes (Space ∷ Word words.Raw ∷ rest) q e =
+    let t = query_takes rest q e in
+    (Raw q.sql, ap (λ (ts : List Token). Space ∷ Word words.Raw ∷ ts) t.0, t.1)
+asked_takes (Space ∷ Word words.Once ∷ rest) q e =
+    let t = once_takes rest q e in
+    (Once t.sql t.arguments, ap (λ (ts : List Token). Space ∷ Word words.Once ∷ ts) t.is, (t.unicode, t.fit, t.query))
+asked_takes _ q e = absurd cc
+
+asked_again : (asked : Asked) (q : QueryText) → AskedFits asked q → asked_arg (asked_tokens asked) ≡ Some q
+asked_again (Raw sql) q f = rw f.0 (ap Some (sym f.1))
+asked_again (Once sql arguments) q f = once_again sql arguments f.0 f.1 ∙ f.2
+
+asked_apart : (k : Keyword) (asked : Asked) → apart (Word k ∷ asked_tokens asked) ≡ true
+asked_apart k (Raw sql) = refl
+asked_apart k (Once sql arguments) = arguments_apart (Text sql) arguments
 
 alone_takes : {A : Type 0} (x y : A) (ts : List Token) → alone x ts ≡ Some y → (ts ≡ []) × (x ≡ y)
 alone_takes x y [] e = (refl, same_Some x y e)
@@ -164,53 +175,58 @@ bare Is x k is rest y e =
 
 -- the tokens are those of the call, which may have its values
 abbrev pub IsCall : List Token → Call → Type 0
-IsCall ts c = (ts ≡ call_tokens c) × CallFits c
+IsCall ts c = (asked : Asked) × (ts ≡ call_tokens asked c) × CallFits asked c
 
-queried : (k : Keyword) (make : QueryText → Call) → ((q : QueryText) → QueryFits q → IsCall (Word k ∷ raw_tokens q) (make q))
-    → (rest : List Token) (c : Call) → (raw_arg rest >>= λ q. Some (make q)) ≡ Some c → IsCall (Word k ∷ rest) c
-queried k make is rest c e = made IsCall raw_arg raw_tokens QueryFits make k raw_takes is rest c e
+queried : (k : Keyword) (make : QueryText → Call) → ((asked : Asked) (q : QueryText) → AskedFits asked q → IsCall (Word k ∷ asked_tokens asked) (make q))
+    → (rest : List Token) (c : Call) → (asked_arg rest >>= λ q. Some (make q)) ≡ Some c → IsCall (Word k ∷ rest) c
+queried k make is rest c e =
+    let b = bind_some (asked_arg rest) (λ (q : QueryText). Some (make q)) c e in
+    let t = asked_takes rest b.0 b.1 in
+    subst (IsCall (Word k ∷ rest)) (same_Some (make b.0) c b.2) (subst (λ (ts : List Token). IsCall (Word k ∷ ts) (make b.0)) (sym t.1) (is t.0 b.0 t.2))
 
 call_takes : (k : CallWord) (rest : List Token) (c : Call) → call_with k rest ≡ Some c → IsCall (Word (words.Call k) ∷ rest) c
-call_takes call_words.Execute rest c e = queried (words.Call call_words.Execute) (λ q. calls.Execute q) (λ q f. (refl, f)) rest c e
-call_takes call_words.ExecuteMany rest c e = queried (words.Call call_words.ExecuteMany) (λ q. calls.ExecuteMany q) (λ q f. (refl, f)) rest c e
-call_takes call_words.Fetch rest c e = queried (words.Call call_words.Fetch) (λ q. calls.Fetch q) (λ q f. (refl, f)) rest c e
-call_takes call_words.FetchMany rest c e = queried (words.Call call_words.FetchMany) (λ q. calls.FetchMany q) (λ q f. (refl, f)) rest c e
-call_takes call_words.FetchAll rest c e = queried (words.Call call_words.FetchAll) (λ q. calls.FetchAll q) (λ q f. (refl, f)) rest c e
-call_takes call_words.FetchOptional rest c e = queried (words.Call call_words.FetchOptional) (λ q. calls.FetchOptional q) (λ q f. (refl, f)) rest c e
-call_takes call_words.FetchOne rest c e = queried (words.Call call_words.FetchOne) (λ q. calls.FetchOne q) (λ q f. (refl, f)) rest c e
-call_takes call_words.Ping rest c e = bare IsCall calls.Ping (words.Call call_words.Ping) (refl, tt) rest c e
-call_takes call_words.Flush rest c e = bare IsCall calls.Flush (words.Call call_words.Flush) (refl, tt) rest c e
-call_takes call_words.Begin rest c e = bare IsCall calls.Begin (words.Call call_words.Begin) (refl, tt) rest c e
-call_takes call_words.BeginWith rest c e = made IsCall query_arg query_tokens QueryFits (λ q. calls.BeginWith q) (words.Call call_words.BeginWith) query_takes (λ q f. (refl, f)) rest c e
-call_takes call_words.Commit rest c e = bare IsCall calls.Commit (words.Call call_words.Commit) (refl, tt) rest c e
-call_takes call_words.Rollback rest c e = bare IsCall calls.Rollback (words.Call call_words.Rollback) (refl, tt) rest c e
-call_takes call_words.StartRollback rest c e = bare IsCall calls.StartRollback (words.Call call_words.StartRollback) (refl, tt) rest c e
+call_takes call_words.Execute rest c e = queried (words.Call call_words.Execute) (λ q. calls.Execute q) (λ asked q f. (asked, refl, f)) rest c e
+call_takes call_words.ExecuteMany rest c e = queried (words.Call call_words.ExecuteMany) (λ q. calls.ExecuteMany q) (λ asked q f. (asked, refl, f)) rest c e
+call_takes call_words.Fetch rest c e = queried (words.Call call_words.Fetch) (λ q. calls.Fetch q) (λ asked q f. (asked, refl, f)) rest c e
+call_takes call_words.FetchMany rest c e = queried (words.Call call_words.FetchMany) (λ q. calls.FetchMany q) (λ asked q f. (asked, refl, f)) rest c e
+call_takes call_words.FetchAll rest c e = queried (words.Call call_words.FetchAll) (λ q. calls.FetchAll q) (λ asked q f. (asked, refl, f)) rest c e
+call_takes call_words.FetchOptional rest c e = queried (words.Call call_words.FetchOptional) (λ q. calls.FetchOptional q) (λ asked q f. (asked, refl, f)) rest c e
+call_takes call_words.FetchOne rest c e = queried (words.Call call_words.FetchOne) (λ q. calls.FetchOne q) (λ asked q f. (asked, refl, f)) rest c e
+call_takes call_words.Ping rest c e = bare IsCall calls.Ping (words.Call call_words.Ping) (nothing, refl, tt) rest c e
+call_takes call_words.Flush rest c e = bare IsCall calls.Flush (words.Call call_words.Flush) (nothing, refl, tt) rest c e
+call_takes call_words.Begin rest c e = bare IsCall calls.Begin (words.Call call_words.Begin) (nothing, refl, tt) rest c e
+call_takes call_words.BeginWith rest c e = made IsCall query_arg (λ q. query_tokens q.sql) QueryFits (λ q. calls.BeginWith q) (words.Call call_words.BeginWith) query_takes (λ q f. (nothing, refl, f)) rest c e
+call_takes call_words.Commit rest c e = bare IsCall calls.Commit (words.Call call_words.Commit) (nothing, refl, tt) rest c e
+call_takes call_words.Rollback rest c e = bare IsCall calls.Rollback (words.Call call_words.Rollback) (nothing, refl, tt) rest c e
+call_takes call_words.StartRollback rest c e = bare IsCall calls.StartRollback (words.Call call_words.StartRollback) (nothing, refl, tt) rest c e
 
-behind_takes : (ts : List Token) (c : Call) → call_arg ts ≡ Some c → (ts ≡ Space ∷ call_tokens c) × CallFits c
-behind_takes (Space ∷ Word (words.Call k) ∷ rest) c e = let t = call_takes k rest c e in (ap (λ (ts : List Token). Space ∷ ts) t.0, t.1)
+behind_takes : (ts : List Token) (c : Call) → call_arg ts ≡ Some c → (asked : Asked) × (ts ≡ Space ∷ call_tokens asked c) × CallFits asked c
+behind_takes (Space ∷ Word (words.Call k) ∷ rest) c e = let t = call_takes k rest c e in (t.0, ap (λ (ts : List Token). Space ∷ ts) t.1, t.2)
 behind_takes _ c e = absurd cc
 
 -- and back: a call is read behind a space, is no `most`, and no two of its words stand side by side
-pub record IsBehind (c : Call) : Type 0 where
-  pub read : call_arg (Space ∷ call_tokens c) ≡ Some c
-  pub plain : most_arg (Space ∷ call_tokens c) ≡ Some (None, Space ∷ call_tokens c)
-  pub parts : apart (Space ∷ call_tokens c) ≡ true
+pub record IsBehind (asked : Asked) (c : Call) : Type 0 where
+  pub read : call_arg (Space ∷ call_tokens asked c) ≡ Some c
+  pub plain : most_arg (Space ∷ call_tokens asked c) ≡ Some (None, Space ∷ call_tokens asked c)
+  pub parts : apart (Space ∷ call_tokens asked c) ≡ true
 
-pub call_again : (c : Call) → CallFits c → IsBehind c
-call_again (calls.Execute q) f = record { read = rw f refl; plain = refl; parts = refl }
-call_again (calls.ExecuteMany q) f = record { read = rw f refl; plain = refl; parts = refl }
-call_again (calls.Fetch q) f = record { read = rw f refl; plain = refl; parts = refl }
-call_again (calls.FetchMany q) f = record { read = rw f refl; plain = refl; parts = refl }
-call_again (calls.FetchAll q) f = record { read = rw f refl; plain = refl; parts = refl }
-call_again (calls.FetchOptional q) f = record { read = rw f refl; plain = refl; parts = refl }
-call_again (calls.FetchOne q) f = record { read = rw f refl; plain = refl; parts = refl }
-call_again calls.Ping f = record { read = refl; plain = refl; parts = refl }
-call_again calls.Flush f = record { read = refl; plain = refl; parts = refl }
-call_again calls.Begin f = record { read = refl; plain = refl; parts = refl }
-call_again (calls.BeginWith q) f = record { read = rw f refl; plain = refl; parts = refl }
-call_again calls.Commit f = record { read = refl; plain = refl; parts = refl }
-call_again calls.Rollback f = record { read = refl; plain = refl; parts = refl }
-call_again calls.StartRollback f = record { read = refl; plain = refl; parts = refl }
+pub call_again : (asked : Asked) (c : Call) → CallFits asked c → IsBehind asked c
+call_again asked (calls.Execute q) f = record { read = rw (asked_again asked q f) refl; plain = refl; parts = asked_apart (words.Call call_words.Execute) asked }
+call_again asked (calls.ExecuteMany q) f = record { read = rw (asked_again asked q f) refl; plain = refl; parts = asked_apart (words.Call call_words.ExecuteMany) asked }
+call_again asked (calls.Fetch q) f = record { read = rw (asked_again asked q f) refl; plain = refl; parts = asked_apart (words.Call call_words.Fetch) asked }
+call_again asked (calls.FetchMany q) f = record { read = rw (asked_again asked q f) refl; plain = refl; parts = asked_apart (words.Call call_words.FetchMany) asked }
+call_again asked (calls.FetchAll q) f = record { read = rw (asked_again asked q f) refl; plain = refl; parts = asked_apart (words.Call call_words.FetchAll) asked }
+call_again asked (calls.FetchOptional q) f = record { read = rw (asked_again asked q f) refl; plain = refl; parts = asked_apart (words.Call call_words.FetchOptional) asked }
+call_again asked (calls.FetchOne q) f = record { read = rw (asked_again asked q f) refl; plain = refl; parts = asked_apart (words.Call call_words.FetchOne) asked }
+call_again asked calls.Ping f = record { read = refl; plain = refl; parts = refl }
+call_again asked calls.Flush f = record { read = refl; plain = refl; parts = refl }
+call_again asked calls.Begin f = record { read = refl; plain = refl; parts = refl }
+call_again asked (calls.BeginWith q) f = record { read = rw f.0 (ap (λ (r : QueryText). Some (calls.BeginWith r)) (sym f.1)); plain = refl; parts = refl }
+call_again asked calls.Commit f = record { read = refl; plain = refl; parts = refl }
+call_again asked calls.Rollback f = record { read = refl; plain = refl; parts = refl }
+call_again asked calls.StartRollback f = record { read = refl; plain = refl; parts = refl }
+call_again asked (calls.Describe x) f = absurd f
+call_again asked (calls.Run b) f = absurd f
 
 -- ---- lines
 
@@ -226,7 +242,7 @@ bounds_are m n a b c = (grind (arith, nat_tests), grind (arith, nat_tests), grin
 bounds_again : (m n : ℕ) → 1 ≤ m → 1 ≤ n → n ≤ 1000000 → take_of m n ≡ Some (lines.Take m n)
 bounds_again m n a b c = grind (arith, nat_tests)
 
-two_numbers : (ts us : List Token) (m n : ℕ) → ts ≡ Space ∷ Number m ∷ us → us ≡ number_tokens n → Word words.Take ∷ ts ≡ tokens_of (lines.Take m n)
+two_numbers : (ts us : List Token) (m n : ℕ) → ts ≡ Space ∷ Number m ∷ us → us ≡ number_tokens n → Word words.Take ∷ ts ≡ tokens_of nothing (lines.Take m n)
 two_numbers ts us m n e f = ap (λ (vs : List Token). Word words.Take ∷ vs) (e ∙ ap (λ (vs : List Token). Space ∷ Number m ∷ vs) f)
 
 take_takes : (ts : List Token) (l : Line) → take_line ts ≡ Some l → IsLine (Word words.Take ∷ ts) l
@@ -235,7 +251,7 @@ take_takes ts l e =
     let d = bind_some (last_number b.0.1) (λ (times : ℕ). take_of b.0.0 times) l b.2 in
     let all = two_numbers ts b.0.1 b.0.0 d.0 (number_takes ts b.0 b.1) (last_takes b.0.1 d.0 d.1).0 in
     let g = bounds_take (nat_eq b.0.0 0) (nat_eq d.0 0) (nat_lt 1000000 d.0) b.0.0 d.0 l d.2 in
-    subst (IsLine (Word words.Take ∷ ts)) g.3 (all, bounds_are b.0.0 d.0 g.0 g.1 g.2)
+    subst (IsLine (Word words.Take ∷ ts)) g.3 (nothing, all, bounds_are b.0.0 d.0 g.0 g.1 g.2)
 
 -- the tokens of a step behind its polls
 abbrev most_tokens : Option ℕ → List Token → List Token
@@ -249,16 +265,17 @@ most_takes (Space ∷ Word words.Most ∷ rest) x e =
     subst (λ (y : Option ℕ × List Token). Space ∷ Word words.Most ∷ rest ≡ most_tokens y.0 y.1) is (ap (λ (us : List Token). Space ∷ Word words.Most ∷ us) (number_takes rest b.0 b.1))
 most_takes ts x e = let is : (None, ts) ≡ x = same_Some _ x e in subst (λ (y : Option ℕ × List Token). ts ≡ most_tokens y.0 y.1) is refl
 
-step_tokens : (polls : ℕ) (most : Option ℕ) (call : Call) → Word words.Step ∷ Space ∷ Number polls ∷ most_tokens most (Space ∷ call_tokens call) ≡ tokens_of (lines.Step polls most call)
-step_tokens polls None call = refl
-step_tokens polls (Some n) call = refl
+step_tokens : (asked : Asked) (polls : ℕ) (most : Option ℕ) (call : Call) → Word words.Step ∷ Space ∷ Number polls ∷ most_tokens most (Space ∷ call_tokens asked call) ≡ tokens_of asked (lines.Step polls most call)
+step_tokens asked polls None call = refl
+step_tokens asked polls (Some n) call = refl
 
 same_line : (ts : List Token) (l m : Line) → l ≡ m → IsLine ts l → IsLine ts m
 same_line ts l m e h = subst (IsLine ts) e h
 
-step_is : (ts us vs : List Token) (polls : ℕ) (most : Option ℕ) (call : Call) → ts ≡ Space ∷ Number polls ∷ us → us ≡ most_tokens most vs → vs ≡ Space ∷ call_tokens call → Word words.Step ∷ ts ≡ tokens_of (lines.Step polls most call)
-step_is ts us vs polls most call e f g =
-    ap (λ (ws : List Token). Word words.Step ∷ ws) (e ∙ ap (λ (ws : List Token). Space ∷ Number polls ∷ ws) (f ∙ ap (most_tokens most) g)) ∙ step_tokens polls most call
+step_is : (asked : Asked) (ts us vs : List Token) (polls : ℕ) (most : Option ℕ) (call : Call) → ts ≡ Space ∷ Number polls ∷ us → us ≡ most_tokens most vs → vs ≡ Space ∷ call_tokens asked call
+    → Word words.Step ∷ ts ≡ tokens_of asked (lines.Step polls most call)
+step_is asked ts us vs polls most call e f g =
+    ap (λ (ws : List Token). Word words.Step ∷ ws) (e ∙ ap (λ (ws : List Token). Space ∷ Number polls ∷ ws) (f ∙ ap (most_tokens most) g)) ∙ step_tokens asked polls most call
 
 step_takes : (ts : List Token) (l : Line) → step_line ts ≡ Some l → IsLine (Word words.Step ∷ ts) l
 step_takes ts l e =
@@ -266,32 +283,32 @@ step_takes ts l e =
     let d = bind_some (most_arg b.0.1) (λ (most : Option ℕ × List Token). call_arg most.1 >>= λ call. Some (lines.Step b.0.0 most.0 call)) l b.2 in
     let f = bind_some (call_arg d.0.1) (λ (call : Call). Some (lines.Step b.0.0 d.0.0 call)) l d.2 in
     let t = behind_takes d.0.1 f.0 f.1 in
-    let all = step_is ts b.0.1 d.0.1 b.0.0 d.0.0 f.0 (number_takes ts b.0 b.1) (most_takes b.0.1 d.0 d.1) t.0 in
-    same_line (Word words.Step ∷ ts) (lines.Step b.0.0 d.0.0 f.0) l (same_Some (lines.Step b.0.0 d.0.0 f.0) l f.2) (all, t.1)
+    let all = step_is t.0 ts b.0.1 d.0.1 b.0.0 d.0.0 f.0 (number_takes ts b.0 b.1) (most_takes b.0.1 d.0 d.1) t.1 in
+    same_line (Word words.Step ∷ ts) (lines.Step b.0.0 d.0.0 f.0) l (same_Some (lines.Step b.0.0 d.0.0 f.0) l f.2) (t.0, all, t.2)
 
 link_takes : (ts : List Token) (l : Line) → link_line ts ≡ Some l → IsLine (Word words.Link ∷ ts) l
-link_takes (Space ∷ Word words.Upgrade ∷ []) l e = same_line (Word words.Link ∷ Space ∷ Word words.Upgrade ∷ []) lines.LinkUpgrade l (same_Some lines.LinkUpgrade l e) (refl, tt)
-link_takes (Space ∷ Word words.Local ∷ []) l e = same_line (Word words.Link ∷ Space ∷ Word words.Local ∷ []) lines.LinkLocal l (same_Some lines.LinkLocal l e) (refl, tt)
+link_takes (Space ∷ Word words.Upgrade ∷ []) l e = same_line (Word words.Link ∷ Space ∷ Word words.Upgrade ∷ []) lines.LinkUpgrade l (same_Some lines.LinkUpgrade l e) (nothing, refl, tt)
+link_takes (Space ∷ Word words.Local ∷ []) l e = same_line (Word words.Link ∷ Space ∷ Word words.Local ∷ []) lines.LinkLocal l (same_Some lines.LinkLocal l e) (nothing, refl, tt)
 link_takes _ l e = absurd cc
 
 with_takes : (k : Keyword) (rest : List Token) (l : Line) → line_with k rest ≡ Some l → IsLine (Word k ∷ rest) l
-with_takes words.User rest l e = made IsLine text_arg text_tokens IsUnicode (λ s. lines.User s) words.User text_takes (λ s f. (refl, f)) rest l e
-with_takes words.Password rest l e = made IsLine text_arg text_tokens IsUnicode (λ s. lines.Password s) words.Password text_takes (λ s f. (refl, f)) rest l e
-with_takes words.Database rest l e = made IsLine text_arg text_tokens IsUnicode (λ s. lines.Database s) words.Database text_takes (λ s f. (refl, f)) rest l e
-with_takes words.Application rest l e = made IsLine text_arg text_tokens IsUnicode (λ s. lines.Application s) words.Application text_takes (λ s f. (refl, f)) rest l e
-with_takes words.Option rest l e = made IsLine pair_arg pair_tokens ArePair (λ p. lines.Option p.0 p.1) words.Option pair_takes (λ p f. (refl, f)) rest l e
-with_takes words.SslMode rest l e = made IsLine mode_arg mode_tokens anything (λ m. lines.SslMode m) words.SslMode mode_takes (λ m f. (refl, tt)) rest l e
+with_takes words.User rest l e = made IsLine text_arg text_tokens IsUnicode (λ s. lines.User s) words.User text_takes (λ s f. (nothing, refl, f)) rest l e
+with_takes words.Password rest l e = made IsLine text_arg text_tokens IsUnicode (λ s. lines.Password s) words.Password text_takes (λ s f. (nothing, refl, f)) rest l e
+with_takes words.Database rest l e = made IsLine text_arg text_tokens IsUnicode (λ s. lines.Database s) words.Database text_takes (λ s f. (nothing, refl, f)) rest l e
+with_takes words.Application rest l e = made IsLine text_arg text_tokens IsUnicode (λ s. lines.Application s) words.Application text_takes (λ s f. (nothing, refl, f)) rest l e
+with_takes words.Option rest l e = made IsLine pair_arg pair_tokens ArePair (λ p. lines.Option p.0 p.1) words.Option pair_takes (λ p f. (nothing, refl, f)) rest l e
+with_takes words.SslMode rest l e = made IsLine mode_arg mode_tokens anything (λ m. lines.SslMode m) words.SslMode mode_takes (λ m f. (nothing, refl, tt)) rest l e
 with_takes words.Digits rest l e = made IsLine digits_arg digits_tokens AreDigits (λ d. lines.Digits d) words.Digits digits_take digits_line rest l e
 with_takes words.Link rest l e = link_takes rest l e
-with_takes words.Nonce rest l e = made IsLine nonce_arg text_tokens IsNonce (λ s. lines.Nonce s) words.Nonce nonce_takes (λ s f. (refl, f)) rest l e
-with_takes words.Server rest l e = made IsLine bytes_arg text_tokens anything (λ s. lines.Server s) words.Server bytes_takes (λ s f. (refl, tt)) rest l e
-with_takes words.Wait rest l e = bare IsLine lines.Wait words.Wait (refl, tt) rest l e
-with_takes words.End rest l e = bare IsLine lines.End words.End (refl, tt) rest l e
-with_takes words.Fail rest l e = bare IsLine lines.Fail words.Fail (refl, tt) rest l e
+with_takes words.Nonce rest l e = made IsLine nonce_arg text_tokens IsNonce (λ s. lines.Nonce s) words.Nonce nonce_takes (λ s f. (nothing, refl, f)) rest l e
+with_takes words.Server rest l e = made IsLine bytes_arg text_tokens anything (λ s. lines.Server s) words.Server bytes_takes (λ s f. (nothing, refl, tt)) rest l e
+with_takes words.Wait rest l e = bare IsLine lines.Wait words.Wait (nothing, refl, tt) rest l e
+with_takes words.End rest l e = bare IsLine lines.End words.End (nothing, refl, tt) rest l e
+with_takes words.Fail rest l e = bare IsLine lines.Fail words.Fail (nothing, refl, tt) rest l e
 with_takes words.Take rest l e = take_takes rest l e
-with_takes words.Hold rest l e = bare IsLine lines.Hold words.Hold (refl, tt) rest l e
-with_takes words.Break rest l e = bare IsLine lines.Break words.Break (refl, tt) rest l e
-with_takes words.Start rest l e = made IsLine last_number number_tokens anything (λ n. lines.Start n) words.Start last_takes (λ n f. (refl, tt)) rest l e
+with_takes words.Hold rest l e = bare IsLine lines.Hold words.Hold (nothing, refl, tt) rest l e
+with_takes words.Break rest l e = bare IsLine lines.Break words.Break (nothing, refl, tt) rest l e
+with_takes words.Start rest l e = made IsLine last_number number_tokens anything (λ n. lines.Start n) words.Start last_takes (λ n f. (nothing, refl, tt)) rest l e
 with_takes words.Step rest l e = step_takes rest l e
 with_takes _ rest l e = absurd cc
 
@@ -301,27 +318,27 @@ from_takes _ l e = absurd cc
 
 -- ---- and back
 
-pub from_again : (l : Line) → LineFits l → line_from (tokens_of l) ≡ Some l
-from_again lines.Blank f = absurd f
-from_again (lines.User name) f = rw f refl
-from_again (lines.Password text) f = rw f refl
-from_again (lines.Database name) f = rw f refl
-from_again (lines.Application name) f = rw f refl
-from_again (lines.Option name value) f = rw (f.0, f.1) refl
-from_again (lines.SslMode mode) f = refl
-from_again (lines.Digits None) f = refl
-from_again (lines.Digits (Some (pos n))) f = let small : nat_le n 3 ≡ true = grind (arith, nat_tests, f) in rw small refl
-from_again (lines.Digits (Some (negsuc n))) f = absurd f
-from_again lines.LinkUpgrade f = refl
-from_again lines.LinkLocal f = refl
-from_again (lines.Nonce bytes) f = rw (nonce_passes bytes f) refl
-from_again (lines.Server bytes) f = refl
-from_again lines.Wait f = refl
-from_again lines.End f = refl
-from_again lines.Fail f = refl
-from_again (lines.Take bytes times) f = bounds_again bytes times f.0 f.1 f.2
-from_again lines.Hold f = refl
-from_again lines.Break f = refl
-from_again (lines.Start polls) f = refl
-from_again (lines.Step polls None call) f = let c = call_again call f in rw (c.plain, c.read) refl
-from_again (lines.Step polls (Some most) call) f = let c = call_again call f in rw c.read refl
+pub from_again : (asked : Asked) (l : Line) → LineFits asked l → line_from (tokens_of asked l) ≡ Some l
+from_again asked lines.Blank f = absurd f
+from_again asked (lines.User name) f = rw f refl
+from_again asked (lines.Password text) f = rw f refl
+from_again asked (lines.Database name) f = rw f refl
+from_again asked (lines.Application name) f = rw f refl
+from_again asked (lines.Option name value) f = rw (f.0, f.1) refl
+from_again asked (lines.SslMode mode) f = refl
+from_again asked (lines.Digits None) f = refl
+from_again asked (lines.Digits (Some (pos n))) f = let small : nat_le n 3 ≡ true = grind (arith, nat_tests, f) in rw small refl
+from_again asked (lines.Digits (Some (negsuc n))) f = absurd f
+from_again asked lines.LinkUpgrade f = refl
+from_again asked lines.LinkLocal f = refl
+from_again asked (lines.Nonce bytes) f = rw (nonce_passes bytes f) refl
+from_again asked (lines.Server bytes) f = refl
+from_again asked lines.Wait f = refl
+from_again asked lines.End f = refl
+from_again asked lines.Fail f = refl
+from_again asked (lines.Take bytes times) f = bounds_again bytes times f.0 f.1 f.2
+from_again asked lines.Hold f = refl
+from_again asked lines.Break f = refl
+from_again asked (lines.Start polls) f = refl
+from_again asked (lines.Step polls None call) f = let c = call_again asked call f in rw (c.plain, c.read) refl
+from_again asked (lines.Step polls (Some most) call) f = let c = call_again asked call f in rw c.read refl

@@ -3,24 +3,26 @@ use Rattle.std.proofs.Common.{ℕ, ◌≡◌, ◌+◌, ◌-◌, ◌*◌, ◌/◌
 use Rattle.std.proofs.lemmas.List.{append-nil}
 use Rattle.std.proofs.lemmas.Bool.Decides.{nat_tests}
 use Rattle.pg_script.specs.declared.token.Token.{Token}
-use Rattle.pg_script.specs.declared.token.Token.TheVariants.{Space, Word, Number, SslMode, Text}
+use Rattle.pg_script.specs.declared.token.Token.TheVariants.{Space, Word, Number, SslMode, Bare as Bareword, Text}
 use Rattle.pg_script.specs.declared.token.Keyword.{Keyword}
+use Rattle.pg_script.specs.declared.argument.Bare.{Bare}
 use Rattle.pg_script.specs.Lexing.{Mode as modes}
 use Rattle.pg_options.specs.declared.ssl_mode.PgSslMode.{PgSslMode}
 use Rattle.pg_options.specs.SslModes.{ssl_mode_from}
 use Rattle.pg_script.specs.Reading.{◌>>=◌, run}
-use Rattle.pg_script.specs.Words.{spelling_of, number_of, keyword_of, all_words, token_of, digits_after, is_digit}
+use Rattle.pg_script.specs.Words.{spelling_of, number_of, keyword_of, all_words, mode_of, begun, all_bare_words, token_of, digits_after, is_digit}
 use Rattle.pg_script.specs.Lexing.{step, finish, tokens_in, at, lexed}
 use Rattle.std.specs.Prelude.{◌&&◌, not}
 use Rattle.std.specs.List.{list_all}
-use Rattle.pg_script.specs.Grammar.{IsCharacter, IsText, IsNumber, SpellsToken, SpellsAll}
+use Rattle.pg_script.specs.Grammar.{IsCharacter, IsText, IsNumber, SpellsBare, SpellsToken, SpellsAll}
 use Rattle.pg_script.proofs.Apart.{is_word, apart}
 use Rattle.pg_script.proofs.WordLaws.{goes_on, is_one_word, word_law}
-use Rattle.pg_script.proofs.LexerTakes.{first_is}
+use Rattle.pg_script.proofs.LexerTakes.{first_is, mode_is}
+use Rattle.pg_script.proofs.BareLaws.{bare_again, bare_is_word, bare_begun, bare_no_mode}
 use Rattle.pg_script.proofs.ModeLaws.{mode_word, mode_utf8}
 use Rattle.pg_script.proofs.SpellingLaws.{none_some, unless, number_of-again, ordinary_tests, hex_value-again, byte_halves}
 use Rattle.pg_wire.proofs.Tests.{both_true, negated, guarded}
-use Rattle.pg_script.proofs.GrammarLaws.{bind_some}
+use Rattle.pg_script.proofs.Found.{bind_some}
 
 -- ---- texts
 
@@ -122,7 +124,20 @@ mode_token : (w : List ℕ) (m : PgSslMode) → ssl_mode_from w ≡ Some m → t
 unfolding token_of
 mode_token w m e = rw (no_number w (word_head w (mode_word w m e)), no_keyword_in w m (keyword_of w) refl e, mode_utf8 w m e, e) refl
 
--- a word, a number or a mode at the front of a line
+no_word_in : (b : Bare) (w : List ℕ) (o : Option Keyword) → keyword_of w ≡ o → SpellsBare b w → o ≡ None
+unfolding keyword_of
+no_word_in b w None is h = refl
+no_word_in b w (Some k) is h = absurd (bare_begun b w h (ap (begun all_bare_words) (first_is all_words w k is) ∙ (word_law k).no_bare))
+
+no_mode_in : (b : Bare) (w : List ℕ) (o : Option PgSslMode) → mode_of w ≡ o → SpellsBare b w → o ≡ None
+no_mode_in b w None is h = refl
+no_mode_in b w (Some m) is h = absurd (bare_no_mode b w m h (mode_is w m is))
+
+bare_token : (w : List ℕ) (b : Bare) → SpellsBare b w → token_of w ≡ Some (Bareword b)
+unfolding token_of
+bare_token w b h = rw (no_number w (word_head w (bare_is_word b w h)), no_word_in b w (keyword_of w) refl h, no_mode_in b w (mode_of w) refl h, bare_again b w h) refl
+
+-- a word, a number, a mode or an argument without quotes at the front of a line
 pub record IsFront (t : Token) (w : List ℕ) : Type 0 where
   pub runs : (ts : List Token) (y : List ℕ) → lexed (at ts [] modes.Word) (w ++ y) ≡ lexed (at ts w modes.Word) y
   pub head : ℕ
@@ -143,6 +158,7 @@ front : (t : Token) (w : List ℕ) → is_word t ≡ true → SpellsToken t w �
 front (Word k) w i h = subst (IsFront (Word k)) (sym h) (head_front (Word k) (spelling_of k) (word_head (spelling_of k) (word_law k).shape) (word_token k))
 front (Number n) w i h = number_front n w h
 front (SslMode m) w i h = head_front (SslMode m) w (word_head w (mode_word w m h)) (mode_token w m h)
+front (Bareword b) w i h = head_front (Bareword b) w (word_head w (bare_is_word b w h)) (bare_token w b h)
 front _ w i h = absurd cc
 
 -- ---- where a word ends: at the end, a space or a text

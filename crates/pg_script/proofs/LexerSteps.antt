@@ -12,7 +12,7 @@ use Rattle.pg_script.specs.declared.error.LineError.TheVariants as errors
 use Rattle.pg_script.specs.Reading.{◌>>=◌, run, Fails}
 use Rattle.pg_script.specs.Lexing.{step, finish, hex_value, coded, escaped, character, after, ends_word, at, lexed, after_word, EndsHere, EndsWord}
 use Rattle.pg_script.specs.Lexing.{Mode as modes}
-use Rattle.pg_script.proofs.GrammarLaws.{bind_some}
+use Rattle.pg_script.proofs.Found.{bind_some}
 use Rattle.pg_wire.proofs.Tests.{chosen, guarded}
 
 -- ---- one character of a text

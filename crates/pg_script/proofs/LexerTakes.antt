@@ -7,19 +7,21 @@ use Rattle.std.proofs.lemmas.Bool.{eqb-true}
 use Rattle.pg_script.specs.declared.token.Token.{Token}
 use Rattle.pg_script.specs.declared.token.Token.TheVariants as tokens
 use Rattle.pg_script.specs.declared.token.Keyword.{Keyword}
+use Rattle.pg_script.specs.declared.argument.Bare.{Bare}
 use Rattle.pg_script.specs.Lexing.{Mode}
 use Rattle.pg_script.specs.Lexing.{Mode as modes}
 use Rattle.pg_options.specs.declared.ssl_mode.PgSslMode.{PgSslMode}
 use Rattle.pg_options.specs.SslModes.{ssl_mode_from}
 use Rattle.pg_script.specs.Reading.{run}
 use Rattle.pg_script.specs.Arguments.{text_in}
-use Rattle.pg_script.specs.Words.{spelling_of, number_of, first_of, keyword_of, keyword_among, all_words, mode_of, token_of}
+use Rattle.pg_script.specs.Words.{spelling_of, number_of, first_of, keyword_of, keyword_among, all_words, mode_of, bare_of, token_of}
 use Rattle.pg_script.specs.Lexing.{LexerState, start_state, hex_value, word_in, with_byte, with_mode, step_word, step_text, step_escape, step_digit, step_in, step, finish_in, finish, tokens_in, at}
 use Rattle.pg_script.specs.Grammar.{IsCharacter, IsText, SpellsToken, SpellsAll}
 use Rattle.pg_script.proofs.SpellingLaws.{none_some, bytes_eq-is, number_of-takes, ordinary_from, hex_pair-takes}
 use Rattle.pg_wire.proofs.Tests.{chosen, guarded}
 use Rattle.std.proofs.lemmas.Option.{same_Some}
-use Rattle.pg_script.proofs.GrammarLaws.{bind_some}
+use Rattle.pg_script.proofs.Found.{bind_some}
+use Rattle.pg_script.proofs.BareLaws.{bare_takes}
 
 -- ---- words
 
@@ -33,22 +35,23 @@ pub first_is : (ks : List Keyword) (w : List ℕ) (k : Keyword) → keyword_amon
 first_is [] w k e = absurd cc
 first_is (j ∷ ks) w k e = first_next j ks w k (first_is ks w k) e
 
-mode_is : (w : List ℕ) (m : PgSslMode) → mode_of w ≡ Some m → ssl_mode_from w ≡ Some m
+pub mode_is : (w : List ℕ) (m : PgSslMode) → mode_of w ≡ Some m → ssl_mode_from w ≡ Some m
 mode_is w m e =
     let b = bind_some (text_in w) ssl_mode_from m e in
     ap ssl_mode_from (same_Some w b.0 (guarded (is_utf8 w) (Some w) b.0 b.1).1) ∙ b.2
 
-word_is : (o : Option ℕ) (p : Option Keyword) (w : List ℕ) (t : Token) → number_of w ≡ o → keyword_of w ≡ p → first_of o p (mode_of w) ≡ Some t → SpellsToken t w
+word_is : (o : Option ℕ) (p : Option Keyword) (q : Option PgSslMode) (r : Option Bare) (w : List ℕ) (t : Token)
+    → number_of w ≡ o → keyword_of w ≡ p → mode_of w ≡ q → bare_of w ≡ r → first_of o p q r ≡ Some t → SpellsToken t w
 unfolding keyword_of
-word_is (Some n) p w t is also e = subst (λ (u : Token). SpellsToken u w) (same_Some (tokens.Number n) t e) (number_of-takes w n is)
-word_is None (Some k) w t is also e = subst (λ (u : Token). SpellsToken u w) (same_Some (tokens.Word k) t e) (first_is all_words w k also)
-word_is None None w t is also e =
-    let b = bind_some (mode_of w) (λ (m : PgSslMode). Some (tokens.SslMode m)) t e in
-    subst (λ (u : Token). SpellsToken u w) (same_Some (tokens.SslMode b.0) t b.2) (mode_is w b.0 b.1)
+word_is (Some n) p q r w t is also mode bare e = subst (λ (u : Token). SpellsToken u w) (same_Some (tokens.Number n) t e) (number_of-takes w n is)
+word_is None (Some k) q r w t is also mode bare e = subst (λ (u : Token). SpellsToken u w) (same_Some (tokens.Word k) t e) (first_is all_words w k also)
+word_is None None (Some m) r w t is also mode bare e = subst (λ (u : Token). SpellsToken u w) (same_Some (tokens.SslMode m) t e) (mode_is w m mode)
+word_is None None None (Some b) w t is also mode bare e = subst (λ (u : Token). SpellsToken u w) (same_Some (tokens.Bare b) t e) (bare_takes w b bare)
+word_is None None None None w t is also mode bare e = absurd cc
 
 token_is : (w : List ℕ) (t : Token) → token_of w ≡ Some t → SpellsToken t w
 unfolding token_of
-token_is w t e = word_is (number_of w) (keyword_of w) w t refl refl e
+token_is w t e = word_is (number_of w) (keyword_of w) (mode_of w) (bare_of w) w t refl refl refl refl e
 
 -- ---- one more at the end
 

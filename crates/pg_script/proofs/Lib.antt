@@ -1,3 +1,7 @@
+pub mod Found
+pub mod BareLaws
+pub mod AskedLaws
+pub mod GivenLaws
 pub mod TextLaws
 pub mod LineLaws
 pub mod ReadLaws

@@ -8,7 +8,7 @@ use Rattle.pg_script.specs.declared.step.Step.{Step}
 use Rattle.pg_script.specs.Lines.{line_in}
 use Rattle.pg_script.specs.Scripts.{add_allowed, add_line, empty_script, lines_of, read_from, read_next, read_text, set_once, with_step, whole, live_part}
 use Rattle.std.proofs.lemmas.Option.{same_Some}
-use Rattle.pg_script.proofs.GrammarLaws.{bind_some}
+use Rattle.pg_script.proofs.Found.{bind_some}
 
 -- it is whole by its part that is live
 abbrev pub IsWhole : Script → Type 0

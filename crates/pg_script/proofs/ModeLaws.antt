@@ -1,5 +1,5 @@
 -- The names of modes, in any case, are words of ASCII.
-use Rattle.std.proofs.Common.{ℕ, ◌≡◌, ◌∷◌, [], List, Some, Bool, true, false, cond, nat_eq, nat_le, map, refl, ap, ◌∙◌, arith, inl, inr}
+use Rattle.std.proofs.Common.{ℕ, ◌≡◌, ◌∷◌, ◌++◌, [], List, Some, Bool, true, false, cond, nat_eq, nat_le, map, refl, ap, ◌∙◌, arith, inl, inr}
 use Rattle.std.specs.Prelude.{◌&&◌, not, bytes_eq}
 use Rattle.std.specs.Char.{to_ascii_lowercase}
 use Rattle.std.specs.List.{list_all}
@@ -10,15 +10,17 @@ use Rattle.std.proofs.lemmas.Str.Ascii.{IsAscii-nil, IsAscii-cons}
 use Rattle.pg_options.specs.declared.ssl_mode.PgSslMode.{PgSslMode}
 use Rattle.pg_options.specs.declared.ssl_mode.PgSslMode.TheVariants as modes
 use Rattle.pg_options.specs.SslModes.{ssl_mode_from, ssl_mode_name, mode_named, ssl_modes}
-use Rattle.pg_script.specs.Words.{is_digit}
+use Rattle.pg_script.specs.declared.token.BareWord.{BareWord}
+use Rattle.pg_script.specs.declared.token.BareWord.TheVariants as bare_words
+use Rattle.pg_script.specs.Words.{is_digit, bare_spelling}
 use Rattle.pg_script.proofs.WordLaws.{goes_on, is_one_word}
 use Rattle.pg_script.proofs.SpellingLaws.{bytes_eq-is}
 use Rattle.pg_wire.proofs.Tests.{both_true, chosen}
 use Rattle.std.proofs.lemmas.Option.{same_Some}
 
--- a hyphen or a letter, and what stands between them but for digits
+-- a hyphen or a letter, and what stands between them but for digits and a colon
 abbrev is_letter : ℕ → Bool
-is_letter b = not (is_digit b) && (nat_le 45 b && nat_le b 122)
+is_letter b = (not (is_digit b) && not (nat_eq b 58)) && (nat_le 45 b && nat_le b 122)
 
 named_next : (m : PgSslMode) (ms : List PgSslMode) (name : List ℕ) (k : PgSslMode) → (mode_named name ms ≡ Some k → name ≡ ssl_mode_name k) → cond (bytes_eq name (ssl_mode_name m)) (Some m) (mode_named name ms) ≡ Some k → name ≡ ssl_mode_name k
 named_next m ms name k h e = elim (chosen (bytes_eq name (ssl_mode_name m)) (Some m) (mode_named name ms) (Some k) e) [
@@ -83,3 +85,16 @@ mode_word (b ∷ w) m e = letters_word b w (letters (b ∷ w) m e)
 
 pub mode_utf8 : (w : List ℕ) (m : PgSslMode) → ssl_mode_from w ≡ Some m → is_utf8 w ≡ true
 mode_utf8 w m e = is_utf8-from_IsUtf8 w (IsUtf8-from_ascii w (letters_ascii w (letters w m e)))
+
+-- and no argument that stands without quotes
+pub no_mode : (k : BareWord) (d : List ℕ) (m : PgSslMode) → ssl_mode_from (bare_spelling k ++ d) ≡ Some m → ⊥
+no_mode k d m e = by k (letters (bare_spelling k ++ d) m e)
+  where
+    by : (k : BareWord) → list_all is_letter (bare_spelling k ++ d) ≡ true → ⊥
+    by bare_words.Null h = cc
+    by bare_words.Bool h = cc
+    by bare_words.Int2 h = cc
+    by bare_words.Int4 h = cc
+    by bare_words.Int8 h = cc
+    by bare_words.Oid h = cc
+    by bare_words.Int4s h = cc

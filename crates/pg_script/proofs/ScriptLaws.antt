@@ -18,10 +18,11 @@ use Rattle.pg_script.specs.Words.{spelling_of}
 use Rattle.pg_script.specs.Lexing.{tokens_in}
 use Rattle.pg_script.specs.Lines.{line_from, line_in}
 use Rattle.pg_script.specs.Scripts.{add_allowed, add_line, empty_script, lines_of, read_from, read_next, read_text, ReadsAs}
-use Rattle.pg_script.specs.Grammar.{tokens_of, LineFits, SpellsAll, SpellsLine, AreLines, Adds, FirstBad, IsScript, IsBadLine, SaysOf, ReadsOf, RefusesOf}
+use Rattle.pg_script.specs.Grammar.{Asked, tokens_of, LineFits, SpellsAll, SpellsLine, AreLines, Adds, FirstBad, IsScript, IsBadLine, SaysOf, ReadsOf, RefusesOf}
 use Rattle.pg_script.proofs.Apart.{apart}
 use Rattle.pg_script.proofs.WordLaws.{word_law}
-use Rattle.pg_script.proofs.GrammarLaws.{call_again, from_takes, from_again, bind_some}
+use Rattle.pg_script.proofs.GrammarLaws.{call_again, from_takes, from_again}
+use Rattle.pg_script.proofs.Found.{bind_some}
 use Rattle.pg_script.proofs.SpellingLaws.{none_some}
 use Rattle.pg_script.proofs.LexerTakes.{lexer_takes}
 use Rattle.pg_script.proofs.LexerAgain.{HasHead, word_head, lexer_again}
@@ -31,15 +32,15 @@ use Rattle.std.proofs.lemmas.Option.{same_Some}
 
 -- ---- one line
 
-spells : (l : Line) (a : List ℕ) → LineFits l → SpellsAll (tokens_of l) a → SpellsLine l a
-spells lines.Blank a f s = absurd f
-spells l a f s = (f, s)
+spells : (asked : Asked) (l : Line) (a : List ℕ) → LineFits asked l → SpellsAll (tokens_of asked l) a → SpellsLine l a
+spells asked lines.Blank a f s = absurd f
+spells asked l a f s = (asked, f, s)
 
 tokens_take : (a : List ℕ) (l : Line) → (tokens_in a >>= line_from) ≡ Some l → SpellsLine l a
 tokens_take a l e =
     let b = bind_some (tokens_in a) line_from l e in
     let t = from_takes b.0 l b.2 in
-    spells l a t.1 (subst (λ (ts : List Token). SpellsAll ts a) t.0 (lexer_takes a b.0 b.1))
+    spells t.0 l a t.2 (subst (λ (ts : List Token). SpellsAll ts a) t.1 (lexer_takes a b.0 b.1))
 
 pub line_takes : (a : List ℕ) (l : Line) → line_in a ≡ Some l → SpellsLine l a
 line_takes [] l e = subst (λ (m : Line). SpellsLine m []) (same_Some lines.Blank l e) (inl refl)
@@ -57,12 +58,12 @@ begins_in w y h = rw h.is (rw h.no_comment refl)
 begins : (k : Keyword) (y : List ℕ) → line_in (spelling_of k ++ y) ≡ (tokens_in (spelling_of k ++ y) >>= line_from)
 begins k y = begins_in (spelling_of k) y (word_head (spelling_of k) (word_law k).shape)
 
-word_again : (l : Line) (k : Keyword) (ts : List Token) (a : List ℕ) → tokens_of l ≡ Word k ∷ ts → LineFits l → apart (tokens_of l) ≡ true → SpellsAll (tokens_of l) a → line_in a ≡ Some l
-word_again l k ts a e f p s =
+word_again : (asked : Asked) (l : Line) (k : Keyword) (ts : List Token) (a : List ℕ) → tokens_of asked l ≡ Word k ∷ ts → LineFits asked l → apart (tokens_of asked l) ≡ true → SpellsAll (tokens_of asked l) a → line_in a ≡ Some l
+word_again asked l k ts a e f p s =
     let s' : SpellsAll (Word k ∷ ts) a = subst (λ (us : List Token). SpellsAll us a) e s in
     let a-is : a ≡ spelling_of k ++ s'.1 = s'.4 ∙ ap (λ (x : List ℕ). x ++ s'.1) s'.2 in
     let whole : line_in a ≡ (tokens_in a >>= line_from) = subst (λ (x : List ℕ). line_in x ≡ (tokens_in x >>= line_from)) (sym a-is) (begins k s'.1) in
-    whole ∙ ap (λ (o : Option (List Token)). o >>= line_from) (lexer_again (tokens_of l) a s p) ∙ from_again l f
+    whole ∙ ap (λ (o : Option (List Token)). o >>= line_from) (lexer_again (tokens_of asked l) a s p) ∙ from_again asked l f
 
 comment : (a rest : List ℕ) → a ≡ 35 ∷ rest → is_utf8 a ≡ true → line_in a ≡ Some lines.Blank
 comment a rest e u = let v : is_utf8 (35 ∷ rest) ≡ true = rw e at u in rw (e, v) refl
@@ -70,12 +71,12 @@ comment a rest e u = let v : is_utf8 (35 ∷ rest) ≡ true = rw e at u in rw (e
 pub line_again : (l : Line) (a : List ℕ) → SpellsLine l a → line_in a ≡ Some l
 line_again lines.Blank a (inl e) = rw e refl
 line_again lines.Blank a (inr s) = comment a s.0 s.1 s.2
-line_again (lines.Step n None c) a s = word_again (lines.Step n None c) _ _ a refl s.0 (call_again c s.0).parts s.1
-line_again (lines.Step n (Some m) c) a s = word_again (lines.Step n (Some m) c) _ _ a refl s.0 (call_again c s.0).parts s.1
-line_again (lines.Digits None) a s = word_again (lines.Digits None) _ _ a refl s.0 refl s.1
-line_again (lines.Digits (Some (pos n))) a s = word_again (lines.Digits (Some (pos n))) _ _ a refl s.0 refl s.1
-line_again (lines.Digits (Some (negsuc n))) a s = absurd s.0
-line_again l a s = word_again l _ _ a refl s.0 refl s.1
+line_again (lines.Step n None c) a s = word_again s.0 (lines.Step n None c) _ _ a refl s.1 (call_again s.0 c s.1).parts s.2
+line_again (lines.Step n (Some m) c) a s = word_again s.0 (lines.Step n (Some m) c) _ _ a refl s.1 (call_again s.0 c s.1).parts s.2
+line_again (lines.Digits None) a s = word_again s.0 (lines.Digits None) _ _ a refl s.1 refl s.2
+line_again (lines.Digits (Some (pos n))) a s = word_again s.0 (lines.Digits (Some (pos n))) _ _ a refl s.1 refl s.2
+line_again (lines.Digits (Some (negsuc n))) a s = absurd s.1
+line_again l a s = word_again s.0 l _ _ a refl s.1 refl s.2
 
 -- ---- what is read
 

@@ -14,7 +14,7 @@ use Rattle.pg_script.specs.Lexing.{hex_value}
 use Rattle.pg_script.specs.Grammar.{IsNumber, IsOrdinary}
 use Rattle.pg_wire.proofs.Tests.{chosen, guarded}
 use Rattle.std.proofs.lemmas.Option.{same_Some}
-use Rattle.pg_script.proofs.GrammarLaws.{bind_some}
+use Rattle.pg_script.proofs.Found.{bind_some}
 
 pub none_some : {A : Type 0} (x : A) → None ≡ Some x → ⊥
 none_some x e = cc
@@ -40,7 +40,7 @@ is_digit-value b e =
 is_digit-from : (b : ℕ) → digit_value b < 10 → is_digit b ≡ true
 is_digit-from b h = let r = digit_from_value b h in grind (arith, nat_tests, r.0, r.1)
 
-digits_take : (w : List ℕ) (n m : ℕ) → digits_after n w ≡ Some m → AllDigits 10 w × (digits_value_after 10 n w ≡ m)
+pub digits_take : (w : List ℕ) (n m : ℕ) → digits_after n w ≡ Some m → AllDigits 10 w × (digits_value_after 10 n w ≡ m)
 digits_take [] n m e = (tt, same_Some n m e)
 digits_take (b ∷ w) n m e =
     let g = guarded (is_digit b) (digits_after (n * 10 + (b - 48)) w) m e in
@@ -48,7 +48,7 @@ digits_take (b ∷ w) n m e =
     let t = digits_take w (n * 10 + (b - 48)) m g.1 in
     ((d.1, t.0), ap (λ (v : ℕ). digits_value_after 10 (n * 10 + v) w) d.0 ∙ t.1)
 
-digits_again : (w : List ℕ) (n : ℕ) → AllDigits 10 w → digits_after n w ≡ Some (digits_value_after 10 n w)
+pub digits_again : (w : List ℕ) (n : ℕ) → AllDigits 10 w → digits_after n w ≡ Some (digits_value_after 10 n w)
 digits_again [] n h = refl
 digits_again (b ∷ w) n h =
     let is = is_digit-from b h.0 in

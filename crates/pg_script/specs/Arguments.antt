@@ -1,7 +1,6 @@
 -- What stands behind a word, read from its tokens.
 use Rattle.std.specs.Prelude.{◌∷◌, [], List, ℕ, ℤ, pos, Option, Some, None, nat_le, if◌then◌else◌}
 use Rattle.std.specs.Str.{is_utf8}
-use Rattle.pg_request.specs.Queries.{QueryText}
 use Rattle.pg_script.specs.declared.token.Token.{Token}
 use Rattle.pg_script.specs.declared.token.Token.TheVariants.{Space, Word, Number, SslMode, Text}
 use Rattle.pg_script.specs.declared.token.Keyword.TheVariants as words
@@ -57,12 +56,3 @@ abbrev pub digits_arg : List Token → Option (Option ℤ)
 digits_arg (Space ∷ Word words.None ∷ []) = Some None
 digits_arg (Space ∷ Number n ∷ []) = digit_in n >>= λ digit. Some (Some digit)
 digits_arg _ = None
-
--- a text of SQL
-abbrev pub query_arg : List Token → Option QueryText
-query_arg ts = text_arg ts >>= λ sql. Some (record { sql = sql })
-
--- the same behind the word `raw`
-abbrev pub raw_arg : List Token → Option QueryText
-raw_arg (Space ∷ Word words.Raw ∷ rest) = query_arg rest
-raw_arg _ = None

@@ -1,12 +1,16 @@
 -- The grammar of a script: how its lines, and the tokens of a line, are spelled.
-use Rattle.std.specs.Prelude.{ℕ, pos, negsuc, ◌≡◌, ◌≢◌, ◌+◌, ◌/◌, ◌%◌, ◌^◌, ◌≤◌, ◌<◌, ◌∷◌, ◌++◌, ◌⊎◌, [], List, Some, None, Result, Ok, Err, nat_eq, length, IsTrue, IsFalse}
+use Rattle.std.specs.Prelude.{ℕ, ℤ, pos, negsuc, neg_ℤ, true, false, codes, ◌≡◌, ◌≢◌, ◌+◌, ◌/◌, ◌%◌, ◌^◌, ◌≤◌, ◌<◌, ◌∷◌, ◌++◌, ◌⊎◌, [], List, Some, None, Result, Ok, Err, nat_eq, length, IsTrue, IsFalse}
 use Rattle.std.specs.Char.{digit_char}
-use Rattle.std.specs.List.{list_any}
+use Rattle.std.specs.List.{AllByRecursion, list_any}
 use Rattle.std.specs.Str.{is_utf8}
 use Rattle.std.specs.Str.Parse.{IsNumeral, digits_value}
-use Rattle.pg_request.specs.Queries.{QueryText}
+use Rattle.pg_request.specs.Queries.{QueryText, plain_text}
+use Rattle.pg_script.specs.declared.argument.Bare.{Bare}
+use Rattle.pg_script.specs.declared.argument.Bare.TheVariants as bare
+use Rattle.pg_script.specs.declared.argument.Argument.{Argument}
+use Rattle.pg_script.specs.declared.argument.Argument.TheVariants as given
 use Rattle.pg_script.specs.declared.token.Token.{Token}
-use Rattle.pg_script.specs.declared.token.Token.TheVariants.{Space, Word, Number, SslMode, Text}
+use Rattle.pg_script.specs.declared.token.Token.TheVariants.{Space, Word, Number, SslMode, Bare as Bareword, Text}
 use Rattle.pg_script.specs.declared.token.Keyword.TheVariants as words
 use Rattle.pg_script.specs.declared.token.CallWord.TheVariants as call_words
 use Rattle.pg_script.specs.declared.step.Call.{Call}
@@ -19,60 +23,88 @@ use Rattle.pg_script.specs.declared.script.Script.{Script}
 use Rattle.pg_script.specs.declared.live.LiveScript.{LiveScript}
 use Rattle.pg_options.specs.SslModes.{ssl_mode_from}
 use Rattle.pg_script.specs.Words.{spelling_of}
+use Rattle.pg_script.specs.Given.{once_query}
 use Rattle.pg_script.specs.Nonces.{IsNonce}
 use Rattle.pg_script.specs.Scripts.{add_allowed, as_script, empty_script}
 use Rattle.pg_script.specs.declared.error.ReadError.{ReadError}
 use Rattle.pg_script.specs.declared.error.ReadError.TheVariants as errors
 
+-- ---- what the calls with a query run: a text alone behind the word `raw`, or one with arguments behind the word `once`
+
+pub data Asked : Type 0 where
+  Raw : List ℕ → Asked
+  Once : List ℕ → List Argument → Asked
+
+-- texts between commas
+abbrev pub comma_tokens : List (List ℕ) → List Token
+comma_tokens [] = []
+comma_tokens (s ∷ more) = Word words.Comma ∷ Text s ∷ comma_tokens more
+
+abbrev pub text_tokens : List (List ℕ) → List Token
+text_tokens [] = []
+text_tokens (s ∷ more) = Text s ∷ comma_tokens more
+
+abbrev pub argument_tokens : Argument → List Token
+argument_tokens (given.Bare b) = Bareword b ∷ []
+argument_tokens (given.Text s) = Word words.Text ∷ Text s ∷ []
+argument_tokens (given.Bytea s) = Word words.Bytea ∷ Text s ∷ []
+argument_tokens (given.Texts texts) = Word words.Texts ∷ text_tokens texts
+
+abbrev pub arguments_tokens : List Argument → List Token
+arguments_tokens [] = []
+arguments_tokens (a ∷ more) = Space ∷ argument_tokens a ++ arguments_tokens more
+
+abbrev pub query_tokens : List ℕ → List Token
+query_tokens sql = Space ∷ Text sql ∷ []
+
+abbrev pub asked_tokens : Asked → List Token
+asked_tokens (Raw sql) = Space ∷ Word words.Raw ∷ query_tokens sql
+asked_tokens (Once sql arguments) = Space ∷ Word words.Once ∷ Space ∷ Text sql ∷ arguments_tokens arguments
+
 -- ---- lines as tokens: one row a line
 
-abbrev pub query_tokens : QueryText → List Token
-query_tokens query = Space ∷ Text query.sql ∷ []
-
-abbrev pub raw_tokens : QueryText → List Token
-raw_tokens query = Space ∷ Word words.Raw ∷ query_tokens query
-
-abbrev pub call_tokens : Call → List Token
-call_tokens (calls.Execute query) = Word (words.Call call_words.Execute) ∷ raw_tokens query
-call_tokens (calls.ExecuteMany query) = Word (words.Call call_words.ExecuteMany) ∷ raw_tokens query
-call_tokens (calls.Fetch query) = Word (words.Call call_words.Fetch) ∷ raw_tokens query
-call_tokens (calls.FetchMany query) = Word (words.Call call_words.FetchMany) ∷ raw_tokens query
-call_tokens (calls.FetchAll query) = Word (words.Call call_words.FetchAll) ∷ raw_tokens query
-call_tokens (calls.FetchOptional query) = Word (words.Call call_words.FetchOptional) ∷ raw_tokens query
-call_tokens (calls.FetchOne query) = Word (words.Call call_words.FetchOne) ∷ raw_tokens query
-call_tokens calls.Ping = Word (words.Call call_words.Ping) ∷ []
-call_tokens calls.Flush = Word (words.Call call_words.Flush) ∷ []
-call_tokens calls.Begin = Word (words.Call call_words.Begin) ∷ []
-call_tokens (calls.BeginWith query) = Word (words.Call call_words.BeginWith) ∷ query_tokens query
-call_tokens calls.Commit = Word (words.Call call_words.Commit) ∷ []
-call_tokens calls.Rollback = Word (words.Call call_words.Rollback) ∷ []
-call_tokens calls.StartRollback = Word (words.Call call_words.StartRollback) ∷ []
+abbrev pub call_tokens : Asked → Call → List Token
+call_tokens asked (calls.Execute query) = Word (words.Call call_words.Execute) ∷ asked_tokens asked
+call_tokens asked (calls.ExecuteMany query) = Word (words.Call call_words.ExecuteMany) ∷ asked_tokens asked
+call_tokens asked (calls.Fetch query) = Word (words.Call call_words.Fetch) ∷ asked_tokens asked
+call_tokens asked (calls.FetchMany query) = Word (words.Call call_words.FetchMany) ∷ asked_tokens asked
+call_tokens asked (calls.FetchAll query) = Word (words.Call call_words.FetchAll) ∷ asked_tokens asked
+call_tokens asked (calls.FetchOptional query) = Word (words.Call call_words.FetchOptional) ∷ asked_tokens asked
+call_tokens asked (calls.FetchOne query) = Word (words.Call call_words.FetchOne) ∷ asked_tokens asked
+call_tokens asked calls.Ping = Word (words.Call call_words.Ping) ∷ []
+call_tokens asked calls.Flush = Word (words.Call call_words.Flush) ∷ []
+call_tokens asked calls.Begin = Word (words.Call call_words.Begin) ∷ []
+call_tokens asked (calls.BeginWith query) = Word (words.Call call_words.BeginWith) ∷ query_tokens query.sql
+call_tokens asked calls.Commit = Word (words.Call call_words.Commit) ∷ []
+call_tokens asked calls.Rollback = Word (words.Call call_words.Rollback) ∷ []
+call_tokens asked calls.StartRollback = Word (words.Call call_words.StartRollback) ∷ []
+call_tokens asked _ = []
 
 -- digits below 0 have no spelling (`LineFits` has none of them)
-abbrev pub tokens_of : Line → List Token
-tokens_of lines.Blank = []
-tokens_of (lines.User name) = Word words.User ∷ Space ∷ Text name ∷ []
-tokens_of (lines.Password text) = Word words.Password ∷ Space ∷ Text text ∷ []
-tokens_of (lines.Database name) = Word words.Database ∷ Space ∷ Text name ∷ []
-tokens_of (lines.Application name) = Word words.Application ∷ Space ∷ Text name ∷ []
-tokens_of (lines.Option name value) = Word words.Option ∷ Space ∷ Text name ∷ Space ∷ Text value ∷ []
-tokens_of (lines.SslMode mode) = Word words.SslMode ∷ Space ∷ SslMode mode ∷ []
-tokens_of (lines.Digits None) = Word words.Digits ∷ Space ∷ Word words.None ∷ []
-tokens_of (lines.Digits (Some (pos n))) = Word words.Digits ∷ Space ∷ Number n ∷ []
-tokens_of (lines.Digits (Some (negsuc n))) = []
-tokens_of lines.LinkUpgrade = Word words.Link ∷ Space ∷ Word words.Upgrade ∷ []
-tokens_of lines.LinkLocal = Word words.Link ∷ Space ∷ Word words.Local ∷ []
-tokens_of (lines.Nonce bytes) = Word words.Nonce ∷ Space ∷ Text bytes ∷ []
-tokens_of (lines.Server bytes) = Word words.Server ∷ Space ∷ Text bytes ∷ []
-tokens_of lines.Wait = Word words.Wait ∷ []
-tokens_of lines.End = Word words.End ∷ []
-tokens_of lines.Fail = Word words.Fail ∷ []
-tokens_of (lines.Take bytes times) = Word words.Take ∷ Space ∷ Number bytes ∷ Space ∷ Number times ∷ []
-tokens_of lines.Hold = Word words.Hold ∷ []
-tokens_of lines.Break = Word words.Break ∷ []
-tokens_of (lines.Start polls) = Word words.Start ∷ Space ∷ Number polls ∷ []
-tokens_of (lines.Step polls None call) = Word words.Step ∷ Space ∷ Number polls ∷ Space ∷ call_tokens call
-tokens_of (lines.Step polls (Some most) call) = Word words.Step ∷ Space ∷ Number polls ∷ Space ∷ Word words.Most ∷ Space ∷ Number most ∷ Space ∷ call_tokens call
+abbrev pub tokens_of : Asked → Line → List Token
+tokens_of asked lines.Blank = []
+tokens_of asked (lines.User name) = Word words.User ∷ Space ∷ Text name ∷ []
+tokens_of asked (lines.Password text) = Word words.Password ∷ Space ∷ Text text ∷ []
+tokens_of asked (lines.Database name) = Word words.Database ∷ Space ∷ Text name ∷ []
+tokens_of asked (lines.Application name) = Word words.Application ∷ Space ∷ Text name ∷ []
+tokens_of asked (lines.Option name value) = Word words.Option ∷ Space ∷ Text name ∷ Space ∷ Text value ∷ []
+tokens_of asked (lines.SslMode mode) = Word words.SslMode ∷ Space ∷ SslMode mode ∷ []
+tokens_of asked (lines.Digits None) = Word words.Digits ∷ Space ∷ Word words.None ∷ []
+tokens_of asked (lines.Digits (Some (pos n))) = Word words.Digits ∷ Space ∷ Number n ∷ []
+tokens_of asked (lines.Digits (Some (negsuc n))) = []
+tokens_of asked lines.LinkUpgrade = Word words.Link ∷ Space ∷ Word words.Upgrade ∷ []
+tokens_of asked lines.LinkLocal = Word words.Link ∷ Space ∷ Word words.Local ∷ []
+tokens_of asked (lines.Nonce bytes) = Word words.Nonce ∷ Space ∷ Text bytes ∷ []
+tokens_of asked (lines.Server bytes) = Word words.Server ∷ Space ∷ Text bytes ∷ []
+tokens_of asked lines.Wait = Word words.Wait ∷ []
+tokens_of asked lines.End = Word words.End ∷ []
+tokens_of asked lines.Fail = Word words.Fail ∷ []
+tokens_of asked (lines.Take bytes times) = Word words.Take ∷ Space ∷ Number bytes ∷ Space ∷ Number times ∷ []
+tokens_of asked lines.Hold = Word words.Hold ∷ []
+tokens_of asked lines.Break = Word words.Break ∷ []
+tokens_of asked (lines.Start polls) = Word words.Start ∷ Space ∷ Number polls ∷ []
+tokens_of asked (lines.Step polls None call) = Word words.Step ∷ Space ∷ Number polls ∷ Space ∷ call_tokens asked call
+tokens_of asked (lines.Step polls (Some most) call) = Word words.Step ∷ Space ∷ Number polls ∷ Space ∷ Word words.Most ∷ Space ∷ Number most ∷ Space ∷ call_tokens asked call
 
 -- ---- which values a line may have
 
@@ -80,38 +112,50 @@ tokens_of (lines.Step polls (Some most) call) = Word words.Step ∷ Space ∷ Nu
 abbrev pub IsUnicode : List ℕ → Type 0
 IsUnicode s = IsTrue (is_utf8 s)
 
+abbrev pub ArgumentFits : Argument → Type 0
+ArgumentFits (given.Bare b) = Unit {0}
+ArgumentFits (given.Text s) = IsUnicode s
+ArgumentFits (given.Bytea s) = Unit {0}
+ArgumentFits (given.Texts texts) = AllByRecursion IsUnicode texts
+
 abbrev pub QueryFits : QueryText → Type 0
-QueryFits query = IsUnicode query.sql
+QueryFits query = IsUnicode query.sql × (query ≡ plain_text query.sql)
 
-abbrev pub CallFits : Call → Type 0
-CallFits (calls.Execute query) = QueryFits query
-CallFits (calls.ExecuteMany query) = QueryFits query
-CallFits (calls.Fetch query) = QueryFits query
-CallFits (calls.FetchMany query) = QueryFits query
-CallFits (calls.FetchAll query) = QueryFits query
-CallFits (calls.FetchOptional query) = QueryFits query
-CallFits (calls.FetchOne query) = QueryFits query
-CallFits calls.Ping = Unit {0}
-CallFits calls.Flush = Unit {0}
-CallFits calls.Begin = Unit {0}
-CallFits (calls.BeginWith query) = QueryFits query
-CallFits calls.Commit = Unit {0}
-CallFits calls.Rollback = Unit {0}
-CallFits calls.StartRollback = Unit {0}
+-- the query is what is asked; an argument whose encoding has more than 2147483647 bytes makes none
+abbrev pub AskedFits : Asked → QueryText → Type 0
+AskedFits (Raw sql) query = IsUnicode sql × (query ≡ plain_text sql)
+AskedFits (Once sql arguments) query = IsUnicode sql × AllByRecursion ArgumentFits arguments × (once_query sql arguments ≡ Some query)
 
-abbrev pub LineFits : Line → Type 0
-LineFits lines.Blank = ⊥
-LineFits (lines.User name) = IsUnicode name
-LineFits (lines.Password text) = IsUnicode text
-LineFits (lines.Database name) = IsUnicode name
-LineFits (lines.Application name) = IsUnicode name
-LineFits (lines.Option name value) = IsUnicode name × IsUnicode value
-LineFits (lines.Digits (Some (pos n))) = n ≤ 3
-LineFits (lines.Digits (Some (negsuc n))) = ⊥
-LineFits (lines.Nonce bytes) = IsNonce bytes
-LineFits (lines.Take bytes times) = (1 ≤ bytes) × (1 ≤ times) × (times ≤ 1000000)
-LineFits (lines.Step polls most call) = CallFits call
-LineFits _ = Unit {0}
+abbrev pub CallFits : Asked → Call → Type 0
+CallFits asked (calls.Execute query) = AskedFits asked query
+CallFits asked (calls.ExecuteMany query) = AskedFits asked query
+CallFits asked (calls.Fetch query) = AskedFits asked query
+CallFits asked (calls.FetchMany query) = AskedFits asked query
+CallFits asked (calls.FetchAll query) = AskedFits asked query
+CallFits asked (calls.FetchOptional query) = AskedFits asked query
+CallFits asked (calls.FetchOne query) = AskedFits asked query
+CallFits asked calls.Ping = Unit {0}
+CallFits asked calls.Flush = Unit {0}
+CallFits asked calls.Begin = Unit {0}
+CallFits asked (calls.BeginWith query) = QueryFits query
+CallFits asked calls.Commit = Unit {0}
+CallFits asked calls.Rollback = Unit {0}
+CallFits asked calls.StartRollback = Unit {0}
+CallFits asked _ = ⊥
+
+abbrev pub LineFits : Asked → Line → Type 0
+LineFits asked lines.Blank = ⊥
+LineFits asked (lines.User name) = IsUnicode name
+LineFits asked (lines.Password text) = IsUnicode text
+LineFits asked (lines.Database name) = IsUnicode name
+LineFits asked (lines.Application name) = IsUnicode name
+LineFits asked (lines.Option name value) = IsUnicode name × IsUnicode value
+LineFits asked (lines.Digits (Some (pos n))) = n ≤ 3
+LineFits asked (lines.Digits (Some (negsuc n))) = ⊥
+LineFits asked (lines.Nonce bytes) = IsNonce bytes
+LineFits asked (lines.Take bytes times) = (1 ≤ bytes) × (1 ≤ times) × (times ≤ 1000000)
+LineFits asked (lines.Step polls most call) = CallFits asked call
+LineFits asked _ = Unit {0}
 
 -- ---- tokens as bytes
 
@@ -134,11 +178,34 @@ IsText (c ∷ cs) a = (x y : List ℕ) × IsCharacter c x × IsText cs y × (a �
 abbrev pub IsNumber : ℕ → List ℕ → Type 0
 IsNumber n a = IsNumeral 10 a × (length a ≤ 10) × (digits_value 10 a ≡ n) × (n < 2 ^ 32)
 
+-- one or more decimal digits, perhaps behind a minus, of a number from -limit to limit - 1
+abbrev pub IsInteger : ℕ → ℤ → List ℕ → Type 0
+IsInteger limit z a =
+    (IsNumeral 10 a × (digits_value 10 a < limit) × (z ≡ pos (digits_value 10 a)))
+    ⊎ ((d : List ℕ) × (a ≡ 45 ∷ d) × IsNumeral 10 d × (digits_value 10 d ≤ limit) × (z ≡ neg_ℤ (pos (digits_value 10 d))))
+
+-- numbers between commas, or none
+abbrev pub AreIntegers : ℕ → List ℤ → List ℕ → Type 0
+AreIntegers limit [] a = a ≡ []
+AreIntegers limit (z ∷ []) a = IsInteger limit z a
+AreIntegers limit (z ∷ y ∷ more) a = (d rest : List ℕ) × IsInteger limit z d × AreIntegers limit (y ∷ more) rest × (a ≡ d ++ 44 ∷ rest)
+
+abbrev pub SpellsBare : Bare → List ℕ → Type 0
+SpellsBare (bare.Null oid) a = (d : List ℕ) × (a ≡ codes "null:" ++ d) × IsNumber oid d
+SpellsBare (bare.Bool true) a = a ≡ codes "bool:t"
+SpellsBare (bare.Bool false) a = a ≡ codes "bool:f"
+SpellsBare (bare.Int2 z) a = (d : List ℕ) × (a ≡ codes "int2:" ++ d) × IsInteger (2 ^ 15) z d
+SpellsBare (bare.Int4 z) a = (d : List ℕ) × (a ≡ codes "int4:" ++ d) × IsInteger (2 ^ 31) z d
+SpellsBare (bare.Int8 z) a = (d : List ℕ) × (a ≡ codes "int8:" ++ d) × IsInteger (2 ^ 63) z d
+SpellsBare (bare.Oid n) a = (d : List ℕ) × (a ≡ codes "oid:" ++ d) × IsNumber n d
+SpellsBare (bare.Int4s zs) a = (d : List ℕ) × (a ≡ codes "int4s:" ++ d) × AreIntegers (2 ^ 31) zs d
+
 abbrev pub SpellsToken : Token → List ℕ → Type 0
 SpellsToken Space a = a ≡ 32 ∷ []
 SpellsToken (Word k) a = a ≡ spelling_of k
 SpellsToken (Number n) a = IsNumber n a
 SpellsToken (SslMode mode) a = ssl_mode_from a ≡ Some mode
+SpellsToken (Bareword b) a = SpellsBare b a
 SpellsToken (Text s) a = (q : List ℕ) × IsText s q × (a ≡ 34 ∷ q ++ 34 ∷ [])
 
 abbrev pub SpellsAll : List Token → List ℕ → Type 0
@@ -148,7 +215,7 @@ SpellsAll (t ∷ ts) a = (x y : List ℕ) × SpellsToken t x × SpellsAll ts y �
 -- a line with this value: nothing, a comment, or the tokens of its row
 abbrev pub SpellsLine : Line → List ℕ → Type 0
 SpellsLine lines.Blank a = (a ≡ []) ⊎ ((rest : List ℕ) × (a ≡ 35 ∷ rest) × IsTrue (is_utf8 a))
-SpellsLine l a = LineFits l × SpellsAll (tokens_of l) a
+SpellsLine l a = (asked : Asked) × LineFits asked l × SpellsAll (tokens_of asked l) a
 
 -- ---- scripts
 

@@ -13,18 +13,19 @@ use Rattle.pg_script.specs.declared.line.Line.{Line}
 use Rattle.pg_script.specs.declared.line.Line.TheVariants as lines
 use Rattle.pg_script.specs.Lexing.{tokens_in}
 use Rattle.pg_script.specs.Reading.{◌>>=◌}
-use Rattle.pg_script.specs.Arguments.{alone, bytes_arg, text_arg, nonce_arg, mode_arg, pair_arg, number_arg, last_number, digits_arg, query_arg, raw_arg}
+use Rattle.pg_script.specs.Arguments.{alone, bytes_arg, text_arg, nonce_arg, mode_arg, pair_arg, number_arg, last_number, digits_arg}
+use Rattle.pg_script.specs.Asking.{query_arg, asked_arg}
 
 -- ---- calls
 
 abbrev pub call_with : CallWord → List Token → Option Call
-call_with call_words.Execute rest = raw_arg rest >>= λ query. Some (calls.Execute query)
-call_with call_words.ExecuteMany rest = raw_arg rest >>= λ query. Some (calls.ExecuteMany query)
-call_with call_words.Fetch rest = raw_arg rest >>= λ query. Some (calls.Fetch query)
-call_with call_words.FetchMany rest = raw_arg rest >>= λ query. Some (calls.FetchMany query)
-call_with call_words.FetchAll rest = raw_arg rest >>= λ query. Some (calls.FetchAll query)
-call_with call_words.FetchOptional rest = raw_arg rest >>= λ query. Some (calls.FetchOptional query)
-call_with call_words.FetchOne rest = raw_arg rest >>= λ query. Some (calls.FetchOne query)
+call_with call_words.Execute rest = asked_arg rest >>= λ query. Some (calls.Execute query)
+call_with call_words.ExecuteMany rest = asked_arg rest >>= λ query. Some (calls.ExecuteMany query)
+call_with call_words.Fetch rest = asked_arg rest >>= λ query. Some (calls.Fetch query)
+call_with call_words.FetchMany rest = asked_arg rest >>= λ query. Some (calls.FetchMany query)
+call_with call_words.FetchAll rest = asked_arg rest >>= λ query. Some (calls.FetchAll query)
+call_with call_words.FetchOptional rest = asked_arg rest >>= λ query. Some (calls.FetchOptional query)
+call_with call_words.FetchOne rest = asked_arg rest >>= λ query. Some (calls.FetchOne query)
 call_with call_words.Ping rest = alone calls.Ping rest
 call_with call_words.Flush rest = alone calls.Flush rest
 call_with call_words.Begin rest = alone calls.Begin rest

@@ -1,9 +1,14 @@
 -- The words of a script, and its numbers.
-use Rattle.std.specs.Prelude.{◌+◌, ◌*◌, ◌-◌, ◌^◌, ◌∷◌, ◌&&◌, [], List, ℕ, Bool, Option, Some, None, codes, bytes_eq, nat_lt, nat_le, length, if◌then◌else◌}
+use Rattle.std.specs.Prelude.{◌+◌, ◌*◌, ◌-◌, ◌^◌, ◌∷◌, ◌&&◌, ◌==◌, [], List, ℕ, ℤ, pos, neg_ℤ, Bool, true, false, Option, Some, None, codes, bytes_eq, nat_lt, nat_le, length, take, drop, if◌then◌else◌}
+use Rattle.std.specs.List.{slice_split}
 use Rattle.pg_script.specs.declared.token.Keyword.{Keyword}
 use Rattle.pg_script.specs.declared.token.Keyword.TheVariants as words
 use Rattle.pg_script.specs.declared.token.CallWord.{CallWord}
 use Rattle.pg_script.specs.declared.token.CallWord.TheVariants as call_words
+use Rattle.pg_script.specs.declared.token.BareWord.{BareWord}
+use Rattle.pg_script.specs.declared.token.BareWord.TheVariants as bare_words
+use Rattle.pg_script.specs.declared.argument.Bare.{Bare}
+use Rattle.pg_script.specs.declared.argument.Bare.TheVariants as bare
 use Rattle.pg_script.specs.declared.token.Token.{Token}
 use Rattle.pg_script.specs.declared.token.Token.TheVariants as tokens
 use Rattle.pg_options.specs.declared.ssl_mode.PgSslMode.{PgSslMode}
@@ -53,10 +58,15 @@ spelling_of words.Start = codes "start"
 spelling_of words.Step = codes "step"
 spelling_of words.Most = codes "most"
 spelling_of words.Raw = codes "raw"
+spelling_of words.Once = codes "once"
+spelling_of words.Text = codes "text:"
+spelling_of words.Bytea = codes "bytea:"
+spelling_of words.Texts = codes "texts:"
+spelling_of words.Comma = codes ","
 spelling_of (words.Call word) = call_spelling word
 
 abbrev pub all_words : List Keyword
-all_words = words.Step ∷ words.Server ∷ words.Raw ∷ words.Wait ∷ words.Call call_words.Execute ∷ words.Call call_words.Fetch ∷ words.Call call_words.FetchAll ∷ words.Call call_words.FetchOne
+all_words = words.Step ∷ words.Server ∷ words.Raw ∷ words.Once ∷ words.Text ∷ words.Bytea ∷ words.Texts ∷ words.Comma ∷ words.Wait ∷ words.Call call_words.Execute ∷ words.Call call_words.Fetch ∷ words.Call call_words.FetchAll ∷ words.Call call_words.FetchOne
     ∷ words.Call call_words.FetchOptional ∷ words.Call call_words.FetchMany ∷ words.Call call_words.ExecuteMany ∷ words.Call call_words.Ping ∷ words.Call call_words.Flush ∷ words.Call call_words.Begin
     ∷ words.Call call_words.BeginWith ∷ words.Call call_words.Commit ∷ words.Call call_words.Rollback ∷ words.Call call_words.StartRollback ∷ words.Most ∷ words.Take ∷ words.Hold ∷ words.End
     ∷ words.Fail ∷ words.Break ∷ words.Start ∷ words.User ∷ words.Password ∷ words.Database ∷ words.Application ∷ words.Option ∷ words.SslMode ∷ words.Digits ∷ words.None ∷ words.Link ∷ words.Upgrade
@@ -87,11 +97,93 @@ keyword_of = keyword_among all_words
 abbrev pub mode_of : List ℕ → Option PgSslMode
 mode_of word = text_in word >>= ssl_mode_from
 
-abbrev pub first_of : Option ℕ → Option Keyword → Option PgSslMode → Option Token
-first_of (Some n) word mode = Some (tokens.Number n)
-first_of None (Some k) mode = Some (tokens.Word k)
-first_of None None mode = mode >>= λ m. Some (tokens.SslMode m)
+-- ---- arguments that stand without quotes
 
--- a number, a word or the name of a mode
+-- how such a word begins
+abbrev pub bare_spelling : BareWord → List ℕ
+bare_spelling bare_words.Null = codes "null:"
+bare_spelling bare_words.Bool = codes "bool:"
+bare_spelling bare_words.Int2 = codes "int2:"
+bare_spelling bare_words.Int4 = codes "int4:"
+bare_spelling bare_words.Int8 = codes "int8:"
+bare_spelling bare_words.Oid = codes "oid:"
+bare_spelling bare_words.Int4s = codes "int4s:"
+
+abbrev pub all_bare_words : List BareWord
+all_bare_words = bare_words.Int4 ∷ bare_words.Int8 ∷ bare_words.Int2 ∷ bare_words.Bool ∷ bare_words.Null ∷ bare_words.Oid ∷ bare_words.Int4s ∷ []
+
+-- what stands behind a front, where it stands first
+abbrev pub behind : List ℕ → List ℕ → Option (List ℕ)
+behind front word = if bytes_eq (take (length front) word) front then Some (drop (length front) word) else None
+
+abbrev pub begun_by : BareWord → Option (List ℕ) → Option (BareWord × List ℕ) → Option (BareWord × List ℕ)
+begun_by first None others = others
+begun_by first (Some rest) others = Some (first, rest)
+
+-- the first of these that the word begins with, and what stands behind it
+abbrev pub begun : List BareWord → List ℕ → Option (BareWord × List ℕ)
+begun [] word = None
+begun (k ∷ ks) word = begun_by k (behind (bare_spelling k) word) (begun ks word)
+
+abbrev pub bool_of : List ℕ → Option Bool
+bool_of (b ∷ []) = if b == 116 then Some true else if b == 102 then Some false else None
+bool_of _ = None
+
+-- a text that does not begin with a plus
+abbrev pub signed_text : List ℕ → Option (List ℕ)
+signed_text [] = text_in []
+signed_text (b ∷ bs) = if b == 43 then None else text_in (b ∷ bs)
+
+abbrev pub magnitude : List ℕ → Option ℕ
+magnitude [] = None
+magnitude (b ∷ bs) = digits_after 0 (b ∷ bs)
+
+abbrev pub negative : ℕ → ℕ → Option ℤ
+negative limit n = if nat_le n limit then Some (neg_ℤ (pos n)) else None
+
+abbrev pub positive : ℕ → ℕ → Option ℤ
+positive limit n = if nat_lt n limit then Some (pos n) else None
+
+-- one or more digits, perhaps behind a minus, of a number from -limit to limit - 1
+abbrev pub integer_in : ℕ → List ℕ → Option ℤ
+integer_in limit [] = None
+integer_in limit (b ∷ bs) = if b == 45 then magnitude bs >>= negative limit else magnitude (b ∷ bs) >>= positive limit
+
+abbrev pub integer_of : ℕ → List ℕ → Option ℤ
+integer_of limit bytes = signed_text bytes >>= integer_in limit
+
+abbrev pub each_integer : List (List ℕ) → Option (List ℤ)
+each_integer [] = Some []
+each_integer (p ∷ ps) = do
+  z ← integer_of (2 ^ 31) p
+  zs ← each_integer ps
+  Some (z ∷ zs)
+
+-- numbers between commas, or none
+abbrev pub integers_of : List ℕ → Option (List ℤ)
+integers_of [] = Some []
+integers_of (b ∷ bs) = each_integer (slice_split (λ c. c == 44) (b ∷ bs))
+
+abbrev pub bare_with : BareWord → List ℕ → Option Bare
+bare_with bare_words.Null bytes = number_of bytes >>= λ n. Some (bare.Null n)
+bare_with bare_words.Bool bytes = bool_of bytes >>= λ b. Some (bare.Bool b)
+bare_with bare_words.Int2 bytes = integer_of (2 ^ 15) bytes >>= λ z. Some (bare.Int2 z)
+bare_with bare_words.Int4 bytes = integer_of (2 ^ 31) bytes >>= λ z. Some (bare.Int4 z)
+bare_with bare_words.Int8 bytes = integer_of (2 ^ 63) bytes >>= λ z. Some (bare.Int8 z)
+bare_with bare_words.Oid bytes = number_of bytes >>= λ n. Some (bare.Oid n)
+bare_with bare_words.Int4s bytes = integers_of bytes >>= λ zs. Some (bare.Int4s zs)
+
+unfoldable pub bare_of : List ℕ → Option Bare
+bare_of word = begun all_bare_words word >>= λ x. bare_with x.0 x.1
+
+-- ---- tokens
+
+abbrev pub first_of : Option ℕ → Option Keyword → Option PgSslMode → Option Bare → Option Token
+first_of (Some n) word mode found = Some (tokens.Number n)
+first_of None (Some k) mode found = Some (tokens.Word k)
+first_of None None (Some m) found = Some (tokens.SslMode m)
+first_of None None None found = found >>= λ b. Some (tokens.Bare b)
+
+-- a number, a word, the name of a mode or an argument
 unfoldable pub token_of : List ℕ → Option Token
-token_of word = first_of (number_of word) (keyword_of word) (mode_of word)
+token_of word = first_of (number_of word) (keyword_of word) (mode_of word) (bare_of word)

@@ -1,13 +1,12 @@
 ghost use Rattle.std.specs.Prelude.{◌≡◌, option_map};
 ghost use Rattle.std.specs.Str.{is_utf8};
 ghost use Rattle.pg_script.specs.Reading.{Gives};
-ghost use Rattle.pg_script.specs.Arguments.{text_in, alone, bytes_arg, text_arg, nonce_arg, mode_arg, pair_arg, number_arg, last_number, digit_in, digits_arg, query_arg, raw_arg};
+ghost use Rattle.pg_script.specs.Arguments.{text_in, alone, bytes_arg, text_arg, nonce_arg, mode_arg, pair_arg, number_arg, last_number, digit_in, digits_arg};
 
 use crate::error::LineError;
 use crate::nonce::Nonce;
 use crate::token::{Keyword, Token};
 use pg_options::PgSslMode;
-use pg_request::Query;
 use pg_wire::Text;
 use std::alloc::Global;
 
@@ -30,8 +29,8 @@ pub(crate) fn text_in(bytes: &[u8]) -> Option<&str>
     }
 }
 
-// An owned text of bytes that are one.
-fn text_of(alloc: Global, bytes: &[u8]) -> Result<Text, LineError>
+/// An owned text of bytes that are one.
+pub(crate) fn text_of(alloc: Global, bytes: &[u8]) -> Result<Text, LineError>
     ensures { Gives (λ t. t) result (text_in bytes.now) }
 {
     match text_in(bytes) {
@@ -146,24 +145,6 @@ pub(crate) fn digits_arg(tokens: &[Token]) -> Result<Option<i8>, LineError>
             Some(digit) => Ok(Some(digit)),
             None => Err(LineError::Bad),
         },
-        _ => Err(LineError::Bad),
-    }
-}
-
-/// One text of SQL.
-pub(crate) fn query_arg(alloc: Global, tokens: &[Token]) -> Result<Query, LineError>
-    ensures { Gives (λ q. q) result (query_arg tokens.now) }
-{
-    let sql = text_arg(alloc, tokens)?;
-    Ok(Query::from_text(sql))
-}
-
-/// The same behind the word `raw`.
-pub(crate) fn raw_arg(alloc: Global, tokens: &[Token]) -> Result<Query, LineError>
-    ensures { Gives (λ q. q) result (raw_arg tokens.now) }
-{
-    match tokens {
-        [Token::Space, Token::Word(Keyword::Raw), rest @ ..] => query_arg(alloc, rest),
         _ => Err(LineError::Bad),
     }
 }

@@ -139,10 +139,8 @@ impl Lexer {
         if word.is_empty() {
             return Ok(());
         }
-        match token_of(word) {
-            Some(token) => self.push(token),
-            None => Err(LineError::Bad),
-        }
+        let token = token_of(self.alloc, word)?;
+        self.push(token)
     }
 
     // Adds the token that a text is, behind its first quote; answers what stands behind its last one.

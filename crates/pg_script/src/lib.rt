@@ -18,13 +18,23 @@
 //!
 //! The options, the events of reads, those of writes and the steps each keep their order, and else the lines may stand in any.
 //! A CALL is `execute`, `execute_many`, `fetch`, `fetch_many`, `fetch_all`, `fetch_optional` or `fetch_one`, each with `raw TEXT`
-//! behind it, a text of SQL; `begin_with TEXT`, where the text is one of SQL as well; or `ping`, `flush`, `begin`, `commit`,
-//! `rollback` or `start_rollback`.
+//! behind it, a text of SQL, or with `once TEXT` and any number of ARG, each behind a space: one statement with arguments, which isn't
+//! kept; `begin_with TEXT`, where the text is one of SQL as well; or `ping`, `flush`, `begin`, `commit`, `rollback` or `start_rollback`.
+//!
+//! | ARG | Its type and value |
+//! |---|---|
+//! | `null:N` | a null of the type with this OID |
+//! | `bool:t`, `bool:f` | bool |
+//! | `int2:Z`, `int4:Z`, `int8:Z` | a signed number of two, four or eight bytes |
+//! | `oid:N` | oid |
+//! | `text:TEXT`, `bytea:TEXT` | text; bytea, of any bytes |
+//! | `int4s:Z,Z`, `texts:TEXT,TEXT` | an array of int4 or of text, with any number of elements, perhaps none |
 //!
 //! A TEXT stands between quotes, and is printable ASCII other than a quote and a backslash, or `\"`, `\\`, or `\xHH` for any
-//! byte, with two lower-case hexadecimal digits. But for `server` its bytes are UTF-8; a zero byte among them is no fault of the
-//! script. A number is one to ten digits, at most 4294967295; of `take` both are at least 1, and K is at most 1000000. Without
-//! `most` a step has 4294967295 of it. Any other line is bad, and nothing is required.
+//! byte, with two lower-case hexadecimal digits. But for `server` and `bytea:` its bytes are UTF-8; a zero byte among them is no fault
+//! of the script. A number is one to ten digits, at most 4294967295; of `take` both are at least 1, and K is at most 1000000. A Z is
+//! one or more digits, perhaps behind a `-`, of a number that its type has. Without `most` a step has 4294967295 of it. Any other
+//! line is bad, and nothing is required.
 //!
 //! The script of a live run, which has a real link, may have the lines `start` and `step` alone, and those that are passed over.
 //!
@@ -32,7 +42,11 @@
 //! is read in two steps: the lexer cuts it into tokens, and `line_in` finds what they say.
 #![tactic(auto)]
 
+mod argument;
 mod arguments;
+mod asking;
+mod bare;
+mod encoding;
 mod error;
 mod kind;
 mod lexer;

@@ -4,8 +4,9 @@ ghost use Rattle.pg_script.specs.Lines.{call_with, call_arg, take_line, most_arg
 
 use crate::arguments::{
     alone, bytes_arg, digits_arg, is_utf8, last_number, mode_arg, nonce_arg, number_arg, pair_arg,
-    query_arg, raw_arg, text_arg,
+    text_arg,
 };
+use crate::asking::{asked_arg, query_arg};
 use crate::error::LineError;
 use crate::lexer::Lexer;
 use crate::nonce::Nonce;
@@ -56,13 +57,13 @@ fn call_with(alloc: Global, word: CallWord, rest: &[Token]) -> Result<Call, Line
     ensures { Gives (λ c. c) result (call_with word rest.now) }
 {
     match word {
-        CallWord::Execute => Ok(Call::Execute(raw_arg(alloc, rest)?)),
-        CallWord::ExecuteMany => Ok(Call::ExecuteMany(raw_arg(alloc, rest)?)),
-        CallWord::Fetch => Ok(Call::Fetch(raw_arg(alloc, rest)?)),
-        CallWord::FetchMany => Ok(Call::FetchMany(raw_arg(alloc, rest)?)),
-        CallWord::FetchAll => Ok(Call::FetchAll(raw_arg(alloc, rest)?)),
-        CallWord::FetchOptional => Ok(Call::FetchOptional(raw_arg(alloc, rest)?)),
-        CallWord::FetchOne => Ok(Call::FetchOne(raw_arg(alloc, rest)?)),
+        CallWord::Execute => Ok(Call::Execute(asked_arg(alloc, rest)?)),
+        CallWord::ExecuteMany => Ok(Call::ExecuteMany(asked_arg(alloc, rest)?)),
+        CallWord::Fetch => Ok(Call::Fetch(asked_arg(alloc, rest)?)),
+        CallWord::FetchMany => Ok(Call::FetchMany(asked_arg(alloc, rest)?)),
+        CallWord::FetchAll => Ok(Call::FetchAll(asked_arg(alloc, rest)?)),
+        CallWord::FetchOptional => Ok(Call::FetchOptional(asked_arg(alloc, rest)?)),
+        CallWord::FetchOne => Ok(Call::FetchOne(asked_arg(alloc, rest)?)),
         CallWord::Ping => alone(Call::Ping, rest),
         CallWord::Flush => alone(Call::Flush, rest),
         CallWord::Begin => alone(Call::Begin, rest),

@@ -1,5 +1,6 @@
 ghost use Rattle.std.specs.Prelude.{◌≡◌, IfOk, IfErr};
 
+use pg_call::{Bound, Extended};
 use pg_request::Query;
 use pg_wire::Error;
 use std::alloc::Global;
@@ -24,6 +25,10 @@ pub enum Call {
     Rollback,
     /// Queues a rollback without waiting for it.
     StartRollback,
+    /// The first exchange of a query with arguments, which describes it. No script says it alone.
+    Describe(Extended),
+    /// Its second one, which runs what was described.
+    Run(Bound),
 }
 
 impl Call {
@@ -47,6 +52,8 @@ impl Call {
             Call::Commit => Call::Commit,
             Call::Rollback => Call::Rollback,
             Call::StartRollback => Call::StartRollback,
+            Call::Describe(extended) => Call::Describe(extended.to_copy(alloc)?),
+            Call::Run(bound) => Call::Run(bound.to_copy(alloc)?),
         })
     }
 }

@@ -1,3 +1,4 @@
+use crate::argument::Bare;
 use pg_options::PgSslMode;
 use pg_wire::Blob;
 
@@ -46,7 +47,26 @@ pub(crate) enum Keyword {
     Step,
     Most,
     Raw,
+    Once,
+    /// In front of a text, of bytes and of texts that are arguments.
+    Text,
+    Bytea,
+    Texts,
+    /// Between such texts.
+    Comma,
     Call(CallWord),
+}
+
+/// The words in front of the arguments that stand without quotes.
+#[derive(Clone, Copy)]
+pub(crate) enum BareWord {
+    Null,
+    Bool,
+    Int2,
+    Int4,
+    Int8,
+    Oid,
+    Int4s,
 }
 
 /// A token of a line.
@@ -57,6 +77,8 @@ pub(crate) enum Token {
     Number(u32),
     /// The name of a mode, in any ASCII case.
     SslMode(PgSslMode),
+    /// An argument that stands without quotes.
+    Bare(Bare),
     /// The bytes that a quoted text means.
     Text(Blob),
 }

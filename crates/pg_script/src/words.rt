@@ -1,15 +1,24 @@
 ghost use Rattle.std.specs.Prelude.{◌≡◌};
+ghost use Rattle.pg_script.specs.Reading.{Gives};
 ghost use Rattle.pg_script.specs.Words.{call_spelling, spelling_of, number_of, keyword_among, keyword_of, mode_of, token_of};
 
 use crate::arguments::text_in;
+use crate::bare::bare_of;
+use crate::error::LineError;
 use crate::token::{CallWord, Keyword, Token};
 use pg_options::PgSslMode;
+use std::alloc::Global;
 
 /// All words of a script, the most usual first.
-const WORDS: [Keyword; 37] = [
+const WORDS: [Keyword; 42] = [
     Keyword::Step,
     Keyword::Server,
     Keyword::Raw,
+    Keyword::Once,
+    Keyword::Text,
+    Keyword::Bytea,
+    Keyword::Texts,
+    Keyword::Comma,
     Keyword::Wait,
     Keyword::Call(CallWord::Execute),
     Keyword::Call(CallWord::Fetch),
@@ -96,12 +105,17 @@ fn spelling_of(word: Keyword) -> &'static [u8]
         Keyword::Step => b"step",
         Keyword::Most => b"most",
         Keyword::Raw => b"raw",
+        Keyword::Once => b"once",
+        Keyword::Text => b"text:",
+        Keyword::Bytea => b"bytea:",
+        Keyword::Texts => b"texts:",
+        Keyword::Comma => b",",
         Keyword::Call(word) => call_spelling(word),
     }
 }
 
-// One to ten digits, at most 4294967295.
-fn number_of(word: &[u8]) -> Option<u32>
+/// One to ten digits, at most 4294967295.
+pub(crate) fn number_of(word: &[u8]) -> Option<u32>
     ensures { result ≡ number_of word.now }
 {
     if word.is_empty() || 10 < word.len() {
@@ -144,19 +158,19 @@ fn mode_of(word: &[u8]) -> Option<PgSslMode>
     PgSslMode::from_name(name)
 }
 
-/// A number, a word or the name of a mode.
+/// A number, a word, the name of a mode or an argument.
 #[tactic(auto, unfolding(crate::specs::Words::token_of))]
-pub(crate) fn token_of(word: &[u8]) -> Option<Token>
-    ensures { result ≡ token_of word.now }
+pub(crate) fn token_of(alloc: Global, word: &[u8]) -> Result<Token, LineError>
+    ensures { Gives (λ t. t) result (token_of word.now) }
 {
     match number_of(word) {
-        Some(number) => Some(Token::Number(number)),
+        Some(number) => Ok(Token::Number(number)),
         None => match keyword_of(word) {
-            Some(keyword) => Some(Token::Word(keyword)),
-            None => {
-                let mode = mode_of(word)?;
-                Some(Token::SslMode(mode))
-            }
+            Some(keyword) => Ok(Token::Word(keyword)),
+            None => match mode_of(word) {
+                Some(mode) => Ok(Token::SslMode(mode)),
+                None => Ok(Token::Bare(bare_of(alloc, word)?)),
+            },
         },
     }
 }

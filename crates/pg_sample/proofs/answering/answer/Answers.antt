@@ -1,4 +1,3 @@
-use Rattle.std.proofs.Common.{◌≡◌}
 use Rattle.pg_sample.proofs.AnswerLaws.{answer_is}
 use Rattle.pg_sample.proofs.answering.answer.Goals as goal
 

@@ -1,4 +1,4 @@
-use Rattle.std.proofs.Common.{◌≡◌, sym, ◌∙◌}
+use Rattle.std.proofs.Common.{sym, ◌∙◌}
 use Rattle.pg_sample.proofs.ScriptLaws.{steps_more}
 use Rattle.pg_sample.proofs.scripting.steps.Goals as goal
 

@@ -1,0 +1,73 @@
+-- What the calls with a query run, read from its tokens.
+use Rattle.std.specs.Prelude.{◌∷◌, ◌++◌, [], List, ℕ, zero, suc, length, Option, Some, None}
+use Rattle.pg_request.specs.Queries.{QueryText, plain_text}
+use Rattle.pg_script.specs.declared.argument.Argument.{Argument}
+use Rattle.pg_script.specs.declared.argument.Argument.TheVariants as given
+use Rattle.pg_script.specs.declared.token.Token.{Token}
+use Rattle.pg_script.specs.declared.token.Token.TheVariants.{Space, Word, Bare, Text}
+use Rattle.pg_script.specs.declared.token.Keyword.TheVariants as words
+use Rattle.pg_script.specs.Reading.{◌>>=◌}
+use Rattle.pg_script.specs.Arguments.{text_in, text_arg}
+use Rattle.pg_script.specs.Given.{once_query}
+
+-- more items behind those that are there
+abbrev pub in_front : {A B : Type 0} → List A → Option (List A × B) → Option (List A × B)
+in_front front o = o >>= λ x. Some (front ++ x.0, x.1)
+
+-- a text behind a comma, and the tokens behind it
+abbrev pub comma_text : List Token → Option (List ℕ × List Token)
+comma_text (Word words.Comma ∷ Text s ∷ rest) = Some (s, rest)
+comma_text _ = None
+
+-- texts behind commas, and the tokens behind them
+abbrev pub more_texts : List Token → Option (List (List ℕ) × List Token)
+more_texts (Word words.Comma ∷ Text s ∷ rest) = do
+  t ← text_in s
+  in_front (t ∷ []) (more_texts rest)
+more_texts rest = Some ([], rest)
+
+-- texts between commas, or none
+abbrev pub texts_at : List Token → Option (List (List ℕ) × List Token)
+texts_at (Text s ∷ rest) = do
+  t ← text_in s
+  in_front (t ∷ []) (more_texts rest)
+texts_at rest = Some ([], rest)
+
+-- an argument, and the tokens behind it
+abbrev pub argument_at : List Token → Option (Argument × List Token)
+argument_at (Space ∷ Bare b ∷ rest) = Some (given.Bare b, rest)
+argument_at (Space ∷ Word words.Text ∷ Text s ∷ rest) = text_in s >>= λ t. Some (given.Text t, rest)
+argument_at (Space ∷ Word words.Bytea ∷ Text s ∷ rest) = Some (given.Bytea s, rest)
+argument_at (Space ∷ Word words.Texts ∷ rest) = texts_at rest >>= λ x. Some (given.Texts x.0, x.1)
+argument_at _ = None
+
+-- arguments up to the end, at most so many
+abbrev pub arguments_up_to : ℕ → List Token → Option (List Argument)
+arguments_up_to n [] = Some []
+arguments_up_to zero (t ∷ ts) = None
+arguments_up_to (suc n) (t ∷ ts) = do
+  first ← argument_at (t ∷ ts)
+  others ← arguments_up_to n first.1
+  Some (first.0 ∷ others)
+
+-- each has a token of its own
+abbrev pub arguments_in : List Token → Option (List Argument)
+arguments_in ts = arguments_up_to (length ts) ts
+
+-- a text of SQL
+abbrev pub query_arg : List Token → Option QueryText
+query_arg ts = text_arg ts >>= λ sql. Some (plain_text sql)
+
+-- a text of SQL, and arguments
+abbrev pub once_arg : List Token → Option QueryText
+once_arg (Space ∷ Text s ∷ rest) = do
+  sql ← text_in s
+  arguments ← arguments_in rest
+  once_query sql arguments
+once_arg _ = None
+
+-- the one or the other behind its word
+abbrev pub asked_arg : List Token → Option QueryText
+asked_arg (Space ∷ Word words.Raw ∷ rest) = query_arg rest
+asked_arg (Space ∷ Word words.Once ∷ rest) = once_arg rest
+asked_arg _ = None

@@ -1,0 +1,145 @@
+ghost use Rattle.std.specs.Prelude.{◌≡◌, ◌∷◌, [], option_map};
+ghost use Rattle.pg_script.specs.Reading.{Gives};
+ghost use Rattle.pg_script.specs.Asking.{in_front, comma_text, more_texts, texts_at, argument_at, arguments_in, query_arg, once_arg, asked_arg};
+
+use crate::argument::Argument;
+use crate::arguments::{text_arg, text_of};
+use crate::encoding::once_query;
+use crate::error::LineError;
+use crate::token::{Keyword, Token};
+use pg_request::Query;
+use pg_wire::{Sequence, Text};
+use std::alloc::Global;
+
+// A text behind a comma, and the tokens behind it.
+fn comma_text(tokens: &[Token]) -> Option<(&[u8], &[Token])>
+    ensures { option_map (λ x. (x.0.now, x.1.now)) result ≡ comma_text tokens.now }
+{
+    match tokens {
+        [Token::Word(Keyword::Comma), Token::Text(bytes), rest @ ..] => {
+            Some((bytes.as_bytes(), rest))
+        }
+        _ => None,
+    }
+}
+
+// Adds the texts that stand behind commas; answers the tokens behind them.
+fn more_texts<'t>(
+    alloc: Global,
+    texts: &mut Vec<Text>,
+    tokens: &'t [Token],
+) -> Result<&'t [Token], LineError>
+    ensures { Gives (λ r. (texts.new.items, r.now)) result (in_front texts.old.items (more_texts tokens.now)) }
+{
+    let mut rest = tokens;
+    loop {
+        let Some((bytes, behind)) = comma_text(rest) else {
+            return Ok(rest);
+        };
+        let text = text_of(alloc, bytes)?;
+        texts.push(text)?;
+        rest = behind;
+    }
+}
+
+// A text, and those behind commas.
+fn texts_from(
+    alloc: Global,
+    first: Text,
+    tokens: &[Token],
+) -> Result<(Sequence<Text>, &[Token]), LineError>
+    ensures { Gives (λ x. (x.0, x.1.now)) result (in_front (first ∷ []) (more_texts tokens.now)) }
+{
+    let mut texts = Vec::new(alloc);
+    texts.push(first)?;
+    let rest = more_texts(alloc, &mut texts, tokens)?;
+    Ok((Sequence::from_vec(texts), rest))
+}
+
+// Texts between commas, or none, and the tokens behind them.
+fn texts_at(alloc: Global, tokens: &[Token]) -> Result<(Sequence<Text>, &[Token]), LineError>
+    ensures { Gives (λ x. (x.0, x.1.now)) result (texts_at tokens.now) }
+{
+    match tokens {
+        [Token::Text(bytes), rest @ ..] => {
+            let first = text_of(alloc, bytes.as_bytes())?;
+            texts_from(alloc, first, rest)
+        }
+        _ => Ok((Sequence::new(alloc), tokens)),
+    }
+}
+
+// An argument, and the tokens behind it.
+fn argument_at(alloc: Global, tokens: &[Token]) -> Result<(Argument, &[Token]), LineError>
+    ensures { Gives (λ x. (x.0, x.1.now)) result (argument_at tokens.now) }
+{
+    match tokens {
+        [Token::Space, Token::Bare(bare), rest @ ..] => {
+            Ok((Argument::Bare(bare.to_copy(alloc)?), rest))
+        }
+        [
+            Token::Space,
+            Token::Word(Keyword::Text),
+            Token::Text(bytes),
+            rest @ ..,
+        ] => Ok((Argument::Text(text_of(alloc, bytes.as_bytes())?), rest)),
+        [
+            Token::Space,
+            Token::Word(Keyword::Bytea),
+            Token::Text(bytes),
+            rest @ ..,
+        ] => Ok((Argument::Bytea(bytes.to_copy(alloc)?), rest)),
+        [Token::Space, Token::Word(Keyword::Texts), rest @ ..] => {
+            let (texts, rest) = texts_at(alloc, rest)?;
+            Ok((Argument::Texts(texts), rest))
+        }
+        _ => Err(LineError::Bad),
+    }
+}
+
+// Arguments, and nothing more.
+fn arguments_in(alloc: Global, tokens: &[Token]) -> Result<Vec<Argument>, LineError>
+    ensures { Gives (λ v. v.items) result (arguments_in tokens.now) }
+{
+    let mut arguments = Vec::new(alloc);
+    let mut rest = tokens;
+    while !rest.is_empty() {
+        let (argument, behind) = argument_at(alloc, rest)?;
+        arguments.push(argument)?;
+        rest = behind;
+    }
+    Ok(arguments)
+}
+
+/// One text of SQL.
+pub(crate) fn query_arg(alloc: Global, tokens: &[Token]) -> Result<Query, LineError>
+    ensures { Gives (λ q. q) result (query_arg tokens.now) }
+{
+    let sql = text_arg(alloc, tokens)?;
+    Ok(Query::from_text(sql))
+}
+
+// One text of SQL, and arguments.
+fn once_arg(alloc: Global, tokens: &[Token]) -> Result<Query, LineError>
+    ensures { Gives (λ q. q) result (once_arg tokens.now) }
+{
+    match tokens {
+        [Token::Space, Token::Text(sql), rest @ ..] => {
+            let sql = text_of(alloc, sql.as_bytes())?;
+            let arguments = arguments_in(alloc, rest)?;
+            once_query(alloc, sql, arguments)
+        }
+        _ => Err(LineError::Bad),
+    }
+}
+
+/// What the calls with a query run: a text of SQL behind the word `raw`, or one with arguments behind the word `once`.
+pub(crate) fn asked_arg(alloc: Global, tokens: &[Token]) -> Result<Query, LineError>
+    ensures { Gives (λ q. q) result (asked_arg tokens.now) }
+{
+    match tokens {
+        [Token::Space, Token::Word(Keyword::Raw), rest @ ..] => query_arg(alloc, rest),
+        [Token::Space, Token::Word(Keyword::Once), rest @ ..] => once_arg(alloc, rest),
+        _ => Err(LineError::Bad),
+    }
+}
