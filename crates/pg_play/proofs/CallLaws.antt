@@ -1,13 +1,10 @@
--- One more poll of a call that is played.
+-- One more poll of an exchange of a call that is played.
 use Rattle.std.proofs.Common.{◌≡◌, ◌≢◌, ◌⊎◌, ℕ, ◌+◌, ◌*◌, ◌<◌, ◌≤◌, inl, inr, cond, Bool, true, false, List, [], ◌∷◌, ◌++◌, length, map, refl, sym, ap, ◌∙◌, subst, arith, append_assoc, Option, Some, None, Ok, Err, not, ◌&&◌, nat_eq, Result, ◌-◌}
 use Rattle.pg_call.specs.declared.kind.Change.{Change}
 use Rattle.pg_wire.specs.declared.status.TransactionStatus.TheVariants as statuses
 use Rattle.pg_wire.specs.declared.status.TransactionStatus.{TransactionStatus}
 use Rattle.pg_call.specs.declared.kind.Change.TheVariants as changes
-use Rattle.pg_call.specs.declared.kind.Kind.TheVariants as kinds
-use Rattle.pg_call.specs.declared.kind.Kind.{Kind}
-use Rattle.pg_call.specs.declared.tally.Tally.{Tally as RowTally}
-use Rattle.pg_call.specs.Items.{begun as begun_by_status, finished, items_of, tally_of}
+use Rattle.pg_call.specs.Items.{begun as begun_by_status}
 use Rattle.std.specs.List.{count_by}
 use Rattle.std.proofs.lemmas.List.{map-append, length-append, length-map}
 use Rattle.std.proofs.lemmas.List.Sums.{sum_by-append}
@@ -20,11 +17,13 @@ use Rattle.pg_wire.specs.declared.error.ServerFault.TheVariants as faults
 use Rattle.pg_wire.specs.Frame.{Frame}
 use Rattle.pg_wire.specs.Parts.{heard}
 use Rattle.pg_wire.specs.Frontend.{FrontendMessage}
+use Rattle.pg_wire.specs.Backend.{BackendMessage}
 use Rattle.pg_wire.proofs.PartLaws.{heard-append}
 use Rattle.pg_stream.specs.Links.{NoneFalls, GrewBy, LinkSeen}
 use Rattle.pg_stream.specs.Streams.{StreamSeen, Moves, Tallies, NoneWaited, PendingCause, HeardCause, fuel_of}
 use Rattle.pg_stream.proofs.StreamLemmas.{AreFrames-append, Tallies-then, Tallies-none, GrewBy-then}
 use Rattle.pg_call.specs.declared.request.Request.{Request}
+use Rattle.pg_call.specs.declared.request.Request.TheVariants as requests
 use Rattle.pg_call.specs.declared.answer.CallItem.{CallItem}
 use Rattle.pg_call.specs.declared.answer.CallAnswer.{CallAnswer}
 use Rattle.pg_call.specs.declared.answer.CallAnswer.TheVariants as answers
@@ -34,22 +33,21 @@ use Rattle.pg_call.specs.declared.calling.Beat.{Beat}
 use Rattle.pg_call.specs.declared.calling.Beat.TheVariants as beats
 use Rattle.pg_call.specs.declared.ledger.Ledger.{Ledger}
 use Rattle.pg_call.specs.Requests.{spelled, CanBeSaid, IsRefusal, kind_of, change_of}
-use Rattle.pg_call.specs.Calls.{CallIs, Leaves}
+use Rattle.pg_call.specs.Calls.{CallIs, Leaves, answer_by}
 use Rattle.pg_call.proofs.LeaveLaws.{leaves_call, call_well}
-use Rattle.pg_conn.specs.Connections.{ConnSeen, idle, begun, begun_with, runs, ended, settled, cleaned, left, may_open, has_room_for, with_group, queued_group, rollback, ConnOf, seen_by, started_call, depth_behind, rolled, rolled_back, counted_anew}
-use Rattle.pg_conn.specs.Turns.{ends_request, Tells, IsWaited, BeatCause, IsSayable, Refuses, Refused, PollsBy, broken_by, is_flushed, behind, TakesBeat, EndsFlush, HasAllRoom, HasRoomBeside}
+use Rattle.pg_conn.specs.Connections.{ConnSeen, idle, begun_with, runs, ended, settled, cleaned, left, may_open, has_room_for, with_group, queued_group, rollback, ConnOf, seen_by, depth_behind, rolled, rolled_back, counted_anew}
+use Rattle.pg_conn.specs.Turns.{ends_request, Tells, IsWaited, BeatCause, IsSayable, Refuses, Refused, broken_by, is_flushed, behind, TakesBeat, EndsFlush, HasAllRoom, HasRoomBeside}
 use Rattle.pg_report.specs.declared.outcome.Item.{Item}
 use Rattle.pg_report.specs.declared.outcome.Answer.{Answer}
 use Rattle.pg_report.specs.declared.outcome.End.{End}
 use Rattle.pg_report.specs.declared.outcome.End.TheVariants as ends
 use Rattle.pg_report.specs.declared.outcome.Outcome.{Outcome}
 use Rattle.pg_play.specs.declared.tally.Limits.{Limits}
-use Rattle.pg_play.specs.declared.tally.Tally.{Tally}
 use Rattle.pg_play.specs.Shown.{item_of, items_with, has_rows, answer_of}
 use Rattle.pg_startup.specs.Flows.{Flows}
 use Rattle.pg_startup.proofs.FlowLaws.{Flows-then, Flows-none, flows_begun}
 use Rattle.pg_play.proofs.WaitLaws.{still_grown, waits_none, waits_on}
-use Rattle.pg_play.specs.Calls.{Adds, Finishes, Waited, Went, InPlay, IsPlayingOn, IsPlaying, EndsStarved, IsDropped, broken_after, HasWaitedFew, IsFresh, EndsAtOnce, EndsOn, HasEnded, PollGives, PlaysCall, outcome_of, Ended, StopsBy, behind_end, begun_call}
+use Rattle.pg_play.specs.Calls.{Waited, Went, InPlay, IsPlayingOn, IsPlaying, EndsStarved, IsDropped, broken_after, HasWaitedFew, IsFresh, EndsAtOnce, EndsOn, HasEnded, IsLast, EndsCall, PlaysOne, outcome_of, Ended, StopsBy, behind_end}
 use Rattle.pg_conn.proofs.TurnLaws.{tells_from, spelled-append}
 
 -- ---- the stream, over any number of polls
@@ -116,32 +114,36 @@ waited_none : (a b : StreamSeen) → a ≡ b → Waited 0 a b
 waited_none a b e = rw (← e) (record { write_waits = 0; read_waits = 0; spent = 0; all = refl; writes = omega arith; reads = omega arith; moved = omega arith; waits = omega arith; moves = omega arith })
 
 -- nothing was shown and taken
-abbrev BeatStays : ConnSeen → ConnSeen → List CallItem → List Frame → Type 0
-BeatStays a c items fs = (items ≡ []) × (fs ≡ []) × (c ≡ idle (begun a))
+abbrev pub BeatStays : ConnSeen → ConnSeen → List CallItem → List Frame → Type 0
+BeatStays a c items fs = (items ≡ []) × (fs ≡ []) × (record c { stream = record c.stream { left = a.stream.left } } ≡ idle a)
 
 -- what no frame can say is refused by the beat, which does nothing else
-abbrev BeatRefuses : ConnSeen → ConnSeen → Request → List CallItem → List Frame → Beat → Type 0
+abbrev pub BeatRefuses : ConnSeen → ConnSeen → Request → List CallItem → List Frame → Beat → Type 0
 BeatRefuses a c r items fs (beats.Ends (Err e)) = IsRefusal r e × BeatStays a c items fs
 BeatRefuses a c r items fs _ = ⊥
 
 -- a flush with nothing to do ends, and does nothing
-abbrev BeatFlushes : ConnSeen → ConnSeen → List CallItem → List Frame → Beat → Type 0
+abbrev pub BeatFlushes : ConnSeen → ConnSeen → List CallItem → List Frame → Beat → Type 0
 BeatFlushes a c items fs (beats.Ends (Ok answer)) = (answer ≡ answers.Unit) × BeatStays a c items fs
 BeatFlushes a c items fs _ = ⊥
 
--- what the beat of a poll has in common, from the state a in which the call began
-record AfterBeat (a c : ConnSeen) (r : Request) (waits : ℕ) (items : List CallItem) (beat : Beat) (said : List FrontendMessage) (fs : List Frame) : Type 0 where
-  went : Went a c said fs
-  broken : c.broken ≡ None
-  asked : a.change ≡ change_of (kind_of r)
-  room : HasAllRoom a → HasAllRoom c
-  tells : Tells a c a.ledger r said (heard fs) items beat
-  waited : beat ≢ beats.Waits → Waited waits a.stream c.stream
-  calls : c.stream.link.calls ≤ a.stream.link.calls + 256 * (waits + length items + 1)
-  waits_more : beat ≡ beats.Waits → Waited (waits + 1) a.stream c.stream
-  unsaid : (CanBeSaid r → ⊥) → BeatRefuses a c r items fs beat
-  unflushed : is_flushed a ≡ true → BeatFlushes a c items fs beat
-  starved : beat ≡ beats.Waits → IsWaited c → EndsStarved a c
+-- behind a poll, of the whole call, where so many items were shown before it
+pub record OverPoll (first : StreamSeen) (a c : ConnSeen) (waits items : ℕ) (beat : Beat) : Type 0 where
+  pub waited : beat ≢ beats.Waits → Waited waits first c.stream
+  pub calls : c.stream.link.calls ≤ first.link.calls + 256 * (waits + items + 1)
+  pub waits_more : beat ≡ beats.Waits → Waited (waits + 1) first c.stream
+  pub starved : beat ≡ beats.Waits → IsWaited c → EndsStarved first a c
+
+-- what the beat of a poll has in common, from the state a in which the exchange began
+pub record AfterBeat (first : StreamSeen) (a c : ConnSeen) (r : Request) (waits : ℕ) (items : List CallItem) (beat : Beat) (said : List FrontendMessage) (fs : List Frame) : Type 0 where
+  pub went : Went a c said fs
+  pub broken : c.broken ≡ None
+  pub asked : a.change ≡ change_of (kind_of r)
+  pub room : HasAllRoom a → HasAllRoom c
+  pub tells : Tells a c a.ledger r said (heard fs) items beat
+  pub over : OverPoll first a c waits (length items) beat
+  pub unsaid : (CanBeSaid r → ⊥) → BeatRefuses a c r items fs beat
+  pub unflushed : is_flushed a ≡ true → BeatFlushes a c items fs beat
 
 heard_cause : (a b c : StreamSeen) (e : Error) → NoneFalls a.link b.link → HeardCause (record b { left = 256 }) c e → HeardCause a c e
 heard_cause a b c errors.OutOfMemory m h = tt
@@ -161,63 +163,72 @@ none_waited : (b c : ConnSeen) (beat : Beat) → BeatCause b c beat → beat ≢
 none_waited b c beats.More h n = h.2
 none_waited b c beats.Waits h n = absurd (n refl)
 none_waited b c (beats.Yields item) h n = h
-none_waited b c (beats.Ends answer) h n = h
+none_waited b c (beats.Ends (Ok answer)) h n = h.2
+none_waited b c (beats.Ends (Err e)) h n = h
 
 -- a beat waits or not
 waits_or_not : (b c : ConnSeen) (beat : Beat) → BeatCause b c beat → NoneWaited b.stream c.stream ⊎ PendingCause b.stream c.stream
 waits_or_not b c beats.More h = inl h.2
 waits_or_not b c beats.Waits h = inr h.0
 waits_or_not b c (beats.Yields item) h = inl h
-waits_or_not b c (beats.Ends answer) h = inl h
+waits_or_not b c (beats.Ends (Ok answer)) h = inl h.2
+waits_or_not b c (beats.Ends (Err e)) h = inl h
 
-starved_now : (a b c : ConnSeen) → NoneFalls a.stream.link b.stream.link → a.stream.moves ≤ b.stream.moves → BeatCause (begun_with 256 b) c beats.Waits → IsWaited c → EndsStarved a c
-starved_now a b c m v p w = elim w [
+starved_now : (n : ℕ) (first : StreamSeen) (a b c : ConnSeen) → a.stream.link.write_waits ≤ b.stream.link.write_waits → Waited n first b.stream → BeatCause (begun_with 256 b) c beats.Waits → IsWaited c → EndsStarved first a c
+starved_now n first a b c m v p w = elim w [
   | inl o ↦ elim p.0 [
-    | inl x ↦ inl (omega (arith, x.0, m.write_waits))
+    | inl x ↦ inl (omega (arith, x.0, m))
     | inr y ↦ elim y [
       | inl x ↦ inr (inr (x.1, x.2, o))
-      | inr x ↦ inr (inl (omega (arith, x.0, x.1.1, v)))
+      | inr x ↦ inr (inl (omega (arith, x.0, x.1.1, v.moves)))
     ]
   ]
   | inr only ↦ elim (p.1 only) [
-    | inl x ↦ inl (omega (arith, x.0, m.write_waits))
-    | inr x ↦ inr (inl (omega (arith, x.0, x.1.1, v)))
+    | inl x ↦ inl (omega (arith, x.0, m))
+    | inr x ↦ inr (inl (omega (arith, x.0, x.1.1, v.moves)))
   ]
 ]
 
-abbrev AfterSome : ConnSeen → ConnSeen → Request → ℕ → List CallItem → Beat → Type 0
-AfterSome a c r waits items beat = (said : List FrontendMessage) × (fs : List Frame) × AfterBeat a c r waits items beat said fs
+abbrev pub AfterSome : StreamSeen → ConnSeen → ConnSeen → Request → ℕ → List CallItem → Beat → Type 0
+AfterSome first a c r waits items beat = (said : List FrontendMessage) × (fs : List Frame) × AfterBeat first a c r waits items beat said fs
 
-tallies_begun : (a b : StreamSeen) → Tallies (record a { left = 256 }) b → Tallies a b
-tallies_begun a b t = record { write_waits = t.write_waits; read_waits = t.read_waits; moved = t.moved; waits = t.waits; moves = t.moves; writes = t.writes; reads = t.reads; moving = t.moving }
+tallies_begun : (left : ℕ) (a b : StreamSeen) → Tallies (record a { left = left }) b → Tallies a b
+tallies_begun left a b t = record { write_waits = t.write_waits; read_waits = t.read_waits; moved = t.moved; waits = t.waits; moves = t.moves; writes = t.writes; reads = t.reads; moving = t.moving }
 
-went_on : (a b c : ConnSeen) (said more : List FrontendMessage) (q : List ℕ) (fs gs : List Frame) → Went a b said fs → Moves (record b.stream { left = 256 }) c.stream q gs → spelled more ≡ q → GrewBy (count_by ends_request more) b.groups c.groups
-    → GrewBy (length (heard gs)) b.heard c.heard → (c.sent ≡ b.sent) × (c.read ≡ b.read) × (c.depth ≡ b.depth) × (c.change ≡ b.change) → NoneWaited b.stream c.stream ⊎ PendingCause (record b.stream { left = 256 }) c.stream → Went a c (said ++ more) (fs ++ gs)
-went_on a b c said more q fs gs w m e g h s waited = record {
-  flows = subst (λ (t : List ℕ). Flows a.stream c.stream t (fs ++ gs)) (ap (λ (t : List ℕ). spelled said ++ t) (sym e) ∙ sym (spelled-append said more)) (Flows-then a.stream b.stream c.stream (spelled said) q fs gs w.flows (flows_begun b.stream c.stream 256 q gs m));
-  tallies = Tallies-then a.stream b.stream c.stream w.tallies (tallies_begun b.stream c.stream m.tallies);
-  waits = waits_on a.stream b.stream c.stream fs gs w.waits (AreFrames-append fs gs w.flows.read.3 m.read.3) m.read waited;
+-- however many calls it might still make
+waits_freely : (left : ℕ) (b c : StreamSeen) → NoneWaited b c ⊎ PendingCause (record b { left = left }) c → NoneWaited b c ⊎ PendingCause (record b { left = 256 }) c
+waits_freely left b c (inl n) = inl n
+waits_freely left b c (inr (inl x)) = inr (inl x)
+waits_freely left b c (inr (inr (inl x))) = inr (inr (inl x))
+waits_freely left b c (inr (inr (inr x))) = inl x.1.2
+
+went_on : (left : ℕ) (a b c : ConnSeen) (said more : List FrontendMessage) (q : List ℕ) (fs gs : List Frame) → Went a b said fs → Moves (record b.stream { left = left }) c.stream q gs → spelled more ≡ q → GrewBy (count_by ends_request more) b.groups c.groups
+    → GrewBy (length (heard gs)) b.heard c.heard → (c.sent ≡ b.sent) × (c.read ≡ b.read) × (c.depth ≡ b.depth) × (c.change ≡ b.change) → NoneWaited b.stream c.stream ⊎ PendingCause (record b.stream { left = left }) c.stream → Went a c (said ++ more) (fs ++ gs)
+went_on left a b c said more q fs gs w m e g h s waited = record {
+  flows = subst (λ (t : List ℕ). Flows a.stream c.stream t (fs ++ gs)) (ap (λ (t : List ℕ). spelled said ++ t) (sym e) ∙ sym (spelled-append said more)) (Flows-then a.stream b.stream c.stream (spelled said) q fs gs w.flows (flows_begun b.stream c.stream left q gs m));
+  tallies = Tallies-then a.stream b.stream c.stream w.tallies (tallies_begun left b.stream c.stream m.tallies);
+  waits = waits_on a.stream b.stream c.stream fs gs w.waits (AreFrames-append fs gs w.flows.read.3 m.read.3) m.read (waits_freely left b.stream c.stream waited);
   groups = GrewBy-then _ _ _ _ _ _ w.groups g (count-append ends_request said more);
   heard = GrewBy-then _ _ _ _ _ _ w.heard h (ap (λ (t : List Frame). length t) (heard-append fs gs) ∙ length-append (heard fs) (heard gs));
   started = (s.0 ∙ w.started.0, s.1 ∙ w.started.1, s.2 ∙ w.started.2, s.3 ∙ w.started.3);
 }
 
 -- the first poll of a call took no frame, where it left the stream as it was
-first_stays : (a b c : ConnSeen) (r : Request) (waits : ℕ) (items : List CallItem) (said : List FrontendMessage) (fs gs : List Frame) (q : List ℕ) → InPlay a b r waits items said fs → IsFresh a b r fs → Moves (record b.stream { left = 256 }) c.stream q gs
-    → c ≡ idle (begun_with 256 b) → BeatStays a c items (fs ++ gs)
-first_stays a b c r waits items said fs gs q i f m e = (
+first_stays : (left : ℕ) (first : StreamSeen) (a b c : ConnSeen) (r : Request) (waits : ℕ) (items : List CallItem) (said : List FrontendMessage) (fs gs : List Frame) (q : List ℕ) → InPlay first a b r waits items said fs → IsFresh a b r fs → Moves (record b.stream { left = left }) c.stream q gs
+    → c ≡ idle (begun_with left b) → BeatStays a c items (fs ++ gs)
+first_stays left first a b c r waits items said fs gs q i f m e = (
   (subst (λ (k : Call). CallIs a.ledger r said (heard fs) items b.ledger k) (ap (λ (x : ConnSeen). x.call) f.0 ∙ f.1) i.call).4,
   ap (λ (x : List Frame). x ++ gs) f.2 ∙ no_frame gs (omega (arith, m.fuel, ap (λ (x : ConnSeen). fuel_of x.stream) e)),
-  e ∙ ap (λ (x : ConnSeen). idle (begun x)) f.0,
+  ap (λ (x : ConnSeen). record x { stream = record x.stream { left = a.stream.left } }) (e ∙ ap (λ (x : ConnSeen). idle (begun_with left x)) f.0),
 )
   where
     no_frame : (xs : List Frame) → length xs ≡ 0 → xs ≡ []
     no_frame [] k = refl
     no_frame (x ∷ xs) k = absurd (omega (arith, k))
 
-refuses_beat : (a b c : ConnSeen) (r : Request) (waits : ℕ) (items : List CallItem) (beat : Beat) (said : List FrontendMessage) (fs gs : List Frame) (q : List ℕ) → InPlay a b r waits items said fs → IsSayable b.call ⊎ Refused (begun_with 256 b) c beat → Moves (record b.stream { left = 256 }) c.stream q gs
+refuses_beat : (left : ℕ) (first : StreamSeen) (a b c : ConnSeen) (r : Request) (waits : ℕ) (items : List CallItem) (beat : Beat) (said : List FrontendMessage) (fs gs : List Frame) (q : List ℕ) → InPlay first a b r waits items said fs → IsSayable b.call ⊎ Refused (begun_with left b) c beat → Moves (record b.stream { left = left }) c.stream q gs
     → (CanBeSaid r → ⊥) → BeatRefuses a c r items (fs ++ gs) beat
-refuses_beat a b c r waits items beat said fs gs q i says m u = elim says [
+refuses_beat left first a b c r waits items beat said fs gs q i says m u = elim says [
   | inl can ↦ absurd (u (subst IsSayable asked can))
   | inr refused ↦ by beat refused
 ]
@@ -225,22 +236,33 @@ refuses_beat a b c r waits items beat said fs gs q i says m u = elim says [
     asked : b.call ≡ calls.Asked r
     asked = ap (λ (x : ConnSeen). x.call) (i.unsaid u).0 ∙ (i.unsaid u).1
 
-    by : (beat : Beat) → Refused (begun_with 256 b) c beat → BeatRefuses a c r items (fs ++ gs) beat
-    by (beats.Ends (Err e)) h = (subst (λ (k : Call). Refuses k e) asked h.0, first_stays a b c r waits items said fs gs q i (i.unsaid u) m h.1)
+    by : (beat : Beat) → Refused (begun_with left b) c beat → BeatRefuses a c r items (fs ++ gs) beat
+    by (beats.Ends (Err e)) h = (subst (λ (k : Call). Refuses k e) asked h.0, first_stays left first a b c r waits items said fs gs q i (i.unsaid u) m h.1)
     by (beats.Ends (Ok answer)) h = absurd h
     by (beats.Yields item) h = absurd h
     by beats.More h = absurd h
     by beats.Waits h = absurd h
 
-flushes_beat : (a b c : ConnSeen) (r : Request) (waits : ℕ) (items : List CallItem) (beat : Beat) (said : List FrontendMessage) (fs gs : List Frame) (q : List ℕ) → InPlay a b r waits items said fs → EndsFlush (begun_with 256 b) c beat → Moves (record b.stream { left = 256 }) c.stream q gs
+flushes_beat : (left : ℕ) (first : StreamSeen) (a b c : ConnSeen) (r : Request) (waits : ℕ) (items : List CallItem) (beat : Beat) (said : List FrontendMessage) (fs gs : List Frame) (q : List ℕ) → InPlay first a b r waits items said fs → EndsFlush (begun_with left b) c beat → Moves (record b.stream { left = left }) c.stream q gs
     → is_flushed a ≡ true → BeatFlushes a c items (fs ++ gs) beat
-flushes_beat a b c r waits items beat said fs gs q i flush m f =
+flushes_beat left first a b c r waits items beat said fs gs q i flush m f =
     let done = flush (ap is_flushed (i.unflushed f).0 ∙ f) in
-    subst (BeatFlushes a c items (fs ++ gs)) (sym done.0) (refl, first_stays a b c r waits items said fs gs q i (i.unflushed f) m done.1)
+    subst (BeatFlushes a c items (fs ++ gs)) (sym done.0) (refl, first_stays left first a b c r waits items said fs gs q i (i.unflushed f) m done.1)
 
-after_beat : (a b m : ConnSeen) (r : Request) (waits : ℕ) (items : List CallItem) (beat : Beat) (said : List FrontendMessage) (fs : List Frame) → InPlay a b r waits items said fs → TakesBeat (begun_with 256 b) m beat → m.broken ≡ None → IsSayable b.call ⊎ Refused (begun_with 256 b) m beat → EndsFlush (begun_with 256 b) m beat
-    → AfterSome a m r waits items beat
-after_beat a b m r waits items beat said fs i t whole says flush =
+-- what holds of the whole call behind a poll, whose last beat is this one
+pub over_poll : (first : StreamSeen) (a b c : ConnSeen) (waits items : ℕ) (beat : Beat) (q : List ℕ) (fs : List Frame) → a.stream.link.write_waits ≤ b.stream.link.write_waits → Waited waits first b.stream → b.stream.link.calls ≤ first.link.calls + 256 * (waits + items)
+    → Moves (record b.stream { left = 256 }) c.stream q fs → BeatCause (begun_with 256 b) c beat → OverPoll first a c waits items beat
+over_poll first a b c waits items beat q fs w v k moves cause = record {
+  waited = λ n. waited_after waits first b.stream c.stream moves.counts (none_waited (begun_with 256 b) c beat cause n) moves.tallies.moves.0 v;
+  calls = omega (arith, k, moves.calls);
+  waits_more = λ e. waited_more waits first b.stream c.stream moves.counts moves.tallies.moves.0 v (cause_of (begun_with 256 b) c beat cause e).0;
+  starved = λ e o. starved_now waits first a b c w v (cause_of (begun_with 256 b) c beat cause e) o;
+}
+
+-- A beat that begins with so many calls left. What it goes on from is counted from any stream.
+pub after_beat : (left : ℕ) (old first : StreamSeen) (a b m : ConnSeen) (r : Request) (before waits : ℕ) (items : List CallItem) (beat : Beat) (said : List FrontendMessage) (fs : List Frame) → InPlay old a b r before items said fs → TakesBeat (begun_with left b) m beat → m.broken ≡ None
+    → IsSayable b.call ⊎ Refused (begun_with left b) m beat → EndsFlush (begun_with left b) m beat → OverPoll first a m waits (length items) beat → AfterSome first a m r waits items beat
+after_beat left old first a b m r before waits items beat said fs i t whole says flush over =
     let turns = t.3 in
     let told = turns.tells a.ledger r said (heard fs) items i.call in
     let all : heard fs ++ t.2 ≡ heard (fs ++ t.1) = ap (λ (x : List Frame). heard fs ++ x) (sym turns.hears) ∙ sym (heard-append fs t.1) in
@@ -249,67 +271,55 @@ after_beat a b m r waits items beat said fs i t whole says flush =
       said ++ told.0,
       fs ++ t.1,
       record {
-        went = went_on a b m said told.0 t.0 fs t.1 i.went moves told.1 told.2 grew turns.started (waits_or_not (begun_with 256 b) m beat turns.cause);
+        went = went_on left a b m said told.0 t.0 fs t.1 i.went moves told.1 told.2 grew turns.started (waits_or_not (begun_with left b) m beat turns.cause);
         broken = whole;
         asked = i.asked;
         room = λ h. subst (λ (n : ℕ). HasRoomBeside (64 * n) m) (sym turns.started.2) (turns.room (64 * b.depth) (omega arith) (i.room h));
         tells = subst (λ (x : List Frame). Tells a m a.ledger r (said ++ told.0) x items beat) all (tells_from a b m a.ledger r (said ++ told.0) (heard fs ++ t.2) items beat i.went.flows.counts told.3);
-        waited = λ n. waited_after waits a.stream b.stream m.stream moves.counts (none_waited (begun_with 256 b) m beat turns.cause n) moves.tallies.moves.0 i.waited;
-        calls = omega (arith, i.calls, moves.calls);
-        waits_more = λ e. waited_more waits a.stream b.stream m.stream moves.counts moves.tallies.moves.0 i.waited (cause_of (begun_with 256 b) m beat turns.cause e).0;
-        unsaid = refuses_beat a b m r waits items beat said fs t.1 t.0 i says moves;
-        unflushed = flushes_beat a b m r waits items beat said fs t.1 t.0 i flush moves;
-        starved = λ e w. starved_now a b m i.went.flows.counts i.went.tallies.moves.0 (cause_of (begun_with 256 b) m beat turns.cause e) w;
+        over = over;
+        unsaid = refuses_beat left old a b m r before items beat said fs t.1 t.0 i says moves;
+        unflushed = flushes_beat left old a b m r before items beat said fs t.1 t.0 i flush moves;
       },
     )
 
 -- behind a poll, whether or not the connection was broken
-abbrev PlayBeat : Option ServerFault → ℕ → ConnSeen → ConnSeen → Request → ℕ → List Item → Beat → Type 0
-PlayBeat None most a c r waits shown beat = (items : List CallItem) × (shown ≡ map item_of items) × (length shown < most) × (m : ConnSeen) × (c ≡ behind beat m) × AfterSome a m r waits items beat
-PlayBeat (Some fault) most a c r waits shown beat = (c ≡ ended (idle a)) × (beat ≡ beats.Ends (Err (errors.Protocol (protocol.Server fault)))) × (shown ≡ []) × (a.groups ≡ 0)
-
-play_beat : (o : Option ServerFault) (most : ℕ) (a b c : ConnSeen) (r : Request) (waits : ℕ) (shown : List Item) (beat : Beat) → a.broken ≡ o → IsPlayingOn o most a b r waits shown → PollsBy b.broken (begun_with 256 b) b c beat → PlayBeat o most a c r waits shown beat
-play_beat None most a b c r waits shown beat e i p =
-    let whole = subst (λ (k : Option ServerFault). PollsBy k (begun_with 256 b) b c beat) i.5.broken p in
-    (i.0, i.3, i.4, whole.stopped, whole.behind_is, after_beat a b whole.stopped r waits i.0 beat i.1 i.2 i.5 whole.turns whole.whole whole.says whole.flush)
-play_beat (Some fault) most a b c r waits shown beat e i p =
-    let at_a = subst (λ (d : ConnSeen). PollsBy d.broken (begun_with 256 d) d c beat) i.0 p in
-    let broke = subst (λ (k : Option ServerFault). PollsBy k (begun_with 256 a) a c beat) e at_a in
-    (broke.0, broke.1, i.1, i.2)
+abbrev pub PlayBeat : Option ServerFault → ℕ → StreamSeen → ConnSeen → ConnSeen → Request → ℕ → List Item → Beat → Type 0
+PlayBeat None most first a c r waits shown beat = (items : List CallItem) × (shown ≡ map item_of items) × (length shown < most) × (m : ConnSeen) × (c ≡ behind beat m) × AfterSome first a m r waits items beat
+PlayBeat (Some fault) most first a c r waits shown beat = (c ≡ ended (idle a)) × (beat ≡ beats.Ends (Err (errors.Protocol (protocol.Server fault)))) × (shown ≡ []) × (a.groups ≡ 0) × (first ≡ a.stream)
 
 -- ---- what each beat makes of the call
 
 more_shown : (shown : List Item) (items : List CallItem) (item : CallItem) → shown ≡ map item_of items → shown ++ item_of item ∷ [] ≡ map item_of (items ++ item ∷ [])
 more_shown shown items item e = ap (λ (x : List Item). x ++ item_of item ∷ []) e ∙ sym (map-append item_of items (item ∷ []))
 
-goes_waits : (o : Option ServerFault) (most : ℕ) (a c : ConnSeen) (r : Request) (waits : ℕ) (shown : List Item) → PlayBeat o most a c r waits shown beats.Waits → IsPlayingOn o most a c r (waits + 1) shown
-goes_waits None most a c r waits shown h =
+pub goes_waits : (o : Option ServerFault) (most : ℕ) (first : StreamSeen) (a c : ConnSeen) (r : Request) (waits : ℕ) (shown : List Item) → PlayBeat o most first a c r waits shown beats.Waits → IsPlayingOn o most first a c r (waits + 1) shown
+goes_waits None most first a c r waits shown h =
     let after = h.5.2 in
-    let on : InPlay a h.3 r (waits + 1) h.0 h.5.0 h.5.1 = record { went = after.went; broken = after.broken; asked = after.asked; room = after.room; call = after.tells.0; waited = after.waits_more refl; calls = omega (arith, after.calls); unsaid = λ u. absurd (after.unsaid u); unflushed = λ f. absurd (after.unflushed f) } in
-    (h.0, h.5.0, h.5.1, h.1, h.2, subst (λ (x : ConnSeen). InPlay a x r (waits + 1) h.0 h.5.0 h.5.1) (sym h.4) on)
-goes_waits (Some fault) most a c r waits shown h = let e = h.1 in absurd cc
+    let on : InPlay first a h.3 r (waits + 1) h.0 h.5.0 h.5.1 = record { went = after.went; broken = after.broken; asked = after.asked; room = after.room; call = after.tells.0; waited = after.over.waits_more refl; calls = omega (arith, after.over.calls); unsaid = λ u. absurd (after.unsaid u); unflushed = λ f. absurd (after.unflushed f) } in
+    (h.0, h.5.0, h.5.1, h.1, h.2, subst (λ (x : ConnSeen). InPlay first a x r (waits + 1) h.0 h.5.0 h.5.1) (sym h.4) on)
+goes_waits (Some fault) most first a c r waits shown h = let e = h.1 in absurd cc
 
 -- fewer items than so many, and one more
 below_more : (shown : List Item) (item : Item) (most : ℕ) → length shown < most → length (shown ++ item ∷ []) ≢ most → length (shown ++ item ∷ []) < most
 below_more shown item most l n =
     omega (arith, l, n, length-append shown (item ∷ []))
 
-goes_yields : (o : Option ServerFault) (most : ℕ) (a c : ConnSeen) (r : Request) (waits : ℕ) (shown : List Item) (item : CallItem) → length (shown ++ item_of item ∷ []) ≢ most → PlayBeat o most a c r waits shown (beats.Yields item)
-    → IsPlayingOn o most a c r waits (shown ++ item_of item ∷ [])
-goes_yields None most a c r waits shown item n h =
+pub goes_yields : (o : Option ServerFault) (most : ℕ) (first : StreamSeen) (a c : ConnSeen) (r : Request) (waits : ℕ) (shown : List Item) (item : CallItem) → length (shown ++ item_of item ∷ []) ≢ most → PlayBeat o most first a c r waits shown (beats.Yields item)
+    → IsPlayingOn o most first a c r waits (shown ++ item_of item ∷ [])
+goes_yields None most first a c r waits shown item n h =
     let after = h.5.2 in
-    let on : InPlay a h.3 r waits (h.0 ++ item ∷ []) h.5.0 h.5.1 = record { went = after.went; broken = after.broken; asked = after.asked; room = after.room; call = after.tells; waited = after.waited (λ e. absurd cc); calls = omega (arith, after.calls, length-append h.0 (item ∷ [])); unsaid = λ u. absurd (after.unsaid u); unflushed = λ f. absurd (after.unflushed f) } in
-    (h.0 ++ item ∷ [], h.5.0, h.5.1, more_shown shown h.0 item h.1, below_more shown (item_of item) most h.2 n, subst (λ (x : ConnSeen). InPlay a x r waits (h.0 ++ item ∷ []) h.5.0 h.5.1) (sym h.4) on)
-goes_yields (Some fault) most a c r waits shown item n h = let e = h.1 in absurd cc
+    let on : InPlay first a h.3 r waits (h.0 ++ item ∷ []) h.5.0 h.5.1 = record { went = after.went; broken = after.broken; asked = after.asked; room = after.room; call = after.tells; waited = after.over.waited (λ e. absurd cc); calls = omega (arith, after.over.calls, length-append h.0 (item ∷ [])); unsaid = λ u. absurd (after.unsaid u); unflushed = λ f. absurd (after.unflushed f) } in
+    (h.0 ++ item ∷ [], h.5.0, h.5.1, more_shown shown h.0 item h.1, below_more shown (item_of item) most h.2 n, subst (λ (x : ConnSeen). InPlay first a x r waits (h.0 ++ item ∷ []) h.5.0 h.5.1) (sym h.4) on)
+goes_yields (Some fault) most first a c r waits shown item n h = let e = h.1 in absurd cc
 
 -- an end that the first poll doesn't make
 not_at_once : (a c : ConnSeen) (r : Request) (shown : List Item) (end : End) (fs : List Frame) → ((CanBeSaid r → ⊥) → ⊥) → (is_flushed a ≡ true → ⊥) → EndsAtOnce a c r shown end fs
 not_at_once a c r shown end fs n m = record { refused = λ u. absurd (n u); flushed = λ f. absurd (m f) }
 
 -- an end on a connection that was whole
-ended_whole : (limits : Limits) (a c : ConnSeen) (r : Request) (shown : List Item) (end : End) (said : List FrontendMessage) (fs : List Frame) → a.broken ≡ None → Went a c said fs
-    → c.broken ≡ broken_after None end → HasWaitedFew limits.polls a.stream c.stream end → (HasAllRoom a → HasAllRoom c) → c.stream.link.calls ≤ a.stream.link.calls + 256 * (limits.polls + limits.most) → EndsAtOnce a c r shown end fs → EndsOn None limits a c r said (heard fs) shown end → HasEnded limits a c r shown end
-ended_whole limits a c r shown end said fs e w k few room made once n = (
+ended_whole : (limits : Limits) (first : StreamSeen) (a c : ConnSeen) (r : Request) (shown : List Item) (end : End) (said : List FrontendMessage) (fs : List Frame) → a.broken ≡ None → Went a c said fs
+    → c.broken ≡ broken_after None end → HasWaitedFew limits.polls first c.stream end → (HasAllRoom a → HasAllRoom c) → c.stream.link.calls ≤ first.link.calls + 256 * (limits.polls + limits.most) → EndsAtOnce a c r shown end fs → EndsOn None limits first a c r said (heard fs) shown end → EndsCall r end → HasEnded limits first a c r shown end
+ended_whole limits first a c r shown end said fs e w k few room made once n call = (
   said,
   fs,
   record {
@@ -320,8 +330,9 @@ ended_whole limits a c r shown end said fs e w k few room made once n = (
     room = room;
     calls = made;
     at_once = λ o. once;
-    ends = subst (λ (o : Option ServerFault). EndsOn o limits a c r said (heard fs) shown end) (sym e) n;
+    ends = subst (λ (o : Option ServerFault). EndsOn o limits first a c r said (heard fs) shown end) (sym e) n;
   },
+  call,
 )
 
 went_none : (a c : ConnSeen) → c ≡ idle a → Went a c [] []
@@ -338,19 +349,19 @@ went_none a c k = rw k (record {
 nothing_opens : (a : ConnSeen) → a.groups ≡ 0 → cleaned (idle a) ≡ ended (idle a)
 nothing_opens a e = rw e refl
 
-ended_broken : (limits : Limits) (a c : ConnSeen) (r : Request) (fault : ServerFault) → 0 < limits.polls → a.broken ≡ Some fault → c ≡ ended (idle a) → a.groups ≡ 0 → StopsBy limits a c r [] (ends.Err (errors.Protocol (protocol.Server fault)))
-ended_broken limits a c r fault l e k g = (idle a, ([], [], stays), inl (refl, k ∙ sym (nothing_opens a g)))
+ended_broken : (limits : Limits) (first : StreamSeen) (a c : ConnSeen) (r : Request) (fault : ServerFault) → 0 < limits.polls → a.broken ≡ Some fault → c ≡ ended (idle a) → a.groups ≡ 0 → first ≡ a.stream → StopsBy limits first a c r [] (ends.Err (errors.Protocol (protocol.Server fault)))
+ended_broken limits first a c r fault l e k g same = (idle a, ([], [], stays, tt), inl (refl, k ∙ sym (nothing_opens a g)))
   where
-    stays : Ended limits a (idle a) r [] (ends.Err (errors.Protocol (protocol.Server fault))) [] []
+    stays : Ended limits first a (idle a) r [] (ends.Err (errors.Protocol (protocol.Server fault))) [] []
     stays = record {
       went = went_none a (idle a) refl;
       broken = e ∙ sym (ap (λ (o : Option ServerFault). broken_after o (ends.Err (errors.Protocol (protocol.Server fault)))) e);
       kept = λ f h. refl;
-      few = (0, waited_none a.stream a.stream refl, (λ d. l, omega arith));
+      few = (0, waited_none first a.stream same, (λ d. l, omega arith));
       room = λ h. omega (arith, h);
-      calls = omega arith;
+      calls = omega (arith, ap (λ (x : StreamSeen). x.link.calls) same);
       at_once = λ o. let x = sym e ∙ o in absurd cc;
-      ends = subst (λ (o : Option ServerFault). EndsOn o limits a (idle a) r [] [] [] (ends.Err (errors.Protocol (protocol.Server fault)))) (sym e) (refl, refl, refl, refl, refl);
+      ends = subst (λ (o : Option ServerFault). EndsOn o limits first a (idle a) r [] [] [] (ends.Err (errors.Protocol (protocol.Server fault)))) (sym e) (refl, refl, refl, refl, refl);
     }
 
 -- the fault that an end shows breaks the connection
@@ -367,50 +378,60 @@ below_items : (shown : List Item) (items : List CallItem) (most : ℕ) → shown
 below_items shown items most e l = omega (arith, l, ap (λ (x : List Item). length x) e, length-map items item_of)
 
 -- each of its polls but the last one waited or showed an item
-few_calls : (a c : ConnSeen) (waits items : ℕ) (limits : Limits) → waits < limits.polls → items < limits.most → c.stream.link.calls ≤ a.stream.link.calls + 256 * (waits + items + 1) → c.stream.link.calls ≤ a.stream.link.calls + 256 * (limits.polls + limits.most)
-few_calls a c waits items limits l m k = omega (arith, l, m, k)
+few_calls : (first : StreamSeen) (c : ConnSeen) (waits items : ℕ) (limits : Limits) → waits < limits.polls → items < limits.most → c.stream.link.calls ≤ first.link.calls + 256 * (waits + items + 1) → c.stream.link.calls ≤ first.link.calls + 256 * (limits.polls + limits.most)
+few_calls first c waits items limits l m k = omega (arith, l, m, k)
 
 -- an end that isn't a drop
 ends_few : (limits : Limits) (a c : StreamSeen) (waits : ℕ) (end : End) → waits < limits.polls → Waited waits a c → HasWaitedFew limits.polls a c end
 ends_few limits a c waits end l w = (waits, w, (λ d. l, omega (arith, l)))
 
-unbroken : (m : ConnSeen) → m.broken ≡ None → record m { broken = None } ≡ m
-unbroken m e = ap (λ (o : Option ServerFault). record m { broken = o }) (sym e)
+unleft : (a m : ConnSeen) → m.broken ≡ None → record m { broken = None; stream = record m.stream { left = a.stream.left } } ≡ record m { stream = record m.stream { left = a.stream.left } }
+unleft a m e = ap (λ (o : Option ServerFault). record m { broken = o; stream = record m.stream { left = a.stream.left } }) (sym e)
 
-goes_ok : (limits : Limits) (o : Option ServerFault) (a c : ConnSeen) (r : Request) (waits : ℕ) (old new : List Item) (answer : CallAnswer) (told : Answer) → waits < limits.polls → a.broken ≡ o → new ≡ items_with old answer → told ≡ answer_of answer
-    → PlayBeat o limits.most a c r waits old (beats.Ends (Ok answer)) → StopsBy limits a c r new (ends.Ok told)
-goes_ok limits None a c r waits old new answer told l e n t h =
+ok_same : (x y : CallAnswer) → ◌≡◌ {A = Result CallAnswer Error} (Ok x) (Ok y) → x ≡ y
+ok_same x y e = cc
+
+-- what hands on nothing ends the call
+ends_last : (r : Request) (reply : List BackendMessage) (status : TransactionStatus) (answer : CallAnswer) → answer_by r reply status ≡ Ok answer → ((next : Request) → answer ≡ answers.Next next → ⊥) → IsLast r
+ends_last (requests.Describe x) reply status answer e n d = n _ (sym (ok_same _ _ e))
+ends_last (requests.Run bound) reply status answer e n d = cc
+ends_last _ reply status answer e n d = cc
+
+pub goes_ok : (limits : Limits) (o : Option ServerFault) (first : StreamSeen) (a c : ConnSeen) (r : Request) (waits : ℕ) (old new : List Item) (answer : CallAnswer) (told : Answer) → waits < limits.polls → a.broken ≡ o → new ≡ items_with old answer → told ≡ answer_of answer
+    → ((next : Request) → answer ≡ answers.Next next → ⊥) → PlayBeat o limits.most first a c r waits old (beats.Ends (Ok answer)) → StopsBy limits first a c r new (ends.Ok told)
+goes_ok limits None first a c r waits old new answer told l e n t none h =
     let m = h.3 in
+    let fine = h.5.2.tells.1 in
     let after = h.5.2 in
-    let ended = ended_whole limits a m r new (ends.Ok told) h.5.0 h.5.1 e after.went after.broken (ends_few limits a.stream m.stream waits (ends.Ok told) l (after.waited (λ d. absurd cc))) after.room (few_calls a m waits (length h.0) limits l (below_items old h.0 limits.most h.1 h.2) after.calls)
-    (record { refused = λ u. absurd (after.unsaid u); flushed = λ f. let x = after.unflushed f in (ap (λ (z : Answer). ends.Ok z) (t ∙ ap answer_of x.0), (n ∙ ap (λ (z : CallAnswer). items_with old z) x.0 ∙ h.1 ∙ ap (map item_of) x.1.0, x.1.1, unbroken m after.broken ∙ x.1.2)) })
-    (h.0, answer, n ∙ ap (λ (x : List Item). items_with x answer) h.1, below_items old h.0 limits.most h.1 h.2, t, after.tells.1, after.tells.2) in
+    let ended = ended_whole limits first a m r new (ends.Ok told) h.5.0 h.5.1 e after.went after.broken (ends_few limits first m.stream waits (ends.Ok told) l (after.over.waited (λ d. absurd cc))) after.room (few_calls first m waits (length h.0) limits l (below_items old h.0 limits.most h.1 h.2) after.over.calls)
+    (record { refused = λ u. absurd (after.unsaid u); flushed = λ f. let x = after.unflushed f in (ap (λ (z : Answer). ends.Ok z) (t ∙ ap answer_of x.0), (n ∙ ap (λ (z : CallAnswer). items_with old z) x.0 ∙ h.1 ∙ ap (map item_of) x.1.0, x.1.1, unleft a m after.broken ∙ x.1.2)) })
+    (h.0, answer, n ∙ ap (λ (x : List Item). items_with x answer) h.1, below_items old h.0 limits.most h.1 h.2, t, after.tells.1, after.tells.2) (ends_last r fine.0.reply fine.0.status answer fine.1 none) in
     (m, ended, inl (after.tells.0, h.4))
-goes_ok limits (Some fault) a c r waits old new answer told l e n t h = let x = h.1 in absurd cc
+goes_ok limits (Some fault) first a c r waits old new answer told l e n t none h = let x = h.1 in absurd cc
 
 units_none : (answer : CallAnswer) → ◌≡◌ {A = Result CallAnswer Error} (Ok answers.Unit) (Ok answer) → has_rows answer ≡ true → ⊥
 units_none answers.Unit e h = cc
 units_none (answers.Total n) e h = cc
 units_none (answers.Rows rows) e h = cc
 units_none (answers.OneRow row) e h = cc
+units_none (answers.Next next) e h = cc
+
+begins_none : (status : TransactionStatus) (answer : CallAnswer) → begun_by_status status ≡ Ok answer → has_rows answer ≡ true → ⊥
+begins_none statuses.Transaction (answers.Rows rows) e h = absurd cc
+begins_none statuses.Transaction (answers.OneRow row) e h = absurd cc
+begins_none statuses.Transaction answers.Unit e h = cc
+begins_none statuses.Transaction (answers.Total n) e h = cc
+begins_none statuses.Transaction (answers.Next next) e h = cc
+begins_none statuses.Idle answer e h = cc
+begins_none statuses.Error answer e h = cc
 
 -- a call with rows opens and closes nothing
-rows_stay : (kind : Kind) (t : RowTally) (status : TransactionStatus) (answer : CallAnswer) → finished kind t status ≡ Ok answer → has_rows answer ≡ true → change_of kind ≡ changes.Stays
-rows_stay (kinds.Run how) t status answer e h = refl
-rows_stay kinds.Begin t status answer e h = absurd (begins_none status answer e h)
-  where
-    begins_none : (status : TransactionStatus) (answer : CallAnswer) → begun_by_status status ≡ Ok answer → has_rows answer ≡ true → ⊥
-    begins_none statuses.Transaction (answers.Rows rows) e h = absurd cc
-    begins_none statuses.Transaction (answers.OneRow row) e h = absurd cc
-    begins_none statuses.Transaction answers.Unit e h = cc
-    begins_none statuses.Transaction (answers.Total n) e h = cc
-    begins_none statuses.Idle answer e h = cc
-    begins_none statuses.Error answer e h = cc
-rows_stay kinds.Commit t status answer e h = absurd (units_none answer e h)
-rows_stay kinds.Rollback t status answer e h = absurd (units_none answer e h)
-rows_stay kinds.Ping t status answer e h = refl
-rows_stay kinds.Flush t status answer e h = refl
-rows_stay kinds.Close t status answer e h = refl
+rows_stay : (r : Request) (reply : List BackendMessage) (status : TransactionStatus) (answer : CallAnswer) → answer_by r reply status ≡ Ok answer → has_rows answer ≡ true → change_of (kind_of r) ≡ changes.Stays
+rows_stay (requests.Begin depth) reply status answer e h = absurd (begins_none status answer e h)
+rows_stay (requests.BeginWith query) reply status answer e h = absurd (begins_none status answer e h)
+rows_stay (requests.Commit left) reply status answer e h = absurd (units_none answer e h)
+rows_stay (requests.Rollback left) reply status answer e h = absurd (units_none answer e h)
+rows_stay _ reply status answer e h = refl
 
 -- nothing is made of the connection by the end of such a call
 settled_stays : (m : ConnSeen) → m.change ≡ changes.Stays → settled m ≡ ended m
@@ -433,17 +454,17 @@ stays_behind end m e = by end ∙ ap (λ (c : Change). record m { change = c }) 
     by ends.Dropped = cleaned_stays m e
 
 -- without memory for the items of the answer
-goes_unshown : (limits : Limits) (o : Option ServerFault) (a c : ConnSeen) (r : Request) (waits : ℕ) (old new : List Item) (answer : CallAnswer) (f : Error) → waits < limits.polls → a.broken ≡ o → new ≡ [] → f ≡ errors.OutOfMemory → has_rows answer ≡ true
-    → PlayBeat o limits.most a c r waits old (beats.Ends (Ok answer)) → StopsBy limits a c r new (ends.Err f)
-goes_unshown limits None a c r waits old new answer f l e n t b h =
+pub goes_unshown : (limits : Limits) (o : Option ServerFault) (first : StreamSeen) (a c : ConnSeen) (r : Request) (waits : ℕ) (old new : List Item) (answer : CallAnswer) (f : Error) → waits < limits.polls → a.broken ≡ o → new ≡ [] → f ≡ errors.OutOfMemory → has_rows answer ≡ true
+    → PlayBeat o limits.most first a c r waits old (beats.Ends (Ok answer)) → StopsBy limits first a c r new (ends.Err f)
+goes_unshown limits None first a c r waits old new answer f l e n t b h =
     let m = h.3 in
     let after = h.5.2 in
     let fine = after.tells.1 in
-    let stays = after.went.started.3 ∙ after.asked ∙ rows_stay (kind_of r) (tally_of (kind_of r) (items_of fine.0.reply)) fine.0.status answer fine.1 b in
-    let ended = ended_whole limits a m r new (ends.Err errors.OutOfMemory) h.5.0 h.5.1 e after.went after.broken (ends_few limits a.stream m.stream waits (ends.Err errors.OutOfMemory) l (after.waited (λ d. absurd cc))) after.room (few_calls a m waits (length h.0) limits l (below_items old h.0 limits.most h.1 h.2) after.calls)
-    (not_at_once a m r new (ends.Err errors.OutOfMemory) h.5.1 after.unsaid (λ k. let x = sym (ap has_rows (after.unflushed k).0) ∙ b in absurd cc)) (inr (h.0, n, refl, fine.0)) in
+    let stays = after.went.started.3 ∙ after.asked ∙ rows_stay r fine.0.reply fine.0.status answer fine.1 b in
+    let ended = ended_whole limits first a m r new (ends.Err errors.OutOfMemory) h.5.0 h.5.1 e after.went after.broken (ends_few limits first m.stream waits (ends.Err errors.OutOfMemory) l (after.over.waited (λ d. absurd cc))) after.room (few_calls first m waits (length h.0) limits l (below_items old h.0 limits.most h.1 h.2) after.over.calls)
+    (not_at_once a m r new (ends.Err errors.OutOfMemory) h.5.1 after.unsaid (λ k. let x = sym (ap has_rows (after.unflushed k).0) ∙ b in absurd cc)) (inr (h.0, n, refl, fine.0)) tt in
     rw t (m, ended, inl (after.tells.0, h.4 ∙ settled_stays m stays ∙ sym (cleaned_stays m stays)))
-goes_unshown limits (Some fault) a c r waits old new answer f l e n t b h = let x = h.1 in absurd cc
+goes_unshown limits (Some fault) first a c r waits old new answer f l e n t b h = let x = h.1 in absurd cc
 
 broken_same : (e : Error) → broken_by (beats.Ends (Err e)) ≡ broken_after None (ends.Err e)
 broken_same (errors.Protocol (protocol.Server fault)) = refl
@@ -453,14 +474,14 @@ broken_same _ = refl
 same_error : (e e' : Error) → beats.Ends (Err e) ≡ beats.Ends (Err e') → e ≡ e'
 same_error e e' h = cc
 
-goes_err : (limits : Limits) (o : Option ServerFault) (a c : ConnSeen) (r : Request) (waits : ℕ) (shown : List Item) (err : Error) → waits < limits.polls → a.broken ≡ o → PlayBeat o limits.most a c r waits shown (beats.Ends (Err err)) → StopsBy limits a c r shown (ends.Err err)
-goes_err limits None a c r waits shown err l e h =
+pub goes_err : (limits : Limits) (o : Option ServerFault) (first : StreamSeen) (a c : ConnSeen) (r : Request) (waits : ℕ) (shown : List Item) (err : Error) → waits < limits.polls → a.broken ≡ o → PlayBeat o limits.most first a c r waits shown (beats.Ends (Err err)) → StopsBy limits first a c r shown (ends.Err err)
+goes_err limits None first a c r waits shown err l e h =
     let m = h.3 in
     let after = h.5.2 in
-    let ended = ended_whole limits a (faulted err m) r shown (ends.Err err) h.5.0 h.5.1 e (went_faulted a m err h.5.0 h.5.1 after.went) (broken_same err) (ends_few limits a.stream m.stream waits (ends.Err err) l (after.waited (λ d. absurd cc))) after.room (few_calls a (faulted err m) waits (length h.0) limits l (below_items shown h.0 limits.most h.1 h.2) after.calls)
-    (record { refused = λ u. let x = after.unsaid u in (err, x.0, refl, (h.1 ∙ ap (map item_of) x.1.0, x.1.1, unbroken m after.broken ∙ x.1.2)); flushed = λ f. absurd (after.unflushed f) }) (inl (h.0, h.1, h.2, after.tells.1)) in
+    let ended = ended_whole limits first a (faulted err m) r shown (ends.Err err) h.5.0 h.5.1 e (went_faulted a m err h.5.0 h.5.1 after.went) (broken_same err) (ends_few limits first m.stream waits (ends.Err err) l (after.over.waited (λ d. absurd cc))) after.room (few_calls first (faulted err m) waits (length h.0) limits l (below_items shown h.0 limits.most h.1 h.2) after.over.calls)
+    (record { refused = λ u. let x = after.unsaid u in (err, x.0, refl, (h.1 ∙ ap (map item_of) x.1.0, x.1.1, unleft a m after.broken ∙ x.1.2)); flushed = λ f. absurd (after.unflushed f) }) (inl (h.0, h.1, h.2, after.tells.1)) tt in
     (faulted err m, ended, inl (after.tells.0, h.4))
-goes_err limits (Some fault) a c r waits shown err l e h = rw (same_error err (errors.Protocol (protocol.Server fault)) h.1, h.2) (ended_broken limits a c r fault (omega (arith, l)) e h.0 h.3)
+goes_err limits (Some fault) first a c r waits shown err l e h = rw (same_error err (errors.Protocol (protocol.Server fault)) h.1, h.2) (ended_broken limits first a c r fault (omega (arith, l)) e h.0 h.3 h.4)
 
 -- ---- a call that is given up
 
@@ -472,28 +493,28 @@ call_runs start r said hs items ledger (calls.Own reply) i = refl
 call_runs start r said hs items ledger calls.Closing i = refl
 call_runs start r said hs items ledger calls.Idle i = absurd i
 
-drops : (limits : Limits) (o : Option ServerFault) (most : ℕ) (a c : ConnSeen) (r : Request) (waits : ℕ) (items : List CallItem) (shown : List Item) (said : List FrontendMessage) (fs : List Frame) → a.broken ≡ None → shown ≡ map item_of items → InPlay a c r waits items said fs
-    → ((CanBeSaid r → ⊥) → ⊥) → (is_flushed a ≡ true → ⊥) → waits ≤ limits.polls → IsDropped limits a c shown → length shown ≤ limits.most → StopsBy limits a c r shown ends.Dropped
-drops limits o most a c r waits items shown said fs e k i n m l d b =
-    let ended = ended_whole limits a c r shown ends.Dropped said fs e i.went i.broken (waits, i.waited, (λ n. absurd (n refl), l)) i.room (omega (arith, i.calls, l, b, ap (λ (x : List Item). length x) k, length-map items item_of)) (not_at_once a c r shown ends.Dropped fs n m)
-    (items, k, leaves_call a.ledger r said (heard fs) items c.ledger c.call i.call, call_well a.ledger r said (heard fs) items c.ledger c.call i.call, d, b) in
+drops : (limits : Limits) (o : Option ServerFault) (most : ℕ) (first : StreamSeen) (a c : ConnSeen) (r : Request) (waits : ℕ) (items : List CallItem) (shown : List Item) (said : List FrontendMessage) (fs : List Frame) → a.broken ≡ None → shown ≡ map item_of items → InPlay first a c r waits items said fs
+    → ((CanBeSaid r → ⊥) → ⊥) → (is_flushed a ≡ true → ⊥) → waits ≤ limits.polls → IsDropped limits first a c shown → length shown ≤ limits.most → StopsBy limits first a c r shown ends.Dropped
+drops limits o most first a c r waits items shown said fs e k i n m l d b =
+    let ended = ended_whole limits first a c r shown ends.Dropped said fs e i.went i.broken (waits, i.waited, (λ n. absurd (n refl), l)) i.room (omega (arith, i.calls, l, b, ap (λ (x : List Item). length x) k, length-map items item_of)) (not_at_once a c r shown ends.Dropped fs n m)
+    (items, k, leaves_call a.ledger r said (heard fs) items c.ledger c.call i.call, call_well a.ledger r said (heard fs) items c.ledger c.call i.call, d, b) tt in
     (c, ended, inr (call_runs a.ledger r said (heard fs) items c.ledger c.call i.call, refl, refl))
 
-drops_waiting : (limits : Limits) (o : Option ServerFault) (a c : ConnSeen) (r : Request) (waits : ℕ) (shown : List Item) → waits + 1 ≡ limits.polls → a.broken ≡ o → PlayBeat o limits.most a c r waits shown beats.Waits → StopsBy limits a c r shown ends.Dropped
-drops_waiting limits None a c r waits shown k e h =
+pub drops_waiting : (limits : Limits) (o : Option ServerFault) (first : StreamSeen) (a c : ConnSeen) (r : Request) (waits : ℕ) (shown : List Item) → waits + 1 ≡ limits.polls → a.broken ≡ o → PlayBeat o limits.most first a c r waits shown beats.Waits → StopsBy limits first a c r shown ends.Dropped
+drops_waiting limits None first a c r waits shown k e h =
     let m = h.3 in
     let after = h.5.2 in
     let call = after.tells.0 in
-    subst (λ (x : ConnSeen). StopsBy limits a x r shown ends.Dropped) (sym h.4) (drops limits None limits.most a m r (waits + 1) h.0 shown h.5.0 h.5.1 e h.1 (record { went = after.went; broken = after.broken; asked = after.asked; room = after.room; call = call; waited = after.waits_more refl; calls = omega (arith, after.calls); unsaid = λ u. absurd (after.unsaid u); unflushed = λ f. absurd (after.unflushed f) }) after.unsaid after.unflushed (omega (arith, k))
-    (inl (subst (λ (n : ℕ). Waited n a.stream m.stream) k (after.waits_more refl), after.starved refl after.tells.1)) (omega (arith, h.2)))
-drops_waiting limits (Some fault) a c r waits shown k e h = let x = h.1 in absurd cc
+    subst (λ (x : ConnSeen). StopsBy limits first a x r shown ends.Dropped) (sym h.4) (drops limits None limits.most first a m r (waits + 1) h.0 shown h.5.0 h.5.1 e h.1 (record { went = after.went; broken = after.broken; asked = after.asked; room = after.room; call = call; waited = after.over.waits_more refl; calls = omega (arith, after.over.calls); unsaid = λ u. absurd (after.unsaid u); unflushed = λ f. absurd (after.unflushed f) }) after.unsaid after.unflushed (omega (arith, k))
+    (inl (subst (λ (n : ℕ). Waited n first m.stream) k (after.over.waits_more refl), after.over.starved refl after.tells.1)) (omega (arith, h.2)))
+drops_waiting limits (Some fault) first a c r waits shown k e h = let x = h.1 in absurd cc
 
-drops_shown : (limits : Limits) (o : Option ServerFault) (a c : ConnSeen) (r : Request) (waits : ℕ) (old new : List Item) (item : CallItem) → waits < limits.polls → new ≡ old ++ item_of item ∷ [] → length new ≡ limits.most → a.broken ≡ o → PlayBeat o limits.most a c r waits old (beats.Yields item)
-    → StopsBy limits a c r new ends.Dropped
-drops_shown limits None a c r waits old new item l k m e h =
+pub drops_shown : (limits : Limits) (o : Option ServerFault) (first : StreamSeen) (a c : ConnSeen) (r : Request) (waits : ℕ) (old new : List Item) (item : CallItem) → waits < limits.polls → new ≡ old ++ item_of item ∷ [] → length new ≡ limits.most → a.broken ≡ o → PlayBeat o limits.most first a c r waits old (beats.Yields item)
+    → StopsBy limits first a c r new ends.Dropped
+drops_shown limits None first a c r waits old new item l k m e h =
     let after = h.5.2 in
-    subst (λ (x : ConnSeen). StopsBy limits a x r new ends.Dropped) (sym h.4) (drops limits None limits.most a h.3 r waits (h.0 ++ item ∷ []) new h.5.0 h.5.1 e (k ∙ more_shown old h.0 item h.1) (record { went = after.went; broken = after.broken; asked = after.asked; room = after.room; call = after.tells; waited = after.waited (λ d. absurd cc); calls = omega (arith, after.calls, length-append h.0 (item ∷ [])); unsaid = λ u. absurd (after.unsaid u); unflushed = λ f. absurd (after.unflushed f) }) after.unsaid after.unflushed (omega (arith, l)) (inr m) (omega (arith, m)))
-drops_shown limits (Some fault) a c r waits old new item l k m e h = let x = h.1 in absurd cc
+    subst (λ (x : ConnSeen). StopsBy limits first a x r new ends.Dropped) (sym h.4) (drops limits None limits.most first a h.3 r waits (h.0 ++ item ∷ []) new h.5.0 h.5.1 e (k ∙ more_shown old h.0 item h.1) (record { went = after.went; broken = after.broken; asked = after.asked; room = after.room; call = after.tells; waited = after.over.waited (λ d. absurd cc); calls = omega (arith, after.over.calls, length-append h.0 (item ∷ [])); unsaid = λ u. absurd (after.unsaid u); unflushed = λ f. absurd (after.unflushed f) }) after.unsaid after.unflushed (omega (arith, l)) (inr m) (omega (arith, m)))
+drops_shown limits (Some fault) first a c r waits old new item l k m e h = let x = h.1 in absurd cc
 
 -- the items before the last one are the first ones
 leaves_fewer : (start : Ledger) (r : Request) (said : List FrontendMessage) (hs : List Frame) (items : List CallItem) (item : CallItem) (ledger : Ledger) → Leaves start r said hs (items ++ item ∷ []) ledger false → Leaves start r said hs items ledger false
@@ -518,93 +539,61 @@ leaves_fewer start r said hs items item ledger l = record {
     some_end (i ∷ is) item h = absurd cc
 
 -- without memory for an item
-goes_unkept : (limits : Limits) (o : Option ServerFault) (a c : ConnSeen) (r : Request) (waits : ℕ) (old new : List Item) (item : CallItem) (f : Error) → waits < limits.polls → new ≡ old → f ≡ errors.OutOfMemory → a.broken ≡ o → PlayBeat o limits.most a c r waits old (beats.Yields item)
-    → StopsBy limits a c r new (ends.Err f)
-goes_unkept limits None a c r waits old new item f l k t e h =
+pub goes_unkept : (limits : Limits) (o : Option ServerFault) (first : StreamSeen) (a c : ConnSeen) (r : Request) (waits : ℕ) (old new : List Item) (item : CallItem) (f : Error) → waits < limits.polls → new ≡ old → f ≡ errors.OutOfMemory → a.broken ≡ o → PlayBeat o limits.most first a c r waits old (beats.Yields item)
+    → StopsBy limits first a c r new (ends.Err f)
+goes_unkept limits None first a c r waits old new item f l k t e h =
     let m = h.3 in
     let after = h.5.2 in
     let more = leaves_call a.ledger r h.5.0 (heard h.5.1) (h.0 ++ item ∷ []) m.ledger m.call after.tells in
-    let ended = ended_whole limits a m r old (ends.Err errors.OutOfMemory) h.5.0 h.5.1 e after.went after.broken (ends_few limits a.stream m.stream waits (ends.Err errors.OutOfMemory) l (after.waited (λ d. absurd cc))) after.room (few_calls a m waits (length h.0) limits l (below_items old h.0 limits.most h.1 h.2) after.calls) (not_at_once a m r old (ends.Err errors.OutOfMemory) h.5.1 after.unsaid after.unflushed)
-    (inl (h.0, h.1, h.2, inr (leaves_fewer a.ledger r h.5.0 (heard h.5.1) h.0 item m.ledger more, call_well a.ledger r h.5.0 (heard h.5.1) (h.0 ++ item ∷ []) m.ledger m.call after.tells, inl (tt, tt)))) in
+    let ended = ended_whole limits first a m r old (ends.Err errors.OutOfMemory) h.5.0 h.5.1 e after.went after.broken (ends_few limits first m.stream waits (ends.Err errors.OutOfMemory) l (after.over.waited (λ d. absurd cc))) after.room (few_calls first m waits (length h.0) limits l (below_items old h.0 limits.most h.1 h.2) after.over.calls) (not_at_once a m r old (ends.Err errors.OutOfMemory) h.5.1 after.unsaid after.unflushed)
+    (inl (h.0, h.1, h.2, inr (leaves_fewer a.ledger r h.5.0 (heard h.5.1) h.0 item m.ledger more, call_well a.ledger r h.5.0 (heard h.5.1) (h.0 ++ item ∷ []) m.ledger m.call after.tells, inl (tt, tt)))) tt in
     rw (k, t) (m, ended, inr (call_runs a.ledger r h.5.0 (heard h.5.1) (h.0 ++ item ∷ []) m.ledger m.call after.tells, h.4, refl))
-goes_unkept limits (Some fault) a c r waits old new item f l k t e h = let x = h.1 in absurd cc
-
--- ---- one poll
-
-pub poll_goes : (limits : Limits) (a b c : ConnSeen) (r : Request) (waits : ℕ) (shown : List Item) → IsPlaying limits.most a b r waits shown → PollsBy b.broken (begun_with 256 b) b c beats.Waits → PollGives limits a c r (waits + 1) shown None
-poll_goes limits a b c r waits shown i p = goes_waits a.broken limits.most a c r waits shown (play_beat a.broken limits.most a b c r waits shown beats.Waits refl i p)
-
-pub poll_drops : (limits : Limits) (a b c : ConnSeen) (r : Request) (waits : ℕ) (shown : List Item) → waits + 1 ≡ limits.polls → IsPlaying limits.most a b r waits shown → PollsBy b.broken (begun_with 256 b) b c beats.Waits → PollGives limits a c r (waits + 1) shown (Some ends.Dropped)
-poll_drops limits a b c r waits shown k i p = drops_waiting limits a.broken a c r waits shown k refl (play_beat a.broken limits.most a b c r waits shown beats.Waits refl i p)
-
-pub poll_ok : (limits : Limits) (a b c : ConnSeen) (r : Request) (old new : Tally) (answer : CallAnswer) (end : End) → old.waits < limits.polls → Finishes answer old new end → IsPlaying limits.most a b r old.waits old.items.items → PollsBy b.broken (begun_with 256 b) b c (beats.Ends (Ok answer))
-    → PollGives limits a c r new.waits new.items.items (Some end)
-poll_ok limits a b c r old new answer (ends.Ok told) l f i p = goes_ok limits a.broken a c r old.waits old.items.items new.items.items answer told l refl f.1 f.2 (play_beat a.broken limits.most a b c r old.waits old.items.items (beats.Ends (Ok answer)) refl i p)
-poll_ok limits a b c r old new answer (ends.Err e) l f i p = goes_unshown limits a.broken a c r old.waits old.items.items new.items.items answer e l refl f.1 f.2 f.3 (play_beat a.broken limits.most a b c r old.waits old.items.items (beats.Ends (Ok answer)) refl i p)
-poll_ok limits a b c r old new answer ends.Dropped l f i p = absurd f
-
-pub poll_err : (limits : Limits) (a b c : ConnSeen) (r : Request) (waits : ℕ) (shown : List Item) (e : Error) → waits < limits.polls → IsPlaying limits.most a b r waits shown → PollsBy b.broken (begun_with 256 b) b c (beats.Ends (Err e)) → PollGives limits a c r waits shown (Some (ends.Err e))
-poll_err limits a b c r waits shown e l i p = goes_err limits a.broken a c r waits shown e l refl (play_beat a.broken limits.most a b c r waits shown (beats.Ends (Err e)) refl i p)
-
-playing_at : (o : Option ServerFault) (most : ℕ) (a c : ConnSeen) (r : Request) (w w' : ℕ) (is is' : List Item) → w' ≡ w → is' ≡ is → IsPlayingOn o most a c r w is → IsPlayingOn o most a c r w' is'
-playing_at o most a c r w w' is is' x y h = subst (λ (n : ℕ). IsPlayingOn o most a c r n is') (sym x) (subst (λ (t : List Item). IsPlayingOn o most a c r w t) (sym y) h)
-
-pub poll_item : (limits : Limits) (a b c : ConnSeen) (r : Request) (old new : Tally) (item : CallItem) (end : Option End) → old.waits < limits.polls → Adds limits item old new end → IsPlaying limits.most a b r old.waits old.items.items → PollsBy b.broken (begun_with 256 b) b c (beats.Yields item)
-    → PollGives limits a c r new.waits new.items.items end
-poll_item limits a b c r old new item None l g i p =
-    playing_at a.broken limits.most a c r old.waits new.waits (old.items.items ++ item_of item ∷ []) new.items.items g.0 g.1
-    (goes_yields a.broken limits.most a c r old.waits old.items.items item (rw g.1 at g.2) (play_beat a.broken limits.most a b c r old.waits old.items.items (beats.Yields item) refl i p))
-poll_item limits a b c r old new item (Some ends.Dropped) l g i p = drops_shown limits a.broken a c r old.waits old.items.items new.items.items item l g.1 g.2 refl (play_beat a.broken limits.most a b c r old.waits old.items.items (beats.Yields item) refl i p)
-poll_item limits a b c r old new item (Some (ends.Err e)) l g i p = goes_unkept limits a.broken a c r old.waits old.items.items new.items.items item e l g.1 g.2 refl (play_beat a.broken limits.most a b c r old.waits old.items.items (beats.Yields item) refl i p)
-poll_item limits a b c r old new item (Some (ends.Ok told)) l g i p = absurd g
+goes_unkept limits (Some fault) first a c r waits old new item f l k t e h = let x = h.1 in absurd cc
 
 -- ---- the first poll
 
-pub playing_runs : (most : ℕ) (a b : ConnSeen) (r : Request) (waits : ℕ) (shown : List Item) → runs a.call ≡ true → IsPlaying most a b r waits shown → runs b.call ≡ true
-playing_runs most a b r waits shown k i = by a.broken i
+pub playing_one : (most : ℕ) (first : StreamSeen) (a b : ConnSeen) (r : Request) (waits : ℕ) (shown : List Item) → runs a.call ≡ true → IsPlaying most first a b r waits shown → runs b.call ≡ true
+playing_one most first a b r waits shown k i = by a.broken i
   where
-    by : (o : Option ServerFault) → IsPlayingOn o most a b r waits shown → runs b.call ≡ true
+    by : (o : Option ServerFault) → IsPlayingOn o most first a b r waits shown → runs b.call ≡ true
     by None i = call_runs a.ledger r i.1 (heard i.2) i.0 b.ledger b.call i.5.call
     by (Some fault) i = ap (λ (s : ConnSeen). runs s.call) i.0 ∙ k
 
-pub play_starts : (most : ℕ) (a : ConnSeen) (r : Request) → 0 < most → a.call ≡ calls.Asked r → a.change ≡ change_of (kind_of r) → a.groups ≡ 0 → IsPlaying most a a r 0 []
+-- an exchange that was not polled yet
+pub fresh_play : (a : ConnSeen) (r : Request) → a.broken ≡ None → a.call ≡ calls.Asked r → a.change ≡ change_of (kind_of r) → InPlay a.stream a a r 0 [] [] []
+fresh_play a r e k c = record {
+  went = record {
+    flows = Flows-none a.stream a.stream refl refl refl refl;
+    tallies = Tallies-none a.stream a.stream refl refl refl;
+    waits = waits_none a.stream;
+    groups = (omega arith, omega arith, omega arith);
+    heard = (omega arith, omega arith, omega arith);
+    started = (refl, refl, refl, refl);
+  };
+  broken = e;
+  call = subst (λ (c : Call). CallIs a.ledger r [] [] [] a.ledger c) (sym k) (refl, refl, refl, refl, refl);
+  asked = c;
+  room = λ h. h;
+  waited = waited_none a.stream a.stream refl;
+  calls = omega arith;
+  unsaid = λ u. (refl, k, refl);
+  unflushed = λ f. (refl, k, refl);
+}
+
+pub play_starts : (most : ℕ) (a : ConnSeen) (r : Request) → 0 < most → a.call ≡ calls.Asked r → a.change ≡ change_of (kind_of r) → a.groups ≡ 0 → IsPlaying most a.stream a a r 0 []
 play_starts most a r m k c g = starts_on a.broken refl
   where
-    starts_on : (o : Option ServerFault) → a.broken ≡ o → IsPlayingOn o most a a r 0 []
-    starts_on None e = (
-      [],
-      [],
-      [],
-      refl,
-      m,
-      record {
-        went = record {
-          flows = Flows-none a.stream a.stream refl refl refl refl;
-          tallies = Tallies-none a.stream a.stream refl refl refl;
-          waits = waits_none a.stream;
-          groups = (omega arith, omega arith, omega arith);
-          heard = (omega arith, omega arith, omega arith);
-          started = (refl, refl, refl, refl);
-        };
-        broken = e;
-        call = subst (λ (c : Call). CallIs a.ledger r [] [] [] a.ledger c) (sym k) (refl, refl, refl, refl, refl);
-        asked = c;
-        room = λ h. h;
-        waited = waited_none a.stream a.stream refl;
-        calls = omega arith;
-        unsaid = λ u. (refl, k, refl);
-        unflushed = λ f. (refl, k, refl);
-      },
-    )
-    starts_on (Some fault) e = (refl, refl, g)
+    starts_on : (o : Option ServerFault) → a.broken ≡ o → IsPlayingOn o most a.stream a a r 0 []
+    starts_on None e = ([], [], [], refl, m, fresh_play a r e k c)
+    starts_on (Some fault) e = (refl, refl, g, refl)
 
 -- ---- the end
 
-ends_idle : (o : Option ServerFault) (limits : Limits) (a c : ConnSeen) (r : Request) (said : List FrontendMessage) (hs : List Frame) (shown : List Item) (end : End) → EndsOn o limits a c r said hs shown end → EndsOn o limits a (idle c) r said hs shown end
-ends_idle None limits a c r said hs shown (ends.Ok told) h = h
-ends_idle None limits a c r said hs shown (ends.Err e) h = h
-ends_idle None limits a c r said hs shown ends.Dropped h = h
-ends_idle (Some fault) limits a c r said hs shown end h = h
+ends_idle : (o : Option ServerFault) (limits : Limits) (first : StreamSeen) (a c : ConnSeen) (r : Request) (said : List FrontendMessage) (hs : List Frame) (shown : List Item) (end : End) → EndsOn o limits first a c r said hs shown end → EndsOn o limits first a (idle c) r said hs shown end
+ends_idle None limits first a c r said hs shown (ends.Ok told) h = h
+ends_idle None limits first a c r said hs shown (ends.Err e) h = h
+ends_idle None limits first a c r said hs shown ends.Dropped h = h
+ends_idle (Some fault) limits first a c r said hs shown end h = h
 
 once_idle : (a c : ConnSeen) (r : Request) (shown : List Item) (end : End) (fs : List Frame) → EndsAtOnce a c r shown end fs → EndsAtOnce a (idle c) r shown end fs
 once_idle a c r shown end fs h = record {
@@ -613,10 +602,10 @@ once_idle a c r shown end fs h = record {
 }
 
 -- the call is given up, or was over
-pub given_up : (limits : Limits) (a c : ConnSeen) (r : Request) (shown : List Item) (end : End) → HasEnded limits a c r shown end → HasEnded limits a (idle c) r shown end
-given_up limits a c r shown end h =
+pub given_up : (limits : Limits) (first : StreamSeen) (a c : ConnSeen) (r : Request) (shown : List Item) (end : End) → HasEnded limits first a c r shown end → HasEnded limits first a (idle c) r shown end
+given_up limits first a c r shown end h =
     let w = h.2.went in
-    (h.0, h.1, record { went = record { flows = w.flows; tallies = w.tallies; waits = w.waits; groups = w.groups; heard = w.heard; started = w.started }; broken = h.2.broken; kept = h.2.kept; few = h.2.few; room = λ x. let y = h.2.room x in omega (arith, y); calls = h.2.calls; at_once = λ o. once_idle a c r shown end h.1 (h.2.at_once o); ends = ends_idle a.broken limits a c r h.0 (heard h.1) shown end h.2.ends })
+    (h.0, h.1, record { went = record { flows = w.flows; tallies = w.tallies; waits = w.waits; groups = w.groups; heard = w.heard; started = w.started }; broken = h.2.broken; kept = h.2.kept; few = h.2.few; room = λ x. let y = h.2.room x in omega (arith, y); calls = h.2.calls; at_once = λ o. once_idle a c r shown end h.1 (h.2.at_once o); ends = ends_idle a.broken limits first a c r h.0 (heard h.1) shown end h.2.ends }, h.3)
 
 -- a call that has ended is not given up once more
 left_idle : (c : ConnSeen) → c.call ≡ calls.Idle → left c ≡ c
@@ -654,15 +643,15 @@ behind_other (ends.Ok answer) c h = ap idle h ∙ idled (may_open c.change c.gro
     idled true false = refl
     idled false h = refl
 
-pub plays_call : (limits : Limits) (a c d : ConnSeen) (r : Request) (waits : ℕ) (shown : List Item) (end : End) (out : Outcome) → PollGives limits a c r waits shown (Some end) → d ≡ left c → out ≡ outcome_of d shown end → PlaysCall limits a d r out
-plays_call limits a c d r waits shown end out g k e = rw e (by g.2)
+pub plays_one : (limits : Limits) (first : StreamSeen) (a c d : ConnSeen) (r : Request) (shown : List Item) (end : End) (out : Outcome) → StopsBy limits first a c r shown end → d ≡ left c → out ≡ outcome_of d shown end → PlaysOne limits first a d r out
+plays_one limits first a c d r shown end out g k e = rw e (by g.2)
   where
-    by : ((g.0.call ≡ calls.Idle) × (c ≡ behind_end end g.0)) ⊎ ((runs g.0.call ≡ true) × (c ≡ g.0) × (behind_end end g.0 ≡ cleaned g.0)) → PlaysCall limits a d r (outcome_of d shown end)
+    by : ((g.0.call ≡ calls.Idle) × (c ≡ behind_end end g.0)) ⊎ ((runs g.0.call ≡ true) × (c ≡ g.0) × (behind_end end g.0 ≡ cleaned g.0)) → PlaysOne limits first a d r (outcome_of d shown end)
     by (inl (over, is)) =
         let rests : c.call ≡ calls.Idle = ap (λ (x : ConnSeen). x.call) is ∙ behind_idle end g.0 ∙ over in
         (g.0, g.1, over, k ∙ left_idle c rests ∙ is, refl)
     by (inr (running, is, other)) =
-        (idle g.0, given_up limits a g.0 r shown end g.1, refl, k ∙ ap left is ∙ left_running g.0 running ∙ sym (behind_other end g.0 other), refl)
+        (idle g.0, given_up limits first a g.0 r shown end g.1, refl, k ∙ ap left is ∙ left_running g.0 running ∙ sym (behind_other end g.0 other), refl)
 
 -- ---- over a link
 
@@ -687,10 +676,3 @@ seen_rolled_one {A} seen c = by (nat_eq c.depth 0) (has_room_for (spelled (rollb
 
 pub seen_rolled : {A : Type 0} (seen : A → LinkSeen) (c : ConnOf A) → seen_by seen (rolled_back c) ≡ rolled_back (seen_by seen c)
 seen_rolled {A} seen c = seen_rolled_one seen (left c) ∙ ap (λ (x : ConnSeen). rolled (ended (counted_anew x))) (seen_left seen c)
-
--- where none ran, a call has begun and nothing else was done
-pub began : {A : Type 0} (limits : Limits) (seen : A → LinkSeen) (c : ConnOf A) (d : ConnSeen) (r : Request) (out : Outcome) → c.call ≡ calls.Idle → PlaysCall limits (seen_by seen (started_call r c)) d r out → PlaysCall limits (begun_call r (seen_by seen c)) d r out
-began {A} limits seen c d r out e p = subst (λ (x : ConnSeen). PlaysCall limits x d r out) (same seen r c e) p
-  where
-    same : (seen : A → LinkSeen) (r : Request) (c : ConnOf A) → c.call ≡ calls.Idle → seen_by seen (started_call r c) ≡ begun_call r (seen_by seen c)
-    same seen r c e = rw e refl

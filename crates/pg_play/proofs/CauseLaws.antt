@@ -19,9 +19,10 @@ use Rattle.pg_call.specs.declared.request.Request.{Request}
 use Rattle.pg_call.specs.declared.answer.CallItem.{CallItem}
 use Rattle.pg_call.specs.declared.answer.CallItem.TheVariants as call_items
 use Rattle.pg_call.specs.declared.ledger.Ledger.{Ledger}
+use Rattle.pg_exchanges.specs.Expecting.{Widths, BeginsKnowing}
 use Rattle.pg_call.specs.declared.judging.Part.{Part}
-use Rattle.pg_call.specs.declared.judging.Part.TheVariants.{First, Further, Rows, Synced}
-use Rattle.pg_call.specs.Requests.{Group, groups_of}
+use Rattle.pg_call.specs.declared.judging.Part.TheVariants.{First, Further, Running}
+use Rattle.pg_call.specs.Requests.{Group, groups_of, widths_of}
 use Rattle.pg_call.specs.Items.{items_of, rows_in}
 use Rattle.pg_call.specs.Replies.{may_copy, begins_copy}
 use Rattle.pg_call.specs.Drains.{after_readys}
@@ -34,9 +35,10 @@ use Rattle.pg_report.specs.declared.outcome.End.{End}
 use Rattle.pg_report.specs.declared.outcome.End.TheVariants as ends
 use Rattle.pg_script.specs.declared.step.Step.{Step}
 use Rattle.pg_play.specs.Shown.{request_of, is_row, item_of}
-use Rattle.pg_play.specs.Calls.{Waited, EndsOn, EndsStarved, limits_of, outcome_of, begun_call}
+use Rattle.pg_play.specs.declared.tally.Limits.{Limits}
+use Rattle.pg_play.specs.Calls.{Waited, EndsOn, EndsStarved, limits_of, outcome_of, Counted, asking}
 use Rattle.pg_play.specs.Places.{Place, readies, refuses_copy}
-use Rattle.pg_play.specs.Causes.{IsFront, IsUnlawful, ShowsFault, IsAskedToCopy, HasNoRow, Causes, IsStarved, AnsweredPending, HasCause, BeginsNone}
+use Rattle.pg_play.specs.Causes.{IsFront, IsUnlawful, ShowsFault, IsAskedToCopy, HasNoRow, Causes, IsStarved, AnsweredPending, IsDropped, HasCause, BeginsNone}
 use Rattle.pg_play.specs.Plays.{StandsAt}
 use Rattle.pg_play.proofs.PartLaws.{no_error}
 use Rattle.pg_play.proofs.StepLaws.{Summary, QueuedOwn, begins_one}
@@ -57,23 +59,23 @@ owes_next start at a r said fs items ledger copied st s o = omega (arith, o, st.
 
 -- ---- errors of the stream
 
-shows_header : (at : Place) (b : ConnSeen) (said : List FrontendMessage) (own : List Group) (fs hs : List Frame) (end : End) (fault : ServerFault) → HeardCause b.stream b.stream (errors.Protocol (protocol.Server fault)) → ShowsFault at own hs (next_place at b said own fs end) fault
-shows_header at b said own fs hs end (faults.Malformed tag) h = inl h
-shows_header at b said own fs hs end (faults.Unlawful tag) h = absurd h
-shows_header at b said own fs hs end _ h = h
+shows_header : (widths : Widths) (at : Place) (b : ConnSeen) (said : List FrontendMessage) (own : List Group) (fs hs : List Frame) (end : End) (fault : ServerFault) → HeardCause b.stream b.stream (errors.Protocol (protocol.Server fault)) → ShowsFault widths at own hs (next_place at b said own fs end) fault
+shows_header widths at b said own fs hs end (faults.Malformed tag) h = inl h
+shows_header widths at b said own fs hs end (faults.Unlawful tag) h = absurd h
+shows_header widths at b said own fs hs end _ h = h
 
 -- the same whatever the stream was before
 header_now : (a b : StreamSeen) (fault : ServerFault) → HeardCause a b (errors.Protocol (protocol.Server fault)) → HeardCause b b (errors.Protocol (protocol.Server fault))
 header_now a b (faults.Malformed tag) h = h
 header_now a b _ h = h
 
-stream_cause : (start : StreamSeen) (at : Place) (a b : ConnSeen) (step : Step) (said : List FrontendMessage) (fs : List Frame) (items : List CallItem) (copied : Bool) (end : End) (e : Error) → StandsAt start at a → (s : Summary a.ledger (request_of at.depth step.call) said (heard fs) items b.ledger copied)
-    → HeardCause (begun_call (request_of at.depth step.call) a).stream b.stream e → IsMissed b.ledger e → Causes at step s.own (heard fs) (next_place at b said s.own fs end) e
-stream_cause start at a b step said fs items copied end errors.OutOfMemory st s h m = tt
-stream_cause start at a b step said fs items copied end (errors.Io io.Fault) st s h m = rw (← st.seen) h
-stream_cause start at a b step said fs items copied end (errors.Io io.End) st s h m = (rw (← st.seen) h.0, h.1, owes_next start at a (request_of at.depth step.call) said fs items b.ledger copied st s m)
-stream_cause start at a b step said fs items copied end (errors.Protocol (protocol.Server fault)) st s h m = inr (shows_header at b said s.own fs (heard fs) end fault (header_now (begun_call (request_of at.depth step.call) a).stream b.stream fault h))
-stream_cause start at a b step said fs items copied end _ st s h m = absurd h
+stream_cause : (start : StreamSeen) (old : Counted) (at : Place) (a b : ConnSeen) (step : Step) (said : List FrontendMessage) (fs : List Frame) (items : List CallItem) (copied : Bool) (end : End) (e : Error) → StandsAt start at a → (s : Summary a.ledger (request_of at.depth step.call) said (heard fs) items b.ledger copied)
+    → HeardCause (asking (request_of at.depth step.call) old a).stream b.stream e → IsMissed b.ledger e → Causes at step s.own (heard fs) (next_place at b said s.own fs end) e
+stream_cause start old at a b step said fs items copied end errors.OutOfMemory st s h m = tt
+stream_cause start old at a b step said fs items copied end (errors.Io io.Fault) st s h m = rw (← st.seen) h
+stream_cause start old at a b step said fs items copied end (errors.Io io.End) st s h m = (rw (← st.seen) h.0, h.1, owes_next start at a (request_of at.depth step.call) said fs items b.ledger copied st s m)
+stream_cause start old at a b step said fs items copied end (errors.Protocol (protocol.Server fault)) st s h m = inr (shows_header (widths_of (request_of at.depth step.call)) at b said s.own fs (heard fs) end fault (header_now (asking (request_of at.depth step.call) old a).stream b.stream fault h))
+stream_cause start old at a b step said fs items copied end _ st s h m = absurd h
 
 -- ---- the frame in front
 
@@ -84,7 +86,7 @@ front_cause start at a b step said fs items items' copied end e st s l (front, r
     is_front : IsFront (next_place at b said s.own fs end) front
     is_front = record { rest = rest; whole = whole; answers = answers; held = held }
 
-    unlawful : (tag : ℕ) → IsFrontFault a.ledger (request_of at.depth step.call) l.own (heard fs) front (errors.Protocol (protocol.Server (faults.Unlawful tag))) → IsUnlawful at s.own (heard fs) (next_place at b said s.own fs end) tag
+    unlawful : (tag : ℕ) → IsFrontFault a.ledger (request_of at.depth step.call) l.own (heard fs) front (errors.Protocol (protocol.Server (faults.Unlawful tag))) → IsUnlawful (widths_of (request_of at.depth step.call)) at s.own (heard fs) (next_place at b said s.own fs end) tag
     unlawful tag (t, message, own, count, (group, is, none)) =
         let one : length l.own ≡ 1 = ap (λ (g : List Group). length g) (own ∙ is) in
         let q = whole_own a.ledger (request_of at.depth step.call) said (heard fs) items' items b.ledger copied false s l own one in
@@ -96,7 +98,7 @@ front_cause start at a b step said fs items items' copied end e st s l (front, r
           group = group;
           last = q.own_is ∙ is;
           in_own = omega (arith, st.ledger, count, ended_next at fs);
-          none = subst (λ (x : List Frame). BeginsCopyResponse group (x ++ front ∷ []) → ⊥) (sym (main_after start at a (request_of at.depth step.call) s.own (heard fs) st q)) none;
+          none = subst (λ (x : List Frame). BeginsKnowing (widths_of (request_of at.depth step.call)) group (x ++ front ∷ []) → ⊥) (sym (main_after start at a (request_of at.depth step.call) s.own (heard fs) st q)) none;
         }
 
     by : (e : Error) → IsFrontFault a.ledger (request_of at.depth step.call) l.own (heard fs) front e → Causes at step s.own (heard fs) (next_place at b said s.own fs end) e
@@ -117,8 +119,8 @@ begins_none _ e = absurd cc
 pub copies_begin : (part : Part) (m : BackendMessage) → may_copy part m ≡ true → begins_copy m ≡ true
 copies_begin First m e = e
 copies_begin Further m e = e
-copies_begin (Rows columns) m e = absurd cc
-copies_begin Synced m e = absurd cc
+copies_begin (Running width) m e = e
+copies_begin _ m e = absurd cc
 
 copy_cause : (start : StreamSeen) (at : Place) (a b : ConnSeen) (step : Step) (said : List FrontendMessage) (fs : List Frame) (items items' : List CallItem) (copied copied' : Bool) (tag : ℕ) → StandsAt start at a → (s : Summary a.ledger (request_of at.depth step.call) said (heard fs) items b.ledger copied)
     → (l : Leaves a.ledger (request_of at.depth step.call) said (heard fs) items' b.ledger copied') → l.own ≡ groups_of (request_of at.depth step.call) → length l.own ≡ 1 → EndsInCopy a.ledger (request_of at.depth step.call) (heard fs) tag → IsAskedToCopy at step s.own (heard fs) tag
@@ -159,7 +161,7 @@ row_cause : (start : StreamSeen) (at : Place) (a b : ConnSeen) (step : Step) (sa
     → CallEnds a.ledger (request_of at.depth step.call) said (heard fs) items b.ledger (Err errors.RowNotFound) → HasNoRow at step s.own (heard fs) (next_place at b said s.own fs end)
 row_cause start at a b step said fs items items' copied end st s h =
     let f = h.0 in
-    let found = not_found at.depth step.call (items_of f.reply) f.status h.1 in
+    let found = not_found at.depth step.call f.reply f.status h.1 in
     let carried = fine_carries start at a at.depth step.call said (heard fs) items items' b.ledger copied st s f in
     record {
       wants = found.0;
@@ -175,7 +177,7 @@ begin_cause : (start : StreamSeen) (at : Place) (a b : ConnSeen) (step : Step) (
     → CallEnds a.ledger (request_of at.depth step.call) said (heard fs) items b.ledger (Err (errors.BeginFailed status)) → BeginsNone at step s.own (heard fs) status
 begin_cause start at a b step said fs items items' copied end status st s h =
     let f = h.0 in
-    let found = begun_failed at.depth step.call (items_of f.reply) f.status status h.1 in
+    let found = begun_failed at.depth step.call f.reply f.status status h.1 in
     let whole = fine_own a.ledger (request_of at.depth step.call) said (heard fs) items items' b.ledger copied s f in
     elim f.last [
       | inl none ↦ absurd (begins_one at.depth step.call found.0 none)
@@ -202,35 +204,21 @@ call_cause start at a b step said fs items items' copied end (errors.Protocol (p
 call_cause start at a b step said fs items items' copied end (errors.Protocol _) st s h = absurd h
 call_cause start at a b step said fs items items' copied end _ st s h = absurd h
 
--- ---- a call that was dropped
+-- ---- an end, of whatever kind
 
--- an outcome counts the waits and the moves of the stream
-pub pending_in : (a b : ConnSeen) (r : Request) (polls : ℕ) (shown : List Item) (end : End) → polls < 2 ^ 32 → Waited polls (begun_call r a).stream b.stream → AnsweredPending (outcome_of b shown end) polls
-pending_in a b r polls shown end p w = (w.spent, omega (arith, p, w.all, w.waits), omega (arith, p, w.all, w.moves))
-
-starved_at : (start : StreamSeen) (at : Place) (a b : ConnSeen) (step : Step) (said : List FrontendMessage) (fs : List Frame) (items : List CallItem) (copied : Bool) (shown : List Item) (end : End) → StandsAt start at a → (s : Summary a.ledger (request_of at.depth step.call) said (heard fs) items b.ledger copied)
-    → EndsStarved (begun_call (request_of at.depth step.call) a) b → IsStarved at (outcome_of b shown end) (next_place at b said s.own fs end)
-starved_at start at a b step said fs items copied shown end st s (inl w) = inl (rw (← st.seen) w)
-starved_at start at a b step said fs items copied shown end st s (inr (inl m)) = inr (inl (omega (arith, m)))
-starved_at start at a b step said fs items copied shown end st s (inr (inr x)) = inr (inr (x.0, x.1, owes_next start at a (request_of at.depth step.call) said fs items b.ledger copied st s x.2))
-
-pub cause_step : (o : Option ServerFault) (start : StreamSeen) (at : Place) (a b : ConnSeen) (step : Step) (said : List FrontendMessage) (fs : List Frame) (shown : List Item) (end : End) (items : List CallItem) → StandsAt start at a → at.broken ≡ o → step.polls < 2 ^ 32
-    → EndsOn o (limits_of step) (begun_call (request_of at.depth step.call) a) b (request_of at.depth step.call) said (heard fs) shown end → (s : Summary a.ledger (request_of at.depth step.call) said (heard fs) items b.ledger (refuses_copy end))
-    → HasCause at step (outcome_of b shown end) s.own (heard fs) (next_place at b said s.own fs end) end
-cause_step None start at a b step said fs shown (ends.Ok told) items st w p h s = tt
-cause_step None start at a b step said fs shown (ends.Err e) items st w p (inl (xs, k, l, inl h)) s = call_cause start at a b step said fs xs items (refuses_copy (ends.Err e)) (ends.Err e) e st s h
-cause_step None start at a b step said fs shown (ends.Err e) items st w p (inl (xs, k, l, inr (left, well, inl (heard_so, missed)))) s = stream_cause start at a b step said fs items (refuses_copy (ends.Err e)) (ends.Err e) e st s heard_so missed
-cause_step None start at a b step said fs shown (ends.Err e) items st w p (inl (xs, k, l, inr (left, well, inr front))) s = front_cause start at a b step said fs items xs (refuses_copy (ends.Err e)) (ends.Err e) e st s left front
-cause_step None start at a b step said fs shown (ends.Err e) items st w p (inr (xs, k, z, f)) s = subst (λ (x : Error). Causes at step s.own (heard fs) (next_place at b said s.own fs (ends.Err e)) x) (sym z) tt
-cause_step None start at a b step said fs shown ends.Dropped items st w p h s = elim h.4 [
-  | inl waited ↦ inr (inl (pending_in a b (request_of at.depth step.call) step.polls shown ends.Dropped p waited.0, starved_at start at a b step said fs items false shown ends.Dropped st s waited.1))
-  | inr most ↦ inr (inr most)
-]
-cause_step (Some fault) start at a b step said fs shown end items st w p h s = by end h.0 s
+pub cause_step : (o : Option ServerFault) (limits : Limits) (start first : StreamSeen) (old : Counted) (at : Place) (a b : ConnSeen) (step : Step) (said : List FrontendMessage) (fs : List Frame) (shown : List Item) (end : End) (items : List CallItem) → StandsAt start at a → at.broken ≡ o
+    → EndsOn o limits first (asking (request_of at.depth step.call) old a) b (request_of at.depth step.call) said (heard fs) shown end → (s : Summary a.ledger (request_of at.depth step.call) said (heard fs) items b.ledger (refuses_copy end)) → HasCause at step s.own (heard fs) (next_place at b said s.own fs end) end
+cause_step None limits start first old at a b step said fs shown (ends.Ok told) items st w h s = tt
+cause_step None limits start first old at a b step said fs shown (ends.Err e) items st w (inl (xs, k, l, inl h)) s = call_cause start at a b step said fs xs items (refuses_copy (ends.Err e)) (ends.Err e) e st s h
+cause_step None limits start first old at a b step said fs shown (ends.Err e) items st w (inl (xs, k, l, inr (left, well, inl (heard_so, missed)))) s = stream_cause start old at a b step said fs items (refuses_copy (ends.Err e)) (ends.Err e) e st s heard_so missed
+cause_step None limits start first old at a b step said fs shown (ends.Err e) items st w (inl (xs, k, l, inr (left, well, inr front))) s = front_cause start at a b step said fs items xs (refuses_copy (ends.Err e)) (ends.Err e) e st s left front
+cause_step None limits start first old at a b step said fs shown (ends.Err e) items st w (inr (xs, k, z, f)) s = subst (λ (x : Error). Causes at step s.own (heard fs) (next_place at b said s.own fs (ends.Err e)) x) (sym z) tt
+cause_step None limits start first old at a b step said fs shown ends.Dropped items st w h s = tt
+cause_step (Some fault) limits start first old at a b step said fs shown end items st w h s = by end h.0 s
   where
-    by : (end : End) → end ≡ ends.Err (errors.Protocol (protocol.Server fault)) → (s : Summary a.ledger (request_of at.depth step.call) said (heard fs) items b.ledger (refuses_copy end)) → HasCause at step (outcome_of b shown end) s.own (heard fs) (next_place at b said s.own fs end) end
-    by (ends.Ok told) e s = absurd cc
-    by ends.Dropped e s = absurd cc
+    by : (end : End) → end ≡ ends.Err (errors.Protocol (protocol.Server fault)) → (s : Summary a.ledger (request_of at.depth step.call) said (heard fs) items b.ledger (refuses_copy end)) → HasCause at step s.own (heard fs) (next_place at b said s.own fs end) end
+    by (ends.Ok told) e s = tt
+    by ends.Dropped e s = tt
     by (ends.Err x) e s = kept x (same x e) s
       where
         same : (x : Error) → ends.Err x ≡ ends.Err (errors.Protocol (protocol.Server fault)) → x ≡ errors.Protocol (protocol.Server fault)
@@ -238,3 +226,26 @@ cause_step (Some fault) start at a b step said fs shown end items st w p h s = b
 
         kept : (x : Error) → x ≡ errors.Protocol (protocol.Server fault) → (s : Summary a.ledger (request_of at.depth step.call) said (heard fs) items b.ledger (refuses_copy (ends.Err x))) → Causes at step s.own (heard fs) (next_place at b said s.own fs (ends.Err x)) x
         kept x e s = subst (λ (z : Error). Causes at step s.own (heard fs) (next_place at b said s.own fs (ends.Err x)) z) (sym e) (inl w)
+
+-- ---- a step that was dropped
+
+-- an outcome counts the waits and the moves of the stream
+pub pending_in : (first : StreamSeen) (b : ConnSeen) (polls : ℕ) (shown : List Item) (end : End) → first.waits ≡ 0 → first.moves ≡ 0 → polls < 2 ^ 32 → Waited polls first b.stream → AnsweredPending (outcome_of b shown end) polls
+pending_in first b polls shown end z v p w = (w.spent, omega (arith, z, p, w.all, w.waits), omega (arith, v, p, w.all, w.moves))
+
+starved_at : (start first : StreamSeen) (old : Counted) (at : Place) (a b : ConnSeen) (step : Step) (said : List FrontendMessage) (fs : List Frame) (items : List CallItem) (copied : Bool) (shown : List Item) (end : End) → StandsAt start at a → first.moves ≡ 0 → (s : Summary a.ledger (request_of at.depth step.call) said (heard fs) items b.ledger copied)
+    → EndsStarved first (asking (request_of at.depth step.call) old a) b → IsStarved at (outcome_of b shown end) (next_place at b said s.own fs end)
+starved_at start first old at a b step said fs items copied shown end st v s (inl w) = inl (rw (← st.seen) w)
+starved_at start first old at a b step said fs items copied shown end st v s (inr (inl m)) = inr (inl (omega (arith, v, m)))
+starved_at start first old at a b step said fs items copied shown end st v s (inr (inr x)) = inr (inr (x.0, x.1, owes_next start at a (request_of at.depth step.call) said fs items b.ledger copied st s x.2))
+
+pub dropped_step : (o : Option ServerFault) (start first : StreamSeen) (old : Counted) (at : Place) (a b : ConnSeen) (step : Step) (said : List FrontendMessage) (fs : List Frame) (shown : List Item) (end : End) (items : List CallItem) → StandsAt start at a → first.waits ≡ 0 → first.moves ≡ 0 → step.polls < 2 ^ 32 → end ≡ ends.Dropped
+    → EndsOn o (limits_of step) first (asking (request_of at.depth step.call) old a) b (request_of at.depth step.call) said (heard fs) shown end → (s : Summary a.ledger (request_of at.depth step.call) said (heard fs) items b.ledger (refuses_copy end))
+    → IsDropped at step (outcome_of b shown end) (next_place at b said s.own fs end)
+dropped_step None start first old at a b step said fs shown ends.Dropped items st z v p k h s = elim h.4 [
+  | inl waited ↦ inr (inl (pending_in first b step.polls shown ends.Dropped z v p waited.0, starved_at start first old at a b step said fs items false shown ends.Dropped st v s waited.1))
+  | inr most ↦ inr (inr most)
+]
+dropped_step None start first old at a b step said fs shown (ends.Ok told) items st z v p k h s = absurd cc
+dropped_step None start first old at a b step said fs shown (ends.Err e) items st z v p k h s = absurd cc
+dropped_step (Some fault) start first old at a b step said fs shown end items st z v p k h s = let x = sym k ∙ h.0 in absurd cc

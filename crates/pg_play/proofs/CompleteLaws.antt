@@ -1,6 +1,5 @@
 -- Where neither the link nor the server failed, no step ends by a failure of theirs.
-use Rattle.std.proofs.Common.{◌≡◌, ℕ, true, false, inl, inr, List, [], ◌∷◌, ◌++◌, refl, sym, ap, ◌∙◌, subst, append_assoc, append-nil, Some, None, arith}
-use Rattle.pg_play.specs.Settling.{Settles}
+use Rattle.std.proofs.Common.{◌≡◌, ℕ, true, false, inl, inr, Option, IfSome, List, [], ◌∷◌, ◌++◌, refl, sym, ap, ◌∙◌, subst, append_assoc, append-nil, Some, None, arith}
 use Rattle.std.specs.List.{AllByRecursion}
 use Rattle.pg_wire.specs.declared.error.Error.{Error}
 use Rattle.pg_wire.specs.declared.error.Error.TheVariants as errors
@@ -31,10 +30,13 @@ use Rattle.pg_script.specs.declared.step.Step.{Step}
 use Rattle.pg_play.specs.Places.{Place}
 use Rattle.pg_play.specs.Causes.{IsAskedToCopy, Causes, IsDropped, HasCause}
 use Rattle.pg_play.specs.Complete.{IsFaultless, IsFairError, WasCutShort, IsFairEnd, EndFairly, WhereFaultless}
-use Rattle.pg_play.specs.Plays.{Plays_from, AsksForNoCopy, Plays_call}
+use Rattle.pg_script.specs.declared.step.Call.{Call}
+use Rattle.pg_play.specs.Shown.{IsPartOf, first_call, next_call}
+use Rattle.pg_play.proofs.ExchangeLaws.{part_begins, part_begins_with, part_wants, next_runs}
+use Rattle.pg_play.specs.Plays.{Plays_call, Plays_exchange, Plays_exchanges, last_of, FirstIs, Hands, HandsOn, Plays_step, Plays_from, AsksForNoCopy}
 use Rattle.pg_play.proofs.CauseLaws.{copies_begin}
 use Rattle.pg_play.proofs.RepliesLaws.{starts_copy, StartsNoCopy, all_prefix, replies_start_no_copy, replies_are_said}
-use Rattle.pg_play.proofs.LinkLaws.{Refutes, breaks_first, breaks_last, front_read, front_heard, taken_heard, hears_groups, unlawful_refuted}
+use Rattle.pg_play.proofs.LinkLaws.{Refutes, breaks_first, fault_breaks, broken_in, broken_stays, some_first, front_read, front_heard, taken_heard, hears_groups, unlawful_refuted}
 use Rattle.pg_wire.proofs.Each.{each_last}
 
 -- ---- lists
@@ -45,17 +47,32 @@ at_front P xs x ys p h = (each_last P xs (x ∷ p.0) (subst (AllByRecursion P) (
 
 -- ---- from each step to the last place
 
+counts_in : (at : Place) (steps : List Step) (outs : List Outcome) (last : Place) → Plays_exchanges at steps outs last → NoneFalls at.seen.link last.seen.link
+counts_in at [] [] last run = subst (λ (p : Place). NoneFalls at.seen.link p.seen.link) (sym run) (NoneFalls-refl at.seen.link)
+counts_in at [] (o ∷ outs) last run = absurd run
+counts_in at (s ∷ steps) [] last run = absurd run
+counts_in at (s ∷ steps) (o ∷ outs) last run = NoneFalls-then at.seen.link run.0.seen.link last.seen.link run.1.counts (counts_in run.0 steps outs last run.2)
+
 counts_on : (at : Place) (steps : List Step) (outs : List Outcome) (last : Place) → Plays_from at steps outs last → NoneFalls at.seen.link last.seen.link
 counts_on at [] [] last run = subst (λ (p : Place). NoneFalls at.seen.link p.seen.link) (sym run) (NoneFalls-refl at.seen.link)
 counts_on at [] (o ∷ outs) last run = absurd run
 counts_on at (s ∷ steps) [] last run = absurd run
-counts_on at (s ∷ steps) (o ∷ outs) last run = NoneFalls-then at.seen.link run.0.seen.link last.seen.link run.1.counts (counts_on run.0 steps outs last run.2)
+counts_on at (s ∷ steps) (o ∷ outs) last run = NoneFalls-then at.seen.link run.0.seen.link last.seen.link (counts_in at run.1.exchanges run.1.outs run.0 run.1.run) (counts_on run.0 steps outs last run.2)
+
+heard_still : (at last : Place) → last ≡ at → IsPrefixOf (heard at.frames) (heard last.frames)
+heard_still at last run = ([], append-nil (heard at.frames) ∙ sym (ap (λ (p : Place). heard p.frames) run))
+
+heard_in : (at : Place) (steps : List Step) (outs : List Outcome) (last : Place) → Plays_exchanges at steps outs last → IsPrefixOf (heard at.frames) (heard last.frames)
+heard_in at [] [] last run = heard_still at last run
+heard_in at [] (o ∷ outs) last run = absurd run
+heard_in at (s ∷ steps) [] last run = absurd run
+heard_in at (s ∷ steps) (o ∷ outs) last run = prefix_trans (heard at.frames) (heard run.0.frames) (heard last.frames) (run.1.call.slice, sym run.1.call.queued.taken ∙ sym (ap heard run.1.settles.frames)) (heard_in run.0 steps outs last run.2)
 
 heard_on : (at : Place) (steps : List Step) (outs : List Outcome) (last : Place) → Plays_from at steps outs last → IsPrefixOf (heard at.frames) (heard last.frames)
-heard_on at [] [] last run = ([], append-nil (heard at.frames) ∙ sym (ap (λ (p : Place). heard p.frames) run))
+heard_on at [] [] last run = heard_still at last run
 heard_on at [] (o ∷ outs) last run = absurd run
 heard_on at (s ∷ steps) [] last run = absurd run
-heard_on at (s ∷ steps) (o ∷ outs) last run = prefix_trans (heard at.frames) (heard run.0.frames) (heard last.frames) (run.1.call.slice, sym run.1.call.queued.taken ∙ sym (ap heard run.1.settles.frames)) (heard_on run.0 steps outs last run.2)
+heard_on at (s ∷ steps) (o ∷ outs) last run = prefix_trans (heard at.frames) (heard run.0.frames) (heard last.frames) (heard_in at run.1.exchanges run.1.outs run.0 run.1.run) (heard_on run.0 steps outs last run.2)
 
 -- ---- the last place isn't broken
 
@@ -89,7 +106,7 @@ record Holds (first : LinkSeen) (last : Place) : Type 0 where
   unbroken : (fault : ServerFault) → last.broken ≡ Some fault → ⊥
   no_copy : AllByRecursion StartsNoCopy (heard last.frames)
 
--- ---- one step
+-- ---- one exchange
 
 starts : (m : BackendMessage) → begins_copy m ≡ true → starts_copy (backend_frame m) ≡ true
 starts (CopyInResponse format columns) e = refl
@@ -102,21 +119,21 @@ no_copy_asked at step own slice tag c n =
     let begun = starts c.last (copies_begin c.part c.last c.copies) in
     absurd cc
 
-fair_error : (first : LinkSeen) (at : Place) (step : Step) (own : List Group) (slice : List Frame) (next last : Place) (e : Error) → Holds first last → NoneFalls first at.seen.link → NoneFalls next.seen.link last.seen.link → AllByRecursion StartsNoCopy slice
-    → ((fault : ServerFault) → e ≡ errors.Protocol (protocol.Server fault) → last.broken ≡ Some fault) → Causes at step own slice next e → IsFairError step.call e
-fair_error first at step own slice next last errors.OutOfMemory g a b n k c = tt
-fair_error first at step own slice next last (errors.Io io.Fault) g a b n k c = absurd (g.no_fault (omega (arith, a.faults, b.faults, c)))
-fair_error first at step own slice next last (errors.Io io.End) g a b n k c = absurd (g.no_end (omega (arith, a.ends, b.ends, c.0)))
-fair_error first at step own slice next last (errors.Io _) g a b n k c = absurd c
-fair_error first at step own slice next last (errors.Database details) g a b n k c = tt
-fair_error first at step own slice next last (errors.Protocol (protocol.Server fault)) g a b n k c = absurd (g.unbroken fault (k fault refl))
-fair_error first at step own slice next last (errors.Protocol (protocol.Reply tag)) g a b n k c = absurd (no_copy_asked at step own slice tag c n)
-fair_error first at step own slice next last (errors.Protocol (protocol.Caller fault)) g a b n k c = (at.depth, c.2)
-fair_error first at step own slice next last (errors.BeginFailed status) g a b n k c = (c.begins_it, c.other)
-fair_error first at step own slice next last errors.InvalidSavePointStatement g a b n k c = c.0.0
-fair_error first at step own slice next last (errors.Protocol _) g a b n k c = absurd c
-fair_error first at step own slice next last errors.RowNotFound g a b n k c = c.wants
-fair_error first at step own slice next last _ g a b n k c = absurd c
+fair_error : (first : LinkSeen) (at : Place) (call : Call) (step : Step) (own : List Group) (slice : List Frame) (next last : Place) (e : Error) → IsPartOf call step.call → Holds first last → NoneFalls first at.seen.link → NoneFalls next.seen.link last.seen.link → AllByRecursion StartsNoCopy slice
+    → ((fault : ServerFault) → e ≡ errors.Protocol (protocol.Server fault) → last.broken ≡ Some fault) → Causes at step own slice next e → IsFairError call e
+fair_error first at call step own slice next last errors.OutOfMemory part g a b n k c = tt
+fair_error first at call step own slice next last (errors.Io io.Fault) part g a b n k c = absurd (g.no_fault (omega (arith, a.faults, b.faults, c)))
+fair_error first at call step own slice next last (errors.Io io.End) part g a b n k c = absurd (g.no_end (omega (arith, a.ends, b.ends, c.0)))
+fair_error first at call step own slice next last (errors.Io _) part g a b n k c = absurd c
+fair_error first at call step own slice next last (errors.Database details) part g a b n k c = tt
+fair_error first at call step own slice next last (errors.Protocol (protocol.Server fault)) part g a b n k c = absurd (g.unbroken fault (k fault refl))
+fair_error first at call step own slice next last (errors.Protocol (protocol.Reply tag)) part g a b n k c = absurd (no_copy_asked at step own slice tag c n)
+fair_error first at call step own slice next last (errors.Protocol (protocol.Caller fault)) part g a b n k c = (at.depth, step.call, part, c.2)
+fair_error first at call step own slice next last (errors.BeginFailed status) part g a b n k c = (part_begins call step.call part c.begins_it, c.other)
+fair_error first at call step own slice next last errors.InvalidSavePointStatement part g a b n k c = part_begins_with call step.call part c.0.0
+fair_error first at call step own slice next last (errors.Protocol _) part g a b n k c = absurd c
+fair_error first at call step own slice next last errors.RowNotFound part g a b n k c = part_wants call step.call part c.wants
+fair_error first at call step own slice next last _ part g a b n k c = absurd c
 
 cut_short : (at : Place) (step : Step) (out : Outcome) (next : Place) → IsDropped at step out next → WasCutShort step out
 cut_short at step out next (inl (inl none)) = inl (omega (arith, none))
@@ -124,25 +141,86 @@ cut_short at step out next (inl (inr none)) = inr (omega (arith, none))
 cut_short at step out next (inr (inl w)) = let often = w.0 in inl (omega (arith, often.1, often.2))
 cut_short at step out next (inr (inr most)) = inr (omega (arith, most))
 
-fair_end : (first : LinkSeen) (at : Place) (step : Step) (out : Outcome) (own : List Group) (slice : List Frame) (next last : Place) (end : End) → Holds first last → NoneFalls first at.seen.link → NoneFalls next.seen.link last.seen.link → AllByRecursion StartsNoCopy slice
-    → ((fault : ServerFault) → end ≡ ends.Err (errors.Protocol (protocol.Server fault)) → last.broken ≡ Some fault) → HasCause at step out own slice next end → IsFairEnd step out end
-fair_end first at step out own slice next last (ends.Ok answer) g a b n k c = tt
-fair_end first at step out own slice next last ends.Dropped g a b n k c = cut_short at step out next c
-fair_end first at step out own slice next last (ends.Err e) g a b n k c = fair_error first at step own slice next last e g a b n (λ fault x. k fault (ap (λ (z : Error). ends.Err z) x)) c
-
 -- ---- all steps
 
 slice_copies : (at : Place) (step : Step) (out : Outcome) (next last : Place) (one : Plays_call at step out next) → IsPrefixOf (heard next.frames) (heard last.frames) → AllByRecursion StartsNoCopy (heard last.frames) → AllByRecursion StartsNoCopy one.slice
 slice_copies at step out next last one p n = each_last StartsNoCopy (heard at.frames) one.slice (subst (AllByRecursion StartsNoCopy) one.queued.taken (all_prefix StartsNoCopy (heard next.frames) (heard last.frames) p n))
 
--- the cause of the call's end is that of the step's
-caused : (at : Place) (step : Step) (told out : Outcome) (own : List Group) (slice : List Frame) (mid next : Place) → Settles at step told out own mid next → HasCause at step told own slice mid told.end → HasCause at step out own slice mid out.end
-caused at step told out own slice mid next s c = subst (λ (x : Outcome). HasCause at step x own slice mid x.end) (sym s.outcome) (by told.end c)
+-- what lies behind the exchanges of a step, up to the last place of the play
+record LeadsTo (next last : Place) : Type 0 where
+  counts : NoneFalls next.seen.link last.seen.link
+  heard_so : IsPrefixOf (heard next.frames) (heard last.frames)
+  broken : (fault : ServerFault) → next.broken ≡ Some fault → last.broken ≡ Some fault
+
+leads_on : (next : Place) (steps : List Step) (outs : List Outcome) (last : Place) → Plays_from next steps outs last → LeadsTo next last
+leads_on next steps outs last run = record { counts = counts_on next steps outs last run; heard_so = heard_on next steps outs last run; broken = λ fault w. broken_stays fault next steps outs last run w }
+
+leads_in : (at : Place) (steps : List Step) (outs : List Outcome) (next last : Place) → Plays_exchanges at steps outs next → LeadsTo next last → LeadsTo at last
+leads_in at steps outs next last run l = record {
+  counts = NoneFalls-then at.seen.link next.seen.link last.seen.link (counts_in at steps outs next run) l.counts;
+  heard_so = prefix_trans (heard at.frames) (heard next.frames) (heard last.frames) (heard_in at steps outs next run) l.heard_so;
+  broken = λ fault w. l.broken fault (broken_in fault at steps outs next run w);
+}
+
+-- an error of an exchange is fair for its call
+exchange_fair : (first : LinkSeen) (at : Place) (call : Call) (step : Step) (out : Outcome) (next last : Place) → IsPartOf call step.call → Holds first last → NoneFalls first at.seen.link → Plays_exchange at step out next → LeadsTo next last → (e : Error) → out.end ≡ ends.Err e → IsFairError call e
+exchange_fair first at whole step out next last part g a one l e k =
+    let call = one.call in
+    let mid = one.ended_at in
+    let told : one.told.end ≡ ends.Err e = sym (ap (λ (x : Outcome). x.end) one.settles.outcome) ∙ k in
+    fair_error first at whole step call.own call.slice mid last e part g a (subst (λ (x : StreamSeen). NoneFalls x.link last.seen.link) one.settles.seen l.counts)
+    (slice_copies at step one.told mid last call (subst (λ (f : List Frame). IsPrefixOf (heard f) (heard last.frames)) one.settles.frames l.heard_so) g.no_copy)
+    (λ fault x. l.broken fault (fault_breaks at step out next one fault (k ∙ ap (λ (z : Error). ends.Err z) x)))
+    (subst (λ (z : End). HasCause at step call.own call.slice mid z) told call.cause)
+
+-- ---- the exchanges of a step are those of its call
+
+abbrev ArePartsOf : Call → List Step → Type 0
+ArePartsOf call steps = AllByRecursion (λ step. IsPartOf call step.call) steps
+
+-- behind what runs a statement comes none
+part_ends : (call : Call) (response : List BackendMessage) (part : Call) → IsPartOf call part → (o : Option Call) → next_call part response ≡ o → IfSome o (λ next. (part ≡ first_call call) × (next_call (first_call call) response ≡ Some next))
+part_ends call response part (inl e) None k = tt
+part_ends call response part (inl e) (Some next) k = (e, ap (λ (x : Call). next_call x response) (sym e) ∙ k)
+part_ends call response part (inr (told, e)) None k = tt
+part_ends call response part (inr (told, e)) (Some next) k = let runs = next_runs call told part e in let x = sym (ap (λ (y : Call). next_call y response) runs.1) ∙ k in absurd cc
+
+parts_on : (call : Call) (at : Place) (steps : List Step) (outs : List Outcome) (last : Place) (run : Plays_exchanges at steps outs last) (first : Step) (response : List BackendMessage) (end : End) → IsPartOf call first.call → Hands first end response steps → HandsOn at steps outs last run → ArePartsOf call steps
+parts_on call at [] outs last run first response end part h k = tt
+parts_on call at (s ∷ steps) [] last run first response end part h k = absurd run
+parts_on call at (s ∷ steps) (o ∷ outs) last run first response end part h k =
+    let behind = part_ends call response first.call part (Some s.call) h.1 in
+    let mine : IsPartOf call s.call = inr (response, behind.1) in
+    (mine, parts_on call run.0 steps outs last run.2 s run.1.call.told.response o.end mine k.0 k.1)
+
+parts_are : (step : Step) (at : Place) (steps : List Step) (outs : List Outcome) (last : Place) (run : Plays_exchanges at steps outs last) → FirstIs step steps → HandsOn at steps outs last run → ArePartsOf step.call steps
+parts_are step at [] outs last run f k = tt
+parts_are step at (s ∷ steps) [] last run f k = absurd run
+parts_are step at (s ∷ steps) (o ∷ outs) last run f k =
+    let mine : IsPartOf step.call s.call = inl (ap (λ (x : Step). x.call) f) in
+    (mine, parts_on step.call run.0 steps outs last run.2 s run.1.call.told.response o.end mine k.0 k.1)
+
+fair_in : (first : LinkSeen) (call : Call) (before : Outcome) (at : Place) (steps : List Step) (outs : List Outcome) (next last : Place) → Holds first last → NoneFalls first at.seen.link → Plays_exchanges at steps outs next → LeadsTo next last → ArePartsOf call steps
+    → ((e : Error) → before.end ≡ ends.Err e → IsFairError call e) → (e : Error) → (last_of before outs).end ≡ ends.Err e → IsFairError call e
+fair_in first call before at [] [] next last g a run l parts so e k = so e k
+fair_in first call before at [] (o ∷ outs) next last g a run l parts so e k = absurd run
+fair_in first call before at (s ∷ steps) [] next last g a run l parts so e k = absurd run
+fair_in first call before at (s ∷ steps) (o ∷ outs) next last g a run l parts so e k =
+    fair_in first call o run.0 steps outs next last g (NoneFalls-then first at.seen.link run.0.seen.link a run.1.counts) run.2 l parts.1
+    (λ x h. exchange_fair first at call s o run.0 last parts.0 g a run.1 (leads_in run.0 steps outs next last run.2 l) x h) e k
+
+step_fair : (first : LinkSeen) (at : Place) (step : Step) (out : Outcome) (next last : Place) → Holds first last → NoneFalls first at.seen.link → (one : Plays_step at step out next) → LeadsTo next last → IsFairEnd step out out.end
+step_fair first at step out next last g a one l = by out.end refl
   where
-    by : (end : End) → HasCause at step told own slice mid end → HasCause at step (record told { groups = out.groups }) own slice mid end
-    by (ends.Ok answer) c = c
-    by (ends.Err e) c = c
-    by ends.Dropped c = c
+    error_at : (xs : List Step) (ys : List Outcome) → Plays_exchanges at xs ys next → FirstIs step xs → ArePartsOf step.call xs → (e : Error) → (last_of out ys).end ≡ ends.Err e → IsFairError step.call e
+    error_at [] ys run f parts e k = absurd (some_first step f)
+    error_at (x ∷ xs) [] run f parts e k = absurd run
+    error_at (x ∷ xs) (y ∷ ys) run f parts e k = fair_in first step.call y run.0 xs ys next last g (NoneFalls-then first at.seen.link run.0.seen.link a run.1.counts) run.2 l parts.1 (λ z h. exchange_fair first at step.call x y run.0 last parts.0 g a run.1 (leads_in run.0 xs ys next last run.2 l) z h) e k
+
+    by : (end : End) → out.end ≡ end → IsFairEnd step out end
+    by (ends.Ok answer) e = tt
+    by ends.Dropped e = cut_short at step out one.stop (one.dropped e)
+    by (ends.Err x) e = error_at one.exchanges one.outs one.run one.first (parts_are step at one.exchanges one.outs next one.run one.first one.hands) x (sym one.tells.ends ∙ e)
 
 all_fair : (first : LinkSeen) (at : Place) (steps : List Step) (outs : List Outcome) (last : Place) → Holds first last → NoneFalls first at.seen.link → Plays_from at steps outs last → EndFairly steps outs
 all_fair first at [] [] last g a run = tt
@@ -151,10 +229,8 @@ all_fair first at (s ∷ steps) [] last g a run = absurd run
 all_fair first at (s ∷ steps) (o ∷ outs) last g a run =
     let next = run.0 in
     let one = run.1 in (
-      fair_end first at s o one.call.own one.call.slice one.ended_at last o.end g a (subst (λ (x : StreamSeen). NoneFalls x.link last.seen.link) one.settles.seen (counts_on next steps outs last run.2))
-          (slice_copies at s one.told one.ended_at last one.call (subst (λ (f : List Frame). IsPrefixOf (heard f) (heard last.frames)) one.settles.frames (heard_on next steps outs last run.2)) g.no_copy) (breaks_last at s o next one steps outs last run.2)
-          (caused at s one.told o one.call.own one.call.slice one.ended_at next one.settles one.call.cause),
-      all_fair first next steps outs last g (NoneFalls-then first at.seen.link next.seen.link a one.counts) run.2,
+      step_fair first at s o next last g a one (leads_on next steps outs last run.2),
+      all_fair first next steps outs last g (NoneFalls-then first at.seen.link next.seen.link a (counts_in at one.exchanges one.outs next one.run)) run.2,
     )
 
 pub where_faultless : (first : LinkSeen) (at last : Place) (steps : List Step) (outs : List Outcome) → Plays_from at steps outs last → NoneFalls first at.seen.link → at.broken ≡ None → AllByRecursion HasFrontendFrame last.said → AllByRecursion (IsWhole backend_tags) last.frames

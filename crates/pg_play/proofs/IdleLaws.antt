@@ -17,7 +17,7 @@ use Rattle.pg_play.specs.Places.{Place, owed, ended, is_fine, Queues}
 use Rattle.pg_play.specs.Told.{WellAtOk, HasNoError}
 use Rattle.pg_play.specs.Settling.{cleanup_of, depth_after, rollback_at}
 use Rattle.pg_play.specs.Idles.{KeepsOrder}
-use Rattle.pg_play.specs.Plays.{Plays_step, Plays_from, AreOrderly, AreIdle}
+use Rattle.pg_play.specs.Plays.{Plays_exchange, Plays_exchanges, Plays_from, AreOrderlyIn, AreOrderly, AreIdleIn, AreIdle}
 use Rattle.pg_play.proofs.StepLaws.{at_most_group}
 use Rattle.pg_play.proofs.SettledLaws.{fine_has}
 
@@ -76,6 +76,10 @@ no_cleanup d calls.Commit end (g ∷ gs) o b a = refl
 no_cleanup d calls.Rollback end [] o b a = refl
 no_cleanup d calls.Rollback end (g ∷ gs) o b a = refl
 no_cleanup d calls.StartRollback end own o b a = absurd cc
+no_cleanup d (calls.Describe extended) end [] o b a = refl
+no_cleanup d (calls.Describe extended) end (g ∷ gs) o b a = refl
+no_cleanup d (calls.Run bound) end [] o b a = refl
+no_cleanup d (calls.Run bound) end (g ∷ gs) o b a = refl
 
 few_own : (d : ℕ) (call : Call) (end : End) (own : List Group) → Queues end (groups_of (request_of d call)) own → length own ≤ 1
 few_own d call end own q = omega (arith, queues_few end (groups_of (request_of d call)) own q, few_groups d call)
@@ -144,19 +148,21 @@ idle_by idle n d calls.Rollback end own cleanup owed others commits rolls cleans
       | inr (e, f) ↦ let last = own_at d 1 calls.Rollback end own e f q in own_last idle n own cleanup (rollback 0) last none (rolls refl last)
     ]
 idle_by idle n d calls.StartRollback end own cleanup owed others commits rolls cleans c q l i z = rolled_idle idle n d own cleanup owed (none_own end own q) l z i cleans c
+idle_by idle n d (calls.Describe extended) end own cleanup owed others commits rolls cleans c q l i z = plain_idle idle n own cleanup (few_own d (calls.Describe extended) end own q) (c ∙ no_cleanup d (calls.Describe extended) end own owed refl refl) (i z) (others refl)
+idle_by idle n d (calls.Run bound) end own cleanup owed others commits rolls cleans c q l i z = plain_idle idle n own cleanup (few_own d (calls.Run bound) end own q) (c ∙ no_cleanup d (calls.Run bound) end own owed refl refl) (i z) (others refl)
 
--- ---- the steps of a play
+-- ---- the exchanges of a play
 
 -- a COMMIT that is Ok is answered, and without an error
-commits_at : {idle : ℕ → Type 0} (at : Place) (step : Step) (out : Outcome) (next : Place) (one : Plays_step at step out next) → KeepsOrder idle at step one.call.own one.settles.cleanup one.call.slice one.ended_at
+commits_at : {idle : ℕ → Type 0} (at : Place) (step : Step) (out : Outcome) (next : Place) (one : Plays_exchange at step out next) → KeepsOrder idle at step one.call.own one.settles.cleanup one.call.slice one.ended_at
     → step.call ≡ calls.Commit → is_fine one.told.end ≡ true → one.call.own ≡ (Query (codes "COMMIT") ∷ []) ∷ [] → idle (length at.groups + 1)
 commits_at at step out next one k c f e =
     let told = one.call.told in
     let well = told.well (ap acts_at_once c) in
     k.commits c e (well_error one.told.end step one.told told.response one.call.slice one.ended_at f well) (well_ended one.told.end step one.told told.response one.call.slice one.ended_at f well)
 
-idle_step : (idle : ℕ → Type 0) (at : Place) (step : Step) (out : Outcome) (next : Place) (one : Plays_step at step out next) → length next.groups < 2 ^ 64 - 1 → KeepsOrder idle at step one.call.own one.settles.cleanup one.call.slice one.ended_at → (at.depth ≡ 0 → idle (length at.groups)) → next.depth ≡ 0 → idle (length next.groups)
-idle_step idle at step out next one l k i z =
+idle_exchange : (idle : ℕ → Type 0) (at : Place) (step : Step) (out : Outcome) (next : Place) (one : Plays_exchange at step out next) → length next.groups < 2 ^ 64 - 1 → KeepsOrder idle at step one.call.own one.settles.cleanup one.call.slice one.ended_at → (at.depth ≡ 0 → idle (length at.groups)) → next.depth ≡ 0 → idle (length next.groups)
+idle_exchange idle at step out next one l k i z =
     let call = one.call in
     let settles = one.settles in
     let first : length one.ended_at.groups ≡ length at.groups + length call.own = ap (λ (g : List Group). length g) call.queued.groups ∙ length-append at.groups call.own in
@@ -165,15 +171,39 @@ idle_step idle at step out next one l k i z =
     subst idle (omega (arith, first, all))
     (idle_by idle (length at.groups) at.depth step.call one.told.end call.own settles.cleanup (owed one.ended_at) k.others (commits_at at step out next one k) k.rolls k.cleans settles.cleans call.queued.asks few i (sym settles.depth ∙ z))
 
+more_in : (at : Place) (steps : List Step) (outs : List Outcome) (last : Place) → Plays_exchanges at steps outs last → length at.groups ≤ length last.groups
+more_in at [] [] last run = omega (arith, ap (λ (p : Place). length p.groups) run)
+more_in at [] (o ∷ outs) last run = absurd run
+more_in at (s ∷ steps) [] last run = absurd run
+more_in at (s ∷ steps) (o ∷ outs) last run =
+    let next = run.0 in
+    let one = run.1 in
+    let rest = more_in next steps outs last run.2 in
+    omega (arith, rest, ap (λ (g : List Group). length g) one.call.queued.groups, length-append at.groups one.call.own, ap (λ (g : List Group). length g) one.settles.groups, length-append one.ended_at.groups one.settles.cleanup)
+
+abbrev IdlesAt : (ℕ → Type 0) → Place → Type 0
+IdlesAt idle at = at.depth ≡ 0 → idle (length at.groups)
+
+idles_in : (idle : ℕ → Type 0) (at : Place) (steps : List Step) (outs : List Outcome) (last : Place) (run : Plays_exchanges at steps outs last) → length last.groups < 2 ^ 64 - 1 → IdlesAt idle at → AreOrderlyIn idle at steps outs last run → AreIdleIn idle at steps outs last run × IdlesAt idle last
+idles_in idle at [] [] last run l i o = (tt, subst (IdlesAt idle) (sym run) i)
+idles_in idle at [] (x ∷ outs) last run l i o = absurd run
+idles_in idle at (s ∷ steps) [] last run l i o = absurd run
+idles_in idle at (s ∷ steps) (x ∷ outs) last run l i o =
+    let few : length (run.0).groups < 2 ^ 64 - 1 = omega (arith, more_in run.0 steps outs last run.2, l) in
+    let next = idle_exchange idle at s x run.0 run.1 few o.0 i in
+    let rest = idles_in idle run.0 steps outs last run.2 l next o.1 in
+    ((next, rest.0), rest.1)
+
+-- ---- the steps of a play
+
 more_groups : (at : Place) (steps : List Step) (outs : List Outcome) (last : Place) → Plays_from at steps outs last → length at.groups ≤ length last.groups
 more_groups at [] [] last run = omega (arith, ap (λ (p : Place). length p.groups) run)
 more_groups at [] (o ∷ outs) last run = absurd run
 more_groups at (s ∷ steps) [] last run = absurd run
 more_groups at (s ∷ steps) (o ∷ outs) last run =
-    let next = run.0 in
-    let one = run.1 in
-    let rest = more_groups next steps outs last run.2 in
-    omega (arith, rest, ap (λ (g : List Group). length g) one.call.queued.groups, length-append at.groups one.call.own, ap (λ (g : List Group). length g) one.settles.groups, length-append one.ended_at.groups one.settles.cleanup)
+    let here = more_in at run.1.exchanges run.1.outs run.0 run.1.run in
+    let rest = more_groups run.0 steps outs last run.2 in
+    omega (arith, here, rest)
 
 pub idles_all : (idle : ℕ → Type 0) (at : Place) (steps : List Step) (outs : List Outcome) (last : Place) (run : Plays_from at steps outs last) → length last.groups < 2 ^ 64 - 1 → (at.depth ≡ 0 → idle (length at.groups)) → AreOrderly idle at steps outs last run → AreIdle idle at steps outs last run
 idles_all idle at [] [] last run l i o = tt
@@ -181,5 +211,5 @@ idles_all idle at [] (x ∷ outs) last run l i o = absurd run
 idles_all idle at (s ∷ steps) [] last run l i o = absurd run
 idles_all idle at (s ∷ steps) (x ∷ outs) last run l i o =
     let few : length (run.0).groups < 2 ^ 64 - 1 = omega (arith, more_groups run.0 steps outs last run.2, l) in
-    let next = idle_step idle at s x run.0 run.1 few o.0 i in
-    (next, idles_all idle run.0 steps outs last run.2 l next o.1)
+    let here = idles_in idle at run.1.exchanges run.1.outs run.0 run.1.run few i o.0 in
+    (here.0, idles_all idle run.0 steps outs last run.2 l here.1 o.1)

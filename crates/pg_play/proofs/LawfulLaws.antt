@@ -21,13 +21,13 @@ use Rattle.pg_play.proofs.PlaceLaws.{all_split}
 use Rattle.pg_wire.proofs.OwnLaws.{split_answers}
 
 -- what was heard, and one frame more, as messages
-record SplitFront (heards : List Frame) (front : Frame) (rs : List BackendMessage) : Type 0 where
-  before : List BackendMessage
-  message : BackendMessage
-  behind : List BackendMessage
-  heards_are : heards ≡ map backend_frame before
-  front_is : front ≡ backend_frame message
-  whole : rs ≡ before ++ message ∷ behind
+pub record SplitFront (heards : List Frame) (front : Frame) (rs : List BackendMessage) : Type 0 where
+  pub before : List BackendMessage
+  pub message : BackendMessage
+  pub behind : List BackendMessage
+  pub heards_are : heards ≡ map backend_frame before
+  pub front_is : front ≡ backend_frame message
+  pub whole : rs ≡ before ++ message ∷ behind
 
 split_more : (h : Frame) (r : BackendMessage) (hs : List Frame) (front : Frame) (rs : List BackendMessage) → h ≡ backend_frame r → SplitFront hs front rs → SplitFront (h ∷ hs) front (r ∷ rs)
 split_more h r hs front rs head s = record {
@@ -39,7 +39,7 @@ split_more h r hs front rs head s = record {
   whole = ap (λ (x : List BackendMessage). r ∷ x) s.whole;
 }
 
-split_front : (heards : List Frame) (front : Frame) (rest : List Frame) (rs : List BackendMessage) → (heards ++ front ∷ []) ++ rest ≡ map backend_frame rs → SplitFront heards front rs
+pub split_front : (heards : List Frame) (front : Frame) (rest : List Frame) (rs : List BackendMessage) → (heards ++ front ∷ []) ++ rest ≡ map backend_frame rs → SplitFront heards front rs
 split_front [] front rest [] e = absurd cc
 split_front [] front rest (r ∷ rs) e = let head : front ≡ backend_frame r = cc in record { before = []; message = r; behind = rs; heards_are = refl; front_is = head; whole = refl }
 split_front (h ∷ hs) front rest [] e = absurd cc
@@ -50,14 +50,14 @@ split_front (h ∷ hs) front rest (r ∷ rs) e =
 
 -- ---- the messages so far, response by response
 
-record Parted (xs : List BackendMessage) (n : ℕ) : Type 0 where
-  ps : List (List BackendMessage)
-  own : List BackendMessage
-  whole : xs ≡ flat_map (λ p. p) ps ++ own
-  ended : AllByRecursion EndsReady ps
-  count : length ps ≡ n
-  unready : AreUnready own
-  behind : map backend_frame own ≡ after_readys n (map backend_frame xs)
+pub record Parted (xs : List BackendMessage) (n : ℕ) : Type 0 where
+  pub ps : List (List BackendMessage)
+  pub own : List BackendMessage
+  pub whole : xs ≡ flat_map (λ p. p) ps ++ own
+  pub ended : AllByRecursion EndsReady ps
+  pub count : length ps ≡ n
+  pub unready : AreUnready own
+  pub behind : map backend_frame own ≡ after_readys n (map backend_frame xs)
 
 onto_part : (a : BackendMessage) (q : List BackendMessage) → IsUnready a → EndsReady q → EndsReady (a ∷ q)
 onto_part a q u r = record { front = a ∷ r.front; status = r.status; unready = (u, r.unready); are = ap (λ (t : List BackendMessage). a ∷ t) r.are }
@@ -93,7 +93,7 @@ parted_ready s xs n p = record {
 count_next : (a : BackendMessage) (xs : List BackendMessage) (n : ℕ) (b : Bool) → is_ready (backend_frame a) ≡ b → count_by is_ready (map backend_frame (a ∷ xs)) ≡ n → cond b 1 0 + count_by is_ready (map backend_frame xs) ≡ n
 count_next a xs n b z c = rw z at (sym (count-cons is_ready (backend_frame a) (map backend_frame xs))) ∙ c
 
-parted : (xs : List BackendMessage) (n : ℕ) → count_by is_ready (map backend_frame xs) ≡ n → Parted xs n
+pub parted : (xs : List BackendMessage) (n : ℕ) → count_by is_ready (map backend_frame xs) ≡ n → Parted xs n
 parted [] zero c = record { ps = []; own = []; whole = refl; ended = tt; count = refl; unready = tt; behind = refl }
 parted [] (suc n) c = absurd (omega (arith, c))
 parted (ReadyForQuery s ∷ xs) zero c = absurd (omega (arith, count_next (ReadyForQuery s) xs zero true refl c))
@@ -121,7 +121,7 @@ same_ready (a ∷ as') (b ∷ bs) s s' x y u v p =
     same_ready as' bs s s' x y u.1 v.1 (p.0, tails)
 
 -- what is unready, and one message more, ends before or at the first ReadyForQuery
-open_front_one : (xs front : List BackendMessage) (a : BackendMessage) (s : TransactionStatus) (y : List BackendMessage) → AreUnready xs → IsPrefixOf (xs ++ a ∷ []) (front ++ ReadyForQuery s ∷ y) → IsPrefixOf (xs ++ a ∷ []) (front ++ ReadyForQuery s ∷ [])
+pub open_front_one : (xs front : List BackendMessage) (a : BackendMessage) (s : TransactionStatus) (y : List BackendMessage) → AreUnready xs → IsPrefixOf (xs ++ a ∷ []) (front ++ ReadyForQuery s ∷ y) → IsPrefixOf (xs ++ a ∷ []) (front ++ ReadyForQuery s ∷ [])
 open_front_one [] [] a s y u p =
     let e = p.1 in
     let head : a ≡ ReadyForQuery s = cc in
@@ -188,7 +188,7 @@ own_begins old after (x ∷ gs) (q ∷ ps) g more own a rss hs h b run ok ends l
     regroup : (a : List BackendMessage) (z : BackendMessage) (b c : List BackendMessage) → ((a ++ z ∷ []) ++ b) ++ c ≡ a ++ z ∷ (b ++ c)
     regroup a z b c = simp append_assoc
 
-prefix_map : (xs rs : List BackendMessage) → IsPrefixOf xs rs → IsPrefixOf (map backend_frame xs) (map backend_frame rs)
+pub prefix_map : (xs rs : List BackendMessage) → IsPrefixOf xs rs → IsPrefixOf (map backend_frame xs) (map backend_frame rs)
 prefix_map xs rs p = (map backend_frame p.0, sym (map-append backend_frame xs p.0) ∙ ap (map backend_frame) p.1)
 
 run_at : (groups own : List Group) (group : Group) (more : List FrontendMessage) → own ≡ group ∷ [] → said_in (groups ++ own) ++ more ≡ flat_map (λ x. x) groups ++ (group ++ more)

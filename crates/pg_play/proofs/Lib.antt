@@ -1,12 +1,16 @@
 pub mod WaitLaws
 pub mod CallLaws
+pub mod ThroughLaws
 pub mod PartLaws
 pub mod StepLaws
 pub mod PlaceLaws
 pub mod ShownLaws
 pub mod ToldLaws
+pub mod ExchangeLaws
 pub mod CauseLaws
 pub mod LawfulLaws
+pub mod KnownLaws
+pub mod NextLaws
 pub mod RepliesLaws
 pub mod SettleLaws
 pub mod SettledLaws
@@ -14,6 +18,8 @@ pub mod LinkLaws
 pub mod CompleteLaws
 pub mod WaitPlaceLaws
 pub mod IdleLaws
+pub mod DueLaws
+pub mod CalledLaws
 pub mod PlayLaws
 pub mod StartLaws
 pub mod TopLaws

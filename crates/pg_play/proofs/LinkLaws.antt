@@ -1,7 +1,6 @@
 -- A play against a server whose frames are replies.
-use Rattle.std.proofs.Common.{◌≡◌, ℕ, zero, suc, ◌+◌, List, [], ◌∷◌, ◌++◌, map, refl, sym, ap, ◌∙◌, subst, append_assoc, append-nil, Option, Some, None, ◌⊎◌, inl, inr, sum_by, arith, Bool, true, false}
-use Rattle.pg_stream.specs.Links.{LinkSeen}
-use Rattle.pg_play.specs.Shown.{acts_at_once, begins_with}
+use Rattle.std.proofs.Common.{◌≡◌, ℕ, ◌+◌, List, [], ◌∷◌, ◌++◌, map, refl, sym, ap, ◌∙◌, subst, append_assoc, append-nil, Option, Some, None, ◌⊎◌, inl, inr, sum_by, arith}
+use Rattle.pg_stream.specs.Links.{LinkSeen, GrewBy}
 use Rattle.pg_play.proofs.SettleLaws.{held_same, front_behind, heard_before}
 use Rattle.pg_play.specs.Settling.{Settles}
 use Rattle.std.specs.List.{AllByRecursion}
@@ -23,16 +22,17 @@ use Rattle.pg_wire.proofs.CutLaws.{cut_after_taken}
 use Rattle.pg_wire.proofs.RunLaws.{replies_fewer}
 use Rattle.pg_wire.proofs.SentLaws.{replies_answer, hear_fewer}
 use Rattle.pg_wire.proofs.ReplyLaws.{frames_answer}
-use Rattle.pg_call.specs.Requests.{said_in, Group}
+use Rattle.pg_call.specs.Requests.{said_in, Group, widths_of}
+use Rattle.pg_play.specs.Shown.{request_of}
 use Rattle.pg_report.specs.declared.outcome.End.{End}
 use Rattle.pg_report.specs.declared.outcome.End.TheVariants as ends
 use Rattle.pg_report.specs.declared.outcome.Outcome.{Outcome}
 use Rattle.pg_script.specs.declared.step.Step.{Step}
-use Rattle.pg_play.specs.Calls.{IsUnpolled, broken_after}
+use Rattle.pg_play.specs.Calls.{broken_after}
 use Rattle.pg_play.specs.Places.{Place}
 use Rattle.pg_play.specs.Told.{CountsTo}
-use Rattle.pg_play.specs.Causes.{IsFront, HasNoMessage, ShowsFault, HasCause, OpensSavepoint}
-use Rattle.pg_play.specs.Plays.{Plays_step, Plays_from, AsksForNoCopy, NoneUnlawful, WhereLawful, Totals, Plays_call, IsNeverUnlawful}
+use Rattle.pg_play.specs.Causes.{IsFront, HasNoMessage, ShowsFault, HasCause}
+use Rattle.pg_play.specs.Plays.{Plays_call, Plays_exchange, Plays_exchanges, last_of, FirstIs, TellsAll, Plays_step, Plays_from, AsksForNoCopy, NoneUnlawful, WhereLawful, Totals, IsNeverUnlawful}
 use Rattle.pg_play.proofs.RepliesLaws.{StartsNoCopy, all_prefix, replies_start_no_copy, asks_for_none, replies_to_all}
 
 -- ---- a place that is broken
@@ -50,14 +50,14 @@ none_broken : (o : Option ServerFault) (fault : ServerFault) → o ≡ None → 
 none_broken None fault x y = absurd cc
 none_broken (Some g) fault x y = absurd cc
 
-shown_refutes : (at : Place) (step : Step) (out : Outcome) (next : Place) (one : Plays_call at step out next) (fault : ServerFault) → IsNeverUnlawful at out next → at.broken ≡ None → out.end ≡ ends.Err (errors.Protocol (protocol.Server fault)) → ShowsFault at one.own one.slice next fault → Refutes fault next
+shown_refutes : (at : Place) (step : Step) (out : Outcome) (next : Place) (one : Plays_call at step out next) (fault : ServerFault) → IsNeverUnlawful at out next → at.broken ≡ None → out.end ≡ ends.Err (errors.Protocol (protocol.Server fault)) → ShowsFault (widths_of (request_of at.depth step.call)) at one.own one.slice next fault → Refutes fault next
 shown_refutes at step out next one (faults.Unlawful tag) n w e u = (u.front, u.is_front, n tag u.front w e u.is_front)
 shown_refutes at step out next one (faults.Malformed tag) n w e (inl m) = inl m
 shown_refutes at step out next one (faults.Malformed tag) n w e (inr m) = inr (m.0, m.1, m.3)
 shown_refutes at step out next one fault n w e h = h
 
 ends_refute : (at : Place) (step : Step) (out : Outcome) (next : Place) (one : Plays_call at step out next) (fault : ServerFault) → IsNeverUnlawful at out next → at.broken ≡ None → out.end ≡ ends.Err (errors.Protocol (protocol.Server fault)) → Refutes fault next
-ends_refute at step out next one fault n w e = elim (subst (λ (z : End). HasCause at step out one.own one.slice next z) e one.cause) [
+ends_refute at step out next one fault n w e = elim (subst (λ (z : End). HasCause at step one.own one.slice next z) e one.cause) [
   | inl kept ↦ absurd (none_broken at.broken fault w kept)
   | inr shown ↦ shown_refutes at step out next one fault n w e shown
 ]
@@ -71,16 +71,16 @@ settled_refutes (faults.ShortLength tag size) at step told out own mid next s r 
 settled_refutes (faults.UnknownTag tag) at step told out own mid next s r = subst (λ (held : List ℕ). HeaderFault held (faults.UnknownTag tag)) (sym (held_same at step told out own mid next s)) r
 settled_refutes _ at step told out own mid next s r = absurd r
 
--- a step on a broken connection keeps what stands in front
-keeps_so : (fault : ServerFault) (at next : Place) (waits moves : ℕ) → next ≡ record at { seen = record at.seen { waits = waits; moves = moves } } → Refutes fault at → Refutes fault next
-keeps_so (faults.Unlawful tag) at next waits moves e r =
+-- an exchange on a broken connection keeps what stands in front
+keeps_so : (fault : ServerFault) (at next : Place) (left waits moves : ℕ) → next ≡ record at { seen = record at.seen { left = left; waits = waits; moves = moves } } → Refutes fault at → Refutes fault next
+keeps_so (faults.Unlawful tag) at next left waits moves e r =
     let f = r.1 in
     subst (Refutes (faults.Unlawful tag)) (sym e) (r.0, record { rest = f.rest; whole = f.whole; answers = f.answers; held = f.held }, r.2)
-keeps_so (faults.Malformed tag) at next waits moves e (inl m) = subst (Refutes (faults.Malformed tag)) (sym e) (inl m)
-keeps_so (faults.Malformed tag) at next waits moves e (inr r) =
+keeps_so (faults.Malformed tag) at next left waits moves e (inl m) = subst (Refutes (faults.Malformed tag)) (sym e) (inl m)
+keeps_so (faults.Malformed tag) at next left waits moves e (inr r) =
     let f = r.1 in
     subst (Refutes (faults.Malformed tag)) (sym e) (inr (r.0, record { rest = f.rest; whole = f.whole; answers = f.answers; held = f.held }, r.2))
-keeps_so fault at next waits moves e r = subst (Refutes fault) (sym e) r
+keeps_so fault at next left waits moves e r = subst (Refutes fault) (sym e) r
 
 -- the end by which a connection that was whole is broken
 ends_so : (end : End) (fault : ServerFault) → broken_after None end ≡ Some fault → end ≡ ends.Err (errors.Protocol (protocol.Server fault))
@@ -90,66 +90,31 @@ ends_so (ends.Err _) fault e = absurd cc
 ends_so (ends.Ok told) fault e = absurd cc
 ends_so ends.Dropped fault e = absurd cc
 
--- a step was polled or not
-polled : (step : Step) → IsUnpolled step ⊎ (IsUnpolled step → ⊥)
-polled step = by step.polls step.most refl refl
-  where
-    by : (p m : ℕ) → step.polls ≡ p → step.most ≡ m → IsUnpolled step ⊎ (IsUnpolled step → ⊥)
-    by zero m e f = inl (inl e)
-    by (suc p) zero e f = inl (inr f)
-    by (suc p) (suc m) e f = inr (λ u. elim u [
-      | inl z ↦ absurd (suc_some p (sym e ∙ z))
-      | inr z ↦ absurd (suc_some m (sym f ∙ z))
-    ])
-      where
-        suc_some : (n : ℕ) → suc n ≡ 0 → ⊥
-        suc_some n e = cc
-
--- a step acts at once, or is polled
-at_once_or : (step : Step) → (acts_at_once step.call ≡ true) ⊎ (acts_at_once step.call ≡ false)
-at_once_or step = by (acts_at_once step.call)
-  where
-    by : (b : Bool) → (b ≡ true) ⊎ (b ≡ false)
-    by true = inl refl
-    by false = inr refl
-
--- it would open a savepoint by its own text, or not
-opens_or : (at : Place) (step : Step) → OpensSavepoint at step ⊎ (OpensSavepoint at step → ⊥)
-opens_or at step = by (begins_with step.call) refl at.depth refl
-  where
-    by : (b : Bool) → begins_with step.call ≡ b → (d : ℕ) → at.depth ≡ d → OpensSavepoint at step ⊎ (OpensSavepoint at step → ⊥)
-    by true e zero f = inr (λ o. omega (arith, o.1, f))
-    by true e (suc d) f = inl (e, omega (arith, f))
-    by false e d f = inr (λ o. let x = sym e ∙ o.0 in cc)
-
 called_on : (at : Place) (step : Step) (out : Outcome) (next : Place) → Plays_call at step out next → IsNeverUnlawful at out next → BreaksSo at → BreaksSo next
-called_on at step out next one lawful so fault e = elim (at_once_or step) [
-  | inl now ↦ subst (Refutes fault) (sym (one.at_once now).1) (so fault (sym (ap (λ (p : Place). p.broken) (one.at_once now).1) ∙ e))
-  | inr later ↦ by later at.broken refl
-]
+called_on at step out next one lawful so fault e = by at.broken refl
   where
-    by : acts_at_once step.call ≡ false → (o : Option ServerFault) → at.broken ≡ o → Refutes fault next
-    by later None w = ends_refute at step out next one fault lawful w (ends_so out.end fault (sym (ap (λ (x : Option ServerFault). broken_after x out.end) w) ∙ sym one.queued.broken ∙ e))
-    by later (Some kept) w =
+    by : (o : Option ServerFault) → at.broken ≡ o → Refutes fault next
+    by None w = ends_refute at step out next one fault lawful w (ends_so out.end fault (sym (ap (λ (x : Option ServerFault). broken_after x out.end) w) ∙ sym one.queued.broken ∙ e))
+    by (Some kept) w =
         let same : at.broken ≡ Some fault = w ∙ sym (ap (λ (x : Option ServerFault). broken_after x out.end) w) ∙ sym one.queued.broken ∙ e in
-        elim (polled step) [
-          | inl u ↦ subst (Refutes fault) (sym ((one.duly later).unpolled u).1) (so fault same)
-          | inr n ↦ elim (opens_or at step) [
-            | inl opens ↦ subst (Refutes fault) (sym ((one.duly later).savepoint n opens).1) (so fault same)
-            | inr none ↦ keeps_so fault at next next.seen.waits next.seen.moves ((one.duly later).kept kept w n none).1 (so fault same)
-          ]
-        ]
+        keeps_so fault at next next.seen.left next.seen.waits next.seen.moves (one.kept kept w).0 (so fault same)
 
-breaks_on : (at : Place) (step : Step) (out : Outcome) (next : Place) → Plays_step at step out next → BreaksSo at → BreaksSo next
+breaks_on : (at : Place) (step : Step) (out : Outcome) (next : Place) → Plays_exchange at step out next → BreaksSo at → BreaksSo next
 breaks_on at step out next one so fault e =
     let s = one.settles in
     settled_refutes fault at step one.told out one.call.own one.ended_at next s (called_on at step one.told one.ended_at one.call one.lawful so fault (sym s.broken ∙ e))
+
+breaks_in : (at : Place) (steps : List Step) (outs : List Outcome) (last : Place) → Plays_exchanges at steps outs last → BreaksSo at → BreaksSo last
+breaks_in at [] [] last run so = subst BreaksSo (sym run) so
+breaks_in at [] (o ∷ outs) last run so = absurd run
+breaks_in at (s ∷ steps) [] last run so = absurd run
+breaks_in at (s ∷ steps) (o ∷ outs) last run so = breaks_in run.0 steps outs last run.2 (breaks_on at s o run.0 run.1 so)
 
 breaks_all : (at : Place) (steps : List Step) (outs : List Outcome) (last : Place) → Plays_from at steps outs last → BreaksSo at → BreaksSo last
 breaks_all at [] [] last run so = subst BreaksSo (sym run) so
 breaks_all at [] (o ∷ outs) last run so = absurd run
 breaks_all at (s ∷ steps) [] last run so = absurd run
-breaks_all at (s ∷ steps) (o ∷ outs) last run so = breaks_all run.0 steps outs last run.2 (breaks_on at s o run.0 run.1 so)
+breaks_all at (s ∷ steps) (o ∷ outs) last run so = breaks_all run.0 steps outs last run.2 (breaks_in at run.1.exchanges run.1.outs run.0 run.1.run so)
 
 -- from a place that is whole
 pub breaks_first : (at : Place) (steps : List Step) (outs : List Outcome) (last : Place) → Plays_from at steps outs last → at.broken ≡ None → BreaksSo last
@@ -159,37 +124,51 @@ breaks_first at steps outs last run w = breaks_all at steps outs last run (λ fa
 
 -- it breaks the connection
 call_breaks : (at : Place) (step : Step) (out : Outcome) (next : Place) → Plays_call at step out next → (fault : ServerFault) → out.end ≡ ends.Err (errors.Protocol (protocol.Server fault)) → next.broken ≡ Some fault
-call_breaks at step out next one fault e = elim (at_once_or step) [
-  | inl now ↦ let x = sym e ∙ ap (λ (z : Outcome). z.end) (one.at_once now).0 in absurd cc
-  | inr later ↦ by later at.broken refl
-]
+call_breaks at step out next one fault e = by at.broken refl
   where
-    by : acts_at_once step.call ≡ false → (o : Option ServerFault) → at.broken ≡ o → next.broken ≡ Some fault
-    by later None w = one.queued.broken ∙ ap (λ (x : Option ServerFault). broken_after x out.end) w ∙ ap (broken_after None) e
-    by later (Some kept) w = elim (polled step) [
-      | inl u ↦ let x = sym e ∙ ap (λ (z : Outcome). z.end) ((one.duly later).unpolled u).0 in absurd cc
-      | inr n ↦ elim (opens_or at step) [
-        | inl opens ↦ let x = sym e ∙ ap (λ (z : Outcome). z.end) ((one.duly later).savepoint n opens).0 in absurd cc
-        | inr none ↦ elim ((one.duly later).kept kept w n none).0 [
-          | inl k ↦ let x = sym e ∙ ap (λ (z : Outcome). z.end) k in let same : fault ≡ kept = cc in one.queued.broken ∙ ap (λ (z : Option ServerFault). broken_after z out.end) w ∙ ap (λ (z : ServerFault). Some z) (sym same)
-          | inr k ↦ let x = sym e ∙ ap (λ (z : Outcome). z.end) k in absurd cc
-        ]
-      ]
-    ]
+    by : (o : Option ServerFault) → at.broken ≡ o → next.broken ≡ Some fault
+    by None w = one.queued.broken ∙ ap (λ (x : Option ServerFault). broken_after x out.end) w ∙ ap (broken_after None) e
+    by (Some kept) w = one.queued.broken ∙ ap (λ (x : Option ServerFault). broken_after x out.end) w ∙ ap (λ (x : ServerFault). Some x) (sym ((one.kept kept w).1 fault e))
 
-fault_breaks : (at : Place) (step : Step) (out : Outcome) (next : Place) → Plays_step at step out next → (fault : ServerFault) → out.end ≡ ends.Err (errors.Protocol (protocol.Server fault)) → next.broken ≡ Some fault
+pub fault_breaks : (at : Place) (step : Step) (out : Outcome) (next : Place) → Plays_exchange at step out next → (fault : ServerFault) → out.end ≡ ends.Err (errors.Protocol (protocol.Server fault)) → next.broken ≡ Some fault
 fault_breaks at step out next one fault e = one.settles.broken ∙ call_breaks at step one.told one.ended_at one.call fault (sym (ap (λ (x : Outcome). x.end) one.settles.outcome) ∙ e)
 
 -- what breaks the connection stays
-broken_stays : (fault : ServerFault) (at : Place) (steps : List Step) (outs : List Outcome) (last : Place) → Plays_from at steps outs last → at.broken ≡ Some fault → last.broken ≡ Some fault
+pub broken_in : (fault : ServerFault) (at : Place) (steps : List Step) (outs : List Outcome) (last : Place) → Plays_exchanges at steps outs last → at.broken ≡ Some fault → last.broken ≡ Some fault
+broken_in fault at [] [] last run w = ap (λ (p : Place). p.broken) run ∙ w
+broken_in fault at [] (o ∷ outs) last run w = absurd run
+broken_in fault at (s ∷ steps) [] last run w = absurd run
+broken_in fault at (s ∷ steps) (o ∷ outs) last run w = broken_in fault run.0 steps outs last run.2 (run.1.settles.broken ∙ run.1.call.queued.broken ∙ ap (λ (x : Option ServerFault). broken_after x run.1.told.end) w)
+
+pub broken_stays : (fault : ServerFault) (at : Place) (steps : List Step) (outs : List Outcome) (last : Place) → Plays_from at steps outs last → at.broken ≡ Some fault → last.broken ≡ Some fault
 broken_stays fault at [] [] last run w = ap (λ (p : Place). p.broken) run ∙ w
 broken_stays fault at [] (o ∷ outs) last run w = absurd run
 broken_stays fault at (s ∷ steps) [] last run w = absurd run
-broken_stays fault at (s ∷ steps) (o ∷ outs) last run w = broken_stays fault run.0 steps outs last run.2 (run.1.settles.broken ∙ run.1.call.queued.broken ∙ ap (λ (x : Option ServerFault). broken_after x run.1.told.end) w)
+broken_stays fault at (s ∷ steps) (o ∷ outs) last run w = broken_stays fault run.0 steps outs last run.2 (broken_in fault at run.1.exchanges run.1.outs run.0 run.1.run w)
 
-pub breaks_last : (at : Place) (step : Step) (out : Outcome) (next : Place) → Plays_step at step out next → (steps : List Step) (outs : List Outcome) (last : Place) → Plays_from next steps outs last
+-- the last exchange breaks it
+ends_break : (fault : ServerFault) (before : Outcome) (at : Place) (steps : List Step) (outs : List Outcome) (last : Place) → Plays_exchanges at steps outs last → (before.end ≡ ends.Err (errors.Protocol (protocol.Server fault)) → at.broken ≡ Some fault)
+    → (last_of before outs).end ≡ ends.Err (errors.Protocol (protocol.Server fault)) → last.broken ≡ Some fault
+ends_break fault before at [] [] last run b e = ap (λ (p : Place). p.broken) run ∙ b e
+ends_break fault before at [] (o ∷ outs) last run b e = absurd run
+ends_break fault before at (s ∷ steps) [] last run b e = absurd run
+ends_break fault before at (s ∷ steps) (o ∷ outs) last run b e = ends_break fault o run.0 steps outs last run.2 (fault_breaks at s o run.0 run.1 fault) e
+
+-- a step has an exchange
+pub some_first : (step : Step) → FirstIs step [] → ⊥
+some_first step e = e
+
+step_breaks : (at : Place) (step : Step) (out : Outcome) (next : Place) → Plays_step at step out next → (fault : ServerFault) → out.end ≡ ends.Err (errors.Protocol (protocol.Server fault)) → next.broken ≡ Some fault
+step_breaks at step out next one fault e = by one.exchanges one.outs one.run one.first (sym one.tells.ends ∙ e)
+  where
+    by : (xs : List Step) (ys : List Outcome) → Plays_exchanges at xs ys next → FirstIs step xs → (last_of out ys).end ≡ ends.Err (errors.Protocol (protocol.Server fault)) → next.broken ≡ Some fault
+    by [] ys run first e = absurd (some_first step first)
+    by (x ∷ xs) [] run first e = absurd run
+    by (x ∷ xs) (y ∷ ys) run first e = ends_break fault y run.0 xs ys next run.2 (fault_breaks at x y run.0 run.1 fault) e
+
+breaks_last : (at : Place) (step : Step) (out : Outcome) (next : Place) → Plays_step at step out next → (steps : List Step) (outs : List Outcome) (last : Place) → Plays_from next steps outs last
     → (fault : ServerFault) → out.end ≡ ends.Err (errors.Protocol (protocol.Server fault)) → last.broken ≡ Some fault
-breaks_last at step out next one steps outs last run fault e = broken_stays fault next steps outs last run (fault_breaks at step out next one fault e)
+breaks_last at step out next one steps outs last run fault e = broken_stays fault next steps outs last run (step_breaks at step out next one fault e)
 
 -- where the last place isn't broken so, no step is told so
 none_by : (at : Place) (steps : List Step) (outs : List Outcome) (last : Place) → Plays_from at steps outs last → ((tag : ℕ) → last.broken ≡ Some (faults.Unlawful tag) → ⊥) → NoneUnlawful outs
@@ -253,6 +232,10 @@ where_lawful first last steps outs run w can groups whole plain sent read rest p
 
 -- ---- the numbers of all steps
 
+-- a sum begins with its first number
+pub sum_more : (f : Outcome → ℕ) (out : Outcome) (outs : List Outcome) → sum_by f (out ∷ outs) ≡ f out + sum_by f outs
+sum_more f out outs = sum_by-append f (out ∷ []) outs ∙ omega arith
+
 totals_none : (at : Place) → Totals at.seen.link at.seen.link []
 totals_none at = record {
   write_waits = 0;
@@ -269,18 +252,56 @@ totals_none at = record {
 counts_more : (n m k l sum : ℕ) → sum ≡ k + l → CountsTo n k → CountsTo m l → CountsTo (n + m) sum
 counts_more n m k l sum e g h = (omega (arith, e, g.0, h.0), omega (arith, e, g.1, h.1))
 
-totals_more : (at next last : Place) (step : Step) (told out : Outcome) (outs : List Outcome) → Plays_call at step told next → out.waits ≡ told.waits → out.moved ≡ told.moved → Totals next.seen.link last.seen.link outs → Totals at.seen.link last.seen.link (out ∷ outs)
-totals_more at next last step told out outs one w v t =
+-- what exchanges waited and moved, exactly
+record SumsTo (a b : LinkSeen) (waits moved : ℕ) : Type 0 where
+  write_waits : ℕ
+  read_waits : ℕ
+  all : write_waits + read_waits ≡ waits
+  writes : GrewBy write_waits a.write_waits b.write_waits
+  reads : GrewBy read_waits a.read_waits b.read_waits
+  moving : GrewBy moved a.moved b.moved
+
+sums_none : (a : LinkSeen) → SumsTo a a 0 0
+sums_none a = record { write_waits = 0; read_waits = 0; all = omega arith; writes = omega arith; reads = omega arith; moving = omega arith }
+
+sums_more : (at next mid : Place) (step : Step) (told out : Outcome) (outs : List Outcome) → Plays_call at step told mid → out ≡ record told { groups = out.groups } → SumsTo mid.seen.link next.seen.link (sum_by (λ o. o.waits) outs) (sum_by (λ o. o.moved) outs)
+    → SumsTo at.seen.link next.seen.link (sum_by (λ o. o.waits) (out ∷ outs)) (sum_by (λ o. o.moved) (out ∷ outs))
+sums_more at next mid step told out outs one e t =
     let n = one.numbers in
-    let waits : sum_by (λ o. o.waits) (out ∷ outs) ≡ told.waits + sum_by (λ o. o.waits) outs = sum_by-append (λ (o : Outcome). o.waits) (out ∷ []) outs ∙ omega (arith, w) in
-    let moved : sum_by (λ o. o.moved) (out ∷ outs) ≡ told.moved + sum_by (λ o. o.moved) outs = sum_by-append (λ (o : Outcome). o.moved) (out ∷ []) outs ∙ omega (arith, v) in
-    let both : CountsTo ((n.write_waits + n.read_waits) + (t.write_waits + t.read_waits)) (sum_by (λ o. o.waits) (out ∷ outs)) = counts_more _ _ _ _ _ waits n.waits t.waits in
+    let waits : out.waits ≡ n.write_waits + n.read_waits = ap (λ (x : Outcome). x.waits) e ∙ n.waits in
+    let moved : out.moved ≡ n.moves = ap (λ (x : Outcome). x.moved) e ∙ n.moved in
     record {
       write_waits = n.write_waits + t.write_waits;
       read_waits = n.read_waits + t.read_waits;
-      moves = n.moves + t.moves;
+      all = omega (arith, waits, t.all, sum_more (λ (o : Outcome). o.waits) out outs);
+      writes = GrewBy-then _ _ _ _ _ _ n.writes t.writes refl;
+      reads = GrewBy-then _ _ _ _ _ _ n.reads t.reads refl;
+      moving = GrewBy-then _ _ _ _ _ _ n.moving t.moving (omega (arith, moved, sum_more (λ (o : Outcome). o.moved) out outs));
+    }
+
+sums_in : (at : Place) (steps : List Step) (outs : List Outcome) (last : Place) → Plays_exchanges at steps outs last → SumsTo at.seen.link last.seen.link (sum_by (λ o. o.waits) outs) (sum_by (λ o. o.moved) outs)
+sums_in at [] [] last run = subst (λ (p : Place). SumsTo at.seen.link p.seen.link 0 0) (sym run) (sums_none at.seen.link)
+sums_in at [] (o ∷ outs) last run = absurd run
+sums_in at (s ∷ steps) [] last run = absurd run
+sums_in at (s ∷ steps) (o ∷ outs) last run =
+    let one = run.1 in
+    let link = ap (λ (x : StreamSeen). x.link) one.settles.seen in
+    sums_more at last one.ended_at s one.told o outs one.call one.settles.outcome (subst (λ (x : LinkSeen). SumsTo x last.seen.link (sum_by (λ o. o.waits) outs) (sum_by (λ o. o.moved) outs)) link (sums_in run.0 steps outs last run.2))
+
+-- a sum that is told exactly, and one that is counted
+counts_same : (n m : ℕ) → m ≡ n → CountsTo n m
+counts_same n m e = (omega (arith, e), omega (arith, e))
+
+totals_more : (at next last : Place) (told : List Outcome) (out : Outcome) (outs : List Outcome) → TellsAll told out → SumsTo at.seen.link next.seen.link (sum_by (λ o. o.waits) told) (sum_by (λ o. o.moved) told) → Totals next.seen.link last.seen.link outs → Totals at.seen.link last.seen.link (out ∷ outs)
+totals_more at next last told out outs tells n t =
+    let first : CountsTo (n.write_waits + n.read_waits) out.waits = counts_same (n.write_waits + n.read_waits) out.waits (tells.waits ∙ sym n.all) in
+    let both : CountsTo ((n.write_waits + n.read_waits) + (t.write_waits + t.read_waits)) (sum_by (λ o. o.waits) (out ∷ outs)) = counts_more _ _ _ _ _ (sum_more (λ (o : Outcome). o.waits) out outs) first t.waits in
+    record {
+      write_waits = n.write_waits + t.write_waits;
+      read_waits = n.read_waits + t.read_waits;
+      moves = sum_by (λ (o : Outcome). o.moved) told + t.moves;
       waits = subst (λ (k : ℕ). CountsTo k (sum_by (λ o. o.waits) (out ∷ outs))) (omega arith) both;
-      moved = counts_more _ _ _ _ _ moved n.moved t.moved;
+      moved = counts_more _ _ _ _ _ (sum_more (λ (o : Outcome). o.moved) out outs) tells.moved t.moved;
       writes = GrewBy-then _ _ _ _ _ _ n.writes t.writes refl;
       reads = GrewBy-then _ _ _ _ _ _ n.reads t.reads refl;
       moving = GrewBy-then _ _ _ _ _ _ n.moving t.moving refl;
@@ -292,6 +313,4 @@ totals_all at [] (o ∷ outs) last run = absurd run
 totals_all at (s ∷ steps) [] last run = absurd run
 totals_all at (s ∷ steps) (o ∷ outs) last run =
     let one = run.1 in
-    let link = ap (λ (x : StreamSeen). x.link) one.settles.seen in
-    totals_more at one.ended_at last s one.told o outs one.call (ap (λ (x : Outcome). x.waits) one.settles.outcome) (ap (λ (x : Outcome). x.moved) one.settles.outcome)
-    (subst (λ (x : LinkSeen). Totals x last.seen.link outs) link (totals_all run.0 steps outs last run.2))
+    totals_more at run.0 last one.outs o outs one.tells (sums_in at one.exchanges one.outs run.0 one.run) (totals_all run.0 steps outs last run.2)

@@ -54,7 +54,7 @@ closed_part : (xs : List Frame) (z : Frame) → count_by is_ready xs ≡ 0 → i
 closed_part xs z e r = inr (closed_piece is_ready xs z (none_ready xs e) r)
 
 -- what follows p ReadyForQuery has as many fewer
-count_after : (hs : List Frame) (p : ℕ) → count_by is_ready hs ≡ p → count_by is_ready (after_readys p hs) ≡ 0
+pub count_after : (hs : List Frame) (p : ℕ) → count_by is_ready hs ≡ p → count_by is_ready (after_readys p hs) ≡ 0
 count_after hs zero e = e
 count_after [] (suc n) e = refl
 count_after (g ∷ fs) (suc n) e =

@@ -11,7 +11,7 @@ use Rattle.pg_wire.specs.declared.error.ProtocolFault.TheVariants as protocol
 use Rattle.pg_wire.specs.declared.error.ServerFault.{ServerFault}
 use Rattle.pg_wire.specs.Frame.{Frame}
 use Rattle.pg_wire.specs.Parts.{heard, is_ready, parts}
-use Rattle.pg_wire.specs.Frontend.{FrontendMessage, HasFrontendFrame}
+use Rattle.pg_wire.specs.Frontend.{FrontendMessage, HasFrontendFrame, Parse, DescribeStatement, Bind, Execute, ClosePortal}
 use Rattle.pg_wire.specs.Backend.{BackendMessage, backend_frame}
 use Rattle.pg_wire.specs.Groups.{IsGroup}
 use Rattle.pg_wire.proofs.PartLaws.{heard-append}
@@ -88,15 +88,15 @@ end_summary start d call said hs items ledger shown (errors.Protocol (protocol.C
 end_summary start d call said hs items ledger shown (errors.Protocol _) k h = absurd h
 end_summary start d call said hs items ledger shown _ k h = absurd h
 
-pub ends_summary : (o : Option ServerFault) (limits : Limits) (a b : ConnSeen) (d : ℕ) (call : Call) (said : List FrontendMessage) (hs : List Frame) (shown : List Item) (end : End) → EndsOn o limits a b (request_of d call) said hs shown end
+pub ends_summary : (o : Option ServerFault) (limits : Limits) (first : StreamSeen) (a b : ConnSeen) (d : ℕ) (call : Call) (said : List FrontendMessage) (hs : List Frame) (shown : List Item) (end : End) → EndsOn o limits first a b (request_of d call) said hs shown end
     → HasSummary a.ledger (request_of d call) said hs b.ledger end shown
-ends_summary None limits a b d call said hs shown (ends.Ok told) h = (h.0, (fine_summary a.ledger d call said hs h.0 b.ledger h.5.0).0, tt)
-ends_summary None limits a b d call said hs shown (ends.Err e) (inl (items, k, l, inl h)) = end_summary a.ledger d call said hs items b.ledger shown e k h
-ends_summary None limits a b d call said hs shown (ends.Err e) (inl (items, k, l, inr (left, well, fails))) =
+ends_summary None limits first a b d call said hs shown (ends.Ok told) h = (h.0, (fine_summary a.ledger d call said hs h.0 b.ledger h.5.0).0, tt)
+ends_summary None limits first a b d call said hs shown (ends.Err e) (inl (items, k, l, inl h)) = end_summary a.ledger d call said hs items b.ledger shown e k h
+ends_summary None limits first a b d call said hs shown (ends.Err e) (inl (items, k, l, inr (left, well, fails))) =
     (items, rw (fails_plainly a b a.ledger (request_of d call) left.own hs e fails) (leaves_summary a.ledger d call said hs items b.ledger false left), inl k)
-ends_summary None limits a b d call said hs shown (ends.Err e) (inr (items, k, z, f)) = rw z (items, (fine_summary a.ledger d call said hs items b.ledger f).0, inr k)
-ends_summary None limits a b d call said hs shown ends.Dropped h = (h.0, leaves_summary a.ledger d call said hs h.0 b.ledger false h.2, inl h.1)
-ends_summary (Some fault) limits a b d call said hs shown end h = rw h.0 ([], nothing_done a.ledger (request_of d call) said hs b.ledger h.1 h.2 (ap (λ (c : ConnSeen). c.ledger) h.4), inr h.3)
+ends_summary None limits first a b d call said hs shown (ends.Err e) (inr (items, k, z, f)) = rw z (items, (fine_summary a.ledger d call said hs items b.ledger f).0, inr k)
+ends_summary None limits first a b d call said hs shown ends.Dropped h = (h.0, leaves_summary a.ledger d call said hs h.0 b.ledger false h.2, inl h.1)
+ends_summary (Some fault) limits first a b d call said hs shown end h = rw h.0 ([], nothing_done a.ledger (request_of d call) said hs b.ledger h.1 h.2 (ap (λ (c : ConnSeen). c.ledger) h.4), inr h.3)
 
 -- ---- what was queued
 
@@ -156,7 +156,7 @@ own_said : (p : ℕ) (d : ℕ) (call : Call) (own : List Group) (hs : List Frame
 own_said p d call own hs (inl e) = rw e tt
 own_said p d call own hs (inr q) =
     let all : messages_of (request_of d call) ≡ said_in (groups_of (request_of d call)) = ap (λ (b : List FrontendMessage). said_in (groups_of (request_of d call)) ++ b) (no_close d call) ∙ append-nil _ in
-    rw q.own_is (subst (AllByRecursion HasFrontendFrame) all q.can)
+    rw q.own_is (subst (AllByRecursion HasFrontendFrame) all q.can.0)
 
 groups_asked : (d : ℕ) (call : Call) → AllByRecursion IsGroup (groups_of (request_of d call))
 groups_asked d (calls.Execute query) = (inl (query.sql, refl), tt)
@@ -175,6 +175,8 @@ groups_asked (suc left) calls.Commit = (inl (commit_text left, refl), tt)
 groups_asked zero calls.Rollback = tt
 groups_asked (suc left) calls.Rollback = (inl (rollback_text left, refl), tt)
 groups_asked d calls.StartRollback = tt
+groups_asked d (calls.Describe extended) = (inr (Parse [] extended.sql extended.arguments.types ∷ DescribeStatement [] ∷ [], (tt, (tt, tt)), refl), tt)
+groups_asked d (calls.Run bound) = (inr (Bind [] bound.arguments.values ∷ Execute [] 0 ∷ ClosePortal [] ∷ [], (tt, (tt, (tt, tt))), refl), tt)
 
 pub own_groups : (p : ℕ) (d : ℕ) (call : Call) (own : List Group) (hs : List Frame) → (own ≡ []) ⊎ QueuedOwn p (request_of d call) own hs → AllByRecursion IsGroup own
 own_groups p d call own hs (inl e) = rw e tt
@@ -195,13 +197,13 @@ end_copies start r said hs items ledger (errors.Protocol (protocol.Reply tag)) h
 end_copies start r said hs items ledger (errors.Protocol _) h n = refl
 end_copies start r said hs items ledger _ h n = refl
 
-pub never_copies : (o : Option ServerFault) (limits : Limits) (a b : ConnSeen) (r : Request) (said : List FrontendMessage) (hs : List Frame) (shown : List Item) (end : End) → EndsOn o limits a b r said hs shown end → AsksForNoCopy hs → refuses_copy end ≡ false
-never_copies None limits a b r said hs shown (ends.Ok told) h n = refl
-never_copies None limits a b r said hs shown (ends.Err e) (inl (items, k, l, inl h)) n = end_copies a.ledger r said hs items b.ledger e h n
-never_copies None limits a b r said hs shown (ends.Err e) (inl (items, k, l, inr (left, well, fails))) n = fails_plainly a b a.ledger r left.own hs e fails
-never_copies None limits a b r said hs shown (ends.Err e) (inr (items, k, z, f)) n = rw z refl
-never_copies None limits a b r said hs shown ends.Dropped h n = refl
-never_copies (Some fault) limits a b r said hs shown end h n = rw h.0 refl
+pub never_copies : (o : Option ServerFault) (limits : Limits) (first : StreamSeen) (a b : ConnSeen) (r : Request) (said : List FrontendMessage) (hs : List Frame) (shown : List Item) (end : End) → EndsOn o limits first a b r said hs shown end → AsksForNoCopy hs → refuses_copy end ≡ false
+never_copies None limits first a b r said hs shown (ends.Ok told) h n = refl
+never_copies None limits first a b r said hs shown (ends.Err e) (inl (items, k, l, inl h)) n = end_copies a.ledger r said hs items b.ledger e h n
+never_copies None limits first a b r said hs shown (ends.Err e) (inl (items, k, l, inr (left, well, fails))) n = fails_plainly a b a.ledger r left.own hs e fails
+never_copies None limits first a b r said hs shown (ends.Err e) (inr (items, k, z, f)) n = rw z refl
+never_copies None limits first a b r said hs shown ends.Dropped h n = refl
+never_copies (Some fault) limits first a b r said hs shown end h n = rw h.0 refl
 
 plain_next : (start : StreamSeen) (at : Place) (a : ConnSeen) (r : Request) (said : List FrontendMessage) (fs : List Frame) (items : List CallItem) (ledger : Ledger) (end : End) → StandsAt start at a → (s : Summary a.ledger r said (heard fs) items ledger (refuses_copy end))
     → (AsksForNoCopy (heard fs) → refuses_copy end ≡ false) → AsksForNoCopy (heard (at.frames ++ fs)) → at.said ++ said ≡ said_in (at.groups ++ s.own)
@@ -245,6 +247,8 @@ requests_asked (suc left) calls.Commit = refl
 requests_asked zero calls.Rollback = refl
 requests_asked (suc left) calls.Rollback = refl
 requests_asked d calls.StartRollback = refl
+requests_asked d (calls.Describe extended) = refl
+requests_asked d (calls.Run bound) = refl
 
 requests_own : (p : ℕ) (d : ℕ) (call : Call) (own : List Group) (hs : List Frame) → (own ≡ []) ⊎ QueuedOwn p (request_of d call) own hs → count_by ends_request (said_in own) ≡ length own
 requests_own p d call own hs (inl e) = rw e refl

@@ -1,44 +1,34 @@
 -- A step, steps one after another, and the bytes of a link that tells them.
-use Rattle.std.proofs.Common.{◌≡◌, ◌≢◌, ℕ, zero, suc, ◌+◌, ◌*◌, ◌^◌, ◌≤◌, ◌<◌, Bool, true, false, ◌&&◌, cond, ◌⊎◌, inl, inr, List, [], ◌∷◌, ◌++◌, length, map, replicate, refl, sym, ap, ◌∙◌, subst, arith, append_assoc, append-nil, Option, Some, None}
+use Rattle.std.proofs.Common.{◌≡◌, ◌≢◌, ℕ, ◌+◌, ◌*◌, ◌^◌, ◌≤◌, ◌<◌, Bool, true, false, cond, ◌⊎◌, inl, inr, List, [], ◌∷◌, ◌++◌, length, map, replicate, refl, sym, ap, ◌∙◌, subst, arith, append_assoc, append-nil, Option, Some, None, sum_by}
 use Rattle.pg_play.proofs.IdleLaws.{idles_all}
 use Rattle.pg_play.specs.Idles.{SaysIdle, statuses}
-use Rattle.pg_call.specs.declared.calling.Call.TheVariants as states
 use Rattle.pg_play.proofs.SettledLaws.{SettlesTo, settles_call, settles_rollback, cleanup_polled, depth_other}
-use Rattle.pg_play.proofs.SettleLaws.{settled_waits, settled_counts}
 use Rattle.std.specs.List.{count_by, AllByRecursion}
 use Rattle.std.specs.Io.KnownBytes.{Appends}
-use Rattle.std.proofs.lemmas.List.{length-map, nil_from_length}
 use Rattle.pg_wire.specs.declared.error.Error.TheVariants as errors
 use Rattle.pg_wire.specs.declared.error.Error.{Error}
-use Rattle.pg_wire.specs.declared.error.ProtocolFault.TheVariants as protocol
 use Rattle.pg_wire.specs.declared.error.ServerFault.{ServerFault}
-use Rattle.pg_wire.specs.declared.error.ServerFault.TheVariants as faults
 use Rattle.pg_wire.specs.Frame.{Frame, text_of, backend_tags}
 use Rattle.pg_wire.specs.Parts.{heard, is_ready}
 use Rattle.pg_wire.specs.Frontend.{FrontendMessage}
 use Rattle.pg_wire.specs.Groups.{IsGroup}
 use Rattle.pg_wire.specs.Server.{MayHear}
 use Rattle.pg_wire.proofs.PartLaws.{heard-append}
-use Rattle.pg_wire.proofs.CutLaws.{frame_unique, cut_after_taken}
+use Rattle.pg_wire.proofs.CutLaws.{cut_after_taken}
 use Rattle.pg_stream.specs.Links.{LinkSeen, NoneFalls, GrewBy}
-use Rattle.pg_stream.specs.Streams.{StreamSeen, Sends}
+use Rattle.pg_stream.specs.Streams.{StreamSeen}
 use Rattle.pg_stream.proofs.Known.{Appends-then, Appends-refl, NoneFalls-refl, NoneFalls-then}
 use Rattle.pg_stream.specs.declared.link.TlsWish.{TlsWish}
 use Rattle.pg_startup.specs.Handshake.{ReadyOf, IsSecured, HasBegun}
 use Rattle.pg_startup.specs.Exchange.{proofs_text}
 use Rattle.pg_startup.specs.Establishing.{EstablishSeen}
-use Rattle.pg_request.specs.Queries.{QueryText}
 use Rattle.pg_request.specs.declared.progress.CacheStep.TheVariants as cache
 use Rattle.pg_call.specs.declared.request.Request.{Request}
 use Rattle.pg_call.specs.declared.request.Request.TheVariants as requests
-use Rattle.pg_call.specs.declared.ledger.Ledger.{Ledger}
 use Rattle.pg_call.specs.declared.answer.CallItem.{CallItem}
-use Rattle.pg_call.specs.Requests.{Group, said_in, spelled, groups_of, copy_fail, query_of, CanBeSaid, IsRefusal, RefusesQuery}
-use Rattle.pg_call.specs.Items.{items_of}
+use Rattle.pg_call.specs.Requests.{Group, said_in, spelled, groups_of, copy_fail}
 use Rattle.pg_call.specs.Drains.{after_readys}
-use Rattle.pg_call.proofs.DrainLaws.{before_nil}
-use Rattle.pg_conn.specs.Connections.{ConnSeen, idle}
-use Rattle.pg_conn.specs.Turns.{ends_request, is_flushed}
+use Rattle.pg_conn.specs.Connections.{ConnSeen, cleaned, counted_anew, rolled_back, ended as ended_conn}
 use Rattle.pg_report.specs.declared.outcome.Item.{Item}
 use Rattle.pg_report.specs.declared.outcome.Answer.TheVariants.{Unit as AnswersUnit}
 use Rattle.pg_report.specs.declared.outcome.End.{End}
@@ -49,292 +39,313 @@ use Rattle.pg_script.specs.declared.step.Call.{Call}
 use Rattle.pg_script.specs.declared.step.Call.TheVariants as calls
 use Rattle.pg_script.specs.declared.step.Step.{Step}
 use Rattle.pg_play.specs.declared.tally.Limits.{Limits}
-use Rattle.pg_play.specs.Shown.{request_of, has_query, shown_by, waits_to_show, item_of, acts_at_once, begins_with}
-use Rattle.pg_play.specs.Calls.{WaitsFew, StaysIdle, EndsOn, Ended, PlaysCall, PlaysStep, IsUnpolled, limits_of, untouched, outcome_of, broken_after, begun_call, HasEnded}
-use Rattle.pg_play.specs.Places.{Place, ended, owed, drained, unfed, queued_by, main_frames, refuses_copy, Queues, first_place, is_fine}
+use Rattle.pg_play.specs.Shown.{request_of, has_query, shown_by, waits_to_show, acts_at_once, begins_with}
+use Rattle.pg_play.specs.Calls.{WaitsFew, HasWaitedFew, Ended, PlaysCall, PlaysStep, IsUnpolled, limits_of, untouched, outcome_of, rolled_outcome, broken_after, behind_end, Counted, none_counted, asking, begun_call}
+use Rattle.pg_play.specs.Places.{Place, owed, drained, unfed, queued_by, main_frames, refuses_copy, Queues, first_place, is_fine}
 use Rattle.pg_play.specs.Told.{Numbers, CountsTo, WellAtOk}
-use Rattle.pg_play.specs.Causes.{IsFront, IsUnlawful, AnsweredPending, HasCause, StaysAt, EndsDuly, OpensSavepoint}
+use Rattle.pg_play.specs.Causes.{AnsweredPending, IsDropped, HasCause, KeepsFault, EndsDuly, OpensSavepoint}
+use Rattle.pg_play.specs.Settling.{Settles}
 use Rattle.pg_play.specs.WaitPlaces.{LastPlaces, WaitPlaces}
-use Rattle.pg_play.specs.Plays.{IsNeverUnlawful, Plays_step, Plays_from, places_in, TakesInTime, StandsAt, PlaysOn, TellsBytes, Plays, Totals, Plays_call}
+use Rattle.pg_play.specs.Plays.{IsNeverUnlawful, Plays_call, TellsAll, ActsAtOnce, Plays_step, Plays_from, places_in, TakesInTime, StandsAt, PlaysOn, TellsBytes, Plays, Totals}
 use Rattle.pg_play.specs.Starts.{Opening, IsOf, HasOpened}
 use Rattle.pg_startup.proofs.FlowLaws.{Flows-none}
-use Rattle.pg_play.proofs.PartLaws.{after_more, take_none}
-use Rattle.pg_play.proofs.StepLaws.{Summary, QueuedOwn}
-use Rattle.pg_play.proofs.PlaceLaws.{ends_summary, said_is_queued, next_place, stands_next, never_copies, own_groups}
-use Rattle.pg_play.proofs.ToldLaws.{main_after, queued_one, queued_step, numbers_step, told_step, at_most_one}
-use Rattle.pg_play.proofs.CauseLaws.{pending_in, cause_step}
-use Rattle.pg_play.proofs.LawfulLaws.{lawful_begins}
-use Rattle.pg_play.proofs.LinkLaws.{where_lawful, totals_all}
+use Rattle.pg_play.proofs.PartLaws.{take_none}
+use Rattle.pg_play.proofs.StepLaws.{Summary}
+use Rattle.std.proofs.Common.{ap₂, Ok, length-append}
+use Rattle.pg_wire.specs.Backend.{BackendMessage, backend_frame, HasBackendFrame}
+use Rattle.pg_call.proofs.RefusalLaws.{memory_refuses}
+use Rattle.pg_exchanges.specs.Answering.{described, describing}
+use Rattle.pg_exchanges.specs.Expecting.{BeginsKnowing}
+use Rattle.pg_call.specs.declared.request.Extended.{Extended}
+use Rattle.pg_call.specs.declared.request.Bound.{Bound}
+use Rattle.pg_call.specs.declared.answer.CallAnswer.TheVariants as answers
+use Rattle.pg_call.specs.Requests.{first_of}
+use Rattle.pg_call.specs.Calls.{answer_by, EndsByReady}
+use Rattle.pg_conn.specs.Connections.{settled}
+use Rattle.pg_play.specs.Shown.{asked_of, first_call, next_call, waits_how}
+use Rattle.pg_play.specs.Calls.{PlaysOne, HandedOn, handed_from, EndsCall}
+use Rattle.pg_play.specs.Told.{HasNoError}
+use Rattle.pg_play.specs.Settling.{cleanup_of}
+use Rattle.pg_play.proofs.PartLaws.{no_error}
+use Rattle.pg_play.proofs.ToldLaws.{fine_own}
+use Rattle.pg_play.proofs.SettledLaws.{settles_later}
+use Rattle.pg_play.proofs.NextLaws.{knows_next, replies_same}
+use Rattle.pg_play.proofs.ThroughLaws.{counted_by, handed_described, handed_asking, handed_ended}
+use Rattle.pg_play.proofs.ExchangeLaws.{first_request, first_acts, first_begins_with, first_waits, first_widths, last_next, describes, no_flush, bound_by, next_bound, next_runs}
+use Rattle.pg_play.proofs.DueLaws.{WithinMost, most_by, some_of, polled_most, and_true, duly_step, duly_later, duly_out, dropped_out, dropped_from}
+use Rattle.pg_play.proofs.PlaceLaws.{ends_summary, next_place, own_groups}
+use Rattle.pg_play.proofs.ToldLaws.{main_after, queued_one, told_of, CountsOn}
+use Rattle.pg_play.proofs.CauseLaws.{dropped_step}
+use Rattle.pg_play.proofs.LinkLaws.{sum_more, where_lawful, totals_all}
 use Rattle.pg_play.proofs.CompleteLaws.{where_faultless}
-use Rattle.pg_play.proofs.WaitPlaceLaws.{places_step, places_quiet, places_last, given_next, takes_all}
-use Rattle.pg_play.proofs.ShownLaws.{no_items_come}
-
--- ---- a lawful server
-
-unlawful_begins : (start : StreamSeen) (at : Place) (a b : ConnSeen) (step : Step) (said : List FrontendMessage) (fs : List Frame) (items : List CallItem) (copied : Bool) (end : End) (tag : ℕ) (front : Frame) → StandsAt start at a
-    → (s : Summary a.ledger (request_of at.depth step.call) said (heard fs) items b.ledger copied) → IsUnlawful at s.own (heard fs) (next_place at b said s.own fs end) tag → IsFront (next_place at b said s.own fs end) front
-    → MayHear (said_in (at.groups ++ s.own)) (heard (at.frames ++ fs) ++ front ∷ []) → ⊥
-unlawful_begins start at a b step said fs items copied end tag front st s u f l =
-    let one : length s.own ≡ 1 = ap (λ (g : List Group). length g) u.last in
-    let q = queued_one a.ledger.owed (request_of at.depth step.call) s.own (heard fs) s.queued one in
-    let group = subst (AllByRecursion IsGroup) u.last (own_groups a.ledger.owed at.depth step.call s.own (heard fs) s.queued) in
-    let same = frame_unique backend_tags front u.front f.rest u.is_front.rest f.whole u.is_front.whole (sym f.held ∙ u.is_front.held) in
-    let l' = subst (λ (x : Frame). MayHear (said_in (at.groups ++ s.own)) (heard (at.frames ++ fs) ++ x ∷ [])) same.0 l in
-    let behind : after_readys (length at.groups) (heard (at.frames ++ fs)) ≡ main_frames at s.own (heard fs) =
-    ap (after_readys (length at.groups)) (heard-append at.frames fs) ∙ after_more (heard at.frames) (heard fs) (length at.groups) a.ledger.owed st.ledger st.between ∙ sym (main_after start at a (request_of at.depth step.call) s.own (heard fs) st q) in
-    u.none (lawful_begins at.groups s.own u.group (heard (at.frames ++ fs)) (main_frames at s.own (heard fs)) u.front st.are_groups group.0 u.last l' u.in_own behind)
-
-never_unlawful : (start : StreamSeen) (at : Place) (a b : ConnSeen) (step : Step) (out : Outcome) (said : List FrontendMessage) (fs : List Frame) (items : List CallItem) (copied : Bool) → StandsAt start at a
-    → (s : Summary a.ledger (request_of at.depth step.call) said (heard fs) items b.ledger copied) → HasCause at step out s.own (heard fs) (next_place at b said s.own fs out.end) out.end → IsNeverUnlawful at out (next_place at b said s.own fs out.end)
-never_unlawful start at a b step out said fs items copied st s c tag front w e f l =
-    elim (subst (λ (z : End). HasCause at step out s.own (heard fs) (next_place at b said s.own fs out.end) z) e c) [
-      | inl kept ↦ none_kept at.broken (faults.Unlawful tag) w kept
-      | inr shown ↦ unlawful_begins start at a b step said fs items copied out.end tag front st s shown f l
-    ]
-  where
-    none_kept : (o : Option ServerFault) (fault : ServerFault) → o ≡ None → o ≡ Some fault → ⊥
-    none_kept None fault x y = absurd cc
-    none_kept (Some g) fault x y = absurd cc
-
--- ---- ends that are due
-
-abbrev WithinMost : End → List Item → ℕ → Type 0
-WithinMost end shown most = (end ≢ ends.Dropped → length shown < most) × (length shown ≤ most)
-
-within_none : (end : End) (shown : List Item) (most : ℕ) → shown ≡ [] → 0 < most → WithinMost end shown most
-within_none end shown most e m = let z : length shown ≡ 0 = ap (λ (x : List Item). length x) e in (λ n. omega (arith, z, m), omega (arith, z))
-
-most_by : (d : ℕ) (o : Option ServerFault) (limits : Limits) (a b : ConnSeen) (step : Step) (said : List FrontendMessage) (hs : List Frame) (shown : List Item) (end : End) → waits_to_show step.call ≡ false → 0 < limits.most → EndsOn o limits a b (request_of d step.call) said hs shown end
-    → WithinMost end shown limits.most
-most_by d None limits a b step said hs shown (ends.Ok told) w m h =
-    let plain = h.2 ∙ no_items_come d step.call (items_of h.5.0.reply) h.5.0.status h.1 (map item_of h.0) w h.5.1 in
-    let size : length shown ≡ length h.0 = ap (λ (x : List Item). length x) plain ∙ length-map h.0 item_of in
-    (λ n. omega (arith, size, h.3), omega (arith, size, h.3))
-most_by d None limits a b step said hs shown (ends.Err e) w m (inl (items, k, l, h)) = (λ n. l, omega (arith, l))
-most_by d None limits a b step said hs shown (ends.Err e) w m (inr (items, k, z, f)) = within_none (ends.Err e) shown limits.most k m
-most_by d None limits a b step said hs shown ends.Dropped w m h = (λ n. absurd (n refl), h.5)
-most_by d (Some fault) limits a b step said hs shown end w m h = within_none end shown limits.most h.3 m
-
-same_place : (at : Place) (seen : StreamSeen) (said : List FrontendMessage) (groups : List Group) (frames : List Frame) (failed : Bool) (broken : Option ServerFault) (seen' : StreamSeen)
-    → seen ≡ seen' → said ≡ at.said → groups ≡ at.groups → frames ≡ at.frames → failed ≡ at.is_copy_failed → broken ≡ at.broken
-    → record { seen = seen; said = said; groups = groups; frames = frames; is_copy_failed = failed; broken = broken; depth = at.depth } ≡ record at { seen = seen' }
-same_place at seen said groups frames failed broken seen' a b c d e f = rw (a, b, c, d, e, f) refl
-
-and_true : (b : Bool) → b && true ≡ b
-and_true true = refl
-and_true false = refl
-
--- a step that queues and takes nothing
-still_place : (at : Place) (b : ConnSeen) (said : List FrontendMessage) (own : List Group) (fs : List Frame) (end : End) (seen : StreamSeen) → b.stream ≡ seen → said ≡ [] → own ≡ [] → fs ≡ [] → broken_after at.broken end ≡ at.broken → next_place at b said own fs end ≡ record at { seen = seen }
-still_place at b said own fs end seen x s o f k =
-    rw (o, f, s) (same_place at b.stream (at.said ++ []) (at.groups ++ []) (at.frames ++ []) (at.is_copy_failed && true) (broken_after at.broken end) seen x (append-nil at.said) (append-nil at.groups) (append-nil at.frames) (and_true at.is_copy_failed) k)
-
-same_outcome : (items : List Item) (end end' : End) (groups heard waits moved : ℕ) → items ≡ [] → end ≡ end' → groups ≡ 0 → heard ≡ 0 → waits ≡ 0 → moved ≡ 0
-    → record { items = items; end = end; groups = groups; heard = heard; cache = cache.Same; waits = waits; moved = moved } ≡ untouched end'
-same_outcome items end end' groups heard waits moved a b c d e f = rw (a, b, c, d, e, f) refl
-
--- the numbers of a call that did nothing
-untouched_by : (b : ConnSeen) (out : Outcome) (end : End) → out ≡ outcome_of b out.items out.end → out.items ≡ [] → out.end ≡ end → (b.groups ≡ 0) × (b.heard ≡ 0) × (b.stream.waits ≡ 0) × (b.stream.moves ≡ 0) → out ≡ untouched end
-untouched_by b out end k i e n = k ∙ same_outcome out.items out.end end b.groups b.heard b.stream.waits b.stream.moves i e n.0 n.1 n.2 n.3
-
--- what a step on a broken connection leaves
-kept_place : (start : StreamSeen) (at : Place) (a b : ConnSeen) (step : Step) (said : List FrontendMessage) (own : List Group) (fs : List Frame) (end : End) (fault : ServerFault) → StandsAt start at a → at.broken ≡ Some fault → said ≡ [] → own ≡ [] → fs ≡ [] → idle b ≡ idle (begun_call (request_of at.depth step.call) a)
-    → next_place at b said own fs end ≡ record at { seen = record at.seen { waits = b.stream.waits; moves = b.stream.moves } }
-kept_place start at a b step said own fs end fault st w s o f i =
-    still_place at b said own fs end (record at.seen { waits = b.stream.waits; moves = b.stream.moves }) seen s o f (still at.broken w)
-  where
-    stream : b.stream ≡ record a.stream { waits = 0; moves = 0 }
-    stream = ap (λ (c : ConnSeen). c.stream) i
-
-    seen : b.stream ≡ record at.seen { waits = b.stream.waits; moves = b.stream.moves }
-    seen = rw (stream, st.seen) refl
-
-    still : (o : Option ServerFault) → o ≡ Some fault → broken_after o end ≡ o
-    still None e = absurd cc
-    still (Some g) e = refl
-
-kept_own : (a b : ConnSeen) (r : Request) (said : List FrontendMessage) (hs : List Frame) (items : List CallItem) (copied : Bool) → (s : Summary a.ledger r said hs items b.ledger copied) → hs ≡ [] → b.ledger.owed ≡ a.ledger.owed → s.own ≡ []
-kept_own a b r said hs items copied s e o = nil_from_length s.own (omega (arith, s.counted, o, ap (λ (x : List Frame). count_by is_ready x) e))
-
-some_of : (n : ℕ) → (n ≡ 0 → ⊥) → 0 < n
-some_of zero none = absurd (none refl)
-some_of (suc n) none = omega arith
-
-polled_most : (step : Step) → (IsUnpolled step → ⊥) → 0 < step.most
-polled_most step n = some_of step.most (λ e. n (inr e))
-
--- ---- a request that no frame can say
-
--- a refusal is no copy, and no fault of the server
-refusal_is_plain : (query : Option QueryText) (e : Error) → RefusesQuery query e → (refuses_copy (ends.Err e) ≡ false) × (broken_after None (ends.Err e) ≡ None)
-refusal_is_plain None e h = rw h (refl, refl)
-refusal_is_plain (Some query) errors.OutOfMemory h = (refl, refl)
-refusal_is_plain (Some query) (errors.Protocol (protocol.Caller fault)) h = (refl, refl)
-refusal_is_plain (Some query) _ h = absurd h
-
-memory_refuses : (query : Option QueryText) → RefusesQuery query errors.OutOfMemory
-memory_refuses None = refl
-memory_refuses (Some query) = tt
-
-unsaid_own : (start ledger : Ledger) (r : Request) (said : List FrontendMessage) (hs : List Frame) (items : List CallItem) (copied : Bool) → (CanBeSaid r → ⊥) → (s : Summary start r said hs items ledger copied) → s.own ≡ []
-unsaid_own start ledger r said hs items copied u s = elim s.queued [
-  | inl e ↦ e
-  | inr q ↦ absurd (u q.can)
-]
-
-none_said : (start ledger : Ledger) (r : Request) (said : List FrontendMessage) (hs : List Frame) (items : List CallItem) (copied : Bool) → hs ≡ [] → copied ≡ false → (s : Summary start r said hs items ledger copied) → s.own ≡ [] → said ≡ []
-none_said start ledger r said hs items copied h c s o = rw (o, h, c, before_nil start.owed) at s.said_is
-
--- a first poll that did nothing leaves the stream as it was
-idle_seen : (start : StreamSeen) (r : Request) (at : Place) (a b : ConnSeen) (fs : List Frame) (shown : List Item) → StandsAt start at a → StaysIdle (begun_call r a) b fs shown → b.stream ≡ record at.seen { left = b.stream.left; waits = b.stream.waits; moves = b.stream.moves }
-idle_seen start r at a b fs shown st (none, taken, same) =
-    let stream : b.stream ≡ record a.stream { left = 256; waits = 0; moves = 0 } = ap (λ (c : ConnSeen). c.stream) same in
-    rw (stream, st.seen) refl
-
-idle_outcome : (r : Request) (a b : ConnSeen) (out : Outcome) (end : End) (fs : List Frame) → out ≡ outcome_of b out.items out.end → out.end ≡ end → StaysIdle (begun_call r a) b fs out.items → out ≡ untouched end
-idle_outcome r a b out end fs k e (none, taken, same) = untouched_by b out end k none e (ap (λ (c : ConnSeen). c.groups) same, ap (λ (c : ConnSeen). c.heard) same, ap (λ (c : ConnSeen). c.stream.waits) same, ap (λ (c : ConnSeen). c.stream.moves) same)
-
-refused_step : (start : StreamSeen) (at : Place) (a b : ConnSeen) (step : Step) (out : Outcome) (said : List FrontendMessage) (fs : List Frame) (items : List CallItem) → StandsAt start at a → at.broken ≡ None → (CanBeSaid (request_of at.depth step.call) → ⊥) → out ≡ outcome_of b out.items out.end
-    → ((e : Error) × IsRefusal (request_of at.depth step.call) e × (out.end ≡ ends.Err e) × StaysIdle (begun_call (request_of at.depth step.call) a) b fs out.items) → (s : Summary a.ledger (request_of at.depth step.call) said (heard fs) items b.ledger (refuses_copy out.end))
-    → (e : Error) × IsRefusal (request_of at.depth step.call) e × (out ≡ untouched (ends.Err e)) × StaysAt at (next_place at b said s.own fs out.end)
-refused_step start at a b step out said fs items st w u k (e, refuses, ended, (none, taken, same)) s = (
-  e,
-  refuses,
-  idle_outcome (request_of at.depth step.call) a b out (ends.Err e) fs k ended (none, taken, same),
-  still_place at b said s.own fs out.end (record at.seen { left = b.stream.left; waits = b.stream.waits; moves = b.stream.moves }) (idle_seen start (request_of at.depth step.call) at a b fs out.items st (none, taken, same))
-      (none_said a.ledger b.ledger (request_of at.depth step.call) said (heard fs) items (refuses_copy out.end) (ap heard taken) (ap refuses_copy ended ∙ plain.0) s own) own taken
-      (ap (λ (o : Option ServerFault). broken_after o out.end) w ∙ ap (broken_after None) ended ∙ plain.1 ∙ sym w),
-)
-  where
-    own : s.own ≡ []
-    own = unsaid_own a.ledger b.ledger (request_of at.depth step.call) said (heard fs) items (refuses_copy out.end) u s
-
-    plain : (refuses_copy (ends.Err e) ≡ false) × (broken_after None (ends.Err e) ≡ None)
-    plain = refusal_is_plain (query_of (request_of at.depth step.call)) e refuses
-
--- ---- a flush with nothing to do
-
-nothing_unsent : (a : ConnSeen) → a.ledger.owed ≡ 0 → a.stream.unsent ≡ [] → is_flushed (begun_call requests.Flush a) ≡ true
-nothing_unsent a o u = rw (o, u) refl
-
-flush_at : (start : StreamSeen) (at : Place) (a : ConnSeen) (step : Step) → StandsAt start at a → step.call ≡ calls.Flush → owed at ≡ 0 → at.seen.unsent ≡ [] → is_flushed (begun_call (request_of at.depth step.call) a) ≡ true
-flush_at start at a step st c o u = ap (λ (x : Call). is_flushed (begun_call (request_of at.depth x) a)) c ∙ nothing_unsent a (omega (arith, o, st.ledger)) (ap (λ (x : StreamSeen). x.unsent) st.seen ∙ u)
-
-flush_own : (p : ℕ) (r : Request) (own : List Group) (hs : List Frame) → r ≡ requests.Flush → (own ≡ []) ⊎ QueuedOwn p r own hs → own ≡ []
-flush_own p r own hs e (inl n) = n
-flush_own p r own hs e (inr q) = absurd (omega (arith, q.one, ap (λ (g : List Group). length g) q.own_is, ap (λ (x : Request). length (groups_of x)) e))
-
-flushed_step : (start : StreamSeen) (at : Place) (a b : ConnSeen) (step : Step) (out : Outcome) (said : List FrontendMessage) (fs : List Frame) (items : List CallItem) → StandsAt start at a → step.call ≡ calls.Flush → out ≡ outcome_of b out.items out.end
-    → (out.end ≡ ends.Ok AnswersUnit) × StaysIdle (begun_call (request_of at.depth step.call) a) b fs out.items → (s : Summary a.ledger (request_of at.depth step.call) said (heard fs) items b.ledger (refuses_copy out.end))
-    → (out ≡ untouched (ends.Ok AnswersUnit)) × StaysAt at (next_place at b said s.own fs out.end)
-flushed_step start at a b step out said fs items st c k (ended, (none, taken, same)) s =
-    let own : s.own ≡ [] = flush_own a.ledger.owed (request_of at.depth step.call) s.own (heard fs) (ap (request_of at.depth) c) s.queued in (
-      idle_outcome (request_of at.depth step.call) a b out (ends.Ok AnswersUnit) fs k ended (none, taken, same),
-      still_place at b said s.own fs out.end (record at.seen { left = b.stream.left; waits = b.stream.waits; moves = b.stream.moves }) (idle_seen start (request_of at.depth step.call) at a b fs out.items st (none, taken, same))
-          (none_said a.ledger b.ledger (request_of at.depth step.call) said (heard fs) items (refuses_copy out.end) (ap heard taken) (ap refuses_copy ended) s own) own taken
-          (ap (broken_after at.broken) ended ∙ ok_breaks_none at.broken),
-    )
-  where
-    ok_breaks_none : (o : Option ServerFault) → broken_after o (ends.Ok AnswersUnit) ≡ o
-    ok_breaks_none None = refl
-    ok_breaks_none (Some fault) = refl
-
-duly_step : (start : StreamSeen) (at : Place) (a b : ConnSeen) (step : Step) (out : Outcome) (said : List FrontendMessage) (fs : List Frame) (items : List CallItem) → StandsAt start at a → (IsUnpolled step → ⊥) → (OpensSavepoint at step → ⊥) → step.polls < 2 ^ 32
-    → Ended (limits_of step) (begun_call (request_of at.depth step.call) a) b (request_of at.depth step.call) out.items out.end said fs → (s : Summary a.ledger (request_of at.depth step.call) said (heard fs) items b.ledger (refuses_copy out.end)) → out ≡ outcome_of b out.items out.end → EndsDuly at step out (next_place at b said s.own fs out.end)
-duly_step start at a b step out said fs items st n o p e s k = record {
-  savepoint = λ m x. absurd (o x);
-  unpolled = λ u. absurd (n u);
-  kept = λ fault w m x.
-      let broken : a.broken ≡ Some fault = st.broken ∙ w in
-      let h = subst (λ (o : Option ServerFault). EndsOn o (limits_of step) (begun_call (request_of at.depth step.call) a) b (request_of at.depth step.call) said (heard fs) out.items out.end) broken e.ends in
-      let own = kept_own a b (request_of at.depth step.call) said (heard fs) items (refuses_copy out.end) s h.2 (ap (λ (c : ConnSeen). c.ledger.owed) h.4) in (
-        inl (untouched_by b out (ends.Err (errors.Protocol (protocol.Server fault))) k h.3 h.0 (ap (λ (c : ConnSeen). c.groups) h.4, ap (λ (c : ConnSeen). c.heard) h.4, ap (λ (c : ConnSeen). c.stream.waits) h.4, ap (λ (c : ConnSeen). c.stream.moves) h.4)),
-        kept_place start at a b step said s.own fs out.end fault st w h.1 own (e.kept fault broken) h.4,
-      );
-  refused = λ w m x u. refused_step start at a b step out said fs items st w u k ((e.at_once (st.broken ∙ w)).refused u) s;
-  flushed = λ w m c o u. flushed_step start at a b step out said fs items st c k ((e.at_once (st.broken ∙ w)).flushed (flush_at start at a step st c o u)) s;
-  few = (e.few.0, subst (λ (x : Outcome). AnsweredPending x e.few.0) (sym k) (pending_in a b (request_of at.depth step.call) e.few.0 out.items out.end (omega (arith, p, e.few.2.1)) e.few.1), e.few.2);
-  most = λ w. most_by at.depth a.broken (limits_of step) (begun_call (request_of at.depth step.call) a) b step said (heard fs) out.items out.end w (polled_most step n) e.ends;
-}
+use Rattle.pg_play.proofs.CalledLaws.{Knows, knows_none, Called, called_exchange, exchanged}
+use Rattle.pg_play.proofs.WaitPlaceLaws.{places_quiet, places_last, given_next, takes_all}
 
 -- ---- one step
 
--- replies are owed for the Query and Sync messages that have had none
-owes_requests : (start : StreamSeen) (at : Place) (c : ConnSeen) → StandsAt start at c → ended at + owed at ≡ count_by ends_request at.said
-owes_requests start at c st = omega (arith, st.ledger, st.requests)
-
--- the call of a step, and where the connection stands behind it
-record Called (start : StreamSeen) (at : Place) (m : ConnSeen) (step : Step) (out : Outcome) : Type 0 where
-  mid : Place
-  one : Plays_call at step out mid
-  stands : StandsAt start mid m
-  small : length one.own ≤ 1
-  lawful : IsNeverUnlawful at out mid
-  waits : WaitPlaces at out mid
-  counts : NoneFalls at.seen.link mid.seen.link
-
-called_step : (start : StreamSeen) (at : Place) (a m : ConnSeen) (step : Step) (out : Outcome) → StandsAt start at a → (IsUnpolled step → ⊥) → (OpensSavepoint at step → ⊥) → acts_at_once step.call ≡ false → step.polls < 2 ^ 32
-    → HasEnded (limits_of step) (begun_call (request_of at.depth step.call) a) m (request_of at.depth step.call) out.items out.end → m.call ≡ states.Idle → out ≡ outcome_of m out.items out.end → Called start at m step out
-called_step start at a b step out st n opens later p (said, fs, e) idles same =
-    let begun = begun_call (request_of at.depth step.call) a in
-    let found = ends_summary a.broken (limits_of step) begun b at.depth step.call said (heard fs) out.items out.end e.ends in
-    let s = found.1 in
-    let at_place = subst (λ (o : Option ServerFault). EndsOn o (limits_of step) begun b (request_of at.depth step.call) said (heard fs) out.items out.end) st.broken e.ends in
-    let cause = subst (λ (x : Outcome). HasCause at step x s.own (heard fs) (next_place at b said s.own fs out.end) out.end) (sym same) (cause_step at.broken start at a b step said fs out.items out.end found.0 st refl p at_place s) in
-    let went = e.went in
-    let space = st.room in
-    let stands = stands_next start at a b at.depth step.call said fs found.0 out.end st s (record { counts = went.flows.counts; secured = went.flows.secured; sent = went.flows.sent; read = went.flows.read }) e.broken idles went.started.2 (e.room (omega (arith, space)))
-    (never_copies a.broken (limits_of step) begun b (request_of at.depth step.call) said (heard fs) out.items out.end e.ends) in
-    record {
-      mid = next_place at b said s.own fs out.end;
-      one = record {
-        own = s.own;
-        slice = heard fs;
-        queued = queued_step a.broken (limits_of step) start at a b step out said fs out.items found.0 st e.ends s;
-        sends = subst (λ (x : StreamSeen). Sends x b.stream (spelled (queued_by at s.own (heard fs) out.end))) st.seen
-            (subst (λ (m : List FrontendMessage). Sends a.stream b.stream (spelled m)) (said_is_queued start at a (request_of at.depth step.call) said (heard fs) found.0 b.ledger out.end st s) went.flows.sent);
-        told = told_step a.broken (limits_of step) start at a b step out said fs found.0 st e.ends s found.2;
-        numbers = subst (λ (x : Outcome). Numbers at x s.own (heard fs) (next_place at b said s.own fs out.end)) (sym same) (numbers_step start at a b at.depth step.call said fs out.items out.end found.0 st went s);
-        calls = subst (λ (x : StreamSeen). b.stream.link.calls ≤ x.link.calls + 256 * (step.polls + step.most)) st.seen e.calls;
-        cause = cause;
-        at_once = λ now. let x = sym later ∙ now in absurd cc;
-        duly = λ x. duly_step start at a b step out said fs found.0 st n opens p e s same;
-      };
-      stands = stands;
-      small = at_most_one a.ledger.owed (request_of at.depth step.call) s.own (heard fs) s.queued;
-      lawful = never_unlawful start at a b step out said fs found.0 (refuses_copy out.end) st s cause;
-      waits = places_step start at a b (request_of at.depth step.call) step.polls out said s.own fs st p (ap (λ (x : Outcome). x.waits) same) e.few went.waits;
-      counts = subst (λ (x : StreamSeen). NoneFalls x.link b.stream.link) st.seen went.flows.counts;
-    }
-
--- a step whose call stands behind it, once the connection has settled its end
 abbrev StepsTo : StreamSeen → Place → Step → Outcome → ConnSeen → Type 0
 StepsTo start at step out d = (next : Place) × Plays_step at step out next × StandsAt start next d
 
-settled_step : (start : StreamSeen) (at mid : Place) (d : ConnSeen) (step : Step) (told out : Outcome) (one : Plays_call at step told mid) → IsNeverUnlawful at told mid → WaitPlaces at told mid → NoneFalls at.seen.link mid.seen.link → SettlesTo start at step told out one.own mid d → StepsTo start at step out d
-settled_step start at mid d step told out one lawful waits counts (next, s, stands) = (
+-- a step begins with the first exchange of its call
+abbrev first_step : Step → Step
+first_step step = record step { call = first_call step.call }
+
+-- a step of one exchange
+one_step : (start : StreamSeen) (at mid next : Place) (d : ConnSeen) (step : Step) (raw told out : Outcome) (one : Plays_call at (first_step step) raw mid) → IsNeverUnlawful at raw mid → WaitPlaces at raw mid → NoneFalls at.seen.link mid.seen.link → Settles at (first_step step) raw told one.own mid next → StandsAt start next d
+    → TellsAll (told ∷ []) out → (is_fine told.end ≡ true → next_call (first_call step.call) one.told.response ≡ None) → next.seen.link.calls ≤ at.seen.link.calls + 256 * (step.polls + step.most) → (out.end ≡ ends.Dropped → IsDropped at step out mid) → (acts_at_once step.call ≡ true → ActsAtOnce at out mid)
+    → (acts_at_once step.call ≡ false → EndsDuly at step (first_of (asked_of at.depth step.call)) out mid) → StepsTo start at step out d
+unfolding exchanged
+one_step start at mid next d step raw told out one lawful waits counts s stands tells last calls dropped now duly = (
   next,
   record {
-    told = told;
-    ended_at = mid;
-    call = one;
-    settles = s;
-    waits = settled_waits at step told out one.own mid next s waits;
-    counts = settled_counts at step told out one.own mid next at.seen.link s counts;
-    lawful = lawful;
-    ledger = owes_requests start next d stands;
+    exchanges = first_step step ∷ [];
+    outs = told ∷ [];
+    run = (next, exchanged start at mid next d (first_step step) raw told one lawful waits counts s stands, refl);
+    first = refl;
+    limits = (refl, tt);
+    hands = (last, tt);
+    tells = tells;
+    stop = mid;
+    stops = refl;
+    calls = calls;
+    dropped = dropped;
+    at_once = now;
+    duly = duly;
   },
   stands,
 )
 
+-- what is told of an exchange's call
+abbrev told_in : {start : StreamSeen} {at : Place} {old : Counted} {m : ConnSeen} {step : Step} {shown : List Item} {end : End} {mid : Place} → Called start at old m step shown end mid → Outcome
+told_in {start} {at} {old} {m} {step} {shown} {end} {mid} c = told_of shown end c.groups c.heard c.waits c.moved
+
+-- a step of two exchanges
+two_steps : (start : StreamSeen) (at mid mid' : Place) (old old' : Counted) (m c m' d : ConnSeen) (step later : Step) (shown : List Item) (end : End) (out : Outcome) (one : Called start at old m (first_step step) [] (ends.Ok AnswersUnit) mid) (s : SettlesTo start at (first_step step) (told_in one) one.one.own mid m c)
+    → (two : Called start s.next old' m' later shown end mid') (t : SettlesTo start s.next later (told_in two) two.one.own mid' m' d) → limits_of later ≡ limits_of step → next_call (first_call step.call) one.one.told.response ≡ Some later.call → (is_fine end ≡ true → next_call later.call two.one.told.response ≡ None)
+    → TellsAll (s.out ∷ t.out ∷ []) out → t.next.seen.link.calls ≤ at.seen.link.calls + 256 * (step.polls + step.most) → (out.end ≡ ends.Dropped → IsDropped at step out mid') → acts_at_once step.call ≡ false
+    → EndsDuly at step (first_of (asked_of at.depth step.call)) out mid' → StepsTo start at step out d
+unfolding exchanged
+two_steps start at mid mid' old old' m c m' d step later shown end out one s two t limits hands last tells calls dropped waits duly = (
+  t.next,
+  record {
+    exchanges = first_step step ∷ later ∷ [];
+    outs = s.out ∷ t.out ∷ [];
+    run = (
+      s.next,
+      exchanged start at mid s.next c (first_step step) (told_in one) s.out one.one one.lawful one.places one.counts s.settles s.stands,
+      (t.next, exchanged start s.next mid' t.next d later (told_in two) t.out two.one two.lawful two.places two.counts t.settles t.stands, refl),
+    );
+    first = refl;
+    limits = (refl, (limits, tt));
+    hands = ((ap (λ (x : Outcome). x.end) s.settles.outcome, hands), (λ f. last (sym (ap (λ (x : Outcome). is_fine x.end) t.settles.outcome) ∙ f), tt));
+    tells = tells;
+    stop = mid';
+    stops = refl;
+    calls = calls;
+    dropped = dropped;
+    at_once = λ now. let x = sym waits ∙ now in absurd cc;
+    duly = λ l. duly;
+  },
+  t.stands,
+)
+
+sum_one : (f : Outcome → ℕ) (one : Outcome) → sum_by f (one ∷ []) ≡ f one
+sum_one f one = sum_more f one [] ∙ omega arith
+
+sum_two : (f : Outcome → ℕ) (one two : Outcome) → sum_by f (one ∷ two ∷ []) ≡ f one + f two
+sum_two f one two = sum_more f one (two ∷ []) ∙ ap (λ (n : ℕ). f one + n) (sum_one f two)
+
+tells_one : (told out : Outcome) → out.items ≡ told.items → out.end ≡ told.end → CountsTo told.groups out.groups → CountsTo told.heard out.heard → out.waits ≡ told.waits → CountsTo told.moved out.moved → out.cache ≡ cache.Same → TellsAll (told ∷ []) out
+tells_one told out items end groups heard waits moved same = record {
+  items = items;
+  ends = end;
+  groups = subst (λ (n : ℕ). CountsTo n out.groups) (sym (sum_one (λ (x : Outcome). x.groups) told)) groups;
+  heard = subst (λ (n : ℕ). CountsTo n out.heard) (sym (sum_one (λ (x : Outcome). x.heard) told)) heard;
+  waits = waits ∙ sym (sum_one (λ (x : Outcome). x.waits) told);
+  moved = subst (λ (n : ℕ). CountsTo n out.moved) (sym (sum_one (λ (x : Outcome). x.moved) told)) moved;
+  cache = same;
+}
+
+-- only the groups that an end makes are counted behind it
+same_but_groups : (m d : ConnSeen) (items : List Item) (end : End) → (d.heard ≡ m.heard) × (d.stream.waits ≡ m.stream.waits) × (d.stream.moves ≡ m.stream.moves) → outcome_of d items end ≡ record (outcome_of m items end) { groups = d.groups }
+same_but_groups m d items end o = rw (o.0, o.1, o.2) refl
+
+none_opens : (m : ConnSeen) → m.groups ≡ 0 → cleaned m ≡ ended_conn m
+none_opens m e = rw e refl
+
+behind_none : (end : End) (m : ConnSeen) → m.groups ≡ 0 → (behind_end end m).groups ≡ 0
+behind_none (ends.Ok answer) m e = e
+behind_none (ends.Err x) m e = ap (λ (c : ConnSeen). c.groups) (none_opens m e) ∙ e
+behind_none ends.Dropped m e = ap (λ (c : ConnSeen). c.groups) (none_opens m e) ∙ e
+
+-- the numbers of a call that began with none, once its end is settled
+counted_tells : (start : StreamSeen) (at mid : Place) (m d : ConnSeen) (step : Step) (told : Outcome) (polls : ℕ) (one : Plays_call at step told mid) (s : SettlesTo start at step told one.own mid m d) → CountsOn none_counted m told → polls < 2 ^ 32 → m.stream.waits ≤ polls → TellsAll (s.out ∷ []) (outcome_of d told.items told.end)
+counted_tells start at mid m d step told polls one s grew p few =
+    let e = s.settles.outcome in
+    tells_one s.out (outcome_of d told.items told.end) (sym (ap (λ (x : Outcome). x.items) e)) (sym (ap (λ (x : Outcome). x.end) e))
+    (omega (arith, s.settles.counted, one.numbers.groups, grew.groups, s.groups), omega (arith, s.settles.counted, one.numbers.groups, grew.groups, s.groups))
+    (omega (arith, grew.heard, s.others.0, ap (λ (x : Outcome). x.heard) e), omega (arith, grew.heard, s.others.0, ap (λ (x : Outcome). x.heard) e))
+    (omega (arith, grew.waits, s.others.1, ap (λ (x : Outcome). x.waits) e, p, few))
+    (omega (arith, grew.moved, s.others.2, ap (λ (x : Outcome). x.moved) e), omega (arith, grew.moved, s.others.2, ap (λ (x : Outcome). x.moved) e))
+    refl
+
+waited_most : (limits : Limits) (first : StreamSeen) (b : ConnSeen) (end : End) → first.waits ≡ 0 → HasWaitedFew limits.polls first b.stream end → b.stream.waits ≤ limits.polls
+waited_most limits first b end z few = omega (arith, z, few.1.all, few.1.waits.1, few.2.1)
+
+-- two exchanges are told of as they were counted, one behind the other
+two_tell : (start : StreamSeen) (at mid mid' next : Place) (m c m' d : ConnSeen) (first later : Step) (told told' : Outcome) (polls : ℕ) (one : Plays_call at first told mid) (s : SettlesTo start at first told one.own mid m c) (two : Plays_call next later told' mid') (t : SettlesTo start next later told' two.own mid' m' d)
+    → CountsOn none_counted m told → CountsOn (counted_by m) m' told' → c.groups ≡ m.groups → told.groups ≤ 1 → polls < 2 ^ 32 → m'.stream.waits ≤ polls → TellsAll (s.out ∷ t.out ∷ []) (outcome_of d told'.items told'.end)
+two_tell start at mid mid' next m c m' d first later told told' polls one s two t grew grew' same small p few =
+    let e = s.settles.outcome in
+    let f = t.settles.outcome in
+    let groups = sum_two (λ (x : Outcome). x.groups) s.out t.out in
+    let heard = sum_two (λ (x : Outcome). x.heard) s.out t.out in
+    let waits = sum_two (λ (x : Outcome). x.waits) s.out t.out in
+    let moved = sum_two (λ (x : Outcome). x.moved) s.out t.out in
+    record {
+      items = sym (ap (λ (x : Outcome). x.items) f);
+      ends = sym (ap (λ (x : Outcome). x.end) f);
+      groups = (
+        omega (arith, groups, s.settles.counted, one.numbers.groups, grew.groups, s.groups, t.settles.counted, two.numbers.groups, grew'.groups, t.groups, same, small),
+        omega (arith, groups, s.settles.counted, one.numbers.groups, grew.groups, s.groups, t.settles.counted, two.numbers.groups, grew'.groups, t.groups, same, small),
+      );
+      heard = (
+        omega (arith, heard, grew.heard, grew'.heard, t.others.0, ap (λ (x : Outcome). x.heard) e, ap (λ (x : Outcome). x.heard) f),
+        omega (arith, heard, grew.heard, grew'.heard, t.others.0, ap (λ (x : Outcome). x.heard) e, ap (λ (x : Outcome). x.heard) f),
+      );
+      waits = omega (arith, waits, grew.waits, grew'.waits, t.others.1, ap (λ (x : Outcome). x.waits) e, ap (λ (x : Outcome). x.waits) f, p, few);
+      moved = (
+        omega (arith, moved, grew.moved, grew'.moved, t.others.2, ap (λ (x : Outcome). x.moved) e, ap (λ (x : Outcome). x.moved) f),
+        omega (arith, moved, grew.moved, grew'.moved, t.others.2, ap (λ (x : Outcome). x.moved) e, ap (λ (x : Outcome). x.moved) f),
+      );
+      cache = refl;
+    }
+
+-- what ended hands on nothing where no description ended it
+last_by : (d : ℕ) (call : Call) (response : List BackendMessage) (end : End) → EndsCall (request_of d call) end → is_fine end ≡ true → next_call call response ≡ None
+last_by d call response (ends.Ok told) l f = last_next d call response l
+last_by d call response (ends.Err e) l f = absurd cc
+last_by d call response ends.Dropped l f = absurd cc
+
+-- its first exchange ended the call
+polled_one : (start : StreamSeen) (at : Place) (a b : ConnSeen) (step : Step) (out : Outcome) → StandsAt start at a → (IsUnpolled step → ⊥) → (OpensSavepoint at step → ⊥) → acts_at_once step.call ≡ false → step.polls < 2 ^ 32
+    → PlaysOne (limits_of step) (begun_call (request_of at.depth (first_call step.call)) a).stream (begun_call (request_of at.depth (first_call step.call)) a) b (request_of at.depth (first_call step.call)) out → StepsTo start at step out b
+polled_one start at a b step out st n opens later p (m, (said, fs, e, last), over, is, outcome) =
+    let first = first_step step in
+    let waits : acts_at_once first.call ≡ false = first_acts step.call ∙ later in
+    let r = request_of at.depth first.call in
+    let begun = begun_call r a in
+    let found = ends_summary a.broken (limits_of step) begun.stream begun m at.depth first.call said (heard fs) out.items out.end e.ends in
+    let s = found.1 in
+    let room = st.room in
+    let mid : Place = next_place at m said s.own fs out.end in
+    let knows = knows_none start at a m first said fs found.0 (refuses_copy out.end) out.end st s (first_widths at.depth step.call) in
+    let c = called_exchange start begun.stream none_counted at a m first out.items out.end said fs st waits p refl e over (omega (arith, room)) found knows in
+    let told : Outcome = told_in c in
+    let raw : Outcome = outcome_of m out.items out.end in
+    let d : ConnSeen = behind_end out.end m in
+    let settled = settles_call start at mid m first told c.one waits c.stands c.small (omega (arith, c.grew.groups, c.one.numbers.groups, c.small)) e.went.started.3 in
+    let real : Outcome = outcome_of d out.items out.end in
+    let same : real ≡ record raw { groups = d.groups } = same_but_groups m d out.items out.end settled.others in
+    let most = λ (w : waits_to_show step.call ≡ false). most_by at.depth a.broken (limits_of step) begun.stream begun m first said (heard fs) out.items out.end (first_waits step.call w) (polled_most step n) e.ends in
+    let dues : EndsDuly at step r raw mid = duly_step start at a m step r raw said fs found.0 st n opens p e s refl (λ x. ap (λ (y : Call). request_of at.depth (first_call y)) x) most in
+    let steps : StepsTo start at step real d = one_step start at mid settled.next d step told settled.out real c.one c.lawful c.places c.counts settled.settles settled.stands
+    (counted_tells start at mid m d first told step.polls c.one settled c.grew p (waited_most (limits_of step) begun.stream m out.end refl e.few))
+    (λ f. last_by at.depth first.call c.one.told.response out.end last (sym (ap (λ (x : Outcome). is_fine x.end) settled.settles.outcome) ∙ f))
+    (omega (arith, e.calls, ap (λ (x : StreamSeen). x.link.calls) st.seen, ap (λ (x : StreamSeen). x.link.calls) settled.settles.seen))
+    (λ k. dropped_out at step raw real mid same (dropped_step a.broken start begun.stream none_counted at a m first said fs out.items out.end found.0 st refl refl p k e.ends s))
+    (λ now. let x = sym later ∙ now in absurd cc)
+    (λ x. subst (λ (q : Request). EndsDuly at step q real mid) (first_request at.depth step.call) (duly_out at step r raw real mid same (behind_none out.end m) dues)) in
+    subst (λ (x : Outcome). StepsTo start at step x b) (sym (outcome ∙ ap (λ (x : ConnSeen). outcome_of x out.items out.end) is)) (subst (λ (x : ConnSeen). StepsTo start at step real x) (sym is) steps)
+
+described_cleans : (d : ℕ) (x : Extended) (end : End) (own : List Group) (n : ℕ) → cleanup_of d (calls.Describe x) end own n ≡ []
+described_cleans d x end [] n = refl
+described_cleans d x end (g ∷ gs) n = refl
+
+-- behind a description that was answered, the columns of the statement are known
+knows_later : (start : StreamSeen) (at next : Place) (a c m : ConnSeen) (x : Extended) (reply : List BackendMessage) (slice : List Frame) (said : List FrontendMessage) (fs : List Frame) (items : List CallItem) (copied : Bool) (end : End) → StandsAt start at a → StandsAt start next c
+    → next.groups ≡ at.groups ++ describing [] x.sql x.arguments.types ∷ [] → heard next.frames ≡ heard at.frames ++ slice → c.ledger.owed ≡ 0 → count_by is_ready slice ≡ a.ledger.owed + 1 → HasNoError slice → EndsByReady slice → after_readys a.ledger.owed slice ≡ map backend_frame reply → AllByRecursion HasBackendFrame reply
+    → (s : Summary c.ledger (request_of next.depth (calls.Run (bound_by x reply))) said (heard fs) items m.ledger copied) → Knows (([], length (described reply)) ∷ []) next s.own (heard fs) (next_place next m said s.own fs end)
+knows_later start at next a c m x reply slice said fs items copied end st st' groups frames owes count fine ends replied has s group front last in_own l =
+    let r : Request = request_of next.depth (calls.Run (bound_by x reply)) in
+    let one : length s.own ≡ 1 = ap (λ (g : List Group). length g) last in
+    let q = queued_one c.ledger.owed r s.own (heard fs) s.queued one in
+    let own = subst (AllByRecursion IsGroup) last (own_groups c.ledger.owed next.depth (calls.Run (bound_by x reply)) s.own (heard fs) s.queued) in
+    let main : main_frames next s.own (heard fs) ≡ heard fs = main_after start next c r s.own (heard fs) st' q ∙ ap (λ (k : ℕ). after_readys k (heard fs)) owes in
+    let all : next.groups ++ s.own ≡ (at.groups ++ describing [] x.sql x.arguments.types ∷ []) ++ group ∷ [] = ap₂ (λ (g h : List Group). g ++ h) groups last in
+    let listened : heard (next.frames ++ fs) ≡ (heard at.frames ++ slice) ++ heard fs = heard-append next.frames fs ∙ ap (λ (h : List Frame). h ++ heard fs) frames in
+    let may = subst (λ (g : List Group). MayHear (said_in g) (((heard at.frames ++ slice) ++ heard fs) ++ front ∷ [])) all (subst (λ (h : List Frame). MayHear (said_in (next.groups ++ s.own)) (h ++ front ∷ [])) listened l) in
+    let answered : count_by is_ready ((heard at.frames ++ slice) ++ heard fs) ≡ length at.groups + 1 = ap (λ (h : List Frame). count_by is_ready h) (sym listened) ∙ in_own ∙ ap (λ (g : List Group). length g) groups ∙ length-append at.groups (describing [] x.sql x.arguments.types ∷ []) in
+    subst (λ (h : List Frame). BeginsKnowing (([], length (described reply)) ∷ []) group (h ++ front ∷ [])) (sym main)
+    (knows_next at.groups x.sql x.arguments.types group a.ledger.owed (heard at.frames) slice (heard fs) front reply st.are_groups own.0 may st.ledger st.between count answered fine ends replied has)
+
+-- its first exchange described the statement, and handed on the one that runs it, which ended the call
+polled_two : (start : StreamSeen) (at : Place) (a b : ConnSeen) (step : Step) (out : Outcome) → StandsAt start at a → (IsUnpolled step → ⊥) → (OpensSavepoint at step → ⊥) → acts_at_once step.call ≡ false → step.polls < 2 ^ 32
+    → (m : ConnSeen) (next : Request) → HandedOn step.polls (begun_call (request_of at.depth (first_call step.call)) a).stream (begun_call (request_of at.depth (first_call step.call)) a) m (request_of at.depth (first_call step.call)) next
+    → PlaysOne (limits_of step) (begun_call (request_of at.depth (first_call step.call)) a).stream (handed_from m next) b next out → StepsTo start at step out b
+unfolding called_exchange
+polled_two start at a b step out st n opens later p m next h (m', (said, fs, e, last), over, is, outcome) =
+    let first = first_step step in
+    let waits : acts_at_once first.call ≡ false = first_acts step.call ∙ later in
+    let r = request_of at.depth first.call in
+    let begun = begun_call r a in
+    let most : 0 < step.most = polled_most step n in
+    let e1 = handed_ended (limits_of step) begun.stream begun m r next most h in
+    let found = ends_summary a.broken (limits_of step) begun.stream begun m at.depth first.call h.said (heard h.fs) [] (ends.Ok AnswersUnit) e1.ends in
+    let s = found.1 in
+    let room = st.room in
+    let mid : Place = next_place at m h.said s.own h.fs (ends.Ok AnswersUnit) in
+    let knows = knows_none start at a m first h.said h.fs found.0 false (ends.Ok AnswersUnit) st s (first_widths at.depth step.call) in
+    let c : Called start at none_counted m first [] (ends.Ok AnswersUnit) mid = called_exchange start begun.stream none_counted at a m first [] (ends.Ok AnswersUnit) h.said h.fs st waits p refl e1 h.over (omega (arith, room)) found knows in
+    let told : Outcome = told_in c in
+    let behind : SettlesTo start at first told c.one.own mid m (settled m) = settles_call start at mid m first told c.one waits c.stands c.small (omega (arith, c.grew.groups, c.one.numbers.groups, c.small)) e1.went.started.3 in
+    let f = h.ends.0.0 in
+    let reply = f.reply in
+    let asks = describes at.depth first.call (handed_described step.polls begun.stream begun m r next h) in
+    let x = asks.0 in
+    let whole : s.own ≡ describing [] x.sql x.arguments.types ∷ [] = fine_own a.ledger r h.said (heard h.fs) [] found.0 m.ledger false s f ∙ ap (λ (y : Call). groups_of (request_of at.depth y)) asks.1 in
+    let q = queued_one a.ledger.owed r s.own (heard h.fs) s.queued (ap (λ (g : List Group). length g) whole) in
+    let same_reply : c.one.told.response ≡ reply = replies_same c.one.told.response reply (sym c.one.told.says.0 ∙ main_after start at a r s.own (heard h.fs) st q ∙ f.replied) c.one.told.says.1 f.reply_has_frames in
+    let bound : Bound = bound_by x reply in
+    let run : Request = requests.Run bound in
+    let is_next : next ≡ run = next_bound x reply f.status next (subst (λ (y : Request). answer_by y reply f.status ≡ Ok (answers.Next next)) (ap (request_of at.depth) asks.1) h.ends.0.1) in
+    let second : Step = record step { call = calls.Run bound } in
+    let hands : next_call (first_call step.call) c.one.told.response ≡ Some (calls.Run bound) = ap (λ (y : Call). next_call y c.one.told.response) asks.1 ∙ ap (λ (ms : List BackendMessage). Some (calls.Run (bound_by x ms))) same_reply in
+    let at' : Place = behind.next in
+    let a' : ConnSeen = settled m in
+    let none : behind.settles.cleanup ≡ [] = behind.settles.cleans ∙ ap (λ (y : Call). cleanup_of at.depth y told.end c.one.own (owed mid)) asks.1 ∙ described_cleans at.depth x told.end c.one.own (owed mid) in
+    let groups : at'.groups ≡ at.groups ++ describing [] x.sql x.arguments.types ∷ [] = behind.settles.groups ∙ ap (λ (g : List Group). (at.groups ++ s.own) ++ g) none ∙ append-nil (at.groups ++ s.own) ∙ ap (λ (g : List Group). at.groups ++ g) whole in
+    let frames : heard at'.frames ≡ heard at.frames ++ heard h.fs = ap heard behind.settles.frames ∙ heard-append at.frames h.fs in
+    let e' : Ended (limits_of step) begun.stream (asking run (counted_by m) a') m' run out.items out.end said fs =
+    subst (λ (y : Request). Ended (limits_of step) begun.stream (asking y (counted_by m) a') m' y out.items out.end said fs) is_next
+    (subst (λ (y : ConnSeen). Ended (limits_of step) begun.stream y m' next out.items out.end said fs) (handed_asking step.polls begun.stream begun m r next h) e) in
+    let found' = ends_summary a'.broken (limits_of step) begun.stream (asking run (counted_by m) a') m' at'.depth second.call said (heard fs) out.items out.end e'.ends in
+    let s' = found'.1 in
+    let room' = behind.stands.room in
+    let mid' : Place = next_place at' m' said s'.own fs out.end in
+    let count : count_by is_ready (heard h.fs) ≡ a.ledger.owed + 1 = f.counted ∙ ap (λ (y : Call). a.ledger.owed + length (groups_of (request_of at.depth y))) asks.1 in
+    let knows' = knows_later start at at' a a' m' x reply (heard h.fs) said fs found'.0 (refuses_copy out.end) out.end st behind.stands groups frames f.owes count (no_error (heard h.fs) f.well) f.ends f.replied f.reply_has_frames s' in
+    let c' : Called start at' (counted_by m) m' second out.items out.end mid' = called_exchange start begun.stream (counted_by m) at' a' m' second out.items out.end said fs behind.stands refl p refl e' over (omega (arith, room')) found' knows' in
+    let d : ConnSeen = behind_end out.end m' in
+    let behind' : SettlesTo start at' second (told_in c') c'.one.own mid' m' d = settles_later start at' mid' m' second bound (told_in c') c'.one refl c'.stands e'.went.started.3 in
+    let raw : Outcome = outcome_of m' out.items out.end in
+    let real : Outcome = outcome_of d out.items out.end in
+    let same : real ≡ record raw { groups = d.groups } = same_but_groups m' d out.items out.end behind'.others in
+    let runs = next_runs step.call c.one.told.response (calls.Run bound) hands in
+    let shows = λ (w : waits_to_show step.call ≡ false). most_by at'.depth a'.broken (limits_of step) begun.stream (asking run (counted_by m) a') m' second said (heard fs) out.items out.end (ap waits_to_show runs.1 ∙ sym (ap waits_how runs.2) ∙ w) most e'.ends in
+    let dues : EndsDuly at step r raw mid' = duly_later begun.stream at mid' m' step r raw refl refl n opens p e'.few refl (sym st.broken ∙ h.whole.0) h.can (no_flush step.call x asks.1) shows in
+    let tells : TellsAll (behind.out ∷ behind'.out ∷ []) real = two_tell start at mid mid' at' m a' m' d first second told (told_in c') step.polls c.one behind c'.one behind' c.grew c'.grew refl (omega (arith, c.one.numbers.groups, c.small)) p (waited_most (limits_of step) begun.stream m' out.end refl e'.few) in
+    let steps : StepsTo start at step real d = two_steps start at mid mid' none_counted (counted_by m) m a' m' d step second out.items out.end real c behind c' behind' refl hands (λ z. refl) tells
+    (omega (arith, e'.calls, ap (λ (y : StreamSeen). y.link.calls) st.seen, ap (λ (y : StreamSeen). y.link.calls) behind'.settles.seen))
+    (λ k. dropped_out at step raw real mid' same (dropped_from at at' mid' step raw (omega (arith, c.counts.write_waits, ap (λ (y : StreamSeen). y.link.write_waits) behind.settles.seen))
+    (dropped_step a'.broken start begun.stream (counted_by m) at' a' m' second said fs out.items out.end found'.0 behind.stands refl refl p k e'.ends s')))
+    later (subst (λ (y : Request). EndsDuly at step y real mid') (first_request at.depth step.call) (duly_out at step r raw real mid' same (behind_none out.end m') dues)) in
+    subst (λ (y : Outcome). StepsTo start at step y b) (sym (outcome ∙ ap (λ (y : ConnSeen). outcome_of y out.items out.end) is)) (subst (λ (y : ConnSeen). StepsTo start at step real y) (sym is) steps)
+
 polled_step : (start : StreamSeen) (at : Place) (a b : ConnSeen) (step : Step) (out : Outcome) → StandsAt start at a → (IsUnpolled step → ⊥) → (OpensSavepoint at step → ⊥) → acts_at_once step.call ≡ false → step.polls < 2 ^ 32
-    → PlaysCall (limits_of step) (begun_call (request_of at.depth step.call) a) b (request_of at.depth step.call) out → StepsTo start at step out b
-polled_step start at a b step out st n opens later p (m, ended, over, is, outcome) =
-    let told : Outcome = outcome_of m out.items out.end in
-    let c = called_step start at a m step told st n opens later p ended over refl in
-    let settled = settles_call start at c.mid m step told c.one later c.stands c.small ended.2.went.started.3 refl in
-    settled_step start at c.mid b step told out c.one c.lawful c.waits c.counts
-    (subst (λ (x : Outcome). SettlesTo start at step told x c.one.own c.mid b) (sym outcome) (subst (λ (x : ConnSeen). SettlesTo start at step told (outcome_of x out.items out.end) c.one.own c.mid x) (sym is) settled))
+    → PlaysCall (limits_of step) (begun_call (request_of at.depth (first_call step.call)) a) b (request_of at.depth (first_call step.call)) out → StepsTo start at step out b
+polled_step start at a b step out st n opens later p (inl one) = polled_one start at a b step out st n opens later p one
+polled_step start at a b step out st n opens later p (inr (m, next, h, two)) = polled_two start at a b step out st n opens later p m next h two
 
 -- a step that does nothing, and is no failure of the server
 abbrev IsQuiet : End → Type 0
@@ -382,26 +393,29 @@ quiet_lawful at out (inr (inl e)) tag front w x f l = let y = sym e ∙ x in abs
 quiet_lawful at out (inr (inr (inl e))) tag front w x f l = let y = sym e ∙ x in absurd cc
 quiet_lawful at out (inr (inr (inr e))) tag front w x f l = let y = sym e ∙ x in absurd cc
 
-zero_counts : CountsTo 0 0
-zero_counts = (omega arith, omega arith)
-
 quiet_numbers : (at : Place) (end : End) → Numbers at (untouched end) [] [] at
 quiet_numbers at end = record {
-  groups = zero_counts;
-  heard = zero_counts;
+  groups = refl;
+  heard = refl;
   cache = refl;
   write_waits = 0;
   read_waits = 0;
   moves = 0;
-  waits = zero_counts;
-  moved = zero_counts;
+  waits = omega arith;
+  moved = refl;
   writes = omega arith;
   reads = omega arith;
   moving = omega arith;
 }
 
-quiet_call : (at : Place) (step : Step) (out : Outcome) (end : End) → out ≡ untouched end → IsQuiet end → (is_fine end ≡ true → acts_at_once step.call ≡ true) → HasCause at step out [] [] at end → (acts_at_once step.call ≡ true → (out ≡ untouched (ends.Ok AnswersUnit)) × (at ≡ at)) → (acts_at_once step.call ≡ false → EndsDuly at step out at) → Plays_call at step out at
-quiet_call at step out end k q f c now d =
+quiet_keeps : (fault : ServerFault) (at : Place) (end : End) → IsQuiet end → KeepsFault fault at end at
+quiet_keeps fault at end (inl e) = (refl, λ other x. let y = sym e ∙ x in absurd cc)
+quiet_keeps fault at end (inr (inl e)) = (refl, λ other x. let y = sym e ∙ x in absurd cc)
+quiet_keeps fault at end (inr (inr (inl e))) = (refl, λ other x. let y = sym e ∙ x in absurd cc)
+quiet_keeps fault at end (inr (inr (inr e))) = (refl, λ other x. let y = sym e ∙ x in absurd cc)
+
+quiet_call : (at : Place) (step : Step) (out : Outcome) (end : End) → out ≡ untouched end → IsQuiet end → (is_fine end ≡ true → acts_at_once step.call ≡ true) → HasCause at step [] [] at end → (acts_at_once step.call ≡ true → (out ≡ untouched (ends.Ok AnswersUnit)) × (at ≡ at)) → Plays_call at step out at
+quiet_call at step out end k q f c now =
     let ends_so : out.end ≡ end = ap (λ (x : Outcome). x.end) k in
     let shows_none : out.items ≡ [] = ap (λ (x : Outcome). x.items) k in
     let quiet : IsQuiet out.end = subst IsQuiet (sym ends_so) q in
@@ -430,10 +444,9 @@ quiet_call at step out end k q f c now d =
         error = inl tt;
       };
       numbers = subst (λ (x : Outcome). Numbers at x [] [] at) (sym k) (quiet_numbers at end);
-      calls = omega arith;
-      cause = subst (λ (z : End). HasCause at step out [] [] at z) (sym ends_so) c;
+      cause = subst (λ (z : End). HasCause at step [] [] at z) (sym ends_so) c;
       at_once = now;
-      duly = d;
+      kept = λ fault w. quiet_keeps fault at out.end quiet;
     }
   where
     at_once_asks : (d : ℕ) (call : Call) → acts_at_once call ≡ true → groups_of (request_of d call) ≡ []
@@ -441,27 +454,29 @@ quiet_call at step out end k q f c now d =
     at_once_asks d _ e = absurd cc
 
 -- and the connection makes nothing of it
-quiet_step : (start : StreamSeen) (at : Place) (a : ConnSeen) (step : Step) (out : Outcome) (end : End) → StandsAt start at a → acts_at_once step.call ≡ false → is_fine end ≡ false → out ≡ untouched end → IsQuiet end → (one : Plays_call at step out at) → one.own ≡ [] → StepsTo start at step out a
-quiet_step start at a step out end st later f k q one none =
+quiet_step : (start : StreamSeen) (at : Place) (a : ConnSeen) (step : Step) (out : Outcome) (end : End) → StandsAt start at a → acts_at_once step.call ≡ false → is_fine end ≡ false → out ≡ untouched end → IsQuiet end → (one : Plays_call at (first_step step) out at) → one.own ≡ [] → (out.end ≡ ends.Dropped → IsDropped at step out at)
+    → EndsDuly at step (first_of (asked_of at.depth step.call)) out at → StepsTo start at step out a
+quiet_step start at a step out end st later f k q one none dropped duly =
     let ends_so : out.end ≡ end = ap (λ (x : Outcome). x.end) k in
     let groups : out.groups ≡ 0 = ap (λ (x : Outcome). x.groups) k in
-    settled_step start at at a step out out one (quiet_lawful at out (subst IsQuiet (sym ends_so) q)) (places_quiet at out (ap (λ (x : Outcome). x.waits) k)) (NoneFalls-refl at.seen.link) (
-      at,
-      record {
-        cleanup = [];
-        cleans = rw none (sym (cleanup_polled at.depth step.call out.end [] (owed at) later));
-        depth = sym (depth_other at.depth step.call out.end (ap is_fine ends_so ∙ f) later);
-        said = sym (append-nil at.said);
-        groups = sym (append-nil at.groups);
-        seen = ap (λ (u : List ℕ). record at.seen { unsent = u }) (sym (append-nil at.seen.unsent));
-        frames = refl;
-        failed = refl;
-        broken = refl;
-        outcome = refl;
-        counted = rw (none, groups) (omega arith, omega arith);
-      },
-      st,
-    )
+    let waits : acts_at_once (first_call step.call) ≡ false = first_acts step.call ∙ later in
+    let settles : Settles at (first_step step) out out one.own at at = record {
+      cleanup = [];
+      cleans = rw none (sym (cleanup_polled at.depth (first_call step.call) out.end [] (owed at) waits));
+      depth = sym (depth_other at.depth (first_call step.call) out.end (ap is_fine ends_so ∙ f) waits);
+      said = sym (append-nil at.said);
+      groups = sym (append-nil at.groups);
+      seen = ap (λ (u : List ℕ). record at.seen { unsent = u }) (sym (append-nil at.seen.unsent));
+      frames = refl;
+      failed = refl;
+      broken = refl;
+      outcome = refl;
+      counted = rw (none, groups) (omega arith);
+    } in
+    one_step start at at at a step out out out one (quiet_lawful at out (subst IsQuiet (sym ends_so) q)) (places_quiet at out (ap (λ (x : Outcome). x.waits) k)) (NoneFalls-refl at.seen.link) settles st (tells_one out out refl refl (same_counts out.groups) (same_counts out.heard) refl (same_counts out.moved) (ap (λ (x : Outcome). x.cache) k)) (λ z. let x = sym (ap is_fine ends_so ∙ f) ∙ z in absurd cc) (omega arith) dropped (λ now. let x = sym later ∙ now in absurd cc) (λ x. duly)
+  where
+    same_counts : (n : ℕ) → CountsTo n n
+    same_counts n = (omega arith, omega arith)
 
 quiet_most : (step : Step) (out : Outcome) (end : End) → out ≡ untouched end → (out.end ≢ ends.Dropped → 0 < step.most) → WithinMost out.end out.items step.most
 quiet_most step out end k m = let z : length out.items ≡ 0 = ap (λ (x : Outcome). length x.items) k in (λ n. omega (arith, z, m n), omega (arith, z))
@@ -469,8 +484,11 @@ quiet_most step out end k m = let z : length out.items ≡ 0 = ap (λ (x : Outco
 quiet_few : (step : Step) (out : Outcome) (end : End) → out ≡ untouched end → (out.end ≢ ends.Dropped → 0 < step.polls) → (pending : ℕ) × AnsweredPending out pending × WaitsFew step.polls pending out.end
 quiet_few step out end k m = let z : out.waits ≡ 0 = ap (λ (x : Outcome). x.waits) k in (0, (0, omega (arith, z), omega arith), (m, omega arith))
 
-unpolled_call : (at : Place) (step : Step) (out : Outcome) → acts_at_once step.call ≡ false → IsUnpolled step → out ≡ untouched ends.Dropped → Plays_call at step out at
-unpolled_call at step out later u k = quiet_call at step out ends.Dropped k (inl refl) (λ f. absurd cc) (inl u) (λ now. let x = sym later ∙ now in absurd cc) (λ x. record {
+unpolled_call : (at : Place) (step : Step) (out : Outcome) → acts_at_once step.call ≡ false → out ≡ untouched ends.Dropped → Plays_call at step out at
+unpolled_call at step out later k = quiet_call at step out ends.Dropped k (inl refl) (λ f. absurd cc) tt (λ now. let x = sym later ∙ now in absurd cc)
+
+unpolled_duly : (at : Place) (step : Step) (r : Request) (out : Outcome) → IsUnpolled step → out ≡ untouched ends.Dropped → EndsDuly at step r out at
+unpolled_duly at step r out u k = record {
   savepoint = λ n o. absurd (n u);
   unpolled = λ v. (k, refl);
   kept = λ fault w n o. absurd (n u);
@@ -478,22 +496,28 @@ unpolled_call at step out later u k = quiet_call at step out ends.Dropped k (inl
   flushed = λ w n. absurd (n u);
   few = quiet_few step out ends.Dropped k (λ n. absurd (n (ap (λ (x : Outcome). x.end) k)));
   most = λ w. quiet_most step out ends.Dropped k (λ n. absurd (n (ap (λ (x : Outcome). x.end) k)));
-})
+}
 
-unmade_call : (at : Place) (step : Step) (out : Outcome) → acts_at_once step.call ≡ false → (IsUnpolled step → ⊥) → (OpensSavepoint at step → ⊥) → has_query step.call ≡ true → out ≡ untouched (ends.Err errors.OutOfMemory) → Plays_call at step out at
-unmade_call at step out later n opens h k = quiet_call at step out (ends.Err errors.OutOfMemory) k (inr (inl refl)) (λ f. absurd cc) tt (λ now. let x = sym later ∙ now in absurd cc) (λ x. record {
+unmade_call : (at : Place) (step : Step) (out : Outcome) → acts_at_once step.call ≡ false → out ≡ untouched (ends.Err errors.OutOfMemory) → Plays_call at step out at
+unmade_call at step out later k = quiet_call at step out (ends.Err errors.OutOfMemory) k (inr (inl refl)) (λ f. absurd cc) tt (λ now. let x = sym later ∙ now in absurd cc)
+
+unmade_duly : (at : Place) (step : Step) (r : Request) (out : Outcome) → (IsUnpolled step → ⊥) → (OpensSavepoint at step → ⊥) → has_query step.call ≡ true → out ≡ untouched (ends.Err errors.OutOfMemory) → EndsDuly at step r out at
+unmade_duly at step r out n opens h k = record {
   savepoint = λ m o. absurd (opens o);
   unpolled = λ u. absurd (n u);
   kept = λ fault w m o. (inr k, refl);
-  refused = λ w m o u. (errors.OutOfMemory, memory_refuses (query_of (request_of at.depth step.call)), k, refl);
+  refused = λ w m o u. (errors.OutOfMemory, memory_refuses r, k, refl);
   flushed = λ w m c. let x = sym h ∙ ap has_query c in absurd cc;
   few = quiet_few step out (ends.Err errors.OutOfMemory) k (λ z. some_of step.polls (λ e. n (inl e)));
   most = λ w. quiet_most step out (ends.Err errors.OutOfMemory) k (λ z. polled_most step n);
-})
+}
 
 -- a text of its own would open a savepoint
-refused_call : (at : Place) (step : Step) (out : Outcome) → acts_at_once step.call ≡ false → (IsUnpolled step → ⊥) → OpensSavepoint at step → out ≡ untouched (ends.Err errors.InvalidSavePointStatement) → Plays_call at step out at
-refused_call at step out later n opens k = quiet_call at step out (ends.Err errors.InvalidSavePointStatement) k (inr (inr (inl refl))) (λ f. absurd cc) (opens, refl, refl) (λ now. let x = sym later ∙ now in absurd cc) (λ x. record {
+refused_call : (at : Place) (step : Step) (out : Outcome) → acts_at_once step.call ≡ false → OpensSavepoint at step → out ≡ untouched (ends.Err errors.InvalidSavePointStatement) → Plays_call at step out at
+refused_call at step out later opens k = quiet_call at step out (ends.Err errors.InvalidSavePointStatement) k (inr (inr (inl refl))) (λ f. absurd cc) (opens, refl, refl) (λ now. let x = sym later ∙ now in absurd cc)
+
+refused_duly : (at : Place) (step : Step) (r : Request) (out : Outcome) → (IsUnpolled step → ⊥) → OpensSavepoint at step → out ≡ untouched (ends.Err errors.InvalidSavePointStatement) → EndsDuly at step r out at
+refused_duly at step r out n opens k = record {
   savepoint = λ m o. (k, refl);
   unpolled = λ u. absurd (n u);
   kept = λ fault w m o. absurd (o opens);
@@ -501,27 +525,45 @@ refused_call at step out later n opens k = quiet_call at step out (ends.Err erro
   flushed = λ w m c. let y = sym opens.0 ∙ ap begins_with c in absurd cc;
   few = quiet_few step out (ends.Err errors.InvalidSavePointStatement) k (λ z. some_of step.polls (λ e. n (inl e)));
   most = λ w. quiet_most step out (ends.Err errors.InvalidSavePointStatement) k (λ z. polled_most step n);
-})
+}
 
 rolled_call : (at : Place) (step : Step) → step.call ≡ calls.StartRollback → Plays_call at step (untouched (ends.Ok AnswersUnit)) at
-rolled_call at step c = quiet_call at step (untouched (ends.Ok AnswersUnit)) (ends.Ok AnswersUnit) refl (inr (inr (inr refl))) (λ f. ap acts_at_once c) tt (λ now. (refl, refl)) (λ later. let x = sym later ∙ ap acts_at_once c in absurd cc)
+rolled_call at step c = quiet_call at step (untouched (ends.Ok AnswersUnit)) (ends.Ok AnswersUnit) refl (inr (inr (inr refl))) (λ f. ap acts_at_once c) tt (λ now. (refl, refl))
+
+rolled_step : (start : StreamSeen) (at : Place) (a b : ConnSeen) (step : Step) → StandsAt start at a → a.depth < 2 ^ 64 → step.call ≡ calls.StartRollback → b ≡ rolled_back a → StepsTo start at step (rolled_outcome b) b
+unfolding quiet_call rolled_call
+rolled_step start at a b step st l c is =
+    let told : Outcome = untouched (ends.Ok AnswersUnit) in
+    let first : Step = first_step step in
+    let rolls : first.call ≡ calls.StartRollback = ap first_call c in
+    let one : Plays_call at first told at = rolled_call at first rolls in
+    let settled = settles_rollback start at a b first st l rolls is in
+    let grew : CountsOn none_counted (ended_conn (counted_anew a)) told = record { groups = omega arith; heard = omega arith; waits = omega arith; moved = omega arith } in
+    let same : rolled_outcome b ≡ record told { groups = b.groups } = same_but_groups (ended_conn (counted_anew a)) b [] (ends.Ok AnswersUnit) settled.others in
+    one_step start at at settled.next b step told settled.out (rolled_outcome b) one (quiet_lawful at told (inr (inr (inr refl)))) (places_quiet at told refl) (NoneFalls-refl at.seen.link) settled.settles settled.stands (counted_tells start at at (ended_conn (counted_anew a)) b first told 0 one settled grew (omega arith) (omega arith)) (λ f. ap (λ (x : Call). next_call x []) rolls)
+    (omega (arith, ap (λ (x : StreamSeen). x.link.calls) settled.settles.seen)) (λ k. absurd cc) (λ now. (same, refl)) (λ later. let x = sym later ∙ ap acts_at_once c in absurd cc)
+
+-- an error is no drop
+undropped : {P : Type 0} (out : Outcome) (e : Error) → out ≡ untouched (ends.Err e) → out.end ≡ ends.Dropped → P
+undropped {P} out e k d = let x : ends.Err e ≡ ends.Dropped = sym (ap (λ (z : Outcome). z.end) k) ∙ d in absurd cc
 
 pub plays_step : (start : StreamSeen) (at : Place) (a b : ConnSeen) (step : Step) (out : Outcome) → StandsAt start at a → a.depth < 2 ^ 64 → PlaysStep a b step out → StepsTo start at step out b
-unfolding quiet_call unpolled_call unmade_call refused_call rolled_call
-plays_step start at a b step out st l (inl (c, is, k)) =
-    let told : Outcome = untouched (ends.Ok AnswersUnit) in
-    settled_step start at at b step told out (rolled_call at step c) (quiet_lawful at told (inr (inr (inr refl)))) (places_quiet at told refl) (NoneFalls-refl at.seen.link) (settles_rollback start at a b step out st l c is k)
+unfolding quiet_call unpolled_call unmade_call refused_call
+plays_step start at a b step out st l (inl (c, is, k)) = subst (λ (x : Outcome). StepsTo start at step x b) (sym k) (rolled_step start at a b step st l c is)
 plays_step start at a b step out st l (inr (later, inl (u, is, k))) =
-    subst (λ (x : ConnSeen). StepsTo start at step out x) (sym is) (quiet_step start at a step out ends.Dropped st later refl k (inl refl) (unpolled_call at step out later u k) refl)
+    subst (λ (x : ConnSeen). StepsTo start at step out x) (sym is) (quiet_step start at a step out ends.Dropped st later refl k (inl refl) (unpolled_call at (first_step step) out (first_acts step.call ∙ later) k) refl (λ x. inl u) (unpolled_duly at step (first_of (asked_of at.depth step.call)) out u k))
 plays_step start at a b step out st l (inr (later, inr (n, p, inl (opens, is, k)))) =
-    subst (λ (x : ConnSeen). StepsTo start at step out x) (sym is) (quiet_step start at a step out (ends.Err errors.InvalidSavePointStatement) st later refl k (inr (inr (inl refl))) (refused_call at step out later n (opens.0, omega (arith, opens.1, st.depth)) k) refl)
+    let asked : OpensSavepoint at step = (opens.0, omega (arith, opens.1, st.depth)) in
+    subst (λ (x : ConnSeen). StepsTo start at step out x) (sym is) (quiet_step start at a step out (ends.Err errors.InvalidSavePointStatement) st later refl k (inr (inr (inl refl))) (refused_call at (first_step step) out (first_acts step.call ∙ later) (first_begins_with step.call ∙ asked.0, asked.1) k) refl (undropped out errors.InvalidSavePointStatement k)
+    (refused_duly at step (first_of (asked_of at.depth step.call)) out n asked k))
 plays_step start at a b step out st l (inr (later, inr (n, p, inr (opens, inl (is, k, h))))) =
-    subst (λ (x : ConnSeen). StepsTo start at step out x) (sym is) (quiet_step start at a step out (ends.Err errors.OutOfMemory) st later refl k (inr (inl refl)) (unmade_call at step out later n (opens_not at a step st opens) h k) refl)
+    subst (λ (x : ConnSeen). StepsTo start at step out x) (sym is) (quiet_step start at a step out (ends.Err errors.OutOfMemory) st later refl k (inr (inl refl)) (unmade_call at (first_step step) out (first_acts step.call ∙ later) k) refl (undropped out errors.OutOfMemory k) (unmade_duly at step (first_of (asked_of at.depth step.call)) out n (opens_not at a step st opens) h k))
   where
     opens_not : (at : Place) (a : ConnSeen) (step : Step) → StandsAt start at a → ((begins_with step.call ≡ true) × (0 < a.depth) → ⊥) → OpensSavepoint at step → ⊥
     opens_not at a step st f o = f (o.0, omega (arith, o.1, st.depth))
 plays_step start at a b step out st l (inr (later, inr (n, p, inr (opens, inr played)))) =
-    polled_step start at a b step out st n (λ o. opens (o.0, omega (arith, o.1, st.depth))) later p (subst (λ (d : ℕ). PlaysCall (limits_of step) (begun_call (request_of d step.call) a) b (request_of d step.call) out) st.depth (played st.idle))
+    polled_step start at a b step out st n (λ o. opens (o.0, omega (arith, o.1, st.depth))) later p
+    (subst (λ (q : Request). PlaysCall (limits_of step) (begun_call q a) b q out) (sym (first_request at.depth step.call)) (subst (λ (d : ℕ). PlaysCall (limits_of step) (begun_call (first_of (asked_of d step.call)) a) b (first_of (asked_of d step.call)) out) st.depth (played st.idle)))
 
 -- ---- steps one after another
 

@@ -1,11 +1,9 @@
 -- Outcomes that no play tells.
-use Rattle.std.proofs.Common.{◌≡◌, ◌∙◌, ℕ, arith, Some, codes, List, [], ◌∷◌, map, refl, sym, ap, subst}
-use Rattle.std.specs.List.{AllByRecursion}
+use Rattle.std.proofs.Common.{◌≡◌, ◌∙◌, ℕ, arith, Some, codes, List, [], ◌∷◌, sym, ap, subst}
 use Rattle.pg_wire.specs.Frame.{Frame}
-use Rattle.pg_wire.specs.Backend.{BackendMessage, backend_frame, HasBackendFrame}
+use Rattle.pg_wire.specs.Backend.{BackendMessage}
 use Rattle.pg_wire.specs.Exchanges.{selected}
 use Rattle.pg_wire.specs.Server.{IsPrefixOf}
-use Rattle.pg_wire.proofs.Unique.{backend_frame_unique}
 use Rattle.pg_report.specs.declared.outcome.Item.{Item}
 use Rattle.pg_report.specs.declared.outcome.Item.TheVariants.{Row}
 use Rattle.pg_report.specs.declared.outcome.Answer.{Answer}
@@ -16,28 +14,14 @@ use Rattle.pg_report.specs.declared.outcome.Outcome.{Outcome}
 use Rattle.pg_script.specs.declared.step.Call.{Call}
 use Rattle.pg_script.specs.declared.step.Call.TheVariants as calls
 use Rattle.pg_play.specs.Shown.{items_in, shown_by, answered_by, acts_at_once}
+use Rattle.pg_play.proofs.NextLaws.{replies_same}
 use Rattle.pg_play.specs.Places.{main_frames}
 use Rattle.pg_play.specs.Told.{Carry, WellAtOk}
 use Rattle.pg_play.specs.Refuted.{TellsSelected, NoTotalOfZero, NoOkWithoutRow, NoOtherRow}
 
-first_is : (f g : Frame) (fs gs : List Frame) → f ∷ fs ≡ g ∷ gs → f ≡ g
-first_is f g fs gs e = cc
-
-rest_is : (f g : Frame) (fs gs : List Frame) → f ∷ fs ≡ g ∷ gs → fs ≡ gs
-rest_is f g fs gs e = cc
-
-same_messages : (xs ys : List BackendMessage) → map backend_frame xs ≡ map backend_frame ys → AllByRecursion HasBackendFrame xs → AllByRecursion HasBackendFrame ys → xs ≡ ys
-same_messages [] [] e a b = refl
-same_messages [] (y ∷ ys) e a b = absurd cc
-same_messages (x ∷ xs) [] e a b = absurd cc
-same_messages (x ∷ xs) (y ∷ ys) e a b =
-    let first : x ≡ y = backend_frame_unique x y a.0 b.0 (first_is (backend_frame x) (backend_frame y) (map backend_frame xs) (map backend_frame ys) e) in
-    let rest : xs ≡ ys = same_messages xs ys (rest_is (backend_frame x) (backend_frame y) (map backend_frame xs) (map backend_frame ys) e) a.1 b.1 in
-    cc
-
 -- frames carry one list of messages
 pub carried : (frames : List Frame) (xs ys : List BackendMessage) → Carry frames xs → Carry frames ys → xs ≡ ys
-carried frames xs ys c d = same_messages xs ys (sym c.0 ∙ d.0) c.1 d.1
+carried frames xs ys c d = replies_same xs ys (sym c.0 ∙ d.0) c.1 d.1
 
 total_in : Answer → ℕ
 total_in (Total n) = n

@@ -14,7 +14,6 @@ use Rattle.pg_play.specs.Places.{Place}
 use Rattle.pg_play.specs.Settling.{Settles}
 use Rattle.pg_play.specs.Causes.{IsFront}
 use Rattle.pg_play.specs.WaitPlaces.{WaitPlaces}
-use Rattle.pg_play.specs.Plays.{IsNeverUnlawful}
 
 -- what may be heard by more messages may be heard by the first of them
 pub hear_sooner : (said extra : List FrontendMessage) (hs : List Frame) → MayHear (said ++ extra) hs → MayHear said hs

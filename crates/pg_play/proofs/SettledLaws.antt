@@ -22,17 +22,19 @@ use Rattle.pg_conn.proofs.CleanupLaws.{fits_room, has_room, group_moves, rollbac
 use Rattle.pg_report.specs.declared.outcome.End.{End}
 use Rattle.pg_report.specs.declared.outcome.End.TheVariants as ends
 use Rattle.pg_report.specs.declared.outcome.Outcome.{Outcome}
+use Rattle.pg_call.specs.declared.request.Bound.{Bound}
 use Rattle.pg_script.specs.declared.step.Call.{Call}
 use Rattle.pg_script.specs.declared.step.Call.TheVariants as calls
 use Rattle.pg_script.specs.declared.step.Step.{Step}
 use Rattle.pg_play.specs.Shown.{request_of, begins, acts_at_once}
 use Rattle.pg_play.specs.Places.{Place, owed, is_fine, Queues}
+use Rattle.pg_play.proofs.CallLaws.{stays_behind}
 use Rattle.pg_play.proofs.StepLaws.{begins_one}
 use Rattle.pg_play.proofs.PlaceLaws.{owed_is}
 use Rattle.pg_report.specs.declared.outcome.Answer.TheVariants.{Unit as AnswersUnit}
-use Rattle.pg_play.specs.Told.{CountsTo}
+use Rattle.pg_stream.specs.Links.{GrewBy}
 use Rattle.pg_play.specs.Settling.{Settles, cleanup_of, depth_after, rollback_at}
-use Rattle.pg_play.specs.Calls.{behind_end, outcome_of, untouched, rolled_outcome}
+use Rattle.pg_play.specs.Calls.{behind_end, untouched}
 use Rattle.pg_play.specs.Plays.{StandsAt, Plays_call}
 
 -- ---- places behind it
@@ -126,6 +128,8 @@ opens_begins (suc left) calls.Commit = refl
 opens_begins zero calls.Rollback = refl
 opens_begins (suc left) calls.Rollback = refl
 opens_begins d calls.StartRollback = refl
+opens_begins d (calls.Describe extended) = refl
+opens_begins d (calls.Run bound) = refl
 
 depth_ok : (d : ℕ) (call : Call) (groups : ℕ) (end : End) → is_fine end ≡ true → acts_at_once call ≡ false → (begins call ≡ true → nat_eq groups 0 ≡ false) → depth_behind (change_of (kind_of (request_of d call))) groups d ≡ depth_after d call end
 depth_ok d (calls.Execute query) groups end f a b = refl
@@ -144,6 +148,8 @@ depth_ok (suc left) calls.Commit groups end f a b = rw f refl
 depth_ok zero calls.Rollback groups end f a b = rw f refl
 depth_ok (suc left) calls.Rollback groups end f a b = rw f refl
 depth_ok d calls.StartRollback groups end f a b = absurd cc
+depth_ok d (calls.Describe extended) groups end f a b = refl
+depth_ok d (calls.Run bound) groups end f a b = refl
 
 pub depth_other : (d : ℕ) (call : Call) (end : End) → is_fine end ≡ false → acts_at_once call ≡ false → depth_after d call end ≡ d
 depth_other d (calls.Execute query) end f a = refl
@@ -160,6 +166,8 @@ depth_other d (calls.BeginWith query) end f a = rw f refl
 depth_other d calls.Commit end f a = rw f refl
 depth_other d calls.Rollback end f a = rw f refl
 depth_other d calls.StartRollback end f a = absurd cc
+depth_other d (calls.Describe extended) end f a = refl
+depth_other d (calls.Run bound) end f a = refl
 
 -- the cleanup of a call that is polled, by whether its group was queued
 abbrev pub cleanup_by : ℕ → Call → Bool → List Group → List Group
@@ -194,18 +202,29 @@ cleanup_polled d calls.Commit end (g ∷ gs) n a = refl
 cleanup_polled d calls.Rollback end [] n a = refl
 cleanup_polled d calls.Rollback end (g ∷ gs) n a = refl
 cleanup_polled d calls.StartRollback end own n a = absurd cc
+cleanup_polled d (calls.Describe extended) end [] n a = refl
+cleanup_polled d (calls.Describe extended) end (g ∷ gs) n a = refl
+cleanup_polled d (calls.Run bound) end [] n a = refl
+cleanup_polled d (calls.Run bound) end (g ∷ gs) n a = refl
 
 -- ---- the end of a call that was polled
 
-abbrev pub SettlesTo : StreamSeen → Place → Step → Outcome → Outcome → List Group → Place → ConnSeen → Type 0
-SettlesTo start at step told out own mid d = (next : Place) × Settles at step told out own mid next × StandsAt start next d
+-- The connection stands at the next place, and counts the groups of the cleanup on.
+pub record SettlesTo (start : StreamSeen) (at : Place) (step : Step) (told : Outcome) (own : List Group) (mid : Place) (m d : ConnSeen) : Type 0 where
+  pub next : Place
+  pub out : Outcome
+  pub settles : Settles at step told out own mid next
+  pub stands : StandsAt start next d
+  pub groups : GrewBy (length settles.cleanup) m.groups d.groups
+  pub others : (d.heard ≡ m.heard) × (d.stream.waits ≡ m.stream.waits) × (d.stream.moves ≡ m.stream.moves)
 
 -- nothing is queued
-settles_plain : (start : StreamSeen) (at mid : Place) (m : ConnSeen) (step : Step) (told : Outcome) (own : List Group) (depth : ℕ) → StandsAt start mid m → HasAllRoom (record m { depth = depth; change = changes.Stays }) → told ≡ outcome_of m told.items told.end → CountsTo (length own) told.groups
-    → [] ≡ cleanup_of at.depth step.call told.end own (owed mid) → depth ≡ depth_after at.depth step.call told.end → SettlesTo start at step told (outcome_of (record m { depth = depth; change = changes.Stays }) told.items told.end) own mid (record m { depth = depth; change = changes.Stays })
-settles_plain start at mid m step told own depth st room k counts none after = (
-  record mid { depth = depth },
-  record {
+settles_plain : (start : StreamSeen) (at mid : Place) (m : ConnSeen) (step : Step) (told : Outcome) (own : List Group) (depth : ℕ) → StandsAt start mid m → HasAllRoom (record m { depth = depth; change = changes.Stays }) → told.groups ≡ length own
+    → [] ≡ cleanup_of at.depth step.call told.end own (owed mid) → depth ≡ depth_after at.depth step.call told.end → SettlesTo start at step told own mid m (record m { depth = depth; change = changes.Stays })
+settles_plain start at mid m step told own depth st room counts none after = record {
+  next = record mid { depth = depth };
+  out = told;
+  settles = record {
     cleanup = [];
     cleans = none;
     depth = after;
@@ -215,20 +234,23 @@ settles_plain start at mid m step told own depth st room k counts none after = (
     frames = refl;
     failed = refl;
     broken = refl;
-    outcome = ap (λ (x : Outcome). record x { groups = m.groups }) (sym k);
-    counted = subst (λ (n : ℕ). CountsTo (length own + 0) n) (ap (λ (x : Outcome). x.groups) k) (omega (arith, counts.0), omega (arith, counts.1));
-  },
-  stands_depth start mid m depth st room,
-)
+    outcome = refl;
+    counted = omega (arith, counts);
+  };
+  stands = stands_depth start mid m depth st room;
+  groups = omega arith;
+  others = (refl, refl, refl);
+}
 
 -- a rollback is
-settles_rolled : (start : StreamSeen) (at mid : Place) (m : ConnSeen) (step : Step) (told : Outcome) (own : List Group) → StandsAt start mid m → HasAllRoom (rolled_conn m 0 m.depth) → has_room_for (spelled (rollback 0)) m ≡ true → told ≡ outcome_of m told.items told.end → CountsTo (length own) told.groups → length own ≤ 1
-    → rollback 0 ∷ [] ≡ cleanup_of at.depth step.call told.end own (owed mid) → m.depth ≡ depth_after at.depth step.call told.end → SettlesTo start at step told (outcome_of (rolled_conn m 0 m.depth) told.items told.end) own mid (rolled_conn m 0 m.depth)
-settles_rolled start at mid m step told own st room r k counts one cleanup after =
+settles_rolled : (start : StreamSeen) (at mid : Place) (m : ConnSeen) (step : Step) (told : Outcome) (own : List Group) → StandsAt start mid m → HasAllRoom (rolled_conn m 0 m.depth) → has_room_for (spelled (rollback 0)) m ≡ true → m.groups ≤ 1
+    → rollback 0 ∷ [] ≡ cleanup_of at.depth step.call told.end own (owed mid) → m.depth ≡ depth_after at.depth step.call told.end → SettlesTo start at step told own mid m (rolled_conn m 0 m.depth)
+settles_rolled start at mid m step told own st room r few cleanup after =
     let d = rolled_conn m 0 m.depth in
-    let groups = ap (λ (x : Outcome). x.groups) k in (
-      rolled_place mid d 0 m.depth,
-      record {
+    record {
+      next = rolled_place mid d 0 m.depth;
+      out = record told { groups = length own + 1 };
+      settles = record {
         cleanup = rollback 0 ∷ [];
         cleans = cleanup;
         depth = after;
@@ -238,11 +260,13 @@ settles_rolled start at mid m step told own st room r k counts one cleanup after
         frames = refl;
         failed = refl;
         broken = refl;
-        outcome = ap (λ (x : Outcome). record x { groups = d.groups }) (sym k);
-        counted = (omega (arith, counts.0, groups, one), omega (arith, counts.1, groups, one));
-      },
-      stands_group start mid m 0 m.depth st (omega arith) r room,
-    )
+        outcome = refl;
+        counted = omega arith;
+      };
+      stands = stands_group start mid m 0 m.depth st (omega arith) r room;
+      groups = omega (arith, few);
+      others = (refl, refl, refl);
+    }
 
 ok_cleans_none : (d : ℕ) (call : Call) (own : List Group) → [] ≡ cleanup_by d call true own
 ok_cleans_none d call [] = refl
@@ -290,10 +314,6 @@ nil_of (g ∷ gs) e = absurd (omega (arith, e))
 length_some : (own : List Group) → own ≢ [] → length own ≡ 0 → ⊥
 length_some own n e = n (nil_of own e)
 
--- as many groups as the call queued
-groups_of_call : (own : List Group) (told : Outcome) (m : ConnSeen) → told ≡ outcome_of m told.items told.end → CountsTo (length own) told.groups → length own ≤ 1 → m.groups ≡ length own
-groups_of_call own told m k counts one = omega (arith, counts.0, counts.1, ap (λ (x : Outcome). x.groups) k, one)
-
 pub fine_has : (end : End) (whole own : List Group) → is_fine end ≡ true → Queues end whole own → own ≡ whole
 fine_has (ends.Ok answer) whole own f q = q
 fine_has (ends.Err e) whole own f q = absurd cc
@@ -309,18 +329,15 @@ behind_unfine (ends.Ok answer) m f = absurd cc
 behind_unfine (ends.Err e) m f = refl
 behind_unfine ends.Dropped m f = refl
 
-pub settles_call : (start : StreamSeen) (at mid : Place) (m : ConnSeen) (step : Step) (told : Outcome) (one : Plays_call at step told mid) → acts_at_once step.call ≡ false → StandsAt start mid m → length one.own ≤ 1 → m.change ≡ change_of (kind_of (request_of at.depth step.call)) → told ≡ outcome_of m told.items told.end
-    → SettlesTo start at step told (outcome_of (behind_end told.end m) told.items told.end) one.own mid (behind_end told.end m)
-settles_call start at mid m step told one a st small change k = by (is_fine told.end) refl
+pub settles_call : (start : StreamSeen) (at mid : Place) (m : ConnSeen) (step : Step) (told : Outcome) (one : Plays_call at step told mid) → acts_at_once step.call ≡ false → StandsAt start mid m → length one.own ≤ 1 → m.groups ≡ length one.own → m.change ≡ change_of (kind_of (request_of at.depth step.call))
+    → SettlesTo start at step told one.own mid m (behind_end told.end m)
+settles_call start at mid m step told one a st small groups change = by (is_fine told.end) refl
   where
     depth_is : m.depth ≡ at.depth
     depth_is = st.depth ∙ one.queued.depth
 
-    counts : CountsTo (length one.own) told.groups
+    counts : told.groups ≡ length one.own
     counts = one.numbers.groups
-
-    groups : m.groups ≡ length one.own
-    groups = groups_of_call one.own told m k counts small
 
     opening_is : (b : Bool) → may_open m.change m.groups m.depth ≡ b → not (nat_eq m.groups 0) && (nat_eq at.depth 0 && begins step.call) ≡ b
     opening_is b e =
@@ -328,9 +345,9 @@ settles_call start at mid m step told one a st small change k = by (is_fine told
         ∙ ap (λ (n : ℕ). not (nat_eq m.groups 0) && (nat_eq n 0 && opens (change_of (kind_of (request_of at.depth step.call))))) (sym depth_is)
         ∙ ap (λ (c : Change). not (nat_eq m.groups 0) && (nat_eq m.depth 0 && opens c)) (sym change) ∙ e
 
-    fine : is_fine told.end ≡ true → SettlesTo start at step told (outcome_of (settled m) told.items told.end) one.own mid (settled m)
+    fine : is_fine told.end ≡ true → SettlesTo start at step told one.own mid m (settled m)
     fine f =
-        settles_plain start at mid m step told one.own (depth_behind m.change m.groups m.depth) st (all_settled m st.room) k counts
+        settles_plain start at mid m step told one.own (depth_behind m.change m.groups m.depth) st (all_settled m st.room) counts
         (ok_cleans_none at.depth step.call one.own ∙ ap (λ (b : Bool). cleanup_by at.depth step.call b one.own) (sym f) ∙ sym (cleanup_polled at.depth step.call told.end one.own (owed mid) a))
         (
         ap (λ (c : Change). depth_behind c m.groups m.depth) change
@@ -338,12 +355,12 @@ settles_call start at mid m step told one a st small change k = by (is_fine told
         ∙ depth_ok at.depth step.call m.groups told.end f a (λ b. some_groups (length one.own) m.groups (length_some one.own (λ n. begins_one at.depth step.call b (sym (fine_has told.end _ one.own f one.queued.asks) ∙ n))) groups)
         )
 
-    other : is_fine told.end ≡ false → (b : Bool) → may_open m.change m.groups m.depth ≡ b → SettlesTo start at step told (outcome_of (cleaned m) told.items told.end) one.own mid (cleaned m)
+    other : is_fine told.end ≡ false → (b : Bool) → may_open m.change m.groups m.depth ≡ b → SettlesTo start at step told one.own mid m (cleaned m)
     other f false e =
         let same : cleaned m ≡ record m { change = changes.Stays } = rw e refl in
         let none = other_cleans_none at.depth step.call one.own m.groups (λ n. some_groups (length one.own) m.groups (length_some one.own n) groups) (opening_is false e) in
-        subst (λ (x : ConnSeen). SettlesTo start at step told (outcome_of x told.items told.end) one.own mid x) (sym same)
-        (settles_plain start at mid m step told one.own m.depth st (subst (λ (x : ConnSeen). HasAllRoom x) same (all_cleaned m st.room)) k counts
+        subst (λ (x : ConnSeen). SettlesTo start at step told one.own mid m x) (sym same)
+        (settles_plain start at mid m step told one.own m.depth st (subst (λ (x : ConnSeen). HasAllRoom x) same (all_cleaned m st.room)) counts
         (none ∙ ap (λ (b : Bool). cleanup_by at.depth step.call b one.own) (sym f) ∙ sym (cleanup_polled at.depth step.call told.end one.own (owed mid) a))
         (depth_is ∙ sym (depth_other at.depth step.call told.end f a)))
     other f true e =
@@ -354,14 +371,27 @@ settles_call start at mid m step told one a st small change k = by (is_fine told
         let room = st.room in
         let r = has_room (spelled (rollback 0)) m (omega (arith, short, level, room)) (omega (arith, few)) in
         let same : cleaned m ≡ rolled_conn m 0 m.depth = rw (e, r) refl in
-        subst (λ (x : ConnSeen). SettlesTo start at step told (outcome_of x told.items told.end) one.own mid x) (sym same)
-        (settles_rolled start at mid m step told one.own st (subst (λ (x : ConnSeen). HasAllRoom x) same (all_cleaned m st.room)) r k counts small
+        subst (λ (x : ConnSeen). SettlesTo start at step told one.own mid m x) (sym same)
+        (settles_rolled start at mid m step told one.own st (subst (λ (x : ConnSeen). HasAllRoom x) same (all_cleaned m st.room)) r (omega (arith, groups, small))
         (cleans.0 ∙ ap (λ (b : Bool). cleanup_by at.depth step.call b one.own) (sym f) ∙ sym (cleanup_polled at.depth step.call told.end one.own (owed mid) a))
         (depth_is ∙ sym (depth_other at.depth step.call told.end f a)))
 
-    by : (b : Bool) → is_fine told.end ≡ b → SettlesTo start at step told (outcome_of (behind_end told.end m) told.items told.end) one.own mid (behind_end told.end m)
-    by true f = subst (λ (x : ConnSeen). SettlesTo start at step told (outcome_of x told.items told.end) one.own mid x) (sym (behind_fine told.end m f)) (fine f)
-    by false f = subst (λ (x : ConnSeen). SettlesTo start at step told (outcome_of x told.items told.end) one.own mid x) (sym (behind_unfine told.end m f)) (other f (may_open m.change m.groups m.depth) refl)
+    by : (b : Bool) → is_fine told.end ≡ b → SettlesTo start at step told one.own mid m (behind_end told.end m)
+    by true f = subst (λ (x : ConnSeen). SettlesTo start at step told one.own mid m x) (sym (behind_fine told.end m f)) (fine f)
+    by false f = subst (λ (x : ConnSeen). SettlesTo start at step told one.own mid m x) (sym (behind_unfine told.end m f)) (other f (may_open m.change m.groups m.depth) refl)
+
+later_cleans : (d : ℕ) (bound : Bound) (end : End) (own : List Group) (n : ℕ) → [] ≡ cleanup_of d (calls.Run bound) end own n
+later_cleans d bound end [] n = refl
+later_cleans d bound end (g ∷ gs) n = refl
+
+-- the end of a later exchange makes nothing of the connection
+pub settles_later : (start : StreamSeen) (at mid : Place) (m : ConnSeen) (step : Step) (bound : Bound) (told : Outcome) (one : Plays_call at step told mid) → step.call ≡ calls.Run bound → StandsAt start mid m → m.change ≡ changes.Stays → SettlesTo start at step told one.own mid m (behind_end told.end m)
+settles_later start at mid m step bound told one c st stays =
+    let same : record m { change = changes.Stays } ≡ m = ap (λ (x : Change). record m { change = x }) (sym stays) in
+    let plain = settles_plain start at mid m step told one.own m.depth st (subst (λ (x : ConnSeen). HasAllRoom x) (sym same) st.room) one.numbers.groups
+    (later_cleans at.depth bound told.end one.own (owed mid) ∙ ap (λ (x : Call). cleanup_of at.depth x told.end one.own (owed mid)) (sym c))
+    (st.depth ∙ one.queued.depth ∙ ap (λ (x : Call). depth_after at.depth x told.end) (sym c)) in
+    subst (λ (x : ConnSeen). SettlesTo start at step told one.own mid m x) (same ∙ sym (stays_behind told.end m stays)) plain
 
 -- ---- a rollback without waiting
 
@@ -387,10 +417,11 @@ stands_anew start at a st =
 
 -- nothing is open, or no reply more can be counted
 rolls_none : (start : StreamSeen) (at : Place) (a : ConnSeen) (step : Step) (depth : ℕ) → StandsAt start at a → HasAllRoom (record (ended (counted_anew a)) { depth = depth }) → step.call ≡ calls.StartRollback → [] ≡ rollback_at at.depth (owed at) → depth ≡ at.depth - 1
-    → SettlesTo start at step (untouched (ends.Ok AnswersUnit)) (rolled_outcome (record (ended (counted_anew a)) { depth = depth })) [] at (record (ended (counted_anew a)) { depth = depth })
-rolls_none start at a step depth st room c none after = (
-  record at { seen = record at.seen { waits = 0; moves = 0 }; depth = depth },
-  record {
+    → SettlesTo start at step (untouched (ends.Ok AnswersUnit)) [] at (ended (counted_anew a)) (record (ended (counted_anew a)) { depth = depth })
+rolls_none start at a step depth st room c none after = record {
+  next = record at { seen = record at.seen { waits = 0; moves = 0 }; depth = depth };
+  out = untouched (ends.Ok AnswersUnit);
+  settles = record {
     cleanup = [];
     cleans = rw c none;
     depth = rw c after;
@@ -401,20 +432,24 @@ rolls_none start at a step depth st room c none after = (
     failed = refl;
     broken = refl;
     outcome = refl;
-    counted = (omega arith, omega arith);
-  },
-  stands_depth start (record at { seen = record at.seen { waits = 0; moves = 0 } }) (ended (counted_anew a)) depth (stands_anew start at a st) room,
-)
+    counted = omega arith;
+  };
+  stands = stands_depth start (record at { seen = record at.seen { waits = 0; moves = 0 } }) (ended (counted_anew a)) depth (stands_anew start at a st) room;
+  groups = omega arith;
+  others = (refl, refl, refl);
+}
 
 rolls_one : (start : StreamSeen) (at : Place) (a : ConnSeen) (step : Step) (left : ℕ) → StandsAt start at a → left < 2 ^ 64 → has_room_for (spelled (rollback left)) (ended (counted_anew a)) ≡ true → HasAllRoom (rolled_conn (ended (counted_anew a)) left left) → step.call ≡ calls.StartRollback
     → rollback left ∷ [] ≡ rollback_at at.depth (owed at) → left ≡ at.depth - 1
-    → SettlesTo start at step (untouched (ends.Ok AnswersUnit)) (rolled_outcome (rolled_conn (ended (counted_anew a)) left left)) [] at (rolled_conn (ended (counted_anew a)) left left)
+    → SettlesTo start at step (untouched (ends.Ok AnswersUnit)) [] at (ended (counted_anew a)) (rolled_conn (ended (counted_anew a)) left left)
 rolls_one start at a step left st l r room c some after =
     let m : ConnSeen = ended (counted_anew a) in
     let d = rolled_conn m left left in
-    let mid : Place = record at { seen = record at.seen { waits = 0; moves = 0 } } in (
-      rolled_place mid d left left,
-      record {
+    let mid : Place = record at { seen = record at.seen { waits = 0; moves = 0 } } in
+    record {
+      next = rolled_place mid d left left;
+      out = record (untouched (ends.Ok AnswersUnit)) { groups = 1 };
+      settles = record {
         cleanup = rollback left ∷ [];
         cleans = rw c some;
         depth = rw c after;
@@ -425,10 +460,12 @@ rolls_one start at a step left st l r room c some after =
         failed = refl;
         broken = refl;
         outcome = refl;
-        counted = (omega arith, omega arith);
-      },
-      stands_group start mid m left left (stands_anew start at a st) l r room,
-    )
+        counted = omega arith;
+      };
+      stands = stands_group start mid m left left (stands_anew start at a st) l r room;
+      groups = omega arith;
+      others = (refl, refl, refl);
+    }
 
 and_false : (b : Bool) → b && false ≡ false
 and_false true = refl
@@ -453,9 +490,9 @@ rolls_at depth n owed e q = subst (λ (d : ℕ). rollback n ∷ [] ≡ rollback_
 rolls_not_at : (depth n owed : ℕ) → depth ≡ suc n → ltb owed (2 ^ 64 - 1) ≡ false → [] ≡ rollback_at depth owed
 rolls_not_at depth n owed e q = subst (λ (d : ℕ). [] ≡ rollback_at d owed) (sym e) (rw q refl)
 
-pub settles_rollback : (start : StreamSeen) (at : Place) (a b : ConnSeen) (step : Step) (out : Outcome) → StandsAt start at a → a.depth < 2 ^ 64 → step.call ≡ calls.StartRollback → b ≡ rolled_back a → out ≡ rolled_outcome b → SettlesTo start at step (untouched (ends.Ok AnswersUnit)) out [] at b
-settles_rollback start at a b step out st l c is k =
-    rw k (subst (λ (x : ConnSeen). SettlesTo start at step (untouched (ends.Ok AnswersUnit)) (rolled_outcome x) [] at x) (sym (is ∙ ap (λ (x : ConnSeen). rolled (ended (counted_anew x))) idles)) (by a.depth refl))
+pub settles_rollback : (start : StreamSeen) (at : Place) (a b : ConnSeen) (step : Step) → StandsAt start at a → a.depth < 2 ^ 64 → step.call ≡ calls.StartRollback → b ≡ rolled_back a → SettlesTo start at step (untouched (ends.Ok AnswersUnit)) [] at (ended (counted_anew a)) b
+settles_rollback start at a b step st l c is =
+    subst (λ (x : ConnSeen). SettlesTo start at step (untouched (ends.Ok AnswersUnit)) [] at (ended (counted_anew a)) x) (sym (is ∙ ap (λ (x : ConnSeen). rolled (ended (counted_anew x))) idles)) (by a.depth refl)
   where
     idles : left a ≡ a
     idles = rw st.idle refl
@@ -463,26 +500,26 @@ settles_rollback start at a b step out st l c is k =
     room : HasAllRoom (rolled (ended (counted_anew a)))
     room = let k = st.room in all_rolled (ended (counted_anew a)) l refl (omega (arith, k))
 
-    by : (d : ℕ) → a.depth ≡ d → SettlesTo start at step (untouched (ends.Ok AnswersUnit)) (rolled_outcome (rolled (ended (counted_anew a)))) [] at (rolled (ended (counted_anew a)))
+    by : (d : ℕ) → a.depth ≡ d → SettlesTo start at step (untouched (ends.Ok AnswersUnit)) [] at (ended (counted_anew a)) (rolled (ended (counted_anew a)))
     by zero e =
         let same : rolled (ended (counted_anew a)) ≡ record (ended (counted_anew a)) { depth = 0 } = rw e refl in
-        subst (λ (x : ConnSeen). SettlesTo start at step (untouched (ends.Ok AnswersUnit)) (rolled_outcome x) [] at x) (sym same)
+        subst (λ (x : ConnSeen). SettlesTo start at step (untouched (ends.Ok AnswersUnit)) [] at (ended (counted_anew a)) x) (sym same)
         (rolls_none start at a step 0 st (subst (λ (x : ConnSeen). HasAllRoom x) same room) c (rw (sym st.depth ∙ e) refl) (omega (arith, st.depth, e)))
     by (suc n) e = one (ltb a.ledger.owed (2 ^ 64 - 1)) refl
       where
         owes : ltb (owed at) (2 ^ 64 - 1) ≡ ltb a.ledger.owed (2 ^ 64 - 1)
         owes = ap (λ (o : ℕ). ltb o (2 ^ 64 - 1)) (owed_is start at a st)
 
-        one : (b : Bool) → ltb a.ledger.owed (2 ^ 64 - 1) ≡ b → SettlesTo start at step (untouched (ends.Ok AnswersUnit)) (rolled_outcome (rolled (ended (counted_anew a)))) [] at (rolled (ended (counted_anew a)))
+        one : (b : Bool) → ltb a.ledger.owed (2 ^ 64 - 1) ≡ b → SettlesTo start at step (untouched (ends.Ok AnswersUnit)) [] at (ended (counted_anew a)) (rolled (ended (counted_anew a)))
         one true q =
             let short = rollback_short n (omega (arith, l, e)) in
             let space = st.room in
             let r = has_room (spelled (rollback n)) (ended (counted_anew a)) (omega (arith, short, space, e)) (ltb-true _ _ q) in
             let same : rolled (ended (counted_anew a)) ≡ rolled_conn (ended (counted_anew a)) n n = rolled_open (ended (counted_anew a)) n (omega (arith, e)) ∙ one_group (spelled (rollback n)) (record (ended (counted_anew a)) { depth = n }) r in
-            subst (λ (x : ConnSeen). SettlesTo start at step (untouched (ends.Ok AnswersUnit)) (rolled_outcome x) [] at x) (sym same)
+            subst (λ (x : ConnSeen). SettlesTo start at step (untouched (ends.Ok AnswersUnit)) [] at (ended (counted_anew a)) x) (sym same)
             (rolls_one start at a step n st (omega (arith, l, e)) r (subst (λ (x : ConnSeen). HasAllRoom x) same room) c (rolls_at at.depth n (owed at) (sym st.depth ∙ e) (owes ∙ q)) (omega (arith, st.depth, e)))
         one false q =
             let none : has_room_for (spelled (rollback n)) (ended (counted_anew a)) ≡ false = rw q (and_false _) in
             let same : rolled (ended (counted_anew a)) ≡ record (ended (counted_anew a)) { depth = n } = rolled_open (ended (counted_anew a)) n (omega (arith, e)) ∙ no_group (spelled (rollback n)) (record (ended (counted_anew a)) { depth = n }) none in
-            subst (λ (x : ConnSeen). SettlesTo start at step (untouched (ends.Ok AnswersUnit)) (rolled_outcome x) [] at x) (sym same)
+            subst (λ (x : ConnSeen). SettlesTo start at step (untouched (ends.Ok AnswersUnit)) [] at (ended (counted_anew a)) x) (sym same)
             (rolls_none start at a step n st (subst (λ (x : ConnSeen). HasAllRoom x) same room) c (rolls_not_at at.depth n (owed at) (sym st.depth ∙ e) (owes ∙ q)) (omega (arith, st.depth, e)))

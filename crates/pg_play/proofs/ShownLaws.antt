@@ -10,12 +10,14 @@ use Rattle.pg_wire.specs.Backend.{Values, BackendMessage, DataRow, CommandComple
 use Rattle.pg_wire.specs.Server.{IsPrefixOf}
 use Rattle.pg_call.specs.declared.kind.Kind.{Kind}
 use Rattle.pg_call.specs.declared.kind.Kind.TheVariants as kinds
+use Rattle.pg_call.specs.declared.kind.How.{How}
 use Rattle.pg_call.specs.declared.kind.How.TheVariants as hows
 use Rattle.pg_call.specs.declared.answer.CallItem.{CallItem}
 use Rattle.pg_call.specs.declared.answer.CallItem.TheVariants as call_items
 use Rattle.pg_call.specs.declared.answer.CallAnswer.{CallAnswer}
 use Rattle.pg_call.specs.declared.answer.CallAnswer.TheVariants as call_answers
 use Rattle.pg_call.specs.Requests.{kind_of}
+use Rattle.pg_call.specs.Calls.{answer_by}
 use Rattle.pg_call.specs.Items.{yields, shown, rows_in, count_in, total_of, first_row, answer_to, items_of}
 use Rattle.pg_call.specs.Items as raw
 use Rattle.pg_report.specs.declared.outcome.Item.{Item}
@@ -23,7 +25,7 @@ use Rattle.pg_report.specs.declared.outcome.Item.TheVariants.{Row, Count}
 use Rattle.pg_report.specs.declared.outcome.Answer.{Answer}
 use Rattle.pg_script.specs.declared.step.Call.{Call}
 use Rattle.pg_script.specs.declared.step.Call.TheVariants as calls
-use Rattle.pg_play.specs.Shown.{request_of, item_in, items_in, is_row, is_count, count_of, shown_by, waits_to_show, answered_by, wants_row, item_of, one_row, items_with, answer_of, begins, acts_at_once}
+use Rattle.pg_play.specs.Shown.{request_of, item_in, items_in, is_row, is_count, count_of, shown_as, shown_how, shown_by, how_of, waits_how, waits_to_show, answered_how, answered_by, wants_how, wants_row, item_of, one_row, items_with, answer_of, begins, acts_at_once}
 
 -- the items of a response, told
 pub items_told : (ms : List BackendMessage) → items_in ms ≡ map item_of (items_of ms)
@@ -39,24 +41,23 @@ pub none_shown : (kind : Kind) (xs : List CallItem) → ((x : CallItem) → yiel
 none_shown kind [] f = refl
 none_shown kind (x ∷ xs) f = ap (λ (b : Bool). cond b (x ∷ shown kind xs) (shown kind xs)) (f x) ∙ none_shown kind xs f
 
+how_waits : (how : How) (xs : List CallItem) → waits_how (Some how) ≡ true → shown (kinds.Run how) xs ≡ []
+how_waits hows.FetchAll xs e = none_shown (kinds.Run hows.FetchAll) xs (λ x. refl)
+how_waits hows.FetchOptional xs e = none_shown (kinds.Run hows.FetchOptional) xs (λ x. refl)
+how_waits hows.FetchOne xs e = none_shown (kinds.Run hows.FetchOne) xs (λ x. refl)
+how_waits _ xs e = absurd cc
+
 -- these show nothing as it comes
 pub waits_none : (d : ℕ) (call : Call) (xs : List CallItem) → waits_to_show call ≡ true → shown (kind_of (request_of d call)) xs ≡ []
-waits_none d (calls.FetchAll query) xs e = none_shown (kinds.Run hows.FetchAll) xs (λ x. refl)
-waits_none d (calls.FetchOptional query) xs e = none_shown (kinds.Run hows.FetchOptional) xs (λ x. refl)
-waits_none d (calls.FetchOne query) xs e = none_shown (kinds.Run hows.FetchOne) xs (λ x. refl)
-waits_none d (calls.Execute query) xs e = absurd cc
-waits_none d (calls.ExecuteMany query) xs e = absurd cc
-waits_none d (calls.Fetch query) xs e = absurd cc
-waits_none d (calls.FetchMany query) xs e = absurd cc
-waits_none d calls.Ping xs e = absurd cc
-waits_none d calls.Flush xs e = absurd cc
-waits_none d calls.Begin xs e = absurd cc
-waits_none d (calls.BeginWith query) xs e = absurd cc
-waits_none zero calls.Commit xs e = absurd cc
-waits_none (suc left) calls.Commit xs e = absurd cc
-waits_none zero calls.Rollback xs e = absurd cc
-waits_none (suc left) calls.Rollback xs e = absurd cc
-waits_none d calls.StartRollback xs e = absurd cc
+waits_none d (calls.Execute query) xs e = how_waits hows.Execute xs e
+waits_none d (calls.ExecuteMany query) xs e = how_waits hows.ExecuteMany xs e
+waits_none d (calls.Fetch query) xs e = how_waits hows.Fetch xs e
+waits_none d (calls.FetchMany query) xs e = how_waits hows.FetchMany xs e
+waits_none d (calls.FetchAll query) xs e = how_waits hows.FetchAll xs e
+waits_none d (calls.FetchOptional query) xs e = how_waits hows.FetchOptional xs e
+waits_none d (calls.FetchOne query) xs e = how_waits hows.FetchOne xs e
+waits_none d (calls.Run bound) xs e = how_waits bound.how xs e
+waits_none d _ xs e = absurd cc
 
 counts_shown : (xs : List CallItem) → map item_of (shown (kinds.Run hows.ExecuteMany) xs) ≡ filter is_count (map item_of xs)
 counts_shown [] = refl
@@ -85,14 +86,25 @@ row_told : (xs : List CallItem) → one_row (first_row (rows_in xs)) ≡ take 1 
 row_told xs = first_told (rows_in xs) ∙ ap (take 1) (rows_told xs)
 
 -- what comes at once is a front of what the call shows
+how_front : (how : How) (xs : List CallItem) → IsPrefixOf (map item_of (shown (kinds.Run how) xs)) (shown_as how (map item_of xs))
+how_front hows.Execute xs = rw (none_shown (kinds.Run hows.Execute) xs (λ x. refl)) ([], refl)
+how_front hows.ExecuteMany xs = ([], append-nil _ ∙ counts_shown xs)
+how_front hows.Fetch xs = ([], append-nil _ ∙ rows_shown xs)
+how_front hows.FetchMany xs = ([], append-nil _ ∙ all_shown xs)
+how_front hows.FetchAll xs = rw (none_shown (kinds.Run hows.FetchAll) xs (λ x. refl)) (filter is_row (map item_of xs), refl)
+how_front hows.FetchOptional xs = rw (none_shown (kinds.Run hows.FetchOptional) xs (λ x. refl)) (take 1 (filter is_row (map item_of xs)), refl)
+how_front hows.FetchOne xs = rw (none_shown (kinds.Run hows.FetchOne) xs (λ x. refl)) (take 1 (filter is_row (map item_of xs)), refl)
+
 pub shown_front : (d : ℕ) (call : Call) (xs : List CallItem) → IsPrefixOf (map item_of (shown (kind_of (request_of d call)) xs)) (shown_by call (map item_of xs))
-shown_front d (calls.Execute query) xs = rw (none_shown (kinds.Run hows.Execute) xs (λ x. refl)) ([], refl)
-shown_front d (calls.ExecuteMany query) xs = ([], append-nil _ ∙ counts_shown xs)
-shown_front d (calls.Fetch query) xs = ([], append-nil _ ∙ rows_shown xs)
-shown_front d (calls.FetchMany query) xs = ([], append-nil _ ∙ all_shown xs)
-shown_front d (calls.FetchAll query) xs = rw (none_shown (kinds.Run hows.FetchAll) xs (λ x. refl)) (filter is_row (map item_of xs), refl)
-shown_front d (calls.FetchOptional query) xs = rw (none_shown (kinds.Run hows.FetchOptional) xs (λ x. refl)) (take 1 (filter is_row (map item_of xs)), refl)
-shown_front d (calls.FetchOne query) xs = rw (none_shown (kinds.Run hows.FetchOne) xs (λ x. refl)) (take 1 (filter is_row (map item_of xs)), refl)
+shown_front d (calls.Execute query) xs = how_front hows.Execute xs
+shown_front d (calls.ExecuteMany query) xs = how_front hows.ExecuteMany xs
+shown_front d (calls.Fetch query) xs = how_front hows.Fetch xs
+shown_front d (calls.FetchMany query) xs = how_front hows.FetchMany xs
+shown_front d (calls.FetchAll query) xs = how_front hows.FetchAll xs
+shown_front d (calls.FetchOptional query) xs = how_front hows.FetchOptional xs
+shown_front d (calls.FetchOne query) xs = how_front hows.FetchOne xs
+shown_front d (calls.Run bound) xs = how_front bound.how xs
+shown_front d (calls.Describe extended) xs = rw (none_shown kinds.Describe xs (λ x. refl)) ([], refl)
 shown_front d calls.Ping xs = rw (none_shown kinds.Ping xs (λ x. refl)) ([], refl)
 shown_front d calls.Flush xs = rw (none_shown kinds.Flush xs (λ x. refl)) ([], refl)
 shown_front d calls.Begin xs = rw (none_shown kinds.Begin xs (λ x. refl)) ([], refl)
@@ -114,8 +126,8 @@ sum-told (x ∷ xs) = sum_by-append count_in (x ∷ []) xs ∙ omega (arith, sum
 -- ---- at Ok
 
 -- all is shown
-abbrev AllShown : ℕ → Call → List CallItem → CallAnswer → Type 0
-AllShown d call xs answer = items_with (map item_of (shown (kind_of (request_of d call)) xs)) answer ≡ shown_by call (map item_of xs)
+abbrev AllShown : Kind → Option How → List CallItem → CallAnswer → Type 0
+AllShown kind how xs answer = items_with (map item_of (shown kind xs)) answer ≡ shown_how how (map item_of xs)
 
 abbrev okay : CallAnswer → Result CallAnswer Error
 okay answer = Ok answer
@@ -133,68 +145,83 @@ begun_unit statuses.Transaction answer e = same_answer call_answers.Unit answer 
 begun_unit statuses.Idle answer e = absurd cc
 begun_unit statuses.Error answer e = absurd cc
 
-pub all_told : (d : ℕ) (call : Call) (xs : List CallItem) (status : TransactionStatus) (answer : CallAnswer) → answer_to (kind_of (request_of d call)) xs status ≡ Ok answer → AllShown d call xs answer
-all_told d (calls.Execute query) xs status answer e = rw (← same_answer _ answer e, none_shown (kinds.Run hows.Execute) xs (λ x. refl)) refl
-all_told d (calls.ExecuteMany query) xs status answer e = rw (← same_answer _ answer e) (counts_shown xs)
-all_told d (calls.Fetch query) xs status answer e = rw (← same_answer _ answer e) (rows_shown xs)
-all_told d (calls.FetchMany query) xs status answer e = rw (← same_answer _ answer e) (all_shown xs)
-all_told d (calls.FetchAll query) xs status answer e = rw (← same_answer _ answer e) (rows_told xs)
-all_told d (calls.FetchOptional query) xs status answer e = rw (← same_answer _ answer e) (row_told xs)
-all_told d (calls.FetchOne query) xs status answer e =
+how_told : (how : How) (xs : List CallItem) (status : TransactionStatus) (answer : CallAnswer) → answer_to (kinds.Run how) xs status ≡ Ok answer → AllShown (kinds.Run how) (Some how) xs answer
+how_told hows.Execute xs status answer e = rw (← same_answer _ answer e, none_shown (kinds.Run hows.Execute) xs (λ x. refl)) refl
+how_told hows.ExecuteMany xs status answer e = rw (← same_answer _ answer e) (counts_shown xs)
+how_told hows.Fetch xs status answer e = rw (← same_answer _ answer e) (rows_shown xs)
+how_told hows.FetchMany xs status answer e = rw (← same_answer _ answer e) (all_shown xs)
+how_told hows.FetchAll xs status answer e = rw (← same_answer _ answer e) (rows_told xs)
+how_told hows.FetchOptional xs status answer e = rw (← same_answer _ answer e) (row_told xs)
+how_told hows.FetchOne xs status answer e =
     let o = one_by (first_row (rows_in xs)) answer e in
     ap (items_with (map item_of (shown (kinds.Run hows.FetchOne) xs))) o.2 ∙ ap one_row (sym o.1) ∙ row_told xs
-all_told d calls.Ping xs status answer e = rw (← same_answer _ answer e, none_shown kinds.Ping xs (λ x. refl)) refl
-all_told d calls.Flush xs status answer e = rw (← same_answer _ answer e, none_shown kinds.Flush xs (λ x. refl)) refl
-all_told d calls.Begin xs status answer e = rw (← begun_unit status answer e, none_shown kinds.Begin xs (λ x. refl)) refl
-all_told d (calls.BeginWith query) xs status answer e = rw (← begun_unit status answer e, none_shown kinds.Begin xs (λ x. refl)) refl
-all_told zero calls.Commit xs status answer e = rw (← same_answer _ answer e, none_shown kinds.Flush xs (λ x. refl)) refl
-all_told (suc left) calls.Commit xs status answer e = rw (← same_answer _ answer e, none_shown kinds.Commit xs (λ x. refl)) refl
-all_told zero calls.Rollback xs status answer e = rw (← same_answer _ answer e, none_shown kinds.Flush xs (λ x. refl)) refl
-all_told (suc left) calls.Rollback xs status answer e = rw (← same_answer _ answer e, none_shown kinds.Rollback xs (λ x. refl)) refl
-all_told d calls.StartRollback xs status answer e = rw (← same_answer _ answer e, none_shown kinds.Flush xs (λ x. refl)) refl
+
+pub all_told : (d : ℕ) (call : Call) (reply : List BackendMessage) (status : TransactionStatus) (answer : CallAnswer) → answer_by (request_of d call) reply status ≡ Ok answer → AllShown (kind_of (request_of d call)) (how_of call) (items_of reply) answer
+all_told d (calls.Execute query) reply status answer e = how_told hows.Execute (items_of reply) status answer e
+all_told d (calls.ExecuteMany query) reply status answer e = how_told hows.ExecuteMany (items_of reply) status answer e
+all_told d (calls.Fetch query) reply status answer e = how_told hows.Fetch (items_of reply) status answer e
+all_told d (calls.FetchMany query) reply status answer e = how_told hows.FetchMany (items_of reply) status answer e
+all_told d (calls.FetchAll query) reply status answer e = how_told hows.FetchAll (items_of reply) status answer e
+all_told d (calls.FetchOptional query) reply status answer e = how_told hows.FetchOptional (items_of reply) status answer e
+all_told d (calls.FetchOne query) reply status answer e = how_told hows.FetchOne (items_of reply) status answer e
+all_told d (calls.Run bound) reply status answer e = how_told bound.how (items_of reply) status answer e
+all_told d (calls.Describe extended) reply status answer e = rw (← same_answer _ answer e, none_shown kinds.Describe (items_of reply) (λ x. refl)) refl
+all_told d calls.Ping reply status answer e = rw (← same_answer _ answer e, none_shown kinds.Ping (items_of reply) (λ x. refl)) refl
+all_told d calls.Flush reply status answer e = rw (← same_answer _ answer e, none_shown kinds.Flush (items_of reply) (λ x. refl)) refl
+all_told d calls.Begin reply status answer e = rw (← begun_unit status answer e, none_shown kinds.Begin (items_of reply) (λ x. refl)) refl
+all_told d (calls.BeginWith query) reply status answer e = rw (← begun_unit status answer e, none_shown kinds.Begin (items_of reply) (λ x. refl)) refl
+all_told zero calls.Commit reply status answer e = rw (← same_answer _ answer e, none_shown kinds.Flush (items_of reply) (λ x. refl)) refl
+all_told (suc left) calls.Commit reply status answer e = rw (← same_answer _ answer e, none_shown kinds.Commit (items_of reply) (λ x. refl)) refl
+all_told zero calls.Rollback reply status answer e = rw (← same_answer _ answer e, none_shown kinds.Flush (items_of reply) (λ x. refl)) refl
+all_told (suc left) calls.Rollback reply status answer e = rw (← same_answer _ answer e, none_shown kinds.Rollback (items_of reply) (λ x. refl)) refl
+all_told d calls.StartRollback reply status answer e = rw (← same_answer _ answer e, none_shown kinds.Flush (items_of reply) (λ x. refl)) refl
 
 abbrev answered_total : ℕ → Answer
 answered_total n = answer_of (call_answers.Total (record { rows = min n (2 ^ 64 - 1) }))
 
-pub answer_told : (d : ℕ) (call : Call) (xs : List CallItem) (status : TransactionStatus) (answer : CallAnswer) → answer_to (kind_of (request_of d call)) xs status ≡ Ok answer → answer_of answer ≡ answered_by call (map item_of xs)
-answer_told d (calls.Execute query) xs status answer e = rw (← same_answer _ answer e) (ap (λ (n : ℕ). answered_total n) (sum-told xs))
-answer_told d (calls.ExecuteMany query) xs status answer e = rw (← same_answer _ answer e) refl
-answer_told d (calls.Fetch query) xs status answer e = rw (← same_answer _ answer e) refl
-answer_told d (calls.FetchMany query) xs status answer e = rw (← same_answer _ answer e) refl
-answer_told d (calls.FetchAll query) xs status answer e = rw (← same_answer _ answer e) refl
-answer_told d (calls.FetchOptional query) xs status answer e = rw (← same_answer _ answer e) refl
-answer_told d (calls.FetchOne query) xs status answer e = let o = one_by (first_row (rows_in xs)) answer e in ap answer_of o.2
-answer_told d calls.Ping xs status answer e = rw (← same_answer _ answer e) refl
-answer_told d calls.Flush xs status answer e = rw (← same_answer _ answer e) refl
-answer_told d calls.Begin xs status answer e = rw (← begun_unit status answer e) refl
-answer_told d (calls.BeginWith query) xs status answer e = rw (← begun_unit status answer e) refl
-answer_told zero calls.Commit xs status answer e = rw (← same_answer _ answer e) refl
-answer_told (suc left) calls.Commit xs status answer e = rw (← same_answer _ answer e) refl
-answer_told zero calls.Rollback xs status answer e = rw (← same_answer _ answer e) refl
-answer_told (suc left) calls.Rollback xs status answer e = rw (← same_answer _ answer e) refl
-answer_told d calls.StartRollback xs status answer e = rw (← same_answer _ answer e) refl
+how_answers : (how : How) (xs : List CallItem) (status : TransactionStatus) (answer : CallAnswer) → answer_to (kinds.Run how) xs status ≡ Ok answer → answer_of answer ≡ answered_how (Some how) (map item_of xs)
+how_answers hows.Execute xs status answer e = rw (← same_answer _ answer e) (ap (λ (n : ℕ). answered_total n) (sum-told xs))
+how_answers hows.FetchOne xs status answer e = let o = one_by (first_row (rows_in xs)) answer e in ap answer_of o.2
+how_answers _ xs status answer e = rw (← same_answer _ answer e) refl
 
--- a call that must have a row has one
-pub has_row : (d : ℕ) (call : Call) (xs : List CallItem) (status : TransactionStatus) (answer : CallAnswer) (items : List Item) → answer_to (kind_of (request_of d call)) xs status ≡ Ok answer → wants_row call ≡ true → items_with items answer ≢ []
-has_row d (calls.FetchOne query) xs status answer items e w = λ z.
+pub answer_told : (d : ℕ) (call : Call) (reply : List BackendMessage) (status : TransactionStatus) (answer : CallAnswer) → answer_by (request_of d call) reply status ≡ Ok answer → answer_of answer ≡ answered_by call (map item_of (items_of reply))
+answer_told d (calls.Execute query) reply status answer e = how_answers hows.Execute (items_of reply) status answer e
+answer_told d (calls.ExecuteMany query) reply status answer e = how_answers hows.ExecuteMany (items_of reply) status answer e
+answer_told d (calls.Fetch query) reply status answer e = how_answers hows.Fetch (items_of reply) status answer e
+answer_told d (calls.FetchMany query) reply status answer e = how_answers hows.FetchMany (items_of reply) status answer e
+answer_told d (calls.FetchAll query) reply status answer e = how_answers hows.FetchAll (items_of reply) status answer e
+answer_told d (calls.FetchOptional query) reply status answer e = how_answers hows.FetchOptional (items_of reply) status answer e
+answer_told d (calls.FetchOne query) reply status answer e = how_answers hows.FetchOne (items_of reply) status answer e
+answer_told d (calls.Run bound) reply status answer e = how_answers bound.how (items_of reply) status answer e
+answer_told d (calls.Describe extended) reply status answer e = rw (← same_answer _ answer e) refl
+answer_told d calls.Ping reply status answer e = rw (← same_answer _ answer e) refl
+answer_told d calls.Flush reply status answer e = rw (← same_answer _ answer e) refl
+answer_told d calls.Begin reply status answer e = rw (← begun_unit status answer e) refl
+answer_told d (calls.BeginWith query) reply status answer e = rw (← begun_unit status answer e) refl
+answer_told zero calls.Commit reply status answer e = rw (← same_answer _ answer e) refl
+answer_told (suc left) calls.Commit reply status answer e = rw (← same_answer _ answer e) refl
+answer_told zero calls.Rollback reply status answer e = rw (← same_answer _ answer e) refl
+answer_told (suc left) calls.Rollback reply status answer e = rw (← same_answer _ answer e) refl
+answer_told d calls.StartRollback reply status answer e = rw (← same_answer _ answer e) refl
+
+how_has : (how : How) (xs : List CallItem) (status : TransactionStatus) (answer : CallAnswer) (items : List Item) → answer_to (kinds.Run how) xs status ≡ Ok answer → wants_how (Some how) ≡ true → items_with items answer ≢ []
+how_has hows.FetchOne xs status answer items e w = λ z.
     let o = one_by (first_row (rows_in xs)) answer e in
     let some : Row o.0 ∷ [] ≡ [] = sym (ap (items_with items) o.2) ∙ z in
     absurd cc
-has_row d (calls.Execute query) xs status answer items e w = absurd cc
-has_row d (calls.ExecuteMany query) xs status answer items e w = absurd cc
-has_row d (calls.Fetch query) xs status answer items e w = absurd cc
-has_row d (calls.FetchMany query) xs status answer items e w = absurd cc
-has_row d (calls.FetchAll query) xs status answer items e w = absurd cc
-has_row d (calls.FetchOptional query) xs status answer items e w = absurd cc
-has_row d calls.Ping xs status answer items e w = absurd cc
-has_row d calls.Flush xs status answer items e w = absurd cc
-has_row d calls.Begin xs status answer items e w = absurd cc
-has_row d (calls.BeginWith query) xs status answer items e w = absurd cc
-has_row zero calls.Commit xs status answer items e w = absurd cc
-has_row (suc left) calls.Commit xs status answer items e w = absurd cc
-has_row zero calls.Rollback xs status answer items e w = absurd cc
-has_row (suc left) calls.Rollback xs status answer items e w = absurd cc
-has_row d calls.StartRollback xs status answer items e w = absurd cc
+how_has _ xs status answer items e w = absurd cc
+
+-- a call that must have a row has one
+pub has_row : (d : ℕ) (call : Call) (reply : List BackendMessage) (status : TransactionStatus) (answer : CallAnswer) (items : List Item) → answer_by (request_of d call) reply status ≡ Ok answer → wants_row call ≡ true → items_with items answer ≢ []
+has_row d (calls.Execute query) reply status answer items e w = how_has hows.Execute (items_of reply) status answer items e w
+has_row d (calls.ExecuteMany query) reply status answer items e w = how_has hows.ExecuteMany (items_of reply) status answer items e w
+has_row d (calls.Fetch query) reply status answer items e w = how_has hows.Fetch (items_of reply) status answer items e w
+has_row d (calls.FetchMany query) reply status answer items e w = how_has hows.FetchMany (items_of reply) status answer items e w
+has_row d (calls.FetchAll query) reply status answer items e w = how_has hows.FetchAll (items_of reply) status answer items e w
+has_row d (calls.FetchOptional query) reply status answer items e w = how_has hows.FetchOptional (items_of reply) status answer items e w
+has_row d (calls.FetchOne query) reply status answer items e w = how_has hows.FetchOne (items_of reply) status answer items e w
+has_row d (calls.Run bound) reply status answer items e w = how_has bound.how (items_of reply) status answer items e w
+has_row d _ reply status answer items e w = absurd cc
 
 -- ---- where there is no row
 
@@ -210,43 +237,57 @@ begun_found statuses.Transaction e = cc
 begun_found statuses.Idle e = cc
 begun_found statuses.Error e = cc
 
+how_not_found : (how : How) (xs : List CallItem) (status : TransactionStatus) → answer_to (kinds.Run how) xs status ≡ Err errors.RowNotFound → (wants_how (Some how) ≡ true) × (rows_in xs ≡ [])
+how_not_found hows.FetchOne xs status e = (refl, no_first (rows_in xs) e)
+how_not_found _ xs status e = absurd cc
+
 -- only a call that must have one fails for want of a row
-pub not_found : (d : ℕ) (call : Call) (xs : List CallItem) (status : TransactionStatus) → answer_to (kind_of (request_of d call)) xs status ≡ Err errors.RowNotFound → IsFound call xs
-not_found d (calls.FetchOne query) xs status e = (refl, no_first (rows_in xs) e)
-not_found d (calls.Execute query) xs status e = absurd cc
-not_found d (calls.ExecuteMany query) xs status e = absurd cc
-not_found d (calls.Fetch query) xs status e = absurd cc
-not_found d (calls.FetchMany query) xs status e = absurd cc
-not_found d (calls.FetchAll query) xs status e = absurd cc
-not_found d (calls.FetchOptional query) xs status e = absurd cc
-not_found d calls.Ping xs status e = absurd cc
-not_found d calls.Flush xs status e = absurd cc
-not_found d calls.Begin xs status e = absurd (begun_found status e)
-not_found d (calls.BeginWith query) xs status e = absurd (begun_found status e)
-not_found zero calls.Commit xs status e = absurd cc
-not_found (suc left) calls.Commit xs status e = absurd cc
-not_found zero calls.Rollback xs status e = absurd cc
-not_found (suc left) calls.Rollback xs status e = absurd cc
-not_found d calls.StartRollback xs status e = absurd cc
+pub not_found : (d : ℕ) (call : Call) (reply : List BackendMessage) (status : TransactionStatus) → answer_by (request_of d call) reply status ≡ Err errors.RowNotFound → IsFound call (items_of reply)
+not_found d (calls.Execute query) reply status e = how_not_found hows.Execute (items_of reply) status e
+not_found d (calls.ExecuteMany query) reply status e = how_not_found hows.ExecuteMany (items_of reply) status e
+not_found d (calls.Fetch query) reply status e = how_not_found hows.Fetch (items_of reply) status e
+not_found d (calls.FetchMany query) reply status e = how_not_found hows.FetchMany (items_of reply) status e
+not_found d (calls.FetchAll query) reply status e = how_not_found hows.FetchAll (items_of reply) status e
+not_found d (calls.FetchOptional query) reply status e = how_not_found hows.FetchOptional (items_of reply) status e
+not_found d (calls.FetchOne query) reply status e = how_not_found hows.FetchOne (items_of reply) status e
+not_found d (calls.Run bound) reply status e = how_not_found bound.how (items_of reply) status e
+not_found d (calls.Describe extended) reply status e = absurd cc
+not_found d calls.Ping reply status e = absurd cc
+not_found d calls.Flush reply status e = absurd cc
+not_found d calls.Begin reply status e = absurd (begun_found status e)
+not_found d (calls.BeginWith query) reply status e = absurd (begun_found status e)
+not_found zero calls.Commit reply status e = absurd cc
+not_found (suc left) calls.Commit reply status e = absurd cc
+not_found zero calls.Rollback reply status e = absurd cc
+not_found (suc left) calls.Rollback reply status e = absurd cc
+not_found d calls.StartRollback reply status e = absurd cc
+
+how_comes : (how : How) (xs : List CallItem) (status : TransactionStatus) (answer : CallAnswer) (items : List Item) → waits_how (Some how) ≡ false → answer_to (kinds.Run how) xs status ≡ Ok answer → items_with items answer ≡ items
+how_comes hows.FetchAll xs status answer items w e = absurd cc
+how_comes hows.FetchOptional xs status answer items w e = absurd cc
+how_comes hows.FetchOne xs status answer items w e = absurd cc
+how_comes _ xs status answer items w e = rw (← same_answer _ answer e) refl
 
 -- the answer of a call that shows its items as they come has none
-pub no_items_come : (d : ℕ) (call : Call) (xs : List CallItem) (status : TransactionStatus) (answer : CallAnswer) (items : List Item) → waits_to_show call ≡ false → answer_to (kind_of (request_of d call)) xs status ≡ Ok answer → items_with items answer ≡ items
-no_items_come d (calls.Execute query) xs status answer items w e = rw (← same_answer _ answer e) refl
-no_items_come d (calls.ExecuteMany query) xs status answer items w e = rw (← same_answer _ answer e) refl
-no_items_come d (calls.Fetch query) xs status answer items w e = rw (← same_answer _ answer e) refl
-no_items_come d (calls.FetchMany query) xs status answer items w e = rw (← same_answer _ answer e) refl
-no_items_come d (calls.FetchAll query) xs status answer items w e = absurd cc
-no_items_come d (calls.FetchOptional query) xs status answer items w e = absurd cc
-no_items_come d (calls.FetchOne query) xs status answer items w e = absurd cc
-no_items_come d calls.Ping xs status answer items w e = rw (← same_answer _ answer e) refl
-no_items_come d calls.Flush xs status answer items w e = rw (← same_answer _ answer e) refl
-no_items_come d calls.Begin xs status answer items w e = rw (← begun_unit status answer e) refl
-no_items_come d (calls.BeginWith query) xs status answer items w e = rw (← begun_unit status answer e) refl
-no_items_come zero calls.Commit xs status answer items w e = rw (← same_answer _ answer e) refl
-no_items_come (suc left) calls.Commit xs status answer items w e = rw (← same_answer _ answer e) refl
-no_items_come zero calls.Rollback xs status answer items w e = rw (← same_answer _ answer e) refl
-no_items_come (suc left) calls.Rollback xs status answer items w e = rw (← same_answer _ answer e) refl
-no_items_come d calls.StartRollback xs status answer items w e = rw (← same_answer _ answer e) refl
+pub no_items_come : (d : ℕ) (call : Call) (reply : List BackendMessage) (status : TransactionStatus) (answer : CallAnswer) (items : List Item) → waits_to_show call ≡ false → answer_by (request_of d call) reply status ≡ Ok answer → items_with items answer ≡ items
+no_items_come d (calls.Execute query) reply status answer items w e = how_comes hows.Execute (items_of reply) status answer items w e
+no_items_come d (calls.ExecuteMany query) reply status answer items w e = how_comes hows.ExecuteMany (items_of reply) status answer items w e
+no_items_come d (calls.Fetch query) reply status answer items w e = how_comes hows.Fetch (items_of reply) status answer items w e
+no_items_come d (calls.FetchMany query) reply status answer items w e = how_comes hows.FetchMany (items_of reply) status answer items w e
+no_items_come d (calls.FetchAll query) reply status answer items w e = how_comes hows.FetchAll (items_of reply) status answer items w e
+no_items_come d (calls.FetchOptional query) reply status answer items w e = how_comes hows.FetchOptional (items_of reply) status answer items w e
+no_items_come d (calls.FetchOne query) reply status answer items w e = how_comes hows.FetchOne (items_of reply) status answer items w e
+no_items_come d (calls.Run bound) reply status answer items w e = how_comes bound.how (items_of reply) status answer items w e
+no_items_come d (calls.Describe extended) reply status answer items w e = rw (← same_answer _ answer e) refl
+no_items_come d calls.Ping reply status answer items w e = rw (← same_answer _ answer e) refl
+no_items_come d calls.Flush reply status answer items w e = rw (← same_answer _ answer e) refl
+no_items_come d calls.Begin reply status answer items w e = rw (← begun_unit status answer e) refl
+no_items_come d (calls.BeginWith query) reply status answer items w e = rw (← begun_unit status answer e) refl
+no_items_come zero calls.Commit reply status answer items w e = rw (← same_answer _ answer e) refl
+no_items_come (suc left) calls.Commit reply status answer items w e = rw (← same_answer _ answer e) refl
+no_items_come zero calls.Rollback reply status answer items w e = rw (← same_answer _ answer e) refl
+no_items_come (suc left) calls.Rollback reply status answer items w e = rw (← same_answer _ answer e) refl
+no_items_come d calls.StartRollback reply status answer items w e = rw (← same_answer _ answer e) refl
 
 status_fails : (status other : TransactionStatus) → raw.begun status ≡ Err (errors.BeginFailed other) → (status ≡ other) × (other ≢ statuses.Transaction)
 status_fails statuses.Transaction other e = absurd cc
@@ -257,41 +298,35 @@ status_fails statuses.Error other e =
     let same : statuses.Error ≡ other = cc in
     (same, λ t. let x = same ∙ t in cc)
 
--- only a begin fails by the status behind it, which isn't that of an open transaction
-pub begun_failed : (d : ℕ) (call : Call) (xs : List CallItem) (status other : TransactionStatus) → answer_to (kind_of (request_of d call)) xs status ≡ Err (errors.BeginFailed other) → (begins call ≡ true) × (status ≡ other) × (other ≢ statuses.Transaction)
-begun_failed d (calls.Execute query) xs status other e = absurd cc
-begun_failed d (calls.ExecuteMany query) xs status other e = absurd cc
-begun_failed d (calls.Fetch query) xs status other e = absurd cc
-begun_failed d (calls.FetchMany query) xs status other e = absurd cc
-begun_failed d (calls.FetchAll query) xs status other e = absurd cc
-begun_failed d (calls.FetchOptional query) xs status other e = absurd cc
-begun_failed d (calls.FetchOne query) xs status other e = absurd (row_fails (first_row (rows_in xs)) e)
+how_begins_none : (how : How) (xs : List CallItem) (status other : TransactionStatus) → answer_to (kinds.Run how) xs status ≡ Err (errors.BeginFailed other) → ⊥
+how_begins_none hows.FetchOne xs status other e = row_fails (first_row (rows_in xs)) e
   where
     row_fails : (o : Option Values) → raw.one_row o ≡ Err (errors.BeginFailed other) → ⊥
     row_fails None e = cc
     row_fails (Some row) e = cc
-begun_failed d calls.Ping xs status other e = absurd cc
-begun_failed d calls.Flush xs status other e = absurd cc
-begun_failed d calls.Begin xs status other e = let s = status_fails status other e in (refl, s.0, s.1)
-begun_failed d (calls.BeginWith query) xs status other e = let s = status_fails status other e in (refl, s.0, s.1)
-begun_failed zero calls.Commit xs status other e = absurd cc
-begun_failed (suc left) calls.Commit xs status other e = absurd cc
-begun_failed zero calls.Rollback xs status other e = absurd cc
-begun_failed (suc left) calls.Rollback xs status other e = absurd cc
-begun_failed d calls.StartRollback xs status other e = absurd cc
+how_begins_none _ xs status other e = cc
+
+-- only a begin fails by the status behind it, which isn't that of an open transaction
+pub begun_failed : (d : ℕ) (call : Call) (reply : List BackendMessage) (status other : TransactionStatus) → answer_by (request_of d call) reply status ≡ Err (errors.BeginFailed other) → (begins call ≡ true) × (status ≡ other) × (other ≢ statuses.Transaction)
+begun_failed d (calls.Execute query) reply status other e = absurd (how_begins_none hows.Execute (items_of reply) status other e)
+begun_failed d (calls.ExecuteMany query) reply status other e = absurd (how_begins_none hows.ExecuteMany (items_of reply) status other e)
+begun_failed d (calls.Fetch query) reply status other e = absurd (how_begins_none hows.Fetch (items_of reply) status other e)
+begun_failed d (calls.FetchMany query) reply status other e = absurd (how_begins_none hows.FetchMany (items_of reply) status other e)
+begun_failed d (calls.FetchAll query) reply status other e = absurd (how_begins_none hows.FetchAll (items_of reply) status other e)
+begun_failed d (calls.FetchOptional query) reply status other e = absurd (how_begins_none hows.FetchOptional (items_of reply) status other e)
+begun_failed d (calls.FetchOne query) reply status other e = absurd (how_begins_none hows.FetchOne (items_of reply) status other e)
+begun_failed d (calls.Run bound) reply status other e = absurd (how_begins_none bound.how (items_of reply) status other e)
+begun_failed d (calls.Describe extended) reply status other e = absurd cc
+begun_failed d calls.Ping reply status other e = absurd cc
+begun_failed d calls.Flush reply status other e = absurd cc
+begun_failed d calls.Begin reply status other e = let s = status_fails status other e in (refl, s.0, s.1)
+begun_failed d (calls.BeginWith query) reply status other e = let s = status_fails status other e in (refl, s.0, s.1)
+begun_failed zero calls.Commit reply status other e = absurd cc
+begun_failed (suc left) calls.Commit reply status other e = absurd cc
+begun_failed zero calls.Rollback reply status other e = absurd cc
+begun_failed (suc left) calls.Rollback reply status other e = absurd cc
+begun_failed d calls.StartRollback reply status other e = absurd cc
 
 pub acts_later : (call : Call) → (call ≡ calls.StartRollback → ⊥) → acts_at_once call ≡ false
-acts_later (calls.Execute query) n = refl
-acts_later (calls.ExecuteMany query) n = refl
-acts_later (calls.Fetch query) n = refl
-acts_later (calls.FetchMany query) n = refl
-acts_later (calls.FetchAll query) n = refl
-acts_later (calls.FetchOptional query) n = refl
-acts_later (calls.FetchOne query) n = refl
-acts_later calls.Ping n = refl
-acts_later calls.Flush n = refl
-acts_later calls.Begin n = refl
-acts_later (calls.BeginWith query) n = refl
-acts_later calls.Commit n = refl
-acts_later calls.Rollback n = refl
 acts_later calls.StartRollback n = absurd (n refl)
+acts_later _ n = refl

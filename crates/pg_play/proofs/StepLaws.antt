@@ -72,6 +72,8 @@ no_close (suc left) calls.Commit = refl
 no_close zero calls.Rollback = refl
 no_close (suc left) calls.Rollback = refl
 no_close d calls.StartRollback = refl
+no_close d (calls.Describe extended) = refl
+no_close d (calls.Run bound) = refl
 
 pub closes_none : (d : ℕ) (call : Call) → kind_of (request_of d call) ≡ kinds.Close → ⊥
 closes_none d (calls.Execute query) e = cc
@@ -90,6 +92,8 @@ closes_none (suc left) calls.Commit e = cc
 closes_none zero calls.Rollback e = cc
 closes_none (suc left) calls.Rollback e = cc
 closes_none d calls.StartRollback e = cc
+closes_none d (calls.Describe extended) e = cc
+closes_none d (calls.Run bound) e = cc
 
 pub at_most_group : (d : ℕ) (call : Call) → (groups_of (request_of d call) ≡ []) ⊎ (length (groups_of (request_of d call)) ≡ 1)
 at_most_group d (calls.Execute query) = inr refl
@@ -108,6 +112,8 @@ at_most_group (suc left) calls.Commit = inr refl
 at_most_group zero calls.Rollback = inl refl
 at_most_group (suc left) calls.Rollback = inr refl
 at_most_group d calls.StartRollback = inl refl
+at_most_group d (calls.Describe extended) = inr refl
+at_most_group d (calls.Run bound) = inr refl
 
 -- what opens a transaction asks something
 pub begins_one : (d : ℕ) (call : Call) → begins call ≡ true → groups_of (request_of d call) ≡ [] → ⊥
@@ -125,6 +131,8 @@ begins_one d calls.Flush b e = cc
 begins_one d calls.Commit b e = cc
 begins_one d calls.Rollback b e = cc
 begins_one d calls.StartRollback b e = cc
+begins_one d (calls.Describe extended) b e = cc
+begins_one d (calls.Run bound) b e = cc
 
 -- a call without groups shows nothing
 flush_shows : (d : ℕ) (call : Call) (items : List CallItem) → groups_of (request_of d call) ≡ [] → shown (kind_of (request_of d call)) items ≡ []
@@ -137,6 +145,8 @@ flush_shows (suc left) calls.Commit items e = absurd cc
 flush_shows zero calls.Rollback items e = none_shown kinds.Flush items (λ x. refl)
 flush_shows (suc left) calls.Rollback items e = absurd cc
 flush_shows d calls.StartRollback items e = none_shown kinds.Flush items (λ x. refl)
+flush_shows d (calls.Describe extended) items e = absurd cc
+flush_shows d (calls.Run bound) items e = absurd cc
 flush_shows d calls.Ping items e = absurd cc
 flush_shows d (calls.Execute query) items e = absurd cc
 flush_shows d (calls.ExecuteMany query) items e = absurd cc

@@ -21,10 +21,10 @@ use Rattle.pg_call.specs.declared.answer.CallItem.{CallItem}
 use Rattle.pg_call.specs.declared.answer.CallAnswer.{CallAnswer}
 use Rattle.pg_call.specs.declared.ledger.Ledger.{Ledger}
 use Rattle.pg_call.specs.Requests.{Group, said_in, kind_of, groups_of, copy_fail}
-use Rattle.pg_call.specs.Items.{items_of, shown, answer_to}
+use Rattle.pg_call.specs.Items.{items_of, shown}
 use Rattle.pg_call.specs.Drains.{after_readys}
 use Rattle.pg_call.specs.Hearing.{fails_of}
-use Rattle.pg_call.specs.Calls.{IsFine, CallEnds}
+use Rattle.pg_call.specs.Calls.{IsFine, CallEnds, answer_by}
 use Rattle.pg_conn.specs.Connections.{ConnSeen}
 use Rattle.pg_conn.specs.Turns.{ends_request}
 use Rattle.pg_report.specs.declared.outcome.Item.{Item}
@@ -37,9 +37,10 @@ use Rattle.pg_script.specs.declared.step.Call.TheVariants as calls
 use Rattle.pg_script.specs.declared.step.Step.{Step}
 use Rattle.pg_play.specs.declared.tally.Limits.{Limits}
 use Rattle.pg_play.specs.Shown.{request_of, items_in, shown_by, answered_by, waits_to_show, item_of, items_with, answer_of}
-use Rattle.pg_play.specs.Calls.{Went, EndsOn, outcome_of, begun_call}
+use Rattle.pg_play.specs.Calls.{Went, EndsOn, Counted, asking}
+use Rattle.pg_request.specs.declared.progress.CacheStep.TheVariants as cache
 use Rattle.pg_play.specs.Places.{Place, ended, main_frames, response_within, drained, unfed, is_fine, refuses_copy, Queues, queued_by, Queued}
-use Rattle.pg_play.specs.Told.{Carry, HasNoError, IsWell, WellAtOk, AnswersError, Told, CountsTo, Numbers}
+use Rattle.pg_play.specs.Told.{Carry, HasNoError, IsWell, WellAtOk, AnswersError, Told, Numbers}
 use Rattle.pg_play.specs.Plays.{StandsAt}
 use Rattle.pg_play.proofs.PartLaws.{nth_part, no_error}
 use Rattle.pg_play.proofs.StepLaws.{Summary, QueuedOwn, own_part, own_is_part, fine_summary}
@@ -85,17 +86,17 @@ prefix_queued : (p : ℕ) (r : Request) (own : List Group) (hs : List Frame) →
 prefix_queued p r own hs (inl e) = (groups_of r, ap (λ (g : List Group). g ++ groups_of r) e)
 prefix_queued p r own hs (inr q) = ([], append-nil own ∙ q.own_is)
 
-asks_by : (o : Option ServerFault) (limits : Limits) (a b : ConnSeen) (r : Request) (said : List FrontendMessage) (hs : List Frame) (shown : List Item) (end : End) (items : List CallItem) (copied : Bool) → EndsOn o limits a b r said hs shown end
+asks_by : (o : Option ServerFault) (limits : Limits) (first : StreamSeen) (a b : ConnSeen) (r : Request) (said : List FrontendMessage) (hs : List Frame) (shown : List Item) (end : End) (items : List CallItem) (copied : Bool) → EndsOn o limits first a b r said hs shown end
     → (s : Summary a.ledger r said hs items b.ledger copied) → Queues end (groups_of r) s.own
-asks_by None limits a b r said hs shown (ends.Ok told) items copied h s = fine_own a.ledger r said hs h.0 items b.ledger copied s h.5.0
-asks_by None limits a b r said hs shown (ends.Err e) items copied h s = prefix_queued a.ledger.owed r s.own hs s.queued
-asks_by None limits a b r said hs shown ends.Dropped items copied h s = prefix_queued a.ledger.owed r s.own hs s.queued
-asks_by (Some fault) limits a b r said hs shown end items copied h s = rw h.0 (prefix_queued a.ledger.owed r s.own hs s.queued)
+asks_by None limits first a b r said hs shown (ends.Ok told) items copied h s = fine_own a.ledger r said hs h.0 items b.ledger copied s h.5.0
+asks_by None limits first a b r said hs shown (ends.Err e) items copied h s = prefix_queued a.ledger.owed r s.own hs s.queued
+asks_by None limits first a b r said hs shown ends.Dropped items copied h s = prefix_queued a.ledger.owed r s.own hs s.queued
+asks_by (Some fault) limits first a b r said hs shown end items copied h s = rw h.0 (prefix_queued a.ledger.owed r s.own hs s.queued)
 
-pub queued_step : (o : Option ServerFault) (limits : Limits) (start : StreamSeen) (at : Place) (a b : ConnSeen) (step : Step) (out : Outcome) (said : List FrontendMessage) (fs : List Frame) (shown : List Item) (items : List CallItem) → StandsAt start at a
-    → EndsOn o limits (begun_call (request_of at.depth step.call) a) b (request_of at.depth step.call) said (heard fs) shown out.end → (s : Summary a.ledger (request_of at.depth step.call) said (heard fs) items b.ledger (refuses_copy out.end)) → Queued at step out s.own (heard fs) (next_place at b said s.own fs out.end)
-queued_step o limits start at a b step out said fs shown items st h s = record {
-  asks = asks_by o limits (begun_call (request_of at.depth step.call) a) b (request_of at.depth step.call) said (heard fs) shown out.end items (refuses_copy out.end) h s;
+pub queued_step : (o : Option ServerFault) (limits : Limits) (start first : StreamSeen) (old : Counted) (at : Place) (a b : ConnSeen) (step : Step) (out : Outcome) (said : List FrontendMessage) (fs : List Frame) (shown : List Item) (items : List CallItem) → StandsAt start at a
+    → EndsOn o limits first (asking (request_of at.depth step.call) old a) b (request_of at.depth step.call) said (heard fs) shown out.end → (s : Summary a.ledger (request_of at.depth step.call) said (heard fs) items b.ledger (refuses_copy out.end)) → Queued at step out s.own (heard fs) (next_place at b said s.own fs out.end)
+queued_step o limits start first old at a b step out said fs shown items st h s = record {
+  asks = asks_by o limits first (asking (request_of at.depth step.call) old a) b (request_of at.depth step.call) said (heard fs) shown out.end items (refuses_copy out.end) h s;
   can = λ n. elim s.queued [
     | inl e ↦ absurd (n e)
     | inr q ↦ q.can
@@ -145,6 +146,8 @@ groups_ask (suc left) calls.Commit = refl
 groups_ask zero calls.Rollback = refl
 groups_ask (suc left) calls.Rollback = refl
 groups_ask d calls.StartRollback = refl
+groups_ask d (calls.Describe extended) = refl
+groups_ask d (calls.Run bound) = refl
 
 own_asks : (p : ℕ) (d : ℕ) (call : Call) (own : List Group) (hs : List Frame) → (own ≡ []) ⊎ QueuedOwn p (request_of d call) own hs → asks_of (said_in own) ≡ length own
 own_asks p d call own hs (inl e) = rw e refl
@@ -156,26 +159,44 @@ all_ask at p d call own hs end said q e =
     ap asks_of e ∙ asks-append (replicate n copy_fail ++ said_in own) (fails_of (refuses_copy end))
     ∙ omega (arith, asks-append (replicate n copy_fail) (said_in own), fails_ask n, last_asks (refuses_copy end), own_asks p d call own hs q)
 
-counts_to : (n number : ℕ) → GrewBy n 0 number → CountsTo n number
-counts_to n number g = (omega (arith, g.1), omega (arith, g.2))
+-- what is told of an exchange
+abbrev pub told_of : List Item → End → (groups heard waits moved : ℕ) → Outcome
+told_of shown end groups heard waits moved = record { items = shown; end = end; groups = groups; heard = heard; cache = cache.Same; waits = waits; moved = moved }
 
-pub numbers_step : (start : StreamSeen) (at : Place) (a b : ConnSeen) (d : ℕ) (call : Call) (said : List FrontendMessage) (fs : List Frame) (shown : List Item) (end : End) (items : List CallItem) → StandsAt start at a → Went (begun_call (request_of d call) a) b said fs
-    → (s : Summary a.ledger (request_of d call) said (heard fs) items b.ledger (refuses_copy end)) → Numbers at (outcome_of b shown end) s.own (heard fs) (next_place at b said s.own fs end)
-numbers_step start at a b d call said fs shown end items st w s =
-    let asked = all_ask at a.ledger.owed d call s.own (heard fs) end said s.queued (said_is_queued start at a (request_of d call) said (heard fs) items b.ledger end st s) in
+-- the connection counts the numbers of an outcome on
+pub record CountsOn (old : Counted) (m : ConnSeen) (told : Outcome) : Type 0 where
+  pub groups : GrewBy told.groups old.groups m.groups
+  pub heard : GrewBy told.heard old.heard m.heard
+  pub waits : GrewBy told.waits old.waits m.stream.waits
+  pub moved : GrewBy told.moved old.moves m.stream.moves
+
+pub numbers_step : (start : StreamSeen) (old : Counted) (at : Place) (a b : ConnSeen) (d : ℕ) (call : Call) (said : List FrontendMessage) (fs : List Frame) (shown : List Item) (end : End) (own : List Group) → StandsAt start at a → (w : Went (asking (request_of d call) old a) b said fs)
+    → Numbers at (told_of shown end (length own) (length (heard fs)) (w.tallies.write_waits + w.tallies.read_waits) w.tallies.moved) own (heard fs) (next_place at b said own fs end)
+numbers_step start old at a b d call said fs shown end own st w =
     let t = w.tallies in
     record {
-      groups = subst (λ (n : ℕ). CountsTo n b.groups) asked (counts_to (asks_of said) b.groups w.groups);
-      heard = counts_to (length (heard fs)) b.heard w.heard;
+      groups = refl;
+      heard = refl;
       cache = refl;
       write_waits = t.write_waits;
       read_waits = t.read_waits;
       moves = t.moved;
-      waits = counts_to (t.write_waits + t.read_waits) b.stream.waits t.waits;
-      moved = counts_to t.moved b.stream.moves t.moves;
+      waits = refl;
+      moved = refl;
       writes = rw (← st.seen) t.writes;
       reads = rw (← st.seen) t.reads;
       moving = rw (← st.seen) t.moving;
+    }
+
+pub counts_on : (start : StreamSeen) (old : Counted) (at : Place) (a b : ConnSeen) (d : ℕ) (call : Call) (said : List FrontendMessage) (fs : List Frame) (shown : List Item) (end : End) (items : List CallItem) → StandsAt start at a → (w : Went (asking (request_of d call) old a) b said fs)
+    → (s : Summary a.ledger (request_of d call) said (heard fs) items b.ledger (refuses_copy end)) → CountsOn old b (told_of shown end (length s.own) (length (heard fs)) (w.tallies.write_waits + w.tallies.read_waits) w.tallies.moved)
+counts_on start old at a b d call said fs shown end items st w s =
+    let asked = all_ask at a.ledger.owed d call s.own (heard fs) end said s.queued (said_is_queued start at a (request_of d call) said (heard fs) items b.ledger end st s) in
+    record {
+      groups = subst (λ (n : ℕ). GrewBy n old.groups b.groups) asked w.groups;
+      heard = w.heard;
+      waits = w.tallies.waits;
+      moved = w.tallies.moves;
     }
 
 -- ---- what is told
@@ -189,13 +210,13 @@ answers_error a b r said hs items o (errors.Protocol (protocol.Caller fault)) h 
 answers_error a b r said hs items o (errors.Protocol _) h = absurd h
 answers_error a b r said hs items o _ h = absurd h
 
-error_by : (o : Option ServerFault) (limits : Limits) (a b : ConnSeen) (r : Request) (said : List FrontendMessage) (hs : List Frame) (shown : List Item) (end : End) → EndsOn o limits a b r said hs shown end → AnswersError end hs
-error_by None limits a b r said hs shown (ends.Ok told) h = inl (no_error hs h.5.0.well)
-error_by None limits a b r said hs shown (ends.Err e) (inl (items, k, l, inl h)) = answers_error a b r said hs items b.ledger e h
-error_by None limits a b r said hs shown (ends.Err e) (inl (items, k, l, inr (left, well, fails))) = inl (no_error hs well)
-error_by None limits a b r said hs shown (ends.Err e) (inr (items, k, z, f)) = inl (no_error hs f.well)
-error_by None limits a b r said hs shown ends.Dropped h = inl (no_error hs h.3)
-error_by (Some fault) limits a b r said hs shown end h = inl (subst HasNoError (sym h.2) tt)
+error_by : (o : Option ServerFault) (limits : Limits) (first : StreamSeen) (a b : ConnSeen) (r : Request) (said : List FrontendMessage) (hs : List Frame) (shown : List Item) (end : End) → EndsOn o limits first a b r said hs shown end → AnswersError end hs
+error_by None limits first a b r said hs shown (ends.Ok told) h = inl (no_error hs h.5.0.well)
+error_by None limits first a b r said hs shown (ends.Err e) (inl (items, k, l, inl h)) = answers_error a b r said hs items b.ledger e h
+error_by None limits first a b r said hs shown (ends.Err e) (inl (items, k, l, inr (left, well, fails))) = inl (no_error hs well)
+error_by None limits first a b r said hs shown (ends.Err e) (inr (items, k, z, f)) = inl (no_error hs f.well)
+error_by None limits first a b r said hs shown ends.Dropped h = inl (no_error hs h.3)
+error_by (Some fault) limits first a b r said hs shown end h = inl (subst HasNoError (sym h.2) tt)
 
 -- the own response of a call that came to its end
 pub fine_carries : (start : StreamSeen) (at : Place) (a : ConnSeen) (d : ℕ) (call : Call) (said : List FrontendMessage) (hs : List Frame) (items items' : List CallItem) (ledger : Ledger) (copied : Bool) → StandsAt start at a → (s : Summary a.ledger (request_of d call) said hs items' ledger copied)
@@ -214,24 +235,24 @@ fine_carries start at a d call said hs items items' ledger copied st s f = elim 
     nothing (m ∷ ms) e = absurd cc
 
 well_by : (start : StreamSeen) (at : Place) (a b : ConnSeen) (step : Step) (out : Outcome) (said : List FrontendMessage) (fs : List Frame) (items items' : List CallItem) (answer : CallAnswer) (told : Answer) (response : List BackendMessage) (copied : Bool) → StandsAt start at a
-    → (s : Summary a.ledger (request_of at.depth step.call) said (heard fs) items' b.ledger copied) → (f : IsFine a.ledger (request_of at.depth step.call) said (heard fs) items b.ledger) → answer_to (kind_of (request_of at.depth step.call)) (items_of f.reply) f.status ≡ Ok answer
+    → (s : Summary a.ledger (request_of at.depth step.call) said (heard fs) items' b.ledger copied) → (f : IsFine a.ledger (request_of at.depth step.call) said (heard fs) items b.ledger) → answer_by (request_of at.depth step.call) f.reply f.status ≡ Ok answer
     → out.items ≡ items_with (map item_of items) answer → told ≡ answer_of answer → items_of response ≡ items_of f.reply → b.stream.unsent ≡ [] → IsWell step out told response (heard fs) (next_place at b said s.own fs out.end)
 well_by start at a b step out said fs items items' answer told response copied st s f e k t same sent =
     let xs = items_of f.reply in
     let items_same : items_in response ≡ map item_of xs = items_told response ∙ ap (map item_of) same in
     record {
-      items = k ∙ ap (λ (x : List CallItem). items_with (map item_of x) answer) f.items_are ∙ all_told at.depth step.call xs f.status answer e ∙ ap (shown_by step.call) (sym items_same);
-      answers = t ∙ answer_told at.depth step.call xs f.status answer e ∙ ap (answered_by step.call) (sym items_same);
-      row = λ w z. has_row at.depth step.call xs f.status answer (map item_of items) e w (sym k ∙ z);
+      items = k ∙ ap (λ (x : List CallItem). items_with (map item_of x) answer) f.items_are ∙ all_told at.depth step.call f.reply f.status answer e ∙ ap (shown_by step.call) (sym items_same);
+      answers = t ∙ answer_told at.depth step.call f.reply f.status answer e ∙ ap (answered_by step.call) (sym items_same);
+      row = λ w z. has_row at.depth step.call f.reply f.status answer (map item_of items) e w (sym k ∙ z);
       no_error = no_error (heard fs) f.well;
       answered = omega (arith, st.ledger, s.counted, f.owes, ended_next at fs, length-append at.groups s.own);
       ready = f.ends;
       sent = sent;
     }
 
-told_ok : (limits : Limits) (start : StreamSeen) (at : Place) (a b : ConnSeen) (step : Step) (out : Outcome) (said : List FrontendMessage) (fs : List Frame) (items' : List CallItem) (told : Answer) (copied : Bool) → StandsAt start at a → out.end ≡ ends.Ok told
-    → EndsOn None limits (begun_call (request_of at.depth step.call) a) b (request_of at.depth step.call) said (heard fs) out.items (ends.Ok told) → (s : Summary a.ledger (request_of at.depth step.call) said (heard fs) items' b.ledger copied) → Told at step out s.own (heard fs) (next_place at b said s.own fs out.end)
-told_ok limits start at a b step out said fs items' told copied st e h s =
+told_ok : (limits : Limits) (start first : StreamSeen) (old : Counted) (at : Place) (a b : ConnSeen) (step : Step) (out : Outcome) (said : List FrontendMessage) (fs : List Frame) (items' : List CallItem) (told : Answer) (copied : Bool) → StandsAt start at a → out.end ≡ ends.Ok told
+    → EndsOn None limits first (asking (request_of at.depth step.call) old a) b (request_of at.depth step.call) said (heard fs) out.items (ends.Ok told) → (s : Summary a.ledger (request_of at.depth step.call) said (heard fs) items' b.ledger copied) → Told at step out s.own (heard fs) (next_place at b said s.own fs out.end)
+told_ok limits start first old at a b step out said fs items' told copied st e h s =
     let f = h.5.0 in
     let carried = fine_carries start at a at.depth step.call said (heard fs) h.0 items' b.ledger copied st s f in
     let well = well_by start at a b step out said fs h.0 items' h.1 told carried.0 copied st s f h.5.1 h.2 h.4 carried.2 h.6 in
@@ -241,7 +262,7 @@ told_ok limits start at a b step out said fs items' told copied st e h s =
       shows = ([], append-nil out.items ∙ well.items);
       with_answer = λ w n. let x = sym (ap is_fine e) ∙ n in absurd cc;
       well = λ m. subst (λ (z : End). WellAtOk z step out carried.0 (heard fs) (next_place at b said s.own fs out.end)) (sym e) well;
-      error = subst (λ (z : End). AnswersError z (heard fs)) (sym e) (error_by None limits (begun_call (request_of at.depth step.call) a) b (request_of at.depth step.call) said (heard fs) out.items (ends.Ok told) h);
+      error = subst (λ (z : End). AnswersError z (heard fs)) (sym e) (error_by None limits first (asking (request_of at.depth step.call) old a) b (request_of at.depth step.call) said (heard fs) out.items (ends.Ok told) h);
     }
 
 not_well : (end : End) (step : Step) (out : Outcome) (response : List BackendMessage) (hs : List Frame) (next : Place) → is_fine end ≡ false → WellAtOk end step out response hs next
@@ -266,9 +287,9 @@ shows_by d call out_items items reply p (inl e) =
     first_none [] ys e = refl
     first_none (x ∷ xs) ys e = absurd cc
 
-told_other : (o : Option ServerFault) (limits : Limits) (start : StreamSeen) (at : Place) (a b : ConnSeen) (step : Step) (out : Outcome) (said : List FrontendMessage) (fs : List Frame) (items : List CallItem) → StandsAt start at a → is_fine out.end ≡ false
-    → EndsOn o limits (begun_call (request_of at.depth step.call) a) b (request_of at.depth step.call) said (heard fs) out.items out.end → (s : Summary a.ledger (request_of at.depth step.call) said (heard fs) items b.ledger (refuses_copy out.end)) → ShowsItems out.end out.items items → Told at step out s.own (heard fs) (next_place at b said s.own fs out.end)
-told_other o limits start at a b step out said fs items st n h s k =
+told_other : (o : Option ServerFault) (limits : Limits) (start first : StreamSeen) (old : Counted) (at : Place) (a b : ConnSeen) (step : Step) (out : Outcome) (said : List FrontendMessage) (fs : List Frame) (items : List CallItem) → StandsAt start at a → is_fine out.end ≡ false
+    → EndsOn o limits first (asking (request_of at.depth step.call) old a) b (request_of at.depth step.call) said (heard fs) out.items out.end → (s : Summary a.ledger (request_of at.depth step.call) said (heard fs) items b.ledger (refuses_copy out.end)) → ShowsItems out.end out.items items → Told at step out s.own (heard fs) (next_place at b said s.own fs out.end)
+told_other o limits start first old at a b step out said fs items st n h s k =
     let shows = shows_by at.depth step.call out.items items s.reply s.shows (subst (λ (t : Bool). MatchBool t (Unit {0}) ((out.items ≡ map item_of items) ⊎ (out.items ≡ []))) n k) in
     record {
       response = s.reply;
@@ -276,15 +297,15 @@ told_other o limits start at a b step out said fs items st n h s k =
       shows = shows.0;
       with_answer = λ w z. shows.1 w;
       well = λ m. not_well out.end step out s.reply (heard fs) (next_place at b said s.own fs out.end) n;
-      error = error_by o limits (begun_call (request_of at.depth step.call) a) b (request_of at.depth step.call) said (heard fs) out.items out.end h;
+      error = error_by o limits first (asking (request_of at.depth step.call) old a) b (request_of at.depth step.call) said (heard fs) out.items out.end h;
     }
 
-pub told_step : (o : Option ServerFault) (limits : Limits) (start : StreamSeen) (at : Place) (a b : ConnSeen) (step : Step) (out : Outcome) (said : List FrontendMessage) (fs : List Frame) (items : List CallItem) → StandsAt start at a
-    → EndsOn o limits (begun_call (request_of at.depth step.call) a) b (request_of at.depth step.call) said (heard fs) out.items out.end → (s : Summary a.ledger (request_of at.depth step.call) said (heard fs) items b.ledger (refuses_copy out.end)) → ShowsItems out.end out.items items → Told at step out s.own (heard fs) (next_place at b said s.own fs out.end)
-told_step o limits start at a b step out said fs items st h s k = by o out.end refl h refl
+pub told_step : (o : Option ServerFault) (limits : Limits) (start first : StreamSeen) (old : Counted) (at : Place) (a b : ConnSeen) (step : Step) (out : Outcome) (said : List FrontendMessage) (fs : List Frame) (items : List CallItem) → StandsAt start at a
+    → EndsOn o limits first (asking (request_of at.depth step.call) old a) b (request_of at.depth step.call) said (heard fs) out.items out.end → (s : Summary a.ledger (request_of at.depth step.call) said (heard fs) items b.ledger (refuses_copy out.end)) → ShowsItems out.end out.items items → Told at step out s.own (heard fs) (next_place at b said s.own fs out.end)
+told_step o limits start first old at a b step out said fs items st h s k = by o out.end refl h refl
   where
-    by : (p : Option ServerFault) (end : End) → out.end ≡ end → EndsOn p limits (begun_call (request_of at.depth step.call) a) b (request_of at.depth step.call) said (heard fs) out.items end → o ≡ p → Told at step out s.own (heard fs) (next_place at b said s.own fs out.end)
-    by None (ends.Ok told) e g w = told_ok limits start at a b step out said fs items told (refuses_copy out.end) st e g s
-    by None (ends.Err x) e g w = told_other o limits start at a b step out said fs items st (ap is_fine e) h s k
-    by None ends.Dropped e g w = told_other o limits start at a b step out said fs items st (ap is_fine e) h s k
-    by (Some fault) end e g w = told_other o limits start at a b step out said fs items st (ap is_fine (e ∙ g.0)) h s k
+    by : (p : Option ServerFault) (end : End) → out.end ≡ end → EndsOn p limits first (asking (request_of at.depth step.call) old a) b (request_of at.depth step.call) said (heard fs) out.items end → o ≡ p → Told at step out s.own (heard fs) (next_place at b said s.own fs out.end)
+    by None (ends.Ok told) e g w = told_ok limits start first old at a b step out said fs items told (refuses_copy out.end) st e g s
+    by None (ends.Err x) e g w = told_other o limits start first old at a b step out said fs items st (ap is_fine e) h s k
+    by None ends.Dropped e g w = told_other o limits start first old at a b step out said fs items st (ap is_fine e) h s k
+    by (Some fault) end e g w = told_other o limits start first old at a b step out said fs items st (ap is_fine (e ∙ g.0)) h s k

@@ -14,11 +14,13 @@ use Rattle.pg_stream.specs.Streams.{StreamSeen, Tallies, HasNone}
 use Rattle.pg_call.specs.declared.request.Request.{Request}
 use Rattle.pg_call.specs.declared.answer.CallItem.{CallItem}
 use Rattle.pg_call.specs.declared.answer.CallAnswer.{CallAnswer}
+use Rattle.pg_call.specs.declared.answer.CallAnswer.TheVariants as answers
+use Rattle.pg_call.specs.declared.kind.Kind.TheVariants as kinds
 use Rattle.pg_call.specs.declared.calling.Call.TheVariants as calls
-use Rattle.pg_call.specs.Requests.{spelled, CanBeSaid, IsRefusal, change_of, kind_of}
+use Rattle.pg_call.specs.Requests.{spelled, CanBeSaid, IsRefusal, change_of, kind_of, first_of}
 use Rattle.pg_call.specs.Drains.{is_error}
-use Rattle.pg_call.specs.Calls.{CallIs, CallEnds, IsFine, Leaves}
-use Rattle.pg_conn.specs.Connections.{ConnSeen, idle, begun, ConnOf, settled, cleaned, runs, rolled_back}
+use Rattle.pg_call.specs.Calls.{CallIs, CallEnds, EndsFine, IsFine, Leaves}
+use Rattle.pg_conn.specs.Connections.{ConnSeen, idle, ConnOf, settled, cleaned, handed, runs, rolled_back}
 use Rattle.pg_conn.specs.Turns.{ends_request, EndsBy, is_flushed, HasAllRoom}
 use Rattle.pg_report.specs.declared.outcome.Item.{Item}
 use Rattle.pg_report.specs.declared.outcome.Answer.TheVariants.{Unit as AnswersUnit}
@@ -29,7 +31,7 @@ use Rattle.pg_script.specs.declared.step.Step.{Step}
 use Rattle.pg_startup.specs.Flows.{Flows}
 use Rattle.pg_play.specs.declared.tally.Limits.{Limits}
 use Rattle.pg_play.specs.declared.tally.Tally.{Tally}
-use Rattle.pg_play.specs.Shown.{request_of, has_query, item_of, items_with, has_rows, answer_of, begins_with, acts_at_once}
+use Rattle.pg_play.specs.Shown.{asked_of, has_query, item_of, items_with, has_rows, answer_of, begins_with, acts_at_once}
 use Rattle.pg_play.specs.Waits.{WaitsAt}
 
 -- ---- the tally of a call
@@ -47,7 +49,7 @@ Finishes answer old new (ends.Ok told) = (new.waits ≡ old.waits) × (new.items
 Finishes answer old new (ends.Err e) = (new.waits ≡ old.waits) × (new.items.items ≡ []) × (e ≡ errors.OutOfMemory) × (has_rows answer ≡ true)
 Finishes answer old new ends.Dropped = ⊥
 
--- ---- a call that is played, from the connection a on which it began
+-- ---- an exchange of a call that is played: from the connection a on which it began, and from the first stream, as the call began
 
 -- so many polls had to wait: for the link to take, for it to give, or after 256 moves
 pub record Waited (n : ℕ) (a b : StreamSeen) : Type 0 where
@@ -70,46 +72,60 @@ pub record Went (a b : ConnSeen) (said : List FrontendMessage) (fs : List Frame)
   pub heard : GrewBy (length (heard fs)) a.heard b.heard
   pub started : (b.sent ≡ a.sent) × (b.read ≡ a.read) × (b.depth ≡ a.depth) × (b.change ≡ a.change)
 
--- a call has begun on a connection on which none ran
+-- what the connection counts of a call so far
+pub record Counted : Type 0 where
+  pub groups : ℕ
+  pub heard : ℕ
+  pub waits : ℕ
+  pub moves : ℕ
+
+-- an exchange has begun on a connection on which none ran, and is counted behind these
+abbrev pub asking : Request → Counted → ConnSeen → ConnSeen
+asking request old c = record c { stream = record c.stream { waits = old.waits; moves = old.moves }; call = calls.Asked request; change = change_of (kind_of request); groups = old.groups; heard = old.heard }
+
+abbrev pub none_counted : Counted
+none_counted = record { groups = 0; heard = 0; waits = 0; moves = 0 }
+
+-- a call has begun so with its first exchange
 abbrev pub begun_call : Request → ConnSeen → ConnSeen
-begun_call request c = record c { stream = record c.stream { waits = 0; moves = 0 }; call = calls.Asked request; change = change_of (kind_of request); groups = 0; heard = 0 }
+begun_call request c = asking request none_counted c
 
 -- it was not polled yet
 abbrev pub IsFresh : ConnSeen → ConnSeen → Request → List Frame → Type 0
 IsFresh a b r fs = (b ≡ a) × (a.call ≡ calls.Asked r) × (fs ≡ [])
 
 -- it runs still, and has shown these items
-pub record InPlay (a b : ConnSeen) (r : Request) (waits : ℕ) (items : List CallItem) (said : List FrontendMessage) (fs : List Frame) : Type 0 where
+pub record InPlay (first : StreamSeen) (a b : ConnSeen) (r : Request) (waits : ℕ) (items : List CallItem) (said : List FrontendMessage) (fs : List Frame) : Type 0 where
   pub went : Went a b said fs
   pub broken : b.broken ≡ None
   pub call : CallIs a.ledger r said (heard fs) items b.ledger b.call
   pub asked : a.change ≡ change_of (kind_of r)
   pub room : HasAllRoom a → HasAllRoom b
-  pub waited : Waited waits a.stream b.stream
-  -- each of its polls waited or showed an item
-  pub calls : b.stream.link.calls ≤ a.stream.link.calls + 256 * (waits + length items)
+  -- the polls are those of the whole call: each waited or showed an item
+  pub waited : Waited waits first b.stream
+  pub calls : b.stream.link.calls ≤ first.link.calls + 256 * (waits + length items)
   -- what the first poll ends was not polled yet
   pub unsaid : (CanBeSaid r → ⊥) → IsFresh a b r fs
   pub unflushed : is_flushed a ≡ true → IsFresh a b r fs
 
 -- on a connection that is whole, or is broken, with fewer items than it may show
-abbrev pub IsPlayingOn : Option ServerFault → ℕ → ConnSeen → ConnSeen → Request → ℕ → List Item → Type 0
-IsPlayingOn None most a b r waits shown = (items : List CallItem) × (said : List FrontendMessage) × (fs : List Frame) × (shown ≡ map item_of items) × (length shown < most) × InPlay a b r waits items said fs
-IsPlayingOn (Some fault) most a b r waits shown = (b ≡ a) × (shown ≡ []) × (a.groups ≡ 0)
+abbrev pub IsPlayingOn : Option ServerFault → ℕ → StreamSeen → ConnSeen → ConnSeen → Request → ℕ → List Item → Type 0
+IsPlayingOn None most first a b r waits shown = (items : List CallItem) × (said : List FrontendMessage) × (fs : List Frame) × (shown ≡ map item_of items) × (length shown < most) × InPlay first a b r waits items said fs
+IsPlayingOn (Some fault) most first a b r waits shown = (b ≡ a) × (shown ≡ []) × (a.groups ≡ 0) × (first ≡ a.stream)
 
-abbrev pub IsPlaying : ℕ → ConnSeen → ConnSeen → Request → ℕ → List Item → Type 0
-IsPlaying most a b r waits shown = IsPlayingOn a.broken most a b r waits shown
+abbrev pub IsPlaying : ℕ → StreamSeen → ConnSeen → ConnSeen → Request → ℕ → List Item → Type 0
+IsPlaying most first a b r waits shown = IsPlayingOn a.broken most first a b r waits shown
 
 -- the last poll waited: for the link to take; after 256 moves; or for it to give, with all sent, no whole frame held, and a reply owed
-abbrev pub EndsStarved : ConnSeen → ConnSeen → Type 0
-EndsStarved a b =
+abbrev pub EndsStarved : StreamSeen → ConnSeen → ConnSeen → Type 0
+EndsStarved first a b =
     Rose a.stream.link.write_waits b.stream.link.write_waits
-    ⊎ (RoseBy 256 a.stream.moves b.stream.moves
+    ⊎ (RoseBy 256 first.moves b.stream.moves
     ⊎ ((b.stream.unsent ≡ []) × HasNone b.stream.held × (0 < b.ledger.owed)))
 
 -- why a call was dropped
-abbrev pub IsDropped : Limits → ConnSeen → ConnSeen → List Item → Type 0
-IsDropped limits a b shown = (Waited limits.polls a.stream b.stream × EndsStarved a b) ⊎ (length shown ≡ limits.most)
+abbrev pub IsDropped : Limits → StreamSeen → ConnSeen → ConnSeen → List Item → Type 0
+IsDropped limits first a b shown = (Waited limits.polls first b.stream × EndsStarved first a b) ⊎ (length shown ≡ limits.most)
 
 -- the fault that broke the connection is kept
 abbrev pub broken_after : Option ServerFault → End → Option ServerFault
@@ -122,14 +138,14 @@ EndsByError most a b r said hs shown e =
     ((items : List CallItem) × (shown ≡ map item_of items) × (length shown < most) × EndsBy a b a.ledger r said hs items e)
     ⊎ ((items : List CallItem) × (shown ≡ []) × (e ≡ errors.OutOfMemory) × IsFine a.ledger r said hs items b.ledger)
 
--- what the end of a call says of all that it queued, heard and showed
-abbrev pub EndsOn : Option ServerFault → Limits → ConnSeen → ConnSeen → Request → List FrontendMessage → List Frame → List Item → End → Type 0
-EndsOn None limits a b r said hs shown (ends.Ok told) =
+-- what the end of an exchange says of all that it queued, heard and showed
+abbrev pub EndsOn : Option ServerFault → Limits → StreamSeen → ConnSeen → ConnSeen → Request → List FrontendMessage → List Frame → List Item → End → Type 0
+EndsOn None limits first a b r said hs shown (ends.Ok told) =
     (items : List CallItem) × (answer : CallAnswer) × (shown ≡ items_with (map item_of items) answer) × (length items < limits.most) × (told ≡ answer_of answer) × CallEnds a.ledger r said hs items b.ledger (Ok answer) × (b.stream.unsent ≡ [])
-EndsOn None limits a b r said hs shown (ends.Err e) = EndsByError limits.most a b r said hs shown e
-EndsOn None limits a b r said hs shown ends.Dropped =
-    (items : List CallItem) × (shown ≡ map item_of items) × Leaves a.ledger r said hs items b.ledger false × (count_by is_error hs ≡ 0) × IsDropped limits a b shown × (length shown ≤ limits.most)
-EndsOn (Some fault) limits a b r said hs shown end =
+EndsOn None limits first a b r said hs shown (ends.Err e) = EndsByError limits.most a b r said hs shown e
+EndsOn None limits first a b r said hs shown ends.Dropped =
+    (items : List CallItem) × (shown ≡ map item_of items) × Leaves a.ledger r said hs items b.ledger false × (count_by is_error hs ≡ 0) × IsDropped limits first a b shown × (length shown ≤ limits.most)
+EndsOn (Some fault) limits first a b r said hs shown end =
     (end ≡ ends.Err (errors.Protocol (protocol.Server fault))) × (said ≡ []) × (hs ≡ []) × (shown ≡ []) × (idle b ≡ idle a)
 
 -- a call waits in fewer polls than it may have, or is dropped
@@ -140,9 +156,9 @@ WaitsFew polls waits end = (end ≢ ends.Dropped → waits < polls) × (waits �
 abbrev pub HasWaitedFew : ℕ → StreamSeen → StreamSeen → End → Type 0
 HasWaitedFew polls a b end = (waits : ℕ) × Waited waits a b × WaitsFew polls waits end
 
--- the first poll ended it, and did nothing else
+-- the first poll ended it, and did nothing else; how many link calls it may make is no matter
 abbrev pub StaysIdle : ConnSeen → ConnSeen → List Frame → List Item → Type 0
-StaysIdle a b fs shown = (shown ≡ []) × (fs ≡ []) × (record b { broken = None } ≡ idle (begun a))
+StaysIdle a b fs shown = (shown ≡ []) × (fs ≡ []) × (record b { broken = None; stream = record b.stream { left = a.stream.left } } ≡ idle a)
 
 -- what the first poll ends: what no frame can say, and a flush with nothing to do
 pub record EndsAtOnce (a b : ConnSeen) (r : Request) (shown : List Item) (end : End) (fs : List Frame) : Type 0 where
@@ -150,18 +166,28 @@ pub record EndsAtOnce (a b : ConnSeen) (r : Request) (shown : List Item) (end : 
   pub flushed : is_flushed a ≡ true → (end ≡ ends.Ok AnswersUnit) × StaysIdle a b fs shown
 
 -- it was played to this end
-pub record Ended (limits : Limits) (a b : ConnSeen) (r : Request) (shown : List Item) (end : End) (said : List FrontendMessage) (fs : List Frame) : Type 0 where
+pub record Ended (limits : Limits) (first : StreamSeen) (a b : ConnSeen) (r : Request) (shown : List Item) (end : End) (said : List FrontendMessage) (fs : List Frame) : Type 0 where
   pub went : Went a b said fs
   pub broken : b.broken ≡ broken_after a.broken end
   pub kept : (fault : ServerFault) → a.broken ≡ Some fault → fs ≡ []
-  pub few : HasWaitedFew limits.polls a.stream b.stream end
+  pub few : HasWaitedFew limits.polls first b.stream end
   pub room : HasAllRoom a → HasAllRoom b
-  pub calls : b.stream.link.calls ≤ a.stream.link.calls + 256 * (limits.polls + limits.most)
+  pub calls : b.stream.link.calls ≤ first.link.calls + 256 * (limits.polls + limits.most)
   pub at_once : a.broken ≡ None → EndsAtOnce a b r shown end fs
-  pub ends : EndsOn a.broken limits a b r said (heard fs) shown end
+  pub ends : EndsOn a.broken limits first a b r said (heard fs) shown end
 
-abbrev pub HasEnded : Limits → ConnSeen → ConnSeen → Request → List Item → End → Type 0
-HasEnded limits a b r shown end = (said : List FrontendMessage) × (fs : List Frame) × Ended limits a b r shown end said fs
+-- no further exchange comes behind one that asks this
+abbrev pub IsLast : Request → Type 0
+IsLast r = kind_of r ≡ kinds.Describe → ⊥
+
+-- an exchange that ends so ends its call: one that hands on ends Ok
+abbrev pub EndsCall : Request → End → Type 0
+EndsCall r (ends.Ok told) = IsLast r
+EndsCall r _ = Unit {0}
+
+-- it was played to this end, which is the call's
+abbrev pub HasEnded : Limits → StreamSeen → ConnSeen → ConnSeen → Request → List Item → End → Type 0
+HasEnded limits first a b r shown end = (said : List FrontendMessage) × (fs : List Frame) × Ended limits first a b r shown end said fs × EndsCall r end
 
 -- what is made of a connection on which a call has come to this end
 abbrev pub behind_end : {A : Type 0} → End → ConnOf A → ConnOf A
@@ -169,14 +195,47 @@ behind_end (ends.Ok answer) c = settled c
 behind_end _ c = cleaned c
 
 -- It stopped at this connection, of which this was made: its call has ended, or it runs still and is to be given up.
-abbrev pub StopsBy : Limits → ConnSeen → ConnSeen → Request → List Item → End → Type 0
-StopsBy limits a b r shown end = (stopped : ConnSeen) × HasEnded limits a stopped r shown end
+abbrev pub StopsBy : Limits → StreamSeen → ConnSeen → ConnSeen → Request → List Item → End → Type 0
+StopsBy limits first a b r shown end = (stopped : ConnSeen) × HasEnded limits first a stopped r shown end
     × (((stopped.call ≡ calls.Idle) × (b ≡ behind_end end stopped)) ⊎ ((runs stopped.call ≡ true) × (b ≡ stopped) × (behind_end end stopped ≡ cleaned stopped)))
+
+-- ---- a call that is played: of one exchange, or of a description and of what is run behind it
+
+-- An exchange ended Ok, and handed on the next one. It showed nothing, and m is where it stopped, in the midst of a poll.
+pub record HandedOn (polls : ℕ) (first : StreamSeen) (a m : ConnSeen) (r next : Request) : Type 0 where
+  pub said : List FrontendMessage
+  pub fs : List Frame
+  pub went : Went a m said fs
+  pub whole : (a.broken ≡ None) × (m.broken ≡ None)
+  pub asked : a.change ≡ change_of (kind_of r)
+  pub room : HasAllRoom a → HasAllRoom m
+  pub over : m.call ≡ calls.Idle
+  pub ends : EndsFine a.ledger r said (heard fs) [] m.ledger (Ok (answers.Next next)) × (m.stream.unsent ≡ [])
+  -- its first poll did not end it
+  pub can : CanBeSaid r
+  pub flush : is_flushed a ≡ false
+  -- the polls that waited before this one
+  pub waits : ℕ
+  pub waited : Waited waits first m.stream
+  pub few : waits < polls
+  pub calls : m.stream.link.calls ≤ first.link.calls + 256 * polls
+
+-- the next exchange begins on this connection
+abbrev pub handed_from : ConnSeen → Request → ConnSeen
+handed_from m next = handed next (settled m)
+
+-- This holds of the exchange that came last, from the connection on which it began: of the call's only one so far, or of the one that its first handed on.
+abbrev pub OfLast : ℕ → StreamSeen → (ConnSeen → Request → Type 0) → ConnSeen → Request → Type 0
+OfLast polls first P a r = P a r ⊎ ((m : ConnSeen) × (next : Request) × HandedOn polls first a m r next × P (handed_from m next) next)
+
+-- a call runs, polls being counted from its begin
+abbrev pub IsCallPlaying : Limits → ConnSeen → ConnSeen → Request → ℕ → List Item → Type 0
+IsCallPlaying limits a b r waits shown = OfLast limits.polls a.stream (λ at asked. IsPlaying limits.most a.stream at b asked waits shown) a r
 
 -- whatever came before, a poll goes on by so much
 abbrev pub PollGives : Limits → ConnSeen → ConnSeen → Request → ℕ → List Item → Option End → Type 0
-PollGives limits a b r waits shown None = IsPlaying limits.most a b r waits shown
-PollGives limits a b r waits shown (Some end) = StopsBy limits a b r shown end
+PollGives limits a b r waits shown None = IsCallPlaying limits a b r waits shown
+PollGives limits a b r waits shown (Some end) = OfLast limits.polls a.stream (λ at asked. StopsBy limits a.stream at b asked shown end) a r
 
 -- ---- the whole step
 
@@ -195,9 +254,13 @@ untouched end = record { items = []; end = end; groups = 0; heard = 0; cache = c
 abbrev pub outcome_of : ConnSeen → List Item → End → Outcome
 outcome_of b shown end = record { items = shown; end = end; groups = b.groups; heard = b.heard; cache = cache.Same; waits = b.stream.waits; moved = b.stream.moves }
 
--- a call that was polled, on the connection as it began
+-- an exchange that ended the call, on the connection as it began
+abbrev pub PlaysOne : Limits → StreamSeen → ConnSeen → ConnSeen → Request → Outcome → Type 0
+PlaysOne limits first a b r out = (stopped : ConnSeen) × HasEnded limits first a stopped r out.items out.end × (stopped.call ≡ calls.Idle) × (b ≡ behind_end out.end stopped) × (out ≡ outcome_of b out.items out.end)
+
+-- a call that was polled, on the connection as it began: what ended it is its only exchange, or the one that its first handed on
 abbrev pub PlaysCall : Limits → ConnSeen → ConnSeen → Request → Outcome → Type 0
-PlaysCall limits a b r out = (stopped : ConnSeen) × HasEnded limits a stopped r out.items out.end × (stopped.call ≡ calls.Idle) × (b ≡ behind_end out.end stopped) × (out ≡ outcome_of b out.items out.end)
+PlaysCall limits a b r out = OfLast limits.polls a.stream (λ at asked. PlaysOne limits a.stream at b asked out) a r
 
 -- the outcome of a rollback without waiting
 abbrev pub rolled_outcome : ConnSeen → Outcome
@@ -211,7 +274,7 @@ PlaysPolled a b step out =
     × ((((begins_with step.call ≡ true) × (0 < a.depth)) × (b ≡ a) × (out ≡ untouched (ends.Err errors.InvalidSavePointStatement)))
     ⊎ (((begins_with step.call ≡ true) × (0 < a.depth) → ⊥)
     × (((b ≡ a) × (out ≡ untouched (ends.Err errors.OutOfMemory)) × (has_query step.call ≡ true))
-    ⊎ (a.call ≡ calls.Idle → PlaysCall (limits_of step) (begun_call (request_of a.depth step.call) a) b (request_of a.depth step.call) out)))))
+    ⊎ (a.call ≡ calls.Idle → PlaysCall (limits_of step) (begun_call (first_of (asked_of a.depth step.call)) a) b (first_of (asked_of a.depth step.call)) out)))))
 
 -- a step: a rollback without waiting, or one whose call is polled
 abbrev pub PlaysStep : ConnSeen → ConnSeen → Step → Outcome → Type 0

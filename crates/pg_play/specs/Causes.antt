@@ -13,10 +13,12 @@ use Rattle.pg_wire.specs.Frame.{Frame, bytes_of, backend_tags, IsWhole}
 use Rattle.pg_wire.specs.Parts.{is_asynchronous}
 use Rattle.pg_wire.specs.Backend.{BackendMessage, backend_frame, HasBackendFrame, ErrorResponse, ReadyForQuery}
 use Rattle.pg_wire.specs.Refusals.{BeginsCopyResponse}
+use Rattle.pg_exchanges.specs.Expecting.{Widths, BeginsKnowing}
 use Rattle.pg_stream.specs.Links.{Rose}
 use Rattle.pg_stream.specs.Streams.{HeaderFault, HasNone, IsMalformedFront}
 use Rattle.pg_call.specs.declared.judging.Part.{Part}
-use Rattle.pg_call.specs.Requests.{Group, kind_of, groups_of, CanBeSaid, IsRefusal}
+use Rattle.pg_call.specs.Requests.{Group, groups_of, widths_of, CanBeSaid, IsRefusal}
+use Rattle.pg_call.specs.declared.request.Request.{Request}
 use Rattle.pg_call.specs.Replies.{awaits_first, part_after, may_copy}
 use Rattle.pg_call.specs.Calls.{HasMessage}
 use Rattle.pg_report.specs.declared.outcome.Answer.TheVariants.{Unit as AnswersUnit}
@@ -43,8 +45,9 @@ pub record IsFront (next : Place) (front : Frame) : Type 0 where
 abbrev pub HasNoMessage : Frame → Type 0
 HasNoMessage frame = (m : BackendMessage) → HasBackendFrame m → backend_frame m ≡ frame → ⊥
 
--- the front is in its format; but behind what has come of the response, it begins no response of any server to the group, copies allowed
-pub record IsUnlawful (at : Place) (own : List Group) (slice : List Frame) (next : Place) (tag : ℕ) : Type 0 where
+-- the front is in its format; but behind what has come of the response, it begins no response of any server to the group, copies allowed, whose
+-- statement has the columns that are known
+pub record IsUnlawful (widths : Widths) (at : Place) (own : List Group) (slice : List Frame) (next : Place) (tag : ℕ) : Type 0 where
   pub front : Frame
   pub is_front : IsFront next front
   pub tagged : tag ≡ front.tag
@@ -52,13 +55,13 @@ pub record IsUnlawful (at : Place) (own : List Group) (slice : List Frame) (next
   pub group : Group
   pub last : own ≡ group ∷ []
   pub in_own : ended next ≡ length at.groups
-  pub none : BeginsCopyResponse group (main_frames at own slice ++ front ∷ []) → ⊥
+  pub none : BeginsKnowing widths group (main_frames at own slice ++ front ∷ []) → ⊥
 
 -- a fault of the server: a header, or the frame in front, shows it
-abbrev pub ShowsFault : Place → List Group → List Frame → Place → ServerFault → Type 0
-ShowsFault at own slice next (faults.Malformed tag) = IsMalformedFront next.seen.held tag ⊎ ((front : Frame) × IsFront next front × (tag ≡ front.tag) × HasNoMessage front)
-ShowsFault at own slice next (faults.Unlawful tag) = IsUnlawful at own slice next tag
-ShowsFault at own slice next fault = HeaderFault next.seen.held fault
+abbrev pub ShowsFault : Widths → Place → List Group → List Frame → Place → ServerFault → Type 0
+ShowsFault widths at own slice next (faults.Malformed tag) = IsMalformedFront next.seen.held tag ⊎ ((front : Frame) × IsFront next front × (tag ≡ front.tag) × HasNoMessage front)
+ShowsFault widths at own slice next (faults.Unlawful tag) = IsUnlawful widths at own slice next tag
+ShowsFault widths at own slice next fault = HeaderFault next.seen.held fault
 
 -- the last frame heard begins a copy, which some server begins there in its response to the own group, and which nobody has asked for
 pub record IsAskedToCopy (at : Place) (step : Step) (own : List Group) (slice : List Frame) (tag : ℕ) : Type 0 where
@@ -71,7 +74,7 @@ pub record IsAskedToCopy (at : Place) (step : Step) (own : List Group) (slice : 
   pub before : List BackendMessage
   pub part : Part
   pub says : Carry (main_frames at own slice) (before ++ last ∷ [])
-  pub so_far : part_after (awaits_first (kind_of (request_of at.depth step.call))) before ≡ Some part
+  pub so_far : part_after (awaits_first (request_of at.depth step.call)) before ≡ Some part
   pub copies : may_copy part last ≡ true
   pub lawful : (group : Group) → own ≡ group ∷ [] → BeginsCopyResponse group (main_frames at own slice)
 
@@ -105,7 +108,7 @@ Causes at step own slice next errors.OutOfMemory = Unit {0}
 Causes at step own slice next (errors.Io io.Fault) = Rose at.seen.link.faults next.seen.link.faults
 Causes at step own slice next (errors.Io io.End) = Rose at.seen.link.ends next.seen.link.ends × (next.seen.unsent ≡ []) × (ended next < length next.groups)
 Causes at step own slice next (errors.Database details) = (front : List Frame) × (slice ≡ front ++ backend_frame (ErrorResponse details) ∷ []) × HasBackendFrame (ErrorResponse details)
-Causes at step own slice next (errors.Protocol (protocol.Server fault)) = (at.broken ≡ Some fault) ⊎ ShowsFault at own slice next fault
+Causes at step own slice next (errors.Protocol (protocol.Server fault)) = (at.broken ≡ Some fault) ⊎ ShowsFault (widths_of (request_of at.depth step.call)) at own slice next fault
 Causes at step own slice next (errors.Protocol (protocol.Reply tag)) = IsAskedToCopy at step own slice tag
 Causes at step own slice next (errors.Protocol (protocol.Caller fault)) = (own ≡ []) × (slice ≡ []) × IsRefusal (request_of at.depth step.call) (errors.Protocol (protocol.Caller fault))
 Causes at step own slice next errors.RowNotFound = HasNoRow at step own slice next
@@ -130,10 +133,11 @@ AnsweredPending out polls = (spent : ℕ) × (out.waits + spent ≡ polls) × (2
 abbrev pub IsDropped : Place → Step → Outcome → Place → Type 0
 IsDropped at step out next = IsUnpolled step ⊎ ((AnsweredPending out step.polls × IsStarved at out next) ⊎ (length out.items ≡ step.most))
 
-abbrev pub HasCause : Place → Step → Outcome → List Group → List Frame → Place → End → Type 0
-HasCause at step out own slice next (ends.Ok answer) = Unit {0}
-HasCause at step out own slice next (ends.Err e) = Causes at step own slice next e
-HasCause at step out own slice next ends.Dropped = IsDropped at step out next
+-- an exchange's end has its cause; why a step is dropped, all of its polls say
+abbrev pub HasCause : Place → Step → List Group → List Frame → Place → End → Type 0
+HasCause at step own slice next (ends.Ok answer) = Unit {0}
+HasCause at step own slice next (ends.Err e) = Causes at step own slice next e
+HasCause at step own slice next ends.Dropped = Unit {0}
 
 -- ---- ends that are due
 
@@ -141,7 +145,12 @@ HasCause at step out own slice next ends.Dropped = IsDropped at step out next
 abbrev pub StaysAt : Place → Place → Type 0
 StaysAt at next = next ≡ record at { seen = record at.seen { left = next.seen.left; waits = next.seen.waits; moves = next.seen.moves } }
 
-pub record EndsDuly (at : Place) (step : Step) (out : Outcome) (next : Place) : Type 0 where
+-- so it is on a broken connection, which answers no other fault than its own
+abbrev pub KeepsFault : ServerFault → Place → End → Place → Type 0
+KeepsFault fault at end next = StaysAt at next × ((other : ServerFault) → end ≡ ends.Err (errors.Protocol (protocol.Server other)) → other ≡ fault)
+
+-- the step began by asking this
+pub record EndsDuly (at : Place) (step : Step) (first : Request) (out : Outcome) (next : Place) : Type 0 where
   -- a text of its own opens no savepoint: that is refused before all else
   pub savepoint : (IsUnpolled step → ⊥) → OpensSavepoint at step → (out ≡ untouched (ends.Err errors.InvalidSavePointStatement)) × (next ≡ at)
   -- an unpolled step does nothing
@@ -150,7 +159,7 @@ pub record EndsDuly (at : Place) (step : Step) (out : Outcome) (next : Place) : 
   pub kept : (fault : ServerFault) → at.broken ≡ Some fault → (IsUnpolled step → ⊥) → (OpensSavepoint at step → ⊥)
       → ((out ≡ untouched (ends.Err (errors.Protocol (protocol.Server fault)))) ⊎ (out ≡ untouched (ends.Err errors.OutOfMemory))) × (next ≡ record at { seen = record at.seen { waits = next.seen.waits; moves = next.seen.moves } })
   -- what no frame can say is refused at once, where the connection is whole, or memory is wanting; and nothing else is done
-  pub refused : at.broken ≡ None → (IsUnpolled step → ⊥) → (OpensSavepoint at step → ⊥) → (CanBeSaid (request_of at.depth step.call) → ⊥) → (e : Error) × IsRefusal (request_of at.depth step.call) e × (out ≡ untouched (ends.Err e)) × StaysAt at next
+  pub refused : at.broken ≡ None → (IsUnpolled step → ⊥) → (OpensSavepoint at step → ⊥) → (CanBeSaid first → ⊥) → (e : Error) × IsRefusal first e × (out ≡ untouched (ends.Err e)) × StaysAt at next
   -- a flush with nothing owed and nothing unsent is Ok at once, where the connection is whole; and nothing else is done
   pub flushed : at.broken ≡ None → (IsUnpolled step → ⊥) → step.call ≡ calls.Flush → owed at ≡ 0 → at.seen.unsent ≡ [] → (out ≡ untouched (ends.Ok AnswersUnit)) × StaysAt at next
   -- fewer of its polls than it has answer `Pending`, or it is dropped

@@ -20,7 +20,7 @@ use Rattle.pg_report.specs.declared.outcome.End.TheVariants as ends
 use Rattle.pg_report.specs.declared.outcome.Outcome.{Outcome}
 use Rattle.pg_script.specs.declared.step.Call.{Call}
 use Rattle.pg_script.specs.declared.step.Step.{Step}
-use Rattle.pg_play.specs.Shown.{request_of, wants_row, begins, begins_with}
+use Rattle.pg_play.specs.Shown.{request_of, IsPartOf, wants_row, begins, begins_with}
 use Rattle.pg_play.specs.Places.{Place}
 
 -- From this link up to this place no read or write failed, and no read told the end. In all that was read the server kept the protocol: no
@@ -41,7 +41,7 @@ abbrev pub IsFairError : Call → Error → Type 0
 IsFairError call errors.OutOfMemory = Unit {0}
 IsFairError call (errors.Database details) = Unit {0}
 IsFairError call errors.RowNotFound = wants_row call ≡ true
-IsFairError call (errors.Protocol (protocol.Caller fault)) = (depth : ℕ) × IsRefusal (request_of depth call) (errors.Protocol (protocol.Caller fault))
+IsFairError call (errors.Protocol (protocol.Caller fault)) = (depth : ℕ) × (part : Call) × IsPartOf call part × IsRefusal (request_of depth part) (errors.Protocol (protocol.Caller fault))
 IsFairError call (errors.BeginFailed status) = (begins call ≡ true) × (status ≢ statuses.Transaction)
 IsFairError call errors.InvalidSavePointStatement = begins_with call ≡ true
 IsFairError call _ = ⊥

@@ -21,7 +21,7 @@ statuses first heard = map (λ frame. frame.body) (backend_frame (ReadyForQuery 
 abbrev pub SaysIdle : List (List ℕ) → ℕ → Type 0
 SaysIdle told n = (body : List ℕ) → slice_get told n ≡ Some body → body ≡ codes "I"
 
--- What a server makes of the groups of a step, which are answered by the numbers behind those of the groups before.
+-- What a server makes of the groups of an exchange, which are answered by the numbers behind those of the groups before.
 pub record KeepsOrder (idle : ℕ → Type 0) (at : Place) (step : Step) (own cleanup : List Group) (slice : List Frame) (ended_at : Place) : Type 0 where
   -- only what is to begin a transaction opens one
   pub others : begins step.call ≡ false → own ≢ [] → idle (length at.groups) → idle (length at.groups + 1)

@@ -2,13 +2,15 @@
 use Rattle.std.specs.Prelude.{◌≡◌, ◌≢◌, ℕ, ◌+◌, ◌*◌, ◌<◌, false, List, [], ◌∷◌, ◌++◌, length, map, flat_map, Some, None, Ok, sum_by, count_by, ◌≤◌, true, ◌-◌, ◌^◌}
 use Rattle.pg_play.specs.Idles.{KeepsOrder, SaysIdle, statuses}
 use Rattle.pg_report.specs.declared.outcome.Answer.TheVariants.{Unit as AnswersUnit}
-use Rattle.pg_play.specs.Calls.{untouched}
-use Rattle.pg_play.specs.Shown.{acts_at_once}
+use Rattle.pg_play.specs.Calls.{untouched, limits_of}
+use Rattle.pg_play.specs.Shown.{acts_at_once, asked_of, first_call, next_call}
 use Rattle.pg_play.specs.Settling.{Settles}
 use Rattle.std.specs.List.{AllByRecursion}
 use Rattle.pg_wire.specs.declared.error.Error.TheVariants as errors
 use Rattle.pg_wire.specs.declared.error.ProtocolFault.TheVariants as protocol
+use Rattle.pg_wire.specs.declared.error.ServerFault.{ServerFault}
 use Rattle.pg_wire.specs.declared.error.ServerFault.TheVariants as faults
+use Rattle.pg_request.specs.declared.progress.CacheStep.TheVariants as cache
 use Rattle.pg_wire.specs.Frame.{Frame, backend_tags, text_of}
 use Rattle.pg_wire.specs.Cut.{Cuts}
 use Rattle.pg_wire.specs.Parts.{heard, parts}
@@ -20,10 +22,11 @@ use Rattle.pg_wire.specs.Groups.{IsGroup, AnswerGroups}
 use Rattle.pg_stream.specs.Links.{LinkSeen, NoneFalls, GrewBy}
 use Rattle.pg_stream.specs.Streams.{StreamSeen, Sends}
 use Rattle.pg_call.specs.declared.calling.Call.TheVariants as calls
-use Rattle.pg_call.specs.Requests.{Group, said_in, spelled}
+use Rattle.pg_call.specs.Requests.{Group, said_in, spelled, first_of}
 use Rattle.pg_call.specs.Drains.{is_copy_in, after_readys}
 use Rattle.pg_conn.specs.Connections.{ConnSeen}
 use Rattle.pg_conn.specs.Turns.{ends_request, HasAllRoom}
+use Rattle.pg_report.specs.declared.outcome.End.{End}
 use Rattle.pg_report.specs.declared.outcome.End.TheVariants as ends
 use Rattle.pg_report.specs.declared.outcome.Outcome.{Outcome}
 use Rattle.pg_report.specs.declared.outcome.Started.{Started}
@@ -36,18 +39,21 @@ use Rattle.pg_startup.specs.Exchange.{client_of}
 use Rattle.pg_startup.specs.Flows.{Flows}
 use Rattle.pg_startup.specs.Handshake.{IsHandshake, IsSecured}
 use Rattle.pg_play.specs.Starts.{Opening, HasWaitedLess}
-use Rattle.pg_play.specs.Places.{Place, Queued, queued_by, ended, owed, first_place}
+use Rattle.pg_play.specs.Places.{Place, Queued, queued_by, ended, owed, first_place, is_fine}
 use Rattle.pg_play.specs.Told.{Told, Numbers, CountsTo}
-use Rattle.pg_play.specs.Causes.{HasCause, EndsDuly, IsFront}
+use Rattle.pg_play.specs.Causes.{HasCause, IsDropped, EndsDuly, KeepsFault, IsFront}
 use Rattle.pg_play.specs.Complete.{WhereFaultless}
 use Rattle.pg_play.specs.WaitPlaces.{WaitPlaces, LastPlaces}
 
--- where all that was heard, the frame in front too, are replies of a server to the groups, no step is told that they are unlawful
+-- where all that was heard, the frame in front too, are replies of a server to the groups, no exchange is told that they are unlawful
 abbrev pub IsNeverUnlawful : Place → Outcome → Place → Type 0
 IsNeverUnlawful at out next = (tag : ℕ) (front : Frame) → at.broken ≡ None → out.end ≡ ends.Err (errors.Protocol (protocol.Server (faults.Unlawful tag))) → IsFront next front
     → MayHear (said_in next.groups) (heard next.frames ++ front ∷ []) → ⊥
 
--- what the call of a step queued and heard, why it ended so, and what is told of it
+-- ---- an exchange: a request group and its response
+
+-- What its call queued and heard, why it ended so, and what is told of it. A step describes the exchange: its call is what the exchange asks, and
+-- its polls are those of all exchanges of one call.
 pub record Plays_call (at : Place) (step : Step) (out : Outcome) (next : Place) : Type 0 where
   pub own : List Group
   pub slice : List Frame
@@ -56,15 +62,14 @@ pub record Plays_call (at : Place) (step : Step) (out : Outcome) (next : Place) 
   pub sends : Sends at.seen next.seen (spelled (queued_by at own slice out.end))
   pub told : Told at step out own slice next
   pub numbers : Numbers at out own slice next
-  -- at most 256 calls of the link for each poll that it may have, and for each item that it may show
-  pub calls : next.seen.link.calls ≤ at.seen.link.calls + 256 * (step.polls + step.most)
-  pub cause : HasCause at step out own slice next out.end
+  pub cause : HasCause at step own slice next out.end
   -- a rollback without waiting is no call
   pub at_once : acts_at_once step.call ≡ true → (out ≡ untouched (ends.Ok AnswersUnit)) × (next ≡ at)
-  pub duly : acts_at_once step.call ≡ false → EndsDuly at step out next
+  -- nor does a broken connection do anything
+  pub kept : (fault : ServerFault) → at.broken ≡ Some fault → KeepsFault fault at out.end next
 
--- a step: its call, and what the connection makes of its end
-pub record Plays_step (at : Place) (step : Step) (out : Outcome) (next : Place) : Type 0 where
+-- an exchange: its call, and what the connection makes of the call's end
+pub record Plays_exchange (at : Place) (step : Step) (out : Outcome) (next : Place) : Type 0 where
   pub told : Outcome
   pub ended_at : Place
   pub call : Plays_call at step told ended_at
@@ -75,6 +80,76 @@ pub record Plays_step (at : Place) (step : Step) (out : Outcome) (next : Place) 
   -- the replies owed behind it are the Query and Sync messages queued, less the ReadyForQuery messages taken
   pub ledger : ended next + owed next ≡ count_by ends_request next.said
 
+-- one outcome for each exchange, each from the place where the one before it ended
+abbrev pub Plays_exchanges : Place → List Step → List Outcome → Place → Type 0
+Plays_exchanges at [] [] last = last ≡ at
+Plays_exchanges at (step ∷ steps) (out ∷ outs) last = (next : Place) × Plays_exchange at step out next × Plays_exchanges next steps outs last
+Plays_exchanges at [] (out ∷ outs) last = ⊥
+Plays_exchanges at (step ∷ steps) [] last = ⊥
+
+-- What comes behind an exchange that ended so: the next one, where there is one to ask; and it ended Ok, where one comes.
+abbrev pub Hands : Step → End → List BackendMessage → List Step → Type 0
+Hands step end response [] = is_fine end ≡ true → next_call step.call response ≡ None
+Hands step end response (next ∷ later) = (end ≡ ends.Ok AnswersUnit) × (next_call step.call response ≡ Some next.call)
+
+-- so it is with each exchange
+abbrev pub HandsOn : (at : Place) (steps : List Step) (outs : List Outcome) (last : Place) → Plays_exchanges at steps outs last → Type 0
+HandsOn at [] [] last run = Unit {0}
+HandsOn at (step ∷ steps) (out ∷ outs) last run = Hands step out.end run.1.call.told.response steps × HandsOn run.0 steps outs last run.2
+HandsOn at [] (out ∷ outs) last run = ⊥
+HandsOn at (step ∷ steps) [] last run = ⊥
+
+-- where the call of the last exchange stopped, or a place before, where there is none
+abbrev pub stopped_at : Place → (at : Place) (steps : List Step) (outs : List Outcome) (last : Place) → Plays_exchanges at steps outs last → Place
+stopped_at before at [] [] last run = before
+stopped_at before at (step ∷ steps) (out ∷ outs) last run = stopped_at run.1.ended_at run.0 steps outs last run.2
+stopped_at before at [] (out ∷ outs) last run = absurd run
+stopped_at before at (step ∷ steps) [] last run = absurd run
+
+-- the last outcome, or one before, where there is none
+abbrev pub last_of : Outcome → List Outcome → Outcome
+last_of before [] = before
+last_of before (out ∷ outs) = last_of out outs
+
+-- ---- a step: exchanges one after another
+
+-- the first exchange of a step is that of its call
+abbrev pub FirstIs : Step → List Step → Type 0
+FirstIs step [] = ⊥
+FirstIs step (first ∷ later) = first ≡ record step { call = first_call step.call }
+
+-- What a step tells of the outcomes of its exchanges: the items and the end of the last, and their numbers in sum.
+pub record TellsAll (outs : List Outcome) (out : Outcome) : Type 0 where
+  pub items : out.items ≡ (last_of out outs).items
+  pub ends : out.end ≡ (last_of out outs).end
+  pub groups : CountsTo (sum_by (λ one. one.groups) outs) out.groups
+  pub heard : CountsTo (sum_by (λ one. one.heard) outs) out.heard
+  pub waits : out.waits ≡ sum_by (λ one. one.waits) outs
+  pub moved : CountsTo (sum_by (λ one. one.moved) outs) out.moved
+  pub cache : out.cache ≡ cache.Same
+
+-- a rollback without waiting counts its group, and no call was made for it
+abbrev pub ActsAtOnce : Place → Outcome → Place → Type 0
+ActsAtOnce at out stop = (out ≡ record (untouched (ends.Ok AnswersUnit)) { groups = out.groups }) × (stop ≡ at)
+
+-- The exchanges of a step, what it tells of them, and what is said of all of its polls.
+pub record Plays_step (at : Place) (step : Step) (out : Outcome) (next : Place) : Type 0 where
+  pub exchanges : List Step
+  pub outs : List Outcome
+  pub run : Plays_exchanges at exchanges outs next
+  pub first : FirstIs step exchanges
+  pub limits : AllByRecursion (λ exchange. limits_of exchange ≡ limits_of step) exchanges
+  pub hands : HandsOn at exchanges outs next run
+  pub tells : TellsAll outs out
+  -- the call of the last exchange stopped here
+  pub stop : Place
+  pub stops : stop ≡ stopped_at at at exchanges outs next run
+  -- at most 256 calls of the link for each poll that it may have, and for each item that it may show
+  pub calls : next.seen.link.calls ≤ at.seen.link.calls + 256 * (step.polls + step.most)
+  pub dropped : out.end ≡ ends.Dropped → IsDropped at step out stop
+  pub at_once : acts_at_once step.call ≡ true → ActsAtOnce at out stop
+  pub duly : acts_at_once step.call ≡ false → EndsDuly at step (first_of (asked_of at.depth step.call)) out stop
+
 -- one outcome for each step, each from the place where the one before it ended
 abbrev pub Plays_from : Place → List Step → List Outcome → Place → Type 0
 Plays_from at [] [] last = last ≡ at
@@ -82,17 +157,33 @@ Plays_from at (step ∷ steps) (out ∷ outs) last = (next : Place) × Plays_ste
 Plays_from at [] (out ∷ outs) last = ⊥
 Plays_from at (step ∷ steps) [] last = ⊥
 
--- the server keeps this order in each step
+-- ---- where the server's session is idle
+
+-- the server keeps this order in each exchange
+abbrev pub AreOrderlyIn : (idle : ℕ → Type 0) (at : Place) (steps : List Step) (outs : List Outcome) (last : Place) → Plays_exchanges at steps outs last → Type 0
+AreOrderlyIn idle at [] [] last run = Unit {0}
+AreOrderlyIn idle at (step ∷ steps) (out ∷ outs) last run = KeepsOrder idle at step run.1.call.own run.1.settles.cleanup run.1.call.slice run.1.ended_at × AreOrderlyIn idle run.0 steps outs last run.2
+AreOrderlyIn idle at [] (out ∷ outs) last run = ⊥
+AreOrderlyIn idle at (step ∷ steps) [] last run = ⊥
+
+-- and so in each step
 abbrev pub AreOrderly : (idle : ℕ → Type 0) (at : Place) (steps : List Step) (outs : List Outcome) (last : Place) → Plays_from at steps outs last → Type 0
 AreOrderly idle at [] [] last run = Unit {0}
-AreOrderly idle at (step ∷ steps) (out ∷ outs) last run = KeepsOrder idle at step run.1.call.own run.1.settles.cleanup run.1.call.slice run.1.ended_at × AreOrderly idle run.0 steps outs last run.2
+AreOrderly idle at (step ∷ steps) (out ∷ outs) last run = AreOrderlyIn idle at run.1.exchanges run.1.outs run.0 run.1.run × AreOrderly idle run.0 steps outs last run.2
 AreOrderly idle at [] (out ∷ outs) last run = ⊥
 AreOrderly idle at (step ∷ steps) [] last run = ⊥
 
--- behind each step, where nothing is open, the response to the last group queued ends idle
+-- behind each exchange, where nothing is open, the response to the last group queued ends idle
+abbrev pub AreIdleIn : (idle : ℕ → Type 0) (at : Place) (steps : List Step) (outs : List Outcome) (last : Place) → Plays_exchanges at steps outs last → Type 0
+AreIdleIn idle at [] [] last run = Unit {0}
+AreIdleIn idle at (step ∷ steps) (out ∷ outs) last run = (run.0.depth ≡ 0 → idle (length run.0.groups)) × AreIdleIn idle run.0 steps outs last run.2
+AreIdleIn idle at [] (out ∷ outs) last run = ⊥
+AreIdleIn idle at (step ∷ steps) [] last run = ⊥
+
+-- and so behind each step
 abbrev pub AreIdle : (idle : ℕ → Type 0) (at : Place) (steps : List Step) (outs : List Outcome) (last : Place) → Plays_from at steps outs last → Type 0
 AreIdle idle at [] [] last run = Unit {0}
-AreIdle idle at (step ∷ steps) (out ∷ outs) last run = (run.0.depth ≡ 0 → idle (length run.0.groups)) × AreIdle idle run.0 steps outs last run.2
+AreIdle idle at (step ∷ steps) (out ∷ outs) last run = AreIdleIn idle at run.1.exchanges run.1.outs run.0 run.1.run × AreIdle idle run.0 steps outs last run.2
 AreIdle idle at [] (out ∷ outs) last run = ⊥
 AreIdle idle at (step ∷ steps) [] last run = ⊥
 
@@ -100,10 +191,19 @@ AreIdle idle at (step ∷ steps) [] last run = ⊥
 abbrev pub IdlesWhereOrderly : (told : List (List ℕ)) (at : Place) (steps : List Step) (outs : List Outcome) (last : Place) → Plays_from at steps outs last → Type 0
 IdlesWhereOrderly told at steps outs last run = SaysIdle told 0 → AreOrderly (SaysIdle told) at steps outs last run → AreIdle (SaysIdle told) at steps outs last run
 
--- the places at which the reads of all steps waited, in order
+-- ---- where reads waited
+
+-- the places at which the reads of exchanges waited, in order
+abbrev pub places_of : (at : Place) (steps : List Step) (outs : List Outcome) (last : Place) → Plays_exchanges at steps outs last → List ℕ
+places_of at [] [] last run = []
+places_of at (step ∷ steps) (out ∷ outs) last run = run.1.waits.places ++ places_of run.0 steps outs last run.2
+places_of at [] (out ∷ outs) last run = absurd run
+places_of at (step ∷ steps) [] last run = absurd run
+
+-- and those of all steps
 abbrev pub places_in : (at : Place) (steps : List Step) (outs : List Outcome) (last : Place) → Plays_from at steps outs last → List ℕ
 places_in at [] [] last run = []
-places_in at (step ∷ steps) (out ∷ outs) last run = run.1.waits.places ++ places_in run.0 steps outs last run.2
+places_in at (step ∷ steps) (out ∷ outs) last run = places_of at run.1.exchanges run.1.outs run.0 run.1.run ++ places_in run.0 steps outs last run.2
 places_in at [] (out ∷ outs) last run = absurd run
 places_in at (step ∷ steps) [] last run = absurd run
 
@@ -111,10 +211,17 @@ places_in at (step ∷ steps) [] last run = absurd run
 abbrev pub AreTakenBefore : List ℕ → List ℕ → List Frame → ℕ → Type 0
 AreTakenBefore start given taken place = (bytes : List ℕ) × (place ≡ length start + length bytes) × IsPrefixOf (start ++ bytes) given × ((frames : List Frame) (rest : List ℕ) → Cuts backend_tags bytes frames rest → IsPrefixOf frames taken)
 
--- the whole frames before each place of a step are taken by the end of that step
+-- the whole frames before each place of an exchange are taken by the end of that exchange
+abbrev pub TakesInTimeIn : (start given : List ℕ) (at : Place) (steps : List Step) (outs : List Outcome) (last : Place) → Plays_exchanges at steps outs last → Type 0
+TakesInTimeIn start given at [] [] last run = Unit {0}
+TakesInTimeIn start given at (step ∷ steps) (out ∷ outs) last run = AllByRecursion (AreTakenBefore start given run.0.frames) run.1.waits.places × TakesInTimeIn start given run.0 steps outs last run.2
+TakesInTimeIn start given at [] (out ∷ outs) last run = ⊥
+TakesInTimeIn start given at (step ∷ steps) [] last run = ⊥
+
+-- and so in each step
 abbrev pub TakesInTime : (start given : List ℕ) (at : Place) (steps : List Step) (outs : List Outcome) (last : Place) → Plays_from at steps outs last → Type 0
 TakesInTime start given at [] [] last run = Unit {0}
-TakesInTime start given at (step ∷ steps) (out ∷ outs) last run = AllByRecursion (AreTakenBefore start given run.0.frames) run.1.waits.places × TakesInTime start given run.0 steps outs last run.2
+TakesInTime start given at (step ∷ steps) (out ∷ outs) last run = TakesInTimeIn start given at run.1.exchanges run.1.outs run.0 run.1.run × TakesInTime start given run.0 steps outs last run.2
 TakesInTime start given at [] (out ∷ outs) last run = ⊥
 TakesInTime start given at (step ∷ steps) [] last run = ⊥
 
@@ -219,7 +326,7 @@ pub record Plays (opening : Opening) (polls : ℕ) (first last : LinkSeen) (star
   pub at_link : place.seen.link ≡ last
   pub totals : Totals begins.link last outs
   pub waits : LastPlaces first last outs (places_in (first_place begins) steps outs place plays)
-  -- the whole frames that the link gave behind the handshake and before a wait are taken by the end of the wait's step
+  -- the whole frames that the link gave behind the handshake and before a wait are taken by the end of the wait's exchange
   pub in_time : (old new : List ℕ) → first.given ≡ Some old → last.given ≡ Some new → TakesInTime (old ++ bytes.read) new (first_place begins) steps outs place plays
   -- Where start-up's session is idle, and the server opens transactions for what is to begin one alone, it is idle again wherever none is open and all is answered, as long
   -- as the replies owed can be counted.

@@ -14,7 +14,7 @@ use Rattle.pg_script.specs.declared.step.Step.{Step}
 use Rattle.pg_play.specs.Places.{Place, main_frames}
 use Rattle.pg_play.specs.Told.{Told, Carry}
 
--- a step of this call whose own reply is that of `SELECT 1`, and what its outcome tells
+-- an exchange of this call whose own reply is that of `SELECT 1`, and what its outcome tells
 pub record TellsSelected (call : Call) (out : Outcome) : Type 0 where
   pub at : Place
   pub step : Step

@@ -1,4 +1,4 @@
--- What a connection makes of a step's end, once its call has ended or was dropped.
+-- What a connection makes of an exchange's end, once its call has ended or was dropped.
 use Rattle.std.specs.Prelude.{◌≡◌, ℕ, zero, suc, ◌+◌, ◌-◌, ◌^◌, min, Bool, not, ◌&&◌, List, [], ◌∷◌, ◌++◌, length, nat_eq, ltb, if◌then◌else◌}
 use Rattle.pg_call.specs.Requests.{Group, said_in, spelled}
 use Rattle.pg_conn.specs.Connections.{rollback}
@@ -9,7 +9,6 @@ use Rattle.pg_script.specs.declared.step.Call.TheVariants as calls
 use Rattle.pg_script.specs.declared.step.Step.{Step}
 use Rattle.pg_play.specs.Shown.{begins}
 use Rattle.pg_play.specs.Places.{Place, owed, is_fine}
-use Rattle.pg_play.specs.Told.{CountsTo}
 
 -- how many transactions and savepoints are open behind it: a begin that is Ok opens one, and a commit and a rollback that are close one
 abbrev pub depth_after : ℕ → Call → End → ℕ
@@ -36,7 +35,7 @@ abbrev pub failed_behind : List Group → Place → Bool
 failed_behind [] at = at.is_copy_failed
 failed_behind (group ∷ groups) at = not (nat_eq (owed at) 0) && at.is_copy_failed
 
--- From the place where the step's call ended, of which this was told, the connection comes to the next one, which no step waits for.
+-- From the place where the exchange's call ended, of which this was told, the connection comes to the next one, which no exchange waits for.
 pub record Settles (at : Place) (step : Step) (told out : Outcome) (own : List Group) (ended_at next : Place) : Type 0 where
   pub cleanup : List Group
   pub cleans : cleanup ≡ cleanup_of at.depth step.call told.end own (owed ended_at)
@@ -50,4 +49,4 @@ pub record Settles (at : Place) (step : Step) (told out : Outcome) (own : List G
   pub broken : next.broken ≡ ended_at.broken
   -- the outcome counts the groups of the cleanup too
   pub outcome : out ≡ record told { groups = out.groups }
-  pub counted : CountsTo (length own + length cleanup) out.groups
+  pub counted : out.groups ≡ length own + length cleanup

@@ -1,7 +1,11 @@
 -- What the call of a step asks, what it shows of the response to it, and what it answers.
-use Rattle.std.specs.Prelude.{ℕ, ◌-◌, ◌^◌, min, Bool, true, false, List, [], ◌∷◌, filter, flat_map, map, take, sum_by, Option, Some, None, zero, suc}
+use Rattle.std.specs.Prelude.{◌≡◌, ◌⊎◌, ℕ, ◌-◌, ◌^◌, min, Bool, true, false, List, [], ◌∷◌, length, filter, flat_map, map, take, sum_by, Option, Some, None, zero, suc}
 use Rattle.pg_wire.specs.Backend.{Values, BackendMessage, DataRow, CommandComplete}
 use Rattle.pg_wire.specs.Completion.{rows_affected}
+use Rattle.pg_request.specs.Queries.{QueryText, ArgumentsSeen}
+use Rattle.pg_exchanges.specs.Answering.{described}
+use Rattle.pg_call.specs.declared.kind.How.{How}
+use Rattle.pg_call.specs.declared.kind.How.TheVariants as hows
 use Rattle.pg_call.specs.declared.request.Request.{Request}
 use Rattle.pg_call.specs.declared.request.Request.TheVariants as requests
 use Rattle.pg_call.specs.declared.answer.CallItem.{CallItem}
@@ -37,6 +41,43 @@ request_of depth (calls.BeginWith query) = requests.BeginWith query
 request_of depth calls.Commit = ending requests.Commit depth
 request_of depth calls.Rollback = ending requests.Rollback depth
 request_of depth calls.StartRollback = requests.Flush
+request_of depth (calls.Describe extended) = requests.Describe extended
+request_of depth (calls.Run bound) = requests.Run bound
+
+-- what a step asks: what is but an exchange of a call asks nothing
+abbrev pub asked_of : ℕ → Call → Request
+asked_of depth (calls.Describe extended) = requests.Flush
+asked_of depth (calls.Run bound) = requests.Flush
+asked_of depth call = request_of depth call
+
+-- ---- the exchanges of a call
+
+-- a query with arguments is described first (PostgreSQL manual, "Extended Query")
+abbrev pub first_as : How → QueryText → Option ArgumentsSeen → Call → Call
+first_as how query None call = call
+first_as how query (Some arguments) call = calls.Describe (record { how = how; sql = query.sql; arguments = arguments })
+
+-- the first exchange of a call
+abbrev pub first_call : Call → Call
+first_call (calls.Execute query) = first_as hows.Execute query query.arguments (calls.Execute query)
+first_call (calls.ExecuteMany query) = first_as hows.ExecuteMany query query.arguments (calls.ExecuteMany query)
+first_call (calls.Fetch query) = first_as hows.Fetch query query.arguments (calls.Fetch query)
+first_call (calls.FetchMany query) = first_as hows.FetchMany query query.arguments (calls.FetchMany query)
+first_call (calls.FetchAll query) = first_as hows.FetchAll query query.arguments (calls.FetchAll query)
+first_call (calls.FetchOptional query) = first_as hows.FetchOptional query query.arguments (calls.FetchOptional query)
+first_call (calls.FetchOne query) = first_as hows.FetchOne query query.arguments (calls.FetchOne query)
+first_call (calls.Describe extended) = calls.Flush
+first_call (calls.Run bound) = calls.Flush
+first_call call = call
+
+-- the one behind it: the statement is run, whose columns were described
+abbrev pub next_call : Call → List BackendMessage → Option Call
+next_call (calls.Describe extended) response = Some (calls.Run (record { how = extended.how; arguments = extended.arguments; width = Some (length (described response)) }))
+next_call call response = None
+
+-- an exchange is one of this call
+abbrev pub IsPartOf : Call → Call → Type 0
+IsPartOf call part = (part ≡ first_call call) ⊎ ((response : List BackendMessage) × (next_call (first_call call) response ≡ Some part))
 
 -- whether it has a query, which a connection gets a copy of
 abbrev pub has_query : Call → Bool
@@ -87,39 +128,60 @@ abbrev pub count_of : Item → ℕ
 count_of (Count n) = n
 count_of _ = 0
 
--- what a call shows of the items of its response
+-- what a query shows of the items of its response
+abbrev pub shown_as : How → List Item → List Item
+shown_as hows.Execute items = []
+shown_as hows.ExecuteMany items = filter is_count items
+shown_as hows.Fetch items = filter is_row items
+shown_as hows.FetchMany items = items
+shown_as hows.FetchAll items = filter is_row items
+shown_as hows.FetchOptional items = take 1 (filter is_row items)
+shown_as hows.FetchOne items = take 1 (filter is_row items)
+
+-- how a call runs a query; a description, and what has none, shows nothing
+abbrev pub how_of : Call → Option How
+how_of (calls.Execute query) = Some hows.Execute
+how_of (calls.ExecuteMany query) = Some hows.ExecuteMany
+how_of (calls.Fetch query) = Some hows.Fetch
+how_of (calls.FetchMany query) = Some hows.FetchMany
+how_of (calls.FetchAll query) = Some hows.FetchAll
+how_of (calls.FetchOptional query) = Some hows.FetchOptional
+how_of (calls.FetchOne query) = Some hows.FetchOne
+how_of (calls.Run bound) = Some bound.how
+how_of call = None
+
+abbrev pub shown_how : Option How → List Item → List Item
+shown_how None items = []
+shown_how (Some how) items = shown_as how items
+
 abbrev pub shown_by : Call → List Item → List Item
-shown_by (calls.Execute query) items = []
-shown_by (calls.ExecuteMany query) items = filter is_count items
-shown_by (calls.Fetch query) items = filter is_row items
-shown_by (calls.FetchMany query) items = items
-shown_by (calls.FetchAll query) items = filter is_row items
-shown_by (calls.FetchOptional query) items = take 1 (filter is_row items)
-shown_by (calls.FetchOne query) items = take 1 (filter is_row items)
-shown_by calls.Ping items = []
-shown_by calls.Flush items = []
-shown_by calls.Begin items = []
-shown_by (calls.BeginWith query) items = []
-shown_by calls.Commit items = []
-shown_by calls.Rollback items = []
-shown_by calls.StartRollback items = []
+shown_by call items = shown_how (how_of call) items
 
 -- whether it shows them with its answer, and so none without it
+abbrev pub waits_how : Option How → Bool
+waits_how (Some hows.FetchAll) = true
+waits_how (Some hows.FetchOptional) = true
+waits_how (Some hows.FetchOne) = true
+waits_how how = false
+
 abbrev pub waits_to_show : Call → Bool
-waits_to_show (calls.FetchAll query) = true
-waits_to_show (calls.FetchOptional query) = true
-waits_to_show (calls.FetchOne query) = true
-waits_to_show _ = false
+waits_to_show call = waits_how (how_of call)
 
 -- what it answers where all went well: execute the sum of the counts, up to u64's greatest value
+abbrev pub answered_how : Option How → List Item → Answer
+answered_how (Some hows.Execute) items = Total (min (sum_by count_of items) (2 ^ 64 - 1))
+answered_how how items = AnswersUnit
+
 abbrev pub answered_by : Call → List Item → Answer
-answered_by (calls.Execute query) items = Total (min (sum_by count_of items) (2 ^ 64 - 1))
-answered_by _ items = AnswersUnit
+answered_by call items = answered_how (how_of call) items
 
 -- whether it must have a row
+abbrev pub wants_how : Option How → Bool
+wants_how (Some hows.FetchOne) = true
+wants_how how = false
+
 abbrev pub wants_row : Call → Bool
-wants_row (calls.FetchOne query) = true
-wants_row _ = false
+wants_row call = wants_how (how_of call)
 
 -- ---- what a connection's call shows and answers, as outcomes tell it
 

@@ -1,4 +1,4 @@
--- What a step's outcome tells of the frames that it heard.
+-- What an exchange's outcome tells of the frames that it heard.
 use Rattle.std.specs.Prelude.{◌≡◌, ◌≢◌, ℕ, ◌+◌, ◌-◌, ◌≤◌, ◌^◌, min, true, false, ◌⊎◌, List, [], ◌∷◌, ◌++◌, length, map}
 use Rattle.std.specs.List.{AllByRecursion}
 use Rattle.pg_wire.specs.declared.error.Error.TheVariants as errors
@@ -46,7 +46,7 @@ abbrev pub AnswersError : End → List Frame → Type 0
 AnswersError end slice = HasNoError slice
     ⊎ ((front : List Frame) × (details : List ErrorField) × HasNoError front × (slice ≡ front ++ backend_frame (ErrorResponse details) ∷ []) × (end ≡ ends.Err (errors.Database details)))
 
--- The messages of the response to the step's own group, as far as it was heard, and what the outcome tells of them.
+-- The messages of the response to the exchange's own group, as far as it was heard, and what its outcome tells of them.
 pub record Told (at : Place) (step : Step) (out : Outcome) (own : List Group) (slice : List Frame) (next : Place) : Type 0 where
   pub response : List BackendMessage
   pub says : Carry (main_frames at own slice) response
@@ -60,16 +60,16 @@ pub record Told (at : Place) (step : Step) (out : Outcome) (own : List Group) (s
 abbrev pub CountsTo : ℕ → ℕ → Type 0
 CountsTo n number = (number ≤ n) × (min n (2 ^ 64 - 1) ≤ number)
 
--- The numbers of an outcome: groups queued, frames heard, and the link's waits and moves in this step.
+-- The numbers of an exchange's outcome, which no type bounds: groups queued, frames heard, and the link's waits and moves.
 pub record Numbers (at : Place) (out : Outcome) (own : List Group) (slice : List Frame) (next : Place) : Type 0 where
-  pub groups : CountsTo (length own) out.groups
-  pub heard : CountsTo (length slice) out.heard
+  pub groups : out.groups ≡ length own
+  pub heard : out.heard ≡ length slice
   pub cache : out.cache ≡ cache.Same
   pub write_waits : ℕ
   pub read_waits : ℕ
   pub moves : ℕ
-  pub waits : CountsTo (write_waits + read_waits) out.waits
-  pub moved : CountsTo moves out.moved
+  pub waits : out.waits ≡ write_waits + read_waits
+  pub moved : out.moved ≡ moves
   pub writes : GrewBy write_waits at.seen.link.write_waits next.seen.link.write_waits
   pub reads : GrewBy read_waits at.seen.link.read_waits next.seen.link.read_waits
   pub moving : GrewBy moves at.seen.link.moved next.seen.link.moved

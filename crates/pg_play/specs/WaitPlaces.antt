@@ -1,4 +1,4 @@
--- The link's wait places, step by step.
+-- The link's wait places, exchange by exchange.
 use Rattle.std.specs.Prelude.{◌≡◌, ℕ, ◌+◌, List, ◌++◌, length, Some, IfSome, sum_by}
 use Rattle.std.specs.Io.KnownBytes.{Appends}
 use Rattle.std.specs.List.{AllByRecursion}
@@ -8,20 +8,20 @@ use Rattle.pg_report.specs.declared.outcome.Outcome.{Outcome}
 use Rattle.pg_play.specs.Places.{Place}
 use Rattle.pg_play.specs.Waits.{IsWaitPlace}
 
--- Where the reads of a step waited.
+-- Where the reads of an exchange waited.
 pub record WaitPlaces (at : Place) (out : Outcome) (next : Place) : Type 0 where
-  -- the bytes that the link gave in the step, behind all that was read before
+  -- the bytes that the link gave in the exchange, behind all that was read before
   pub bytes : List ℕ
   pub gave : Appends at.seen.link.given next.seen.link.given bytes
   pub read : text_of at.frames ++ at.seen.held ++ bytes ≡ text_of next.frames ++ next.seen.held
   -- the places that the link added, where it tells them and its bytes
   pub places : List ℕ
   pub told : IfSome at.seen.link.given (λ given. Appends at.seen.link.wait_places next.seen.link.wait_places places)
-  -- each wait of the step has its place, but for those of writes
+  -- each wait of the exchange has its place, but for those of writes
   pub write_waits : ℕ
   pub all : write_waits + length places ≡ out.waits
   pub writes : GrewBy write_waits at.seen.link.write_waits next.seen.link.write_waits
-  -- the whole frames given before a wait are taken by the end of the step
+  -- the whole frames given before a wait are taken by the end of the exchange
   pub behind : AllByRecursion (IsWaitPlace at.seen.link.given (text_of at.frames ++ at.seen.held) bytes next.frames) places
 
 -- Where the link tells its bytes and its wait places, the last of these are those of the steps, in order. Where no write waited, there are as

@@ -1,5 +1,5 @@
 ghost use Rattle.std.specs.Prelude.{◌≡◌, true, IfOk, OnErr};
-ghost use Rattle.pg_play.specs.Shown.{request_of, has_query};
+ghost use Rattle.pg_play.specs.Shown.{asked_of, has_query};
 
 use pg_conn::Request;
 use pg_script::Call;
@@ -8,7 +8,7 @@ use std::alloc::Global;
 
 /// What the call of a step asks of a connection on which so many transactions and savepoints are open, in a copy of its own.
 pub(crate) fn request_of(alloc: Global, depth: u64, call: &Call) -> Result<Request, Error>
-    ensures ok { IfOk result (λ r. r ≡ request_of depth call.now) }
+    ensures ok { IfOk result (λ r. r ≡ asked_of depth call.now) }
     ensures err { OnErr result (has_query call.now ≡ true) }
 {
     Ok(match call {
@@ -24,6 +24,11 @@ pub(crate) fn request_of(alloc: Global, depth: u64, call: &Call) -> Result<Reque
         Call::BeginWith(query) => Request::BeginWith(query.to_copy(alloc)?),
         Call::Commit if depth > 0 => Request::Commit(depth - 1),
         Call::Rollback if depth > 0 => Request::Rollback(depth - 1),
-        Call::Commit | Call::Rollback | Call::Flush | Call::StartRollback => Request::Flush,
+        Call::Commit
+        | Call::Rollback
+        | Call::Flush
+        | Call::StartRollback
+        | Call::Describe(_)
+        | Call::Run(_) => Request::Flush,
     })
 }

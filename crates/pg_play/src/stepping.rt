@@ -3,7 +3,8 @@ ghost use Rattle.pg_request.specs.declared.progress.CacheStep.TheVariants as cac
 ghost use Rattle.pg_conn.specs.Connections.{ConnSeen, seen_by, runs};
 ghost use Rattle.pg_call.specs.declared.calling.Call.TheVariants as states;
 ghost use Rattle.pg_call.specs.declared.request.Request.{Request};
-ghost use Rattle.pg_play.specs.Calls.{IsPlaying, PollGives, PlaysCall, PlaysPolled, PlaysStep, begun_call, untouched};
+ghost use Rattle.pg_call.specs.Requests.{first_of};
+ghost use Rattle.pg_play.specs.Calls.{IsCallPlaying, PollGives, PlaysCall, PlaysPolled, PlaysStep, begun_call, untouched};
 
 use crate::asking::request_of;
 use crate::tally::{Limits, Tally};
@@ -23,7 +24,7 @@ fn poll_once<L: Link>(
 ) -> Option<End>
     requires runs { runs conn.old.call ≡ true }
     requires waits { tally.old.waits < limits.polls }
-    ensures gives { (a : ConnSeen) (r : Request) → IsPlaying limits.most a (seen_by L.seen conn.old) r tally.old.waits tally.old.items.items
+    ensures gives { (a : ConnSeen) (r : Request) → IsCallPlaying limits a (seen_by L.seen conn.old) r tally.old.waits tally.old.items.items
         → PollGives limits a (seen_by L.seen conn.new) r tally.new.waits tally.new.items.items result }
     ensures goes { result ≡ None → tally.new.waits < limits.polls }
     ensures falls { result ≡ None → (limits.polls - tally.new.waits) + (2 ^ 64 - length tally.new.items.items) < (limits.polls - tally.old.waits) + (2 ^ 64 - length tally.old.items.items) }
@@ -81,7 +82,7 @@ fn play_call<L: Link>(
 ) -> Outcome
     requires polls { 0 < limits.polls }
     requires most { 0 < limits.most }
-    ensures { conn.old.call ≡ states.Idle → PlaysCall limits (begun_call request (seen_by L.seen conn.old)) (seen_by L.seen conn.new) request result }
+    ensures { conn.old.call ≡ states.Idle → PlaysCall limits (begun_call (first_of request) (seen_by L.seen conn.old)) (seen_by L.seen conn.new) (first_of request) result }
 {
     conn.start(request);
     let mut tally = Tally::new(alloc);

@@ -1,5 +1,5 @@
 use Rattle.pg_conn.specs.Connections.{seen_by}
-use Rattle.pg_play.proofs.CallLaws.{poll_goes, poll_drops, poll_ok, poll_err, poll_item}
+use Rattle.pg_play.proofs.ThroughLaws.{poll_goes, poll_drops, poll_ok, poll_err, poll_item}
 use Rattle.pg_play.proofs.stepping.poll_once.Goals as goal
 
 pub returns-then-tally-limits-clause-gives : goal.returns-then-tally-limits-clause-gives
@@ -8,7 +8,7 @@ returns-then-tally-limits-clause-gives g c a r i =
 
 pub returns-else-tally-limits-clause-gives : goal.returns-else-tally-limits-clause-gives
 returns-else-tally-limits-clause-gives g c a r i =
-    poll_goes c.args.limits a (seen_by g.L.Link.seen c.args.conn.now) (seen_by g.L.Link.seen c.poll_call.new.self) r c.args.tally.now.waits c.args.tally.now.items.items i c.in-Pending.ensures
+    poll_goes c.args.limits a (seen_by g.L.Link.seen c.args.conn.now) (seen_by g.L.Link.seen c.poll_call.new.self) r c.args.tally.now.waits c.args.tally.now.items.items c.requires.waits i c.in-Pending.ensures
 
 pub returns-in-Ready-Item-clause-gives : goal.returns-in-Ready-Item-clause-gives
 returns-in-Ready-Item-clause-gives g c a r i =

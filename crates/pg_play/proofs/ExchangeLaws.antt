@@ -1,0 +1,229 @@
+-- The exchanges of a call.
+use Rattle.std.proofs.Common.{◌≡◌, ℕ, zero, suc, Bool, true, false, List, [], refl, sym, ap, ◌∙◌, length, Option, Some, None, Result, Ok, inl, inr}
+use Rattle.std.proofs.lemmas.Option.{same_Some}
+use Rattle.pg_wire.specs.declared.error.Error.{Error}
+use Rattle.pg_wire.specs.declared.status.TransactionStatus.{TransactionStatus}
+use Rattle.pg_wire.specs.Backend.{BackendMessage}
+use Rattle.pg_request.specs.Queries.{QueryText, ArgumentsSeen}
+use Rattle.pg_exchanges.specs.Answering.{described}
+use Rattle.pg_call.specs.declared.kind.How.{How}
+use Rattle.pg_call.specs.declared.kind.How.TheVariants as hows
+use Rattle.pg_call.specs.declared.kind.Kind.TheVariants as kinds
+use Rattle.pg_call.specs.declared.request.Extended.{Extended}
+use Rattle.pg_call.specs.declared.request.Bound.{Bound}
+use Rattle.pg_call.specs.declared.request.Request.{Request}
+use Rattle.pg_call.specs.declared.request.Request.TheVariants as requests
+use Rattle.pg_call.specs.declared.answer.CallAnswer.{CallAnswer}
+use Rattle.pg_call.specs.declared.answer.CallAnswer.TheVariants as answers
+use Rattle.pg_call.specs.Requests.{kind_of, widths_of, first_by, first_of}
+use Rattle.pg_call.specs.Calls.{answer_by}
+use Rattle.pg_script.specs.declared.step.Call.{Call}
+use Rattle.pg_script.specs.declared.step.Call.TheVariants as calls
+use Rattle.pg_play.specs.Shown.{request_of, asked_of, first_as, first_call, next_call, IsPartOf, how_of, waits_to_show, wants_row, wants_how, acts_at_once, begins, begins_with}
+use Rattle.pg_play.specs.Calls.{IsLast}
+
+-- ---- the first exchange
+
+first_by_request : (d : ℕ) (how : How) (query : QueryText) (o : Option ArgumentsSeen) (call : Call) (r : Request) → request_of d call ≡ r → request_of d (first_as how query o call) ≡ first_by how query o r
+first_by_request d how query None call r e = e
+first_by_request d how query (Some arguments) call r e = refl
+
+-- it asks what the connection asks first
+pub first_request : (d : ℕ) (call : Call) → request_of d (first_call call) ≡ first_of (asked_of d call)
+first_request d (calls.Execute query) = first_by_request d hows.Execute query query.arguments (calls.Execute query) (requests.Execute query) refl
+first_request d (calls.ExecuteMany query) = first_by_request d hows.ExecuteMany query query.arguments (calls.ExecuteMany query) (requests.ExecuteMany query) refl
+first_request d (calls.Fetch query) = first_by_request d hows.Fetch query query.arguments (calls.Fetch query) (requests.Fetch query) refl
+first_request d (calls.FetchMany query) = first_by_request d hows.FetchMany query query.arguments (calls.FetchMany query) (requests.FetchMany query) refl
+first_request d (calls.FetchAll query) = first_by_request d hows.FetchAll query query.arguments (calls.FetchAll query) (requests.FetchAll query) refl
+first_request d (calls.FetchOptional query) = first_by_request d hows.FetchOptional query query.arguments (calls.FetchOptional query) (requests.FetchOptional query) refl
+first_request d (calls.FetchOne query) = first_by_request d hows.FetchOne query query.arguments (calls.FetchOne query) (requests.FetchOne query) refl
+first_request d calls.Ping = refl
+first_request d calls.Flush = refl
+first_request d calls.Begin = refl
+first_request d (calls.BeginWith query) = refl
+first_request zero calls.Commit = refl
+first_request (suc left) calls.Commit = refl
+first_request zero calls.Rollback = refl
+first_request (suc left) calls.Rollback = refl
+first_request d calls.StartRollback = refl
+first_request d (calls.Describe extended) = refl
+first_request d (calls.Run bound) = refl
+
+-- What is neither a query nor an exchange alone stays what it is. So what is false of these is true of the first exchange where it is of the call.
+kept_by : (f : Call → Bool) (how : How) (query : QueryText) (o : Option ArgumentsSeen) (call : Call) → ((x : Extended) → f (calls.Describe x) ≡ false) → f call ≡ false → f (first_as how query o call) ≡ f call
+kept_by f how query None call x e = refl
+kept_by f how query (Some arguments) call x e = x (record { how = how; sql = query.sql; arguments = arguments }) ∙ sym e
+
+record FalseOfQueries (f : Call → Bool) : Type 0 where
+  queries : (call : Call) (how : How) → how_of call ≡ Some how → f call ≡ false
+  described : (x : Extended) → f (calls.Describe x) ≡ false
+  flushed : f calls.Flush ≡ false
+
+kept_first : (f : Call → Bool) → FalseOfQueries f → (call : Call) → f (first_call call) ≡ f call
+kept_first f n (calls.Execute query) = kept_by f hows.Execute query query.arguments (calls.Execute query) n.described (n.queries (calls.Execute query) hows.Execute refl)
+kept_first f n (calls.ExecuteMany query) = kept_by f hows.ExecuteMany query query.arguments (calls.ExecuteMany query) n.described (n.queries (calls.ExecuteMany query) hows.ExecuteMany refl)
+kept_first f n (calls.Fetch query) = kept_by f hows.Fetch query query.arguments (calls.Fetch query) n.described (n.queries (calls.Fetch query) hows.Fetch refl)
+kept_first f n (calls.FetchMany query) = kept_by f hows.FetchMany query query.arguments (calls.FetchMany query) n.described (n.queries (calls.FetchMany query) hows.FetchMany refl)
+kept_first f n (calls.FetchAll query) = kept_by f hows.FetchAll query query.arguments (calls.FetchAll query) n.described (n.queries (calls.FetchAll query) hows.FetchAll refl)
+kept_first f n (calls.FetchOptional query) = kept_by f hows.FetchOptional query query.arguments (calls.FetchOptional query) n.described (n.queries (calls.FetchOptional query) hows.FetchOptional refl)
+kept_first f n (calls.FetchOne query) = kept_by f hows.FetchOne query query.arguments (calls.FetchOne query) n.described (n.queries (calls.FetchOne query) hows.FetchOne refl)
+kept_first f n (calls.Describe x) = n.flushed ∙ sym (n.described x)
+kept_first f n (calls.Run bound) = n.flushed ∙ sym (n.queries (calls.Run bound) bound.how refl)
+kept_first f n _ = refl
+
+acts_none : (call : Call) (how : How) → how_of call ≡ Some how → acts_at_once call ≡ false
+acts_none calls.StartRollback how e = absurd cc
+acts_none _ how e = refl
+
+begins_none : (call : Call) (how : How) → how_of call ≡ Some how → begins call ≡ false
+begins_none calls.Begin how e = absurd cc
+begins_none (calls.BeginWith query) how e = absurd cc
+begins_none _ how e = refl
+
+begins_with_none : (call : Call) (how : How) → how_of call ≡ Some how → begins_with call ≡ false
+begins_with_none (calls.BeginWith query) how e = absurd cc
+begins_with_none _ how e = refl
+
+pub first_acts : (call : Call) → acts_at_once (first_call call) ≡ acts_at_once call
+first_acts call = kept_first acts_at_once (record { queries = acts_none; described = λ x. refl; flushed = refl }) call
+
+first_begins : (call : Call) → begins (first_call call) ≡ begins call
+first_begins call = kept_first begins (record { queries = begins_none; described = λ x. refl; flushed = refl }) call
+
+pub first_begins_with : (call : Call) → begins_with (first_call call) ≡ begins_with call
+first_begins_with call = kept_first begins_with (record { queries = begins_with_none; described = λ x. refl; flushed = refl }) call
+
+waits_by : (how : How) (query : QueryText) (o : Option ArgumentsSeen) (call : Call) → waits_to_show call ≡ false → waits_to_show (first_as how query o call) ≡ false
+waits_by how query None call w = w
+waits_by how query (Some arguments) call w = refl
+
+-- what shows its items as they come has a first exchange that does
+pub first_waits : (call : Call) → waits_to_show call ≡ false → waits_to_show (first_call call) ≡ false
+first_waits (calls.Execute query) w = waits_by hows.Execute query query.arguments (calls.Execute query) w
+first_waits (calls.ExecuteMany query) w = waits_by hows.ExecuteMany query query.arguments (calls.ExecuteMany query) w
+first_waits (calls.Fetch query) w = waits_by hows.Fetch query query.arguments (calls.Fetch query) w
+first_waits (calls.FetchMany query) w = waits_by hows.FetchMany query query.arguments (calls.FetchMany query) w
+first_waits (calls.FetchAll query) w = absurd cc
+first_waits (calls.FetchOptional query) w = absurd cc
+first_waits (calls.FetchOne query) w = absurd cc
+first_waits (calls.Describe x) w = refl
+first_waits (calls.Run bound) w = refl
+first_waits _ w = refl
+
+widths_by : (d : ℕ) (how : How) (query : QueryText) (o : Option ArgumentsSeen) (call : Call) → widths_of (request_of d call) ≡ [] → widths_of (request_of d (first_as how query o call)) ≡ []
+widths_by d how query None call w = w
+widths_by d how query (Some arguments) call w = refl
+
+-- no columns are known before it
+pub first_widths : (d : ℕ) (call : Call) → widths_of (request_of d (first_call call)) ≡ []
+first_widths d (calls.Execute query) = widths_by d hows.Execute query query.arguments (calls.Execute query) refl
+first_widths d (calls.ExecuteMany query) = widths_by d hows.ExecuteMany query query.arguments (calls.ExecuteMany query) refl
+first_widths d (calls.Fetch query) = widths_by d hows.Fetch query query.arguments (calls.Fetch query) refl
+first_widths d (calls.FetchMany query) = widths_by d hows.FetchMany query query.arguments (calls.FetchMany query) refl
+first_widths d (calls.FetchAll query) = widths_by d hows.FetchAll query query.arguments (calls.FetchAll query) refl
+first_widths d (calls.FetchOptional query) = widths_by d hows.FetchOptional query query.arguments (calls.FetchOptional query) refl
+first_widths d (calls.FetchOne query) = widths_by d hows.FetchOne query query.arguments (calls.FetchOne query) refl
+first_widths d calls.Ping = refl
+first_widths d calls.Flush = refl
+first_widths d calls.Begin = refl
+first_widths d (calls.BeginWith query) = refl
+first_widths zero calls.Commit = refl
+first_widths (suc left) calls.Commit = refl
+first_widths zero calls.Rollback = refl
+first_widths (suc left) calls.Rollback = refl
+first_widths d calls.StartRollback = refl
+first_widths d (calls.Describe extended) = refl
+first_widths d (calls.Run bound) = refl
+
+-- ---- the one behind it
+
+-- what is no description hands on nothing
+pub last_next : (d : ℕ) (call : Call) (response : List BackendMessage) → IsLast (request_of d call) → next_call call response ≡ None
+last_next d (calls.Describe extended) response l = absurd (l refl)
+last_next d _ response l = refl
+
+-- what is a description asks so
+pub describes : (d : ℕ) (call : Call) → kind_of (request_of d call) ≡ kinds.Describe → (x : Extended) × (call ≡ calls.Describe x)
+describes d (calls.Describe x) k = (x, refl)
+describes d (calls.Execute query) k = absurd cc
+describes d (calls.ExecuteMany query) k = absurd cc
+describes d (calls.Fetch query) k = absurd cc
+describes d (calls.FetchMany query) k = absurd cc
+describes d (calls.FetchAll query) k = absurd cc
+describes d (calls.FetchOptional query) k = absurd cc
+describes d (calls.FetchOne query) k = absurd cc
+describes d calls.Ping k = absurd cc
+describes d calls.Flush k = absurd cc
+describes d calls.Begin k = absurd cc
+describes d (calls.BeginWith query) k = absurd cc
+describes zero calls.Commit k = absurd cc
+describes (suc left) calls.Commit k = absurd cc
+describes zero calls.Rollback k = absurd cc
+describes (suc left) calls.Rollback k = absurd cc
+describes d calls.StartRollback k = absurd cc
+describes d (calls.Run bound) k = absurd cc
+
+flush_describes : (x : Extended) → calls.Describe x ≡ calls.Flush → ⊥
+flush_describes x e = cc
+
+-- what is described is no flush
+pub no_flush : (call : Call) (x : Extended) → first_call call ≡ calls.Describe x → call ≡ calls.Flush → ⊥
+no_flush call x e f = flush_describes x (sym e ∙ ap first_call f)
+
+-- what runs behind a description whose columns were described
+abbrev pub bound_by : Extended → List BackendMessage → Bound
+bound_by x reply = record { how = x.how; arguments = x.arguments; width = Some (length (described reply)) }
+
+abbrev handed_answer : Request → Result CallAnswer Error
+handed_answer r = Ok (answers.Next r)
+
+same_next : (r s : Request) → handed_answer r ≡ handed_answer s → r ≡ s
+same_next r s e = cc
+
+pub next_bound : (x : Extended) (reply : List BackendMessage) (status : TransactionStatus) (next : Request) → answer_by (requests.Describe x) reply status ≡ Ok (answers.Next next) → next ≡ requests.Run (bound_by x reply)
+next_bound x reply status next e = sym (same_next (requests.Run (bound_by x reply)) next e)
+
+runs_by : (how : How) (query : QueryText) (o : Option ArgumentsSeen) (call : Call) (response : List BackendMessage) (part : Call) → next_call call response ≡ None → next_call (first_as how query o call) response ≡ Some part → (bound : Bound) × (part ≡ calls.Run bound) × (Some how ≡ Some bound.how)
+runs_by how query None call response part n e = let x = sym n ∙ e in absurd cc
+runs_by how query (Some arguments) call response part n e = (bound_by (record { how = how; sql = query.sql; arguments = arguments }) response, sym (same_Some _ part e), refl)
+
+-- it runs the query as its call does
+pub next_runs : (call : Call) (response : List BackendMessage) (part : Call) → next_call (first_call call) response ≡ Some part → (bound : Bound) × (part ≡ calls.Run bound) × (how_of call ≡ Some bound.how)
+next_runs (calls.Execute query) response part e = runs_by hows.Execute query query.arguments (calls.Execute query) response part refl e
+next_runs (calls.ExecuteMany query) response part e = runs_by hows.ExecuteMany query query.arguments (calls.ExecuteMany query) response part refl e
+next_runs (calls.Fetch query) response part e = runs_by hows.Fetch query query.arguments (calls.Fetch query) response part refl e
+next_runs (calls.FetchMany query) response part e = runs_by hows.FetchMany query query.arguments (calls.FetchMany query) response part refl e
+next_runs (calls.FetchAll query) response part e = runs_by hows.FetchAll query query.arguments (calls.FetchAll query) response part refl e
+next_runs (calls.FetchOptional query) response part e = runs_by hows.FetchOptional query query.arguments (calls.FetchOptional query) response part refl e
+next_runs (calls.FetchOne query) response part e = runs_by hows.FetchOne query query.arguments (calls.FetchOne query) response part refl e
+next_runs _ response part e = absurd cc
+
+-- ---- what is so of an exchange is so of its call
+
+pub part_begins : (call part : Call) → IsPartOf call part → begins part ≡ true → begins call ≡ true
+part_begins call part (inl e) b = sym (first_begins call) ∙ sym (ap begins e) ∙ b
+part_begins call part (inr (response, e)) b = let runs = next_runs call response part e in let x = sym (ap begins runs.1) ∙ b in absurd cc
+
+pub part_begins_with : (call part : Call) → IsPartOf call part → begins_with part ≡ true → begins_with call ≡ true
+part_begins_with call part (inl e) b = sym (first_begins_with call) ∙ sym (ap begins_with e) ∙ b
+part_begins_with call part (inr (response, e)) b = let runs = next_runs call response part e in let x = sym (ap begins_with runs.1) ∙ b in absurd cc
+
+wants_by : (how : How) (query : QueryText) (o : Option ArgumentsSeen) (call : Call) → wants_row (first_as how query o call) ≡ true → wants_row call ≡ true
+wants_by how query None call w = w
+wants_by how query (Some arguments) call w = absurd cc
+
+first_wants : (call : Call) → wants_row (first_call call) ≡ true → wants_row call ≡ true
+first_wants (calls.Execute query) w = wants_by hows.Execute query query.arguments (calls.Execute query) w
+first_wants (calls.ExecuteMany query) w = wants_by hows.ExecuteMany query query.arguments (calls.ExecuteMany query) w
+first_wants (calls.Fetch query) w = wants_by hows.Fetch query query.arguments (calls.Fetch query) w
+first_wants (calls.FetchMany query) w = wants_by hows.FetchMany query query.arguments (calls.FetchMany query) w
+first_wants (calls.FetchAll query) w = wants_by hows.FetchAll query query.arguments (calls.FetchAll query) w
+first_wants (calls.FetchOptional query) w = wants_by hows.FetchOptional query query.arguments (calls.FetchOptional query) w
+first_wants (calls.FetchOne query) w = refl
+first_wants _ w = absurd cc
+
+pub part_wants : (call part : Call) → IsPartOf call part → wants_row part ≡ true → wants_row call ≡ true
+part_wants call part (inl e) w = first_wants call (sym (ap wants_row e) ∙ w)
+part_wants call part (inr (response, e)) w =
+    let runs = next_runs call response part e in
+    ap wants_how runs.2 ∙ sym (ap wants_row runs.1) ∙ w

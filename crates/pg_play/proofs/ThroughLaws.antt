@@ -1,0 +1,307 @@
+-- One more poll of a call that is played: of one exchange, or through the end of its first into its second.
+use Rattle.std.proofs.Common.{◌≡◌, ℕ, ◌+◌, ◌*◌, ◌<◌, ◌≤◌, inl, inr, Bool, true, false, List, [], ◌∷◌, ◌++◌, length, map, refl, sym, ap, ◌∙◌, subst, arith, Option, Some, None, Ok, Err}
+use Rattle.futures.specs.declared.task.Poll.{Poll}
+use Rattle.futures.specs.declared.task.Poll.TheVariants.{Ready, Pending}
+use Rattle.pg_wire.specs.declared.error.Error.{Error}
+use Rattle.pg_wire.specs.declared.error.Error.TheVariants as errors
+use Rattle.pg_wire.specs.declared.error.ProtocolFault.TheVariants as protocol
+use Rattle.pg_wire.specs.declared.error.ServerFault.{ServerFault}
+use Rattle.pg_wire.specs.Frame.{Frame}
+use Rattle.pg_wire.specs.Parts.{heard}
+use Rattle.pg_wire.specs.Frontend.{FrontendMessage}
+use Rattle.pg_stream.specs.Links.{LinkSeen}
+use Rattle.pg_stream.specs.Streams.{StreamSeen, AllMoved}
+use Rattle.pg_stream.proofs.StreamLemmas.{Moves-then, AllMoved-then, NoneWaited-then, WriteWaited-after, PendingCause-after}
+use Rattle.pg_call.specs.declared.kind.Change.{Change}
+use Rattle.pg_call.specs.declared.kind.Change.TheVariants as changes
+use Rattle.pg_call.specs.declared.kind.How.{How}
+use Rattle.pg_call.specs.declared.kind.How.TheVariants as hows
+use Rattle.pg_request.specs.Queries.{QueryText, ArgumentsSeen}
+use Rattle.pg_call.specs.declared.kind.Kind.{Kind}
+use Rattle.pg_call.specs.declared.kind.Kind.TheVariants as kinds
+use Rattle.pg_call.specs.declared.ledger.Ledger.{Ledger}
+use Rattle.pg_call.specs.declared.request.Request.{Request}
+use Rattle.pg_call.specs.declared.request.Request.TheVariants as requests
+use Rattle.pg_call.specs.declared.answer.CallItem.{CallItem}
+use Rattle.pg_call.specs.declared.answer.CallAnswer.{CallAnswer}
+use Rattle.pg_call.specs.declared.answer.CallAnswer.TheVariants as answers
+use Rattle.pg_call.specs.declared.answer.Turn.{Turn}
+use Rattle.pg_call.specs.declared.answer.Turn.TheVariants as turns
+use Rattle.pg_call.specs.declared.calling.Call.TheVariants as calls
+use Rattle.pg_call.specs.declared.calling.Beat.{Beat}
+use Rattle.pg_call.specs.declared.calling.Beat.TheVariants as beats
+use Rattle.pg_call.specs.Requests.{kind_of, main_kind, change_of, first_of, first_by}
+use Rattle.pg_call.specs.Items.{items_of, shown}
+use Rattle.pg_call.specs.Calls.{EndsFine}
+use Rattle.pg_call.proofs.FitLaws.{hands_on_described, next_is, main_describes_none}
+use Rattle.pg_conn.specs.Connections.{ConnOf, ConnSeen, seen_by, begun_with, handed, settled, runs, left, started_call}
+use Rattle.pg_conn.specs.Turns.{Polled, PollsThrough, PollsBy, HandsOnNone, beat_of, BeatCause, SendCause, TakesBeat, is_flushed}
+use Rattle.pg_report.specs.declared.outcome.Item.{Item}
+use Rattle.pg_report.specs.declared.outcome.Answer.TheVariants.{Unit as AnswersUnit}
+use Rattle.pg_report.specs.declared.outcome.End.{End}
+use Rattle.pg_report.specs.declared.outcome.End.TheVariants as ends
+use Rattle.pg_report.specs.declared.outcome.Outcome.{Outcome}
+use Rattle.pg_play.specs.declared.tally.Limits.{Limits}
+use Rattle.pg_play.specs.declared.tally.Tally.{Tally}
+use Rattle.pg_play.specs.Shown.{item_of}
+use Rattle.pg_play.specs.Calls.{Adds, Finishes, Waited, IsPlayingOn, IsPlaying, Ended, EndsOn, broken_after, Counted, asking, IsLast, HandedOn, handed_from, OfLast, IsCallPlaying, StopsBy, PollGives, PlaysOne, PlaysCall, outcome_of, begun_call}
+use Rattle.pg_play.proofs.CallLaws.{stays_behind, AfterSome, PlayBeat, OverPoll, over_poll, after_beat, fresh_play, play_starts, playing_one, plays_one, goes_waits, goes_yields, goes_ok, goes_unshown, goes_err, drops_waiting, drops_shown, goes_unkept}
+
+-- what holds of the exchange that came last
+pub on_last : (polls : ℕ) (first : StreamSeen) (P Q : ConnSeen → Request → Type 0) (a : ConnSeen) (r : Request) → ((at : ConnSeen) (asked : Request) → P at asked → Q at asked) → OfLast polls first P a r → OfLast polls first Q a r
+on_last polls first P Q a r f (inl p) = inl (f a r p)
+on_last polls first P Q a r f (inr h) = inr (h.0, h.1, h.2, f (handed_from h.0 h.1) h.1 h.3)
+
+-- ---- an exchange that hands on the next one
+
+shown_none : (items : List CallItem) → shown kinds.Describe items ≡ []
+shown_none [] = refl
+shown_none (i ∷ is) = shown_none is
+
+-- it is a description, and showed nothing
+shows_none : (start : Ledger) (r : Request) (said : List FrontendMessage) (hs : List Frame) (items : List CallItem) (ledger : Ledger) (next : Request) → EndsFine start r said hs items ledger (Ok (answers.Next next)) → items ≡ []
+shows_none start r said hs items ledger next e =
+    e.0.items_are ∙ ap (λ (k : Kind). shown k (items_of e.0.reply)) (hands_on_described r e.0.reply e.0.status next e.1) ∙ shown_none (items_of e.0.reply)
+
+not_flushed : (f : Bool) (next : Request) → (f ≡ true → answers.Next next ≡ answers.Unit) → f ≡ false
+not_flushed true next h = let x = h refl in absurd cc
+not_flushed false next h = refl
+
+hands_over : (polls : ℕ) (first : StreamSeen) (a m : ConnSeen) (r next : Request) (waits : ℕ) (items : List CallItem) → waits < polls → a.broken ≡ None → AfterSome first a m r waits items (beats.Ends (Ok (answers.Next next))) → HandedOn polls first a m r next × (items ≡ [])
+hands_over polls first a m r next waits items l e h =
+    let after = h.2 in
+    let none : items ≡ [] = shows_none a.ledger r h.0 (heard h.1) items m.ledger next after.tells.1 in (
+      record {
+        said = h.0;
+        fs = h.1;
+        went = after.went;
+        whole = (e, after.broken);
+        asked = after.asked;
+        room = after.room;
+        over = after.tells.0;
+        ends = (subst (λ (x : List CallItem). EndsFine a.ledger r h.0 (heard h.1) x m.ledger (Ok (answers.Next next))) none after.tells.1, after.tells.2);
+        can = after.tells.1.0.can;
+        flush = not_flushed (is_flushed a) next (λ k. (after.unflushed k).0);
+        waits = waits;
+        waited = after.over.waited (λ w. absurd cc);
+        few = l;
+        calls = omega (arith, after.over.calls, l, ap (λ (x : List CallItem). length x) none);
+      },
+      none,
+    )
+
+-- what handed on is a description
+pub handed_described : (polls : ℕ) (first : StreamSeen) (a m : ConnSeen) (r next : Request) → HandedOn polls first a m r next → kind_of r ≡ kinds.Describe
+handed_described polls first a m r next h = hands_on_described r h.ends.0.0.reply h.ends.0.0.status next h.ends.0.1
+
+-- what was handed on is the last exchange of its call
+pub handed_last : (polls : ℕ) (first : StreamSeen) (a m : ConnSeen) (r next : Request) → HandedOn polls first a m r next → IsLast next
+handed_last polls first a m r next h d = main_describes_none r (sym (next_is r h.ends.0.0.reply h.ends.0.0.status next h.ends.0.1).0 ∙ d)
+
+described_stays : (r : Request) → kind_of r ≡ kinds.Describe → change_of (main_kind r) ≡ changes.Stays
+described_stays (requests.Describe x) k = refl
+described_stays (requests.Run bound) k = refl
+described_stays _ k = absurd cc
+
+-- and opens and closes nothing
+pub handed_stays : (polls : ℕ) (first : StreamSeen) (a m : ConnSeen) (r next : Request) → HandedOn polls first a m r next → change_of (kind_of next) ≡ changes.Stays
+handed_stays polls first a m r next h = ap change_of (next_is r h.ends.0.0.reply h.ends.0.0.status next h.ends.0.1).0 ∙ described_stays r (handed_described polls first a m r next h)
+
+-- and it opened and closed nothing
+pub handed_settled : (polls : ℕ) (first : StreamSeen) (a m : ConnSeen) (r next : Request) → HandedOn polls first a m r next → settled m ≡ m
+handed_settled polls first a m r next h = stays_behind (ends.Ok AnswersUnit) m (h.went.started.3 ∙ h.asked ∙ ap change_of (handed_described polls first a m r next h))
+
+-- what a connection has counted
+abbrev pub counted_by : ConnSeen → Counted
+counted_by c = record { groups = c.groups; heard = c.heard; waits = c.stream.waits; moves = c.stream.moves }
+
+-- the next exchange begins as any other, behind what was counted
+pub handed_asking : (polls : ℕ) (first : StreamSeen) (a m : ConnSeen) (r next : Request) → HandedOn polls first a m r next → handed_from m next ≡ asking next (counted_by m) (settled m)
+handed_asking polls first a m r next h = ap (λ (x : Change). record (handed_from m next) { change = x }) (sym (handed_stays polls first a m r next h))
+
+-- The exchange that handed on is told of as any that ended. It ends no call.
+pub handed_ended : (limits : Limits) (first : StreamSeen) (a m : ConnSeen) (r next : Request) → 0 < limits.most → (h : HandedOn limits.polls first a m r next) → Ended limits first a m r [] (ends.Ok AnswersUnit) h.said h.fs
+handed_ended limits first a m r next l h = record {
+  went = h.went;
+  broken = h.whole.1 ∙ sym (ap (λ (o : Option ServerFault). broken_after o (ends.Ok AnswersUnit)) h.whole.0);
+  kept = λ fault e. let x = sym h.whole.0 ∙ e in absurd cc;
+  few = (h.waits, h.waited, (λ d. h.few, omega (arith, h.few)));
+  room = h.room;
+  calls = omega (arith, h.calls);
+  at_once = λ o. record { refused = λ u. absurd (u h.can); flushed = λ f. let x = sym h.flush ∙ f in absurd cc };
+  ends = subst (λ (o : Option ServerFault). EndsOn o limits first a m r h.said (heard h.fs) [] (ends.Ok AnswersUnit)) (sym h.whole.0) ([], answers.Next next, refl, l, refl, h.ends.0, h.ends.1);
+}
+
+-- ---- the second exchange begins in the poll in which the first one ended
+
+send_later : (a b c : ConnSeen) → AllMoved a.stream b.stream → b.stream.left ≤ a.stream.left → c.stream.left ≤ b.stream.left → SendCause b c → SendCause a c
+send_later a b c h k l (inl w) = inl (WriteWaited-after a.stream b.stream c.stream h.2 w)
+send_later a b c h k l (inr f) = inr (f.0, AllMoved-then a.stream b.stream c.stream h k f.1 l)
+
+-- the cause of a beat behind calls of the link that all moved is one of both
+cause_later : (a b c : ConnSeen) (beat : Beat) → AllMoved a.stream b.stream → b.stream.left ≤ a.stream.left → c.stream.left ≤ b.stream.left → BeatCause b c beat → BeatCause a c beat
+cause_later a b c beats.More h k l t = AllMoved-then a.stream b.stream c.stream h k t l
+cause_later a b c beats.Waits h k l t = (PendingCause-after a.stream b.stream c.stream h k l t.0, λ s. send_later a b c h k l (t.1 s))
+cause_later a b c (beats.Yields item) h k l t = NoneWaited-then a.stream b.stream c.stream h.2 t
+cause_later a b c (beats.Ends (Ok answer)) h k l t = AllMoved-then a.stream b.stream c.stream h k t l
+cause_later a b c (beats.Ends (Err e)) h k l t = NoneWaited-then a.stream b.stream c.stream h.2 t
+
+-- b is where the poll began, and m where the first exchange stopped
+second_beat : (polls : ℕ) (first : StreamSeen) (a b m c : ConnSeen) (r next : Request) (waits : ℕ) (beat : Beat) → Waited waits first b.stream → b.stream.link.calls ≤ first.link.calls + 256 * waits → TakesBeat (begun_with 256 b) m (beats.Ends (Ok (answers.Next next))) → HandedOn polls first a m r next
+    → (p : Polled (handed_from m next) c beat) → AfterSome first (handed_from m next) p.stopped next waits [] beat
+second_beat polls first a b m c r next waits beat v k t h p =
+    let at : ConnSeen = handed_from m next in
+    let one = t.3 in
+    let two = p.turns.3 in
+    let moves = Moves-then (begun_with 256 b).stream m.stream p.stopped.stream t.0 p.turns.0 t.1 p.turns.1 one.moves two.moves in
+    let cause = cause_later (begun_with 256 b) at p.stopped beat one.cause one.moves.left two.moves.left two.cause in
+    let over : OverPoll first at p.stopped waits 0 beat = over_poll first at b p.stopped waits 0 beat (t.0 ++ p.turns.0) (t.1 ++ p.turns.1) (omega (arith, one.cause.2.2.0)) v (omega (arith, k)) moves cause in
+    after_beat at.stream.left at.stream first at at p.stopped next 0 waits [] beat [] [] (fresh_play at next h.whole.1 refl (sym (handed_stays polls first a m r next h))) p.turns p.whole p.says p.flush over
+
+-- ---- what a poll makes of an exchange
+
+-- what the last exchange of a call answers hands on nothing
+last_hands_none : (first : StreamSeen) (a c : ConnSeen) (r : Request) (waits : ℕ) (items : List CallItem) (answer : Poll Turn) → IsLast r → AfterSome first a c r waits items (beat_of answer) → HandsOnNone answer
+last_hands_none first a c r waits items answer n h next e =
+    let fine = (subst (λ (x : Poll Turn). AfterSome first a c r waits items (beat_of x)) e h).2.tells.1 in
+    n (hands_on_described r fine.0.reply fine.0.status next fine.1)
+
+-- an exchange behind a poll, whose answer hands on nothing
+abbrev Turned : ℕ → StreamSeen → ConnSeen → ℕ → List Item → Poll Turn → ConnSeen → Request → Type 0
+Turned most first c waits shown answer at asked = (beat : PlayBeat at.broken most first at c asked waits shown (beat_of answer)) × HandsOnNone answer
+
+fault_hands_none : (fault : ServerFault) (answer : Poll Turn) → beat_of answer ≡ beats.Ends (Err (errors.Protocol (protocol.Server fault))) → HandsOnNone answer
+fault_hands_none fault answer e next is = let x = sym (ap beat_of is) ∙ e in absurd cc
+
+turned_whole : (most : ℕ) (first : StreamSeen) (a c : ConnSeen) (r : Request) (waits : ℕ) (shown : List Item) (answer : Poll Turn) (o : Option ServerFault) → a.broken ≡ o → PlayBeat o most first a c r waits shown (beat_of answer) → HandsOnNone answer → Turned most first c waits shown answer a r
+turned_whole most first a c r waits shown answer o e h n = (subst (λ (x : Option ServerFault). PlayBeat x most first a c r waits shown (beat_of answer)) (sym e) h, n)
+
+-- one exchange went on, or the next one began
+turns_through : (polls most : ℕ) (first : StreamSeen) (a b c : ConnSeen) (r : Request) (waits : ℕ) (shown : List Item) (answer : Poll Turn) → waits < polls → a.broken ≡ None → IsPlayingOn None most first a b r waits shown → PollsThrough (begun_with 256 b) c answer → OfLast polls first (Turned most first c waits shown answer) a r
+turns_through polls most first a b c r waits shown answer l e i (inl (p, none)) =
+    let over = over_poll first a b p.stopped waits (length i.0) (beat_of answer) p.turns.0 p.turns.1 i.5.went.flows.counts.write_waits i.5.waited i.5.calls p.turns.3.moves p.turns.3.cause in
+    inl (turned_whole most first a c r waits shown answer None e
+    (i.0, i.3, i.4, p.stopped, p.behind_is, after_beat 256 first first a b p.stopped r waits waits i.0 (beat_of answer) i.1 i.2 i.5 p.turns p.whole p.says p.flush over) none)
+turns_through polls most first a b c r waits shown answer l e i (inr two) =
+    let p = two.first in
+    let next = two.next in
+    let m = p.stopped in
+    let beat : Beat = beats.Ends (Ok (answers.Next next)) in
+    let over = over_poll first a b m waits (length i.0) beat p.turns.0 p.turns.1 i.5.went.flows.counts.write_waits i.5.waited i.5.calls p.turns.3.moves p.turns.3.cause in
+    let over_first = hands_over polls first a m r next waits i.0 l e (after_beat 256 first first a b m r waits waits i.0 beat i.1 i.2 i.5 p.turns p.whole p.says p.flush over) in
+    let second : Polled (handed_from m next) c (beat_of answer) = subst (λ (x : ConnSeen). Polled (handed next x) c (beat_of answer)) p.behind_is two.second in
+    let few : b.stream.link.calls ≤ first.link.calls + 256 * waits = omega (arith, i.5.calls, ap (λ (x : List CallItem). length x) over_first.1) in
+    let after = second_beat polls first a b m c r next waits (beat_of answer) i.5.waited few p.turns over_first.0 second in
+    inr (
+      m,
+      next,
+      over_first.0,
+      turned_whole most first (handed_from m next) c next waits shown answer None over_first.0.whole.1
+          ([], i.3 ∙ ap (map item_of) over_first.1, i.4, second.stopped, second.behind_is, after) (last_hands_none first (handed_from m next) second.stopped next waits [] answer (handed_last polls first a m r next over_first.0) after),
+    )
+
+turns_one : (polls most : ℕ) (first : StreamSeen) (a b c : ConnSeen) (r : Request) (waits : ℕ) (shown : List Item) (answer : Poll Turn) → waits < polls → IsPlaying most first a b r waits shown → PollsBy b.broken (begun_with 256 b) b c answer → OfLast polls first (Turned most first c waits shown answer) a r
+turns_one polls most first a b c r waits shown answer l i p = by a.broken refl i
+  where
+    by : (o : Option ServerFault) → a.broken ≡ o → IsPlayingOn o most first a b r waits shown → OfLast polls first (Turned most first c waits shown answer) a r
+    by None e i = turns_through polls most first a b c r waits shown answer l e i (subst (λ (k : Option ServerFault). PollsBy k (begun_with 256 b) b c answer) i.5.broken p)
+    by (Some fault) e i =
+        let at_a = subst (λ (d : ConnSeen). PollsBy d.broken (begun_with 256 d) d c answer) i.0 p in
+        let broke = subst (λ (k : Option ServerFault). PollsBy k (begun_with 256 a) a c answer) e at_a in
+        inl (turned_whole most first a c r waits shown answer (Some fault) e (broke.0, broke.1, i.1, i.2, i.3) (fault_hands_none fault answer broke.1))
+
+call_turns : (limits : Limits) (a b c : ConnSeen) (r : Request) (waits : ℕ) (shown : List Item) (answer : Poll Turn) → waits < limits.polls → IsCallPlaying limits a b r waits shown → PollsBy b.broken (begun_with 256 b) b c answer → OfLast limits.polls a.stream (Turned limits.most a.stream c waits shown answer) a r
+call_turns limits a b c r waits shown answer l (inl i) p = turns_one limits.polls limits.most a.stream a b c r waits shown answer l i p
+call_turns limits a b c r waits shown answer l (inr h) p = by (turns_one limits.polls limits.most a.stream (handed_from h.0 h.1) b c h.1 waits shown answer l h.3 p)
+  where
+    by : OfLast limits.polls a.stream (Turned limits.most a.stream c waits shown answer) (handed_from h.0 h.1) h.1 → OfLast limits.polls a.stream (Turned limits.most a.stream c waits shown answer) a r
+    by (inl t) = inr (h.0, h.1, h.2, t)
+    by (inr x) = absurd (handed_last limits.polls a.stream a h.0 r h.1 h.2 (handed_described limits.polls a.stream (handed_from h.0 h.1) x.0 h.1 x.1 x.2))
+
+-- ---- one poll
+
+pub poll_goes : (limits : Limits) (a b c : ConnSeen) (r : Request) (waits : ℕ) (shown : List Item) → waits < limits.polls → IsCallPlaying limits a b r waits shown → PollsBy b.broken (begun_with 256 b) b c Pending → PollGives limits a c r (waits + 1) shown None
+poll_goes limits a b c r waits shown l i p =
+    on_last limits.polls a.stream (Turned limits.most a.stream c waits shown Pending) (λ at asked. IsPlaying limits.most a.stream at c asked (waits + 1) shown) a r
+    (λ at asked h. goes_waits at.broken limits.most a.stream at c asked waits shown h.0) (call_turns limits a b c r waits shown Pending l i p)
+
+pub poll_drops : (limits : Limits) (a b c : ConnSeen) (r : Request) (waits : ℕ) (shown : List Item) → waits + 1 ≡ limits.polls → IsCallPlaying limits a b r waits shown → PollsBy b.broken (begun_with 256 b) b c Pending → PollGives limits a c r (waits + 1) shown (Some ends.Dropped)
+poll_drops limits a b c r waits shown k i p =
+    on_last limits.polls a.stream (Turned limits.most a.stream c waits shown Pending) (λ at asked. StopsBy limits a.stream at c asked shown ends.Dropped) a r
+    (λ at asked h. drops_waiting limits at.broken a.stream at c asked waits shown k refl h.0) (call_turns limits a b c r waits shown Pending (omega (arith, k)) i p)
+
+-- an exchange whose end is the call's
+ends_ok : (limits : Limits) (first : StreamSeen) (a c : ConnSeen) (r : Request) (old new : Tally) (answer : CallAnswer) (end : End) → old.waits < limits.polls → Finishes answer old new end → Turned limits.most first c old.waits old.items.items (Ready (turns.Ok answer)) a r → StopsBy limits first a c r new.items.items end
+ends_ok limits first a c r old new answer (ends.Ok told) l f h = goes_ok limits a.broken first a c r old.waits old.items.items new.items.items answer told l refl f.1 f.2 (λ next e. h.1 next (ap (λ (x : CallAnswer). Ready (turns.Ok x)) e)) h.0
+ends_ok limits first a c r old new answer (ends.Err e) l f h = goes_unshown limits a.broken first a c r old.waits old.items.items new.items.items answer e l refl f.1 f.2 f.3 h.0
+ends_ok limits first a c r old new answer ends.Dropped l f h = absurd f
+
+pub poll_ok : (limits : Limits) (a b c : ConnSeen) (r : Request) (old new : Tally) (answer : CallAnswer) (end : End) → old.waits < limits.polls → Finishes answer old new end → IsCallPlaying limits a b r old.waits old.items.items → PollsBy b.broken (begun_with 256 b) b c (Ready (turns.Ok answer))
+    → PollGives limits a c r new.waits new.items.items (Some end)
+poll_ok limits a b c r old new answer end l f i p =
+    on_last limits.polls a.stream (Turned limits.most a.stream c old.waits old.items.items (Ready (turns.Ok answer))) (λ at asked. StopsBy limits a.stream at c asked new.items.items end) a r
+    (λ at asked h. ends_ok limits a.stream at c asked old new answer end l f h) (call_turns limits a b c r old.waits old.items.items (Ready (turns.Ok answer)) l i p)
+
+pub poll_err : (limits : Limits) (a b c : ConnSeen) (r : Request) (waits : ℕ) (shown : List Item) (e : Error) → waits < limits.polls → IsCallPlaying limits a b r waits shown → PollsBy b.broken (begun_with 256 b) b c (Ready (turns.Err e)) → PollGives limits a c r waits shown (Some (ends.Err e))
+poll_err limits a b c r waits shown e l i p =
+    on_last limits.polls a.stream (Turned limits.most a.stream c waits shown (Ready (turns.Err e))) (λ at asked. StopsBy limits a.stream at c asked shown (ends.Err e)) a r
+    (λ at asked h. goes_err limits at.broken a.stream at c asked waits shown e l refl h.0) (call_turns limits a b c r waits shown (Ready (turns.Err e)) l i p)
+
+playing_at : (o : Option ServerFault) (most : ℕ) (first : StreamSeen) (a c : ConnSeen) (r : Request) (w w' : ℕ) (is is' : List Item) → w' ≡ w → is' ≡ is → IsPlayingOn o most first a c r w is → IsPlayingOn o most first a c r w' is'
+playing_at o most first a c r w w' is is' x y h = subst (λ (n : ℕ). IsPlayingOn o most first a c r n is') (sym x) (subst (λ (t : List Item). IsPlayingOn o most first a c r w t) (sym y) h)
+
+shows : (limits : Limits) (first : StreamSeen) (a c : ConnSeen) (r : Request) (old new : Tally) (item : CallItem) → Adds limits item old new None → Turned limits.most first c old.waits old.items.items (Ready (turns.Item item)) a r → IsPlaying limits.most first a c r new.waits new.items.items
+shows limits first a c r old new item g h =
+    playing_at a.broken limits.most first a c r old.waits new.waits (old.items.items ++ item_of item ∷ []) new.items.items g.0 g.1 (goes_yields a.broken limits.most first a c r old.waits old.items.items item (rw g.1 at g.2) h.0)
+
+-- the item is the last one that may be shown, or there is no memory for it
+stops_at : (limits : Limits) (first : StreamSeen) (a c : ConnSeen) (r : Request) (old new : Tally) (item : CallItem) (end : End) → old.waits < limits.polls → Adds limits item old new (Some end) → Turned limits.most first c old.waits old.items.items (Ready (turns.Item item)) a r → StopsBy limits first a c r new.items.items end
+stops_at limits first a c r old new item ends.Dropped l g h = drops_shown limits a.broken first a c r old.waits old.items.items new.items.items item l g.1 g.2 refl h.0
+stops_at limits first a c r old new item (ends.Err e) l g h = goes_unkept limits a.broken first a c r old.waits old.items.items new.items.items item e l g.1 g.2 refl h.0
+stops_at limits first a c r old new item (ends.Ok told) l g h = absurd g
+
+pub poll_item : (limits : Limits) (a b c : ConnSeen) (r : Request) (old new : Tally) (item : CallItem) (end : Option End) → old.waits < limits.polls → Adds limits item old new end → IsCallPlaying limits a b r old.waits old.items.items → PollsBy b.broken (begun_with 256 b) b c (Ready (turns.Item item))
+    → PollGives limits a c r new.waits new.items.items end
+poll_item limits a b c r old new item None l g i p =
+    on_last limits.polls a.stream (Turned limits.most a.stream c old.waits old.items.items (Ready (turns.Item item))) (λ at asked. IsPlaying limits.most a.stream at c asked new.waits new.items.items) a r
+    (λ at asked h. shows limits a.stream at c asked old new item g h) (call_turns limits a b c r old.waits old.items.items (Ready (turns.Item item)) l i p)
+poll_item limits a b c r old new item (Some end) l g i p =
+    on_last limits.polls a.stream (Turned limits.most a.stream c old.waits old.items.items (Ready (turns.Item item))) (λ at asked. StopsBy limits a.stream at c asked new.items.items end) a r
+    (λ at asked h. stops_at limits a.stream at c asked old new item end l g h) (call_turns limits a b c r old.waits old.items.items (Ready (turns.Item item)) l i p)
+
+-- ---- the first poll
+
+pub playing_runs : (limits : Limits) (a b : ConnSeen) (r : Request) (waits : ℕ) (shown : List Item) → runs a.call ≡ true → IsCallPlaying limits a b r waits shown → runs b.call ≡ true
+playing_runs limits a b r waits shown k (inl i) = playing_one limits.most a.stream a b r waits shown k i
+playing_runs limits a b r waits shown k (inr h) = playing_one limits.most a.stream (handed_from h.0 h.1) b h.1 waits shown refl h.3
+
+pub call_starts : (limits : Limits) (a : ConnSeen) (r : Request) → 0 < limits.most → a.call ≡ calls.Asked r → a.change ≡ change_of (kind_of r) → a.groups ≡ 0 → IsCallPlaying limits a a r 0 []
+call_starts limits a r m k c g = inl (play_starts limits.most a r m k c g)
+
+-- ---- the end
+
+pub plays_call : (limits : Limits) (a c d : ConnSeen) (r : Request) (waits : ℕ) (shown : List Item) (end : End) (out : Outcome) → PollGives limits a c r waits shown (Some end) → d ≡ left c → out ≡ outcome_of d shown end → PlaysCall limits a d r out
+plays_call limits a c d r waits shown end out g k e =
+    on_last limits.polls a.stream (λ at asked. StopsBy limits a.stream at c asked shown end) (λ at asked. PlaysOne limits a.stream at d asked out) a r (λ at asked h. plays_one limits a.stream at c d asked shown end out h k e) g
+
+by_changes : (how : How) (query : QueryText) (o : Option ArgumentsSeen) (r : Request) → change_of (kind_of r) ≡ changes.Stays → change_of (kind_of (first_by how query o r)) ≡ change_of (kind_of r)
+by_changes how query None r e = refl
+by_changes how query (Some arguments) r e = sym e
+
+-- what an Ok makes of the transactions that are open is told by the first exchange too
+pub first_changes : (r : Request) → change_of (kind_of (first_of r)) ≡ change_of (kind_of r)
+first_changes (requests.Execute query) = by_changes hows.Execute query query.arguments (requests.Execute query) refl
+first_changes (requests.ExecuteMany query) = by_changes hows.ExecuteMany query query.arguments (requests.ExecuteMany query) refl
+first_changes (requests.Fetch query) = by_changes hows.Fetch query query.arguments (requests.Fetch query) refl
+first_changes (requests.FetchMany query) = by_changes hows.FetchMany query query.arguments (requests.FetchMany query) refl
+first_changes (requests.FetchAll query) = by_changes hows.FetchAll query query.arguments (requests.FetchAll query) refl
+first_changes (requests.FetchOptional query) = by_changes hows.FetchOptional query query.arguments (requests.FetchOptional query) refl
+first_changes (requests.FetchOne query) = by_changes hows.FetchOne query query.arguments (requests.FetchOne query) refl
+first_changes _ = refl
+
+-- where none ran, a call has begun with its first exchange, and nothing else was done
+pub began : {A : Type 0} (limits : Limits) (seen : A → LinkSeen) (c : ConnOf A) (d : ConnSeen) (r : Request) (out : Outcome) → c.call ≡ calls.Idle → PlaysCall limits (seen_by seen (started_call r c)) d (first_of r) out → PlaysCall limits (begun_call (first_of r) (seen_by seen c)) d (first_of r) out
+began {A} limits seen c d r out e p = subst (λ (x : ConnSeen). PlaysCall limits x d (first_of r) out) (alone seen r c e ∙ ap (λ (x : Change). record (begun_call (first_of r) (seen_by seen c)) { change = x }) (sym (first_changes r))) p
+  where
+    alone : (seen : A → LinkSeen) (r : Request) (c : ConnOf A) → c.call ≡ calls.Idle → seen_by seen (started_call r c) ≡ record (begun_call (first_of r) (seen_by seen c)) { change = change_of (kind_of r) }
+    alone seen r c e = rw e refl
