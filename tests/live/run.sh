@@ -5,13 +5,8 @@
 #
 # PROGRAM is the built program. Where this is run by root the server runs as the user `postgres`.
 set -u
-program=$1
-port=${2:-54330}
-here=$(cd "$(dirname "$0")" && pwd)
-bin=${PG_BIN:-/usr/lib/postgresql/15/bin}
-folder=$("$here/server.sh" "$port") || exit 1
-as() { if [ "$(id -u)" = 0 ]; then su postgres -c "$1"; else sh -c "$1"; fi; }
-trap 'as "$bin/pg_ctl -D $folder/data -m immediate stop" > /dev/null 2>&1; rm -rf "$folder"' EXIT
+port=54330
+. "$(dirname "$0")/session.sh"
 
 tcp=127.0.0.1:$port
 socket=$(printf '%s' "$folder" | sed 's|/|%2F|g'):$port

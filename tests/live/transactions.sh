@@ -6,13 +6,8 @@
 #
 # PROGRAM is the built program. Where this is run by root the server runs as the user `postgres`.
 set -u
-program=$1
-port=${2:-54331}
-here=$(cd "$(dirname "$0")" && pwd)
-bin=${PG_BIN:-/usr/lib/postgresql/15/bin}
-folder=$("$here/server.sh" "$port") || exit 1
-as() { if [ "$(id -u)" = 0 ]; then su postgres -c "$1"; else sh -c "$1"; fi; }
-trap 'as "$bin/pg_ctl -D $folder/data -m immediate stop" > /dev/null 2>&1; rm -rf "$folder"' EXIT
+port=54331
+. "$(dirname "$0")/session.sh"
 admin() { psql -h "$folder" -p "$port" -U postgres -Atq -c "$1"; }
 admin 'CREATE TABLE kept (n int); GRANT ALL ON kept TO trusted'
 

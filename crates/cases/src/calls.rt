@@ -307,6 +307,10 @@ fn play_once(conn: &mut Connection, call: Call) -> Stand {
         Call::Commit => commit(conn),
         Call::Rollback => rollback(conn),
         Call::StartRollback => start_rollback(conn),
+        other => {
+            drop(other);
+            Stand::Fails
+        }
     }
 }
 
