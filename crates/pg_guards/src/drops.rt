@@ -79,8 +79,10 @@ pub fn a_transaction_that_is_given_up<C: PgExecutor>(conn: C) -> (C, Poll<Result
     }
 }
 
-/// What must be spent goes through a whole transaction.
-pub fn a_transaction_of_what_must_be_spent<C: PgExecutor>(conn: C) -> Option<C> {
+/// What must be spent goes through a whole transaction, and comes back.
+pub fn a_transaction_of_what_must_be_spent<C: PgExecutor>(conn: C) -> Option<C>
+    ensures { IsSome result }
+{
     let mut state = Transaction::begin(conn);
     match state.poll() {
         Poll::Ready(Ok(guard)) => {
