@@ -2,9 +2,11 @@
 
 use either::Either;
 use pg_conn::{PgConnection, PgQueryResult, PgRow, Query};
+use pg_guards::PgTransactionManager;
 use pg_script::{Call, Step};
 use pg_stream::MemoryLink;
-use pg_wire::{Error, Poll, Sequence};
+use pg_wire::{Error, Poll, Sequence, Text};
+use std::alloc::Global;
 
 type Connection = PgConnection<MemoryLink>;
 
@@ -194,8 +196,11 @@ fn begin(conn: &mut Connection) -> Stand {
     stand_of(answer, call.is_finished())
 }
 
-fn begin_with(conn: &mut Connection, query: Query) -> Stand {
-    match conn.begin_with(query) {
+fn begin_with(alloc: Global, conn: &mut Connection, query: Query) -> Stand {
+    let Ok(sql) = Text::from_str(alloc, query.sql()) else {
+        return Stand::Fails;
+    };
+    match PgTransactionManager::begin(conn, Some(sql)) {
         Ok(mut call) => {
             let answer = unit(settled(call.poll()));
             stand_of(answer, call.is_finished())
@@ -291,7 +296,7 @@ fn play_to_its_end(conn: &mut Connection, call: Call) -> Stand {
     }
 }
 
-fn play_once(conn: &mut Connection, call: Call) -> Stand {
+fn play_once(alloc: Global, conn: &mut Connection, call: Call) -> Stand {
     match call {
         Call::Execute(query) => execute(conn, query),
         Call::ExecuteMany(query) => execute_many(conn, query),
@@ -303,7 +308,7 @@ fn play_once(conn: &mut Connection, call: Call) -> Stand {
         Call::Ping => ping(conn),
         Call::Flush => flush(conn),
         Call::Begin => begin(conn),
-        Call::BeginWith(query) => begin_with(conn, query),
+        Call::BeginWith(query) => begin_with(alloc, conn, query),
         Call::Commit => commit(conn),
         Call::Rollback => rollback(conn),
         Call::StartRollback => start_rollback(conn),
@@ -315,14 +320,14 @@ fn play_once(conn: &mut Connection, call: Call) -> Stand {
 }
 
 /// Polls the call of a step once, or where the step has more polls, to the end of its items, and drops it.
-pub(crate) fn play_step(conn: &mut Connection, step: Step) -> Stand {
+pub(crate) fn play_step(alloc: Global, conn: &mut Connection, step: Step) -> Stand {
     let Step {
         call,
         polls,
         most: _,
     } = step;
     if polls == 1 {
-        play_once(conn, call)
+        play_once(alloc, conn, call)
     } else {
         play_to_its_end(conn, call)
     }

@@ -64,12 +64,13 @@ fn push_stand(told: &mut String, stand: Stand) -> Result<(), AllocError> {
 }
 
 fn play_steps(
+    alloc: Global,
     conn: &mut Connection,
     steps: Vec<Step>,
     told: &mut String,
 ) -> Result<(), AllocError> {
     for step in steps {
-        push_stand(told, play_step(conn, step))?;
+        push_stand(told, play_step(alloc, conn, step))?;
     }
     Ok(())
 }
@@ -113,12 +114,13 @@ fn leave(conn: Connection, case: &str) -> Option<Stand> {
 }
 
 fn play_over(
+    alloc: Global,
     mut conn: Connection,
     case: &str,
     steps: Vec<Step>,
     told: &mut String,
 ) -> Result<(), AllocError> {
-    let played = play_steps(&mut conn, steps, told);
+    let played = play_steps(alloc, &mut conn, steps, told);
     match leave(conn, case) {
         Some(stand) => push_stand(told, stand),
         None => played,
@@ -142,7 +144,7 @@ fn play_script(
     let steps = mem::replace(&mut script.steps, Sequence::new(alloc)).into_vec();
     drop(script);
     match connect(alloc, link) {
-        Some(conn) => play_over(conn, case, steps, told),
+        Some(conn) => play_over(alloc, conn, case, steps, told),
         None => {
             drop(steps);
             Ok(())

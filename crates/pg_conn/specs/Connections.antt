@@ -4,6 +4,7 @@ use Rattle.pg_call.specs.declared.kind.Change.TheVariants as changes
 use Rattle.pg_call.specs.declared.kind.Change.{Change}
 use Rattle.pg_call.specs.declared.request.Request.TheVariants as requests
 use Rattle.pg_call.specs.Requests.{spelled, kind_of, change_of, first_of}
+use Rattle.pg_request.specs.Queries.{plain_text}
 use Rattle.pg_request.specs.Texts.{rollback_text}
 use Rattle.pg_wire.specs.Frontend.{FrontendMessage, Query}
 use Rattle.pg_wire.specs.declared.error.ServerFault.{ServerFault}
@@ -120,6 +121,11 @@ rolled c = if nat_eq c.depth 0 then c else queued_group (spelled (rollback (c.de
 
 abbrev pub rolled_back : {A : Type 0} → ConnOf A → ConnOf A
 rolled_back c = rolled (ended (counted_anew (left c)))
+
+-- what a begin asks where so many are open: by a text of its own, where it has one
+abbrev pub begin_of : ℕ → Option (List ℕ) → Request
+begin_of depth None = requests.Begin depth
+begin_of depth (Some sql) = requests.BeginWith (plain_text sql)
 
 -- what a commit and a rollback ask where so many are open: nothing where none is
 abbrev pub commit_of : ℕ → Request

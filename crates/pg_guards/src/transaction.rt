@@ -1,5 +1,6 @@
 ghost use Rattle.std.specs.Prelude.{◌≡◌, true, false, Some};
 ghost use Rattle.std.proofs.Common.{ap};
+ghost use Rattle.pg_request.specs.Queries.{plain_text};
 ghost use Rattle.pg_call.specs.declared.request.Request.TheVariants as requests;
 ghost use Rattle.pg_conn.specs.Connections.{begun_by, commit_of, rolled_back, rollback_of};
 ghost use Rattle.pg_conn.specs.States.{IsCallingPlainly};
@@ -8,6 +9,7 @@ ghost use Rattle.pg_guards.specs.Holders.{IsBeginning};
 use crate::holding::roll_back;
 use crate::{BeginTransaction, EndTransaction, PgExecutor};
 use pg_conn::{PgConnection, Query, Request, commit_request, rollback_request};
+use pg_wire::Text;
 
 /// A transaction, or a savepoint in one, that is open on the connection which `C` holds. Only a begin that was answered Ok makes one. It is
 /// left by `commit` or `rollback`; where it is dropped instead, what it opened is rolled back without waiting: the ROLLBACK is queued, the next call
@@ -31,16 +33,15 @@ impl<C: PgExecutor> Transaction<C> {
         BeginTransaction::new(conn, request)
     }
 
-    /// Opens a transaction by this text, without the arguments that the query may have. Where one is open the first poll refuses it, since a savepoint has
-    /// no text of its own.
+    /// Opens a transaction by this text. Where one is open the first poll refuses it, since a savepoint has no text of its own.
     /// (PostgreSQL manual, "SQL Commands", BEGIN.)
-    pub fn begin_with(conn: C, query: Query) -> BeginTransaction<C>
+    pub fn begin_with(conn: C, sql: Text) -> BeginTransaction<C>
         ensures conn { result.conn ≡ Some conn }
-        ensures request { result.request ≡ Some (requests.BeginWith query) }
+        ensures request { result.request ≡ Some (requests.BeginWith (plain_text sql)) }
         ensures refused { result.is_refused ≡ false }
         ensures calling { IsBeginning C.conn result.request result.conn }
     {
-        BeginTransaction::new(conn, Request::BeginWith(query))
+        BeginTransaction::new(conn, Request::BeginWith(Query::from_text(sql)))
     }
 
     /// The guard of what a begin has opened on what is held.

@@ -1,4 +1,5 @@
 ghost use Rattle.std.specs.Prelude.{◌≡◌, ◌<◌, false, None, Some, IfOk, OnOk, IfErr};
+ghost use Rattle.pg_request.specs.Queries.{plain_text};
 ghost use Rattle.pg_call.specs.Answers.{unit_turn};
 ghost use Rattle.pg_conn.specs.Connections.{seen_by, begun_by, is_over, left_by};
 ghost use Rattle.pg_conn.specs.States.{IsCallingPlainly, PollFitsPlainly, turn_of};
@@ -7,7 +8,7 @@ ghost use Rattle.pg_conn.specs.Turns.{PollsCall};
 use crate::{PgConnection, Query, Request};
 use pg_call::Kind;
 use pg_stream::Link;
-use pg_wire::{Error, Poll};
+use pg_wire::{Error, Poll, Text};
 
 /// The calls `begin` and `begin_with`: they end once a transaction or a savepoint is open. A begin that is dropped or refused leaves no transaction
 /// open. (PostgreSQL manual, "SQL Commands", BEGIN, SAVEPOINT.)
@@ -31,12 +32,11 @@ impl<L> PgConnection<L> {
         }
     }
 
-    /// Opens a transaction by this text, without the arguments that the query may have. Where one is open it is refused, since a savepoint has no text of
-    /// its own.
-    pub fn begin_with(&mut self, query: Query) -> Result<Begin<'_, L>, Error>
+    /// Opens a transaction by this text. Where one is open it is refused, since a savepoint has no text of its own.
+    pub fn begin_with(&mut self, sql: Text) -> Result<Begin<'_, L>, Error>
         ensures same { IfOk result (λ call. call.conn.ghost_name ≡ self.entry.ghost_name) }
         ensures conn { IfOk result (λ call. call.conn.now ≡ self.old) }
-        ensures request { IfOk result (λ call. call.request ≡ Some (Request.BeginWith query)) }
+        ensures request { IfOk result (λ call. call.request ≡ Some (Request.BeginWith (plain_text sql))) }
         ensures calling { IfOk result (λ call. IsCallingPlainly (begun_by call.request call.conn.now)) }
         ensures outside { OnOk result (self.old.depth ≡ 0) }
         ensures err { IfErr result (λ e. (e ≡ Error.InvalidSavePointStatement) × (0 < self.old.depth)) }
@@ -46,7 +46,7 @@ impl<L> PgConnection<L> {
         }
         Ok(Begin {
             conn: self,
-            request: Some(Request::BeginWith(query)),
+            request: Some(Request::BeginWith(Query::from_text(sql))),
         })
     }
 }
