@@ -13,9 +13,11 @@ use Rattle.pg_wire.specs.declared.fields.ErrorField.{ErrorField}
 use Rattle.pg_wire.specs.Frame.{Frame}
 use Rattle.pg_wire.specs.Parts.{is_ready}
 use Rattle.pg_wire.specs.Frontend.{FrontendMessage}
-use Rattle.pg_wire.specs.Backend.{Values, BackendMessage, backend_frame, HasBackendFrame, ErrorResponse, ReadyForQuery, CopyInResponse, CopyOutResponse}
+use Rattle.pg_wire.specs.Backend.{FieldDescription, BackendMessage, backend_frame, HasBackendFrame, ErrorResponse, ReadyForQuery, CopyInResponse, CopyOutResponse}
 use Rattle.pg_wire.specs.Decoding.{IsRefused}
 use Rattle.pg_wire.specs.declared.status.TransactionStatus.{TransactionStatus}
+use Rattle.pg_rows.specs.declared.heading.Heading.{Heading}
+use Rattle.pg_rows.specs.Rows.{RowSeen}
 use Rattle.pg_call.specs.declared.kind.How.TheVariants as hows
 use Rattle.pg_call.specs.declared.kind.Kind.{Kind}
 use Rattle.pg_call.specs.declared.kind.Kind.TheVariants as kinds
@@ -40,14 +42,14 @@ use Rattle.pg_call.specs.declared.calling.Beat.{Beat}
 use Rattle.pg_call.specs.declared.calling.Beat.TheVariants as beats
 use Rattle.pg_call.specs.declared.calling.Taken.{Taken}
 use Rattle.pg_call.specs.declared.running.Running.{Running}
-use Rattle.pg_call.specs.Requests.{Group, said_in, kind_of, groups_of, messages_of, farewell, rest_of, CanBeSaid}
-use Rattle.pg_call.specs.Items.{item_of, items_of, yields, shown, tally_of, answer_to, finished, one_row, begun}
-use Rattle.pg_call.specs.Replies.{awaits_first, columns_of, goes_on, may_close, part_after, may_copy, MayNotCome, IsFault}
+use Rattle.pg_call.specs.Requests.{Group, said_in, kind_of, groups_of, messages_of, farewell, heading_of, rest_of, CanBeSaid}
+use Rattle.pg_call.specs.Items.{news_of, heading_by, heading_after, item_by, items_of, yields, shown, tally_of, answer_to, finished, one_row, begun}
+use Rattle.pg_call.specs.Replies.{awaits_first, goes_on, may_close, part_after, may_copy, MayNotCome, IsFault}
 use Rattle.pg_call.specs.Drains.{is_error, is_copy_in, before_readys, after_readys, failed_behind, fails_for, drain_fails}
 use Rattle.pg_call.specs.Hearing.{framed, added_all, gone_on, HearsMessage, Hears, marked, ledger_behind, fails_of, DrainsBy, Drains, Follows, handed_on}
 use Rattle.pg_call.specs.Calls.{answer_by, IsDraining, IsReplying, owes_own, owes_none, CallIs, owner_failed, Leaves, IsFine, EndsFine, CallEnds, IsFrontFault, CallTakes, StaysIn, TakesMessage, RefusesMessage}
 use Rattle.pg_call.proofs.DrainLaws.{count-push, count-same, after_below, after_from, before_below, before_from, failed-push, fails-push, still_failed, no_more_failed}
-use Rattle.pg_call.proofs.ItemLaws.{items-push, tally-more}
+use Rattle.pg_call.proofs.ItemLaws.{items-push, heading-push, tally-more}
 use Rattle.pg_wire.specs.Refusals.{BeginsCopyResponse}
 use Rattle.pg_call.proofs.RefusedLaws.{Describes, describes_after, described_columns, group_refused, group_copies}
 use Rattle.pg_wire.proofs.Each.{each_end}
@@ -138,7 +140,7 @@ test_at t f tag b e h = rw e h
 pub drain_takes : (f : Frame) (a b : Running) (w : Waiting) (beat : Beat) (fails : Bool) → a.call ≡ calls.Waiting w → 0 < a.ledger.owed → DrainsBy f w.is_copy_failed a b beat fails
     → (start : Ledger) (r : Request) (said : List FrontendMessage) (hs : List Frame) (items : List CallItem) → CallIs start r said hs items a.ledger (calls.Waiting w) → CallTakes start r (said ++ fails_of fails) (hs ++ f ∷ []) items b.ledger b.call beat
 drain_takes f a b w beats.More fails k some d start r said hs items i =
-    rw (d.2, d.1, k) (i.0, i.1, i.2, drained start said hs items a.ledger w.is_copy_failed f some d.0 i.3, i.4, i.5)
+    rw (d.2, d.1, k) (i.0, i.1, i.2, drained start said hs items a.ledger w.is_copy_failed f some d.0 i.3, i.4, i.5, i.6)
 drain_takes f a b w beats.Waits fails k some d start r said hs items i = absurd d
 drain_takes f a b w (beats.Yields item) fails k some d start r said hs items i = absurd d
 drain_takes f a b w (beats.Ends answer) fails k some d start r said hs items i =
@@ -168,7 +170,7 @@ not_none groups n e = let z = ap (λ (g : List Group). length g) e in absurd (om
 
 -- what a call leaves whose reply comes: some more messages of it, which show no more
 pub leaves_own : (start : Ledger) (r : Request) (said : List FrontendMessage) (hs hs' : List Frame) (items : List CallItem) (reply : Reply) (i : IsReplying start r said hs items reply) (copied : Bool) (own' : List BackendMessage) → CanBeSaid r
-    → count_by is_ready hs' ≡ start.owed → before_readys start.owed hs' ≡ before_readys start.owed hs → after_readys start.owed hs' ≡ map backend_frame own' → AllByRecursion HasBackendFrame own' → items_of own' ≡ items_of i.own
+    → count_by is_ready hs' ≡ start.owed → before_readys start.owed hs' ≡ before_readys start.owed hs → after_readys start.owed hs' ≡ map backend_frame own' → AllByRecursion HasBackendFrame own' → items_of (heading_of r) own' ≡ items_of (heading_of r) i.own
     → Leaves start r (said ++ fails_of copied) hs' items (record { owed = 1; is_copy_failed = copied }) copied
 leaves_own start r said hs hs' items reply i copied own' can c before after have same = record {
   own = groups_of r;
@@ -186,7 +188,7 @@ leaves_own start r said hs hs' items reply i copied own' can c before after have
   farewells = inl refl;
   replied = after;
   reply_has_frames = have;
-  shows = ([], append-nil items ∙ i.items_are ∙ ap (λ (k : Kind). shown k (items_of i.own)) i.kind_is ∙ ap (shown (kind_of r)) (sym same));
+  shows = ([], append-nil items ∙ i.items_are ∙ ap (λ (k : Kind). shown k (items_of (heading_of r) i.own)) i.kind_is ∙ ap (shown (kind_of r)) (sym same));
   idle = λ e. absurd (not_none (groups_of r) i.one e);
   rests = λ e. absurd (omega (arith, e));
 }
@@ -197,10 +199,14 @@ own_push : (start : Ledger) (r : Request) (said : List FrontendMessage) (hs : Li
 own_push start r said hs items reply i m =
     after_from hs start.owed (backend_frame m) (omega (arith, i.counted)) ∙ ap (λ (t : List Frame). t ++ backend_frame m ∷ []) i.own_is ∙ sym (map-append backend_frame i.own (m ∷ []))
 
-items_same : (own : List BackendMessage) (m : BackendMessage) → item_of m ≡ [] → items_of (own ++ m ∷ []) ≡ items_of own
-items_same own m e = items-push own m ∙ ap (λ (t : List CallItem). items_of own ++ t) e ∙ append-nil (items_of own)
+-- a message that is no item, whatever the heading
+abbrev IsNoItem : BackendMessage → Type 0
+IsNoItem m = (h : Heading) → item_by h (news_of m) ≡ []
 
-leaves_with : (start : Ledger) (r : Request) (said : List FrontendMessage) (hs : List Frame) (items : List CallItem) (reply : Reply) (copied : Bool) (m : BackendMessage) → CanBeSaid r → HasBackendFrame m → is_ready (backend_frame m) ≡ false → item_of m ≡ []
+items_same : (h : Heading) (own : List BackendMessage) (m : BackendMessage) → IsNoItem m → items_of h (own ++ m ∷ []) ≡ items_of h own
+items_same h own m e = items-push h own m ∙ ap (λ (t : List CallItem). items_of h own ++ t) (e (heading_after h own)) ∙ append-nil (items_of h own)
+
+leaves_with : (start : Ledger) (r : Request) (said : List FrontendMessage) (hs : List Frame) (items : List CallItem) (reply : Reply) (copied : Bool) (m : BackendMessage) → CanBeSaid r → HasBackendFrame m → is_ready (backend_frame m) ≡ false → IsNoItem m
     → IsReplying start r said hs items reply → Leaves start r (said ++ fails_of copied) (hs ++ backend_frame m ∷ []) items (record { owed = 1; is_copy_failed = copied }) copied
 leaves_with start r said hs items reply copied m can have z none i =
     leaves_own start r said hs (hs ++ backend_frame m ∷ []) items reply i copied (i.own ++ m ∷ []) can
@@ -208,7 +214,7 @@ leaves_with start r said hs items reply copied m can have z none i =
     (before_from hs start.owed (backend_frame m) (omega (arith, i.counted)))
     (own_push start r said hs items reply i m)
     (each_end HasBackendFrame i.own m i.own_have_frames have)
-    (items_same i.own m none)
+    (items_same (heading_of r) i.own m none)
 
 -- an error ends it
 own_fails : (start : Ledger) (r : Request) (said : List FrontendMessage) (hs : List Frame) (items : List CallItem) (reply : Reply) (error : List ErrorField) → CanBeSaid r → HasBackendFrame (ErrorResponse error) → IsReplying start r said hs items reply
@@ -216,7 +222,7 @@ own_fails : (start : Ledger) (r : Request) (said : List FrontendMessage) (hs : L
 own_fails start r said hs items reply error can have i = (
   refl,
   (
-    leaves_with start r said hs items reply false (ErrorResponse error) can have refl refl i,
+    leaves_with start r said hs items reply false (ErrorResponse error) can have refl (λ h. refl) i,
     (hs, refl, have, i.well),
   ),
   tt,
@@ -253,7 +259,7 @@ IsLast (Err errors.RowNotFound) = Unit {0}
 IsLast (Err (errors.BeginFailed status)) = Unit {0}
 IsLast (Err _) = ⊥
 
-one_row_last : (o : Option Values) → IsLast (one_row o)
+one_row_last : (o : Option RowSeen) → IsLast (one_row o)
 one_row_last None = tt
 one_row_last (Some row) = tt
 
@@ -317,7 +323,7 @@ closed_fine start r said hs items reply i status can =
       well = count-same is_error hs f 0 refl i.well;
       replied = own_push start r said hs items reply i m;
       reply_has_frames = each_end HasBackendFrame i.own m i.own_have_frames tt;
-      items_are = i.items_are ∙ ap (λ (k : Kind). shown k (items_of i.own)) i.kind_is ∙ ap (shown (kind_of r)) (sym (items_same i.own m refl));
+      items_are = i.items_are ∙ ap (λ (k : Kind). shown k (items_of (heading_of r) i.own)) i.kind_is ∙ ap (shown (kind_of r)) (sym (items_same (heading_of r) i.own m (λ h. refl)));
       ends = inr (hs, f, refl, refl);
       last = inr (hs, refl);
     }
@@ -325,42 +331,44 @@ closed_fine start r said hs items reply i status can =
 own_not_close : (r : Request) → length (groups_of r) ≡ 1 → kind_of r ≡ kinds.Close → ⊥
 own_not_close r n k = let z = ap (λ (g : List Group). length g) (no_groups_close r k).0 in absurd (omega (arith, n, z))
 
-handed_last : (rest : Option Bound) (part : Part) (answer : Result CallAnswer Error) → IsLast answer → IsLast (handed_on rest part answer)
-handed_last None part answer l = l
-handed_last (Some bound) part answer l = tt
+handed_last : (rest : Option Bound) (columns : Option (List FieldDescription)) (answer : Result CallAnswer Error) → IsLast answer → IsLast (handed_on rest columns answer)
+handed_last None columns answer l = l
+handed_last (Some bound) columns answer l = tt
 
--- what closes a description has described so many columns
-described_at : (own : List BackendMessage) (part : Part) (status : TransactionStatus) → part_after parts.Parsing own ≡ Some part → may_close part ≡ true → columns_of part ≡ Some (length (described (own ++ ReadyForQuery status ∷ [])))
-described_at own part status e c = by part (describes_after parts.Parsing part own tt e) e c
+-- what closes a description has described these columns
+described_at : (h : Heading) (own : List BackendMessage) (part : Part) (status : TransactionStatus) → h.columns ≡ Some [] → part_after parts.Parsing own ≡ Some part → may_close part ≡ true → (heading_after h own).columns ≡ Some (described (own ++ ReadyForQuery status ∷ []))
+described_at h own part status none e c = by part (describes_after parts.Parsing part own tt e) e c
   where
-    by : (part : Part) → Describes part → part_after parts.Parsing own ≡ Some part → may_close part ≡ true → columns_of part ≡ Some (length (described (own ++ ReadyForQuery status ∷ [])))
-    by (parts.Described columns) d e c = ap (λ (n : ℕ). Some n) (sym (described_columns own columns status e))
+    by : (part : Part) → Describes part → part_after parts.Parsing own ≡ Some part → may_close part ≡ true → (heading_after h own).columns ≡ Some (described (own ++ ReadyForQuery status ∷ []))
+    by (parts.Described columns) d e c = described_columns h own columns status none e
     by parts.Parsing d e c = absurd cc
     by parts.Typing d e c = absurd cc
     by parts.Describing d e c = absurd cc
     by _ d e c = absurd d
 
-answers_same : (r : Request) (own : List BackendMessage) (reply : Reply) (status : TransactionStatus) → reply.rest ≡ rest_of r → part_after (awaits_first r) own ≡ Some reply.part → may_close reply.part ≡ true
-    → answer_to (kind_of r) (items_of (own ++ ReadyForQuery status ∷ [])) status ≡ finished reply.kind reply.tally status → answer_by r (own ++ ReadyForQuery status ∷ []) status ≡ handed_on reply.rest reply.part (finished reply.kind reply.tally status)
-answers_same (requests.Describe x) own reply status k p c e =
-    ap (λ (w : Option ℕ). Ok (answers.Next (requests.Run (record { how = x.how; arguments = x.arguments; width = w })))) (sym (described_at own reply.part status p c))
-    ∙ ap (λ (o : Option Bound). handed_on o reply.part (finished reply.kind reply.tally status)) (sym k)
-answers_same _ own reply status k p c e = e ∙ ap (λ (o : Option Bound). handed_on o reply.part (finished reply.kind reply.tally status)) (sym k)
+answers_same : (r : Request) (own : List BackendMessage) (reply : Reply) (status : TransactionStatus) → reply.rest ≡ rest_of r → reply.heading ≡ heading_after (heading_of r) own → part_after (awaits_first r) own ≡ Some reply.part → may_close reply.part ≡ true
+    → answer_to (kind_of r) (items_of (heading_of r) (own ++ ReadyForQuery status ∷ [])) status ≡ finished reply.kind reply.tally status
+    → answer_by r (own ++ ReadyForQuery status ∷ []) status ≡ handed_on reply.rest reply.heading.columns (finished reply.kind reply.tally status)
+answers_same (requests.Describe x) own reply status k h p c e =
+    let r : Request = requests.Describe x in
+    ap (λ (w : Option (List FieldDescription)). Ok (answers.Next (requests.Run (record { how = x.how; arguments = x.arguments; columns = w })))) (sym (ap (λ (y : Heading). y.columns) h ∙ described_at (heading_of r) own reply.part status refl p c))
+    ∙ ap (λ (o : Option Bound). handed_on o reply.heading.columns (finished reply.kind reply.tally status)) (sym k)
+answers_same _ own reply status k h p c e = e ∙ ap (λ (o : Option Bound). handed_on o reply.heading.columns (finished reply.kind reply.tally status)) (sym k)
 
 own_closes : (start : Ledger) (r : Request) (said : List FrontendMessage) (hs : List Frame) (items : List CallItem) (reply : Reply) (status : TransactionStatus) → may_close reply.part ≡ true → CanBeSaid r → IsReplying start r said hs items reply
-    → CallTakes start r (said ++ []) (hs ++ backend_frame (ReadyForQuery status) ∷ []) items owes_none calls.Idle (beats.Ends (handed_on reply.rest reply.part (finished reply.kind reply.tally status)))
+    → CallTakes start r (said ++ []) (hs ++ backend_frame (ReadyForQuery status) ∷ []) items owes_none calls.Idle (beats.Ends (handed_on reply.rest reply.heading.columns (finished reply.kind reply.tally status)))
 unfolding closed_fine
 own_closes start r said hs items reply status closes can i =
-    let answer = handed_on reply.rest reply.part (finished reply.kind reply.tally status) in
-    let plain : answer_to (kind_of r) (items_of (i.own ++ ReadyForQuery status ∷ [])) status ≡ finished reply.kind reply.tally status =
-    ap (λ (t : List CallItem). answer_to (kind_of r) t status) (items_same i.own (ReadyForQuery status) refl) ∙ ap (λ (k : Kind). answer_to k (items_of i.own) status) (sym i.kind_is) ∙ ap (λ (t : Tally). finished reply.kind t status) (sym i.tally_is) in
-    let same = answers_same r i.own reply status i.rest_is i.so_far closes plain in
-    (refl, ends_fine start r (said ++ []) _ items owes_none _ (handed_last reply.rest reply.part _ (finished_last reply.kind reply.tally status)) (rw (append-nil said) (closed_fine start r said hs items reply i status can, same)), on_ok answer (kind_of r ≡ kinds.Close → ⊥) (λ k. own_not_close r i.one k))
+    let answer = handed_on reply.rest reply.heading.columns (finished reply.kind reply.tally status) in
+    let plain : answer_to (kind_of r) (items_of (heading_of r) (i.own ++ ReadyForQuery status ∷ [])) status ≡ finished reply.kind reply.tally status =
+    ap (λ (t : List CallItem). answer_to (kind_of r) t status) (items_same (heading_of r) i.own (ReadyForQuery status) (λ h. refl)) ∙ ap (λ (k : Kind). answer_to k (items_of (heading_of r) i.own) status) (sym i.kind_is) ∙ ap (λ (t : Tally). finished reply.kind t status) (sym i.tally_is) in
+    let same = answers_same r i.own reply status i.rest_is i.heading_is i.so_far closes plain in
+    (refl, ends_fine start r (said ++ []) _ items owes_none _ (handed_last reply.rest reply.heading.columns _ (finished_last reply.kind reply.tally status)) (rw (append-nil said) (closed_fine start r said hs items reply i status can, same)), on_ok answer (kind_of r ≡ kinds.Close → ⊥) (λ k. own_not_close r i.one k))
 
 -- ---- a copy that nobody asked for
 
 own_copies : (start : Ledger) (r : Request) (said : List FrontendMessage) (hs : List Frame) (items : List CallItem) (reply : Reply) (m : BackendMessage) → CanBeSaid r → HasBackendFrame m → may_copy reply.part m ≡ true → is_ready (backend_frame m) ≡ false → is_error (backend_frame m) ≡ false
-    → item_of m ≡ [] → IsReplying start r said hs items reply
+    → IsNoItem m → IsReplying start r said hs items reply
     → let tag = (backend_frame m).tag in let copied = tag == 71 in
     CallTakes start r (said ++ fails_of copied) (hs ++ backend_frame m ∷ []) items (record { owed = 1; is_copy_failed = copied }) calls.Idle (beats.Ends (Err (errors.Protocol (protocol.Reply tag))))
 unfolding leaves_with leaves_own
@@ -402,21 +410,25 @@ part-push s t u (x ∷ xs) m e j = by (goes_on s x) (λ n k. part-push n t u xs 
     by (Some n) f k = f n k
 
 went_on : (start : Ledger) (r : Request) (said : List FrontendMessage) (hs : List Frame) (items : List CallItem) (reply : Reply) (next : Part) (m : BackendMessage) → HasBackendFrame m → goes_on reply.part m ≡ Some next → is_ready (backend_frame m) ≡ false → is_error (backend_frame m) ≡ false
-    → IsReplying start r said hs items reply → IsReplying start r said (hs ++ backend_frame m ∷ []) (items ++ filter (yields reply.kind) (item_of m)) (gone_on reply next (item_of m))
-went_on start r said hs items reply next m have goes z e i = record {
-  own = i.own ++ m ∷ [];
-  kind_is = i.kind_is;
-  one = i.one;
-  said_is = i.said_is ∙ ap (λ (t : List Frame). drain_fails start.is_copy_failed t ++ said_in (groups_of r)) (sym (before_from hs start.owed (backend_frame m) (omega (arith, i.counted))));
-  counted = count-same is_ready hs (backend_frame m) start.owed z i.counted;
-  well = count-same is_error hs (backend_frame m) 0 e i.well;
-  own_is = own_push start r said hs items reply i m;
-  own_have_frames = each_end HasBackendFrame i.own m i.own_have_frames have;
-  so_far = part-push (awaits_first r) reply.part next i.own m i.so_far goes;
-  rest_is = i.rest_is;
-  tally_is = ap (λ (t : Tally). added_all reply.kind t (item_of m)) i.tally_is ∙ tally-more reply.kind (items_of i.own) (item_of m) ∙ ap (tally_of reply.kind) (sym (items-push i.own m));
-  items_are = ap (λ (t : List CallItem). t ++ filter (yields reply.kind) (item_of m)) i.items_are ∙ sym (filter-append (yields reply.kind) (items_of i.own) (item_of m)) ∙ ap (shown reply.kind) (sym (items-push i.own m));
-}
+    → IsReplying start r said hs items reply → IsReplying start r said (hs ++ backend_frame m ∷ []) (items ++ filter (yields reply.kind) (item_by reply.heading (news_of m))) (gone_on reply next (news_of m))
+went_on start r said hs items reply next m have goes z e i =
+    let added : items_of (heading_of r) i.own ++ item_by reply.heading (news_of m) ≡ items_of (heading_of r) (i.own ++ m ∷ []) =
+    ap (λ (h : Heading). items_of (heading_of r) i.own ++ item_by h (news_of m)) i.heading_is ∙ sym (items-push (heading_of r) i.own m) in
+    record {
+      own = i.own ++ m ∷ [];
+      kind_is = i.kind_is;
+      one = i.one;
+      said_is = i.said_is ∙ ap (λ (t : List Frame). drain_fails start.is_copy_failed t ++ said_in (groups_of r)) (sym (before_from hs start.owed (backend_frame m) (omega (arith, i.counted))));
+      counted = count-same is_ready hs (backend_frame m) start.owed z i.counted;
+      well = count-same is_error hs (backend_frame m) 0 e i.well;
+      own_is = own_push start r said hs items reply i m;
+      own_have_frames = each_end HasBackendFrame i.own m i.own_have_frames have;
+      so_far = part-push (awaits_first r) reply.part next i.own m i.so_far goes;
+      rest_is = i.rest_is;
+      heading_is = ap (λ (h : Heading). heading_by h (news_of m)) i.heading_is ∙ sym (heading-push (heading_of r) i.own m);
+      tally_is = ap (λ (t : Tally). added_all reply.kind t (item_by reply.heading (news_of m))) i.tally_is ∙ tally-more reply.kind (items_of (heading_of r) i.own) (item_by reply.heading (news_of m)) ∙ ap (tally_of reply.kind) added;
+      items_are = ap (λ (t : List CallItem). t ++ filter (yields reply.kind) (item_by reply.heading (news_of m))) i.items_are ∙ sym (filter-append (yields reply.kind) (items_of (heading_of r) i.own) (item_by reply.heading (news_of m))) ∙ ap (shown reply.kind) added;
+    }
 
 -- what a reply goes on by is no error, and not its end
 no_ready : (part next : Part) (status : TransactionStatus) → goes_on part (ReadyForQuery status) ≡ Some next → ⊥
@@ -452,15 +464,15 @@ goes_plain part next (ReadyForQuery status) e = absurd (no_ready part next statu
 goes_plain part next (ErrorResponse details) e = absurd (no_error part next details e)
 goes_plain part next _ e = (refl, refl)
 
-copies_plain : (part : Part) (m : BackendMessage) → may_copy part m ≡ true → (is_ready (backend_frame m) ≡ false) × (is_error (backend_frame m) ≡ false) × (item_of m ≡ [])
-copies_plain parts.First (CopyInResponse format columns) e = (refl, refl, refl)
-copies_plain parts.First (CopyOutResponse format columns) e = (refl, refl, refl)
+copies_plain : (part : Part) (m : BackendMessage) → may_copy part m ≡ true → (is_ready (backend_frame m) ≡ false) × (is_error (backend_frame m) ≡ false) × IsNoItem m
+copies_plain parts.First (CopyInResponse format columns) e = (refl, refl, λ h. refl)
+copies_plain parts.First (CopyOutResponse format columns) e = (refl, refl, λ h. refl)
 copies_plain parts.First _ e = absurd cc
-copies_plain parts.Further (CopyInResponse format columns) e = (refl, refl, refl)
-copies_plain parts.Further (CopyOutResponse format columns) e = (refl, refl, refl)
+copies_plain parts.Further (CopyInResponse format columns) e = (refl, refl, λ h. refl)
+copies_plain parts.Further (CopyOutResponse format columns) e = (refl, refl, λ h. refl)
 copies_plain parts.Further _ e = absurd cc
-copies_plain (parts.Running width) (CopyInResponse format columns) e = (refl, refl, refl)
-copies_plain (parts.Running width) (CopyOutResponse format columns) e = (refl, refl, refl)
+copies_plain (parts.Running width) (CopyInResponse format columns) e = (refl, refl, λ h. refl)
+copies_plain (parts.Running width) (CopyOutResponse format columns) e = (refl, refl, λ h. refl)
 copies_plain (parts.Running width) _ e = absurd cc
 copies_plain _ m e = absurd cc
 
@@ -479,7 +491,7 @@ pub own_takes : (start : Ledger) (r : Request) (said : List FrontendMessage) (hs
     → CallTakes start r (said ++ fails_of taken.fails_copy) (hs ++ backend_frame m ∷ []) items b.ledger b.call taken.beat
 own_takes start r said hs items reply reply' m heards.More ledger b taken have h f o can i =
     let g = goes_plain reply.part h.0 m h.1 in
-    let none : items ++ filter (yields reply.kind) (item_of m) ≡ items = ap (λ (t : List CallItem). items ++ t) h.3 ∙ append-nil items in
+    let none : items ++ filter (yields reply.kind) (item_by reply.heading (news_of m)) ≡ items = ap (λ (t : List CallItem). items ++ t) h.3 ∙ append-nil items in
     rw (f.1, f.0, append-nil said, h.2) (o, can, rw none at (went_on start r said hs items reply h.0 m have h.1 g.0 g.1 i))
 own_takes start r said hs items reply reply' m (heards.Yields item) ledger b taken have h f o can i =
     let g = goes_plain reply.part h.0 m h.1 in

@@ -5,7 +5,8 @@ use Rattle.pg_wire.specs.declared.status.TransactionStatus.{TransactionStatus}
 use Rattle.pg_wire.specs.declared.error.Error.{Error}
 use Rattle.pg_wire.specs.Frame.{Frame}
 use Rattle.pg_wire.specs.Frontend.{FrontendMessage}
-use Rattle.pg_wire.specs.Backend.{Values, BackendMessage}
+use Rattle.pg_wire.specs.Backend.{BackendMessage}
+use Rattle.pg_rows.specs.Rows.{RowSeen}
 use Rattle.pg_call.specs.declared.kind.How.TheVariants as hows
 use Rattle.pg_call.specs.declared.kind.Kind.{Kind}
 use Rattle.pg_call.specs.declared.kind.Kind.TheVariants as kinds
@@ -21,7 +22,7 @@ use Rattle.pg_call.specs.declared.calling.Call.TheVariants as calls
 use Rattle.pg_request.specs.Queries.{QueryText, ArgumentsSeen}
 use Rattle.pg_call.specs.declared.kind.How.{How}
 use Rattle.pg_call.specs.Requests.{kind_of, main_kind, first_by, first_of}
-use Rattle.pg_call.specs.Items.{answer_to, items_of, tally_of, yields, finished, one_row, begun}
+use Rattle.pg_call.specs.Items.{answer_to, own_items, tally_of, yields, finished, one_row, begun}
 use Rattle.pg_call.specs.Answers.{AnswerFits}
 use Rattle.pg_call.specs.Calls.{CallIs, answer_by, answer_or_next, next_of}
 
@@ -57,13 +58,13 @@ shown_fits start r said hs items item ledger (calls.Asked asked) i = absurd (not
 shown_fits start r said hs items item ledger calls.Closing i = absurd (not_empty items item i.2.draining.items_are)
 shown_fits start r said hs items item ledger calls.Idle i = absurd i
 
-one_fits : (o : Option Values) (answer : CallAnswer) → one_row o ≡ Ok answer → AnswerFits (kinds.Run hows.FetchOne) answer
+one_fits : (o : Option RowSeen) (answer : CallAnswer) → one_row o ≡ Ok answer → AnswerFits (kinds.Run hows.FetchOne) answer
 one_fits None answer e = absurd cc
 one_fits (Some row) answer e =
     let same : answers.OneRow (Some row) ≡ answer = cc in
     subst (AnswerFits (kinds.Run hows.FetchOne)) same tt
 
-the_ok : (a b : CallAnswer) → ◌≡◌ {A = Result CallAnswer Error} (Ok a) (Ok b) → a ≡ b
+pub the_ok : (a b : CallAnswer) → ◌≡◌ {A = Result CallAnswer Error} (Ok a) (Ok b) → a ≡ b
 the_ok a b e = cc
 
 -- an answer is of its kind
@@ -100,8 +101,8 @@ answers_fit r reply status answer e = by r (next_of r reply) refl e
     handed (requests.Describe extended) reply next k = tt
     handed _ reply next k = absurd cc
 
-    by : (r : Request) (o : Option Request) → next_of r reply ≡ o → answer_or_next o (answer_to (kind_of r) (items_of reply) status) ≡ Ok answer → AnswerFits (kind_of r) answer
-    by r None k e = finished_fits (kind_of r) (tally_of (kind_of r) (items_of reply)) status answer (no_description r reply k) e
+    by : (r : Request) (o : Option Request) → next_of r reply ≡ o → answer_or_next o (answer_to (kind_of r) (own_items r reply) status) ≡ Ok answer → AnswerFits (kind_of r) answer
+    by r None k e = finished_fits (kind_of r) (tally_of (kind_of r) (own_items r reply)) status answer (no_description r reply k) e
     by r (Some next) k e = subst (AnswerFits (kind_of r)) (the_ok _ _ e) (handed r reply next k)
 
 -- ---- the exchanges of a call

@@ -255,6 +255,7 @@ replying_from start r said hs items ledger w f c z i =
         own_have_frames = tt;
         so_far = ap (λ (p : Part). Some p) (sym i.4);
         rest_is = i.5;
+        heading_is = i.6;
         tally_is = tally_nil w.kind;
         items_are = d.items_are;
       },

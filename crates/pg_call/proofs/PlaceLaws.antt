@@ -1,5 +1,5 @@
 -- What may come where, by its tag.
-use Rattle.std.proofs.Common.{◌≡◌, ℕ, true, false, List, [], length, Some, None, refl, sym, ◌∙◌, ap, subst, Ok, Err, arith}
+use Rattle.std.proofs.Common.{◌≡◌, ℕ, true, false, List, length, Some, None, refl, sym, ◌∙◌, ap, subst, Ok, Err, arith}
 use Rattle.pg_wire.specs.declared.error.Error.{Error}
 use Rattle.pg_wire.specs.declared.error.Error.TheVariants as errors
 use Rattle.pg_wire.specs.declared.error.ProtocolFault.TheVariants as protocol
@@ -12,7 +12,8 @@ use Rattle.pg_call.specs.declared.judging.Part.{Part}
 use Rattle.pg_call.specs.declared.judging.Part.TheVariants.{First, Further, Rows, Synced, Parsing, Typing, Describing, Described, Binding, Running, RunningOn, Closing}
 use Rattle.pg_call.specs.Replies.{goes_on, goes_plainly, may_copy, may_close, after_row, after_bind, after_columns, after_end, tags_of, MayNotCome, IsAny, IsFault, Judges}
 use Rattle.pg_call.specs.declared.judging.Verdict.{Verdict}
-use Rattle.pg_call.specs.Items.{item_of}
+use Rattle.pg_call.specs.declared.judging.News.TheVariants.{Nothing}
+use Rattle.pg_call.specs.Items.{news_of}
 
 pub closes_at : (part : Part) → is_known (tags_of part) 90 ≡ true → may_close part ≡ true
 closes_at Further k = refl
@@ -197,5 +198,5 @@ claims_other_width part body e f h = because part 68 body e (row_misfits part bo
 
 -- ---- a message of which nothing is kept
 
-pub plainly : (part next : Part) (tag : ℕ) (body : List ℕ) (m : BackendMessage) (verdict : Verdict) → verdict ≡ goes_plainly next → Says tag body m → goes_on part m ≡ Some next → [] ≡ item_of m → Judges part tag body (Ok verdict)
+pub plainly : (part next : Part) (tag : ℕ) (body : List ℕ) (m : BackendMessage) (verdict : Verdict) → verdict ≡ goes_plainly next → Says tag body m → goes_on part m ≡ Some next → Nothing ≡ news_of m → Judges part tag body (Ok verdict)
 plainly part next tag body m verdict e s g i = rw e (m, s, (g, i))

@@ -17,7 +17,9 @@ use Rattle.pg_call.specs.declared.request.Request.{Request}
 use Rattle.pg_call.specs.declared.request.Request.TheVariants as requests
 use Rattle.pg_call.specs.declared.judging.Part.{Part}
 use Rattle.pg_call.specs.declared.judging.Part.TheVariants.{First, Further, Rows, Synced, Parsing, Typing, Describing, Described, Binding, Running, RunningOn, Closing}
-use Rattle.pg_call.specs.Requests.{Group, groups_of, known, widths_of}
+use Rattle.pg_rows.specs.declared.heading.Heading.{Heading}
+use Rattle.pg_call.specs.Requests.{Group, groups_of, known, width_of, widths_of}
+use Rattle.pg_call.specs.Items.{heading_after}
 use Rattle.pg_call.specs.Replies.{awaited, awaits_first, begins, goes_on, part_after, may_copy, MayNotCome}
 
 -- ---- the reply goes on as the protocol says
@@ -193,7 +195,7 @@ first_awaits (requests.BeginWith query) group e = rw (← the_first _ _ e) refl
 first_awaits (requests.Commit left) group e = rw (← the_first _ _ e) refl
 first_awaits (requests.Rollback left) group e = rw (← the_first _ _ e) refl
 first_awaits (requests.Describe extended) group e = rw (← the_first _ _ e) refl
-first_awaits (requests.Run bound) group e = rw (← the_first _ _ e) (by bound.width)
+first_awaits (requests.Run bound) group e = rw (← the_first _ _ e) (by (width_of bound))
   where
     by : (width : Option ℕ) → expected (known width) (Bind [] bound.arguments.values ∷ Execute [] 0 ∷ ClosePortal [] ∷ Sync ∷ []) ≡ awaited (Binding width)
     by None = refl
@@ -375,20 +377,14 @@ group_copies (requests.BeginWith query) group own part m g have h e may = query_
 group_copies (requests.Commit left) group own part m g have h e may = query_copies _ group own part m g have h e may
 group_copies (requests.Rollback left) group own part m g have h e may = query_copies _ group own part m g have h e may
 group_copies (requests.Describe extended) group own part m g have h e may = absurd (describes_copies_none part m (describes_after Parsing part own tt e) may)
-group_copies (requests.Run bound) group own part m g have h e may = run_copies bound.arguments.values bound.width group own part m g h e may
+group_copies (requests.Run bound) group own part m g have h e may = run_copies bound.arguments.values (width_of bound) group own part m g h e may
 group_copies requests.Ping group own part m g have h e may = absurd (no_copy_synced own part m e may)
 group_copies requests.Flush group own part m g have h e may = absurd (none_first group g)
 group_copies requests.Close group own part m g have h e may = absurd (none_first group g)
 
--- ---- how many columns were described
+-- ---- which columns were described
 
-pub described_columns : (own : List BackendMessage) (columns : ℕ) (status : TransactionStatus) → part_after Parsing own ≡ Some (Described columns) → length (described (own ++ ReadyForQuery status ∷ [])) ≡ columns
-described_columns (ParseComplete ∷ ParameterDescription types ∷ RowDescription fields ∷ []) columns status e = the_columns (length fields) columns e
-  where
-    the_columns : (n m : ℕ) → Some (Described n) ≡ Some (Described m) → n ≡ m
-    the_columns n m e = cc
-described_columns (ParseComplete ∷ ParameterDescription types ∷ NoData ∷ []) columns status e = the_columns 0 columns e
-  where
-    the_columns : (n m : ℕ) → Some (Described n) ≡ Some (Described m) → n ≡ m
-    the_columns n m e = cc
-described_columns _ columns status e = absurd cc
+pub described_columns : (h : Heading) (own : List BackendMessage) (columns : ℕ) (status : TransactionStatus) → h.columns ≡ Some [] → part_after Parsing own ≡ Some (Described columns) → (heading_after h own).columns ≡ Some (described (own ++ ReadyForQuery status ∷ []))
+described_columns h (ParseComplete ∷ ParameterDescription types ∷ RowDescription fields ∷ []) columns status none e = rw none refl
+described_columns h (ParseComplete ∷ ParameterDescription types ∷ NoData ∷ []) columns status none e = none
+described_columns h _ columns status none e = absurd cc

@@ -1,10 +1,12 @@
 -- What a state of a call that isn't meant stays.
-use Rattle.std.proofs.Common.{◌≡◌, ℕ, ◌+◌, ◌≤◌, Bool, List, length, flat_map, Option, None, refl, ap, arith}
+use Rattle.std.proofs.Common.{◌≡◌, ℕ, ◌+◌, ◌≤◌, Bool, List, [], length, flat_map, Option, None, refl, ap, arith}
 use Rattle.std.specs.List.{AllByRecursion}
 use Rattle.pg_wire.specs.Bytes.{value}
 use Rattle.pg_wire.specs.Encoding.{body_max}
 use Rattle.pg_wire.specs.Frontend.{FitsValue}
 use Rattle.pg_wire.proofs.BoundLaws.{fit_within}
+use Rattle.pg_values.specs.declared.format.PgValueFormat.TheVariants as formats
+use Rattle.pg_rows.specs.declared.heading.Heading.{Heading}
 use Rattle.pg_call.specs.declared.request.Extended.{Extended}
 use Rattle.pg_call.specs.declared.request.Bound.{Bound}
 use Rattle.pg_call.specs.declared.request.Request.{Request}
@@ -12,12 +14,13 @@ use Rattle.pg_call.specs.declared.request.Request.TheVariants as requests
 use Rattle.pg_call.specs.declared.waiting.Waiting.{Waiting}
 use Rattle.pg_call.specs.declared.calling.Call.{Call}
 use Rattle.pg_call.specs.declared.calling.Call.TheVariants as calls
-use Rattle.pg_call.specs.Requests.{rest_of}
+use Rattle.pg_call.specs.Requests.{kind_of, rest_of, heading_for, heading_of}
 use Rattle.pg_call.specs.Hearing.{awaits, waits}
 
-pub rests_none : (r : Request) → ((extended : Extended) → r ≡ requests.Describe extended → ⊥) → ◌≡◌ {A = Option Bound} None (rest_of r)
-rests_none (requests.Describe extended) n = absurd (n extended refl)
-rests_none _ n = refl
+pub rests_none : (r : Request) → ((extended : Extended) → r ≡ requests.Describe extended → ⊥) → ((bound : Bound) → r ≡ requests.Run bound → ⊥) → ◌≡◌ {A = Option Bound × Heading} (None, heading_for (kind_of r) [] formats.Text) (rest_of r, heading_of r)
+rests_none (requests.Describe extended) n o = absurd (n extended refl)
+rests_none (requests.Run bound) n o = absurd (o bound refl)
+rests_none _ n o = refl
 
 pub stays_waiting : (call : Call) → ((w : Waiting) → call ≡ calls.Waiting w → ⊥) → call ≡ awaits call
 stays_waiting (calls.Waiting w) n = absurd (n w refl)

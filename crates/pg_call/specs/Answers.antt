@@ -3,7 +3,7 @@ use Rattle.std.specs.Prelude.{◌≡◌, true, List, Option, Some, None, Result,
 use Rattle.either.specs.declared.Either.{Either}
 use Rattle.either.specs.declared.Either.TheVariants.{Left, Right}
 use Rattle.pg_wire.specs.declared.error.Error.{Error}
-use Rattle.pg_wire.specs.Backend.{Values}
+use Rattle.pg_rows.specs.Rows.{RowSeen}
 use Rattle.pg_call.specs.declared.query_result.PgQueryResult.{PgQueryResult}
 use Rattle.pg_call.specs.declared.kind.How.TheVariants as hows
 use Rattle.pg_call.specs.declared.kind.Kind.{Kind}
@@ -53,19 +53,19 @@ abbrev pub unit_turn : Result (Unit {0}) Error → Turn
 unit_turn (Ok u) = turns.Ok answers.Unit
 unit_turn (Err e) = turns.Err e
 
-abbrev pub rows_turn : Result (List Values) Error → Turn
+abbrev pub rows_turn : Result (List RowSeen) Error → Turn
 rows_turn (Ok rows) = turns.Ok (answers.Rows rows)
 rows_turn (Err e) = turns.Err e
 
-abbrev pub optional_turn : Result (Option Values) Error → Turn
+abbrev pub optional_turn : Result (Option RowSeen) Error → Turn
 optional_turn (Ok row) = turns.Ok (answers.OneRow row)
 optional_turn (Err e) = turns.Err e
 
-abbrev pub one_turn : Result Values Error → Turn
+abbrev pub one_turn : Result RowSeen Error → Turn
 one_turn (Ok row) = turns.Ok (answers.OneRow (Some row))
 one_turn (Err e) = turns.Err e
 
-abbrev pub row_turn : Option (Result Values Error) → Turn
+abbrev pub row_turn : Option (Result RowSeen Error) → Turn
 row_turn (Some (Ok row)) = turns.Item (items.Row row)
 row_turn (Some (Err e)) = turns.Err e
 row_turn None = turns.Ok answers.Unit
@@ -75,7 +75,7 @@ count_turn (Some (Ok count)) = turns.Item (items.Count count)
 count_turn (Some (Err e)) = turns.Err e
 count_turn None = turns.Ok answers.Unit
 
-abbrev pub either_turn : Option (Result (Either PgQueryResult Values) Error) → Turn
+abbrev pub either_turn : Option (Result (Either PgQueryResult RowSeen) Error) → Turn
 either_turn (Some (Ok (Left count))) = turns.Item (items.Count count)
 either_turn (Some (Ok (Right row))) = turns.Item (items.Row row)
 either_turn (Some (Err e)) = turns.Err e

@@ -29,8 +29,8 @@ use Rattle.pg_call.specs.declared.calling.Beat.{Beat}
 use Rattle.pg_call.specs.declared.calling.Beat.TheVariants as beats
 use Rattle.pg_call.specs.declared.calling.Taken.{Taken}
 use Rattle.pg_call.specs.declared.running.Running.{Running}
-use Rattle.pg_call.specs.Requests.{Group, said_in, spelled, kind_of, groups_of, messages_of, farewell, rest_of, widths_of, CanBeSaid, IsRefusal}
-use Rattle.pg_call.specs.Items.{items_of, shown, tally_of, answer_to}
+use Rattle.pg_call.specs.Requests.{Group, said_in, spelled, kind_of, groups_of, messages_of, farewell, heading_of, rest_of, widths_of, CanBeSaid, IsRefusal}
+use Rattle.pg_call.specs.Items.{heading_after, own_items, shown, tally_of, answer_to}
 use Rattle.pg_call.specs.Replies.{awaits_first, part_after, may_copy}
 use Rattle.pg_call.specs.Drains.{is_error, before_readys, after_readys, failed_after, drain_fails}
 use Rattle.pg_call.specs.Hearing.{framed, fails_of}
@@ -68,8 +68,9 @@ pub record IsReplying (start : Ledger) (r : Request) (said : List FrontendMessag
   pub own_have_frames : AllByRecursion HasBackendFrame own
   pub so_far : part_after (awaits_first r) own ≡ Some reply.part
   pub rest_is : reply.rest ≡ rest_of r
-  pub tally_is : reply.tally ≡ tally_of reply.kind (items_of own)
-  pub items_are : items ≡ shown reply.kind (items_of own)
+  pub heading_is : reply.heading ≡ heading_after (heading_of r) own
+  pub tally_is : reply.tally ≡ tally_of reply.kind (own_items r own)
+  pub items_are : items ≡ shown reply.kind (own_items r own)
 
 -- its reply alone is owed
 abbrev pub owes_own : Ledger
@@ -81,7 +82,7 @@ owes_none = record { owed = 0; is_copy_failed = false }
 -- The call r, which began with this ledger, has queued these messages, heard these frames and shown these items.
 abbrev pub CallIs : Ledger → Request → List FrontendMessage → List Frame → List CallItem → Ledger → Call → Type 0
 CallIs start r said hs items ledger (calls.Asked asked) = (asked ≡ r) × (ledger ≡ start) × (said ≡ []) × (hs ≡ []) × (items ≡ [])
-CallIs start r said hs items ledger (calls.Waiting w) = (w.kind ≡ kind_of r) × (w.frames ≡ spelled (messages_of r)) × CanBeSaid r × IsDraining start said hs items ledger w.is_copy_failed × (w.part ≡ awaits_first r) × (w.rest ≡ rest_of r)
+CallIs start r said hs items ledger (calls.Waiting w) = (w.kind ≡ kind_of r) × (w.frames ≡ spelled (messages_of r)) × CanBeSaid r × IsDraining start said hs items ledger w.is_copy_failed × (w.part ≡ awaits_first r) × (w.rest ≡ rest_of r) × (w.heading ≡ heading_of r)
 CallIs start r said hs items ledger (calls.Own reply) = (ledger ≡ owes_own) × CanBeSaid r × IsReplying start r said hs items reply
 CallIs start r said hs items ledger calls.Closing = (kind_of r ≡ kinds.Close) × CanBeSaid r × IsClosing start said hs items ledger
 CallIs start r said hs items ledger calls.Idle = ⊥
@@ -113,7 +114,7 @@ pub record Leaves (start : Ledger) (r : Request) (said : List FrontendMessage) (
   pub farewells : (bye ≡ []) ⊎ ((bye ≡ farewell (kind_of r)) × CanBeSaid r)
   pub replied : after_readys start.owed hs ≡ map backend_frame reply
   pub reply_has_frames : AllByRecursion HasBackendFrame reply
-  pub shows : IsPrefixOf items (shown (kind_of r) (items_of reply))
+  pub shows : IsPrefixOf items (shown (kind_of r) (own_items r reply))
   pub idle : own ≡ [] → items ≡ []
   pub rests : ledger.owed ≡ 0 → after_readys start.owed hs ≡ []
 
@@ -137,14 +138,14 @@ pub record IsFine (start : Ledger) (r : Request) (said : List FrontendMessage) (
   pub well : count_by is_error hs ≡ 0
   pub replied : after_readys start.owed hs ≡ map backend_frame reply
   pub reply_has_frames : AllByRecursion HasBackendFrame reply
-  pub items_are : items ≡ shown (kind_of r) (items_of reply)
+  pub items_are : items ≡ shown (kind_of r) (own_items r reply)
   pub ends : EndsByReady hs
   pub last : (groups_of r ≡ []) ⊎ EndsByStatus hs status
 
 -- What is asked behind a description: that the statement is run, whose columns were described. What every other call answers is told by its items
 -- and by the status behind them.
 abbrev pub next_of : Request → List BackendMessage → Option Request
-next_of (requests.Describe extended) reply = Some (requests.Run (record { how = extended.how; arguments = extended.arguments; width = Some (length (described reply)) }))
+next_of (requests.Describe extended) reply = Some (requests.Run (record { how = extended.how; arguments = extended.arguments; columns = Some (described reply) }))
 next_of _ reply = None
 
 abbrev pub answer_or_next : Option Request → Result CallAnswer Error → Result CallAnswer Error
@@ -152,7 +153,7 @@ answer_or_next None answer = answer
 answer_or_next (Some next) answer = Ok (answers.Next next)
 
 abbrev pub answer_by : Request → List BackendMessage → TransactionStatus → Result CallAnswer Error
-answer_by r reply status = answer_or_next (next_of r reply) (answer_to (kind_of r) (items_of reply) status)
+answer_by r reply status = answer_or_next (next_of r reply) (answer_to (kind_of r) (own_items r reply) status)
 
 -- it ends with the answer to its reply
 abbrev pub EndsFine : Ledger → Request → List FrontendMessage → List Frame → List CallItem → Ledger → Result CallAnswer Error → Type 0

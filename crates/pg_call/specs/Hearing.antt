@@ -8,7 +8,7 @@ use Rattle.pg_wire.specs.declared.status.TransactionStatus.{TransactionStatus}
 use Rattle.pg_wire.specs.Frame.{Frame}
 use Rattle.pg_wire.specs.Parts.{is_ready}
 use Rattle.pg_wire.specs.Frontend.{FrontendMessage}
-use Rattle.pg_wire.specs.Backend.{BackendMessage, ReadyForQuery, ErrorResponse}
+use Rattle.pg_wire.specs.Backend.{FieldDescription, BackendMessage, ReadyForQuery, ErrorResponse}
 use Rattle.pg_wire.specs.Decoding.{Says}
 use Rattle.pg_call.specs.declared.kind.Kind.{Kind}
 use Rattle.pg_call.specs.declared.answer.CallItem.{CallItem}
@@ -19,6 +19,7 @@ use Rattle.pg_call.specs.declared.request.Request.{Request}
 use Rattle.pg_call.specs.declared.request.Request.TheVariants as requests
 use Rattle.pg_call.specs.declared.waiting.Waiting.{Waiting}
 use Rattle.pg_call.specs.declared.tally.Tally.{Tally}
+use Rattle.pg_call.specs.declared.judging.News.{News}
 use Rattle.pg_call.specs.declared.judging.Part.{Part}
 use Rattle.pg_call.specs.declared.ledger.Ledger.{Ledger}
 use Rattle.pg_call.specs.declared.reply.Reply.{Reply}
@@ -30,9 +31,9 @@ use Rattle.pg_call.specs.declared.calling.Beat.{Beat}
 use Rattle.pg_call.specs.declared.calling.Beat.TheVariants as beats
 use Rattle.pg_call.specs.declared.calling.Taken.{Taken}
 use Rattle.pg_call.specs.declared.running.Running.{Running}
-use Rattle.pg_call.specs.Requests.{copy_fail, kind_of, rest_of}
-use Rattle.pg_call.specs.Items.{item_of, yields, added, empty_tally, finished}
-use Rattle.pg_call.specs.Replies.{awaits_first, goes_on, may_close, may_copy, list_of, columns_of}
+use Rattle.pg_call.specs.Requests.{copy_fail, kind_of, rest_of, heading_of}
+use Rattle.pg_call.specs.Items.{news_of, heading_by, item_by, yields, added, empty_tally, finished, keeps_row}
+use Rattle.pg_call.specs.Replies.{awaits_first, goes_on, may_close, may_copy}
 use Rattle.pg_call.specs.Drains.{is_error, failed_behind, fails_for}
 
 abbrev pub framed : ℕ → List ℕ → Frame
@@ -41,16 +42,16 @@ framed tag body = record { tag = tag; body = body }
 -- ---- the own reply
 
 abbrev pub fresh_reply : Waiting → Reply
-fresh_reply w = record { kind = w.kind; tally = empty_tally; part = w.part; rest = w.rest }
+fresh_reply w = record { kind = w.kind; tally = empty_tally; part = w.part; rest = w.rest; heading = w.heading }
 
 -- the tally with more items
 abbrev pub added_all : Kind → Tally → List CallItem → Tally
 added_all kind t [] = t
 added_all kind t (i ∷ is) = added_all kind (added kind t i) is
 
--- the reply with what came by one message
-abbrev pub gone_on : Reply → Part → List CallItem → Reply
-gone_on r part items = record r { tally = added_all r.kind r.tally items; part = part }
+-- the reply with what one message tells
+abbrev pub gone_on : Reply → Part → News → Reply
+gone_on r part news = record r { tally = added_all r.kind r.tally (item_by r.heading news); part = part; heading = heading_by r.heading news }
 
 -- which item is shown at once
 abbrev pub Shows : List CallItem → Heard → Type 0
@@ -58,14 +59,14 @@ Shows items heards.More = items ≡ []
 Shows items (heards.Yields item) = items ≡ item ∷ []
 Shows items _ = ⊥
 
-abbrev pub HearsItem : Reply → Reply → Part → Option CallItem → Heard → Type 0
-HearsItem a b part item heard = (b ≡ gone_on a part (list_of item)) × Shows (filter (yields a.kind) (list_of item)) heard
+abbrev pub HearsNews : Reply → Reply → Part → News → Heard → Type 0
+HearsNews a b part news heard = (b ≡ gone_on a part news) × Shows (filter (yields a.kind) (item_by a.heading news)) heard
 
 abbrev pub HearsMessage : Reply → Reply → BackendMessage → Heard → Type 0
 HearsMessage a b m (heards.Failed error) = (m ≡ ErrorResponse error) × (b ≡ a)
 HearsMessage a b m (heards.Closed status) = (may_close a.part ≡ true) × (m ≡ ReadyForQuery status) × (b ≡ a)
 HearsMessage a b m heards.Copies = (may_copy a.part m ≡ true) × (b ≡ a)
-HearsMessage a b m heard = (next : Part) × (goes_on a.part m ≡ Some next) × (b ≡ gone_on a next (item_of m)) × Shows (filter (yields a.kind) (item_of m)) heard
+HearsMessage a b m heard = (next : Part) × (goes_on a.part m ≡ Some next) × (b ≡ gone_on a next (news_of m)) × Shows (filter (yields a.kind) (item_by a.heading (news_of m))) heard
 
 abbrev pub Hears : Reply → Reply → ℕ → List ℕ → Heard → Type 0
 Hears a b tag body heard = (m : BackendMessage) × Says tag body m × HearsMessage a b m heard
@@ -74,7 +75,7 @@ Hears a b tag body heard = (m : BackendMessage) × Says tag body m × HearsMessa
 
 -- what is asked stands as frames, and waits
 abbrev pub waiting_for : Request → List ℕ → Bool → Waiting
-waiting_for request frames failed = record { kind = kind_of request; part = awaits_first request; frames = frames; is_copy_failed = failed; rest = rest_of request }
+waiting_for request frames failed = record { kind = kind_of request; part = awaits_first request; frames = frames; is_copy_failed = failed; rest = rest_of request; heading = heading_of request }
 
 abbrev pub waits : List ℕ → Bool → Call → Call
 waits frames failed (calls.Asked request) = calls.Waiting (waiting_for request frames failed)
@@ -118,17 +119,22 @@ just beat = record { beat = beat; fails_copy = false }
 abbrev pub idle_with : Ledger → Running
 idle_with ledger = record { ledger = ledger; call = calls.Idle }
 
--- what runs behind a description is told how many columns were described
-abbrev pub told : Part → Bound → Bound
-told part bound = record bound { width = columns_of part }
+-- whether a row that comes now is one of the own reply, and shown or kept
+abbrev pub keeps_now : Call → Bool
+keeps_now (calls.Own reply) = keeps_row reply.kind reply.tally.first
+keeps_now _ = false
+
+-- what runs behind a description is told the columns
+abbrev pub told : Option (List FieldDescription) → Bound → Bound
+told columns bound = record bound { columns = columns }
 
 -- it is handed on, where there is something
-abbrev pub handed_on : Option Bound → Part → Result CallAnswer Error → Result CallAnswer Error
-handed_on None part answer = answer
-handed_on (Some bound) part answer = Ok (answers.Next (requests.Run (told part bound)))
+abbrev pub handed_on : Option Bound → Option (List FieldDescription) → Result CallAnswer Error → Result CallAnswer Error
+handed_on None columns answer = answer
+handed_on (Some bound) columns answer = Ok (answers.Next (requests.Run (told columns bound)))
 
 abbrev pub finished_by : TransactionStatus → Call → Result CallAnswer Error
-finished_by status (calls.Own reply) = handed_on reply.rest reply.part (finished reply.kind reply.tally status)
+finished_by status (calls.Own reply) = handed_on reply.rest reply.heading.columns (finished reply.kind reply.tally status)
 finished_by status _ = Err errors.OutOfMemory
 
 abbrev pub Closes : TransactionStatus → Running → Running → Taken → Type 0

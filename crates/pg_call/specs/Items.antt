@@ -1,11 +1,13 @@
 -- The answer rule: what a call shows of its own reply, and what it answers at its end.
-use Rattle.std.specs.Prelude.{ℕ, ◌+◌, ◌-◌, ◌^◌, min, Bool, true, false, List, [], ◌∷◌, ◌++◌, filter, flat_map, sum_by, Option, Some, None, Result, Ok, Err, if◌then◌else◌}
+use Rattle.std.specs.Prelude.{ℕ, ◌+◌, ◌-◌, ◌^◌, min, Bool, true, false, List, [], ◌∷◌, ◌++◌, filter, flat_map, sum_by, Option, Some, None, option_map, Result, Ok, Err, if◌then◌else◌}
 use Rattle.pg_wire.specs.declared.error.Error.{Error}
 use Rattle.pg_wire.specs.declared.error.Error.TheVariants as errors
 use Rattle.pg_wire.specs.declared.status.TransactionStatus.{TransactionStatus}
 use Rattle.pg_wire.specs.declared.status.TransactionStatus.TheVariants as statuses
-use Rattle.pg_wire.specs.Backend.{Values, BackendMessage, DataRow, CommandComplete}
+use Rattle.pg_wire.specs.Backend.{BackendMessage, RowDescription, DataRow, CommandComplete}
 use Rattle.pg_wire.specs.Completion.{rows_affected}
+use Rattle.pg_rows.specs.declared.heading.Heading.{Heading}
+use Rattle.pg_rows.specs.Rows.{RowSeen}
 use Rattle.pg_call.specs.declared.kind.How.TheVariants as hows
 use Rattle.pg_call.specs.declared.kind.Kind.{Kind}
 use Rattle.pg_call.specs.declared.kind.Kind.TheVariants as kinds
@@ -13,40 +15,66 @@ use Rattle.pg_call.specs.declared.answer.CallItem.{CallItem}
 use Rattle.pg_call.specs.declared.answer.CallItem.TheVariants.{Row, Count}
 use Rattle.pg_call.specs.declared.answer.CallAnswer.{CallAnswer}
 use Rattle.pg_call.specs.declared.answer.CallAnswer.TheVariants as answers
+use Rattle.pg_call.specs.declared.judging.News.{News}
+use Rattle.pg_call.specs.declared.judging.News.TheVariants as news
+use Rattle.pg_call.specs.declared.request.Request.{Request}
 use Rattle.pg_call.specs.declared.tally.Tally.{Tally}
+use Rattle.pg_call.specs.Requests.{heading_of}
 
--- a row for each DataRow, and a count for each CommandComplete
-abbrev pub item_of : BackendMessage → List CallItem
-item_of (DataRow values) = Row values ∷ []
-item_of (CommandComplete tag) = Count (record { rows = rows_affected tag }) ∷ []
-item_of _ = []
+-- what a message tells of rows: their columns, a row, or their count
+abbrev pub news_of : BackendMessage → News
+news_of (RowDescription fields) = news.Columns fields
+news_of (DataRow values) = news.Row values
+news_of (CommandComplete tag) = news.Count (record { rows = rows_affected tag })
+news_of _ = news.Nothing
 
-abbrev pub items_of : List BackendMessage → List CallItem
-items_of reply = flat_map item_of reply
+-- the heading of the rows behind it, where their columns are kept
+abbrev pub heading_by : Heading → News → Heading
+heading_by heading (news.Columns fields) = record heading { columns = option_map (λ earlier. fields) heading.columns }
+heading_by heading _ = heading
 
-abbrev pub row_in : CallItem → List Values
-row_in (Row values) = values ∷ []
+-- the item that it is: a row under its heading, or a count
+abbrev pub item_by : Heading → News → List CallItem
+item_by heading (news.Row values) = Row (record { values = values; heading = heading }) ∷ []
+item_by heading (news.Count n) = Count n ∷ []
+item_by heading _ = []
+
+-- a row for each DataRow, under the columns that were described last, and a count for each CommandComplete
+abbrev pub items_of : Heading → List BackendMessage → List CallItem
+items_of heading [] = []
+items_of heading (m ∷ ms) = item_by heading (news_of m) ++ items_of (heading_by heading (news_of m)) ms
+
+-- the items of a call's own reply
+abbrev pub own_items : Request → List BackendMessage → List CallItem
+own_items r reply = items_of (heading_of r) reply
+
+abbrev pub heading_after : Heading → List BackendMessage → Heading
+heading_after heading [] = heading
+heading_after heading (m ∷ ms) = heading_after (heading_by heading (news_of m)) ms
+
+abbrev pub row_in : CallItem → List RowSeen
+row_in (Row row) = row ∷ []
 row_in (Count n) = []
 
-abbrev pub rows_in : List CallItem → List Values
+abbrev pub rows_in : List CallItem → List RowSeen
 rows_in items = flat_map row_in items
 
 abbrev pub count_in : CallItem → ℕ
-count_in (Row values) = 0
+count_in (Row row) = 0
 count_in (Count n) = n.rows
 
 -- the sum of the counts, up to u64's greatest value
 abbrev pub total_of : List CallItem → ℕ
 total_of items = min (sum_by count_in items) (2 ^ 64 - 1)
 
-abbrev pub first_row : List Values → Option Values
+abbrev pub first_row : List RowSeen → Option RowSeen
 first_row [] = None
 first_row (row ∷ rows) = Some row
 
 -- whether a call shows this item as it comes
 abbrev pub yields : Kind → CallItem → Bool
 yields (kinds.Run hows.ExecuteMany) (Count n) = true
-yields (kinds.Run hows.Fetch) (Row values) = true
+yields (kinds.Run hows.Fetch) (Row row) = true
 yields (kinds.Run hows.FetchMany) item = true
 yields _ _ = false
 
@@ -73,7 +101,7 @@ tally_of kind items = record {
 }
 
 -- the answer to all items and to the status behind them, or that there is no row where there must be one
-abbrev pub one_row : Option Values → Result CallAnswer Error
+abbrev pub one_row : Option RowSeen → Result CallAnswer Error
 one_row None = Err errors.RowNotFound
 one_row (Some row) = Ok (answers.OneRow (Some row))
 
@@ -98,7 +126,7 @@ answer_to kind items status = finished kind (tally_of kind items) status
 abbrev pub empty_tally : Tally
 empty_tally = record { total = 0; rows = []; first = None }
 
-abbrev pub first_of : Option Values → Values → Option Values
+abbrev pub first_of : Option RowSeen → RowSeen → Option RowSeen
 first_of None row = Some row
 first_of (Some first) row = Some first
 
@@ -110,7 +138,7 @@ added kind t (Row row) = record t {
 }
 
 -- whether a row that comes now is shown or kept, where this is the first that was
-abbrev pub keeps_row : Kind → Option Values → Bool
+abbrev pub keeps_row : Kind → Option RowSeen → Bool
 keeps_row (kinds.Run hows.Fetch) first = true
 keeps_row (kinds.Run hows.FetchMany) first = true
 keeps_row (kinds.Run hows.FetchAll) first = true

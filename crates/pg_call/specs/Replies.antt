@@ -5,7 +5,7 @@ use Rattle.pg_wire.specs.declared.error.Error.{Error}
 use Rattle.pg_wire.specs.declared.error.Error.TheVariants as errors
 use Rattle.pg_wire.specs.declared.error.ProtocolFault.TheVariants as protocol
 use Rattle.pg_wire.specs.declared.error.ServerFault.TheVariants as faults
-use Rattle.pg_wire.specs.Backend.{BackendMessage, Values, ReadyForQuery, RowDescription, DataRow, CommandComplete, ErrorResponse, EmptyQueryResponse, ParameterDescription, ParseComplete, BindComplete, CloseComplete, NoData, CopyInResponse, CopyOutResponse}
+use Rattle.pg_wire.specs.Backend.{FieldDescription, BackendMessage, Values, ReadyForQuery, RowDescription, DataRow, CommandComplete, ErrorResponse, EmptyQueryResponse, ParameterDescription, ParseComplete, BindComplete, CloseComplete, NoData, CopyInResponse, CopyOutResponse}
 use Rattle.pg_wire.specs.Acceptor.{FirstSegment, FurtherSegment, RowsOf}
 use Rattle.pg_exchanges.specs.Expecting.{Parses, Types, Columns, Binds, Runs, RunsOn, Closes, Expected, InQuery, InSteps}
 use Rattle.pg_wire.specs.Decoding.{Says, IsRefused}
@@ -13,13 +13,14 @@ use Rattle.pg_call.specs.declared.kind.Kind.{Kind}
 use Rattle.pg_call.specs.declared.kind.Kind.TheVariants as kinds
 use Rattle.pg_call.specs.declared.request.Request.{Request}
 use Rattle.pg_call.specs.declared.request.Request.TheVariants as requests
-use Rattle.pg_call.specs.Requests.{kind_of}
+use Rattle.pg_call.specs.Requests.{kind_of, width_of}
 use Rattle.pg_call.specs.declared.answer.CallItem.{CallItem}
 use Rattle.pg_call.specs.declared.judging.Part.{Part}
 use Rattle.pg_call.specs.declared.judging.Part.TheVariants.{First, Further, Rows, Synced, Parsing, Typing, Describing, Described, Binding, Running, RunningOn, Closing}
+use Rattle.pg_call.specs.declared.judging.News.TheVariants.{Nothing}
 use Rattle.pg_call.specs.declared.judging.Verdict.{Verdict}
 use Rattle.pg_call.specs.declared.judging.Verdict.TheVariants as verdicts
-use Rattle.pg_call.specs.Items.{item_of}
+use Rattle.pg_call.specs.Items.{news_of}
 
 -- what a call awaits first of its own reply
 abbrev pub first_part : Kind → Part
@@ -31,7 +32,7 @@ first_part _ = Synced
 
 abbrev pub awaits_first : Request → Part
 awaits_first (requests.Describe extended) = Parsing
-awaits_first (requests.Run bound) = Binding bound.width
+awaits_first (requests.Run bound) = Binding (width_of bound)
 awaits_first request = first_part (kind_of request)
 
 -- the first message of a segment, and what comes behind it
@@ -142,11 +143,6 @@ awaited (Running width) = InSteps (Runs width ∷ Closes ∷ [])
 awaited (RunningOn columns) = InSteps (RunsOn columns ∷ Closes ∷ [])
 awaited Closing = InSteps (Closes ∷ [])
 
--- how many columns were described
-abbrev pub columns_of : Part → Option ℕ
-columns_of (Described columns) = Some columns
-columns_of _ = None
-
 -- no error, no end, and nothing that the reply goes on by
 abbrev pub MayNotCome : Part → BackendMessage → Type 0
 MayNotCome part (ErrorResponse details) = ⊥
@@ -159,11 +155,11 @@ list_of (Some item) = item ∷ []
 
 -- the reply goes on by a message of which nothing is kept
 abbrev pub goes_plainly : Part → Verdict
-goes_plainly part = verdicts.On part None
+goes_plainly part = verdicts.On part Nothing
 
 -- what a message is to a reply of which this is awaited
 abbrev pub IsVerdict : Part → BackendMessage → Verdict → Type 0
-IsVerdict part m (verdicts.On next item) = (goes_on part m ≡ Some next) × (list_of item ≡ item_of m)
+IsVerdict part m (verdicts.On next news) = (goes_on part m ≡ Some next) × (news ≡ news_of m)
 IsVerdict part m (verdicts.Failed error) = m ≡ ErrorResponse error
 IsVerdict part m (verdicts.Closed status) = (may_close part ≡ true) × (m ≡ ReadyForQuery status)
 IsVerdict part m verdicts.Copies = may_copy part m ≡ true
@@ -187,6 +183,11 @@ IsAny m = Unit {0}
 abbrev pub Judges : Part → ℕ → List ℕ → Result Verdict Error → Type 0
 Judges part tag body (Ok verdict) = (m : BackendMessage) × Says tag body m × IsVerdict part m verdict
 Judges part tag body (Err e) = IsFault (MayNotCome part) tag body e
+
+-- columns that may come, of which nothing is kept, and what is awaited behind them
+abbrev pub PassesColumns : Part → List ℕ → Result Part Error → Type 0
+PassesColumns part body (Ok next) = (fields : List FieldDescription) × Says 84 body (RowDescription fields) × (goes_on part (RowDescription fields) ≡ Some next)
+PassesColumns part body (Err e) = IsFault (MayNotCome part) 84 body e
 
 -- a row that may come, of which nothing is kept, and what is awaited behind it
 abbrev pub PassesRow : Part → List ℕ → Result Part Error → Type 0

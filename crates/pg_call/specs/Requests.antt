@@ -1,5 +1,5 @@
 -- The request rule: which messages a call sends (PostgreSQL manual, "Message Flow", "Simple Query").
-use Rattle.std.specs.Prelude.{◌≡◌, ℕ, ◌<◌, ◌≤◌, ◌⊎◌, List, [], ◌∷◌, ◌++◌, length, map, flat_map, codes, Bool, true, false, Option, Some, None}
+use Rattle.std.specs.Prelude.{◌≡◌, ℕ, option_map, unwrap_or, ◌<◌, ◌≤◌, ◌⊎◌, List, [], ◌∷◌, ◌++◌, length, map, flat_map, codes, Bool, true, false, Option, Some, None, if◌then◌else◌}
 use Rattle.std.specs.List.{AllByRecursion}
 use Rattle.pg_wire.specs.declared.error.Error.{Error}
 use Rattle.pg_wire.specs.declared.error.Error.TheVariants as errors
@@ -13,6 +13,10 @@ use Rattle.pg_exchanges.specs.Expecting.{Widths}
 use Rattle.pg_exchanges.specs.Answering.{describing, running}
 use Rattle.pg_request.specs.Queries.{QueryText, ArgumentsSeen, plain_text}
 use Rattle.pg_request.specs.Texts.{begin_text, commit_text, rollback_text}
+use Rattle.pg_wire.specs.Backend.{FieldDescription}
+use Rattle.pg_values.specs.declared.format.PgValueFormat.{PgValueFormat}
+use Rattle.pg_values.specs.declared.format.PgValueFormat.TheVariants as formats
+use Rattle.pg_rows.specs.declared.heading.Heading.{Heading}
 use Rattle.pg_call.specs.declared.kind.How.{How}
 use Rattle.pg_call.specs.declared.kind.How.TheVariants as hows
 use Rattle.pg_call.specs.declared.kind.Kind.{Kind}
@@ -81,12 +85,15 @@ groups_of (requests.Run bound) = running [] bound.arguments.values 0 ∷ []
 groups_of request = groups_by (kind_of request) (query_of request)
 
 -- how many columns the unnamed statement has, where that is known
+abbrev pub width_of : Bound → Option ℕ
+width_of bound = option_map length bound.columns
+
 abbrev pub known : Option ℕ → Widths
 known None = []
 known (Some width) = ([], width) ∷ []
 
 abbrev pub widths_of : Request → Widths
-widths_of (requests.Run bound) = known bound.width
+widths_of (requests.Run bound) = known (width_of bound)
 widths_of _ = []
 
 -- ---- what is asked first, and what behind it
@@ -118,8 +125,25 @@ first_of request = request
 
 -- what is run behind a description, before its columns are known
 abbrev pub rest_of : Request → Option Bound
-rest_of (requests.Describe extended) = Some (record { how = extended.how; arguments = extended.arguments; width = None })
+rest_of (requests.Describe extended) = Some (record { how = extended.how; arguments = extended.arguments; columns = None })
 rest_of _ = None
+
+-- whether a call shows rows, or hands their columns on
+abbrev pub sees_rows : Kind → Bool
+sees_rows (kinds.Run hows.Execute) = false
+sees_rows (kinds.Run hows.ExecuteMany) = false
+sees_rows (kinds.Run how) = true
+sees_rows kinds.Describe = true
+sees_rows _ = false
+
+-- the heading of rows of these columns, which are kept where rows are seen
+abbrev pub heading_for : Kind → List FieldDescription → PgValueFormat → Heading
+heading_for kind columns format = record { columns = if sees_rows kind then Some columns else None; format = format }
+
+-- what is known of its rows before a message of its reply has come: those of a statement that is bound are binary, and all others texts
+abbrev pub heading_of : Request → Heading
+heading_of (requests.Run bound) = heading_for (kinds.Run bound.how) (unwrap_or bound.columns []) formats.Binary
+heading_of request = heading_for (kind_of request) [] formats.Text
 
 -- the kind of the last of them, whose response is the call's own
 abbrev pub main_kind : Request → Kind

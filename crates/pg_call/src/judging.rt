@@ -3,17 +3,18 @@ ghost use Rattle.pg_wire.specs.Backend as backend;
 ghost use Rattle.pg_wire.specs.Backend.{Values};
 ghost use Rattle.pg_wire.specs.Decoding.{Says};
 ghost use Rattle.pg_wire.specs.Frame.{is_known};
-ghost use Rattle.pg_call.specs.Replies.{Judges, PassesRow, after_bind, after_columns, after_end, after_row, awaits_first, columns_of, goes_plainly, tags_of};
+ghost use Rattle.pg_call.specs.Replies.{Judges, PassesColumns, PassesRow, after_bind, after_columns, after_end, after_row, awaits_first, goes_plainly, tags_of};
 
 use crate::format::refuse;
-use crate::{CallItem, PgQueryResult, Request};
-use pg_rows::PgRow;
+use crate::{PgQueryResult, Request};
+use pg_columns::PgColumns;
 use pg_wire::{
-    Error, Frame, PgDatabaseError, TransactionStatus, check_data_row, check_row_description,
-    claimed_width, cut_data_row, decode_bind_complete, decode_close_complete,
-    decode_command_complete, decode_copy_in_response, decode_copy_out_response, decode_data_row,
-    decode_empty_query, decode_error_response, decode_no_data, decode_parameter_description,
-    decode_parse_complete, decode_ready_for_query,
+    DataRow, Error, Frame, PgDatabaseError, TransactionStatus, check_data_row,
+    check_row_description, claimed_width, cut_data_row, decode_bind_complete,
+    decode_close_complete, decode_command_complete, decode_copy_in_response,
+    decode_copy_out_response, decode_data_row, decode_empty_query, decode_error_response,
+    decode_no_data, decode_parameter_description, decode_parse_complete, decode_ready_for_query,
+    decode_row_description,
 };
 use std::alloc::Global;
 
@@ -68,19 +69,9 @@ impl Part {
     {
         match request {
             Request::Describe(_) => Part::Parsing,
-            Request::Run(bound) => Part::Binding(bound.width),
+            Request::Run(bound) => Part::Binding(bound.width()),
             Request::Ping | Request::Flush | Request::Close => Part::Synced,
             _ => Part::First,
-        }
-    }
-
-    /// How many columns were described.
-    pub fn columns(self) -> Option<usize>
-        ensures { result ≡ columns_of self }
-    {
-        match self {
-            Part::Described(columns) => Some(columns),
-            _ => None,
         }
     }
 
@@ -157,11 +148,22 @@ impl Part {
     }
 }
 
+/// What a message tells of the rows of a reply.
+#[derive(Drop)]
+pub enum News {
+    Nothing,
+    /// The columns of the rows to come.
+    Columns(PgColumns),
+    Row(DataRow),
+    /// The rows that a statement counts.
+    Count(PgQueryResult),
+}
+
 /// What one message is to a reply.
 #[derive(Drop)]
 pub enum Verdict {
-    /// The reply goes on, and this item came with the message.
-    On { part: Part, item: Option<CallItem> },
+    /// The reply goes on, and this came with the message.
+    On { part: Part, news: News },
     Failed(PgDatabaseError),
     Closed(TransactionStatus),
     /// A copy begins, for which nobody has asked.
@@ -172,16 +174,23 @@ pub enum Verdict {
 fn go_on(part: Part) -> Verdict
     ensures { result ≡ goes_plainly part }
 {
-    Verdict::On { part, item: None }
+    Verdict::On {
+        part,
+        news: News::Nothing,
+    }
 }
 
-// The columns of the rows to come, of which the number is kept.
-fn describe(part: Part, body: &[u8]) -> Result<Verdict, Error>
+// The columns of the rows to come.
+fn describe(alloc: Global, part: Part, body: &[u8]) -> Result<Verdict, Error>
     requires { is_known (tags_of part) 84 ≡ true }
     ensures { Judges part 84 body.now result }
 {
-    let width = check_row_description(body)?;
-    Ok(go_on(part.after_columns(usize::from(width))))
+    let description = decode_row_description(alloc, body)?;
+    let columns = PgColumns::described(alloc, &description)?;
+    Ok(Verdict::On {
+        part: part.after_columns(description.len()),
+        news: News::Columns(columns),
+    })
 }
 
 // A statement without columns.
@@ -234,7 +243,7 @@ fn complete(part: Part, body: &[u8]) -> Result<Verdict, Error>
     let complete = decode_command_complete(body)?;
     Ok(Verdict::On {
         part: part.after_end(),
-        item: Some(CallItem::Count(PgQueryResult::new(complete.rows_affected()))),
+        news: News::Count(PgQueryResult::new(complete.rows_affected())),
     })
 }
 
@@ -250,14 +259,25 @@ fn be_empty(part: Part, body: &[u8]) -> Result<Verdict, Error>
 fn row(alloc: Global, part: Part, body: &[u8]) -> Result<Verdict, Error>
     ensures { Judges part 68 body.now result }
 {
-    let row = PgRow::new(decode_data_row(alloc, body)?);
+    let row = decode_data_row(alloc, body)?;
     match part.after_row(row.len()) {
         Some(part) => Ok(Verdict::On {
             part,
-            item: Some(CallItem::Row(row)),
+            news: News::Row(row),
         }),
         None => Err(refuse(alloc, b'D', body)),
     }
+}
+
+/// The same of columns of which nothing is kept: what is awaited behind them, or the server's fault, or want of memory.
+pub fn pass_columns(alloc: Global, part: Part, body: &[u8]) -> Result<Part, Error>
+    ensures { PassesColumns part body.now result }
+{
+    if !part.awaits(b'T') {
+        return Err(refuse(alloc, b'T', body));
+    }
+    let width = check_row_description(body)?;
+    Ok(part.after_columns(usize::from(width)))
 }
 
 /// The same of a row of which nothing is kept: what is awaited behind it, or the server's fault, or want of memory.
@@ -277,10 +297,10 @@ pub fn judge_row(alloc: Global, part: Part, frame: Frame) -> Result<Verdict, Err
 {
     match part.after_claimed(frame.body()) {
         Some(part) => {
-            let row = PgRow::new(cut_data_row(alloc, frame)?);
+            let row = cut_data_row(alloc, frame)?;
             Ok(Verdict::On {
                 part,
-                item: Some(CallItem::Row(row)),
+                news: News::Row(row),
             })
         }
         None => Err(refuse(alloc, b'D', frame.body())),
@@ -325,7 +345,7 @@ pub fn judge(alloc: Global, part: Part, tag: u8, body: &[u8]) -> Result<Verdict,
         return Err(refuse(alloc, tag, body));
     }
     match tag {
-        b'T' => describe(part, body),
+        b'T' => describe(alloc, part, body),
         b'n' => describe_none(part, body),
         b't' => type_parameters(alloc, part, body),
         b'1' => parse(part, body),

@@ -1,5 +1,5 @@
 ghost use Rattle.std.specs.Prelude.{◌≡◌};
-ghost use Rattle.pg_call.specs.Requests.{change_of, is_close, is_flush};
+ghost use Rattle.pg_call.specs.Requests.{change_of, is_close, is_flush, sees_rows};
 
 /// A way to run a query: what of its reply is shown, and when.
 #[derive(Clone, Copy, Debug, PartialEq, Eq)]
@@ -48,6 +48,18 @@ pub enum Change {
 }
 
 impl Kind {
+    /// Whether it shows rows, or hands their columns on.
+    pub fn sees_rows(self) -> bool
+        ensures { result ≡ sees_rows self }
+    {
+        match self {
+            Kind::Run(How::Execute | How::ExecuteMany) => false,
+            Kind::Run(_) | Kind::Describe => true,
+            Kind::Begin | Kind::Commit | Kind::Rollback | Kind::Ping | Kind::Flush | Kind::Close =>
+                false,
+        }
+    }
+
     /// What it makes of the transactions that are open.
     pub fn change(self) -> Change
         ensures { result ≡ change_of self }

@@ -22,7 +22,7 @@ mod writing;
 pub use answer::{CallAnswer, CallItem, Turn};
 pub use calling::{Beat, Call, Taken};
 pub use format::refuse;
-pub use judging::{Part, Verdict, judge};
+pub use judging::{News, Part, Verdict, judge};
 pub use kind::{Change, How, Kind};
 pub use ledger::Ledger;
 pub use query_result::PgQueryResult;

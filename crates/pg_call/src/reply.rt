@@ -1,14 +1,15 @@
-ghost use Rattle.std.specs.Prelude.{◌≡◌, IfOk, IfErr, OnErr};
+ghost use Rattle.std.specs.Prelude.{◌≡◌, filter, IfOk, IfErr};
 ghost use Rattle.pg_wire.specs.Backend.{BackendMessage};
-ghost use Rattle.pg_call.specs.Items.{finished, keeps_row};
-ghost use Rattle.pg_call.specs.Replies.{IsFault, IsVerdict, MayNotCome};
-ghost use Rattle.pg_call.specs.Hearing.{Hears, HearsItem, HearsMessage, fresh_reply, handed_on};
+ghost use Rattle.pg_call.specs.Items.{added, finished, item_by, keeps_row, shown_if, yields};
+ghost use Rattle.pg_call.specs.Replies.{IsFault, IsVerdict, MayNotCome, list_of};
+ghost use Rattle.pg_call.specs.Hearing.{Hears, HearsMessage, HearsNews, fresh_reply, gone_on, handed_on};
 
-use crate::judging::{judge_row, pass_row};
+use crate::judging::{judge_row, pass_columns, pass_row};
 use crate::{
-    Bound, CallAnswer, CallItem, How, Kind, Part, Request, Tally, Verdict, Waiting, judge,
+    Bound, CallAnswer, CallItem, How, Kind, News, Part, Request, Tally, Verdict, Waiting, judge,
 };
-use pg_wire::{Error, Frame, PgDatabaseError, TransactionStatus};
+use pg_rows::{Heading, PgRow};
+use pg_wire::{DataRow, Error, Frame, PgDatabaseError, TransactionStatus};
 use std::alloc::Global;
 
 /// The call's own reply, as far as it has come.
@@ -20,6 +21,8 @@ pub struct Reply {
     pub part: Part,
     /// What is run behind it.
     pub rest: Option<Bound>,
+    /// The heading of its next rows.
+    pub heading: Heading,
 }
 
 /// What one message made of the reply.
@@ -44,24 +47,60 @@ impl Reply {
             frames: _,
             is_copy_failed: _,
             rest,
+            heading,
         } = waiting;
         Reply {
             kind,
             tally: Tally::new(alloc),
             part,
             rest,
+            heading,
+        }
+    }
+
+    // One more item, which is shown at once, kept for the answer, or dropped.
+    fn add(&mut self, item: CallItem) -> Result<Option<CallItem>, Error>
+        ensures ok { IfOk result (λ shown. (self.new ≡ record self.old { tally = added self.old.kind self.old.tally item }) × (shown ≡ shown_if (yields self.old.kind item) item)) }
+        ensures err { IfErr result (λ e. (e ≡ Error.OutOfMemory) × (self.new ≡ self.old)) }
+    {
+        let shown = self.tally.add(self.kind, item)?;
+        Ok(shown)
+    }
+
+    // The same of a row, which comes under the present heading.
+    fn add_row(&mut self, values: DataRow) -> Result<Option<CallItem>, Error>
+        ensures ok { IfOk result (λ shown. (self.new ≡ record self.old { tally = added self.old.kind self.old.tally (CallItem.Row (record { values = values; heading = self.old.heading })) })
+            × (shown ≡ shown_if (yields self.old.kind (CallItem.Row (record { values = values; heading = self.old.heading }))) (CallItem.Row (record { values = values; heading = self.old.heading })))) }
+        ensures err { IfErr result (λ e. (e ≡ Error.OutOfMemory) × (self.new ≡ self.old)) }
+    {
+        let heading = self.heading.share()?;
+        self.add(CallItem::Row(PgRow::new(values, heading)))
+    }
+
+    // What a message tells is added to the reply.
+    fn tell(&mut self, news: News) -> Result<Option<CallItem>, Error>
+        ensures ok { IfOk result (λ shown. (self.new ≡ gone_on self.old self.old.part news) × (list_of shown ≡ filter (yields self.old.kind) (item_by self.old.heading news))) }
+        ensures err { IfErr result (λ e. (e ≡ Error.OutOfMemory) × (self.new ≡ self.old)) }
+    {
+        match news {
+            News::Nothing => Ok(None),
+            News::Columns(columns) => {
+                if self.heading.columns.is_some() {
+                    self.heading.columns = Some(columns);
+                }
+                Ok(None)
+            }
+            News::Row(values) => self.add_row(values),
+            News::Count(count) => self.add(CallItem::Count(count)),
         }
     }
 
     // The reply goes on, perhaps by an item.
-    fn go_on(&mut self, part: Part, item: Option<CallItem>) -> Result<Heard, Error>
-        ensures ok { IfOk result (HearsItem self.old self.new part item) }
+    fn go_on(&mut self, part: Part, news: News) -> Result<Heard, Error>
+        ensures ok { IfOk result (HearsNews self.old self.new part news) }
         ensures err { IfErr result (λ e. (e ≡ Error.OutOfMemory) × (self.new ≡ self.old)) }
     {
-        let shown = match item {
-            Some(item) => self.tally.add(self.kind, item)?,
-            None => None,
-        };
+        let shown = self.tell(news)?;
         self.part = part;
         match shown {
             Some(item) => Ok(Heard::Yields(item)),
@@ -75,7 +114,7 @@ impl Reply {
         ensures err { IfErr result (λ e. (e ≡ Error.OutOfMemory) × (self.new ≡ self.old)) }
     {
         match verdict {
-            Verdict::On { part, item } => self.go_on(part, item),
+            Verdict::On { part, news } => self.go_on(part, news),
             Verdict::Failed(error) => Ok(Heard::Failed(error)),
             Verdict::Closed(status) => Ok(Heard::Closed(status)),
             Verdict::Copies => Ok(Heard::Copies),
@@ -103,6 +142,10 @@ impl Reply {
             self.part = pass_row(alloc, self.part, body)?;
             return Ok(Heard::More);
         }
+        if tag == b'T' && self.heading.columns.is_none() {
+            self.part = pass_columns(alloc, self.part, body)?;
+            return Ok(Heard::More);
+        }
         let verdict = judge(alloc, self.part, tag, body)?;
         self.hear(verdict)
     }
@@ -118,16 +161,17 @@ impl Reply {
 
     /// What the call answers at the end of its reply, which told this status; or what is asked next.
     pub fn finish(self, status: TransactionStatus) -> Result<CallAnswer, Error>
-        ensures { result ≡ handed_on self.rest self.part (finished self.kind self.tally status) }
+        ensures { result ≡ handed_on self.rest self.heading.columns (finished self.kind self.tally status) }
     {
         let Reply {
             kind,
             tally,
-            part,
+            part: _,
             rest,
+            heading,
         } = self;
         match rest {
-            Some(bound) => Ok(CallAnswer::Next(Request::Run(bound.told(part)))),
+            Some(bound) => Ok(CallAnswer::Next(Request::Run(bound.told(heading.columns)))),
             None => tally.finish(kind, status),
         }
     }

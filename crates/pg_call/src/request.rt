@@ -1,10 +1,14 @@
 ghost use Rattle.std.specs.Prelude.{◌≡◌, ◌++◌, [], IfOk, OnOk, IfErr, option_map};
+ghost use Rattle.pg_values.specs.declared.format.PgValueFormat.TheVariants as formats;
 ghost use Rattle.pg_call.specs.Hearing.{told};
-ghost use Rattle.pg_call.specs.Requests.{kind_of, query_of, messages_of, spelled, CanBeSaid, IsRefusal, first_by, first_of, raw, rest_of};
+ghost use Rattle.pg_call.specs.Requests.{kind_of, query_of, messages_of, spelled, CanBeSaid, IsRefusal, first_by, first_of, heading_for, heading_of, raw, rest_of, width_of};
 
 use crate::writing::{encode_description, encode_run};
-use crate::{How, Kind, Part};
+use crate::{How, Kind};
+use pg_columns::{PgColumns, share_known};
 use pg_request::{Arguments, Query, begin_text, commit_text, rollback_text};
+use pg_rows::Heading;
+use pg_values::PgValueFormat;
 use pg_wire::{Blob, Error, Text, encode_query, encode_sync, encode_terminate};
 use std::alloc::Global;
 
@@ -37,8 +41,27 @@ impl Extended {
 pub struct Bound {
     pub how: How,
     pub arguments: Arguments,
-    /// How many columns it has, where that is known.
-    pub width: Option<usize>,
+    /// Its columns, where they are known.
+    pub columns: Option<PgColumns>,
+}
+
+// The heading of rows of these columns, as far as a call of this kind sees them.
+fn heading(kind: Kind, columns: PgColumns, format: PgValueFormat) -> Heading
+    ensures { result ≡ heading_for kind columns format }
+{
+    let columns = if kind.sees_rows() {
+        Some(columns)
+    } else {
+        None
+    };
+    Heading { columns, format }
+}
+
+// The heading of rows before their columns are described.
+fn raw_heading(kind: Kind) -> Heading
+    ensures { result ≡ heading_for kind [] formats.Text }
+{
+    heading(kind, PgColumns::none(), PgValueFormat::Text)
 }
 
 impl Bound {
@@ -48,27 +71,51 @@ impl Bound {
         ensures memory { IfErr result (λ e. e ≡ Error.OutOfMemory) }
     {
         let arguments = self.arguments.to_copy(alloc)?;
+        let columns = share_known(&self.columns)?;
         Ok(Bound {
             how: self.how,
             arguments,
-            width: self.width,
+            columns,
         })
     }
 
+    /// How many columns it has, where that is known.
+    pub fn width(&self) -> Option<usize>
+        ensures { result ≡ width_of self.now }
+    {
+        match &self.columns {
+            Some(columns) => Some(columns.len()),
+            None => None,
+        }
+    }
+
     /// The same, once its columns were described.
-    pub(crate) fn told(self, part: Part) -> Self
-        ensures { result ≡ told part self }
+    pub(crate) fn told(self, columns: Option<PgColumns>) -> Self
+        ensures { result ≡ told columns self }
     {
         let Bound {
             how,
             arguments,
-            width: _,
+            columns: _,
         } = self;
         Bound {
             how,
             arguments,
-            width: part.columns(),
+            columns,
         }
+    }
+
+    // The heading of its rows, as far as it is known.
+    fn into_heading(self) -> Heading
+        ensures { result ≡ heading_of (Request.Run self) }
+    {
+        let Bound {
+            how,
+            arguments: _,
+            columns,
+        } = self;
+        let columns = columns.unwrap_or_else(PgColumns::none);
+        heading(Kind::Run(how), columns, PgValueFormat::Binary)
     }
 }
 
@@ -85,7 +132,7 @@ pub enum Request {
     FetchOne(Query),
     /// Opens a transaction, or a savepoint in one; so many are open before.
     Begin(u64),
-    /// Opens a transaction by this text.
+    /// Opens a transaction by the text of this query, which is asked without arguments.
     BeginWith(Query),
     /// Commits the transaction, or releases the last savepoint; so many stay open.
     Commit(u64),
@@ -172,9 +219,10 @@ impl Request {
         }
     }
 
-    /// What is run behind its reply.
-    pub(crate) fn into_rest(self) -> Option<Bound>
-        ensures { result ≡ rest_of self }
+    /// What is run behind its reply, and the heading of its rows before a message of the reply has come, where this is its kind.
+    pub(crate) fn into_parts(self, kind: Kind) -> (Option<Bound>, Heading)
+        requires { kind ≡ kind_of self }
+        ensures { result ≡ (rest_of self, heading_of self) }
     {
         match self {
             Request::Describe(
@@ -183,12 +231,16 @@ impl Request {
                     sql: _,
                     arguments,
                 },
-            ) => Some(Bound {
-                how,
-                arguments,
-                width: None,
-            }),
-            _ => None,
+            ) => {
+                let rest = Bound {
+                    how,
+                    arguments,
+                    columns: None,
+                };
+                (Some(rest), raw_heading(kind))
+            }
+            Request::Run(bound) => (None, bound.into_heading()),
+            _ => (None, raw_heading(kind)),
         }
     }
 

@@ -1,7 +1,7 @@
 ghost use Rattle.std.specs.Prelude.{◌≡◌, ◌≢◌, ◌<◌, true, false, IfOk, IfErr, OnErr};
 ghost use Rattle.pg_wire.specs.Decoding.{IsRefused};
 ghost use Rattle.pg_call.specs.Calls.{owes_own, IsAwaiting, StaysIn, TakesMessage, RefusesMessage};
-ghost use Rattle.pg_call.specs.Hearing.{Drains, Closes, RefusesCopy, Follows, IsReplied, awaits, marked, waits};
+ghost use Rattle.pg_call.specs.Hearing.{Drains, Closes, RefusesCopy, Follows, IsReplied, awaits, keeps_now, marked, waits};
 
 use crate::{Beat, Call, CallAnswer, CallItem, Heard, Ledger, Part, Reply, Taken, Waiting};
 use pg_wire::{
@@ -28,6 +28,38 @@ fn plain(beat: Beat) -> Taken
     }
 }
 
+// What is asked stands as frames, and waits.
+fn waiting(call: Call, frames: Blob, is_copy_failed: bool) -> Call
+    ensures { result ≡ waits frames is_copy_failed call }
+{
+    match call {
+        Call::Asked(request) => {
+            let kind = request.kind();
+            let part = Part::first(&request);
+            let (rest, heading) = request.into_parts(kind);
+            Call::Waiting(Waiting {
+                kind,
+                part,
+                frames,
+                is_copy_failed,
+                rest,
+                heading,
+            })
+        }
+        call => call,
+    }
+}
+
+// Its frames are queued, and the reply to them is awaited.
+fn awaiting(alloc: Global, call: Call) -> Call
+    ensures { result ≡ awaits call }
+{
+    match call {
+        Call::Waiting(waiting) => Call::Own(Reply::new(alloc, waiting)),
+        call => call,
+    }
+}
+
 impl Running {
     /// No call runs, and nothing is owed.
     pub fn new() -> Self
@@ -50,20 +82,8 @@ impl Running {
     pub fn wait(&mut self, frames: Blob)
         ensures { self.new ≡ record self.old { call = waits frames self.old.ledger.is_copy_failed self.old.call } }
     {
-        match mem::replace(&mut self.call, Call::Idle) {
-            Call::Asked(request) => {
-                let kind = request.kind();
-                let part = Part::first(&request);
-                self.call = Call::Waiting(Waiting {
-                    kind,
-                    part,
-                    frames,
-                    is_copy_failed: self.ledger.is_copy_failed,
-                    rest: request.into_rest(),
-                });
-            }
-            call => self.call = call,
-        }
+        let call = mem::replace(&mut self.call, Call::Idle);
+        self.call = waiting(call, frames, self.ledger.is_copy_failed);
     }
 
     /// The frames that waited are queued, and the reply to them is the only one that is owed.
@@ -74,10 +94,8 @@ impl Running {
             owed: 1,
             is_copy_failed: false,
         };
-        match mem::replace(&mut self.call, Call::Idle) {
-            Call::Waiting(waiting) => self.call = Call::Own(Reply::new(alloc, waiting)),
-            call => self.call = call,
-        }
+        let call = mem::replace(&mut self.call, Call::Idle);
+        self.call = awaiting(alloc, call);
     }
 
     // The call ends.
@@ -209,7 +227,8 @@ impl Running {
 
     /// Whether a row that comes now is one of the own reply, and shown or kept.
     pub fn keeps_rows(&self) -> bool
-        ensures { result ≡ true → IsReplied self.now.call }
+        ensures own { result ≡ true → IsReplied self.now.call }
+        ensures kept { result ≡ keeps_now self.now.call }
     {
         match &self.call {
             Call::Own(reply) => reply.keeps_rows(),

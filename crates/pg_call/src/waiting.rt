@@ -1,4 +1,5 @@
 use crate::{Bound, Kind, Part};
+use pg_rows::Heading;
 use pg_wire::Blob;
 
 /// A call whose frames are written, while replies to earlier calls are owed.
@@ -12,4 +13,6 @@ pub struct Waiting {
     pub is_copy_failed: bool,
     /// What is run behind its reply.
     pub rest: Option<Bound>,
+    /// The heading of its rows before a message of the reply has come.
+    pub heading: Heading,
 }

@@ -14,7 +14,7 @@ pub struct PgColumn {
     origin: ColumnOrigin,
 }
 
-fn copy_of(alloc: Global, field: &Field) -> Result<Field, AllocError>
+pub(crate) fn copy_of(alloc: Global, field: &Field) -> Result<Field, AllocError>
     ensures { IfOk result (λ f. f ≡ field.now) }
 {
     let name = field.name.to_copy(alloc)?;

@@ -1,4 +1,4 @@
-ghost use Rattle.std.specs.Prelude.{◌≡◌, ℕ, Some, IfOk, IfErr, slice_get};
+ghost use Rattle.std.specs.Prelude.{◌≡◌, ◌<◌, ℕ, Some, IfOk, IfErr, length, slice_get};
 ghost use Rattle.pg_columns.specs.Columns.{IsLastNamed, MissesName, MissesPlace, names_of};
 
 use crate::PgColumn;
@@ -33,6 +33,19 @@ pub fn column_at(columns: &[PgColumn], index: usize) -> Result<&PgColumn, Error>
     }
 }
 
+/// The same where there must be one.
+pub fn place_by_name(alloc: Global, columns: &[PgColumn], name: &str) -> Result<usize, Error>
+    ensures ok { IfOk result (λ place. IsLastNamed name.now (names_of columns.now) (Some place) × (place < length columns.now)) }
+    ensures err { IfErr result (MissesName name.now (names_of columns.now)) }
+{
+    match place_of(columns, name) {
+        Some(place) => Ok(place),
+        None => Err(Error::ColumnNotFound {
+            name: Text::from_str(alloc, name)?,
+        }),
+    }
+}
+
 /// The column of a name; of several that have it the last one.
 pub fn column_by_name<'c>(
     alloc: Global,
@@ -42,10 +55,6 @@ pub fn column_by_name<'c>(
     ensures ok { IfOk result (λ c. (place : ℕ) × IsLastNamed name.now (names_of columns.now) (Some place) × (slice_get columns.now place ≡ Some c.now)) }
     ensures err { IfErr result (MissesName name.now (names_of columns.now)) }
 {
-    match place_of(columns, name) {
-        Some(place) => Ok(&columns[place]),
-        None => Err(Error::ColumnNotFound {
-            name: Text::from_str(alloc, name)?,
-        }),
-    }
+    let place = place_by_name(alloc, columns, name)?;
+    Ok(&columns[place])
 }

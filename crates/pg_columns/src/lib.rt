@@ -4,9 +4,11 @@
 #![tactic(auto)]
 
 mod column;
+mod columns;
 mod finding;
 mod origin;
 
 pub use column::PgColumn;
-pub use finding::{column_at, column_by_name, place_of};
+pub use columns::{PgColumns, share_known};
+pub use finding::{column_at, column_by_name, place_by_name, place_of};
 pub use origin::{ColumnOrigin, TableColumn};

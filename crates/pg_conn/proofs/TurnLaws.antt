@@ -152,7 +152,7 @@ call_at start r said hs items l k k' e i = subst (λ (c : Call). CallIs start r 
 asked_waits : (start : Ledger) (r asked : Request) (said : List FrontendMessage) (hs : List Frame) (items : List CallItem) (ledger : Ledger) (frames : List ℕ) → frames ≡ spelled (messages_of asked) → CanBeSaid asked → CallIs start r said hs items ledger (calls.Asked asked)
     → CallIs start r said hs items ledger (calls.Waiting (waiting_for asked frames ledger.is_copy_failed))
 asked_waits start r asked said hs items ledger frames f can i =
-    rw (← i.0, i.1, i.2, i.3, i.4) (refl, f, can, draining_none start, refl, refl)
+    rw (← i.0, i.1, i.2, i.3, i.4) (refl, f, can, draining_none start, refl, refl, refl)
 
 pub prepared : (a : ConnSeen) (asked : Request) (frames : List ℕ) → a.call ≡ calls.Asked asked → frames ≡ spelled (messages_of asked) → CanBeSaid asked
     → TakesBeat a (record a { call = calls.Waiting (waiting_for asked frames a.ledger.is_copy_failed) }) beats.More

@@ -20,6 +20,7 @@ pub use connection::PgConnection;
 pub use dial::{Dial, DialFailed, MemoryDial};
 pub use establishing::establish;
 pub use pg_call::{CallAnswer, CallItem, PgQueryResult, Request, Turn};
+pub use pg_columns::{ColumnOrigin, PgColumn};
 pub use pg_request::{CacheStep, Progress, Query};
 pub use pg_rows::PgRow;
 pub use postgres::Postgres;

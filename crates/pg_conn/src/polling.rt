@@ -1,9 +1,9 @@
-ghost use Rattle.std.specs.Prelude.{◌≡◌, ◌≢◌, ◌+◌, ◌*◌, ◌-◌, ◌<◌, ◌≤◌, ◌⊎◌, true, false, [], None, IsSome, OnOk, OnErr, IfErr};
+ghost use Rattle.std.specs.Prelude.{◌≡◌, ◌≢◌, ◌+◌, ◌*◌, ◌-◌, ◌<◌, ◌≤◌, ◌⊎◌, ◌==◌, ◌&&◌, true, false, [], None, IsSome, OnOk, OnErr, IfErr};
 ghost use Rattle.pg_stream.specs.Links.{GrewBy};
 ghost use Rattle.pg_stream.specs.Streams.{stream_by, fuel_of, IsHeardFront, Passes};
 ghost use Rattle.pg_conn.specs.Connections.{seen_by, ended, idle, begun_with, begun_by, is_over, runs, with_spare, queued_call, awaiting, closing};
 ghost use Rattle.pg_call.specs.Calls.{IsAwaiting};
-ghost use Rattle.pg_call.specs.Hearing.{IsReplied, waits};
+ghost use Rattle.pg_call.specs.Hearing.{IsReplied, keeps_now, waits};
 ghost use Rattle.pg_call.specs.declared.kind.Kind as declared_kind;
 ghost use Rattle.pg_call.specs.declared.request.Request as declared_request;
 ghost use Rattle.pg_conn.specs.States.{IsCalling, PollFits};
@@ -228,7 +228,8 @@ impl<L: Link> PgConnection<L> {
 
     // Whether the message at the front is a row of the own reply that is shown or kept.
     fn keeps(&self, front: Front) -> bool
-        ensures { result ≡ true → (front.tag ≡ 68) × IsReplied self.now.call }
+        ensures own { result ≡ true → (front.tag ≡ 68) × IsReplied self.now.call }
+        ensures kept { result ≡ (front.tag == 68) && keeps_now self.now.call }
     {
         front.tag == b'D' && self.running.keeps_rows()
     }

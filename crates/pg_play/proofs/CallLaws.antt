@@ -42,6 +42,7 @@ use Rattle.pg_report.specs.declared.outcome.Answer.{Answer}
 use Rattle.pg_report.specs.declared.outcome.End.{End}
 use Rattle.pg_report.specs.declared.outcome.End.TheVariants as ends
 use Rattle.pg_report.specs.declared.outcome.Outcome.{Outcome}
+use Rattle.pg_call.proofs.FitLaws.{the_ok}
 use Rattle.pg_play.specs.declared.tally.Limits.{Limits}
 use Rattle.pg_play.specs.Shown.{item_of, items_with, has_rows, answer_of}
 use Rattle.pg_startup.specs.Flows.{Flows}
@@ -388,12 +389,9 @@ ends_few limits a c waits end l w = (waits, w, (λ d. l, omega (arith, l)))
 unleft : (a m : ConnSeen) → m.broken ≡ None → record m { broken = None; stream = record m.stream { left = a.stream.left } } ≡ record m { stream = record m.stream { left = a.stream.left } }
 unleft a m e = ap (λ (o : Option ServerFault). record m { broken = o; stream = record m.stream { left = a.stream.left } }) (sym e)
 
-ok_same : (x y : CallAnswer) → ◌≡◌ {A = Result CallAnswer Error} (Ok x) (Ok y) → x ≡ y
-ok_same x y e = cc
-
 -- what hands on nothing ends the call
 ends_last : (r : Request) (reply : List BackendMessage) (status : TransactionStatus) (answer : CallAnswer) → answer_by r reply status ≡ Ok answer → ((next : Request) → answer ≡ answers.Next next → ⊥) → IsLast r
-ends_last (requests.Describe x) reply status answer e n d = n _ (sym (ok_same _ _ e))
+ends_last (requests.Describe x) reply status answer e n d = n _ (sym (the_ok _ _ e))
 ends_last (requests.Run bound) reply status answer e n d = cc
 ends_last _ reply status answer e n d = cc
 

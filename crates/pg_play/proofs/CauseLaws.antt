@@ -22,8 +22,8 @@ use Rattle.pg_call.specs.declared.ledger.Ledger.{Ledger}
 use Rattle.pg_exchanges.specs.Expecting.{Widths, BeginsKnowing}
 use Rattle.pg_call.specs.declared.judging.Part.{Part}
 use Rattle.pg_call.specs.declared.judging.Part.TheVariants.{First, Further, Running}
-use Rattle.pg_call.specs.Requests.{Group, groups_of, widths_of}
-use Rattle.pg_call.specs.Items.{items_of, rows_in}
+use Rattle.pg_call.specs.Requests.{Group, groups_of, widths_of, heading_of}
+use Rattle.pg_call.specs.Items.{own_items, rows_in}
 use Rattle.pg_call.specs.Replies.{may_copy, begins_copy}
 use Rattle.pg_call.specs.Drains.{after_readys}
 use Rattle.pg_call.specs.Calls.{Leaves, CallEnds, EndsInCopy, IsFrontFault}
@@ -154,7 +154,7 @@ copy_cause start at a b step said fs items items' copied copied' tag st s l e n 
 
 no_rows : (xs : List CallItem) → rows_in xs ≡ [] → AllByRecursion (λ item. is_row item ≡ false) (map item_of xs)
 no_rows [] e = tt
-no_rows (call_items.Row values ∷ xs) e = absurd cc
+no_rows (call_items.Row row ∷ xs) e = absurd cc
 no_rows (call_items.Count n ∷ xs) e = (refl, no_rows xs e)
 
 row_cause : (start : StreamSeen) (at : Place) (a b : ConnSeen) (step : Step) (said : List FrontendMessage) (fs : List Frame) (items items' : List CallItem) (copied : Bool) (end : End) → StandsAt start at a → (s : Summary a.ledger (request_of at.depth step.call) said (heard fs) items' b.ledger copied)
@@ -170,7 +170,7 @@ row_cause start at a b step said fs items items' copied end st s h =
       whole = fine_own a.ledger (request_of at.depth step.call) said (heard fs) items items' b.ledger copied s f;
       response = carried.0;
       says = carried.1;
-      no_row = subst (AllByRecursion (λ item. is_row item ≡ false)) (sym (items_told carried.0 ∙ ap (map item_of) carried.2)) (no_rows (items_of f.reply) found.1);
+      no_row = subst (AllByRecursion (λ item. is_row item ≡ false)) (sym (items_told (heading_of (request_of at.depth step.call)) carried.0 ∙ ap (map item_of) carried.2)) (no_rows (own_items (request_of at.depth step.call) f.reply) found.1);
     }
 
 begin_cause : (start : StreamSeen) (at : Place) (a b : ConnSeen) (step : Step) (said : List FrontendMessage) (fs : List Frame) (items items' : List CallItem) (copied : Bool) (end : End) (status : TransactionStatus) → StandsAt start at a → (s : Summary a.ledger (request_of at.depth step.call) said (heard fs) items' b.ledger copied)

@@ -1,7 +1,6 @@
 -- The exchanges of a call.
-use Rattle.std.proofs.Common.{◌≡◌, ℕ, zero, suc, Bool, true, false, List, [], refl, sym, ap, ◌∙◌, length, Option, Some, None, Result, Ok, inl, inr}
+use Rattle.std.proofs.Common.{◌≡◌, ℕ, zero, suc, Bool, true, false, List, [], refl, sym, ap, ◌∙◌, Option, Some, None, Ok, inl, inr}
 use Rattle.std.proofs.lemmas.Option.{same_Some}
-use Rattle.pg_wire.specs.declared.error.Error.{Error}
 use Rattle.pg_wire.specs.declared.status.TransactionStatus.{TransactionStatus}
 use Rattle.pg_wire.specs.Backend.{BackendMessage}
 use Rattle.pg_request.specs.Queries.{QueryText, ArgumentsSeen}
@@ -13,12 +12,12 @@ use Rattle.pg_call.specs.declared.request.Extended.{Extended}
 use Rattle.pg_call.specs.declared.request.Bound.{Bound}
 use Rattle.pg_call.specs.declared.request.Request.{Request}
 use Rattle.pg_call.specs.declared.request.Request.TheVariants as requests
-use Rattle.pg_call.specs.declared.answer.CallAnswer.{CallAnswer}
 use Rattle.pg_call.specs.declared.answer.CallAnswer.TheVariants as answers
 use Rattle.pg_call.specs.Requests.{kind_of, widths_of, first_by, first_of}
 use Rattle.pg_call.specs.Calls.{answer_by}
 use Rattle.pg_script.specs.declared.step.Call.{Call}
 use Rattle.pg_script.specs.declared.step.Call.TheVariants as calls
+use Rattle.pg_call.proofs.FitLaws.{the_ok}
 use Rattle.pg_play.specs.Shown.{request_of, asked_of, first_as, first_call, next_call, IsPartOf, how_of, waits_to_show, wants_row, wants_how, acts_at_once, begins, begins_with}
 use Rattle.pg_play.specs.Calls.{IsLast}
 
@@ -172,16 +171,13 @@ no_flush call x e f = flush_describes x (sym e ∙ ap first_call f)
 
 -- what runs behind a description whose columns were described
 abbrev pub bound_by : Extended → List BackendMessage → Bound
-bound_by x reply = record { how = x.how; arguments = x.arguments; width = Some (length (described reply)) }
+bound_by x reply = record { how = x.how; arguments = x.arguments; columns = Some (described reply) }
 
-abbrev handed_answer : Request → Result CallAnswer Error
-handed_answer r = Ok (answers.Next r)
-
-same_next : (r s : Request) → handed_answer r ≡ handed_answer s → r ≡ s
+same_next : (r s : Request) → answers.Next r ≡ answers.Next s → r ≡ s
 same_next r s e = cc
 
 pub next_bound : (x : Extended) (reply : List BackendMessage) (status : TransactionStatus) (next : Request) → answer_by (requests.Describe x) reply status ≡ Ok (answers.Next next) → next ≡ requests.Run (bound_by x reply)
-next_bound x reply status next e = sym (same_next (requests.Run (bound_by x reply)) next e)
+next_bound x reply status next e = sym (same_next (requests.Run (bound_by x reply)) next (the_ok _ _ e))
 
 runs_by : (how : How) (query : QueryText) (o : Option ArgumentsSeen) (call : Call) (response : List BackendMessage) (part : Call) → next_call call response ≡ None → next_call (first_as how query o call) response ≡ Some part → (bound : Bound) × (part ≡ calls.Run bound) × (Some how ≡ Some bound.how)
 runs_by how query None call response part n e = let x = sym n ∙ e in absurd cc

@@ -1,12 +1,13 @@
 -- What a connection's call shows and answers, and what an outcome tells of it.
-use Rattle.std.proofs.Common.{◌≡◌, ◌≢◌, ℕ, ◌-◌, ◌^◌, min, Bool, true, false, cond, List, [], ◌∷◌, ◌++◌, map, filter, take, sum_by, refl, sym, ap, ◌∙◌, arith, append-nil, Option, Some, None, Result, Ok, Err, zero, suc}
+use Rattle.std.proofs.Common.{◌≡◌, ◌≢◌, ℕ, ◌-◌, ◌^◌, min, Bool, true, false, cond, List, [], ◌∷◌, ◌++◌, map, filter, take, sum_by, refl, sym, ap, ◌∙◌, arith, append-nil, Option, Some, None, Ok, Err, zero, suc}
 use Rattle.pg_wire.specs.declared.status.TransactionStatus.TheVariants as statuses
 use Rattle.pg_wire.specs.declared.status.TransactionStatus.{TransactionStatus}
 use Rattle.std.proofs.lemmas.List.{map-append}
 use Rattle.std.proofs.lemmas.List.Sums.{sum_by-append}
-use Rattle.pg_wire.specs.declared.error.Error.{Error}
 use Rattle.pg_wire.specs.declared.error.Error.TheVariants as errors
-use Rattle.pg_wire.specs.Backend.{Values, BackendMessage, DataRow, CommandComplete}
+use Rattle.pg_wire.specs.Backend.{BackendMessage, DataRow, CommandComplete}
+use Rattle.pg_rows.specs.declared.heading.Heading.{Heading}
+use Rattle.pg_rows.specs.Rows.{RowSeen}
 use Rattle.pg_wire.specs.Server.{IsPrefixOf}
 use Rattle.pg_call.specs.declared.kind.Kind.{Kind}
 use Rattle.pg_call.specs.declared.kind.Kind.TheVariants as kinds
@@ -18,8 +19,9 @@ use Rattle.pg_call.specs.declared.answer.CallAnswer.{CallAnswer}
 use Rattle.pg_call.specs.declared.answer.CallAnswer.TheVariants as call_answers
 use Rattle.pg_call.specs.Requests.{kind_of}
 use Rattle.pg_call.specs.Calls.{answer_by}
-use Rattle.pg_call.specs.Items.{yields, shown, rows_in, count_in, total_of, first_row, answer_to, items_of}
+use Rattle.pg_call.specs.Items.{yields, shown, rows_in, count_in, total_of, first_row, answer_to, news_of, heading_by, item_by, items_of, own_items}
 use Rattle.pg_call.specs.Items as raw
+use Rattle.pg_call.proofs.FitLaws.{the_ok}
 use Rattle.pg_report.specs.declared.outcome.Item.{Item}
 use Rattle.pg_report.specs.declared.outcome.Item.TheVariants.{Row, Count}
 use Rattle.pg_report.specs.declared.outcome.Answer.{Answer}
@@ -28,14 +30,16 @@ use Rattle.pg_script.specs.declared.step.Call.TheVariants as calls
 use Rattle.pg_play.specs.Shown.{request_of, item_in, items_in, is_row, is_count, count_of, shown_as, shown_how, shown_by, how_of, waits_how, waits_to_show, answered_how, answered_by, wants_how, wants_row, item_of, one_row, items_with, answer_of, begins, acts_at_once}
 
 -- the items of a response, told
-pub items_told : (ms : List BackendMessage) → items_in ms ≡ map item_of (items_of ms)
-items_told [] = refl
-items_told (m ∷ ms) = ap (λ (t : List Item). t ++ items_in ms) (one m) ∙ ap (λ (t : List Item). map item_of (raw.item_of m) ++ t) (items_told ms) ∙ sym (map-append item_of (raw.item_of m) (items_of ms))
+pub items_told : (h : Heading) (ms : List BackendMessage) → items_in ms ≡ map item_of (items_of h ms)
+items_told h [] = refl
+items_told h (m ∷ ms) =
+    let next = items_of (heading_by h (news_of m)) ms in
+    ap (λ (t : List Item). t ++ items_in ms) (one h m) ∙ ap (λ (t : List Item). map item_of (item_by h (news_of m)) ++ t) (items_told (heading_by h (news_of m)) ms) ∙ sym (map-append item_of (item_by h (news_of m)) next)
   where
-    one : (m : BackendMessage) → item_in m ≡ map item_of (raw.item_of m)
-    one (DataRow values) = refl
-    one (CommandComplete tag) = refl
-    one _ = refl
+    one : (h : Heading) (m : BackendMessage) → item_in m ≡ map item_of (item_by h (news_of m))
+    one h (DataRow values) = refl
+    one h (CommandComplete tag) = refl
+    one h _ = refl
 
 pub none_shown : (kind : Kind) (xs : List CallItem) → ((x : CallItem) → yields kind x ≡ false) → shown kind xs ≡ []
 none_shown kind [] f = refl
@@ -61,24 +65,24 @@ waits_none d _ xs e = absurd cc
 
 counts_shown : (xs : List CallItem) → map item_of (shown (kinds.Run hows.ExecuteMany) xs) ≡ filter is_count (map item_of xs)
 counts_shown [] = refl
-counts_shown (call_items.Row values ∷ xs) = counts_shown xs
+counts_shown (call_items.Row row ∷ xs) = counts_shown xs
 counts_shown (call_items.Count n ∷ xs) = ap (λ (t : List Item). Count n.rows ∷ t) (counts_shown xs)
 
 rows_shown : (xs : List CallItem) → map item_of (shown (kinds.Run hows.Fetch) xs) ≡ filter is_row (map item_of xs)
 rows_shown [] = refl
-rows_shown (call_items.Row values ∷ xs) = ap (λ (t : List Item). Row values ∷ t) (rows_shown xs)
+rows_shown (call_items.Row row ∷ xs) = ap (λ (t : List Item). Row row.values ∷ t) (rows_shown xs)
 rows_shown (call_items.Count n ∷ xs) = rows_shown xs
 
 all_shown : (xs : List CallItem) → map item_of (shown (kinds.Run hows.FetchMany) xs) ≡ map item_of xs
 all_shown [] = refl
 all_shown (x ∷ xs) = ap (λ (t : List Item). item_of x ∷ t) (all_shown xs)
 
-rows_told : (xs : List CallItem) → map Row (rows_in xs) ≡ filter is_row (map item_of xs)
+rows_told : (xs : List CallItem) → map (λ (row : RowSeen). Row row.values) (rows_in xs) ≡ filter is_row (map item_of xs)
 rows_told [] = refl
-rows_told (call_items.Row values ∷ xs) = ap (λ (t : List Item). Row values ∷ t) (rows_told xs)
+rows_told (call_items.Row row ∷ xs) = ap (λ (t : List Item). Row row.values ∷ t) (rows_told xs)
 rows_told (call_items.Count n ∷ xs) = rows_told xs
 
-first_told : (rows : List Values) → one_row (first_row rows) ≡ take 1 (map Row rows)
+first_told : (rows : List RowSeen) → one_row (first_row rows) ≡ take 1 (map (λ (row : RowSeen). Row row.values) rows)
 first_told [] = refl
 first_told (row ∷ rows) = refl
 
@@ -120,7 +124,7 @@ sum-told [] = refl
 sum-told (x ∷ xs) = sum_by-append count_in (x ∷ []) xs ∙ omega (arith, sum-told xs, same x) ∙ sym (sum_by-append count_of (item_of x ∷ []) (map item_of xs))
   where
     same : (x : CallItem) → count_in x ≡ count_of (item_of x)
-    same (call_items.Row values) = refl
+    same (call_items.Row row) = refl
     same (call_items.Count n) = refl
 
 -- ---- at Ok
@@ -129,98 +133,92 @@ sum-told (x ∷ xs) = sum_by-append count_in (x ∷ []) xs ∙ omega (arith, sum
 abbrev AllShown : Kind → Option How → List CallItem → CallAnswer → Type 0
 AllShown kind how xs answer = items_with (map item_of (shown kind xs)) answer ≡ shown_how how (map item_of xs)
 
-abbrev okay : CallAnswer → Result CallAnswer Error
-okay answer = Ok answer
-
-same_answer : (x y : CallAnswer) → okay x ≡ okay y → x ≡ y
-same_answer x y e = cc
-
-one_by : (first : Option Values) (answer : CallAnswer) → raw.one_row first ≡ Ok answer → (row : Values) × (first ≡ Some row) × (answer ≡ call_answers.OneRow (Some row))
+one_by : (first : Option RowSeen) (answer : CallAnswer) → raw.one_row first ≡ Ok answer → (row : RowSeen) × (first ≡ Some row) × (answer ≡ call_answers.OneRow (Some row))
 one_by None answer e = absurd cc
-one_by (Some row) answer e = (row, refl, sym (same_answer (call_answers.OneRow (Some row)) answer e))
+one_by (Some row) answer e = (row, refl, sym (the_ok (call_answers.OneRow (Some row)) answer e))
 
 -- a begin that is Ok
 begun_unit : (status : TransactionStatus) (answer : CallAnswer) → raw.begun status ≡ Ok answer → call_answers.Unit ≡ answer
-begun_unit statuses.Transaction answer e = same_answer call_answers.Unit answer e
+begun_unit statuses.Transaction answer e = the_ok call_answers.Unit answer e
 begun_unit statuses.Idle answer e = absurd cc
 begun_unit statuses.Error answer e = absurd cc
 
 how_told : (how : How) (xs : List CallItem) (status : TransactionStatus) (answer : CallAnswer) → answer_to (kinds.Run how) xs status ≡ Ok answer → AllShown (kinds.Run how) (Some how) xs answer
-how_told hows.Execute xs status answer e = rw (← same_answer _ answer e, none_shown (kinds.Run hows.Execute) xs (λ x. refl)) refl
-how_told hows.ExecuteMany xs status answer e = rw (← same_answer _ answer e) (counts_shown xs)
-how_told hows.Fetch xs status answer e = rw (← same_answer _ answer e) (rows_shown xs)
-how_told hows.FetchMany xs status answer e = rw (← same_answer _ answer e) (all_shown xs)
-how_told hows.FetchAll xs status answer e = rw (← same_answer _ answer e) (rows_told xs)
-how_told hows.FetchOptional xs status answer e = rw (← same_answer _ answer e) (row_told xs)
+how_told hows.Execute xs status answer e = rw (← the_ok _ answer e, none_shown (kinds.Run hows.Execute) xs (λ x. refl)) refl
+how_told hows.ExecuteMany xs status answer e = rw (← the_ok _ answer e) (counts_shown xs)
+how_told hows.Fetch xs status answer e = rw (← the_ok _ answer e) (rows_shown xs)
+how_told hows.FetchMany xs status answer e = rw (← the_ok _ answer e) (all_shown xs)
+how_told hows.FetchAll xs status answer e = rw (← the_ok _ answer e) (rows_told xs)
+how_told hows.FetchOptional xs status answer e = rw (← the_ok _ answer e) (row_told xs)
 how_told hows.FetchOne xs status answer e =
     let o = one_by (first_row (rows_in xs)) answer e in
     ap (items_with (map item_of (shown (kinds.Run hows.FetchOne) xs))) o.2 ∙ ap one_row (sym o.1) ∙ row_told xs
 
-pub all_told : (d : ℕ) (call : Call) (reply : List BackendMessage) (status : TransactionStatus) (answer : CallAnswer) → answer_by (request_of d call) reply status ≡ Ok answer → AllShown (kind_of (request_of d call)) (how_of call) (items_of reply) answer
-all_told d (calls.Execute query) reply status answer e = how_told hows.Execute (items_of reply) status answer e
-all_told d (calls.ExecuteMany query) reply status answer e = how_told hows.ExecuteMany (items_of reply) status answer e
-all_told d (calls.Fetch query) reply status answer e = how_told hows.Fetch (items_of reply) status answer e
-all_told d (calls.FetchMany query) reply status answer e = how_told hows.FetchMany (items_of reply) status answer e
-all_told d (calls.FetchAll query) reply status answer e = how_told hows.FetchAll (items_of reply) status answer e
-all_told d (calls.FetchOptional query) reply status answer e = how_told hows.FetchOptional (items_of reply) status answer e
-all_told d (calls.FetchOne query) reply status answer e = how_told hows.FetchOne (items_of reply) status answer e
-all_told d (calls.Run bound) reply status answer e = how_told bound.how (items_of reply) status answer e
-all_told d (calls.Describe extended) reply status answer e = rw (← same_answer _ answer e, none_shown kinds.Describe (items_of reply) (λ x. refl)) refl
-all_told d calls.Ping reply status answer e = rw (← same_answer _ answer e, none_shown kinds.Ping (items_of reply) (λ x. refl)) refl
-all_told d calls.Flush reply status answer e = rw (← same_answer _ answer e, none_shown kinds.Flush (items_of reply) (λ x. refl)) refl
-all_told d calls.Begin reply status answer e = rw (← begun_unit status answer e, none_shown kinds.Begin (items_of reply) (λ x. refl)) refl
-all_told d (calls.BeginWith query) reply status answer e = rw (← begun_unit status answer e, none_shown kinds.Begin (items_of reply) (λ x. refl)) refl
-all_told zero calls.Commit reply status answer e = rw (← same_answer _ answer e, none_shown kinds.Flush (items_of reply) (λ x. refl)) refl
-all_told (suc left) calls.Commit reply status answer e = rw (← same_answer _ answer e, none_shown kinds.Commit (items_of reply) (λ x. refl)) refl
-all_told zero calls.Rollback reply status answer e = rw (← same_answer _ answer e, none_shown kinds.Flush (items_of reply) (λ x. refl)) refl
-all_told (suc left) calls.Rollback reply status answer e = rw (← same_answer _ answer e, none_shown kinds.Rollback (items_of reply) (λ x. refl)) refl
-all_told d calls.StartRollback reply status answer e = rw (← same_answer _ answer e, none_shown kinds.Flush (items_of reply) (λ x. refl)) refl
+pub all_told : (d : ℕ) (call : Call) (reply : List BackendMessage) (status : TransactionStatus) (answer : CallAnswer) → answer_by (request_of d call) reply status ≡ Ok answer → AllShown (kind_of (request_of d call)) (how_of call) (own_items (request_of d call) reply) answer
+all_told d (calls.Execute query) reply status answer e = how_told hows.Execute (own_items (request_of d (calls.Execute query)) reply) status answer e
+all_told d (calls.ExecuteMany query) reply status answer e = how_told hows.ExecuteMany (own_items (request_of d (calls.ExecuteMany query)) reply) status answer e
+all_told d (calls.Fetch query) reply status answer e = how_told hows.Fetch (own_items (request_of d (calls.Fetch query)) reply) status answer e
+all_told d (calls.FetchMany query) reply status answer e = how_told hows.FetchMany (own_items (request_of d (calls.FetchMany query)) reply) status answer e
+all_told d (calls.FetchAll query) reply status answer e = how_told hows.FetchAll (own_items (request_of d (calls.FetchAll query)) reply) status answer e
+all_told d (calls.FetchOptional query) reply status answer e = how_told hows.FetchOptional (own_items (request_of d (calls.FetchOptional query)) reply) status answer e
+all_told d (calls.FetchOne query) reply status answer e = how_told hows.FetchOne (own_items (request_of d (calls.FetchOne query)) reply) status answer e
+all_told d (calls.Run bound) reply status answer e = how_told bound.how (own_items (request_of d (calls.Run bound)) reply) status answer e
+all_told d (calls.Describe extended) reply status answer e = rw (← the_ok _ answer e, none_shown kinds.Describe (own_items (request_of d (calls.Describe extended)) reply) (λ x. refl)) refl
+all_told d calls.Ping reply status answer e = rw (← the_ok _ answer e, none_shown kinds.Ping (own_items (request_of d calls.Ping) reply) (λ x. refl)) refl
+all_told d calls.Flush reply status answer e = rw (← the_ok _ answer e, none_shown kinds.Flush (own_items (request_of d calls.Flush) reply) (λ x. refl)) refl
+all_told d calls.Begin reply status answer e = rw (← begun_unit status answer e, none_shown kinds.Begin (own_items (request_of d calls.Begin) reply) (λ x. refl)) refl
+all_told d (calls.BeginWith query) reply status answer e = rw (← begun_unit status answer e, none_shown kinds.Begin (own_items (request_of d (calls.BeginWith query)) reply) (λ x. refl)) refl
+all_told zero calls.Commit reply status answer e = rw (← the_ok _ answer e, none_shown kinds.Flush (own_items (request_of zero calls.Commit) reply) (λ x. refl)) refl
+all_told (suc left) calls.Commit reply status answer e = rw (← the_ok _ answer e, none_shown kinds.Commit (own_items (request_of (suc left) calls.Commit) reply) (λ x. refl)) refl
+all_told zero calls.Rollback reply status answer e = rw (← the_ok _ answer e, none_shown kinds.Flush (own_items (request_of zero calls.Rollback) reply) (λ x. refl)) refl
+all_told (suc left) calls.Rollback reply status answer e = rw (← the_ok _ answer e, none_shown kinds.Rollback (own_items (request_of (suc left) calls.Rollback) reply) (λ x. refl)) refl
+all_told d calls.StartRollback reply status answer e = rw (← the_ok _ answer e, none_shown kinds.Flush (own_items (request_of d calls.StartRollback) reply) (λ x. refl)) refl
 
 abbrev answered_total : ℕ → Answer
 answered_total n = answer_of (call_answers.Total (record { rows = min n (2 ^ 64 - 1) }))
 
 how_answers : (how : How) (xs : List CallItem) (status : TransactionStatus) (answer : CallAnswer) → answer_to (kinds.Run how) xs status ≡ Ok answer → answer_of answer ≡ answered_how (Some how) (map item_of xs)
-how_answers hows.Execute xs status answer e = rw (← same_answer _ answer e) (ap (λ (n : ℕ). answered_total n) (sum-told xs))
+how_answers hows.Execute xs status answer e = rw (← the_ok _ answer e) (ap (λ (n : ℕ). answered_total n) (sum-told xs))
 how_answers hows.FetchOne xs status answer e = let o = one_by (first_row (rows_in xs)) answer e in ap answer_of o.2
-how_answers _ xs status answer e = rw (← same_answer _ answer e) refl
+how_answers _ xs status answer e = rw (← the_ok _ answer e) refl
 
-pub answer_told : (d : ℕ) (call : Call) (reply : List BackendMessage) (status : TransactionStatus) (answer : CallAnswer) → answer_by (request_of d call) reply status ≡ Ok answer → answer_of answer ≡ answered_by call (map item_of (items_of reply))
-answer_told d (calls.Execute query) reply status answer e = how_answers hows.Execute (items_of reply) status answer e
-answer_told d (calls.ExecuteMany query) reply status answer e = how_answers hows.ExecuteMany (items_of reply) status answer e
-answer_told d (calls.Fetch query) reply status answer e = how_answers hows.Fetch (items_of reply) status answer e
-answer_told d (calls.FetchMany query) reply status answer e = how_answers hows.FetchMany (items_of reply) status answer e
-answer_told d (calls.FetchAll query) reply status answer e = how_answers hows.FetchAll (items_of reply) status answer e
-answer_told d (calls.FetchOptional query) reply status answer e = how_answers hows.FetchOptional (items_of reply) status answer e
-answer_told d (calls.FetchOne query) reply status answer e = how_answers hows.FetchOne (items_of reply) status answer e
-answer_told d (calls.Run bound) reply status answer e = how_answers bound.how (items_of reply) status answer e
-answer_told d (calls.Describe extended) reply status answer e = rw (← same_answer _ answer e) refl
-answer_told d calls.Ping reply status answer e = rw (← same_answer _ answer e) refl
-answer_told d calls.Flush reply status answer e = rw (← same_answer _ answer e) refl
+pub answer_told : (d : ℕ) (call : Call) (reply : List BackendMessage) (status : TransactionStatus) (answer : CallAnswer) → answer_by (request_of d call) reply status ≡ Ok answer → answer_of answer ≡ answered_by call (map item_of (own_items (request_of d call) reply))
+answer_told d (calls.Execute query) reply status answer e = how_answers hows.Execute (own_items (request_of d (calls.Execute query)) reply) status answer e
+answer_told d (calls.ExecuteMany query) reply status answer e = how_answers hows.ExecuteMany (own_items (request_of d (calls.ExecuteMany query)) reply) status answer e
+answer_told d (calls.Fetch query) reply status answer e = how_answers hows.Fetch (own_items (request_of d (calls.Fetch query)) reply) status answer e
+answer_told d (calls.FetchMany query) reply status answer e = how_answers hows.FetchMany (own_items (request_of d (calls.FetchMany query)) reply) status answer e
+answer_told d (calls.FetchAll query) reply status answer e = how_answers hows.FetchAll (own_items (request_of d (calls.FetchAll query)) reply) status answer e
+answer_told d (calls.FetchOptional query) reply status answer e = how_answers hows.FetchOptional (own_items (request_of d (calls.FetchOptional query)) reply) status answer e
+answer_told d (calls.FetchOne query) reply status answer e = how_answers hows.FetchOne (own_items (request_of d (calls.FetchOne query)) reply) status answer e
+answer_told d (calls.Run bound) reply status answer e = how_answers bound.how (own_items (request_of d (calls.Run bound)) reply) status answer e
+answer_told d (calls.Describe extended) reply status answer e = rw (← the_ok _ answer e) refl
+answer_told d calls.Ping reply status answer e = rw (← the_ok _ answer e) refl
+answer_told d calls.Flush reply status answer e = rw (← the_ok _ answer e) refl
 answer_told d calls.Begin reply status answer e = rw (← begun_unit status answer e) refl
 answer_told d (calls.BeginWith query) reply status answer e = rw (← begun_unit status answer e) refl
-answer_told zero calls.Commit reply status answer e = rw (← same_answer _ answer e) refl
-answer_told (suc left) calls.Commit reply status answer e = rw (← same_answer _ answer e) refl
-answer_told zero calls.Rollback reply status answer e = rw (← same_answer _ answer e) refl
-answer_told (suc left) calls.Rollback reply status answer e = rw (← same_answer _ answer e) refl
-answer_told d calls.StartRollback reply status answer e = rw (← same_answer _ answer e) refl
+answer_told zero calls.Commit reply status answer e = rw (← the_ok _ answer e) refl
+answer_told (suc left) calls.Commit reply status answer e = rw (← the_ok _ answer e) refl
+answer_told zero calls.Rollback reply status answer e = rw (← the_ok _ answer e) refl
+answer_told (suc left) calls.Rollback reply status answer e = rw (← the_ok _ answer e) refl
+answer_told d calls.StartRollback reply status answer e = rw (← the_ok _ answer e) refl
 
 how_has : (how : How) (xs : List CallItem) (status : TransactionStatus) (answer : CallAnswer) (items : List Item) → answer_to (kinds.Run how) xs status ≡ Ok answer → wants_how (Some how) ≡ true → items_with items answer ≢ []
 how_has hows.FetchOne xs status answer items e w = λ z.
     let o = one_by (first_row (rows_in xs)) answer e in
-    let some : Row o.0 ∷ [] ≡ [] = sym (ap (items_with items) o.2) ∙ z in
+    let some : Row o.0.values ∷ [] ≡ [] = sym (ap (items_with items) o.2) ∙ z in
     absurd cc
 how_has _ xs status answer items e w = absurd cc
 
 -- a call that must have a row has one
 pub has_row : (d : ℕ) (call : Call) (reply : List BackendMessage) (status : TransactionStatus) (answer : CallAnswer) (items : List Item) → answer_by (request_of d call) reply status ≡ Ok answer → wants_row call ≡ true → items_with items answer ≢ []
-has_row d (calls.Execute query) reply status answer items e w = how_has hows.Execute (items_of reply) status answer items e w
-has_row d (calls.ExecuteMany query) reply status answer items e w = how_has hows.ExecuteMany (items_of reply) status answer items e w
-has_row d (calls.Fetch query) reply status answer items e w = how_has hows.Fetch (items_of reply) status answer items e w
-has_row d (calls.FetchMany query) reply status answer items e w = how_has hows.FetchMany (items_of reply) status answer items e w
-has_row d (calls.FetchAll query) reply status answer items e w = how_has hows.FetchAll (items_of reply) status answer items e w
-has_row d (calls.FetchOptional query) reply status answer items e w = how_has hows.FetchOptional (items_of reply) status answer items e w
-has_row d (calls.FetchOne query) reply status answer items e w = how_has hows.FetchOne (items_of reply) status answer items e w
-has_row d (calls.Run bound) reply status answer items e w = how_has bound.how (items_of reply) status answer items e w
+has_row d (calls.Execute query) reply status answer items e w = how_has hows.Execute (own_items (request_of d (calls.Execute query)) reply) status answer items e w
+has_row d (calls.ExecuteMany query) reply status answer items e w = how_has hows.ExecuteMany (own_items (request_of d (calls.ExecuteMany query)) reply) status answer items e w
+has_row d (calls.Fetch query) reply status answer items e w = how_has hows.Fetch (own_items (request_of d (calls.Fetch query)) reply) status answer items e w
+has_row d (calls.FetchMany query) reply status answer items e w = how_has hows.FetchMany (own_items (request_of d (calls.FetchMany query)) reply) status answer items e w
+has_row d (calls.FetchAll query) reply status answer items e w = how_has hows.FetchAll (own_items (request_of d (calls.FetchAll query)) reply) status answer items e w
+has_row d (calls.FetchOptional query) reply status answer items e w = how_has hows.FetchOptional (own_items (request_of d (calls.FetchOptional query)) reply) status answer items e w
+has_row d (calls.FetchOne query) reply status answer items e w = how_has hows.FetchOne (own_items (request_of d (calls.FetchOne query)) reply) status answer items e w
+has_row d (calls.Run bound) reply status answer items e w = how_has bound.how (own_items (request_of d (calls.Run bound)) reply) status answer items e w
 has_row d _ reply status answer items e w = absurd cc
 
 -- ---- where there is no row
@@ -228,7 +226,7 @@ has_row d _ reply status answer items e w = absurd cc
 abbrev pub IsFound : Call → List CallItem → Type 0
 IsFound call xs = (wants_row call ≡ true) × (rows_in xs ≡ [])
 
-no_first : (rows : List Values) → raw.one_row (first_row rows) ≡ Err errors.RowNotFound → rows ≡ []
+no_first : (rows : List RowSeen) → raw.one_row (first_row rows) ≡ Err errors.RowNotFound → rows ≡ []
 no_first [] e = refl
 no_first (row ∷ rows) e = absurd cc
 
@@ -242,15 +240,15 @@ how_not_found hows.FetchOne xs status e = (refl, no_first (rows_in xs) e)
 how_not_found _ xs status e = absurd cc
 
 -- only a call that must have one fails for want of a row
-pub not_found : (d : ℕ) (call : Call) (reply : List BackendMessage) (status : TransactionStatus) → answer_by (request_of d call) reply status ≡ Err errors.RowNotFound → IsFound call (items_of reply)
-not_found d (calls.Execute query) reply status e = how_not_found hows.Execute (items_of reply) status e
-not_found d (calls.ExecuteMany query) reply status e = how_not_found hows.ExecuteMany (items_of reply) status e
-not_found d (calls.Fetch query) reply status e = how_not_found hows.Fetch (items_of reply) status e
-not_found d (calls.FetchMany query) reply status e = how_not_found hows.FetchMany (items_of reply) status e
-not_found d (calls.FetchAll query) reply status e = how_not_found hows.FetchAll (items_of reply) status e
-not_found d (calls.FetchOptional query) reply status e = how_not_found hows.FetchOptional (items_of reply) status e
-not_found d (calls.FetchOne query) reply status e = how_not_found hows.FetchOne (items_of reply) status e
-not_found d (calls.Run bound) reply status e = how_not_found bound.how (items_of reply) status e
+pub not_found : (d : ℕ) (call : Call) (reply : List BackendMessage) (status : TransactionStatus) → answer_by (request_of d call) reply status ≡ Err errors.RowNotFound → IsFound call (own_items (request_of d call) reply)
+not_found d (calls.Execute query) reply status e = how_not_found hows.Execute (own_items (request_of d (calls.Execute query)) reply) status e
+not_found d (calls.ExecuteMany query) reply status e = how_not_found hows.ExecuteMany (own_items (request_of d (calls.ExecuteMany query)) reply) status e
+not_found d (calls.Fetch query) reply status e = how_not_found hows.Fetch (own_items (request_of d (calls.Fetch query)) reply) status e
+not_found d (calls.FetchMany query) reply status e = how_not_found hows.FetchMany (own_items (request_of d (calls.FetchMany query)) reply) status e
+not_found d (calls.FetchAll query) reply status e = how_not_found hows.FetchAll (own_items (request_of d (calls.FetchAll query)) reply) status e
+not_found d (calls.FetchOptional query) reply status e = how_not_found hows.FetchOptional (own_items (request_of d (calls.FetchOptional query)) reply) status e
+not_found d (calls.FetchOne query) reply status e = how_not_found hows.FetchOne (own_items (request_of d (calls.FetchOne query)) reply) status e
+not_found d (calls.Run bound) reply status e = how_not_found bound.how (own_items (request_of d (calls.Run bound)) reply) status e
 not_found d (calls.Describe extended) reply status e = absurd cc
 not_found d calls.Ping reply status e = absurd cc
 not_found d calls.Flush reply status e = absurd cc
@@ -266,28 +264,28 @@ how_comes : (how : How) (xs : List CallItem) (status : TransactionStatus) (answe
 how_comes hows.FetchAll xs status answer items w e = absurd cc
 how_comes hows.FetchOptional xs status answer items w e = absurd cc
 how_comes hows.FetchOne xs status answer items w e = absurd cc
-how_comes _ xs status answer items w e = rw (← same_answer _ answer e) refl
+how_comes _ xs status answer items w e = rw (← the_ok _ answer e) refl
 
 -- the answer of a call that shows its items as they come has none
 pub no_items_come : (d : ℕ) (call : Call) (reply : List BackendMessage) (status : TransactionStatus) (answer : CallAnswer) (items : List Item) → waits_to_show call ≡ false → answer_by (request_of d call) reply status ≡ Ok answer → items_with items answer ≡ items
-no_items_come d (calls.Execute query) reply status answer items w e = how_comes hows.Execute (items_of reply) status answer items w e
-no_items_come d (calls.ExecuteMany query) reply status answer items w e = how_comes hows.ExecuteMany (items_of reply) status answer items w e
-no_items_come d (calls.Fetch query) reply status answer items w e = how_comes hows.Fetch (items_of reply) status answer items w e
-no_items_come d (calls.FetchMany query) reply status answer items w e = how_comes hows.FetchMany (items_of reply) status answer items w e
-no_items_come d (calls.FetchAll query) reply status answer items w e = how_comes hows.FetchAll (items_of reply) status answer items w e
-no_items_come d (calls.FetchOptional query) reply status answer items w e = how_comes hows.FetchOptional (items_of reply) status answer items w e
-no_items_come d (calls.FetchOne query) reply status answer items w e = how_comes hows.FetchOne (items_of reply) status answer items w e
-no_items_come d (calls.Run bound) reply status answer items w e = how_comes bound.how (items_of reply) status answer items w e
-no_items_come d (calls.Describe extended) reply status answer items w e = rw (← same_answer _ answer e) refl
-no_items_come d calls.Ping reply status answer items w e = rw (← same_answer _ answer e) refl
-no_items_come d calls.Flush reply status answer items w e = rw (← same_answer _ answer e) refl
+no_items_come d (calls.Execute query) reply status answer items w e = how_comes hows.Execute (own_items (request_of d (calls.Execute query)) reply) status answer items w e
+no_items_come d (calls.ExecuteMany query) reply status answer items w e = how_comes hows.ExecuteMany (own_items (request_of d (calls.ExecuteMany query)) reply) status answer items w e
+no_items_come d (calls.Fetch query) reply status answer items w e = how_comes hows.Fetch (own_items (request_of d (calls.Fetch query)) reply) status answer items w e
+no_items_come d (calls.FetchMany query) reply status answer items w e = how_comes hows.FetchMany (own_items (request_of d (calls.FetchMany query)) reply) status answer items w e
+no_items_come d (calls.FetchAll query) reply status answer items w e = how_comes hows.FetchAll (own_items (request_of d (calls.FetchAll query)) reply) status answer items w e
+no_items_come d (calls.FetchOptional query) reply status answer items w e = how_comes hows.FetchOptional (own_items (request_of d (calls.FetchOptional query)) reply) status answer items w e
+no_items_come d (calls.FetchOne query) reply status answer items w e = how_comes hows.FetchOne (own_items (request_of d (calls.FetchOne query)) reply) status answer items w e
+no_items_come d (calls.Run bound) reply status answer items w e = how_comes bound.how (own_items (request_of d (calls.Run bound)) reply) status answer items w e
+no_items_come d (calls.Describe extended) reply status answer items w e = rw (← the_ok _ answer e) refl
+no_items_come d calls.Ping reply status answer items w e = rw (← the_ok _ answer e) refl
+no_items_come d calls.Flush reply status answer items w e = rw (← the_ok _ answer e) refl
 no_items_come d calls.Begin reply status answer items w e = rw (← begun_unit status answer e) refl
 no_items_come d (calls.BeginWith query) reply status answer items w e = rw (← begun_unit status answer e) refl
-no_items_come zero calls.Commit reply status answer items w e = rw (← same_answer _ answer e) refl
-no_items_come (suc left) calls.Commit reply status answer items w e = rw (← same_answer _ answer e) refl
-no_items_come zero calls.Rollback reply status answer items w e = rw (← same_answer _ answer e) refl
-no_items_come (suc left) calls.Rollback reply status answer items w e = rw (← same_answer _ answer e) refl
-no_items_come d calls.StartRollback reply status answer items w e = rw (← same_answer _ answer e) refl
+no_items_come zero calls.Commit reply status answer items w e = rw (← the_ok _ answer e) refl
+no_items_come (suc left) calls.Commit reply status answer items w e = rw (← the_ok _ answer e) refl
+no_items_come zero calls.Rollback reply status answer items w e = rw (← the_ok _ answer e) refl
+no_items_come (suc left) calls.Rollback reply status answer items w e = rw (← the_ok _ answer e) refl
+no_items_come d calls.StartRollback reply status answer items w e = rw (← the_ok _ answer e) refl
 
 status_fails : (status other : TransactionStatus) → raw.begun status ≡ Err (errors.BeginFailed other) → (status ≡ other) × (other ≢ statuses.Transaction)
 status_fails statuses.Transaction other e = absurd cc
@@ -301,21 +299,21 @@ status_fails statuses.Error other e =
 how_begins_none : (how : How) (xs : List CallItem) (status other : TransactionStatus) → answer_to (kinds.Run how) xs status ≡ Err (errors.BeginFailed other) → ⊥
 how_begins_none hows.FetchOne xs status other e = row_fails (first_row (rows_in xs)) e
   where
-    row_fails : (o : Option Values) → raw.one_row o ≡ Err (errors.BeginFailed other) → ⊥
+    row_fails : (o : Option RowSeen) → raw.one_row o ≡ Err (errors.BeginFailed other) → ⊥
     row_fails None e = cc
     row_fails (Some row) e = cc
 how_begins_none _ xs status other e = cc
 
 -- only a begin fails by the status behind it, which isn't that of an open transaction
 pub begun_failed : (d : ℕ) (call : Call) (reply : List BackendMessage) (status other : TransactionStatus) → answer_by (request_of d call) reply status ≡ Err (errors.BeginFailed other) → (begins call ≡ true) × (status ≡ other) × (other ≢ statuses.Transaction)
-begun_failed d (calls.Execute query) reply status other e = absurd (how_begins_none hows.Execute (items_of reply) status other e)
-begun_failed d (calls.ExecuteMany query) reply status other e = absurd (how_begins_none hows.ExecuteMany (items_of reply) status other e)
-begun_failed d (calls.Fetch query) reply status other e = absurd (how_begins_none hows.Fetch (items_of reply) status other e)
-begun_failed d (calls.FetchMany query) reply status other e = absurd (how_begins_none hows.FetchMany (items_of reply) status other e)
-begun_failed d (calls.FetchAll query) reply status other e = absurd (how_begins_none hows.FetchAll (items_of reply) status other e)
-begun_failed d (calls.FetchOptional query) reply status other e = absurd (how_begins_none hows.FetchOptional (items_of reply) status other e)
-begun_failed d (calls.FetchOne query) reply status other e = absurd (how_begins_none hows.FetchOne (items_of reply) status other e)
-begun_failed d (calls.Run bound) reply status other e = absurd (how_begins_none bound.how (items_of reply) status other e)
+begun_failed d (calls.Execute query) reply status other e = absurd (how_begins_none hows.Execute (own_items (request_of d (calls.Execute query)) reply) status other e)
+begun_failed d (calls.ExecuteMany query) reply status other e = absurd (how_begins_none hows.ExecuteMany (own_items (request_of d (calls.ExecuteMany query)) reply) status other e)
+begun_failed d (calls.Fetch query) reply status other e = absurd (how_begins_none hows.Fetch (own_items (request_of d (calls.Fetch query)) reply) status other e)
+begun_failed d (calls.FetchMany query) reply status other e = absurd (how_begins_none hows.FetchMany (own_items (request_of d (calls.FetchMany query)) reply) status other e)
+begun_failed d (calls.FetchAll query) reply status other e = absurd (how_begins_none hows.FetchAll (own_items (request_of d (calls.FetchAll query)) reply) status other e)
+begun_failed d (calls.FetchOptional query) reply status other e = absurd (how_begins_none hows.FetchOptional (own_items (request_of d (calls.FetchOptional query)) reply) status other e)
+begun_failed d (calls.FetchOne query) reply status other e = absurd (how_begins_none hows.FetchOne (own_items (request_of d (calls.FetchOne query)) reply) status other e)
+begun_failed d (calls.Run bound) reply status other e = absurd (how_begins_none bound.how (own_items (request_of d (calls.Run bound)) reply) status other e)
 begun_failed d (calls.Describe extended) reply status other e = absurd cc
 begun_failed d calls.Ping reply status other e = absurd cc
 begun_failed d calls.Flush reply status other e = absurd cc

@@ -12,7 +12,7 @@ use Rattle.pg_call.specs.declared.kind.Kind.TheVariants as kinds
 use Rattle.pg_call.specs.declared.answer.CallItem.{CallItem}
 use Rattle.pg_call.specs.declared.ledger.Ledger.{Ledger}
 use Rattle.pg_call.specs.Requests.{Group, said_in, kind_of, groups_of, messages_of, farewell, CanBeSaid}
-use Rattle.pg_call.specs.Items.{items_of, shown}
+use Rattle.pg_call.specs.Items.{own_items, shown}
 use Rattle.pg_call.specs.Drains.{before_readys, after_readys, drain_fails}
 use Rattle.pg_call.specs.Hearing.{fails_of}
 use Rattle.pg_call.specs.Calls.{Leaves, IsFine, owner_failed}
@@ -45,7 +45,7 @@ pub record Summary (start : Ledger) (r : Request) (said : List FrontendMessage) 
   pub queued : (own ≡ []) ⊎ QueuedOwn start.owed r own hs
   pub replied : own_part start.owed own hs ≡ map backend_frame reply
   pub reply_has_frames : AllByRecursion HasBackendFrame reply
-  pub shows : IsPrefixOf items (shown (kind_of r) (items_of reply))
+  pub shows : IsPrefixOf items (shown (kind_of r) (own_items r reply))
   pub rests : ledger.owed ≡ 0 → after_readys (start.owed + length own) hs ≡ []
 
 pub own_is_part : (p : ℕ) (own : List Group) (hs : List Frame) → length own ≡ 1 → own_part p own hs ≡ nth_part p hs
@@ -212,7 +212,7 @@ fine_rests start r said hs items ledger f = elim f.ends [
 fine_said : (start : Ledger) (d : ℕ) (call : Call) (said : List FrontendMessage) (hs : List Frame) → said ≡ drain_fails start.is_copy_failed (before_readys start.owed hs) ++ messages_of (request_of d call) → said ≡ drain_fails start.is_copy_failed (before_readys start.owed hs) ++ said_in (groups_of (request_of d call)) ++ []
 fine_said start d call said hs h = h ∙ ap (λ (b : List FrontendMessage). drain_fails start.is_copy_failed (before_readys start.owed hs) ++ (said_in (groups_of (request_of d call)) ++ b)) (no_close d call) ∙ sym (append_assoc (drain_fails start.is_copy_failed (before_readys start.owed hs)) (said_in (groups_of (request_of d call))) [])
 
-fine_one : (start : Ledger) (d : ℕ) (call : Call) (said : List FrontendMessage) (hs : List Frame) (items : List CallItem) (ledger : Ledger) → length (groups_of (request_of d call)) ≡ 1 → (f : IsFine start (request_of d call) said hs items ledger) → (s : Summary start (request_of d call) said hs items ledger false) × (s.own ≡ groups_of (request_of d call)) × (items_of s.reply ≡ items_of f.reply)
+fine_one : (start : Ledger) (d : ℕ) (call : Call) (said : List FrontendMessage) (hs : List Frame) (items : List CallItem) (ledger : Ledger) → length (groups_of (request_of d call)) ≡ 1 → (f : IsFine start (request_of d call) said hs items ledger) → (s : Summary start (request_of d call) said hs items ledger false) × (s.own ≡ groups_of (request_of d call)) × (own_items (request_of d call) s.reply ≡ own_items (request_of d call) f.reply)
 fine_one start d call said hs items ledger n f =
     let part : nth_part start.owed hs ≡ after_readys start.owed hs = elim f.ends [
       | inl e ↦ absurd (omega (arith, f.counted, n, ap (λ (h : List Frame). count_by is_ready h) e))
@@ -235,11 +235,11 @@ fine_one start d call said hs items ledger n f =
     )
 
 -- behind a flush nothing is left
-none_carried : (start : Ledger) (hs : List Frame) (reply : List BackendMessage) → after_readys start.owed hs ≡ [] → after_readys start.owed hs ≡ map backend_frame reply → items_of reply ≡ []
-none_carried start hs [] e h = refl
-none_carried start hs (m ∷ ms) e h = let x = sym e ∙ h in absurd cc
+none_carried : (start : Ledger) (r : Request) (hs : List Frame) (reply : List BackendMessage) → after_readys start.owed hs ≡ [] → after_readys start.owed hs ≡ map backend_frame reply → own_items r reply ≡ []
+none_carried start r hs [] e h = refl
+none_carried start r hs (m ∷ ms) e h = let x = sym e ∙ h in absurd cc
 
-fine_none : (start : Ledger) (d : ℕ) (call : Call) (said : List FrontendMessage) (hs : List Frame) (items : List CallItem) (ledger : Ledger) → groups_of (request_of d call) ≡ [] → (f : IsFine start (request_of d call) said hs items ledger) → (s : Summary start (request_of d call) said hs items ledger false) × (s.own ≡ groups_of (request_of d call)) × (items_of s.reply ≡ items_of f.reply)
+fine_none : (start : Ledger) (d : ℕ) (call : Call) (said : List FrontendMessage) (hs : List Frame) (items : List CallItem) (ledger : Ledger) → groups_of (request_of d call) ≡ [] → (f : IsFine start (request_of d call) said hs items ledger) → (s : Summary start (request_of d call) said hs items ledger false) × (s.own ≡ groups_of (request_of d call)) × (own_items (request_of d call) s.reply ≡ own_items (request_of d call) f.reply)
 fine_none start d call said hs items ledger n f =
     let zero_groups : length (groups_of (request_of d call)) ≡ 0 = ap (λ (g : List Group). length g) n in
     let rests = fine_rests start (request_of d call) said hs items ledger f in
@@ -253,15 +253,15 @@ fine_none start d call said hs items ledger n f =
         queued = inl refl;
         replied = refl;
         reply_has_frames = tt;
-        shows = rw (f.items_are ∙ flush_shows d call (items_of f.reply) n) (shown (kind_of (request_of d call)) [], refl);
+        shows = rw (f.items_are ∙ flush_shows d call (own_items (request_of d call) f.reply) n) (shown (kind_of (request_of d call)) [], refl);
         rests = λ z. subst (λ (k : ℕ). after_readys k hs ≡ []) (omega (arith, zero_groups)) rests;
       },
       sym n,
-      sym (none_carried start hs f.reply behind f.replied),
+      sym (none_carried start (request_of d call) hs f.reply behind f.replied),
     )
 
 -- it queued all of its groups, and its response has the items that it counted
-pub fine_summary : (start : Ledger) (d : ℕ) (call : Call) (said : List FrontendMessage) (hs : List Frame) (items : List CallItem) (ledger : Ledger) (f : IsFine start (request_of d call) said hs items ledger) → (s : Summary start (request_of d call) said hs items ledger false) × (s.own ≡ groups_of (request_of d call)) × (items_of s.reply ≡ items_of f.reply)
+pub fine_summary : (start : Ledger) (d : ℕ) (call : Call) (said : List FrontendMessage) (hs : List Frame) (items : List CallItem) (ledger : Ledger) (f : IsFine start (request_of d call) said hs items ledger) → (s : Summary start (request_of d call) said hs items ledger false) × (s.own ≡ groups_of (request_of d call)) × (own_items (request_of d call) s.reply ≡ own_items (request_of d call) f.reply)
 fine_summary start d call said hs items ledger f = elim (at_most_group d call) [
   | inl n ↦ fine_none start d call said hs items ledger n f
   | inr n ↦ fine_one start d call said hs items ledger n f

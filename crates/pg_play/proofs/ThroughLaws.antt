@@ -31,7 +31,7 @@ use Rattle.pg_call.specs.declared.calling.Call.TheVariants as calls
 use Rattle.pg_call.specs.declared.calling.Beat.{Beat}
 use Rattle.pg_call.specs.declared.calling.Beat.TheVariants as beats
 use Rattle.pg_call.specs.Requests.{kind_of, main_kind, change_of, first_of, first_by}
-use Rattle.pg_call.specs.Items.{items_of, shown}
+use Rattle.pg_call.specs.Items.{own_items, shown}
 use Rattle.pg_call.specs.Calls.{EndsFine}
 use Rattle.pg_call.proofs.FitLaws.{hands_on_described, next_is, main_describes_none}
 use Rattle.pg_conn.specs.Connections.{ConnOf, ConnSeen, seen_by, begun_with, handed, settled, runs, left, started_call}
@@ -61,7 +61,7 @@ shown_none (i ∷ is) = shown_none is
 -- it is a description, and showed nothing
 shows_none : (start : Ledger) (r : Request) (said : List FrontendMessage) (hs : List Frame) (items : List CallItem) (ledger : Ledger) (next : Request) → EndsFine start r said hs items ledger (Ok (answers.Next next)) → items ≡ []
 shows_none start r said hs items ledger next e =
-    e.0.items_are ∙ ap (λ (k : Kind). shown k (items_of e.0.reply)) (hands_on_described r e.0.reply e.0.status next e.1) ∙ shown_none (items_of e.0.reply)
+    e.0.items_are ∙ ap (λ (k : Kind). shown k (own_items r e.0.reply)) (hands_on_described r e.0.reply e.0.status next e.1) ∙ shown_none (own_items r e.0.reply)
 
 not_flushed : (f : Bool) (next : Request) → (f ≡ true → answers.Next next ≡ answers.Unit) → f ≡ false
 not_flushed true next h = let x = h refl in absurd cc

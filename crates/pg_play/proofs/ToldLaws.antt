@@ -20,8 +20,8 @@ use Rattle.pg_call.specs.declared.request.Request.{Request}
 use Rattle.pg_call.specs.declared.answer.CallItem.{CallItem}
 use Rattle.pg_call.specs.declared.answer.CallAnswer.{CallAnswer}
 use Rattle.pg_call.specs.declared.ledger.Ledger.{Ledger}
-use Rattle.pg_call.specs.Requests.{Group, said_in, kind_of, groups_of, copy_fail}
-use Rattle.pg_call.specs.Items.{items_of, shown}
+use Rattle.pg_call.specs.Requests.{Group, said_in, kind_of, groups_of, copy_fail, heading_of}
+use Rattle.pg_call.specs.Items.{own_items, shown}
 use Rattle.pg_call.specs.Drains.{after_readys}
 use Rattle.pg_call.specs.Hearing.{fails_of}
 use Rattle.pg_call.specs.Calls.{IsFine, CallEnds, answer_by}
@@ -220,14 +220,14 @@ error_by (Some fault) limits first a b r said hs shown end h = inl (subst HasNoE
 
 -- the own response of a call that came to its end
 pub fine_carries : (start : StreamSeen) (at : Place) (a : ConnSeen) (d : ℕ) (call : Call) (said : List FrontendMessage) (hs : List Frame) (items items' : List CallItem) (ledger : Ledger) (copied : Bool) → StandsAt start at a → (s : Summary a.ledger (request_of d call) said hs items' ledger copied)
-    → (f : IsFine a.ledger (request_of d call) said hs items ledger) → (response : List BackendMessage) × Carry (main_frames at s.own hs) response × (items_of response ≡ items_of f.reply)
+    → (f : IsFine a.ledger (request_of d call) said hs items ledger) → (response : List BackendMessage) × Carry (main_frames at s.own hs) response × (own_items (request_of d call) response ≡ own_items (request_of d call) f.reply)
 fine_carries start at a d call said hs items items' ledger copied st s f = elim s.queued [
   | inr q ↦ (f.reply, (main_after start at a (request_of d call) s.own hs st q ∙ f.replied, f.reply_has_frames), refl)
   | inl e ↦
       let mine = (fine_summary a.ledger d call said hs items ledger f) in
       let none : mine.0.own ≡ [] = mine.1 ∙ sym (fine_own a.ledger (request_of d call) said hs items items' ledger copied s f) ∙ e in
       let empty : map backend_frame mine.0.reply ≡ [] = sym mine.0.replied ∙ ap (λ (g : List Group). own_part a.ledger.owed g hs) none in
-      ([], (ap (λ (g : List Group). main_frames at g hs) e, tt), sym (ap items_of (nothing mine.0.reply empty)) ∙ mine.2)
+      ([], (ap (λ (g : List Group). main_frames at g hs) e, tt), sym (ap (own_items (request_of d call)) (nothing mine.0.reply empty)) ∙ mine.2)
 ]
   where
     nothing : (ms : List BackendMessage) → map backend_frame ms ≡ [] → ms ≡ []
@@ -236,10 +236,10 @@ fine_carries start at a d call said hs items items' ledger copied st s f = elim 
 
 well_by : (start : StreamSeen) (at : Place) (a b : ConnSeen) (step : Step) (out : Outcome) (said : List FrontendMessage) (fs : List Frame) (items items' : List CallItem) (answer : CallAnswer) (told : Answer) (response : List BackendMessage) (copied : Bool) → StandsAt start at a
     → (s : Summary a.ledger (request_of at.depth step.call) said (heard fs) items' b.ledger copied) → (f : IsFine a.ledger (request_of at.depth step.call) said (heard fs) items b.ledger) → answer_by (request_of at.depth step.call) f.reply f.status ≡ Ok answer
-    → out.items ≡ items_with (map item_of items) answer → told ≡ answer_of answer → items_of response ≡ items_of f.reply → b.stream.unsent ≡ [] → IsWell step out told response (heard fs) (next_place at b said s.own fs out.end)
+    → out.items ≡ items_with (map item_of items) answer → told ≡ answer_of answer → own_items (request_of at.depth step.call) response ≡ own_items (request_of at.depth step.call) f.reply → b.stream.unsent ≡ [] → IsWell step out told response (heard fs) (next_place at b said s.own fs out.end)
 well_by start at a b step out said fs items items' answer told response copied st s f e k t same sent =
-    let xs = items_of f.reply in
-    let items_same : items_in response ≡ map item_of xs = items_told response ∙ ap (map item_of) same in
+    let xs = own_items (request_of at.depth step.call) f.reply in
+    let items_same : items_in response ≡ map item_of xs = items_told (heading_of (request_of at.depth step.call)) response ∙ ap (map item_of) same in
     record {
       items = k ∙ ap (λ (x : List CallItem). items_with (map item_of x) answer) f.items_are ∙ all_told at.depth step.call f.reply f.status answer e ∙ ap (shown_by step.call) (sym items_same);
       answers = t ∙ answer_told at.depth step.call f.reply f.status answer e ∙ ap (answered_by step.call) (sym items_same);
@@ -270,17 +270,17 @@ not_well (ends.Ok told) step out response hs next e = absurd cc
 not_well (ends.Err x) step out response hs next e = tt
 not_well ends.Dropped step out response hs next e = tt
 
-shows_by : (d : ℕ) (call : Call) (out_items : List Item) (items : List CallItem) (reply : List BackendMessage) → IsPrefixOf items (shown (kind_of (request_of d call)) (items_of reply)) → (out_items ≡ map item_of items) ⊎ (out_items ≡ [])
+shows_by : (d : ℕ) (call : Call) (out_items : List Item) (items : List CallItem) (reply : List BackendMessage) → IsPrefixOf items (shown (kind_of (request_of d call)) (own_items (request_of d call) reply)) → (out_items ≡ map item_of items) ⊎ (out_items ≡ [])
     → IsPrefixOf out_items (shown_by call (items_in reply)) × (waits_to_show call ≡ true → out_items ≡ [])
 shows_by d call out_items items reply p (inr e) = ((shown_by call (items_in reply), ap (λ (x : List Item). x ++ shown_by call (items_in reply)) e), λ w. e)
 shows_by d call out_items items reply p (inl e) =
-    let front = shown_front d call (items_of reply) in
-    let all : map item_of items ++ map item_of p.0 ≡ map item_of (shown (kind_of (request_of d call)) (items_of reply)) = sym (map-append item_of items p.0) ∙ ap (map item_of) p.1 in (
+    let front = shown_front d call (own_items (request_of d call) reply) in
+    let all : map item_of items ++ map item_of p.0 ≡ map item_of (shown (kind_of (request_of d call)) (own_items (request_of d call) reply)) = sym (map-append item_of items p.0) ∙ ap (map item_of) p.1 in (
       (
         map item_of p.0 ++ front.0,
-        ap (λ (x : List Item). x ++ (map item_of p.0 ++ front.0)) e ∙ sym (append_assoc (map item_of items) (map item_of p.0) front.0) ∙ ap (λ (x : List Item). x ++ front.0) all ∙ front.1 ∙ ap (shown_by call) (sym (items_told reply)),
+        ap (λ (x : List Item). x ++ (map item_of p.0 ++ front.0)) e ∙ sym (append_assoc (map item_of items) (map item_of p.0) front.0) ∙ ap (λ (x : List Item). x ++ front.0) all ∙ front.1 ∙ ap (shown_by call) (sym (items_told (heading_of (request_of d call)) reply)),
       ),
-      λ w. e ∙ ap (map item_of) (first_none items p.0 (p.1 ∙ waits_none d call (items_of reply) w)),
+      λ w. e ∙ ap (map item_of) (first_none items p.0 (p.1 ∙ waits_none d call (own_items (request_of d call) reply) w)),
     )
   where
     first_none : (xs ys : List CallItem) → xs ++ ys ≡ [] → xs ≡ []

@@ -1,6 +1,7 @@
 -- What the call of a step asks, what it shows of the response to it, and what it answers.
-use Rattle.std.specs.Prelude.{◌≡◌, ◌⊎◌, ℕ, ◌-◌, ◌^◌, min, Bool, true, false, List, [], ◌∷◌, length, filter, flat_map, map, take, sum_by, Option, Some, None, zero, suc}
-use Rattle.pg_wire.specs.Backend.{Values, BackendMessage, DataRow, CommandComplete}
+use Rattle.std.specs.Prelude.{◌≡◌, ◌⊎◌, ℕ, ◌-◌, ◌^◌, min, Bool, true, false, List, [], ◌∷◌, filter, flat_map, map, take, sum_by, Option, Some, None, zero, suc}
+use Rattle.pg_rows.specs.Rows.{RowSeen}
+use Rattle.pg_wire.specs.Backend.{BackendMessage, DataRow, CommandComplete}
 use Rattle.pg_wire.specs.Completion.{rows_affected}
 use Rattle.pg_request.specs.Queries.{QueryText, ArgumentsSeen}
 use Rattle.pg_exchanges.specs.Answering.{described}
@@ -72,7 +73,7 @@ first_call call = call
 
 -- the one behind it: the statement is run, whose columns were described
 abbrev pub next_call : Call → List BackendMessage → Option Call
-next_call (calls.Describe extended) response = Some (calls.Run (record { how = extended.how; arguments = extended.arguments; width = Some (length (described response)) }))
+next_call (calls.Describe extended) response = Some (calls.Run (record { how = extended.how; arguments = extended.arguments; columns = Some (described response) }))
 next_call call response = None
 
 -- an exchange is one of this call
@@ -186,16 +187,16 @@ wants_row call = wants_how (how_of call)
 -- ---- what a connection's call shows and answers, as outcomes tell it
 
 abbrev pub item_of : CallItem → Item
-item_of (call_items.Row values) = Row values
+item_of (call_items.Row row) = Row row.values
 item_of (call_items.Count n) = Count n.rows
 
-abbrev pub one_row : Option Values → List Item
+abbrev pub one_row : Option RowSeen → List Item
 one_row None = []
-one_row (Some values) = Row values ∷ []
+one_row (Some row) = Row row.values ∷ []
 
 -- the items, or those that come with the answer
 abbrev pub items_with : List Item → CallAnswer → List Item
-items_with items (call_answers.Rows rows) = map Row rows
+items_with items (call_answers.Rows rows) = map (λ row. Row row.values) rows
 items_with items (call_answers.OneRow row) = one_row row
 items_with items _ = items
 

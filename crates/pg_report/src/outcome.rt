@@ -1,11 +1,10 @@
 use pg_request::CacheStep;
-use pg_rows::PgRow;
-use pg_wire::{Blob, Error, Field, Oids, Sequence};
+use pg_wire::{Blob, DataRow, Error, Field, Oids, Sequence};
 
 /// One thing that a call showed.
 #[derive(Debug, Drop)]
 pub enum Item {
-    Row(PgRow),
+    Row(DataRow),
     /// The rows that a statement counted.
     Count(u64),
     /// A piece of a copy.

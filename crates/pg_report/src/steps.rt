@@ -5,7 +5,7 @@ use crate::bytes::{put_hex_or_dash, put_named_number, put_number, put_oids};
 use crate::errors::put_error;
 use crate::outcome::{Answer, End, Item, Outcome};
 use pg_request::CacheStep;
-use pg_rows::PgRow;
+use pg_wire::DataRow;
 use std::alloc::AllocError;
 
 #[tactic(auto, unfolding(crate::specs::Steps::value_text))]
@@ -21,11 +21,11 @@ fn put_value(out: &mut String, value: Option<&[u8]>) -> Result<(), AllocError>
     }
 }
 
-fn put_values(out: &mut String, row: &PgRow) -> Result<(), AllocError>
+fn put_values(out: &mut String, row: &DataRow) -> Result<(), AllocError>
     ensures { OnOk result (string_bytes out.new ≡ string_bytes out.old ++ flat_map value_text row.now) }
 {
     for index in 0..row.len() {
-        put_value(out, row.value(index))?;
+        put_value(out, row.get(index))?;
     }
     Ok(())
 }

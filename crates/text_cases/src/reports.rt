@@ -1,6 +1,5 @@
 use pg_report::{Answer, End, Item, Outcome, Started, report};
 use pg_request::CacheStep;
-use pg_rows::PgRow;
 use pg_wire::{
     Blob, Error, IoCause, Oid, Oids, ProtocolFault, Sequence, ServerFault, decode_data_row,
 };
@@ -33,7 +32,7 @@ fn described(alloc: Global, parameters: Vec<Oid>) -> End {
 const THREE_VALUES: [u8; 16] = *b"\x00\x03\xff\xff\xff\xff\x00\x00\x00\x00\x00\x00\x00\x02\x07\xfa";
 
 fn row(alloc: Global, body: &[u8]) -> Result<Item, Error> {
-    Ok(Item::Row(PgRow::new(decode_data_row(alloc, body)?)))
+    Ok(Item::Row(decode_data_row(alloc, body)?))
 }
 
 fn items(alloc: Global) -> Result<Sequence<Item>, Error> {

@@ -30,6 +30,12 @@ pub enum Tried {
     Digests,
     /// A column by its name.
     Columns,
+    /// A value of a row, in the text and in the binary format.
+    TextRow,
+    BinaryRow,
+    /// A column of a row by its place or name; of a row that has fewer values than columns.
+    Row,
+    ShortRow,
 }
 
 #[derive(Clone, Copy, PartialEq)]
@@ -55,8 +61,12 @@ enum Kind {
     Unknown,
 }
 
-static TRIED: [(&str, Tried); 10] = [
+static TRIED: [(&str, Tried); 14] = [
     ("columns", Tried::Columns),
+    ("textrow", Tried::TextRow),
+    ("binaryrow", Tried::BinaryRow),
+    ("row", Tried::Row),
+    ("shortrow", Tried::ShortRow),
     ("read", Tried::Read),
     ("keep", Tried::Keep),
     ("add", Tried::Add),

@@ -12,8 +12,11 @@ mod kinds;
 mod mood;
 mod putting;
 mod reading;
+mod rows;
 
 use kinds::{Tried, play, tried_by};
+use pg_values::PgValueFormat;
+use rows::{play_columns, play_row};
 use std::alloc::{AllocError, Global};
 use std::io;
 
@@ -24,15 +27,30 @@ fn words(row: &str) -> (&str, &str, &str) {
     (first, second, rest)
 }
 
+fn play_value(
+    alloc: Global,
+    tried: Tried,
+    kind: &str,
+    bytes: Option<&[u8]>,
+) -> Result<String, AllocError> {
+    match tried {
+        Tried::TextRow => play_row(alloc, PgValueFormat::Text, kind, bytes),
+        Tried::BinaryRow => play_row(alloc, PgValueFormat::Binary, kind, bytes),
+        tried => play(alloc, tried, kind, bytes),
+    }
+}
+
 fn answer(alloc: Global, row: &str) -> Result<String, AllocError> {
     let (verb, kind, bytes) = words(row);
     match tried_by(verb) {
         Tried::Types => given::types_alone(alloc),
         Tried::Digests => digests::digests(alloc),
         Tried::Columns => columns::find(alloc, kind),
-        tried if bytes == "null" => play(alloc, tried, kind, None),
+        Tried::Row => play_columns(alloc, false, kind),
+        Tried::ShortRow => play_columns(alloc, true, kind),
+        tried if bytes == "null" => play_value(alloc, tried, kind, None),
         tried => match hex::decode(alloc, bytes) {
-            Ok(bytes) => play(alloc, tried, kind, Some(&bytes)),
+            Ok(bytes) => play_value(alloc, tried, kind, Some(&bytes)),
             Err(_) => String::from_str(alloc, "no bytes"),
         },
     }

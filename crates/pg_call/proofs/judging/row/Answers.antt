@@ -6,12 +6,12 @@ use Rattle.pg_call.proofs.judging.row.Goals as goal
 
 pub returns-in-Some : goal.returns-in-Some
 returns-in-Some c =
-    let values = c.new-row.result in
+    let values = c.in_ok-row.row in
     let goes = ap (after_row c.args.part) (sym c.len.ensures) ∙ sym c.after_row.ensures ∙ c.in-Some.is in
-    (DataRow values, rw c.new-row.ensures c.in_ok-decode_data_row.ensures, (row_goes c.args.part c.in-Some.part values goes, refl))
+    (DataRow values, c.in_ok-row.ensures, (row_goes c.args.part c.in-Some.part values goes, refl))
 
 pub returns-in-None : goal.returns-in-None
 returns-in-None c =
-    let values = c.new-row.result in
+    let values = c.in_ok-row.row in
     let none = ap (after_row c.args.part) (sym c.len.ensures) ∙ sym c.after_row.ensures ∙ c.in-None.is in
-    other_width c.args.part values c.args.body.now c.refuse.result (rw c.new-row.ensures c.in_ok-decode_data_row.ensures) none c.refuse.ensures
+    other_width c.args.part values c.args.body.now c.refuse.result c.in_ok-row.ensures none c.refuse.ensures

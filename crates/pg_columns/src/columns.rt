@@ -1,0 +1,120 @@
+ghost use Rattle.std.specs.Prelude.{◌≡◌, [], map, length, IfOk};
+ghost use Rattle.std.specs.List.{AllByRecursion};
+ghost use Rattle.pg_wire.specs.Fields.{described, TellsNone};
+ghost use Rattle.pg_columns.specs.Told.{column_at, columns_of, made_columns, origin_of};
+
+use crate::column::copy_of;
+use crate::{ColumnOrigin, PgColumn};
+use pg_arguments::PgTypeInfo;
+use pg_wire::{Field, RowDescription};
+use std::alloc::{AllocError, Global};
+use std::marker::Model;
+use std::sync::Arc;
+
+/// The columns of a result, which all its rows share: contracts see what the server told of them.
+#[derive(Debug, Drop)]
+pub struct PgColumns {
+    shared: Option<Arc<Vec<PgColumn>>>,
+}
+
+impl Model for PgColumns {
+    ghost use Rattle.std.specs.Prelude.{List, ◌≡◌};
+    ghost use Rattle.pg_wire.specs.Backend.{FieldDescription};
+    ghost use Rattle.pg_columns.specs.Told.{columns_of, items_in, told_by};
+
+    ghost Value = { List FieldDescription };
+
+    ghost view = { λ c. told_by (items_in c.shared) };
+
+    ghost invariant = { λ c. items_in c.shared ≡ columns_of (told_by (items_in c.shared)) };
+}
+
+// Where a column comes from, as far as its description tells.
+fn origin_of(field: &Field) -> ColumnOrigin
+    ensures { result ≡ origin_of field.now }
+{
+    match (field.relation_id, field.relation_attribute_no) {
+        (Some(_), Some(_)) => ColumnOrigin::Unknown,
+        _ => ColumnOrigin::Expression,
+    }
+}
+
+fn column(alloc: Global, ordinal: usize, field: &Field) -> Result<PgColumn, AllocError>
+    ensures { IfOk result (λ c. c ≡ column_at ordinal field.now) }
+{
+    let origin = origin_of(field);
+    let type_info = PgTypeInfo::under_oid(alloc, field.type_id)?;
+    let field = copy_of(alloc, field)?;
+    Ok(PgColumn::new(ordinal, field, type_info, origin))
+}
+
+fn columns(alloc: Global, fields: &[Field]) -> Result<Vec<PgColumn>, AllocError>
+    ensures { IfOk result (λ v. v.items ≡ made_columns 0 fields.now) }
+{
+    let mut columns = Vec::new(alloc);
+    for field in fields {
+        let ordinal = columns.len();
+        columns.push(column(alloc, ordinal, field)?)?;
+    }
+    Ok(columns)
+}
+
+impl PgColumns {
+    /// No columns, which takes no memory.
+    pub fn none() -> Self
+        ensures { result ≡ [] }
+    {
+        PgColumns { shared: None }
+    }
+
+    /// The columns that a description tells of. The type of each is the built-in one of its OID, or else the type of which only the OID is
+    /// told; its origin is not looked up.
+    pub fn described(alloc: Global, description: &RowDescription) -> Result<Self, AllocError>
+        requires { AllByRecursion TellsNone description.now }
+        ensures { IfOk result (λ c. c ≡ map described description.now) }
+    {
+        let columns = columns(alloc, description.as_slice())?;
+        let shared = Arc::new(alloc, columns)?;
+        Ok(PgColumns {
+            shared: Some(shared),
+        })
+    }
+
+    /// The number of columns.
+    pub fn len(&self) -> usize
+        ensures { result ≡ length self.now }
+    {
+        self.as_slice().len()
+    }
+
+    /// The columns, in the order of a row's values.
+    pub fn as_slice(&self) -> &[PgColumn]
+        ensures { result.now ≡ columns_of self.now }
+    {
+        match &self.shared {
+            Some(shared) => shared.as_slice(),
+            None => &[],
+        }
+    }
+
+    /// The same columns, shared once more: none is copied.
+    pub fn share(&self) -> Result<Self, AllocError>
+        ensures { IfOk result (λ c. c ≡ self.now) }
+    {
+        let shared = match &self.shared {
+            Some(shared) => Some(shared.clone()?),
+            None => None,
+        };
+        Ok(PgColumns { shared })
+    }
+}
+
+/// The same columns, shared once more, where they are known.
+pub fn share_known(columns: &Option<PgColumns>) -> Result<Option<PgColumns>, AllocError>
+    ensures { IfOk result (λ c. c ≡ columns.now) }
+{
+    match columns {
+        Some(columns) => Ok(Some(columns.share()?)),
+        None => Ok(None),
+    }
+}
