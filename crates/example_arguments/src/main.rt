@@ -7,14 +7,18 @@ use pg_auth::nonce_of;
 use pg_conn::{Dial, DialFailed, PgConnection, PgRow, Query, SocketDial, establish};
 use pg_options::{PgConnectOptions, PgSettings};
 use pg_stream::SocketLink;
-use pg_values::{Decode, PgArguments, PgTypeInfo, PgValueFormat, PgValueRef, Typed};
+use pg_values::PgArguments;
 use pg_wire::{Error, IoCause, Poll, Sequence};
 use rand::rngs::SysRng;
 use std::alloc::Global;
 use std::process::ExitCode;
 use std::{env, io};
 
-const SQL: &str = "SELECT n, n * n FROM generate_series($1, $2) AS n";
+const SQL: &str = "SELECT n, n * n AS square FROM generate_series($1, $2) AS n";
+
+type Rows = Sequence<PgRow>;
+
+type Numbers = Vec<(i32, i32)>;
 
 // A poll that answers `Pending` has waited for the socket's own timeout.
 const POLLS: u32 = 1000;
@@ -46,47 +50,42 @@ fn connect(rt: &HostRuntime, url: &str) -> Result<PgConnection<SocketLink>, Erro
     Err(Error::StartupPending)
 }
 
-fn fetch_all(conn: &mut PgConnection<SocketLink>, query: Query) -> Result<Sequence<PgRow>, Error> {
+// The rows, or None where the server is silent for too long. The call is dropped then, and the next one reads what it left.
+fn fetch_all(conn: &mut PgConnection<SocketLink>, query: Query) -> Result<Option<Rows>, Error> {
     let mut call = conn.fetch_all(query);
     for _ in 0..POLLS {
         match call.poll() {
             Poll::Pending => {}
-            Poll::Ready(rows) => return rows,
+            Poll::Ready(rows) => return rows.map(Some),
         }
     }
-    Err(Error::Io(IoCause::Fault)) // The call is dropped; the next one reads what it left.
+    Ok(None)
 }
 
-// The number in a column. A query with arguments gives its rows in binary.
-fn number(alloc: Global, row: &PgRow, index: usize, int4: &PgTypeInfo) -> Result<i32, Error> {
-    let len = row.len();
-    if index >= len {
-        return Err(Error::ColumnIndexOutOfBounds { index, len });
+fn numbers(alloc: Global, rows: &[PgRow]) -> Result<Numbers, Error> {
+    let mut numbers = Vec::new(alloc);
+    for row in rows {
+        let n = row.try_get(alloc, 0)?;
+        let square = row.try_get_by_name(alloc, "square")?;
+        numbers.push((n, square))?;
     }
-    let value = PgValueRef {
-        value: row.value(index),
-        type_info: int4,
-        format: PgValueFormat::Binary,
-    };
-    i32::decode(alloc, value)
+    Ok(numbers)
 }
 
 // The numbers from `first` to `last`, each with its square.
-fn squares(rt: &HostRuntime, url: &str, first: i32, last: i32) -> Result<Vec<(i32, i32)>, Error> {
+fn squares(rt: &HostRuntime, url: &str, first: i32, last: i32) -> Result<Option<Numbers>, Error> {
     let alloc = rt.alloc();
-    let mut conn = connect(rt, url)?;
     let mut arguments = PgArguments::new(alloc);
     arguments.add(first)?;
     arguments.add(last)?;
-    let rows = fetch_all(&mut conn, Query::with(alloc, SQL, &arguments)?)?;
-    let int4 = i32::type_info(alloc)?;
-    let mut squares = Vec::new(alloc);
-    for row in rows.as_slice() {
-        let n = number(alloc, row, 0, &int4)?;
-        let square = number(alloc, row, 1, &int4)?;
-        squares.push((n, square))?;
+    let query = Query::with(alloc, SQL, &arguments)?;
+    let mut conn = connect(rt, url)?;
+    let rows = fetch_all(&mut conn, query);
+    drop(conn);
+    match rows? {
+        Some(rows) => Ok(Some(numbers(alloc, rows.as_slice())?)),
+        None => Ok(None),
     }
-    Ok(squares)
 }
 
 fn main(rt: HostRuntime) -> io::Result<ExitCode> {
@@ -95,11 +94,15 @@ fn main(rt: HostRuntime) -> io::Result<ExitCode> {
         return Ok(ExitCode::SUCCESS);
     };
     match squares(&rt, url.as_str(), 1, 10) {
-        Ok(squares) => {
+        Ok(Some(squares)) => {
             for (n, square) in squares {
                 println!(rt; "{n} squared is {square}")?;
             }
             Ok(ExitCode::SUCCESS)
+        }
+        Ok(None) => {
+            println!(rt; "no answer")?;
+            Ok(ExitCode::FAILURE)
         }
         Err(error) => {
             println!(rt; "{error:?}")?;
