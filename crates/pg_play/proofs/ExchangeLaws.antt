@@ -17,7 +17,7 @@ use Rattle.pg_call.specs.Requests.{kind_of, widths_of, first_by, first_of}
 use Rattle.pg_call.specs.Calls.{answer_by}
 use Rattle.pg_script.specs.declared.step.Call.{Call}
 use Rattle.pg_script.specs.declared.step.Call.TheVariants as calls
-use Rattle.pg_call.proofs.FitLaws.{the_ok}
+use Rattle.pg_call.proofs.FitLaws.{next_is}
 use Rattle.pg_play.specs.Shown.{request_of, asked_of, first_as, first_call, next_call, IsPartOf, how_of, waits_to_show, wants_row, wants_how, acts_at_once, begins, begins_with}
 use Rattle.pg_play.specs.Calls.{IsLast}
 
@@ -173,11 +173,8 @@ no_flush call x e f = flush_describes x (sym e ∙ ap first_call f)
 abbrev pub bound_by : Extended → List BackendMessage → Bound
 bound_by x reply = record { how = x.how; arguments = x.arguments; columns = Some (described reply) }
 
-same_next : (r s : Request) → answers.Next r ≡ answers.Next s → r ≡ s
-same_next r s e = cc
-
 pub next_bound : (x : Extended) (reply : List BackendMessage) (status : TransactionStatus) (next : Request) → answer_by (requests.Describe x) reply status ≡ Ok (answers.Next next) → next ≡ requests.Run (bound_by x reply)
-next_bound x reply status next e = sym (same_next (requests.Run (bound_by x reply)) next (the_ok _ _ e))
+next_bound x reply status next e = sym (same_Some (requests.Run (bound_by x reply)) next (next_is (requests.Describe x) reply status next e).1)
 
 runs_by : (how : How) (query : QueryText) (o : Option ArgumentsSeen) (call : Call) (response : List BackendMessage) (part : Call) → next_call call response ≡ None → next_call (first_as how query o call) response ≡ Some part → (bound : Bound) × (part ≡ calls.Run bound) × (Some how ≡ Some bound.how)
 runs_by how query None call response part n e = let x = sym n ∙ e in absurd cc
