@@ -1,49 +1,44 @@
--- The statement of a text among the kept ones, by its place.
-use Rattle.std.proofs.Common.{ℕ, suc, ◌+◌, ◌<◌, ◌≡◌, Bool, true, false, cond, bytes_eq, List, [], ◌∷◌, length, Option, Some, None, refl, sym, ap, ◌∙◌, arith}
-use Rattle.std.specs.List.{remove, slice_get, slice_index_or}
+-- The statement of a number among the kept ones, by its place, and the last one.
+use Rattle.std.proofs.Common.{ℕ, suc, ◌+◌, ◌-◌, ◌<◌, ◌≤◌, ◌≡◌, Bool, true, false, cond, nat_lt, List, [], ◌∷◌, ◌++◌, length, take, drop, Some, None, refl, ap, ◌∙◌, arith, append-nil}
+use Rattle.std.specs.Prelude.{find, position, option_to_list}
+use Rattle.std.specs.List.{remove, slice_get, slice_index_or, position_or_len, before_first, after_first, last_or}
+use Rattle.std.proofs.lemmas.Bool.{ltb-true, ltb-false}
+use Rattle.std.proofs.lemmas.List.{take_all, drop_all}
+use Rattle.std.proofs.lemmas.List.Folds.{find_at}
+use Rattle.std.proofs.lemmas.Option.{slice_get_read, slice_get_past}
 use Rattle.pg_rule.specs.declared.cache.Entry.{Entry}
-use Rattle.pg_rule.specs.Caches.{entry_at, place_of, without, used}
 
-next_is : (n : ℕ) → n + 1 ≡ suc n
-next_is n = omega arith
+placed_by : (b : Bool) (n place : ℕ) → cond b (Some n) None ≡ Some place → (b ≡ true) × (n ≡ place)
+placed_by true n place e = (refl, cc)
+placed_by false n place e = absurd cc
 
-got_by : (b : Bool) (e : Entry) (es : List Entry) (n : ℕ) (o : Option Entry) → slice_get es n ≡ o → slice_get (e ∷ es) (cond b 0 (n + 1)) ≡ cond b (Some e) o
-got_by true e es n o h = refl
-got_by false e es n o h = rw (next_is n) h
+unplaced_by : (b : Bool) (n : ℕ) → cond b (Some n) None ≡ None → b ≡ false
+unplaced_by true n e = absurd cc
+unplaced_by false n e = refl
 
--- what stands at its place is that statement
-pub got : (sql : List ℕ) (entries : List Entry) → slice_get entries (place_of sql entries) ≡ entry_at sql entries
-got sql [] = refl
-got sql (e ∷ es) = got_by (bytes_eq e.sql sql) e es (place_of sql es) (entry_at sql es) (got sql es)
+behind_it : (n place : ℕ) (es : List Entry) → n ≡ place → remove es place ≡ take n es ++ drop (n + 1) es
+behind_it n place es e = let next : n + 1 ≡ suc place = omega (arith, e) in rw (next, e) refl
 
-taken_by : (b : Bool) (e : Entry) (es : List Entry) (n : ℕ) (rest : List Entry) (o : Option Entry) (d : Entry) → cond b 0 (n + 1) < length (e ∷ es) → (n < length es → (o ≡ Some (slice_index_or es n d)) × (remove es n ≡ rest))
-    → (cond b (Some e) o ≡ Some (slice_index_or (e ∷ es) (cond b 0 (n + 1)) d)) × (remove (e ∷ es) (cond b 0 (n + 1)) ≡ cond b es (e ∷ rest))
-taken_by true e es n rest o d h f = (refl, refl)
-taken_by false e es n rest o d h f =
-    let k = f (omega (arith, h)) in
-    rw (next_is n) (k.0, ap (λ (xs : List Entry). e ∷ xs) k.1)
+-- the first one of which a test holds comes to the front
+pub moved : (p : Entry → Bool) (place : ℕ) (es rest new : List Entry) (e : Entry) → position p es ≡ Some place → e ≡ slice_index_or es place e → rest ≡ remove es place → new ≡ e ∷ rest → new ≡ option_to_list (find p es) ++ (before_first p es ++ after_first p es)
+moved p place es rest new e at value items is =
+    let b = placed_by (nat_lt (position_or_len p es) (length es)) (position_or_len p es) place at in
+    let within : position_or_len p es < length es = ltb-true _ _ b.0 in
+    let found : find p es ≡ Some e = find_at p es ∙ ap (λ (n : ℕ). slice_get es n) b.1 ∙ slice_get_read es (length es) place e refl (omega (arith, within, b.1)) value in
+    rw found (is ∙ ap (λ (xs : List Entry). e ∷ xs) (items ∙ behind_it (position_or_len p es) place es b.1))
 
--- it is taken out at its place
-pub taken : (sql : List ℕ) (entries : List Entry) (d : Entry) → place_of sql entries < length entries → (entry_at sql entries ≡ Some (slice_index_or entries (place_of sql entries) d)) × (remove entries (place_of sql entries) ≡ without sql entries)
-taken sql [] d h = absurd (omega (arith, h))
-taken sql (e ∷ es) d h = taken_by (bytes_eq e.sql sql) e es (place_of sql es) (without sql es) (entry_at sql es) d h (λ k. taken sql es d k)
+-- and where there is none all stay
+pub unmoved : (p : Entry → Bool) (es : List Entry) → position p es ≡ None → es ≡ option_to_list (find p es) ++ (before_first p es ++ after_first p es)
+unmoved p es at =
+    let past : length es ≤ position_or_len p es = ltb-false _ _ (unplaced_by (nat_lt (position_or_len p es) (length es)) (position_or_len p es) at) in
+    let none : find p es ≡ None = find_at p es ∙ slice_get_past es (position_or_len p es) past in
+    rw (none, take_all (position_or_len p es) es past, drop_all (position_or_len p es + 1) es (omega (arith, past)), append-nil es) refl
 
-none_by : (b : Bool) (e : Entry) (es : List Entry) (n : ℕ) (o : Option Entry) → (cond b 0 (n + 1) < length (e ∷ es) → ⊥) → ((n < length es → ⊥) → o ≡ None) → cond b (Some e) o ≡ None
-none_by true e es n o h f = absurd (h (omega arith))
-none_by false e es n o h f = f (λ k. h (omega (arith, k)))
+last_from : (e : Entry) (es : List Entry) → slice_get (e ∷ es) (length es) ≡ last_or (Some e) es
+last_from e [] = refl
+last_from e (f ∷ es) = last_from f es
 
--- none is there whose place would be behind all
-pub none_at : (sql : List ℕ) (entries : List Entry) → (place_of sql entries < length entries → ⊥) → entry_at sql entries ≡ None
-none_at sql [] h = refl
-none_at sql (e ∷ es) h = none_by (bytes_eq e.sql sql) e es (place_of sql es) (entry_at sql es) h (λ k. none_at sql es k)
-
--- it comes to the front
-pub touched : (sql : List ℕ) (entries rest new : List Entry) (place : ℕ) (e : Entry) → place ≡ place_of sql entries → place < length entries → e ≡ slice_index_or entries place e → rest ≡ remove entries place → new ≡ e ∷ rest → new ≡ used sql entries
-touched sql entries rest new place e at lt value items is =
-    let t = taken sql entries e (rw (← at) lt) in
-    let found : entry_at sql entries ≡ Some e = t.0 ∙ ap (λ (n : ℕ). Some (slice_index_or entries n e)) (sym at) ∙ ap (λ (x : Entry). Some x) (sym value) in
-    let others : rest ≡ without sql entries = items ∙ ap (remove entries) at ∙ t.1 in
-    rw found (is ∙ ap (λ (xs : List Entry). e ∷ xs) others)
-
-pub untouched : (sql : List ℕ) (entries : List Entry) → (place_of sql entries < length entries → ⊥) → entries ≡ used sql entries
-untouched sql entries h = rw (none_at sql entries h) refl
+-- the last one by its place
+pub last_at : (es : List Entry) → slice_get es (length es - 1) ≡ last_or None es
+last_at [] = refl
+last_at (e ∷ es) = let before : length (e ∷ es) - 1 ≡ length es = omega arith in ap (λ (n : ℕ). slice_get (e ∷ es) n) before ∙ last_from e es

@@ -51,16 +51,16 @@ closes_said : (names : List (List ℕ)) → AllByRecursion HasNoNul names → Al
 closes_said [] h = (tt, tt)
 closes_said (name ∷ names) h = (h.0, closes_said names h.1)
 
-names_said : (es : List Entry) → AllByRecursion (λ e. e.number < 2 ^ 32) es → AllByRecursion HasNoNul (names_in es)
+names_said : (es : List Entry) → AllByRecursion (λ e. e.statement < 2 ^ 32) es → AllByRecursion HasNoNul (names_in es)
 names_said [] h = tt
-names_said (e ∷ es) h = each_end HasNoNul (names_in es) (statement_name e.number) (names_said es h.1) (numbered_nul_free (codes "sqlx_s_") e.number refl h.0)
+names_said (e ∷ es) h = each_end HasNoNul (names_in es) (statement_name e.statement) (names_said es h.1) (numbered_nul_free (codes "sqlx_s_") e.statement refl h.0)
 
-pub asks_clear : (old : Rule) → AllByRecursion (λ e. e.number < 2 ^ 32) old.cache → old.cache ≢ [] → Asks old Clear [] (Main (InSteps (map (λ name. Closes) (names_in old.cache)))) (closing (names_in old.cache)) (cleared old)
+pub asks_clear : (old : Rule) → AllByRecursion (λ e. e.statement < 2 ^ 32) old.cache.entries → old.cache.entries ≢ [] → Asks old Clear [] (Main (InSteps (map (λ name. Closes) (names_in old.cache.entries)))) (closing (names_in old.cache.entries)) (cleared old)
 asks_clear old h some = record {
   row = (some, (refl, refl, refl));
-  can = closes_said (names_in old.cache) (names_said old.cache h);
-  is_group = inr (map CloseStatement (names_in old.cache), closes_inner (names_in old.cache), refl);
-  awaits = starts_with_steps [] (map CloseStatement (names_in old.cache)) (closes_inner (names_in old.cache)) ∙ ap InSteps (closes_await [] None (names_in old.cache));
+  can = closes_said (names_in old.cache.entries) (names_said old.cache.entries h);
+  is_group = inr (map CloseStatement (names_in old.cache.entries), closes_inner (names_in old.cache.entries), refl);
+  awaits = starts_with_steps [] (map CloseStatement (names_in old.cache.entries)) (closes_inner (names_in old.cache.entries)) ∙ ap InSteps (closes_await [] None (names_in old.cache.entries));
 }
 
 pub asks_ping : (old : Rule) → Asks old Ping [] (Main (InSteps [])) (Sync ∷ []) old
@@ -83,9 +83,9 @@ row_of_rollback : (old : Rule) → old.depth < 2 ^ 64 → (old.depth ≡ 0) ⊎ 
 row_of_rollback old lt (inl e) = inl e
 row_of_rollback old lt (inr some) = inr ([], Main (InQuery FirstSegment), Query (rollback_text (old.depth - 1)) ∷ [], old, asks_rollback old lt some)
 
-row_of_clear : (old : Rule) (es : List Entry) → old.cache ≡ es → AllByRecursion (λ e. e.number < 2 ^ 32) old.cache → AsksNothing old Clear ⊎ HasRow old Clear
+row_of_clear : (old : Rule) (es : List Entry) → old.cache.entries ≡ es → AllByRecursion (λ e. e.statement < 2 ^ 32) old.cache.entries → AsksNothing old Clear ⊎ HasRow old Clear
 row_of_clear old [] e h = inl e
-row_of_clear old (x ∷ es) e h = inr ([], Main (InSteps (map (λ name. Closes) (names_in old.cache))), closing (names_in old.cache), cleared old, asks_clear old h (λ n. absurd cc))
+row_of_clear old (x ∷ es) e h = inr ([], Main (InSteps (map (λ name. Closes) (names_in old.cache.entries))), closing (names_in old.cache.entries), cleared old, asks_clear old h (λ n. absurd cc))
 
 -- each call that can be asked has a row, or asks nothing
 pub has_row : (old : Rule) (asked : Asked) → old.depth < 2 ^ 64 → CanBeAsked old asked → AsksNothing old asked ⊎ HasRow old asked
@@ -93,7 +93,7 @@ has_row old (Run query) lt can = inr ([], Main (InQuery FirstSegment), Query que
 has_row old (Begin text) lt can = inr ([], Main (InQuery FirstSegment), Query (begin_text text old.depth) ∷ [], old, asks_begin old text lt can.0 can.1)
 has_row old Commit lt can = row_of_commit old lt (none_or_some old.depth)
 has_row old Rollback lt can = row_of_rollback old lt (none_or_some old.depth)
-has_row old Clear lt can = row_of_clear old old.cache refl can
+has_row old Clear lt can = row_of_clear old old.cache.entries refl can
 has_row old Ping lt can = inr ([], Main (InSteps []), Sync ∷ [], old, asks_ping old)
 has_row old Flush lt can = inl tt
 has_row old Close lt can = inl tt
@@ -115,7 +115,7 @@ first_group old (Run query) = Query query.sql ∷ []
 first_group old (Begin text) = Query (begin_text text old.depth) ∷ []
 first_group old Commit = Query (commit_text (old.depth - 1)) ∷ []
 first_group old Rollback = Query (rollback_text (old.depth - 1)) ∷ []
-first_group old Clear = closing (names_in old.cache)
+first_group old Clear = closing (names_in old.cache.entries)
 first_group old _ = Sync ∷ []
 
 abbrev next_rule : Rule → Asked → Rule
@@ -154,7 +154,7 @@ accepted_by_group widths old (Run query) server own e b w k h = accepted_begins_
 accepted_by_group widths old (Begin text) server own e b w k h = accepted_begins_query_response (begin_text text old.depth) widths server own e b w k h
 accepted_by_group widths old Commit server own e b w k h = accepted_begins_query_response (commit_text (old.depth - 1)) widths server own e b w k h
 accepted_by_group widths old Rollback server own e b w k h = accepted_begins_query_response (rollback_text (old.depth - 1)) widths server own e b w k h
-accepted_by_group widths old Clear server own e b w k h = closing_begins widths server (names_in old.cache) own e b w k h
+accepted_by_group widths old Clear server own e b w k h = closing_begins widths server (names_in old.cache.entries) own e b w k h
 accepted_by_group widths old Ping server own e b w k h = closing_begins widths server [] own e b w k h
 accepted_by_group widths old Flush server own e b w k h = closing_begins widths server [] own e b w k h
 accepted_by_group widths old Close server own e b w k h = closing_begins widths server [] own e b w k h

@@ -1,39 +1,38 @@
--- The statements that are kept, the one that was used last first.
-use Rattle.std.specs.Prelude.{ℕ, ◌+◌, ◌-◌, List, [], ◌∷◌, ◌++◌, length, map, take, Option, Some, None, bytes_eq, if◌then◌else◌}
+-- The statements that are kept, the one that was used last first, and the one that is held (PostgreSQL manual, "Message Flow", "Extended Query").
+use Rattle.std.specs.Prelude.{ℕ, Bool, List, [], ◌∷◌, ◌++◌, length, map, take, find, Option, None, option_to_list, bytes_eq, nat_eq}
+use Rattle.std.specs.List.{before_first, after_first}
 use Rattle.pg_wire.specs.Frontend.{statement_name}
 use Rattle.pg_exchanges.specs.Expecting.{Widths}
 use Rattle.pg_rule.specs.declared.cache.Entry.{Entry}
 
--- the first one of this text, how many stand before it, and the others
+-- the one that is held was described to its end, and waits to be kept
+pub record Statements : Type 0 where
+  pub entries : List Entry
+  pub held : Option Entry
+
+abbrev pub none_kept : Statements
+none_kept = record { entries = []; held = None }
+
+-- the first one of this text
 abbrev pub entry_at : List ℕ → List Entry → Option Entry
-entry_at sql [] = None
-entry_at sql (e ∷ es) = if bytes_eq e.sql sql then Some e else entry_at sql es
+entry_at sql entries = find (λ e. bytes_eq e.sql sql) entries
 
-abbrev pub place_of : List ℕ → List Entry → ℕ
-place_of sql [] = 0
-place_of sql (e ∷ es) = if bytes_eq e.sql sql then 0 else place_of sql es + 1
+abbrev pub has_number : ℕ → Entry → Bool
+has_number number e = nat_eq e.statement number
 
-abbrev pub without : List ℕ → List Entry → List Entry
-without sql [] = []
-without sql (e ∷ es) = if bytes_eq e.sql sql then es else e ∷ without sql es
+-- the others, behind the one of this number where it is kept
+abbrev pub used : ℕ → List Entry → List Entry
+used number entries = option_to_list (find (has_number number) entries) ++ (before_first (has_number number) entries ++ after_first (has_number number) entries)
 
--- it is in front, where there is one
-abbrev pub in_front : Option Entry → List Entry → List Entry → List Entry
-in_front None rest entries = entries
-in_front (Some e) rest entries = e ∷ rest
-
-abbrev pub used : List ℕ → List Entry → List Entry
-used sql entries = in_front (entry_at sql entries) (without sql entries) entries
-
--- one more is in front, and there are so many at most
-abbrev pub put : Entry → ℕ → List Entry → List Entry
-put e capacity entries = e ∷ take (capacity - 1) entries
+-- the one that is held comes to the front, and there are so many at most
+abbrev pub put : ℕ → Statements → Statements
+put capacity kept = record { entries = take capacity (option_to_list kept.held ++ kept.entries); held = None }
 
 -- how many columns they have, by their names
 abbrev pub widths_in : List Entry → Widths
-widths_in entries = map (λ e. (statement_name e.number, length e.columns)) entries
+widths_in entries = map (λ e. (statement_name e.statement, length e.columns)) entries
 
 -- their names, that of the one that was used last at the end
 abbrev pub names_in : List Entry → List (List ℕ)
 names_in [] = []
-names_in (e ∷ es) = names_in es ++ statement_name e.number ∷ []
+names_in (e ∷ es) = names_in es ++ statement_name e.statement ∷ []

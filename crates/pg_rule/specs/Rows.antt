@@ -44,7 +44,7 @@ awaited_by (Main awaits) = awaits
 
 -- what is known of the columns of statements: of those that are kept
 abbrev pub known_widths : Rule → List Exchange → Widths
-known_widths rule done = widths_in rule.cache
+known_widths rule done = widths_in rule.cache.entries
 
 -- ---- the table
 
@@ -63,7 +63,7 @@ IsMain old (Run query) done group rule = AsksOnce done group rule (Query query.s
 IsMain old (Begin text) done group rule = MayBegin text old.depth × AsksOnce done group rule (Query (begin_text text old.depth) ∷ []) old
 IsMain old Commit done group rule = (0 < old.depth) × AsksOnce done group rule (Query (commit_text (old.depth - 1)) ∷ []) old
 IsMain old Rollback done group rule = (0 < old.depth) × AsksOnce done group rule (Query (rollback_text (old.depth - 1)) ∷ []) old
-IsMain old Clear done group rule = (old.cache ≢ []) × AsksOnce done group rule (closing (names_in old.cache)) (cleared old)
+IsMain old Clear done group rule = (old.cache.entries ≢ []) × AsksOnce done group rule (closing (names_in old.cache.entries)) (cleared old)
 IsMain old Ping done group rule = AsksOnce done group rule (Sync ∷ []) old
 IsMain old Flush done group rule = ⊥
 IsMain old Close done group rule = ⊥
@@ -83,14 +83,14 @@ pub record Asks (old : Rule) (asked : Asked) (done : List Exchange) (plan : Plan
 abbrev pub CanBeAsked : Rule → Asked → Type 0
 CanBeAsked old (Run query) = HasNoNul query.sql
 CanBeAsked old (Begin text) = IfSome text HasNoNul × MayBegin text old.depth
-CanBeAsked old Clear = AllByRecursion (λ e. e.number < 2 ^ 32) old.cache
+CanBeAsked old Clear = AllByRecursion (λ e. e.statement < 2 ^ 32) old.cache.entries
 CanBeAsked old _ = Unit {0}
 
 -- the calls that queue no group: where nothing is open there is nothing to end, and where nothing is kept there is nothing to close
 abbrev pub AsksNothing : Rule → Asked → Type 0
 AsksNothing old Commit = old.depth ≡ 0
 AsksNothing old Rollback = old.depth ≡ 0
-AsksNothing old Clear = old.cache ≡ []
+AsksNothing old Clear = old.cache.entries ≡ []
 AsksNothing old Flush = Unit {0}
 AsksNothing old Close = Unit {0}
 AsksNothing old _ = ⊥

@@ -1,7 +1,7 @@
 //! What follows from the table of the calls and their groups, each the contract of a function that does nothing.
 
-ghost use Rattle.std.specs.Prelude.{◌≡◌, ◌≢◌, ◌⊎◌, ◌<◌, ◌≤◌, ◌^◌, ℕ, List, [], ◌∷◌, ◌++◌, Option, Some, None, IfSome, map, codes, ◌-◌};
-ghost use Rattle.std.specs.List.{AllByRecursion};
+ghost use Rattle.std.specs.Prelude.{◌≡◌, ◌≢◌, ◌⊎◌, ◌<◌, ◌≤◌, ◌^◌, ℕ, List, [], ◌∷◌, ◌++◌, Option, Some, None, IfSome, length, map, codes, ◌-◌};
+ghost use Rattle.std.specs.List.{AllByRecursion, last_or};
 ghost use Rattle.pg_wire.specs.Bytes.{HasNoNul};
 ghost use Rattle.pg_wire.specs.Frame.{Frame};
 ghost use Rattle.pg_wire.specs.Frontend as frontend;
@@ -12,10 +12,10 @@ ghost use Rattle.pg_wire.specs.Acceptor.{FirstSegment};
 ghost use Rattle.pg_request.specs.Queries.{QueryText};
 ghost use Rattle.pg_exchanges.specs.Expecting.{Closes, Expected, InQuery, InSteps, behind, HasWidths, MayNotFollow, BeginsKnowing};
 ghost use Rattle.pg_exchanges.specs.Answering.{closing};
-ghost use Rattle.pg_rule.specs.Caches.{names_in};
+ghost use Rattle.pg_rule.specs.Caches.{entry_at, names_in};
 ghost use Rattle.pg_rule.specs.declared.cache.Entry.{Entry as EntryOf};
 ghost use Rattle.pg_rule.specs.declared.rule.Rule.{Rule as RuleOf};
-ghost use Rattle.pg_rule.specs.Rules.{new_rule, opened, closed, drawn, hit, kept, cleared, IsOrderly, IsNewest};
+ghost use Rattle.pg_rule.specs.Rules.{new_rule, opened, closed, drawn, hit, holding, kept, forgotten, cleared, IsFull, IsOrderly, IsNewest};
 ghost use Rattle.pg_request.specs.Texts.{begin_text, commit_text, rollback_text};
 ghost use Rattle.pg_rule.specs.Rows.{Group, Asked, Run, Begin, Commit, Rollback, Clear, Ping, Exchange, Plan, Main, awaited_by, known_widths, MayBegin, Asks, CanBeAsked, AsksNothing, start_rollback, rolled_back};
 
@@ -38,8 +38,8 @@ pub fn a_transaction_call_is_one_query()
 /// A clear is one group that closes each kept statement, the one that was used last at the end; then none is kept, and a CloseComplete for each
 /// is awaited.
 pub fn a_clear_is_one_group_of_closes()
-    ensures { (old : RuleOf) → AllByRecursion (λ e. e.number < 2 ^ 32) old.cache → old.cache ≢ [] →
-        Asks old Clear [] (Main (InSteps (map (λ name. Closes) (names_in old.cache)))) (closing (names_in old.cache)) (cleared old) }
+    ensures { (old : RuleOf) → AllByRecursion (λ e. e.statement < 2 ^ 32) old.cache.entries → old.cache.entries ≢ [] →
+        Asks old Clear [] (Main (InSteps (map (λ name. Closes) (names_in old.cache.entries)))) (closing (names_in old.cache.entries)) (cleared old) }
 {}
 
 /// A ping is one Sync, of which ReadyForQuery is awaited.
@@ -84,18 +84,41 @@ pub fn a_rollback_without_a_call_is_one_query_at_most()
         rolled_back old (Begin text) ≡ (frontend.Query (codes "ROLLBACK") ∷ []) ∷ [] }
 {}
 
-/// What is known of a session stays orderly: behind start-up, by each move, and behind a put of a statement whose number was drawn last. So the
-/// widths of the kept statements are those of some server.
+/// What is known of a session stays orderly: behind start-up, and by each move; the statement whose number was drawn last may be held. So the widths
+/// of the kept statements are those of some server, and their closes can be asked.
 pub fn a_session_stays_orderly()
     ensures new { (capacity : ℕ) → IsOrderly (new_rule capacity) }
     ensures depth { (rule : RuleOf) → IsOrderly rule → IsOrderly (opened rule) × IsOrderly (closed rule) }
-    ensures draw { (rule : RuleOf) → IsOrderly rule → IsOrderly (drawn rule) }
-    ensures touch { (rule : RuleOf) (sql : List ℕ) → IsOrderly rule → IsOrderly (hit sql rule) }
-    ensures keep { (rule : RuleOf) (e : EntryOf) → rule.next ≤ 2 ^ 32 → 0 < rule.capacity → IsOrderly rule → IsNewest e rule →
-        IsOrderly (kept e rule) }
+    ensures draw { (rule : RuleOf) → rule.next < 2 ^ 32 → IsOrderly rule → IsOrderly (drawn rule) }
+    ensures touch { (rule : RuleOf) (number : ℕ) → IsOrderly rule → IsOrderly (hit number rule) }
+    ensures hold { (rule : RuleOf) (e : EntryOf) → IsOrderly rule → IsNewest e rule → IsOrderly (holding e rule) }
+    ensures put { (rule : RuleOf) → IsOrderly rule → IsOrderly (kept rule) }
+    ensures forget { (rule : RuleOf) → IsOrderly rule → IsOrderly (forgotten rule) }
     ensures clear { (rule : RuleOf) → IsOrderly rule → IsOrderly (cleared rule) }
+    ensures drawn_is_newest { (rule : RuleOf) (e : EntryOf) → IsOrderly rule → e.statement ≡ rule.next → IsNewest e (drawn rule) }
     ensures server { (rule : RuleOf) (done : List Exchange) → IsOrderly rule →
         (server : Server) × IsBetween server × HasWidths server (known_widths rule done) }
+    ensures closes { (rule : RuleOf) → IsOrderly rule → CanBeAsked rule Clear }
+{}
+
+/// A hit moves its statement alone: it comes to the front, and the others stay in their order. A number that none has moves nothing.
+pub fn a_hit_moves_its_statement_to_the_front()
+    ensures moved { (rule : RuleOf) (before after : List EntryOf) (e : EntryOf) → IsOrderly rule →
+        rule.cache.entries ≡ before ++ e ∷ after → (hit e.statement rule).cache.entries ≡ e ∷ before ++ after }
+    ensures unmoved { (rule : RuleOf) (number : ℕ) → AllByRecursion (λ e. e.statement ≢ number) rule.cache.entries → hit number rule ≡ rule }
+{}
+
+/// What a put does to the statements that are kept: where there is a place none leaves, and where there is none the last one leaves alone. The
+/// one that was held is found by its text then. Where none is held nothing changes.
+pub fn a_put_lets_go_of_the_last_statement_at_most()
+    ensures place { (rule : RuleOf) (e : EntryOf) → rule.cache.held ≡ Some e → length rule.cache.entries < rule.capacity →
+        (kept rule).cache.entries ≡ e ∷ rule.cache.entries }
+    ensures full { (rule : RuleOf) (e last : EntryOf) → IsOrderly rule → IsFull rule → rule.cache.held ≡ Some e →
+        last_or None rule.cache.entries ≡ Some last →
+        (others : List EntryOf) × (rule.cache.entries ≡ others ++ last ∷ []) × ((kept rule).cache.entries ≡ e ∷ others) }
+    ensures found { (rule : RuleOf) (e : EntryOf) → 0 < rule.capacity → rule.cache.held ≡ Some e →
+        entry_at e.sql (kept rule).cache.entries ≡ Some e }
+    ensures nothing { (rule : RuleOf) → IsOrderly rule → rule.cache.held ≡ None → kept rule ≡ rule }
 {}
 
 /// Transactions and savepoints at their depths, by their texts.

@@ -3,6 +3,9 @@
 //! Begin with `Rule`, what is known of the session, and with `Asks` of `specs/Rows.antt`, the table of the calls and their groups. What comes in
 //! the response to a group is told by `pg_exchanges`.
 //!
+//! A statement that was described is held first, and room is taken for it. It is put among those that are kept once the next group was queued, or
+//! forgotten: neither takes memory, so a call that is let go can do both.
+//!
 //! | Call | Its group | Then |
 //! |---|---|---|
 //! | a query without arguments | Query | |
