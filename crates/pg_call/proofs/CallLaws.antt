@@ -351,7 +351,7 @@ answers_same : (r : Request) (own : List BackendMessage) (reply : Reply) (status
     → answer_by r (own ++ ReadyForQuery status ∷ []) status ≡ handed_on reply.rest reply.heading.columns (finished reply.kind reply.tally status)
 answers_same (requests.Describe x) own reply status k h p c e =
     let r : Request = requests.Describe x in
-    ap (λ (w : Option (List FieldDescription)). Ok (answers.Next (requests.Run (record { how = x.how; arguments = x.arguments; columns = w })))) (sym (ap (λ (y : Heading). y.columns) h ∙ described_at (heading_of r) own reply.part status refl p c))
+    ap (λ (w : Option (List FieldDescription)). Ok (answers.Next (requests.Run (record { how = x.how; statement = x.statement; arguments = x.arguments; columns = w })))) (sym (ap (λ (y : Heading). y.columns) h ∙ described_at (heading_of r) own reply.part status refl p c))
     ∙ ap (λ (o : Option Bound). handed_on o reply.heading.columns (finished reply.kind reply.tally status)) (sym k)
 answers_same _ own reply status k h p c e = e ∙ ap (λ (o : Option Bound). handed_on o reply.heading.columns (finished reply.kind reply.tally status)) (sym k)
 

@@ -5,13 +5,15 @@ use Rattle.std.proofs.lemmas.Bool.{eqb-true}
 use Rattle.std.proofs.lemmas.List.{map-append}
 use Rattle.std.proofs.lemmas.Option.{same_Some}
 use Rattle.pg_wire.specs.declared.status.TransactionStatus.TheVariants as statuses
-use Rattle.pg_wire.specs.Frontend.{Query, Bind, Execute, ClosePortal, Sync}
+use Rattle.pg_wire.specs.Frontend.{Query}
 use Rattle.pg_wire.specs.Backend.{Values, BackendMessage, backend_frame, HasBackendFrame, RowDescription, DataRow, CommandComplete, ErrorResponse, EmptyQueryResponse, ReadyForQuery, BindComplete, CloseComplete, CopyInResponse, CopyOutResponse, BackendCopyDone}
-use Rattle.pg_wire.specs.Server.{Server, AreWide, fresh_server}
+use Rattle.pg_wire.specs.Server.{Server, Statement, AreWide, StepsBind, fresh_server, statement_at}
 use Rattle.pg_wire.specs.Acceptor.{Awaits, FirstSegment, FurtherSegment, RowsOf, AfterError, NothingMore, begins, next, accepts}
 use Rattle.pg_wire.specs.Copying.{CopyServer, CopyStep, CopyRun, IsCopySegment, NotCopying, QueryCopies, ExecuteCopies, fresh_copy_server}
 use Rattle.pg_wire.specs.Refusals.{BeginsCopyResponse, BeginsCopy, MayBeginCopy}
 use Rattle.pg_wire.proofs.AcceptorLaws.{and_then_some}
+use Rattle.pg_wire.proofs.StepLaws.{found_first}
+use Rattle.pg_exchanges.specs.Answering.{running}
 
 -- whole segments
 abbrev Pieces : List BackendMessage → Type 0
@@ -137,14 +139,25 @@ copy_begins_response sql own s m have h e may = by m h (copies s m may) (comes o
 
 -- ---- a portal that copies
 
--- a server whose unnamed statement has no columns
-abbrev prepared : CopyServer
-prepared = record { server = record fresh_server { unnamed = Some (record { sql = []; fields = [] }) }; mode = NotCopying }
+-- a statement without columns
+abbrev made : Statement
+made = record { sql = []; fields = [] }
 
-run_begins : (values : List (Option (List ℕ))) (m : BackendMessage) (tail : List BackendMessage) (rss : List (List BackendMessage)) (after : CopyServer) → CopyRun prepared (Bind [] values ∷ Execute [] 0 ∷ ClosePortal [] ∷ Sync ∷ []) rss after
-    → flat_map (λ rs. rs) rss ≡ BindComplete ∷ m ∷ tail → AllByRecursion HasBackendFrame (BindComplete ∷ m ∷ tail) → BeginsCopyResponse (Bind [] values ∷ Execute [] 0 ∷ ClosePortal [] ∷ Sync ∷ []) (backend_frame BindComplete ∷ backend_frame m ∷ [])
-run_begins values m tail rss after run e have = record {
-  before = prepared;
+-- a server that has it without a name, and under this one
+abbrev prepared : List ℕ → Server
+prepared name = record fresh_server { named = (name, made) ∷ []; unnamed = Some made }
+
+abbrev bound_server : List ℕ → Server
+bound_server name = record (prepared name) { portal = Some [] }
+
+binds_it : (name : List ℕ) → StepsBind (prepared name) (statement_at (prepared name) name) (BindComplete ∷ []) (bound_server name)
+binds_it [] = inl (refl, refl)
+binds_it (b ∷ bs) = rw (found_first (b ∷ bs) made []) (inl (refl, refl))
+
+run_begins : (name : List ℕ) (values : List (Option (List ℕ))) (m : BackendMessage) (tail : List BackendMessage) (rss : List (List BackendMessage)) (after : CopyServer) → CopyRun (record { server = prepared name; mode = NotCopying }) (running name values 0) rss after
+    → flat_map (λ rs. rs) rss ≡ BindComplete ∷ m ∷ tail → AllByRecursion HasBackendFrame (BindComplete ∷ m ∷ tail) → BeginsCopyResponse (running name values 0) (backend_frame BindComplete ∷ backend_frame m ∷ [])
+run_begins name values m tail rss after run e have = record {
+  before = record { server = prepared name; mode = NotCopying };
   after = after;
   replies = rss;
   between = (refl, (refl, refl));
@@ -153,34 +166,33 @@ run_begins values m tail rss after run e have = record {
   begins = (map backend_frame tail, ap (map backend_frame) (sym e));
 }
 
-abbrev bound_server : Server
-bound_server = record prepared.server { portal = Some [] }
-
-pub copy_begins_run : (values : List (Option (List ℕ))) (m : BackendMessage) → HasBackendFrame m → MayBeginCopy FirstSegment m → BeginsCopyResponse (Bind [] values ∷ Execute [] 0 ∷ ClosePortal [] ∷ Sync ∷ []) (backend_frame BindComplete ∷ backend_frame m ∷ [])
-copy_begins_run values (CopyInResponse format columns) h c =
+pub copy_begins_run : (name : List ℕ) (values : List (Option (List ℕ))) (m : BackendMessage) → HasBackendFrame m → MayBeginCopy FirstSegment m → BeginsCopyResponse (running name values 0) (backend_frame BindComplete ∷ backend_frame m ∷ [])
+copy_begins_run name values (CopyInResponse format columns) h c =
     let m = CopyInResponse format columns in
-    let failed : Server = record bound_server { skip = true } in
-    run_begins values m (ErrorResponse [] ∷ ReadyForQuery statuses.Transaction ∷ []) ((BindComplete ∷ []) ∷ (m ∷ []) ∷ (ErrorResponse [] ∷ []) ∷ (ReadyForQuery statuses.Transaction ∷ []) ∷ []) (record { server = bound_server; mode = NotCopying }) (
-      record { server = bound_server; mode = NotCopying },
-      (bound_server, inl (refl, refl), refl),
+    let bound = bound_server name in
+    let failed : Server = record bound { skip = true } in
+    run_begins name values m (ErrorResponse [] ∷ ReadyForQuery statuses.Transaction ∷ []) ((BindComplete ∷ []) ∷ (m ∷ []) ∷ (ErrorResponse [] ∷ []) ∷ (ReadyForQuery statuses.Transaction ∷ []) ∷ []) (record { server = bound; mode = NotCopying }) (
+      record { server = bound; mode = NotCopying },
+      (bound, binds_it name, refl),
       (
-        record { server = bound_server; mode = ExecuteCopies },
+        record { server = bound; mode = ExecuteCopies },
         inr (inr (m, (format, columns, refl), refl, refl)),
         (
           record { server = failed; mode = NotCopying },
           ([], refl, refl),
-          (record { server = bound_server; mode = NotCopying }, (bound_server, (statuses.Transaction, refl, inl refl), refl), refl),
+          (record { server = bound; mode = NotCopying }, (bound, (statuses.Transaction, refl, inl refl), refl), refl),
         ),
       ),
     ) refl (tt, (h, (tt, (tt, tt))))
-copy_begins_run values (CopyOutResponse format columns) h c =
+copy_begins_run name values (CopyOutResponse format columns) h c =
     let m = CopyOutResponse format columns in
-    let last : Server = record bound_server { portal = None } in
-    run_begins values m (BackendCopyDone ∷ CommandComplete [] ∷ CloseComplete ∷ ReadyForQuery statuses.Transaction ∷ []) ((BindComplete ∷ []) ∷ (m ∷ BackendCopyDone ∷ CommandComplete [] ∷ []) ∷ (CloseComplete ∷ []) ∷ (ReadyForQuery statuses.Transaction ∷ []) ∷ []) (record { server = last; mode = NotCopying }) (
-      record { server = bound_server; mode = NotCopying },
-      (bound_server, inl (refl, refl), refl),
+    let bound = bound_server name in
+    let last : Server = record bound { portal = None } in
+    run_begins name values m (BackendCopyDone ∷ CommandComplete [] ∷ CloseComplete ∷ ReadyForQuery statuses.Transaction ∷ []) ((BindComplete ∷ []) ∷ (m ∷ BackendCopyDone ∷ CommandComplete [] ∷ []) ∷ (CloseComplete ∷ []) ∷ (ReadyForQuery statuses.Transaction ∷ []) ∷ []) (record { server = last; mode = NotCopying }) (
+      record { server = bound; mode = NotCopying },
+      (bound, binds_it name, refl),
       (
-        record { server = bound_server; mode = NotCopying },
+        record { server = bound; mode = NotCopying },
         inl (inr (format, columns, [], [], refl), refl),
         (
           record { server = last; mode = NotCopying },
@@ -189,4 +201,4 @@ copy_begins_run values (CopyOutResponse format columns) h c =
         ),
       ),
     ) refl (tt, (h, (tt, (refl, (tt, (tt, tt))))))
-copy_begins_run values _ h c = absurd c
+copy_begins_run name values _ h c = absurd c

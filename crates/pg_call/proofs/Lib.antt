@@ -8,5 +8,6 @@ pub mod CallLaws
 pub mod LeaveLaws
 pub mod FitLaws
 pub mod StateLaws
+pub mod WritingLaws
 pub mod RefusalLaws
 pub mod FormatLaws

@@ -2,15 +2,16 @@
 use Rattle.std.proofs.Common.{◌≡◌, ◌∙◌, ℕ, Bool, true, false, cond, ◌==◌, inl, inr, List, [], ◌∷◌, ◌++◌, length, map, refl, sym, ap, subst, Option, Some, None, option_and_then}
 use Rattle.std.specs.List.{AllByRecursion}
 use Rattle.std.proofs.lemmas.Option.{same_Some}
+use Rattle.std.proofs.lemmas.Slice.Eq.{bytes_eq-Decides}
 use Rattle.pg_wire.specs.declared.status.TransactionStatus.{TransactionStatus}
 use Rattle.pg_wire.specs.Frame.{Frame}
-use Rattle.pg_wire.specs.Frontend.{Query, Parse, DescribeStatement, Bind, Execute, ClosePortal, Sync}
+use Rattle.pg_wire.specs.Frontend.{Query, Parse, DescribeStatement, Bind, Execute, ClosePortal}
 use Rattle.pg_wire.specs.Backend.{BackendMessage, backend_frame, HasBackendFrame, ReadyForQuery, RowDescription, DataRow, CommandComplete, ErrorResponse, EmptyQueryResponse, ParameterDescription, ParseComplete, BindComplete, CloseComplete, NoData, CopyInResponse, CopyOutResponse}
 use Rattle.pg_wire.specs.Acceptor.{Awaits, FirstSegment, FurtherSegment, RowsOf, next, accepts}
 use Rattle.pg_wire.specs.Groups.{IsGroup}
 use Rattle.pg_wire.specs.Refusals.{BeginsCopyResponse, MayBeginCopy}
-use Rattle.pg_exchanges.specs.Expecting.{Closes, Expected, InQuery, in_query, rows_on, following, behind, expected, MayCopy, BeginsKnowing}
-use Rattle.pg_exchanges.specs.Answering.{described}
+use Rattle.pg_exchanges.specs.Expecting.{Closes, Expected, InQuery, in_query, rows_on, following, behind, expected, width_at, MayCopy, BeginsKnowing}
+use Rattle.pg_exchanges.specs.Answering.{described, running}
 use Rattle.pg_exchanges.proofs.ExpectingLaws.{refused_begins_no_group_response}
 use Rattle.pg_call.proofs.CopyBegun.{copy_begins_response, copy_begins_run}
 use Rattle.pg_call.specs.declared.request.Request.{Request}
@@ -18,7 +19,7 @@ use Rattle.pg_call.specs.declared.request.Request.TheVariants as requests
 use Rattle.pg_call.specs.declared.judging.Part.{Part}
 use Rattle.pg_call.specs.declared.judging.Part.TheVariants.{First, Further, Rows, Synced, Parsing, Typing, Describing, Described, Binding, Running, RunningOn, Closing}
 use Rattle.pg_rows.specs.declared.heading.Heading.{Heading}
-use Rattle.pg_call.specs.Requests.{Group, groups_of, known, width_of, widths_of}
+use Rattle.pg_call.specs.Requests.{Group, groups_of, known, name_of, width_of, widths_of}
 use Rattle.pg_call.specs.Items.{heading_after}
 use Rattle.pg_call.specs.Replies.{awaited, awaits_first, begins, goes_on, part_after, may_copy, MayNotCome}
 
@@ -175,11 +176,20 @@ groups_are (requests.Begin depth) = (inl (_, refl), tt)
 groups_are (requests.BeginWith query) = (inl (query.sql, refl), tt)
 groups_are (requests.Commit left) = (inl (_, refl), tt)
 groups_are (requests.Rollback left) = (inl (_, refl), tt)
-groups_are (requests.Describe x) = (inr (Parse [] x.sql x.arguments.types ∷ DescribeStatement [] ∷ [], (tt, (tt, tt)), refl), tt)
-groups_are (requests.Run bound) = (inr (Bind [] bound.arguments.values ∷ Execute [] 0 ∷ ClosePortal [] ∷ [], (tt, (tt, (tt, tt))), refl), tt)
+groups_are (requests.Describe x) = (inr (Parse (name_of x.statement) x.sql x.arguments.types ∷ DescribeStatement (name_of x.statement) ∷ [], (tt, (tt, tt)), refl), tt)
+groups_are (requests.Run bound) = (inr (Bind (name_of bound.statement) bound.arguments.values ∷ Execute [] 0 ∷ ClosePortal [] ∷ [], (tt, (tt, (tt, tt))), refl), tt)
 groups_are requests.Ping = (inr ([], tt, refl), tt)
 groups_are requests.Flush = tt
 groups_are requests.Close = tt
+
+-- what is known of a statement stands under its name
+known_at : (name : List ℕ) (width : Option ℕ) → width_at (known name width) name ≡ width
+known_at name None = refl
+known_at name (Some columns) = ap (λ (b : Bool). cond b (Some columns) None) ((bytes_eq-Decides name name).1 refl)
+
+-- so the first row of what is run has this width
+run_awaits : (name : List ℕ) (values : List (Option (List ℕ))) (width : Option ℕ) → expected (known name width) (running name values 0) ≡ awaited (Binding width)
+run_awaits name values width = ap (λ (w : Option ℕ). awaited (Binding w)) (known_at name width)
 
 -- what is awaited first is what the protocol says of the group
 first_awaits : (r : Request) (group : Group) → groups_of r ≡ group ∷ [] → expected (widths_of r) group ≡ awaited (awaits_first r)
@@ -195,11 +205,7 @@ first_awaits (requests.BeginWith query) group e = rw (← the_first _ _ e) refl
 first_awaits (requests.Commit left) group e = rw (← the_first _ _ e) refl
 first_awaits (requests.Rollback left) group e = rw (← the_first _ _ e) refl
 first_awaits (requests.Describe extended) group e = rw (← the_first _ _ e) refl
-first_awaits (requests.Run bound) group e = rw (← the_first _ _ e) (by (width_of bound))
-  where
-    by : (width : Option ℕ) → expected (known width) (Bind [] bound.arguments.values ∷ Execute [] 0 ∷ ClosePortal [] ∷ Sync ∷ []) ≡ awaited (Binding width)
-    by None = refl
-    by (Some columns) = refl
+first_awaits (requests.Run bound) group e = rw (← the_first _ _ e) (run_awaits (name_of bound.statement) bound.arguments.values (width_of bound))
 first_awaits requests.Ping group e = rw (← the_first _ _ e) refl
 first_awaits requests.Flush group e = absurd (none_first group e)
 first_awaits requests.Close group e = absurd (none_first group e)
@@ -345,11 +351,11 @@ synced_alone (m ∷ ms) part e = absurd cc
 no_copy_synced : (own : List BackendMessage) (part : Part) (m : BackendMessage) → part_after Synced own ≡ Some part → may_copy part m ≡ true → ⊥
 no_copy_synced own part m e may = let k : may_copy Synced m ≡ true = subst (λ (p : Part). may_copy p m ≡ true) (synced_alone own part e) may in absurd cc
 
-run_copies : (values : List (Option (List ℕ))) (width : Option ℕ) (group : Group) (own : List BackendMessage) (part : Part) (m : BackendMessage) → (Bind [] values ∷ Execute [] 0 ∷ ClosePortal [] ∷ Sync ∷ []) ∷ [] ≡ group ∷ [] → HasBackendFrame m → part_after (Binding width) own ≡ Some part → may_copy part m ≡ true
+run_copies : (name : List ℕ) (values : List (Option (List ℕ))) (width : Option ℕ) (group : Group) (own : List BackendMessage) (part : Part) (m : BackendMessage) → running name values 0 ∷ [] ≡ group ∷ [] → HasBackendFrame m → part_after (Binding width) own ≡ Some part → may_copy part m ≡ true
     → BeginsCopyResponse group (map backend_frame own ++ backend_frame m ∷ [])
-run_copies values width group own part m g h e may =
+run_copies name values width group own part m g h e may =
     let alone = bound_copies width own part m e may in
-    rw (alone, ← the_first _ _ g) (copy_begins_run values m h (begins_it part m may))
+    rw (alone, ← the_first _ _ g) (copy_begins_run name values m h (begins_it part m may))
   where
     begins_it : (part : Part) (m : BackendMessage) → may_copy part m ≡ true → MayBeginCopy FirstSegment m
     begins_it First (CopyInResponse format columns) h = tt
@@ -377,7 +383,7 @@ group_copies (requests.BeginWith query) group own part m g have h e may = query_
 group_copies (requests.Commit left) group own part m g have h e may = query_copies _ group own part m g have h e may
 group_copies (requests.Rollback left) group own part m g have h e may = query_copies _ group own part m g have h e may
 group_copies (requests.Describe extended) group own part m g have h e may = absurd (describes_copies_none part m (describes_after Parsing part own tt e) may)
-group_copies (requests.Run bound) group own part m g have h e may = run_copies bound.arguments.values (width_of bound) group own part m g h e may
+group_copies (requests.Run bound) group own part m g have h e may = run_copies (name_of bound.statement) bound.arguments.values (width_of bound) group own part m g h e may
 group_copies requests.Ping group own part m g have h e may = absurd (no_copy_synced own part m e may)
 group_copies requests.Flush group own part m g have h e may = absurd (none_first group g)
 group_copies requests.Close group own part m g have h e may = absurd (none_first group g)

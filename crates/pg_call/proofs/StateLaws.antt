@@ -1,10 +1,5 @@
 -- What a state of a call that isn't meant stays.
-use Rattle.std.proofs.Common.{◌≡◌, ℕ, ◌+◌, ◌≤◌, Bool, List, [], length, flat_map, Option, None, refl, ap, arith}
-use Rattle.std.specs.List.{AllByRecursion}
-use Rattle.pg_wire.specs.Bytes.{value}
-use Rattle.pg_wire.specs.Encoding.{body_max}
-use Rattle.pg_wire.specs.Frontend.{FitsValue}
-use Rattle.pg_wire.proofs.BoundLaws.{fit_within}
+use Rattle.std.proofs.Common.{◌≡◌, ℕ, Bool, List, [], Option, None, refl}
 use Rattle.pg_values.specs.declared.format.PgValueFormat.TheVariants as formats
 use Rattle.pg_rows.specs.declared.heading.Heading.{Heading}
 use Rattle.pg_call.specs.declared.request.Extended.{Extended}
@@ -29,7 +24,3 @@ stays_waiting _ n = refl
 pub stays_asked : (frames : List ℕ) (failed : Bool) (call : Call) → ((r : Request) → call ≡ calls.Asked r → ⊥) → call ≡ waits frames failed call
 stays_asked frames failed (calls.Asked r) n = absurd (n r refl)
 stays_asked frames failed _ n = refl
-
--- values that a frame can carry are short enough each
-pub values_fit : (values : List (Option (List ℕ))) (encoded : List ℕ) → flat_map value values ≡ encoded → length encoded + 12 ≤ body_max → AllByRecursion FitsValue values
-values_fit values encoded e l = fit_within values (omega (arith, l, ap (λ (x : List ℕ). length x) e))

@@ -145,7 +145,7 @@ pub record IsFine (start : Ledger) (r : Request) (said : List FrontendMessage) (
 -- What is asked behind a description: that the statement is run, whose columns were described. What every other call answers is told by its items
 -- and by the status behind them.
 abbrev pub next_of : Request → List BackendMessage → Option Request
-next_of (requests.Describe extended) reply = Some (requests.Run (record { how = extended.how; arguments = extended.arguments; columns = Some (described reply) }))
+next_of (requests.Describe extended) reply = Some (requests.Run (record { how = extended.how; statement = extended.statement; arguments = extended.arguments; columns = Some (described reply) }))
 next_of _ reply = None
 
 abbrev pub answer_or_next : Option Request → Result CallAnswer Error → Result CallAnswer Error

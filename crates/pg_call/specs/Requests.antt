@@ -5,7 +5,7 @@ use Rattle.pg_wire.specs.declared.error.Error.{Error}
 use Rattle.pg_wire.specs.declared.error.Error.TheVariants as errors
 use Rattle.pg_wire.specs.Bytes.{HasNoNul}
 use Rattle.pg_wire.specs.Frame.{text_of}
-use Rattle.pg_wire.specs.Frontend.{FrontendMessage, frontend_frame, HasFrontendFrame, Query, Parse, Bind, Sync, Terminate, CopyFail}
+use Rattle.pg_wire.specs.Frontend.{FrontendMessage, frontend_frame, HasFrontendFrame, Query, Parse, Bind, Sync, Terminate, CopyFail, name_under, statement_name}
 use Rattle.pg_wire.specs.declared.error.ProtocolFault.TheVariants as protocol
 use Rattle.pg_wire.specs.declared.error.CallerFault.TheVariants as callers
 use Rattle.pg_wire.specs.Encoding.{Refuses, body_max}
@@ -78,30 +78,35 @@ groups_by kind (Some query) = (Query query.sql ∷ []) ∷ []
 groups_by kinds.Ping None = (Sync ∷ []) ∷ []
 groups_by _ None = []
 
--- The unnamed statement is prepared and described, and what is so prepared is run with its arguments ("Extended Query").
+-- the name of the statement of this number, of which 0 is the unnamed one ("Message Formats", Parse)
+abbrev pub name_of : ℕ → List ℕ
+name_of number = name_under statement_name number
+
+-- A statement is prepared and described, and what is so prepared is run with its arguments ("Extended Query").
 abbrev pub groups_of : Request → List Group
-groups_of (requests.Describe extended) = describing [] extended.sql extended.arguments.types ∷ []
-groups_of (requests.Run bound) = running [] bound.arguments.values 0 ∷ []
+groups_of (requests.Describe extended) = describing (name_of extended.statement) extended.sql extended.arguments.types ∷ []
+groups_of (requests.Run bound) = running (name_of bound.statement) bound.arguments.values 0 ∷ []
 groups_of request = groups_by (kind_of request) (query_of request)
 
--- how many columns the unnamed statement has, where that is known
+-- how many columns a statement has, where that is known
 abbrev pub width_of : Bound → Option ℕ
 width_of bound = option_map length bound.columns
 
-abbrev pub known : Option ℕ → Widths
-known None = []
-known (Some width) = ([], width) ∷ []
+-- the same under its name
+abbrev pub known : List ℕ → Option ℕ → Widths
+known name None = []
+known name (Some width) = (name, width) ∷ []
 
 abbrev pub widths_of : Request → Widths
-widths_of (requests.Run bound) = known (width_of bound)
+widths_of (requests.Run bound) = known (name_of bound.statement) (width_of bound)
 widths_of _ = []
 
 -- ---- what is asked first, and what behind it
 
--- a query with arguments is described first
+-- a query with arguments is described first, as the unnamed statement
 abbrev pub first_by : How → QueryText → Option ArgumentsSeen → Request → Request
 first_by how query None request = request
-first_by how query (Some arguments) request = requests.Describe (record { how = how; sql = query.sql; arguments = arguments })
+first_by how query (Some arguments) request = requests.Describe (record { how = how; statement = 0; sql = query.sql; arguments = arguments })
 
 -- a query without arguments
 abbrev pub raw : How → QueryText → Request
@@ -125,7 +130,7 @@ first_of request = request
 
 -- what is run behind a description, before its columns are known
 abbrev pub rest_of : Request → Option Bound
-rest_of (requests.Describe extended) = Some (record { how = extended.how; arguments = extended.arguments; columns = None })
+rest_of (requests.Describe extended) = Some (record { how = extended.how; statement = extended.statement; arguments = extended.arguments; columns = None })
 rest_of _ = None
 
 -- whether a call shows rows, or hands their columns on
@@ -177,7 +182,7 @@ messages_of request = said_in (groups_of request) ++ farewell (kind_of request)
 
 -- what is asked behind it can be said too
 abbrev pub LaterCanBeSaid : Request → Type 0
-LaterCanBeSaid (requests.Describe extended) = HasFrontendFrame (Bind [] extended.arguments.values)
+LaterCanBeSaid (requests.Describe extended) = HasFrontendFrame (Bind (name_of extended.statement) extended.arguments.values)
 LaterCanBeSaid _ = Unit {0}
 
 -- a frame can carry each of them: its texts have no zero byte, and there are at most 65535 arguments
@@ -191,10 +196,10 @@ RefusesQuery (Some query) e = Refuses 0 (HasNoNul query.sql) (length (frontend_f
 
 -- how long Parse and Bind are
 abbrev pub parse_size : Extended → ℕ
-parse_size x = length (frontend_frame (Parse [] x.sql x.arguments.types)).body
+parse_size x = length (frontend_frame (Parse (name_of x.statement) x.sql x.arguments.types)).body
 
-abbrev pub bind_size : ArgumentsSeen → ℕ
-bind_size arguments = length (frontend_frame (Bind [] arguments.values)).body
+abbrev pub bind_size : ℕ → ArgumentsSeen → ℕ
+bind_size number arguments = length (frontend_frame (Bind (name_of number) arguments.values)).body
 
 -- a number of arguments or of types that two bytes can't carry
 abbrev pub IsTooMany : ArgumentsSeen → ℕ → Type 0
@@ -205,7 +210,7 @@ AreFew arguments = (length arguments.values ≤ 65535) × (length arguments.type
 
 -- the length of Parse, or else of Bind, that is too long
 abbrev pub IsTooLong : Extended → ℕ → Type 0
-IsTooLong x n = ((n ≡ parse_size x) × (body_max < n)) ⊎ ((parse_size x ≤ body_max) × (n ≡ bind_size x.arguments) × (body_max < n))
+IsTooLong x n = ((n ≡ parse_size x) × (body_max < n)) ⊎ ((parse_size x ≤ body_max) × (n ≡ bind_size x.statement x.arguments) × (body_max < n))
 
 -- why a query with arguments is refused, the first cause that holds: too many arguments or types, a zero byte in the text, or a message that is too long
 abbrev pub RefusesExtended : Extended → Error → Type 0
@@ -215,12 +220,12 @@ RefusesExtended x (errors.Protocol (protocol.Caller (callers.TooLong n))) = AreF
 RefusesExtended x errors.OutOfMemory = Unit {0}
 RefusesExtended x _ = ⊥
 
-abbrev pub RefusesBind : ArgumentsSeen → Error → Type 0
-RefusesBind arguments e = Refuses (length arguments.values) (Unit {0}) (bind_size arguments) e
+abbrev pub RefusesBind : Bound → Error → Type 0
+RefusesBind bound e = Refuses (length bound.arguments.values) (Unit {0}) (bind_size bound.statement bound.arguments) e
 
 abbrev pub IsRefusal : Request → Error → Type 0
 IsRefusal (requests.Describe extended) e = RefusesExtended extended e
-IsRefusal (requests.Run bound) e = RefusesBind bound.arguments e
+IsRefusal (requests.Run bound) e = RefusesBind bound e
 IsRefusal request e = RefusesQuery (query_of request) e
 
 -- the message that ends a copy from the client which no one feeds ("COPY Operations")

@@ -13,7 +13,6 @@ use pg_wire::{DataRow, Error, Frame, PgDatabaseError, TransactionStatus};
 use std::alloc::Global;
 
 /// The call's own reply, as far as it has come.
-#[derive(Drop)]
 pub struct Reply {
     pub kind: Kind,
     pub tally: Tally,
@@ -23,6 +22,19 @@ pub struct Reply {
     pub rest: Option<Bound>,
     /// The heading of its next rows.
     pub heading: Heading,
+}
+
+// By hand, so that whoever lets one go makes one call, and doesn't go through its parts.
+impl Drop for Reply {
+    fn drop(self) {
+        let Reply {
+            kind: _,
+            tally: _,
+            part: _,
+            rest: _,
+            heading: _,
+        } = self;
+    }
 }
 
 /// What one message made of the reply.

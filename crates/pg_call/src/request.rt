@@ -9,13 +9,14 @@ use pg_columns::{PgColumns, share_known};
 use pg_request::{Arguments, Query, begin_text, commit_text, rollback_text};
 use pg_rows::Heading;
 use pg_values::PgValueFormat;
-use pg_wire::{Blob, Error, Text, encode_query, encode_sync, encode_terminate};
+use pg_wire::{Blob, Error, StatementId, Text, encode_query, encode_sync, encode_terminate};
 use std::alloc::Global;
 
-/// A text with arguments, to be prepared and described before it is run.
+/// A text with arguments, to be prepared under a name, or without one, and described before it is run.
 #[derive(Debug, Drop)]
 pub struct Extended {
     pub how: How,
+    pub statement: StatementId,
     pub sql: Text,
     pub arguments: Arguments,
 }
@@ -30,19 +31,33 @@ impl Extended {
         let arguments = self.arguments.to_copy(alloc)?;
         Ok(Extended {
             how: self.how,
+            statement: self.statement,
             sql,
             arguments,
         })
     }
 }
 
-/// The unnamed statement, to be run with these arguments.
-#[derive(Debug, Drop)]
+/// A statement that is prepared, to be run with these arguments.
+#[derive(Debug)]
 pub struct Bound {
     pub how: How,
+    pub statement: StatementId,
     pub arguments: Arguments,
     /// Its columns, where they are known.
     pub columns: Option<PgColumns>,
+}
+
+// By hand, so that whoever lets one go makes one call, and doesn't go through its parts.
+impl Drop for Bound {
+    fn drop(self) {
+        let Bound {
+            how: _,
+            statement: _,
+            arguments: _,
+            columns: _,
+        } = self;
+    }
 }
 
 // The heading of rows of these columns, as far as a call of this kind sees them.
@@ -74,6 +89,7 @@ impl Bound {
         let columns = share_known(&self.columns)?;
         Ok(Bound {
             how: self.how,
+            statement: self.statement,
             arguments,
             columns,
         })
@@ -95,11 +111,13 @@ impl Bound {
     {
         let Bound {
             how,
+            statement,
             arguments,
             columns: _,
         } = self;
         Bound {
             how,
+            statement,
             arguments,
             columns,
         }
@@ -111,6 +129,7 @@ impl Bound {
     {
         let Bound {
             how,
+            statement: _,
             arguments: _,
             columns,
         } = self;
@@ -121,7 +140,6 @@ impl Bound {
 
 /// What a caller asks of a connection. A query with arguments is asked in two exchanges, `Describe` and then `Run`, which `first` and the answer of
 /// the first of them make. (PostgreSQL manual, "Message Flow", "Extended Query".)
-#[derive(Drop)]
 pub enum Request {
     Execute(Query),
     ExecuteMany(Query),
@@ -138,9 +156,9 @@ pub enum Request {
     Commit(u64),
     /// Rolls the transaction back, or to the last savepoint; so many stay open.
     Rollback(u64),
-    /// Prepares the unnamed statement, and asks what it takes and gives.
+    /// Prepares a statement, and asks what it takes and gives.
     Describe(Extended),
-    /// Runs the unnamed statement.
+    /// Runs a statement that is prepared.
     Run(Bound),
     /// Asks for a sign of life: a Sync, which the server answers by ReadyForQuery.
     Ping,
@@ -150,6 +168,30 @@ pub enum Request {
     Close,
 }
 
+// By hand, so that whoever lets one go makes one call, and doesn't go through its parts.
+impl Drop for Request {
+    fn drop(self) {
+        match self {
+            Request::Execute(_)
+            | Request::ExecuteMany(_)
+            | Request::Fetch(_)
+            | Request::FetchMany(_)
+            | Request::FetchAll(_)
+            | Request::FetchOptional(_)
+            | Request::FetchOne(_)
+            | Request::Begin(_)
+            | Request::BeginWith(_)
+            | Request::Commit(_)
+            | Request::Rollback(_)
+            | Request::Describe(_)
+            | Request::Run(_)
+            | Request::Ping
+            | Request::Flush
+            | Request::Close => {}
+        }
+    }
+}
+
 // A query as it is, or its description where it has arguments.
 fn first(how: How, query: Query) -> Request
     ensures { result ≡ first_by how query query.arguments (raw how query) }
@@ -157,6 +199,7 @@ fn first(how: How, query: Query) -> Request
     match query.into_extended() {
         Ok((sql, arguments)) => Request::Describe(Extended {
             how,
+            statement: StatementId::UNNAMED,
             sql,
             arguments,
         }),
@@ -228,12 +271,14 @@ impl Request {
             Request::Describe(
                 Extended {
                     how,
+                    statement,
                     sql: _,
                     arguments,
                 },
             ) => {
                 let rest = Bound {
                     how,
+                    statement,
                     arguments,
                     columns: None,
                 };
@@ -264,7 +309,7 @@ impl Request {
             Request::Commit(left) => encode_query(&mut frames, commit_text(*left).as_str())?,
             Request::Rollback(left) => encode_query(&mut frames, rollback_text(*left).as_str())?,
             Request::Describe(extended) => encode_description(&mut frames, extended)?,
-            Request::Run(bound) => encode_run(&mut frames, &bound.arguments)?,
+            Request::Run(bound) => encode_run(&mut frames, bound)?,
             Request::Ping => encode_sync(&mut frames)?,
             Request::Close => encode_terminate(&mut frames)?,
             Request::Flush => {}

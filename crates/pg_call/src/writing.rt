@@ -1,11 +1,11 @@
-ghost use Rattle.std.specs.Prelude.{◌≡◌, ◌<◌, ◌≤◌, ◌++◌, [], length, IfErr, OnOk};
+ghost use Rattle.std.specs.Prelude.{◌≡◌, ◌<◌, ◌≤◌, ◌++◌, length, IfErr, OnOk};
 ghost use Rattle.std.specs.List.{AllByRecursion};
 ghost use Rattle.pg_wire.specs.Encoding.{body_max};
 ghost use Rattle.pg_wire.specs.Frontend.{Bind, FitsValue, HasFrontendFrame};
 ghost use Rattle.pg_exchanges.specs.Answering.{describing, running};
-ghost use Rattle.pg_call.specs.Requests.{spelled, bind_size, RefusesExtended, RefusesBind};
+ghost use Rattle.pg_call.specs.Requests.{name_of, spelled, bind_size, RefusesExtended, RefusesBind};
 
-use crate::Extended;
+use crate::{Bound, Extended};
 use pg_request::Arguments;
 use pg_wire::{
     Blob, CallerFault, Error, PortalId, ProtocolFault, StatementId, check_body, encode_bind,
@@ -24,44 +24,55 @@ fn check_count(arguments: &Arguments) -> Result<(), Error>
     Ok(())
 }
 
-// Refuses arguments that no Bind can carry.
-#[tactic(auto, using(crate::proofs::StateLaws::values_fit))]
-fn check_bind(arguments: &Arguments) -> Result<(), Error>
-    ensures fits { OnOk result (bind_size arguments.now ≤ body_max) }
-    ensures values { OnOk result (AllByRecursion FitsValue arguments.now.values) }
-    ensures long { IfErr result (λ e. (e ≡ Error.Protocol (ProtocolFault.Caller (CallerFault.TooLong (bind_size arguments.now)))) × (body_max < bind_size arguments.now)) }
+// How many bytes the name of a statement takes.
+fn name_length(statement: StatementId) -> u64
+    ensures name { result ≡ length (name_of statement) }
+    ensures short { result ≤ 17 }
 {
-    let _ = check_body(arguments.encoded().len() as u64 + 12)?;
+    match statement.display() {
+        Some(name) => name.len() as u64,
+        None => 0,
+    }
+}
+
+// Refuses arguments that no Bind of this statement can carry.
+#[tactic(auto, using(crate::proofs::WritingLaws::values_fit))]
+fn check_bind(statement: StatementId, arguments: &Arguments) -> Result<(), Error>
+    ensures fits { OnOk result (bind_size statement arguments.now ≤ body_max) }
+    ensures values { OnOk result (AllByRecursion FitsValue arguments.now.values) }
+    ensures long { IfErr result (λ e. (e ≡ Error.Protocol (ProtocolFault.Caller (CallerFault.TooLong (bind_size statement arguments.now)))) × (body_max < bind_size statement arguments.now)) }
+{
+    let _ = check_body(name_length(statement) + arguments.encoded().len() as u64 + 12)?;
     Ok(())
 }
 
-/// Adds the frames that prepare and describe the unnamed statement. What runs it later is looked at first, so that it is refused before anything
-/// is asked. (PostgreSQL manual, "Message Flow", "Extended Query".)
+/// Adds the frames that prepare and describe a statement. What runs it later is looked at first, so that it is refused before anything is asked.
+/// (PostgreSQL manual, "Message Flow", "Extended Query".)
 pub(crate) fn encode_description(out: &mut Blob, extended: &Extended) -> Result<(), Error>
-    ensures ok { OnOk result (out.new ≡ out.old ++ spelled (describing [] extended.now.sql extended.now.arguments.types)) }
-    ensures said { OnOk result (AllByRecursion HasFrontendFrame (describing [] extended.now.sql extended.now.arguments.types)) }
-    ensures later { OnOk result (HasFrontendFrame (Bind [] extended.now.arguments.values)) }
+    ensures ok { OnOk result (out.new ≡ out.old ++ spelled (describing (name_of extended.now.statement) extended.now.sql extended.now.arguments.types)) }
+    ensures said { OnOk result (AllByRecursion HasFrontendFrame (describing (name_of extended.now.statement) extended.now.sql extended.now.arguments.types)) }
+    ensures later { OnOk result (HasFrontendFrame (Bind (name_of extended.now.statement) extended.now.arguments.values)) }
     ensures err { IfErr result (RefusesExtended extended.now) }
 {
     check_count(&extended.arguments)?;
     let sql = extended.sql.as_str();
-    encode_parse(out, StatementId::UNNAMED, sql, extended.arguments.types())?;
-    check_bind(&extended.arguments)?;
-    encode_describe_statement(out, StatementId::UNNAMED)?;
+    encode_parse(out, extended.statement, sql, extended.arguments.types())?;
+    check_bind(extended.statement, &extended.arguments)?;
+    encode_describe_statement(out, extended.statement)?;
     encode_sync(out)
 }
 
-/// Adds the frames that run the unnamed statement in the unnamed portal, which is closed behind it.
-pub(crate) fn encode_run(out: &mut Blob, arguments: &Arguments) -> Result<(), Error>
-    ensures ok { OnOk result (out.new ≡ out.old ++ spelled (running [] arguments.now.values 0)) }
-    ensures said { OnOk result (AllByRecursion HasFrontendFrame (running [] arguments.now.values 0)) }
-    ensures err { IfErr result (RefusesBind arguments.now) }
+/// Adds the frames that run a prepared statement in the unnamed portal, which is closed behind it.
+pub(crate) fn encode_run(out: &mut Blob, bound: &Bound) -> Result<(), Error>
+    ensures ok { OnOk result (out.new ≡ out.old ++ spelled (running (name_of bound.now.statement) bound.now.arguments.values 0)) }
+    ensures said { OnOk result (AllByRecursion HasFrontendFrame (running (name_of bound.now.statement) bound.now.arguments.values 0)) }
+    ensures err { IfErr result (RefusesBind bound.now) }
 {
     encode_bind(
         out,
-        StatementId::UNNAMED,
-        arguments.count(),
-        arguments.encoded(),
+        bound.statement,
+        bound.arguments.count(),
+        bound.arguments.encoded(),
     )?;
     encode_execute(out, PortalId::UNNAMED, 0)?;
     encode_close_portal(out, PortalId::UNNAMED)?;
