@@ -13,7 +13,8 @@ use Rattle.pg_call.specs.declared.kind.Change.{Change}
 use Rattle.pg_call.specs.declared.kind.Change.TheVariants as changes
 use Rattle.pg_call.specs.declared.request.Request.{Request}
 use Rattle.pg_call.specs.Requests.{spelled}
-use Rattle.pg_conn.specs.Connections.{ConnSeen, cleaned, counted_anew, depth_behind, ended, fresh_connection, has_room_for, idle, left, may_open, opens, queued_group, rollback, rolled, rolled_back, runs, settled, started_call, with_group}
+use Rattle.pg_rule.specs.declared.rule.Rule.{Rule}
+use Rattle.pg_conn.specs.Connections.{ConnSeen, with_depth, cleaned, counted_anew, depth_behind, ended, fresh_connection, has_room_for, idle, left, may_open, opens, queued_group, rollback, rolled, rolled_back, runs, settled, started_call, with_group}
 use Rattle.pg_conn.specs.Turns.{HasAllRoom, HasRoom, HasRoomBeside, behind, broken_by, cleanup_of, level_of}
 
 pub fits_room : (bytes : List ℕ) (c : ConnSeen) → has_room_for bytes c ≡ true → (length bytes ≤ c.stream.spare) × (c.ledger.owed < 2 ^ 64 - 1)
@@ -76,31 +77,31 @@ room_queued n frame c s h = by (has_room_for frame c)
     by false = omega (arith, h)
 
 pub room_cleaned : (n : ℕ) (c : ConnSeen) → HasRoomBeside n c → HasRoomBeside n (cleaned c)
-room_cleaned n c h = by (may_open c.change c.groups c.depth) refl
+room_cleaned n c h = by (may_open c.change c.groups c.rule.depth) refl
   where
-    by : (b : Bool) → may_open c.change c.groups c.depth ≡ b → HasRoomBeside n (ended (cond b (queued_group (spelled (rollback 0)) c) c))
+    by : (b : Bool) → may_open c.change c.groups c.rule.depth ≡ b → HasRoomBeside n (ended (cond b (queued_group (spelled (rollback 0)) c) c))
     by true e =
-        let level = opening c.change c.groups c.depth e in
+        let level = opening c.change c.groups c.rule.depth e in
         room_ended n (queued_group (spelled (rollback 0)) c) (room_queued n (spelled (rollback 0)) c (rollback_short 0 (omega arith)) (omega (arith, h, level)))
     by false e = room_ended n c (omega (arith, h))
 
--- the depth stays
-depth_queued : (frame : List ℕ) (c : ConnSeen) → (queued_group frame c).depth ≡ c.depth
-depth_queued frame c = by (has_room_for frame c)
+-- what is known of the session stays
+rule_queued : (frame : List ℕ) (c : ConnSeen) → (queued_group frame c).rule ≡ c.rule
+rule_queued frame c = by (has_room_for frame c)
   where
-    by : (b : Bool) → (cond b (with_group frame c) c).depth ≡ c.depth
+    by : (b : Bool) → (cond b (with_group frame c) c).rule ≡ c.rule
     by true = refl
     by false = refl
 
-pub depth_cleaned : (c : ConnSeen) → (cleaned c).depth ≡ c.depth
-depth_cleaned c = by (may_open c.change c.groups c.depth)
+pub rule_cleaned : (c : ConnSeen) → (cleaned c).rule ≡ c.rule
+rule_cleaned c = by (may_open c.change c.groups c.rule.depth)
   where
-    by : (b : Bool) → (ended (cond b (queued_group (spelled (rollback 0)) c) c)).depth ≡ c.depth
-    by true = depth_queued (spelled (rollback 0)) c
+    by : (b : Bool) → (ended (cond b (queued_group (spelled (rollback 0)) c) c)).rule ≡ c.rule
+    by true = rule_queued (spelled (rollback 0)) c
     by false = refl
 
 pub all_cleaned : (c : ConnSeen) → HasAllRoom c → HasAllRoom (cleaned c)
-all_cleaned c h = subst (λ (d : ℕ). HasRoomBeside (64 * d) (cleaned c)) (sym (depth_cleaned c)) (room_cleaned (64 * c.depth) c h)
+all_cleaned c h = subst (λ (r : Rule). HasRoomBeside (64 * r.depth) (cleaned c)) (sym (rule_cleaned c)) (room_cleaned (64 * c.rule.depth) c h)
 
 -- an Ok of a begin takes the room that was kept for it
 depth_fits : (change : Change) (groups depth : ℕ) → 64 * depth_behind change groups depth ≤ 64 * depth + level_of change groups
@@ -113,7 +114,7 @@ depth_fits changes.Opens groups depth = by (nat_eq groups 0)
     by false = omega arith
 
 pub all_settled : (c : ConnSeen) → HasAllRoom c → HasAllRoom (settled c)
-all_settled c h = omega (arith, h, depth_fits c.change c.groups c.depth, level_none c.groups)
+all_settled c h = omega (arith, h, depth_fits c.change c.groups c.rule.depth, level_none c.groups)
 
 room_settled : (c : ConnSeen) → HasRoom c → HasRoom (settled c)
 room_settled c h = omega (arith, h, level_none c.groups)
@@ -144,11 +145,11 @@ all_left c h = by (runs c.call)
 pub all_started : (a : ConnSeen) (request : Request) → HasAllRoom a → HasAllRoom (started_call request a)
 all_started a request h = let k = all_left a h in omega (arith, k)
 
-pub depth_left : (c : ConnSeen) → (left c).depth ≡ c.depth
-depth_left c = by (runs c.call)
+pub rule_left : (c : ConnSeen) → (left c).rule ≡ c.rule
+rule_left c = by (runs c.call)
   where
-    by : (b : Bool) → (cond b (idle (cleaned c)) c).depth ≡ c.depth
-    by true = depth_cleaned c
+    by : (b : Bool) → (cond b (idle (cleaned c)) c).rule ≡ c.rule
+    by true = rule_cleaned c
     by false = refl
 
 change_queued : (frame : List ℕ) (c : ConnSeen) → (queued_group frame c).change ≡ c.change
@@ -158,7 +159,7 @@ change_queued frame c = by (has_room_for frame c)
     by true = refl
     by false = refl
 
-all_of : (n : ℕ) (c : ConnSeen) → c.depth ≡ n → c.change ≡ changes.Stays → 64 * n + cleanup_of c.call ≤ c.stream.spare → HasAllRoom c
+all_of : (n : ℕ) (c : ConnSeen) → c.rule.depth ≡ n → c.change ≡ changes.Stays → 64 * n + cleanup_of c.call ≤ c.stream.spare → HasAllRoom c
 all_of n c e k h =
     let none : level_of c.change c.groups ≡ 0 = ap (λ (x : Change). level_of x c.groups) k ∙ level_none c.groups in
     omega (arith, h, e, none)
@@ -167,35 +168,35 @@ some : (n : ℕ) → nat_eq n 0 ≡ false → 0 < n
 some zero e = absurd cc
 some (suc n) e = omega arith
 
-pub all_rolled : (c : ConnSeen) → c.depth < 2 ^ 64 → c.change ≡ changes.Stays → HasAllRoom c → HasAllRoom (rolled c)
-all_rolled c l k h = by (nat_eq c.depth 0) refl
+pub all_rolled : (c : ConnSeen) → c.rule.depth < 2 ^ 64 → c.change ≡ changes.Stays → HasAllRoom c → HasAllRoom (rolled c)
+all_rolled c l k h = by (nat_eq c.rule.depth 0) refl
   where
-    by : (b : Bool) → nat_eq c.depth 0 ≡ b → HasAllRoom (cond b c (queued_group (spelled (rollback (c.depth - 1))) (record c { depth = c.depth - 1 })))
+    by : (b : Bool) → nat_eq c.rule.depth 0 ≡ b → HasAllRoom (cond b c (queued_group (spelled (rollback (c.rule.depth - 1))) (record c { rule = with_depth (c.rule.depth - 1) c.rule })))
     by true e = h
     by false e =
-        let d : ConnSeen = record c { depth = c.depth - 1 } in
-        let f : List ℕ = spelled (rollback (c.depth - 1)) in
-        let positive = some c.depth e in
-        let kept = room_queued (64 * (c.depth - 1)) f d (rollback_short (c.depth - 1) (omega (arith, l))) (omega (arith, h, positive)) in
-        all_of (c.depth - 1) (queued_group f d) (depth_queued f d) (change_queued f d ∙ k) kept
+        let d : ConnSeen = record c { rule = with_depth (c.rule.depth - 1) c.rule } in
+        let f : List ℕ = spelled (rollback (c.rule.depth - 1)) in
+        let positive = some c.rule.depth e in
+        let kept = room_queued (64 * (c.rule.depth - 1)) f d (rollback_short (c.rule.depth - 1) (omega (arith, l))) (omega (arith, h, positive)) in
+        all_of (c.rule.depth - 1) (queued_group f d) (ap (λ (r : Rule). r.depth) (rule_queued f d)) (change_queued f d ∙ k) kept
 
-pub all_rolled_back : (a : ConnSeen) → a.depth < 2 ^ 64 → HasAllRoom a → HasAllRoom (rolled_back a)
+pub all_rolled_back : (a : ConnSeen) → a.rule.depth < 2 ^ 64 → HasAllRoom a → HasAllRoom (rolled_back a)
 all_rolled_back a l h =
     let k = all_left a h in
     let d : ConnSeen = ended (counted_anew (left a)) in
-    all_rolled d (rw (depth_left a) l) refl (omega (arith, k, level_none 0))
+    all_rolled d (rw (rule_left a) l) refl (omega (arith, k, level_none 0))
 
 -- ---- a begin that is dropped
 
-pub rolls_dropped : (c : ConnSeen) → runs c.call ≡ true → may_open c.change c.groups c.depth ≡ true → HasRoom c → c.ledger.owed < 2 ^ 64 - 1 → left c ≡ idle (ended (with_group (spelled (rollback 0)) c))
+pub rolls_dropped : (c : ConnSeen) → runs c.call ≡ true → may_open c.change c.groups c.rule.depth ≡ true → HasRoom c → c.ledger.owed < 2 ^ 64 - 1 → left c ≡ idle (ended (with_group (spelled (rollback 0)) c))
 rolls_dropped c r m h l =
     let short = rollback_short 0 (omega arith) in
-    let level = opening c.change c.groups c.depth m in
+    let level = opening c.change c.groups c.rule.depth m in
     let room = has_room (spelled (rollback 0)) c (omega (arith, short, level, h)) l in
     rw (r, m, room) refl
 
 -- and of another call nothing is queued
-pub stays_dropped : (c : ConnSeen) → may_open c.change c.groups c.depth ≡ false → ((left c).ledger ≡ c.ledger) × ((left c).stream ≡ c.stream)
+pub stays_dropped : (c : ConnSeen) → may_open c.change c.groups c.rule.depth ≡ false → ((left c).ledger ≡ c.ledger) × ((left c).stream ≡ c.stream)
 stays_dropped c m = by (runs c.call)
   where
     by : (b : Bool) → ((cond b (idle (cleaned c)) c).ledger ≡ c.ledger) × ((cond b (idle (cleaned c)) c).stream ≡ c.stream)

@@ -29,8 +29,8 @@ use Rattle.pg_call.specs.Requests.{Group, said_in, kind_of, groups_of, messages_
 use Rattle.pg_call.specs.Drains.{before_readys, is_copy_in, failed_behind, fails_for, drain_fails}
 use Rattle.pg_call.specs.Hearing.{fails_of}
 use Rattle.pg_call.specs.Calls.{CallIs, IsDraining, Leaves, IsFine, CallEnds}
-use Rattle.pg_conn.proofs.StateLaws.{handed_calls}
-use Rattle.pg_conn.specs.Connections.{ConnSeen, handed, idle, started_call, begun_with, left, cleaned, settled, ended, rolled, rolled_back, counted_anew, queued_group, with_group, has_room_for, rollback, may_open, runs}
+use Rattle.pg_conn.proofs.StateLaws.{hands_keep, last_calls}
+use Rattle.pg_conn.specs.Connections.{ConnSeen, with_depth, handed, idle, started_call, begun_with, left, cleaned, settled, ended, rolled, rolled_back, counted_anew, queued_group, with_group, has_room_for, rollback, may_open, runs}
 use Rattle.pg_conn.specs.Turns.{ends_request, Tells, TakesBeat, Polled, PollsThrough, PollsBy, PollsWithin, hands_on, beat_of, behind, broken_by}
 use Rattle.pg_conn.specs.States.{IsCalling}
 use Rattle.pg_conn.specs.Ledgers.{Owes, OwesSome}
@@ -240,7 +240,7 @@ owes_by a b c o s l = (
 )
 
 owes_cleaned : (c : ConnSeen) → OwesSome c (cleaned c)
-owes_cleaned c = by (may_open c.change c.groups c.depth)
+owes_cleaned c = by (may_open c.change c.groups c.rule.depth)
   where
     by : (b : Bool) → OwesSome c (ended (cond b (queued_group (spelled (rollback 0)) c) c))
     by true = owes_by c (queued_group (spelled (rollback 0)) c) (ended (queued_group (spelled (rollback 0)) c)) (owes_queued 0 c) refl refl
@@ -257,13 +257,13 @@ pub owes_started : (a : ConnSeen) (request : Request) → OwesSome a (started_ca
 owes_started a request = owes_by a (left a) (started_call request a) (owes_left a) refl refl
 
 owes_rolled : (c : ConnSeen) → OwesSome c (rolled c)
-owes_rolled c = by (nat_eq c.depth 0)
+owes_rolled c = by (nat_eq c.rule.depth 0)
   where
-    by : (b : Bool) → OwesSome c (cond b c (queued_group (spelled (rollback (c.depth - 1))) (record c { depth = c.depth - 1 })))
+    by : (b : Bool) → OwesSome c (cond b c (queued_group (spelled (rollback (c.rule.depth - 1))) (record c { rule = with_depth (c.rule.depth - 1) c.rule })))
     by true = ([], [], owes_same c c refl refl)
     by false =
-        let d : ConnSeen = record c { depth = c.depth - 1 } in
-        let o = owes_queued (c.depth - 1) d in
+        let d : ConnSeen = record c { rule = with_depth (c.rule.depth - 1) c.rule } in
+        let o = owes_queued (c.rule.depth - 1) d in
         (o.0, o.1, record { sent = o.2.sent; read = o.2.read; owed = o.2.owed })
 
 pub owes_rolled_back : (a : ConnSeen) → OwesSome a (rolled_back a)
@@ -284,12 +284,16 @@ owes_behind (beats.Yields item) c = ([], [], owes_same c c refl refl)
 owes_polled : (kind : Kind) (begun b : ConnSeen) (beat : Beat) → IsCalling kind begun → Polled begun b beat → OwesSome begun b
 owes_polled kind begun b beat i p = subst (OwesSome begun) (sym p.behind_is) (OwesSome-then begun p.stopped (behind beat p.stopped) (owes_beat begun p.stopped kind beat p.turns i) (owes_behind beat p.stopped))
 
+owes_handed : (kind : Kind) (begun a b : ConnSeen) (next : Request) → Polled a b (beat_of (hands_on next)) → IsCalling kind a × OwesSome begun a → IsCalling kind (handed next b) × OwesSome begun (handed next b)
+owes_handed kind begun a b next p i = (
+  last_calls kind (next ∷ []) a (handed next b) (b, p, refl) i.0,
+  OwesSome-then begun a (handed next b) i.1 (owes_by a b (handed next b) (owes_polled kind a b (beat_of (hands_on next)) i.0 p) refl refl),
+)
+
 owes_through : (kind : Kind) (begun b : ConnSeen) (answer : Poll Turn) → IsCalling kind begun → PollsThrough begun b answer → OwesSome begun b
-owes_through kind begun b answer i (inl (p, n)) = owes_polled kind begun b (beat_of answer) i p
-owes_through kind begun b answer i (inr two) =
-    let next = handed two.next two.between in
-    let first = owes_by begun two.between next (owes_polled kind begun two.between (beat_of (hands_on two.next)) i two.first) refl refl in
-    OwesSome-then begun next b first (owes_polled kind next b (beat_of answer) (handed_calls begun two.between kind two.next two.first i) two.second)
+owes_through kind begun b answer i p =
+    let k = hands_keep (λ (c : ConnSeen). IsCalling kind c × OwesSome begun c) (owes_handed kind begun) p.later begun p.last p.hands (i, ([], [], owes_same begun begun refl refl)) in
+    OwesSome-then begun p.last b k.1 (owes_polled kind p.last b (beat_of answer) k.0 p.polled)
 
 pub owes_poll : (kind : Kind) (left : ℕ) (a b : ConnSeen) (answer : Poll Turn) → IsCalling kind a → PollsWithin left a b answer → OwesSome a b
 owes_poll kind left a b answer i p = by a.broken p

@@ -1,5 +1,5 @@
 -- A request that no frame can say is refused by its first poll, and a flush with nothing to do is done by its first poll.
-use Rattle.std.proofs.Common.{◌≡◌, ◌⊎◌, inl, inr, [], refl, ap, ◌∙◌, subst, Ok, Err, Option, None, Bool, true, false, cond, sym}
+use Rattle.std.proofs.Common.{◌≡◌, ◌⊎◌, inl, inr, List, [], ◌∷◌, refl, ap, ◌∙◌, subst, Ok, Err, Option, None, Bool, true, false, cond, sym}
 use Rattle.futures.specs.declared.task.Poll.{Poll}
 use Rattle.futures.specs.declared.task.Poll.TheVariants.{Ready, Pending}
 use Rattle.pg_wire.specs.declared.error.Error.{Error}
@@ -13,7 +13,7 @@ use Rattle.pg_call.specs.declared.calling.Beat.TheVariants as beats
 use Rattle.pg_call.specs.Requests.{CanBeSaid, first_of, IsRefusal, spelled}
 use Rattle.pg_call.proofs.RefusalLaws.{refusal_is}
 use Rattle.pg_conn.specs.Connections.{ConnSeen, idle, started_call, begun, left, cleaned, settled, ended, runs, may_open, has_room_for, with_group, rollback}
-use Rattle.pg_conn.specs.Turns.{Refused, Polled, PollsThrough, PollsBy, PollsCall, hands_on, beat_of, broken_by, RefusesAtOnce, FlushesAtOnce, behind}
+use Rattle.pg_conn.specs.Turns.{Refused, Polled, PollsThrough, HandsOver, PollsBy, PollsCall, hands_on, beat_of, broken_by, RefusesAtOnce, FlushesAtOnce, behind}
 
 -- a refusal is no fault of the server
 refusal_breaks_none : (r : Request) (e : Error) → IsRefusal r e → broken_by (beats.Ends (Err e)) ≡ None
@@ -24,7 +24,7 @@ refusal_breaks_none r e h = elim (refusal_is r e h) [
 
 -- a start leaves whole what is whole
 broken_left : (a : ConnSeen) → (left a).broken ≡ a.broken
-broken_left a = by (runs a.call) (may_open a.change a.groups a.depth) (has_room_for (spelled (rollback 0)) a)
+broken_left a = by (runs a.call) (may_open a.change a.groups a.rule.depth) (has_room_for (spelled (rollback 0)) a)
   where
     by : (r m h : Bool) → (cond r (idle (ended (cond m (cond h (with_group (spelled (rollback 0)) a) a) a))) a).broken ≡ a.broken
     by false m h = refl
@@ -59,14 +59,17 @@ refuses_once a b request answer polled unsaid = elim polled.says [
     )
 
 pub refuses_at_once : (a b : ConnSeen) (request : Request) (answer : Poll Turn) → a.broken ≡ None → PollsCall (started_call request a) b answer → (CanBeSaid (first_of request) → ⊥) → RefusesAtOnce request a b answer
-refuses_at_once a b request answer whole p unsaid = elim (first_polls a b request answer whole p) [
-  | inl one ↦ refuses_once a b request answer one.0 unsaid
-  | inr two ↦ absurd (said two.first.says)
-]
+refuses_at_once a b request answer whole p unsaid =
+    let t = first_polls a b request answer whole p in
+    by t.later t.last t.hands t.polled
   where
     said : CanBeSaid (first_of request) ⊎ ⊥ → ⊥
     said (inl can) = unsaid can
     said (inr refused) = refused
+
+    by : (later : List Request) (last : ConnSeen) → HandsOver (begun (started_call request a)) later last → Polled last b (beat_of answer) → RefusesAtOnce request a b answer
+    by [] last h polled = refuses_once a b request answer (subst (λ (c : ConnSeen). Polled c b (beat_of answer)) h polled) unsaid
+    by (next ∷ later) last h polled = absurd (said h.1.says)
 
 flushes_once : (a b : ConnSeen) (answer : Poll Turn) → (left a).ledger.owed ≡ 0 → (left a).stream.unsent ≡ [] → Polled (begun (started_call requests.Flush a)) b (beat_of answer) → FlushesAtOnce a b answer
 flushes_once a b answer owed sent polled =
@@ -80,10 +83,13 @@ flushes_once a b answer owed sent polled =
     by (Ready (turns.Err error)) s k e is = absurd cc
 
 pub flushes_at_once : (a b : ConnSeen) (answer : Poll Turn) → a.broken ≡ None → (left a).ledger.owed ≡ 0 → (left a).stream.unsent ≡ [] → PollsCall (started_call requests.Flush a) b answer → FlushesAtOnce a b answer
-flushes_at_once a b answer whole owed sent p = elim (first_polls a b requests.Flush answer whole p) [
-  | inl one ↦ flushes_once a b answer owed sent one.0
-  | inr two ↦ absurd (other two.next (flushes_once a two.between (hands_on two.next) owed sent two.first).0)
-]
+flushes_at_once a b answer whole owed sent p =
+    let t = first_polls a b requests.Flush answer whole p in
+    by t.later t.last t.hands t.polled
   where
     other : (next : Request) → hands_on next ≡ Ready (turns.Ok answers.Unit) → ⊥
     other next e = cc
+
+    by : (later : List Request) (last : ConnSeen) → HandsOver (begun (started_call requests.Flush a)) later last → Polled last b (beat_of answer) → FlushesAtOnce a b answer
+    by [] last h polled = flushes_once a b answer owed sent (subst (λ (c : ConnSeen). Polled c b (beat_of answer)) h polled)
+    by (next ∷ later) last h polled = absurd (other next (flushes_once a h.0 (hands_on next) owed sent h.1).0)

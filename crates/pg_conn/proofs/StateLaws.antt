@@ -1,5 +1,5 @@
 -- What a poll answers is of the call's kind.
-use Rattle.std.proofs.Common.{◌≡◌, ℕ, inl, inr, List, [], ◌∷◌, ◌++◌, refl, sym, ap, ◌∙◌, subst, arith, Result, Ok, Err, Option, Some, None, ◌-◌, ◌*◌, nat_eq, cond, Bool, true, false}
+use Rattle.std.proofs.Common.{◌≡◌, ◌≤◌, ℕ, inl, inr, List, [], ◌∷◌, ◌++◌, refl, sym, ap, ◌∙◌, subst, arith, Result, Ok, Err, Option, Some, None, ◌-◌, ◌*◌, nat_eq, cond, Bool, true, false}
 use Rattle.pg_wire.specs.declared.status.TransactionStatus.{TransactionStatus}
 use Rattle.pg_wire.specs.Backend.{BackendMessage}
 use Rattle.pg_wire.specs.Frame.{Frame}
@@ -25,12 +25,13 @@ use Rattle.pg_call.specs.declared.answer.Turn.{Turn}
 use Rattle.pg_call.specs.declared.answer.Turn.TheVariants as turns
 use Rattle.pg_call.specs.declared.calling.Beat.{Beat}
 use Rattle.pg_call.specs.declared.calling.Beat.TheVariants as beats
-use Rattle.pg_call.specs.Requests.{kind_of, main_kind, first_of}
+use Rattle.pg_call.specs.Requests.{kind_of, main_kind, first_of, spelled}
 use Rattle.pg_call.specs.Items.{yields}
 use Rattle.pg_call.specs.Answers.{TurnFits, AnswerFits, TurnIsPlain}
-use Rattle.pg_call.proofs.FitLaws.{shown_fits, answers_main, hands_on_described, main_alone, main_describes_none, main_first, next_is, shows_main}
-use Rattle.pg_conn.specs.Connections.{ConnOf, ConnSeen, seen_by, started_call, begun_with, begun_by, handed, left, commit_of, rollback_of}
-use Rattle.pg_conn.specs.Turns.{HasRoom, TakesBeat, Polled, PollsThrough, PollsBy, PollsWithin, PollsCall, HandsOnNone, hands_on, beat_of, HasRoomBeside, HasAllRoom, behind}
+use Rattle.pg_call.proofs.FitLaws.{shown_fits, answers_main, main_alone, main_describes_none, main_first, next_is, shows_main}
+use Rattle.pg_rule.specs.declared.rule.Rule.{Rule}
+use Rattle.pg_conn.specs.Connections.{ConnOf, ConnSeen, seen_by, started_call, begun_with, begun_by, handed, left, commit_of, rollback_of, cleaned, may_open, has_room_for, with_group, rollback, ended}
+use Rattle.pg_conn.specs.Turns.{HasRoom, TakesBeat, Polled, PollsThrough, HandsOver, PollsBy, PollsWithin, PollsCall, HandsOnNone, hands_on, beat_of, HasRoomBeside, HasAllRoom, behind, broken_by}
 use Rattle.pg_conn.specs.States.{IsCalling, PollFits, turn_of, closing_turn, KeepsConn, PollsClose, IsCallingPlainly}
 
 -- a call that was started
@@ -89,43 +90,41 @@ fits_main kind r b (Ready (turns.Item item)) k n f = (subst (λ (x : Kind). yiel
 fits_main kind r b (Ready (turns.Ok answer)) k n f = (subst (λ (x : Kind). AnswerFits x answer) k (answers_main r f.0 f.1 answer f.2 (λ next e. n next (ap (λ (x : CallAnswer). Ready (turns.Ok x)) e))), tt)
 fits_main kind r b (Ready (turns.Err e)) k n f = (tt, tt)
 
--- what is run behind a description hands on nothing
-last_hands_none : (r : Request) (b : ConnSeen) (answer : Poll Turn) → (kind_of r ≡ kinds.Describe → ⊥) → Answered r b answer → HandsOnNone answer
-last_hands_none r b Pending n f next e = absurd cc
-last_hands_none r b (Ready (turns.Item item)) n f next e = absurd cc
-last_hands_none r b (Ready (turns.Err error)) n f next e = absurd cc
-last_hands_none r b (Ready (turns.Ok answer)) n f next e =
-    let same : answer ≡ answers.Next next = the_answer answer (answers.Next next) e in
-    absurd (n (hands_on_described r f.0 f.1 next (f.2 ∙ ap (λ (x : CallAnswer). Ok x) same)))
-  where
-    the_answer : (x y : CallAnswer) → Ready (turns.Ok x) ≡ Ready (turns.Ok y) → x ≡ y
-    the_answer x y e = cc
-
 -- the next exchange runs, and is of the call's kind
-handed_runs : (r next : Request) (m : ConnSeen) (reply : List BackendMessage) (status : TransactionStatus) → answer_by r reply status ≡ Ok (answers.Next next) → HasRoom m → Runs next (handed next m) × (main_kind next ≡ main_kind r) × (kind_of next ≡ kinds.Describe → ⊥)
+handed_runs : (r next : Request) (m : ConnSeen) (reply : List BackendMessage) (status : TransactionStatus) → answer_by r reply status ≡ Ok (answers.Next next) → HasRoom m → Runs next (handed next m) × (main_kind next ≡ main_kind r)
 handed_runs r next m reply status e h =
     let is = next_is r reply status next e in
     let last : kind_of next ≡ kinds.Describe → ⊥ = λ d. main_describes_none r (sym is.0 ∙ d) in
-    ((m.ledger, [], [], [], (refl, refl, refl, refl, refl), omega (arith, h)), main_alone next last ∙ is.0, last)
+    ((m.ledger, [], [], [], (refl, refl, refl, refl, refl), omega (arith, h)), main_alone next last ∙ is.0)
 
 keeps_polled : (begun b : ConnSeen) (beat : Beat) → HasRoom begun → Polled begun b beat → HasRoom b
 keeps_polled begun b beat h p = subst (λ (c : ConnSeen). HasRoom c) (sym p.behind_is) (room_behind beat p.stopped (p.turns.3.room 0 (omega arith) h))
 
-fits_through : (begun b : ConnSeen) (kind : Kind) (answer : Poll Turn) → PollsThrough begun b answer → IsCalling kind begun → PollFits kind b answer
-fits_through begun b kind answer (inl (p, n)) i = fits_main kind i.1 b answer i.5 n (answered_by begun b i.1 answer p (i.0, i.2, i.3, i.4, i.6, i.7))
-fits_through begun b kind answer (inr two) i =
-    let first = answered_by begun two.between i.1 (hands_on two.next) two.first (i.0, i.2, i.3, i.4, i.6, i.7) in
-    let room = keeps_polled begun two.between (beat_of (hands_on two.next)) i.7 two.first in
-    let further = handed_runs i.1 two.next two.between first.0 first.1 first.2 room in
-    let last = answered_by (handed two.next two.between) b two.next answer two.second further.0 in
-    fits_main kind two.next b answer (further.1 ∙ i.5) (last_hands_none two.next b answer further.2 last) last
-
 -- the call that an exchange hands on is of the same kind
-pub handed_calls : (begun m : ConnSeen) (kind : Kind) (next : Request) → Polled begun m (beat_of (hands_on next)) → IsCalling kind begun → IsCalling kind (handed next m)
+handed_calls : (begun m : ConnSeen) (kind : Kind) (next : Request) → Polled begun m (beat_of (hands_on next)) → IsCalling kind begun → IsCalling kind (handed next m)
 handed_calls begun m kind next p i =
     let first = answered_by begun m i.1 (hands_on next) p (i.0, i.2, i.3, i.4, i.6, i.7) in
     let further = handed_runs i.1 next m first.0 first.1 first.2 (keeps_polled begun m (beat_of (hands_on next)) i.7 p) in
     runs_call kind next (handed next m) (further.1 ∙ i.5) further.0
+
+-- what each exchange keeps that hands on the next one
+pub hands_keep : (P : ConnSeen → Type 0) → ((a b : ConnSeen) (next : Request) → Polled a b (beat_of (hands_on next)) → P a → P (handed next b)) → (later : List Request) (begun last : ConnSeen) → HandsOver begun later last → P begun → P last
+hands_keep P on [] begun last h i = subst P (sym h) i
+hands_keep P on (next ∷ later) begun last h i = hands_keep P on later (handed next h.0) last h.2 (on begun h.0 next h.1 i)
+
+-- one more exchange ended, and handed on the next one
+pub hands_more : (later : List Request) (begun now between : ConnSeen) (next : Request) → HandsOver begun later now → Polled now between (beat_of (hands_on next)) → HandsOver begun (later ++ next ∷ []) (handed next between)
+hands_more [] begun now between next h p = (between, subst (λ (x : ConnSeen). Polled x between (beat_of (hands_on next))) h p, refl)
+hands_more (one ∷ later) begun now between next h p = (h.0, h.1, hands_more later (handed one h.0) now between next h.2 p)
+
+-- the call of the exchange that came last is of the same kind
+pub last_calls : (kind : Kind) (later : List Request) (begun last : ConnSeen) → HandsOver begun later last → IsCalling kind begun → IsCalling kind last
+last_calls kind later begun last h i = hands_keep (λ (c : ConnSeen). IsCalling kind c) (λ a b next p k. handed_calls a b kind next p k) later begun last h i
+
+fits_through : (begun b : ConnSeen) (kind : Kind) (answer : Poll Turn) → PollsThrough begun b answer → IsCalling kind begun → PollFits kind b answer
+fits_through begun b kind answer p i =
+    let k = last_calls kind p.later begun p.last p.hands i in
+    fits_main kind k.1 b answer k.5 p.none (answered_by p.last b k.1 answer p.polled (k.0, k.2, k.3, k.4, k.6, k.7))
 
 fits_by : (o : Option ServerFault) (begun a b : ConnSeen) (kind : Kind) (answer : Poll Turn) → PollsBy o begun a b answer → IsCalling kind begun → PollFits kind b answer
 fits_by None begun a b kind answer p i = fits_through begun b kind answer p i
@@ -141,35 +140,57 @@ unseen seen b kind (Ready (turns.Err e)) f = f
 pub poll_fits : {A : Type 0} (seen : A → LinkSeen) (a b : ConnOf A) (kind : Kind) (answer : Poll Turn) → PollsCall (seen_by seen a) (seen_by seen b) answer → IsCalling kind a → PollFits kind b answer
 poll_fits seen a b kind answer p i = unseen seen b kind answer (fits_by a.broken (begun_with 256 (seen_by seen a)) (seen_by seen a) (seen_by seen b) kind answer p i)
 
+-- ---- the calls of the link that are left
+
+left_cleaned : (c : ConnSeen) → (cleaned c).stream.left ≡ c.stream.left
+left_cleaned c = by (may_open c.change c.groups c.rule.depth) (has_room_for (spelled (rollback 0)) c)
+  where
+    by : (m h : Bool) → (ended (cond m (cond h (with_group (spelled (rollback 0)) c) c) c)).stream.left ≡ c.stream.left
+    by false h = refl
+    by true false = refl
+    by true true = refl
+
+left_behind : (beat : Beat) (c : ConnSeen) → (behind beat c).stream.left ≡ c.stream.left
+left_behind (beats.Ends (Ok answer)) c = refl
+left_behind (beats.Ends (Err e)) c = left_cleaned (record c { broken = broken_by (beats.Ends (Err e)) })
+left_behind beats.More c = refl
+left_behind beats.Waits c = refl
+left_behind (beats.Yields item) c = refl
+
+left_polled : (a b : ConnSeen) (beat : Beat) → Polled a b beat → b.stream.left ≤ a.stream.left
+left_polled a b beat p = omega (arith, ap (λ (c : ConnSeen). c.stream.left) p.behind_is, left_behind beat p.stopped, p.turns.3.moves.left)
+
+-- a poll takes calls off, and adds none
+pub left_through : (begun b : ConnSeen) (answer : Poll Turn) → PollsThrough begun b answer → b.stream.left ≤ begun.stream.left
+left_through begun b answer p =
+    let last = hands_keep (λ (c : ConnSeen). c.stream.left ≤ begun.stream.left) (λ a m next q l. omega (arith, l, left_polled a m (beat_of (hands_on next)) q)) p.later begun p.last p.hands (omega arith) in
+    omega (arith, last, left_polled p.last b (beat_of answer) p.polled)
+
 -- ---- the room for cleanup
 
-room_handed : (next : Request) (m : ConnSeen) → HasRoom m → HasRoom (handed next m)
-room_handed next m h = omega (arith, h)
+room_handed : (a b : ConnSeen) (next : Request) → Polled a b (beat_of (hands_on next)) → HasRoom a → HasRoom (handed next b)
+room_handed a b next p h = omega (arith, keeps_polled a b (beat_of (hands_on next)) h p)
 
 pub keeps_room : (left : ℕ) (a b : ConnSeen) (answer : Poll Turn) → HasRoom a → PollsWithin left a b answer → HasRoom b
 keeps_room left a b answer h p = by a.broken p
   where
     by : (o : Option ServerFault) → PollsBy o (begun_with left a) a b answer → HasRoom b
-    by None (inl (p, n)) = keeps_polled (begun_with left a) b (beat_of answer) h p
-    by None (inr two) =
-        keeps_polled (handed two.next two.between) b (beat_of answer) (room_handed two.next two.between (keeps_polled (begun_with left a) two.between (beat_of (hands_on two.next)) h two.first)) two.second
+    by None p = keeps_polled p.last b (beat_of answer) (hands_keep (λ (c : ConnSeen). HasRoom c) room_handed p.later (begun_with left a) p.last p.hands h) p.polled
     by (Some fault) p = subst (λ (c : ConnSeen). HasRoom c) (sym p.0) (omega (arith, h, level_none a.groups))
 
 keeps_all_polled : (begun b : ConnSeen) (beat : Beat) → HasAllRoom begun → Polled begun b beat → HasAllRoom b
 keeps_all_polled begun b beat h p =
-    let kept : HasAllRoom p.stopped = subst (λ (n : ℕ). HasRoomBeside (64 * n) p.stopped) (sym p.turns.3.started.2) (p.turns.3.room (64 * begun.depth) (omega arith) h) in
+    let kept : HasAllRoom p.stopped = subst (λ (r : Rule). HasRoomBeside (64 * r.depth) p.stopped) (sym p.turns.3.started.2) (p.turns.3.room (64 * begun.rule.depth) (omega arith) h) in
     subst (λ (c : ConnSeen). HasAllRoom c) (sym p.behind_is) (all_behind beat p.stopped kept)
 
-all_handed : (next : Request) (m : ConnSeen) → HasAllRoom m → HasAllRoom (handed next m)
-all_handed next m h = omega (arith, h)
+all_handed : (a b : ConnSeen) (next : Request) → Polled a b (beat_of (hands_on next)) → HasAllRoom a → HasAllRoom (handed next b)
+all_handed a b next p h = omega (arith, keeps_all_polled a b (beat_of (hands_on next)) h p)
 
 pub keeps_all_room : (left : ℕ) (a b : ConnSeen) (answer : Poll Turn) → HasAllRoom a → PollsWithin left a b answer → HasAllRoom b
 keeps_all_room left a b answer h p = by a.broken p
   where
     by : (o : Option ServerFault) → PollsBy o (begun_with left a) a b answer → HasAllRoom b
-    by None (inl (p, n)) = keeps_all_polled (begun_with left a) b (beat_of answer) h p
-    by None (inr two) =
-        keeps_all_polled (handed two.next two.between) b (beat_of answer) (all_handed two.next two.between (keeps_all_polled (begun_with left a) two.between (beat_of (hands_on two.next)) h two.first)) two.second
+    by None p = keeps_all_polled p.last b (beat_of answer) (hands_keep (λ (c : ConnSeen). HasAllRoom c) all_handed p.later (begun_with left a) p.last p.hands h) p.polled
     by (Some fault) p = subst (λ (c : ConnSeen). HasAllRoom c) (sym p.0) (omega (arith, h, level_none a.groups))
 
 pub starts_with_room : (a : ConnSeen) (request : Request) → HasRoom (started_call request a)

@@ -37,6 +37,7 @@ use Rattle.pg_call.specs.Calls.{owes_own, CallIs, IsAwaiting, CallEnds, CallTake
 use Rattle.pg_call.proofs.CallLaws.{own_errs}
 use Rattle.pg_call.proofs.RefusalLaws.{refusal_is}
 use Rattle.pg_call.proofs.LeaveLaws.{leaves_call, call_well, closing_fine, flush_fine, draining_none, replying_from, closing_from}
+use Rattle.pg_rule.specs.declared.rule.Rule.{Rule}
 use Rattle.pg_conn.specs.Connections.{ConnOf, ConnSeen, seen_by, idle, with_spare, queued_call, awaiting, closing, frames_in, opens, cleaned, may_open, has_room_for, rollback, with_group, ended}
 use Rattle.pg_conn.specs.Turns.{HearsBy, HearsFront, running_of, ends_request, IsMissed, FailsBy, EndsBy, Tells, SendCause, BeatCause, Turns, TakesBeat, IsAsked, cleanup_of, IsSayable, Prepares, Refuses, Refused, Polled, broken_by, only_sends, flushes, is_flushed, EndsFlush, IsAhead, Readies, Accepts, queued_copy_fail, level_of, HasRoomBeside, behind}
 use Rattle.pg_startup.proofs.GreetLaws.{heard_none, heard_one}
@@ -91,7 +92,7 @@ Turns-then a b c beat q q' fs fs' hs hs' s t = record {
   counted = GrewBy-then (length hs) (length hs') (length (hs ++ hs')) a.heard b.heard c.heard s.counted t.counted (length-append hs hs');
   started = (t.started.0 ∙ s.started.0, t.started.1 ∙ s.started.1, t.started.2 ∙ s.started.2, t.started.3 ∙ s.started.3);
   asked = λ i. s.asked (t.asked i);
-  room = λ n l h. t.room n (omega (arith, l, s.started.2)) (s.room n l h);
+  room = λ n l h. t.room n (omega (arith, l, ap (λ (r : Rule). r.depth) s.started.2)) (s.room n l h);
   tells = λ start r said heards items i.
       let one = s.tells start r said heards items i in
       let two = t.tells start r (said ++ one.0) (heards ++ hs) items one.3 in (
@@ -122,7 +123,7 @@ same_level : (c d : Change) (m n : ℕ) → d ≡ c → n ≡ m → level_of d n
 same_level c d m n e f = rw (e, f) refl
 
 -- the stream has moved by nothing, and nothing was heard
-stays : (a b : ConnSeen) (beat : Beat) → Moves a.stream b.stream [] [] → BeatCause a b beat → Keeps a.call b.call → b.broken ≡ a.broken → b.heard ≡ a.heard → b.groups ≡ a.groups → b.sent ≡ a.sent → b.read ≡ a.read → b.depth ≡ a.depth → b.change ≡ a.change
+stays : (a b : ConnSeen) (beat : Beat) → Moves a.stream b.stream [] [] → BeatCause a b beat → Keeps a.call b.call → b.broken ≡ a.broken → b.heard ≡ a.heard → b.groups ≡ a.groups → b.sent ≡ a.sent → b.read ≡ a.read → b.rule ≡ a.rule → b.change ≡ a.change
     → ((start : Ledger) (r : Request) (said : List FrontendMessage) (hs : List Frame) (items : List CallItem) → CallIs start r said hs items a.ledger a.call → Tells a b start r said hs items beat)
     → TakesBeat a b beat
 stays a b beat m c keep k h g s t d e tells = (
@@ -239,7 +240,7 @@ flush_false true n z e = let w : true && 0 == 0 ≡ false = rw z at e in absurd 
 flush_false false n z e = refl
 
 -- the state b stands where what waited was queued
-queues_waiting : (a b : ConnSeen) (w : Waiting) → a.call ≡ calls.Waiting w → Moves a.stream b.stream w.frames [] → AllMoved a.stream b.stream → (IsAsked b.call → ⊥) → ((n : ℕ) → n ≤ 64 * a.depth → HasRoomBeside n b) → b.broken ≡ a.broken → b.heard ≡ a.heard → b.sent ≡ a.sent → b.read ≡ a.read → b.depth ≡ a.depth → b.change ≡ a.change
+queues_waiting : (a b : ConnSeen) (w : Waiting) → a.call ≡ calls.Waiting w → Moves a.stream b.stream w.frames [] → AllMoved a.stream b.stream → (IsAsked b.call → ⊥) → ((n : ℕ) → n ≤ 64 * a.rule.depth → HasRoomBeside n b) → b.broken ≡ a.broken → b.heard ≡ a.heard → b.sent ≡ a.sent → b.read ≡ a.read → b.rule ≡ a.rule → b.change ≡ a.change
     → ((start : Ledger) (r : Request) (said : List FrontendMessage) (hs : List Frame) (items : List CallItem) → CallIs start r said hs items a.ledger (calls.Waiting w) → GrewBy (count_by ends_request (messages_of r)) a.groups b.groups × CallIs start r (said ++ messages_of r) hs items b.ledger b.call)
     → TakesBeat a b beats.More
 queues_waiting a b w k m moved asked room broken h s t d e tells = (
@@ -270,7 +271,7 @@ level_most c g = by (nat_eq g 0)
     by true = omega arith
     by false = omega arith
 
-pub asks_reply : (a : ConnSeen) (n g : ℕ) (w : Waiting) → a.call ≡ calls.Waiting w → a.ledger.owed ≡ 0 → only_sends a.ledger a.call ≡ false → is_close w.kind ≡ false → Moves a.stream (queued_call n a).stream w.frames [] × AllMoved a.stream (queued_call n a).stream → 64 * a.depth + level_of a.change 1 + 128 ≤ n → GrewBy 1 a.groups g
+pub asks_reply : (a : ConnSeen) (n g : ℕ) (w : Waiting) → a.call ≡ calls.Waiting w → a.ledger.owed ≡ 0 → only_sends a.ledger a.call ≡ false → is_close w.kind ≡ false → Moves a.stream (queued_call n a).stream w.frames [] × AllMoved a.stream (queued_call n a).stream → 64 * a.rule.depth + level_of a.change 1 + 128 ≤ n → GrewBy 1 a.groups g
     → Readies a (awaiting g (queued_call n a))
 asks_reply a n g w k z f c m room grew =
     let flush : is_flush w.kind ≡ false = flush_false (is_flush w.kind) a.ledger.owed z (subst (λ (x : Call). only_sends a.ledger x ≡ false) k f) in
@@ -282,7 +283,7 @@ asks_reply a n g w k z f c m room grew =
       ahead = tt;
     })
 
-pub asks_nothing : (a : ConnSeen) (n : ℕ) (w : Waiting) → a.call ≡ calls.Waiting w → a.ledger.owed ≡ 0 → is_close w.kind ≡ true → Moves a.stream (queued_call n a).stream w.frames [] × AllMoved a.stream (queued_call n a).stream → 64 * a.depth + level_of a.change 1 + 128 ≤ n
+pub asks_nothing : (a : ConnSeen) (n : ℕ) (w : Waiting) → a.call ≡ calls.Waiting w → a.ledger.owed ≡ 0 → is_close w.kind ≡ true → Moves a.stream (queued_call n a).stream w.frames [] × AllMoved a.stream (queued_call n a).stream → 64 * a.rule.depth + level_of a.change 1 + 128 ≤ n
     → Readies a (closing (queued_call n a))
 asks_nothing a n w k z c m room = record {
   beat = queues_waiting a (closing (queued_call n a)) w k m.0 m.1 (λ i. i) (λ k l. omega (arith, room, l, level_most a.change a.groups)) refl refl refl refl refl refl (λ start r said hs items i.
@@ -362,7 +363,7 @@ flush_sayable a f = by a.call (both_true (flushes a.call) (a.ledger.owed == 0) (
 
 -- what is made of a connection by the end of a call is seen alike
 seen_cleaned : {A : Type 0} (seen : A → LinkSeen) (c : ConnOf A) → seen_by seen (cleaned c) ≡ cleaned (seen_by seen c)
-seen_cleaned {A} seen c = by (may_open c.change c.groups c.depth) (has_room_for (spelled (rollback 0)) c)
+seen_cleaned {A} seen c = by (may_open c.change c.groups c.rule.depth) (has_room_for (spelled (rollback 0)) c)
   where
     by : (b r : Bool) → seen_by seen (ended (cond b (cond r (with_group (spelled (rollback 0)) c) c) c)) ≡ ended (cond b (cond r (with_group (spelled (rollback 0)) (seen_by seen c)) (seen_by seen c)) (seen_by seen c))
     by true true = refl
@@ -378,7 +379,7 @@ seen_behind seen (beats.Yields item) c = refl
 
 -- it has the same call
 cleaned_call : {A : Type 0} (c : ConnOf A) → (cleaned c).call ≡ c.call
-cleaned_call {A} c = by (may_open c.change c.groups c.depth) (has_room_for (spelled (rollback 0)) c)
+cleaned_call {A} c = by (may_open c.change c.groups c.rule.depth) (has_room_for (spelled (rollback 0)) c)
   where
     by : (b r : Bool) → (ended (cond b (cond r (with_group (spelled (rollback 0)) c) c) c)).call ≡ c.call
     by true true = refl
@@ -416,7 +417,7 @@ awaiting_owed start r said hs items ledger calls.Closing h i = absurd h
 awaiting_owed start r said hs items ledger calls.Idle h i = absurd i
 
 -- asynchronous messages alone were taken
-asides : (a b : ConnSeen) (beat : Beat) (aside : List Frame) → AreAsynchronous aside → Moves a.stream b.stream [] aside → BeatCause a b beat → Keeps a.call b.call → b.broken ≡ a.broken → b.heard ≡ a.heard → b.groups ≡ a.groups → b.sent ≡ a.sent → b.read ≡ a.read → b.depth ≡ a.depth → b.change ≡ a.change
+asides : (a b : ConnSeen) (beat : Beat) (aside : List Frame) → AreAsynchronous aside → Moves a.stream b.stream [] aside → BeatCause a b beat → Keeps a.call b.call → b.broken ≡ a.broken → b.heard ≡ a.heard → b.groups ≡ a.groups → b.sent ≡ a.sent → b.read ≡ a.read → b.rule ≡ a.rule → b.change ≡ a.change
     → ((start : Ledger) (r : Request) (said : List FrontendMessage) (hs : List Frame) (items : List CallItem) → CallIs start r said hs items a.ledger a.call → Tells a b start r said hs items beat)
     → TakesBeat a b beat
 asides a b beat aside n m c keep k h g s t d e tells = (
@@ -571,20 +572,20 @@ queued_moves : {A : Type 0} (seen : A → LinkSeen) (a : ConnOf A) (n : ℕ) (w 
 queued_moves {A} seen a n w k le =
     queues_by seen a.stream (queued_call n a).stream w.frames n (omega (arith, le)) (ap (λ (c : Call). record a.stream { unsent = a.stream.unsent ++ frames_in c; spare = n }) k)
 
-pub asks_closing : {A : Type 0} (seen : A → LinkSeen) (a q b : ConnOf A) (w : Waiting) → a.call ≡ calls.Waiting w → a.ledger.owed ≡ 0 → is_close w.kind ≡ true → a.stream.spare ≤ q.stream.spare → 64 * q.depth + level_of q.change 1 + 128 ≤ q.stream.spare → q ≡ queued_call q.stream.spare a → b ≡ closing q
+pub asks_closing : {A : Type 0} (seen : A → LinkSeen) (a q b : ConnOf A) (w : Waiting) → a.call ≡ calls.Waiting w → a.ledger.owed ≡ 0 → is_close w.kind ≡ true → a.stream.spare ≤ q.stream.spare → 64 * q.rule.depth + level_of q.change 1 + 128 ≤ q.stream.spare → q ≡ queued_call q.stream.spare a → b ≡ closing q
     → Readies (seen_by seen a) (seen_by seen b)
 asks_closing {A} seen a q b w k z c le room is closes =
     let n = q.stream.spare in
-    let kept = subst (λ (x : ConnOf A). 64 * x.depth + level_of x.change 1 + 128 ≤ n) is room in
+    let kept = subst (λ (x : ConnOf A). 64 * x.rule.depth + level_of x.change 1 + 128 ≤ n) is room in
     subst (λ (x : ConnOf A). Readies (seen_by seen a) (seen_by seen x)) (sym (closes ∙ ap (λ (x : ConnOf A). closing x) is)) (asks_nothing (seen_by seen a) n w k z c (queued_moves seen a n w k le) kept)
 
-pub asks_own : {A : Type 0} (seen : A → LinkSeen) (a q b : ConnOf A) (w : Waiting) → a.call ≡ calls.Waiting w → a.ledger.owed ≡ 0 → only_sends a.ledger a.call ≡ false → is_close w.kind ≡ false → a.stream.spare ≤ q.stream.spare → 64 * q.depth + level_of q.change 1 + 128 ≤ q.stream.spare → q ≡ queued_call q.stream.spare a
+pub asks_own : {A : Type 0} (seen : A → LinkSeen) (a q b : ConnOf A) (w : Waiting) → a.call ≡ calls.Waiting w → a.ledger.owed ≡ 0 → only_sends a.ledger a.call ≡ false → is_close w.kind ≡ false → a.stream.spare ≤ q.stream.spare → 64 * q.rule.depth + level_of q.change 1 + 128 ≤ q.stream.spare → q ≡ queued_call q.stream.spare a
     → b ≡ awaiting b.groups q → GrewBy 1 q.groups b.groups → Readies (seen_by seen a) (seen_by seen b)
 asks_own {A} seen a q b w k z f c le room is awaits grew =
     let n = q.stream.spare in
     let g = b.groups in
     let same : q.groups ≡ a.groups = ap (λ (x : ConnOf A). x.groups) is in
-    let kept = subst (λ (x : ConnOf A). 64 * x.depth + level_of x.change 1 + 128 ≤ n) is room in
+    let kept = subst (λ (x : ConnOf A). 64 * x.rule.depth + level_of x.change 1 + 128 ≤ n) is room in
     subst (λ (x : ConnOf A). Readies (seen_by seen a) (seen_by seen x)) (sym (awaits ∙ ap (λ (x : ConnOf A). awaiting g x) is)) (asks_reply (seen_by seen a) n g w k z f c (queued_moves seen a n w k le) kept (rw same at grew))
 
 pub with_room : {A : Type 0} (seen : A → LinkSeen) (a r : ConnOf A) → r ≡ with_spare r.stream.spare a → a.stream.spare ≤ r.stream.spare → TakesBeat (seen_by seen a) (seen_by seen r) beats.More
@@ -612,7 +613,7 @@ sends_none t false u e = append-nil t.unsent ∙ u
 sends_none t true u e = absurd cc
 
 pub takes_message : {A : Type 0} (seen : A → LinkSeen) (a b : ConnOf A) (new : Running) (front : Front) (body rest : List ℕ) (taken : Taken) → IsHeardFront a.stream.held front → IsFrontOf a.stream.held front (framed front.tag body) rest
-    → TakesMessage front.tag body (record { ledger = a.ledger; call = a.call }) new taken → StaysIn a.call taken.fails_copy new.call → (taken.fails_copy ≡ true → 64 * a.depth + level_of a.change a.groups + 57 ≤ a.stream.spare) → (taken.fails_copy ≡ true → front.tag ≡ 71) → a.stream.unsent ≡ [] → (taken.beat ≢ beats.Waits) → Accepts front taken.fails_copy (record a { ledger = new.ledger; call = new.call }) b
+    → TakesMessage front.tag body (record { ledger = a.ledger; call = a.call }) new taken → StaysIn a.call taken.fails_copy new.call → (taken.fails_copy ≡ true → 64 * a.rule.depth + level_of a.change a.groups + 57 ≤ a.stream.spare) → (taken.fails_copy ≡ true → front.tag ≡ 71) → a.stream.unsent ≡ [] → (taken.beat ≢ beats.Waits) → Accepts front taken.fails_copy (record a { ledger = new.ledger; call = new.call }) b
     → TakesBeat (seen_by seen a) (seen_by seen b) taken.beat
 takes_message {A} seen a b new front body rest taken f of takes stays_in room copy sent goes acc =
     let t = acc.0 in
@@ -682,7 +683,7 @@ starves_front held front a b e f replied oom same =
     let body : List ℕ = take (front.total - 5) (drop 5 held) in
     (body, drop front.total held, front_frame held front (IsFront-from_heard held front f), (rw oom (starves_message front.tag body a replied), same))
 
-pub taken_front : {A : Type 0} (seen : A → LinkSeen) (a m b : ConnOf A) (front : Front) (taken : Taken) → IsHeardFront a.stream.held front → (front.tag ≡ 71 → 64 * a.depth + level_of a.change a.groups + 57 ≤ a.stream.spare) → a.stream.unsent ≡ [] → m ≡ record a { ledger = m.ledger; call = m.call }
+pub taken_front : {A : Type 0} (seen : A → LinkSeen) (a m b : ConnOf A) (front : Front) (taken : Taken) → IsHeardFront a.stream.held front → (front.tag ≡ 71 → 64 * a.rule.depth + level_of a.change a.groups + 57 ≤ a.stream.spare) → a.stream.unsent ≡ [] → m ≡ record a { ledger = m.ledger; call = m.call }
     → HearsFront front a m (Ok taken) → Accepts front taken.fails_copy m b → TakesBeat (seen_by seen a) (seen_by seen b) taken.beat
 taken_front {A} seen a m b front taken f room sent now h acc =
     takes_message seen a b (running_of m) front h.0 h.1 taken f h.2 h.3.0 h.3.3 (λ e. room (h.3.1 e)) h.3.1 sent h.3.2 (subst (λ (x : ConnOf A). Accepts front taken.fails_copy x b) now acc)

@@ -6,6 +6,8 @@ use Rattle.pg_call.specs.declared.request.Request.TheVariants as requests
 use Rattle.pg_call.specs.Requests.{spelled, kind_of, change_of, first_of}
 use Rattle.pg_request.specs.Queries.{plain_text}
 use Rattle.pg_request.specs.Texts.{rollback_text}
+use Rattle.pg_rule.specs.declared.rule.Rule.{Rule}
+use Rattle.pg_rule.specs.Rules.{new_rule}
 use Rattle.pg_wire.specs.Frontend.{FrontendMessage, Query}
 use Rattle.pg_wire.specs.declared.error.ServerFault.{ServerFault}
 use Rattle.pg_stream.specs.Links.{LinkSeen}
@@ -23,8 +25,8 @@ pub record ConnOf (A : Type 0) : Type 0 where
   -- the replies that are owed: Query and Sync messages queued, less ReadyForQuery taken
   pub ledger : Ledger
   pub call : Call
-  -- how many transactions and savepoints are open
-  pub depth : ℕ
+  -- what is known of the session: how many transactions and savepoints are open, and which statements are kept
+  pub rule : Rule
   -- what the end of the last call makes of them where it is Ok; nothing, once it has come
   pub change : Change
   -- the fault by which the server broke the connection
@@ -40,11 +42,11 @@ abbrev pub ConnSeen : Type 0
 ConnSeen = ConnOf LinkSeen
 
 abbrev pub seen_by : {A : Type 0} → (A → LinkSeen) → ConnOf A → ConnSeen
-seen_by f c = record { stream = stream_by f c.stream; ledger = c.ledger; call = c.call; depth = c.depth; change = c.change; broken = c.broken; groups = c.groups; heard = c.heard; sent = c.sent; read = c.read }
+seen_by f c = record { stream = stream_by f c.stream; ledger = c.ledger; call = c.call; rule = c.rule; change = c.change; broken = c.broken; groups = c.groups; heard = c.heard; sent = c.sent; read = c.read }
 
 -- behind start-up, before any call
 abbrev pub fresh_connection : {A : Type 0} → StreamOf A → ℕ → ℕ → ConnOf A
-fresh_connection stream sent read = record { stream = stream; ledger = owes_none; call = calls.Idle; depth = 0; change = changes.Stays; broken = None; groups = 0; heard = 0; sent = sent; read = read }
+fresh_connection stream sent read = record { stream = stream; ledger = owes_none; call = calls.Idle; rule = new_rule 0; change = changes.Stays; broken = None; groups = 0; heard = 0; sent = sent; read = read }
 
 abbrev pub runs : Call → Bool
 runs calls.Idle = false
@@ -65,9 +67,13 @@ depth_behind changes.Opens groups depth = if nat_eq groups 0 then depth else min
 depth_behind changes.Closes groups depth = depth - 1
 depth_behind changes.Stays groups depth = depth
 
+-- so many are open then
+abbrev pub with_depth : ℕ → Rule → Rule
+with_depth depth rule = record rule { depth = depth }
+
 -- behind an Ok
 abbrev pub settled : {A : Type 0} → ConnOf A → ConnOf A
-settled c = record c { depth = depth_behind c.change c.groups c.depth; change = changes.Stays }
+settled c = record c { rule = with_depth (depth_behind c.change c.groups c.rule.depth) c.rule; change = changes.Stays }
 
 -- a begin that has queued its group, outside of any transaction: it may open one
 abbrev pub may_open : Change → ℕ → ℕ → Bool
@@ -97,7 +103,7 @@ ended c = record c { change = changes.Stays }
 
 -- behind an end that is no Ok: the transaction that a begin may have opened is rolled back
 abbrev pub cleaned : {A : Type 0} → ConnOf A → ConnOf A
-cleaned c = ended (if may_open c.change c.groups c.depth then queued_group (spelled (rollback 0)) c else c)
+cleaned c = ended (if may_open c.change c.groups c.rule.depth then queued_group (spelled (rollback 0)) c else c)
 
 -- a call that runs is given up
 abbrev pub left : {A : Type 0} → ConnOf A → ConnOf A
@@ -117,7 +123,7 @@ handed request c = record c { call = calls.Asked request }
 
 -- a rollback without a call: one is open no more, and the rollback is queued
 abbrev pub rolled : {A : Type 0} → ConnOf A → ConnOf A
-rolled c = if nat_eq c.depth 0 then c else queued_group (spelled (rollback (c.depth - 1))) (record c { depth = c.depth - 1 })
+rolled c = if nat_eq c.rule.depth 0 then c else queued_group (spelled (rollback (c.rule.depth - 1))) (record c { rule = with_depth (c.rule.depth - 1) c.rule })
 
 abbrev pub rolled_back : {A : Type 0} → ConnOf A → ConnOf A
 rolled_back c = rolled (ended (counted_anew (left c)))

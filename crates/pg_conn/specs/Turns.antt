@@ -13,7 +13,7 @@ use Rattle.pg_wire.specs.Parts.{heard, is_asynchronous}
 use Rattle.pg_wire.specs.Frontend.{FrontendMessage, Query, Sync}
 use Rattle.pg_stream.specs.declared.stream.Front.{Front}
 use Rattle.pg_stream.specs.Links.{GrewBy}
-use Rattle.pg_stream.specs.Streams.{IsFrontOf, framed, StreamOf, Moves, AllMoved, NoneWaited, Passes, WriteWaited, IsSpent, PendingCause, HeardCause}
+use Rattle.pg_stream.specs.Streams.{IsFrontOf, framed, StreamOf, Moves, AllMoved, NoneWaited, Passes, WriteWaited, IsSpent, PendingCause, HeardCause, fuel_of}
 use Rattle.pg_call.specs.declared.ledger.Ledger.{Ledger}
 use Rattle.pg_call.specs.declared.request.Request.{Request}
 use Rattle.pg_call.specs.declared.request.Request.TheVariants as requests
@@ -85,7 +85,7 @@ HasRoom c = HasRoomBeside 0 c
 
 -- and for the rollback of each transaction and savepoint that is open, of 64 bytes at most
 abbrev pub HasAllRoom : {A : Type 0} → ConnOf A → Type 0
-HasAllRoom c = HasRoomBeside (64 * c.depth) c
+HasAllRoom c = HasRoomBeside (64 * c.rule.depth) c
 
 -- nothing is left to do but to send: for a flush behind the last reply that is owed, and for a close behind its last frame
 abbrev pub only_sends : Ledger → Call → Bool
@@ -127,14 +127,24 @@ pub record Turns (a b : ConnSeen) (beat : Beat) (q : List ℕ) (fs hs : List Fra
   pub cause : BeatCause a b beat
   pub broken : b.broken ≡ a.broken
   pub counted : GrewBy (length hs) a.heard b.heard
-  pub started : (b.sent ≡ a.sent) × (b.read ≡ a.read) × (b.depth ≡ a.depth) × (b.change ≡ a.change)
+  pub started : (b.sent ≡ a.sent) × (b.read ≡ a.read) × (b.rule ≡ a.rule) × (b.change ≡ a.change)
   pub asked : IsAsked b.call → IsAsked a.call
-  pub room : (n : ℕ) → n ≤ 64 * a.depth → HasRoomBeside n a → HasRoomBeside n b
+  pub room : (n : ℕ) → n ≤ 64 * a.rule.depth → HasRoomBeside n a → HasRoomBeside n b
   pub tells : (start : Ledger) (r : Request) (said : List FrontendMessage) (hs' : List Frame) (items : List CallItem) → CallIs start r said hs' items a.ledger a.call
       → TellsOf a b start r said (hs' ++ hs) items beat q
 
 abbrev pub TakesBeat : ConnSeen → ConnSeen → Beat → Type 0
 TakesBeat a b beat = (q : List ℕ) × (fs : List Frame) × (hs : List Frame) × Turns a b beat q fs hs
+
+-- the poll goes on behind it: in this exchange, or in the next one
+abbrev pub GoesOn : Beat → Type 0
+GoesOn beats.More = Unit {0}
+GoesOn (beats.Ends (Ok (answers.Next next))) = Unit {0}
+GoesOn _ = ⊥
+
+-- so many bytes are held, or may still be read in this poll, that they run out
+abbrev pub Falls : ConnSeen → ConnSeen → Beat → Type 0
+Falls a b beat = GoesOn beat → fuel_of b.stream < fuel_of a.stream
 
 -- ---- what stands between the steps of a beat
 
@@ -242,16 +252,19 @@ hands_on next = Ready (turns.Ok (answers.Next next))
 abbrev pub HandsOnNone : Poll Turn → Type 0
 HandsOnNone answer = (next : Request) → answer ≡ hands_on next → ⊥
 
--- An exchange ended in a poll, and handed on the next one, which goes on in the same poll with the calls of the link that were left.
-pub record PollsTwo (begun b : ConnSeen) (answer : Poll Turn) : Type 0 where
-  pub next : Request
-  pub between : ConnSeen
-  pub first : Polled begun between (beat_of (hands_on next))
-  pub second : Polled (handed next between) b (beat_of answer)
+-- Exchanges ended in a poll one after another, and each handed on the next of these; the last of them begins on this connection.
+abbrev pub HandsOver : ConnSeen → List Request → ConnSeen → Type 0
+HandsOver begun [] last = last ≡ begun
+HandsOver begun (next ∷ later) last = (between : ConnSeen) × Polled begun between (beat_of (hands_on next)) × HandsOver (handed next between) later last
 
--- one poll of a call: of the exchange that runs, or of it and of the next one
-abbrev pub PollsThrough : ConnSeen → ConnSeen → Poll Turn → Type 0
-PollsThrough begun b answer = (Polled begun b (beat_of answer) × HandsOnNone answer) ⊎ PollsTwo begun b answer
+-- One poll of a call: of the exchange that runs, and of those that are handed on in it, each of which goes on with the calls of the link that
+-- were left.
+pub record PollsThrough (begun b : ConnSeen) (answer : Poll Turn) : Type 0 where
+  pub later : List Request
+  pub last : ConnSeen
+  pub hands : HandsOver begun later last
+  pub polled : Polled last b (beat_of answer)
+  pub none : HandsOnNone answer
 
 -- one poll of a call, which begins with this connection, or answers at once where the connection is broken
 abbrev pub PollsBy : Option ServerFault → ConnSeen → ConnSeen → ConnSeen → Poll Turn → Type 0

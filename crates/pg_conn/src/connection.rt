@@ -5,6 +5,7 @@ ghost use Rattle.pg_conn.specs.Turns.{level_of};
 
 use crate::{CacheStep, Progress, Request};
 use pg_call::{Call, Change, Running, rollback_frame};
+use pg_rule::Rule;
 use pg_startup::Ready;
 use pg_stream::PgStream;
 use pg_wire::{Error, ServerFault};
@@ -12,12 +13,11 @@ use std::alloc::Global;
 use std::marker::Model;
 
 /// A connection behind its start-up, and the call that runs on it.
-#[derive(Drop)]
 pub struct PgConnection<L> {
     pub(crate) alloc: Global,
     pub(crate) stream: PgStream<L>,
     pub(crate) running: Running,
-    depth: u64,
+    rule: Rule,
     change: Change,
     pub(crate) broken: Option<ServerFault>,
     pub(crate) groups: u64,
@@ -26,12 +26,30 @@ pub struct PgConnection<L> {
     read: u64,
 }
 
+// By hand, so that whoever lets one go makes one call, and doesn't go through its parts.
+impl<L: Drop> Drop for PgConnection<L> {
+    fn drop(self) {
+        let PgConnection {
+            alloc: _,
+            stream: _,
+            running: _,
+            rule: _,
+            change: _,
+            broken: _,
+            groups: _,
+            heard: _,
+            sent: _,
+            read: _,
+        } = self;
+    }
+}
+
 impl<L> Model for PgConnection<L> {
     ghost use Rattle.pg_conn.specs.Connections.{ConnOf};
 
     ghost Value = { ConnOf L };
 
-    ghost view = { λ c. record { stream = c.stream; ledger = c.running.ledger; call = c.running.call; depth = c.depth; change = c.change; broken = c.broken; groups = c.groups; heard = c.heard; sent = c.sent; read = c.read } };
+    ghost view = { λ c. record { stream = c.stream; ledger = c.running.ledger; call = c.running.call; rule = c.rule; change = c.change; broken = c.broken; groups = c.groups; heard = c.heard; sent = c.sent; read = c.read } };
 }
 
 impl<L> PgConnection<L> {
@@ -49,7 +67,7 @@ impl<L> PgConnection<L> {
             alloc,
             stream,
             running: Running::new(),
-            depth: 0,
+            rule: Rule::new(alloc, 0),
             change: Change::Stays,
             broken: None,
             groups: 0,
@@ -99,7 +117,7 @@ impl<L> PgConnection<L> {
             alloc: _,
             stream,
             running: _,
-            depth: _,
+            rule: _,
             change: _,
             broken: _,
             groups: _,
@@ -147,16 +165,16 @@ impl<L> PgConnection<L> {
 
     /// How many transactions and savepoints are open.
     pub fn transaction_depth(&self) -> u64
-        ensures { result ≡ self.now.depth }
+        ensures { result ≡ self.now.rule.depth }
     {
-        self.depth
+        self.rule.depth
     }
 
     // Whether the call is a begin that may have opened a transaction.
     fn may_open(&self) -> bool
-        ensures { result ≡ may_open self.now.change self.now.groups self.now.depth }
+        ensures { result ≡ may_open self.now.change self.now.groups self.now.rule.depth }
     {
-        self.groups > 0 && self.depth == 0 && matches!(self.change, Change::Opens)
+        self.groups > 0 && self.rule.depth == 0 && matches!(self.change, Change::Opens)
     }
 
     // The bytes that are kept for the rollback of what a begin may open, once so many groups of it are queued.
@@ -186,10 +204,10 @@ impl<L> PgConnection<L> {
     pub(crate) fn settle(&mut self)
         ensures { self.new ≡ settled self.old }
     {
-        self.depth = match self.change {
-            Change::Opens if self.groups > 0 => self.depth.saturating_add(1),
-            Change::Closes => self.depth.saturating_sub(1),
-            Change::Opens | Change::Stays => self.depth,
+        self.rule.depth = match self.change {
+            Change::Opens if self.groups > 0 => self.rule.depth.saturating_add(1),
+            Change::Closes => self.rule.depth.saturating_sub(1),
+            Change::Opens | Change::Stays => self.rule.depth,
         };
         self.change = Change::Stays;
     }
@@ -240,9 +258,9 @@ impl<L> PgConnection<L> {
         self.abandon();
         self.change = Change::Stays;
         self.count_anew();
-        if self.depth > 0 {
-            self.depth -= 1;
-            self.queue_group(&rollback_frame(self.depth));
+        if self.rule.depth > 0 {
+            self.rule.depth -= 1;
+            self.queue_group(&rollback_frame(self.rule.depth));
         }
     }
 

@@ -20,13 +20,13 @@ pub fn an_unpolled_call_does_nothing()
 /// A call that is given up, and that is no begin which may have opened a transaction, leaves all but itself as it is: what it queued stays
 /// queued, and its reply stays owed.
 pub fn a_dropped_call_stays_owed()
-    ensures { (c : ConnSeen) → may_open c.change c.groups c.depth ≡ false → ((left c).ledger ≡ c.ledger) × ((left c).stream ≡ c.stream) }
+    ensures { (c : ConnSeen) → may_open c.change c.groups c.rule.depth ≡ false → ((left c).ledger ≡ c.ledger) × ((left c).stream ≡ c.stream) }
 {}
 
 /// A begin that is given up once its group is queued, outside of any transaction, is followed by a rollback: one reply more is owed. There is
 /// room for it, which takes no memory.
 pub fn a_dropped_begin_is_rolled_back()
-    ensures { (c : ConnSeen) → runs c.call ≡ true → may_open c.change c.groups c.depth ≡ true → HasRoom c → c.ledger.owed < 2 ^ 64 - 1 → left c ≡ idle (ended (with_group (spelled (rollback 0)) c)) }
+    ensures { (c : ConnSeen) → runs c.call ≡ true → may_open c.change c.groups c.rule.depth ≡ true → HasRoom c → c.ledger.owed < 2 ^ 64 - 1 → left c ≡ idle (ended (with_group (spelled (rollback 0)) c)) }
 {}
 
 /// A request that no frame can say, for a zero byte in its text or for its length, is refused by its first poll, which does nothing
@@ -66,6 +66,6 @@ pub fn a_connection_has_room_for_its_rollbacks()
     ensures more { (a b : ConnSeen) (answer : Poll Turn) → HasAllRoom a → PollsMore a b answer → HasAllRoom b }
     ensures starts { (a : ConnSeen) (request : Request) → HasAllRoom a → HasAllRoom (started_call request a) }
     ensures leaves { (a : ConnSeen) → HasAllRoom a → HasAllRoom (left a) }
-    ensures rolls_back { (a : ConnSeen) → a.depth < 2 ^ 64 → HasAllRoom a → HasAllRoom (rolled_back a) }
+    ensures rolls_back { (a : ConnSeen) → a.rule.depth < 2 ^ 64 → HasAllRoom a → HasAllRoom (rolled_back a) }
     ensures fresh { (stream : StreamSeen) (sent read : ℕ) → HasAllRoom (fresh_connection stream sent read) }
 {}

@@ -1,13 +1,13 @@
-ghost use Rattle.std.specs.Prelude.{◌≡◌, ◌≢◌, ◌+◌, ◌*◌, ◌-◌, ◌<◌, ◌≤◌, ◌⊎◌, ◌==◌, ◌&&◌, true, false, [], None, IsSome, OnOk, OnErr, IfErr};
+ghost use Rattle.std.specs.Prelude.{◌≡◌, ◌≢◌, ◌+◌, ◌*◌, ◌-◌, ◌<◌, ◌≤◌, ◌⊎◌, ◌==◌, ◌&&◌, true, false, [], None, IsSome, OnOk, OnErr, IfOk, IfErr};
 ghost use Rattle.pg_stream.specs.Links.{GrewBy};
-ghost use Rattle.pg_stream.specs.Streams.{stream_by, fuel_of, IsHeardFront, Passes};
+ghost use Rattle.pg_stream.specs.Streams.{IsHeardFront, Passes};
 ghost use Rattle.pg_conn.specs.Connections.{seen_by, ended, idle, begun_with, begun_by, is_over, runs, with_spare, queued_call, awaiting, closing};
 ghost use Rattle.pg_call.specs.Calls.{IsAwaiting};
 ghost use Rattle.pg_call.specs.Hearing.{IsReplied, keeps_now, waits};
 ghost use Rattle.pg_call.specs.declared.kind.Kind as declared_kind;
 ghost use Rattle.pg_call.specs.declared.request.Request as declared_request;
 ghost use Rattle.pg_conn.specs.States.{IsCalling, PollFits};
-ghost use Rattle.pg_conn.specs.Turns.{level_of, TakesBeat, HearsFront, Prepares, Readies, Refuses, Accepts, IsAsked, IsSayable, Refused, IsAhead, only_sends, flushes, is_flushed, EndsFlush, queued_copy_fail, Polled, PollsThrough, PollsWithin, PollsCall, PollsMore, beat_of, broken_by, hands_on};
+ghost use Rattle.pg_conn.specs.Turns.{level_of, TakesBeat, Falls, GoesOn, HearsFront, Prepares, Readies, Refuses, Accepts, IsAsked, IsSayable, Refused, IsAhead, only_sends, flushes, is_flushed, EndsFlush, queued_copy_fail, Polled, PollsThrough, PollsWithin, PollsCall, PollsMore, beat_of, broken_by, hands_on, HandsOnNone};
 
 use crate::{PgConnection, Request, Turn};
 use pg_call::{Beat, Call, CallAnswer, Taken};
@@ -27,6 +27,17 @@ fn fault_in(error: &Error) -> Option<ServerFault>
     match error {
         Error::Protocol(ProtocolFault::Server(fault)) => Some(*fault),
         _ => None,
+    }
+}
+
+// What is asked next, where the exchange hands it on, or else the answer of the poll.
+fn next_of(answer: Poll<Turn>) -> Result<Request, Poll<Turn>>
+    ensures next { IfOk result (λ next. answer ≡ hands_on next) }
+    ensures last { IfErr result (λ same. (same ≡ answer) × HandsOnNone answer) }
+{
+    match answer {
+        Poll::Ready(Turn::Ok(CallAnswer::Next(next))) => Ok(next),
+        answer => Err(answer),
     }
 }
 
@@ -97,7 +108,7 @@ impl<L> PgConnection<L> {
         requires { bytes ≤ 192 }
         ensures now { self.new ≡ with_spare self.new.stream.spare self.old }
         ensures spare { self.old.stream.spare ≤ self.new.stream.spare }
-        ensures ok { OnOk result (64 * self.new.depth + bytes ≤ self.new.stream.spare) }
+        ensures ok { OnOk result (64 * self.new.rule.depth + bytes ≤ self.new.stream.spare) }
         ensures err { IfErr result (λ e. e ≡ Error.OutOfMemory) }
     {
         let room = match self.transaction_depth().checked_mul(64) {
@@ -116,7 +127,7 @@ impl<L> PgConnection<L> {
         ensures err { OnErr result (self.new ≡ with_spare self.new.stream.spare self.old) }
         ensures memory { IfErr result (λ e. e ≡ Error.OutOfMemory) }
         ensures spare { self.old.stream.spare ≤ self.new.stream.spare }
-        ensures reserve { OnOk result (64 * self.new.depth + level_of self.new.change 1 + 128 ≤ self.new.stream.spare) }
+        ensures reserve { OnOk result (64 * self.new.rule.depth + level_of self.new.change 1 + 128 ≤ self.new.stream.spare) }
     {
         let bytes = self.level(1) + RESERVE;
         self.reserve(bytes)?;
@@ -130,7 +141,7 @@ impl<L> PgConnection<L> {
     fn make_room(&mut self, front: Front) -> Result<(), Error>
         ensures now { self.new ≡ with_spare self.new.stream.spare self.old }
         ensures spare { self.old.stream.spare ≤ self.new.stream.spare }
-        ensures ok { OnOk result (front.tag ≡ 71 → 64 * self.new.depth + level_of self.new.change self.new.groups + 57 ≤ self.new.stream.spare) }
+        ensures ok { OnOk result (front.tag ≡ 71 → 64 * self.new.rule.depth + level_of self.new.change self.new.groups + 57 ≤ self.new.stream.spare) }
         ensures err { IfErr result (λ e. e ≡ Error.OutOfMemory) }
     {
         if front.tag == b'G' {
@@ -266,11 +277,11 @@ impl<L: Link> PgConnection<L> {
     fn judge_front(&mut self, front: Front) -> Beat
         requires awaiting { IsAwaiting self.old.ledger self.old.call }
         requires front { IsHeardFront self.old.stream.held front }
-        requires room { front.tag ≡ 71 → 64 * self.old.depth + level_of self.old.change self.old.groups + 57 ≤ self.old.stream.spare }
+        requires room { front.tag ≡ 71 → 64 * self.old.rule.depth + level_of self.old.change self.old.groups + 57 ≤ self.old.stream.spare }
         requires sent { self.old.stream.unsent ≡ [] }
         ensures beat { TakesBeat (seen_by L.seen self.old) (seen_by L.seen self.new) result }
         ensures goes { result ≢ Beat.Waits }
-        ensures falls { result ≡ Beat.More → fuel_of (stream_by L.seen self.new.stream) < fuel_of (stream_by L.seen self.old.stream) }
+        ensures falls { Falls (seen_by L.seen self.old) (seen_by L.seen self.new) result }
     {
         match self.hear_front(front) {
             Ok(taken) => {
@@ -287,7 +298,7 @@ impl<L: Link> PgConnection<L> {
         requires front { IsHeardFront self.old.stream.held front }
         requires sent { self.old.stream.unsent ≡ [] }
         ensures beat { TakesBeat (seen_by L.seen self.old) (seen_by L.seen self.new) result }
-        ensures falls { result ≡ Beat.More → fuel_of (stream_by L.seen self.new.stream) < fuel_of (stream_by L.seen self.old.stream) }
+        ensures falls { Falls (seen_by L.seen self.old) (seen_by L.seen self.new) result }
     {
         match self.make_room(front) {
             Ok(()) => self.judge_front(front),
@@ -299,7 +310,7 @@ impl<L: Link> PgConnection<L> {
     fn hear(&mut self) -> Beat
         requires { IsAwaiting self.old.ledger self.old.call }
         ensures beat { TakesBeat (seen_by L.seen self.old) (seen_by L.seen self.new) result }
-        ensures falls { result ≡ Beat.More → fuel_of (stream_by L.seen self.new.stream) < fuel_of (stream_by L.seen self.old.stream) }
+        ensures falls { Falls (seen_by L.seen self.old) (seen_by L.seen self.new) result }
     {
         match self.stream.poll_ahead(self.alloc) {
             Poll::Pending => Beat::Waits,
@@ -312,7 +323,7 @@ impl<L: Link> PgConnection<L> {
     fn send_rest(&mut self) -> Beat
         requires { only_sends self.old.ledger self.old.call ≡ true }
         ensures beat { TakesBeat (seen_by L.seen self.old) (seen_by L.seen self.new) result }
-        ensures goes { result ≢ Beat.More }
+        ensures goes { GoesOn result → ⊥ }
     {
         match self.stream.poll_send() {
             Poll::Pending => Beat::Waits,
@@ -325,7 +336,7 @@ impl<L: Link> PgConnection<L> {
     fn go_ahead(&mut self) -> Beat
         requires { IsAhead self.old.ledger self.old.call }
         ensures beat { TakesBeat (seen_by L.seen self.old) (seen_by L.seen self.new) result }
-        ensures falls { result ≡ Beat.More → fuel_of (stream_by L.seen self.new.stream) < fuel_of (stream_by L.seen self.old.stream) }
+        ensures falls { Falls (seen_by L.seen self.old) (seen_by L.seen self.new) result }
     {
         match self.running.call {
             Call::Closing => self.send_rest(),
@@ -337,7 +348,7 @@ impl<L: Link> PgConnection<L> {
     fn go_on(&mut self) -> Beat
         requires asked { IsAsked self.old.call → ⊥ }
         ensures beat { TakesBeat (seen_by L.seen self.old) (seen_by L.seen self.new) result }
-        ensures falls { result ≡ Beat.More → fuel_of (stream_by L.seen self.new.stream) < fuel_of (stream_by L.seen self.old.stream) }
+        ensures falls { Falls (seen_by L.seen self.old) (seen_by L.seen self.new) result }
     {
         if self.only_sends() {
             return self.send_rest();
@@ -353,6 +364,7 @@ impl<L: Link> PgConnection<L> {
         requires asked { IsAsked self.old.call → ⊥ }
         ensures beat { TakesBeat (seen_by L.seen self.old) (seen_by L.seen self.new) result }
         ensures ends { result ≢ Beat.More }
+        ensures falls { Falls (seen_by L.seen self.old) (seen_by L.seen self.new) result }
     {
         loop {
             match self.go_on() {
@@ -370,6 +382,7 @@ impl<L: Link> PgConnection<L> {
         ensures flush { EndsFlush (seen_by L.seen self.old) (seen_by L.seen self.new) result }
         ensures asked { IsAsked self.new.call → ⊥ }
         ensures ends { result ≢ Beat.More }
+        ensures falls { Falls (seen_by L.seen self.old) (seen_by L.seen self.new) result }
     {
         if self.is_flushed() {
             return self.stop(Ok(CallAnswer::Unit));
@@ -387,6 +400,7 @@ impl<L: Link> PgConnection<L> {
         requires { self.old.broken ≡ None }
         ensures polled { Polled (seen_by L.seen self.old) (seen_by L.seen self.new) (beat_of result) }
         ensures whole { (next : declared_request.Request) → result ≡ hands_on next → self.new.broken ≡ None }
+        ensures falls { Falls (seen_by L.seen self.old) (seen_by L.seen self.new) (beat_of result) }
     {
         match self.beat() {
             Beat::More | Beat::Waits => Poll::Pending,
@@ -417,12 +431,11 @@ impl<L: Link> PgConnection<L> {
         requires { self.old.broken ≡ None }
         ensures { PollsThrough (seen_by L.seen self.old) (seen_by L.seen self.new) result }
     {
-        match self.poll_on() {
-            Poll::Ready(Turn::Ok(CallAnswer::Next(request))) => {
-                self.hand_on(request);
-                self.poll_on()
+        loop {
+            match next_of(self.poll_on()) {
+                Ok(next) => self.hand_on(next),
+                Err(answer) => return answer,
             }
-            answer => answer,
         }
     }
 

@@ -53,7 +53,7 @@ impl<C: PgExecutor> BeginTransaction<C> {
 
     // Whether the text is refused, since a transaction is open.
     fn is_misplaced(&self) -> bool
-        ensures { (c : C) → self.now.conn ≡ Some c → result ≡ is_misplaced self.now.request (C.conn c).depth }
+        ensures { (c : C) → self.now.conn ≡ Some c → result ≡ is_misplaced self.now.request (C.conn c).rule.depth }
     {
         match &self.conn {
             Some(conn) => is_misplaced(&self.request, conn.conn_ref().transaction_depth()),
@@ -99,9 +99,9 @@ impl<C: PgExecutor> BeginTransaction<C> {
     pub fn poll(&mut self) -> Poll<Result<Transaction<C>, Error>>
         requires over { is_done C.conn self.old.is_refused self.old.request self.old.conn ≡ false }
         requires calling { IsBeginning C.conn self.old.request self.old.conn }
-        ensures refuses { (c : C) → self.old.conn ≡ Some c → is_misplaced self.old.request (C.conn c).depth ≡ true → (self.new ≡ record self.old { is_refused = true }) × (result ≡ Ready (Err Error.InvalidSavePointStatement)) }
-        ensures asked { (c : C) → self.old.conn ≡ Some c → is_misplaced self.old.request (C.conn c).depth ≡ false → (self.new.request ≡ None) × (self.new.is_refused ≡ self.old.is_refused) }
-        ensures polls { (c : C) → self.old.conn ≡ Some c → is_misplaced self.old.request (C.conn c).depth ≡ false → PollsBegin C.conn C.with_conn C.L.seen (λ guard. guard.conn) self.old.request c self.new.conn result }
+        ensures refuses { (c : C) → self.old.conn ≡ Some c → is_misplaced self.old.request (C.conn c).rule.depth ≡ true → (self.new ≡ record self.old { is_refused = true }) × (result ≡ Ready (Err Error.InvalidSavePointStatement)) }
+        ensures asked { (c : C) → self.old.conn ≡ Some c → is_misplaced self.old.request (C.conn c).rule.depth ≡ false → (self.new.request ≡ None) × (self.new.is_refused ≡ self.old.is_refused) }
+        ensures polls { (c : C) → self.old.conn ≡ Some c → is_misplaced self.old.request (C.conn c).rule.depth ≡ false → PollsBegin C.conn C.with_conn C.L.seen (λ guard. guard.conn) self.old.request c self.new.conn result }
         ensures calling { StaysBeginning C.conn self.new.request self.new.conn result }
     {
         if self.is_misplaced() {

@@ -43,7 +43,7 @@ pub fn a_commit_that_is_never_polled<C: PgExecutor>(guard: Transaction<C>) -> C
 pub fn a_commit_that_is_polled_once<C: PgExecutor>(
     guard: Transaction<C>,
 ) -> (C, Poll<Result<(), Error>>)
-    ensures { (b : ConnOf C.L) × PollsCall (seen_by C.L.seen (started_call (commit_of (C.conn guard.conn).depth) (C.conn guard.conn))) (seen_by C.L.seen b) (turn_of unit_turn result.1) × (result.0 ≡ C.with_conn guard.conn (left_due (stays_due true result.1) b)) }
+    ensures { (b : ConnOf C.L) × PollsCall (seen_by C.L.seen (started_call (commit_of (C.conn guard.conn).rule.depth) (C.conn guard.conn))) (seen_by C.L.seen b) (turn_of unit_turn result.1) × (result.0 ≡ C.with_conn guard.conn (left_due (stays_due true result.1) b)) }
 {
     let mut state = guard.commit();
     let answer = state.poll();
@@ -63,7 +63,7 @@ fn held<C: PgExecutor>(state: BeginTransaction<C>) -> C
 
 /// A begin that is polled once, and given up with what it answers: the connection is what that poll has left of it, and is rolled back behind an Ok.
 pub fn a_transaction_that_is_given_up<C: PgExecutor>(conn: C) -> (C, Poll<Result<(), Error>>)
-    ensures { (b : ConnOf C.L) × PollsCall (seen_by C.L.seen (started_call (requests.Begin (C.conn conn).depth) (C.conn conn))) (seen_by C.L.seen b) (turn_of unit_turn result.1) × (result.0 ≡ C.with_conn conn (given_up result.1 b)) }
+    ensures { (b : ConnOf C.L) × PollsCall (seen_by C.L.seen (started_call (requests.Begin (C.conn conn).rule.depth) (C.conn conn))) (seen_by C.L.seen b) (turn_of unit_turn result.1) × (result.0 ≡ C.with_conn conn (given_up result.1 b)) }
 {
     let mut state = Transaction::begin(conn);
     match state.poll() {

@@ -18,10 +18,10 @@ impl PgTransactionManager {
     ) -> Result<Begin<'_, L>, Error>
         ensures same { IfOk result (λ call. call.conn.ghost_name ≡ conn.entry.ghost_name) }
         ensures conn { IfOk result (λ call. call.conn.now ≡ conn.old) }
-        ensures request { IfOk result (λ call. call.request ≡ Some (begin_of conn.old.depth statement)) }
+        ensures request { IfOk result (λ call. call.request ≡ Some (begin_of conn.old.rule.depth statement)) }
         ensures calling { IfOk result (λ call. IsCallingPlainly (begun_by call.request call.conn.now)) }
-        ensures outside { OnOk result (IfSome statement (λ sql. conn.old.depth ≡ 0)) }
-        ensures err { IfErr result (λ e. (e ≡ Error.InvalidSavePointStatement) × IsSome statement × (0 < conn.old.depth)) }
+        ensures outside { OnOk result (IfSome statement (λ sql. conn.old.rule.depth ≡ 0)) }
+        ensures err { IfErr result (λ e. (e ≡ Error.InvalidSavePointStatement) × IsSome statement × (0 < conn.old.rule.depth)) }
     {
         match statement {
             Some(sql) => conn.begin_with(sql),
@@ -34,7 +34,7 @@ impl PgTransactionManager {
     pub fn commit<L>(conn: &mut PgConnection<L>) -> Commit<'_, L>
         ensures same { result.conn.ghost_name ≡ conn.entry.ghost_name }
         ensures conn { result.conn.now ≡ conn.old }
-        ensures request { result.request ≡ Some (commit_of conn.old.depth) }
+        ensures request { result.request ≡ Some (commit_of conn.old.rule.depth) }
         ensures calling { IsCallingPlainly (begun_by result.request result.conn.now) }
     {
         conn.commit()
@@ -45,7 +45,7 @@ impl PgTransactionManager {
     pub fn rollback<L>(conn: &mut PgConnection<L>) -> Rollback<'_, L>
         ensures same { result.conn.ghost_name ≡ conn.entry.ghost_name }
         ensures conn { result.conn.now ≡ conn.old }
-        ensures request { result.request ≡ Some (rollback_of conn.old.depth) }
+        ensures request { result.request ≡ Some (rollback_of conn.old.rule.depth) }
         ensures calling { IsCallingPlainly (begun_by result.request result.conn.now) }
     {
         conn.rollback()
@@ -61,7 +61,7 @@ impl PgTransactionManager {
 
     /// How many transactions and savepoints are open.
     pub fn get_transaction_depth<L>(conn: &PgConnection<L>) -> u64
-        ensures { result ≡ conn.now.depth }
+        ensures { result ≡ conn.now.rule.depth }
     {
         conn.transaction_depth()
     }

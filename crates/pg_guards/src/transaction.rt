@@ -25,7 +25,7 @@ impl<C: PgExecutor> Transaction<C> {
     /// Opens a transaction, or a savepoint where one is open. (PostgreSQL manual, "SQL Commands", BEGIN, SAVEPOINT.)
     pub fn begin(conn: C) -> BeginTransaction<C>
         ensures conn { result.conn ≡ Some conn }
-        ensures request { result.request ≡ Some (requests.Begin (C.conn conn).depth) }
+        ensures request { result.request ≡ Some (requests.Begin (C.conn conn).rule.depth) }
         ensures refused { result.is_refused ≡ false }
         ensures calling { IsBeginning C.conn result.request result.conn }
     {
@@ -54,7 +54,7 @@ impl<C: PgExecutor> Transaction<C> {
     /// Commits the transaction, or releases its savepoint. (PostgreSQL manual, "SQL Commands", COMMIT, RELEASE SAVEPOINT.)
     pub fn commit(self) -> EndTransaction<C>
         ensures conn { result.conn ≡ self.conn }
-        ensures request { result.request ≡ Some (commit_of (C.conn self.conn).depth) }
+        ensures request { result.request ≡ Some (commit_of (C.conn self.conn).rule.depth) }
         ensures due { result.is_due ≡ true }
         ensures calling { IsCallingPlainly (begun_by result.request (C.conn result.conn)) }
     {
@@ -67,7 +67,7 @@ impl<C: PgExecutor> Transaction<C> {
     /// (PostgreSQL manual, "SQL Commands", ROLLBACK, ROLLBACK TO SAVEPOINT.)
     pub fn rollback(self) -> EndTransaction<C>
         ensures conn { result.conn ≡ self.conn }
-        ensures request { result.request ≡ Some (rollback_of (C.conn self.conn).depth) }
+        ensures request { result.request ≡ Some (rollback_of (C.conn self.conn).rule.depth) }
         ensures due { result.is_due ≡ true }
         ensures calling { IsCallingPlainly (begun_by result.request (C.conn result.conn)) }
     {

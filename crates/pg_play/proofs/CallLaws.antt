@@ -1,6 +1,7 @@
 -- One more poll of an exchange of a call that is played.
 use Rattle.std.proofs.Common.{◌≡◌, ◌≢◌, ◌⊎◌, ℕ, ◌+◌, ◌*◌, ◌<◌, ◌≤◌, inl, inr, cond, Bool, true, false, List, [], ◌∷◌, ◌++◌, length, map, refl, sym, ap, ◌∙◌, subst, arith, append_assoc, Option, Some, None, Ok, Err, not, ◌&&◌, nat_eq, Result, ◌-◌}
 use Rattle.pg_call.specs.declared.kind.Change.{Change}
+use Rattle.pg_rule.specs.declared.rule.Rule.{Rule}
 use Rattle.pg_wire.specs.declared.status.TransactionStatus.TheVariants as statuses
 use Rattle.pg_wire.specs.declared.status.TransactionStatus.{TransactionStatus}
 use Rattle.pg_call.specs.declared.kind.Change.TheVariants as changes
@@ -35,7 +36,7 @@ use Rattle.pg_call.specs.declared.ledger.Ledger.{Ledger}
 use Rattle.pg_call.specs.Requests.{spelled, CanBeSaid, IsRefusal, kind_of, change_of}
 use Rattle.pg_call.specs.Calls.{CallIs, Leaves, answer_by}
 use Rattle.pg_call.proofs.LeaveLaws.{leaves_call, call_well}
-use Rattle.pg_conn.specs.Connections.{ConnSeen, idle, begun_with, runs, ended, settled, cleaned, left, may_open, has_room_for, with_group, queued_group, rollback, ConnOf, seen_by, depth_behind, rolled, rolled_back, counted_anew}
+use Rattle.pg_conn.specs.Connections.{ConnSeen, idle, begun_with, runs, ended, settled, cleaned, left, may_open, has_room_for, with_group, queued_group, rollback, ConnOf, seen_by, depth_behind, rolled, rolled_back, counted_anew, with_depth}
 use Rattle.pg_conn.specs.Turns.{ends_request, Tells, IsWaited, BeatCause, IsSayable, Refuses, Refused, broken_by, is_flushed, behind, TakesBeat, EndsFlush, HasAllRoom, HasRoomBeside}
 use Rattle.pg_report.specs.declared.outcome.Item.{Item}
 use Rattle.pg_report.specs.declared.outcome.Answer.{Answer}
@@ -204,7 +205,7 @@ waits_freely left b c (inr (inr (inl x))) = inr (inr (inl x))
 waits_freely left b c (inr (inr (inr x))) = inl x.1.2
 
 went_on : (left : ℕ) (a b c : ConnSeen) (said more : List FrontendMessage) (q : List ℕ) (fs gs : List Frame) → Went a b said fs → Moves (record b.stream { left = left }) c.stream q gs → spelled more ≡ q → GrewBy (count_by ends_request more) b.groups c.groups
-    → GrewBy (length (heard gs)) b.heard c.heard → (c.sent ≡ b.sent) × (c.read ≡ b.read) × (c.depth ≡ b.depth) × (c.change ≡ b.change) → NoneWaited b.stream c.stream ⊎ PendingCause (record b.stream { left = left }) c.stream → Went a c (said ++ more) (fs ++ gs)
+    → GrewBy (length (heard gs)) b.heard c.heard → (c.sent ≡ b.sent) × (c.read ≡ b.read) × (c.rule ≡ b.rule) × (c.change ≡ b.change) → NoneWaited b.stream c.stream ⊎ PendingCause (record b.stream { left = left }) c.stream → Went a c (said ++ more) (fs ++ gs)
 went_on left a b c said more q fs gs w m e g h s waited = record {
   flows = subst (λ (t : List ℕ). Flows a.stream c.stream t (fs ++ gs)) (ap (λ (t : List ℕ). spelled said ++ t) (sym e) ∙ sym (spelled-append said more)) (Flows-then a.stream b.stream c.stream (spelled said) q fs gs w.flows (flows_begun b.stream c.stream left q gs m));
   tallies = Tallies-then a.stream b.stream c.stream w.tallies (tallies_begun left b.stream c.stream m.tallies);
@@ -275,7 +276,7 @@ after_beat left old first a b m r before waits items beat said fs i t whole says
         went = went_on left a b m said told.0 t.0 fs t.1 i.went moves told.1 told.2 grew turns.started (waits_or_not (begun_with left b) m beat turns.cause);
         broken = whole;
         asked = i.asked;
-        room = λ h. subst (λ (n : ℕ). HasRoomBeside (64 * n) m) (sym turns.started.2) (turns.room (64 * b.depth) (omega arith) (i.room h));
+        room = λ h. subst (λ (r : Rule). HasRoomBeside (64 * r.depth) m) (sym turns.started.2) (turns.room (64 * b.rule.depth) (omega arith) (i.room h));
         tells = subst (λ (x : List Frame). Tells a m a.ledger r (said ++ told.0) x items beat) all (tells_from a b m a.ledger r (said ++ told.0) (heard fs ++ t.2) items beat i.went.flows.counts told.3);
         over = over;
         unsaid = refuses_beat left old a b m r before items beat said fs t.1 t.0 i says moves;
@@ -433,10 +434,10 @@ rows_stay _ reply status answer e h = refl
 
 -- nothing is made of the connection by the end of such a call
 settled_stays : (m : ConnSeen) → m.change ≡ changes.Stays → settled m ≡ ended m
-settled_stays m e = ap (λ (c : Change). record m { depth = depth_behind c m.groups m.depth; change = changes.Stays }) e
+settled_stays m e = ap (λ (c : Change). record m { rule = with_depth (depth_behind c m.groups m.rule.depth) m.rule; change = changes.Stays }) e
 
 cleaned_stays : (m : ConnSeen) → m.change ≡ changes.Stays → cleaned m ≡ ended m
-cleaned_stays m e = ap (λ (c : Change). ended (cond (may_open c m.groups m.depth) (queued_group (spelled (rollback 0)) m) m)) e ∙ by (nat_eq m.groups 0) (nat_eq m.depth 0)
+cleaned_stays m e = ap (λ (c : Change). ended (cond (may_open c m.groups m.rule.depth) (queued_group (spelled (rollback 0)) m) m)) e ∙ by (nat_eq m.groups 0) (nat_eq m.rule.depth 0)
   where
     by : (g d : Bool) → ended (cond (not g && (d && false)) (queued_group (spelled (rollback 0)) m) m) ≡ ended m
     by true d = refl
@@ -610,7 +611,7 @@ left_idle : (c : ConnSeen) → c.call ≡ calls.Idle → left c ≡ c
 left_idle c e = rw e refl
 
 cleaned_idle : (c : ConnSeen) → (cleaned c).call ≡ c.call
-cleaned_idle c = by (may_open c.change c.groups c.depth) (has_room_for (spelled (rollback 0)) c)
+cleaned_idle c = by (may_open c.change c.groups c.rule.depth) (has_room_for (spelled (rollback 0)) c)
   where
     by : (b h : Bool) → (ended (cond b (cond h (with_group (spelled (rollback 0)) c) c) c)).call ≡ c.call
     by true true = refl
@@ -624,7 +625,7 @@ behind_idle ends.Dropped c = cleaned_idle c
 
 -- and one that runs is cleaned up behind
 left_running : (c : ConnSeen) → runs c.call ≡ true → left c ≡ cleaned (idle c)
-left_running c e = rw e (by (may_open c.change c.groups c.depth) (has_room_for (spelled (rollback 0)) c))
+left_running c e = rw e (by (may_open c.change c.groups c.rule.depth) (has_room_for (spelled (rollback 0)) c))
   where
     by : (b h : Bool) → idle (ended (cond b (cond h (with_group (spelled (rollback 0)) c) c) c)) ≡ ended (cond b (cond h (with_group (spelled (rollback 0)) (idle c)) (idle c)) (idle c))
     by true true = refl
@@ -634,7 +635,7 @@ left_running c e = rw e (by (may_open c.change c.groups c.depth) (has_room_for (
 behind_other : (end : End) (c : ConnSeen) → behind_end end c ≡ cleaned c → behind_end end (idle c) ≡ cleaned (idle c)
 behind_other (ends.Err e) c h = refl
 behind_other ends.Dropped c h = refl
-behind_other (ends.Ok answer) c h = ap idle h ∙ idled (may_open c.change c.groups c.depth) (has_room_for (spelled (rollback 0)) c)
+behind_other (ends.Ok answer) c h = ap idle h ∙ idled (may_open c.change c.groups c.rule.depth) (has_room_for (spelled (rollback 0)) c)
   where
     idled : (b h : Bool) → idle (ended (cond b (cond h (with_group (spelled (rollback 0)) c) c) c)) ≡ ended (cond b (cond h (with_group (spelled (rollback 0)) (idle c)) (idle c)) (idle c))
     idled true true = refl
@@ -654,7 +655,7 @@ plays_one limits first a c d r shown end out g k e = rw e (by g.2)
 -- ---- over a link
 
 pub seen_left : {A : Type 0} (seen : A → LinkSeen) (c : ConnOf A) → seen_by seen (left c) ≡ left (seen_by seen c)
-seen_left {A} seen c = by (runs c.call) (may_open c.change c.groups c.depth) (has_room_for (spelled (rollback 0)) c)
+seen_left {A} seen c = by (runs c.call) (may_open c.change c.groups c.rule.depth) (has_room_for (spelled (rollback 0)) c)
   where
     by : (r b h : Bool) → seen_by seen (cond r (idle (ended (cond b (cond h (with_group (spelled (rollback 0)) c) c) c))) c)
         ≡ cond r (idle (ended (cond b (cond h (with_group (spelled (rollback 0)) (seen_by seen c)) (seen_by seen c)) (seen_by seen c)))) (seen_by seen c)
@@ -664,10 +665,10 @@ seen_left {A} seen c = by (runs c.call) (may_open c.change c.groups c.depth) (ha
     by true true false = refl
 
 seen_rolled_one : {A : Type 0} (seen : A → LinkSeen) (c : ConnOf A) → seen_by seen (rolled (ended (counted_anew c))) ≡ rolled (ended (counted_anew (seen_by seen c)))
-seen_rolled_one {A} seen c = by (nat_eq c.depth 0) (has_room_for (spelled (rollback (c.depth - 1))) (record (ended (counted_anew c)) { depth = c.depth - 1 }))
+seen_rolled_one {A} seen c = by (nat_eq c.rule.depth 0) (has_room_for (spelled (rollback (c.rule.depth - 1))) (record (ended (counted_anew c)) { rule = with_depth (c.rule.depth - 1) c.rule }))
   where
-    by : (z h : Bool) → seen_by seen (cond z (ended (counted_anew c)) (cond h (with_group (spelled (rollback (c.depth - 1))) (record (ended (counted_anew c)) { depth = c.depth - 1 })) (record (ended (counted_anew c)) { depth = c.depth - 1 })))
-        ≡ cond z (ended (counted_anew (seen_by seen c))) (cond h (with_group (spelled (rollback (c.depth - 1))) (record (ended (counted_anew (seen_by seen c))) { depth = c.depth - 1 })) (record (ended (counted_anew (seen_by seen c))) { depth = c.depth - 1 }))
+    by : (z h : Bool) → seen_by seen (cond z (ended (counted_anew c)) (cond h (with_group (spelled (rollback (c.rule.depth - 1))) (record (ended (counted_anew c)) { rule = with_depth (c.rule.depth - 1) c.rule })) (record (ended (counted_anew c)) { rule = with_depth (c.rule.depth - 1) c.rule })))
+        ≡ cond z (ended (counted_anew (seen_by seen c))) (cond h (with_group (spelled (rollback (c.rule.depth - 1))) (record (ended (counted_anew (seen_by seen c))) { rule = with_depth (c.rule.depth - 1) c.rule })) (record (ended (counted_anew (seen_by seen c))) { rule = with_depth (c.rule.depth - 1) c.rule }))
     by true h = refl
     by false true = refl
     by false false = refl

@@ -52,14 +52,14 @@ abbrev pub Knows : Widths → Place → List Group → List Frame → Place → 
 Knows widths at own slice next = (group : Group) (front : Frame) → own ≡ group ∷ [] → ended next ≡ length at.groups → MayHear (said_in next.groups) (heard next.frames ++ front ∷ []) → BeginsKnowing widths group (main_frames at own slice ++ front ∷ [])
 
 -- where no columns are known, a response
-pub knows_none : (start : StreamSeen) (at : Place) (a b : ConnSeen) (step : Step) (said : List FrontendMessage) (fs : List Frame) (items : List CallItem) (copied : Bool) (end : End) → StandsAt start at a → (s : Summary a.ledger (request_of at.depth step.call) said (heard fs) items b.ledger copied)
-    → widths_of (request_of at.depth step.call) ≡ [] → Knows (widths_of (request_of at.depth step.call)) at s.own (heard fs) (next_place at b said s.own fs end)
+pub knows_none : (start : StreamSeen) (at : Place) (a b : ConnSeen) (step : Step) (said : List FrontendMessage) (fs : List Frame) (items : List CallItem) (copied : Bool) (end : End) → StandsAt start at a → (s : Summary a.ledger (request_of at.rule.depth step.call) said (heard fs) items b.ledger copied)
+    → widths_of (request_of at.rule.depth step.call) ≡ [] → Knows (widths_of (request_of at.rule.depth step.call)) at s.own (heard fs) (next_place at b said s.own fs end)
 knows_none start at a b step said fs items copied end st s none group front last in_own l =
     let one : length s.own ≡ 1 = ap (λ (g : List Group). length g) last in
-    let q = queued_one a.ledger.owed (request_of at.depth step.call) s.own (heard fs) s.queued one in
-    let groups = subst (AllByRecursion IsGroup) last (own_groups a.ledger.owed at.depth step.call s.own (heard fs) s.queued) in
+    let q = queued_one a.ledger.owed (request_of at.rule.depth step.call) s.own (heard fs) s.queued one in
+    let groups = subst (AllByRecursion IsGroup) last (own_groups a.ledger.owed at.rule.depth step.call s.own (heard fs) s.queued) in
     let behind : after_readys (length at.groups) (heard (at.frames ++ fs)) ≡ main_frames at s.own (heard fs) =
-    ap (after_readys (length at.groups)) (heard-append at.frames fs) ∙ after_more (heard at.frames) (heard fs) (length at.groups) a.ledger.owed st.ledger st.between ∙ sym (main_after start at a (request_of at.depth step.call) s.own (heard fs) st q) in
+    ap (after_readys (length at.groups)) (heard-append at.frames fs) ∙ after_more (heard at.frames) (heard fs) (length at.groups) a.ledger.owed st.ledger st.between ∙ sym (main_after start at a (request_of at.rule.depth step.call) s.own (heard fs) st q) in
     let begins = lawful_begins at.groups s.own group (heard (at.frames ++ fs)) (main_frames at s.own (heard fs)) front st.are_groups groups.0 last l in_own behind in
     subst (λ (w : Widths). BeginsKnowing w group (main_frames at s.own (heard fs) ++ front ∷ [])) (sym none) (begins, tt)
 
@@ -68,11 +68,11 @@ unlawful_begins at next widths own slice tag front k u f l =
     let same = frame_unique backend_tags front u.front f.rest u.is_front.rest f.whole u.is_front.whole (sym f.held ∙ u.is_front.held) in
     u.none (k u.group u.front u.last u.in_own (subst (λ (x : Frame). MayHear (said_in next.groups) (heard next.frames ++ x ∷ [])) same.0 l))
 
-pub never_unlawful : (at next : Place) (step : Step) (out : Outcome) (own : List Group) (slice : List Frame) → Knows (widths_of (request_of at.depth step.call)) at own slice next → HasCause at step own slice next out.end → IsNeverUnlawful at out next
+pub never_unlawful : (at next : Place) (step : Step) (out : Outcome) (own : List Group) (slice : List Frame) → Knows (widths_of (request_of at.rule.depth step.call)) at own slice next → HasCause at step own slice next out.end → IsNeverUnlawful at out next
 never_unlawful at next step out own slice k c tag front w e f l =
     elim (subst (λ (z : End). HasCause at step own slice next z) e c) [
       | inl kept ↦ none_kept at.broken (faults.Unlawful tag) w kept
-      | inr shown ↦ unlawful_begins at next (widths_of (request_of at.depth step.call)) own slice tag front k shown f l
+      | inr shown ↦ unlawful_begins at next (widths_of (request_of at.rule.depth step.call)) own slice tag front k shown f l
     ]
   where
     none_kept : (o : Option ServerFault) (fault : ServerFault) → o ≡ None → o ≡ Some fault → ⊥
@@ -115,18 +115,18 @@ pub record Called (start : StreamSeen) (at : Place) (old : Counted) (m : ConnSee
   pub grew : CountsOn old m (told_of shown end groups heard waits moved)
 
 unfoldable pub called_exchange : (start first : StreamSeen) (old : Counted) (at : Place) (a b : ConnSeen) (step : Step) (shown : List Item) (end : End) (said : List FrontendMessage) (fs : List Frame) → StandsAt start at a → acts_at_once step.call ≡ false → step.polls < 2 ^ 32 → first.waits ≡ 0
-    → Ended (limits_of step) first (asking (request_of at.depth step.call) old a) b (request_of at.depth step.call) shown end said fs → b.call ≡ states.Idle → HasAllRoom (asking (request_of at.depth step.call) old a) → (found : HasSummary a.ledger (request_of at.depth step.call) said (heard fs) b.ledger end shown)
-    → Knows (widths_of (request_of at.depth step.call)) at found.1.own (heard fs) (next_place at b said found.1.own fs end) → Called start at old b step shown end (next_place at b said found.1.own fs end)
+    → Ended (limits_of step) first (asking (request_of at.rule.depth step.call) old a) b (request_of at.rule.depth step.call) shown end said fs → b.call ≡ states.Idle → HasAllRoom (asking (request_of at.rule.depth step.call) old a) → (found : HasSummary a.ledger (request_of at.rule.depth step.call) said (heard fs) b.ledger end shown)
+    → Knows (widths_of (request_of at.rule.depth step.call)) at found.1.own (heard fs) (next_place at b said found.1.own fs end) → Called start at old b step shown end (next_place at b said found.1.own fs end)
 called_exchange start first old at a b step shown end said fs st later p z e idles space found knows =
-    let r = request_of at.depth step.call in
+    let r = request_of at.rule.depth step.call in
     let begun = asking r old a in
     let s = found.1 in
     let went = e.went in
     let told : Outcome = told_of shown end (length s.own) (length (heard fs)) (went.tallies.write_waits + went.tallies.read_waits) went.tallies.moved in
     let at_place = subst (λ (o : Option ServerFault). EndsOn o (limits_of step) first begun b r said (heard fs) shown end) st.broken e.ends in
     let cause = cause_step at.broken (limits_of step) start first old at a b step said fs shown end found.0 st refl at_place s in
-    let grew = counts_on start old at a b at.depth step.call said fs shown end found.0 st went s in
-    let stands = stands_next start at a b at.depth step.call said fs found.0 end st s (record { counts = went.flows.counts; secured = went.flows.secured; sent = went.flows.sent; read = went.flows.read }) e.broken idles went.started.2 (e.room space)
+    let grew = counts_on start old at a b at.rule.depth step.call said fs shown end found.0 st went s in
+    let stands = stands_next start at a b at.rule.depth step.call said fs found.0 end st s (record { counts = went.flows.counts; secured = went.flows.secured; sent = went.flows.sent; read = went.flows.read }) e.broken idles went.started.2 (e.room space)
     (never_copies a.broken (limits_of step) first begun b r said (heard fs) shown end e.ends) in
     record {
       groups = length s.own;
@@ -140,7 +140,7 @@ called_exchange start first old at a b step shown end said fs st later p z e idl
         sends = subst (λ (x : StreamSeen). Sends x b.stream (spelled (queued_by at s.own (heard fs) end))) st.seen
             (subst (λ (m : List FrontendMessage). Sends a.stream b.stream (spelled m)) (said_is_queued start at a r said (heard fs) found.0 b.ledger end st s) went.flows.sent);
         told = told_step a.broken (limits_of step) start first old at a b step told said fs found.0 st e.ends s found.2;
-        numbers = numbers_step start old at a b at.depth step.call said fs shown end s.own st went;
+        numbers = numbers_step start old at a b at.rule.depth step.call said fs shown end s.own st went;
         cause = cause;
         at_once = λ now. let x = sym later ∙ now in absurd cc;
         kept = λ fault w.

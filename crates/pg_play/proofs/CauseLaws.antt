@@ -69,27 +69,27 @@ header_now : (a b : StreamSeen) (fault : ServerFault) → HeardCause a b (errors
 header_now a b (faults.Malformed tag) h = h
 header_now a b _ h = h
 
-stream_cause : (start : StreamSeen) (old : Counted) (at : Place) (a b : ConnSeen) (step : Step) (said : List FrontendMessage) (fs : List Frame) (items : List CallItem) (copied : Bool) (end : End) (e : Error) → StandsAt start at a → (s : Summary a.ledger (request_of at.depth step.call) said (heard fs) items b.ledger copied)
-    → HeardCause (asking (request_of at.depth step.call) old a).stream b.stream e → IsMissed b.ledger e → Causes at step s.own (heard fs) (next_place at b said s.own fs end) e
+stream_cause : (start : StreamSeen) (old : Counted) (at : Place) (a b : ConnSeen) (step : Step) (said : List FrontendMessage) (fs : List Frame) (items : List CallItem) (copied : Bool) (end : End) (e : Error) → StandsAt start at a → (s : Summary a.ledger (request_of at.rule.depth step.call) said (heard fs) items b.ledger copied)
+    → HeardCause (asking (request_of at.rule.depth step.call) old a).stream b.stream e → IsMissed b.ledger e → Causes at step s.own (heard fs) (next_place at b said s.own fs end) e
 stream_cause start old at a b step said fs items copied end errors.OutOfMemory st s h m = tt
 stream_cause start old at a b step said fs items copied end (errors.Io io.Fault) st s h m = rw (← st.seen) h
-stream_cause start old at a b step said fs items copied end (errors.Io io.End) st s h m = (rw (← st.seen) h.0, h.1, owes_next start at a (request_of at.depth step.call) said fs items b.ledger copied st s m)
-stream_cause start old at a b step said fs items copied end (errors.Protocol (protocol.Server fault)) st s h m = inr (shows_header (widths_of (request_of at.depth step.call)) at b said s.own fs (heard fs) end fault (header_now (asking (request_of at.depth step.call) old a).stream b.stream fault h))
+stream_cause start old at a b step said fs items copied end (errors.Io io.End) st s h m = (rw (← st.seen) h.0, h.1, owes_next start at a (request_of at.rule.depth step.call) said fs items b.ledger copied st s m)
+stream_cause start old at a b step said fs items copied end (errors.Protocol (protocol.Server fault)) st s h m = inr (shows_header (widths_of (request_of at.rule.depth step.call)) at b said s.own fs (heard fs) end fault (header_now (asking (request_of at.rule.depth step.call) old a).stream b.stream fault h))
 stream_cause start old at a b step said fs items copied end _ st s h m = absurd h
 
 -- ---- the frame in front
 
-front_cause : (start : StreamSeen) (at : Place) (a b : ConnSeen) (step : Step) (said : List FrontendMessage) (fs : List Frame) (items items' : List CallItem) (copied : Bool) (end : End) (e : Error) → StandsAt start at a → (s : Summary a.ledger (request_of at.depth step.call) said (heard fs) items b.ledger copied)
-    → (l : Leaves a.ledger (request_of at.depth step.call) said (heard fs) items' b.ledger false) → FrontFails b a.ledger (request_of at.depth step.call) l.own (heard fs) e → Causes at step s.own (heard fs) (next_place at b said s.own fs end) e
+front_cause : (start : StreamSeen) (at : Place) (a b : ConnSeen) (step : Step) (said : List FrontendMessage) (fs : List Frame) (items items' : List CallItem) (copied : Bool) (end : End) (e : Error) → StandsAt start at a → (s : Summary a.ledger (request_of at.rule.depth step.call) said (heard fs) items b.ledger copied)
+    → (l : Leaves a.ledger (request_of at.rule.depth step.call) said (heard fs) items' b.ledger false) → FrontFails b a.ledger (request_of at.rule.depth step.call) l.own (heard fs) e → Causes at step s.own (heard fs) (next_place at b said s.own fs end) e
 front_cause start at a b step said fs items items' copied end e st s l (front, rest, whole, answers, held, why) = by e why
   where
     is_front : IsFront (next_place at b said s.own fs end) front
     is_front = record { rest = rest; whole = whole; answers = answers; held = held }
 
-    unlawful : (tag : ℕ) → IsFrontFault a.ledger (request_of at.depth step.call) l.own (heard fs) front (errors.Protocol (protocol.Server (faults.Unlawful tag))) → IsUnlawful (widths_of (request_of at.depth step.call)) at s.own (heard fs) (next_place at b said s.own fs end) tag
+    unlawful : (tag : ℕ) → IsFrontFault a.ledger (request_of at.rule.depth step.call) l.own (heard fs) front (errors.Protocol (protocol.Server (faults.Unlawful tag))) → IsUnlawful (widths_of (request_of at.rule.depth step.call)) at s.own (heard fs) (next_place at b said s.own fs end) tag
     unlawful tag (t, message, own, count, (group, is, none)) =
         let one : length l.own ≡ 1 = ap (λ (g : List Group). length g) (own ∙ is) in
-        let q = whole_own a.ledger (request_of at.depth step.call) said (heard fs) items' items b.ledger copied false s l own one in
+        let q = whole_own a.ledger (request_of at.rule.depth step.call) said (heard fs) items' items b.ledger copied false s l own one in
         record {
           front = front;
           is_front = is_front;
@@ -98,10 +98,10 @@ front_cause start at a b step said fs items items' copied end e st s l (front, r
           group = group;
           last = q.own_is ∙ is;
           in_own = omega (arith, st.ledger, count, ended_next at fs);
-          none = subst (λ (x : List Frame). BeginsKnowing (widths_of (request_of at.depth step.call)) group (x ++ front ∷ []) → ⊥) (sym (main_after start at a (request_of at.depth step.call) s.own (heard fs) st q)) none;
+          none = subst (λ (x : List Frame). BeginsKnowing (widths_of (request_of at.rule.depth step.call)) group (x ++ front ∷ []) → ⊥) (sym (main_after start at a (request_of at.rule.depth step.call) s.own (heard fs) st q)) none;
         }
 
-    by : (e : Error) → IsFrontFault a.ledger (request_of at.depth step.call) l.own (heard fs) front e → Causes at step s.own (heard fs) (next_place at b said s.own fs end) e
+    by : (e : Error) → IsFrontFault a.ledger (request_of at.rule.depth step.call) l.own (heard fs) front e → Causes at step s.own (heard fs) (next_place at b said s.own fs end) e
     by errors.OutOfMemory h = tt
     by (errors.Protocol (protocol.Server (faults.Malformed tag))) h = inr (inr (front, is_front, h.0, h.1))
     by (errors.Protocol (protocol.Server (faults.Unlawful tag))) h = inr (unlawful tag h)
@@ -122,10 +122,10 @@ copies_begin Further m e = e
 copies_begin (Running width) m e = e
 copies_begin _ m e = absurd cc
 
-copy_cause : (start : StreamSeen) (at : Place) (a b : ConnSeen) (step : Step) (said : List FrontendMessage) (fs : List Frame) (items items' : List CallItem) (copied copied' : Bool) (tag : ℕ) → StandsAt start at a → (s : Summary a.ledger (request_of at.depth step.call) said (heard fs) items b.ledger copied)
-    → (l : Leaves a.ledger (request_of at.depth step.call) said (heard fs) items' b.ledger copied') → l.own ≡ groups_of (request_of at.depth step.call) → length l.own ≡ 1 → EndsInCopy a.ledger (request_of at.depth step.call) (heard fs) tag → IsAskedToCopy at step s.own (heard fs) tag
+copy_cause : (start : StreamSeen) (at : Place) (a b : ConnSeen) (step : Step) (said : List FrontendMessage) (fs : List Frame) (items items' : List CallItem) (copied copied' : Bool) (tag : ℕ) → StandsAt start at a → (s : Summary a.ledger (request_of at.rule.depth step.call) said (heard fs) items b.ledger copied)
+    → (l : Leaves a.ledger (request_of at.rule.depth step.call) said (heard fs) items' b.ledger copied') → l.own ≡ groups_of (request_of at.rule.depth step.call) → length l.own ≡ 1 → EndsInCopy a.ledger (request_of at.rule.depth step.call) (heard fs) tag → IsAskedToCopy at step s.own (heard fs) tag
 copy_cause start at a b step said fs items items' copied copied' tag st s l e n c =
-    let q = whole_own a.ledger (request_of at.depth step.call) said (heard fs) items' items b.ledger copied copied' s l e n in
+    let q = whole_own a.ledger (request_of at.rule.depth step.call) said (heard fs) items' items b.ledger copied copied' s l e n in
     let unready = begins_none c.last (copies_begin c.part c.last c.copies) in
     let same : count_by is_ready (heard fs) ≡ count_by is_ready c.front = ap (λ (x : List Frame). count_by is_ready x) c.hs_are ∙ count-push is_ready c.front (backend_frame c.last) ∙ ap (λ (t : Bool). count_by is_ready c.front + cond t 1 0) unready ∙ omega arith in
     let split : after_readys a.ledger.owed (heard fs) ≡ after_readys a.ledger.owed c.front ++ backend_frame c.last ∷ [] =
@@ -140,12 +140,12 @@ copy_cause start at a b step said fs items items' copied copied' tag st s l e n 
       before = c.own;
       part = c.part;
       says = (
-        main_after start at a (request_of at.depth step.call) s.own (heard fs) st q ∙ split ∙ ap (λ (x : List Frame). x ++ backend_frame c.last ∷ []) c.own_is ∙ sym (map-append backend_frame c.own (c.last ∷ [])),
+        main_after start at a (request_of at.rule.depth step.call) s.own (heard fs) st q ∙ split ∙ ap (λ (x : List Frame). x ++ backend_frame c.last ∷ []) c.own_is ∙ sym (map-append backend_frame c.own (c.last ∷ [])),
         both c.own c.own_have_frames,
       );
       so_far = c.so_far;
       copies = c.copies;
-      lawful = λ group e. subst (BeginsCopyResponse group) (sym (main_after start at a (request_of at.depth step.call) s.own (heard fs) st q)) (c.lawful group (sym q.own_is ∙ e));
+      lawful = λ group e. subst (BeginsCopyResponse group) (sym (main_after start at a (request_of at.rule.depth step.call) s.own (heard fs) st q)) (c.lawful group (sym q.own_is ∙ e));
     }
   where
     both : (own : List BackendMessage) → AllByRecursion HasBackendFrame own → AllByRecursion HasBackendFrame (own ++ c.last ∷ [])
@@ -157,30 +157,30 @@ no_rows [] e = tt
 no_rows (call_items.Row row ∷ xs) e = absurd cc
 no_rows (call_items.Count n ∷ xs) e = (refl, no_rows xs e)
 
-row_cause : (start : StreamSeen) (at : Place) (a b : ConnSeen) (step : Step) (said : List FrontendMessage) (fs : List Frame) (items items' : List CallItem) (copied : Bool) (end : End) → StandsAt start at a → (s : Summary a.ledger (request_of at.depth step.call) said (heard fs) items' b.ledger copied)
-    → CallEnds a.ledger (request_of at.depth step.call) said (heard fs) items b.ledger (Err errors.RowNotFound) → HasNoRow at step s.own (heard fs) (next_place at b said s.own fs end)
+row_cause : (start : StreamSeen) (at : Place) (a b : ConnSeen) (step : Step) (said : List FrontendMessage) (fs : List Frame) (items items' : List CallItem) (copied : Bool) (end : End) → StandsAt start at a → (s : Summary a.ledger (request_of at.rule.depth step.call) said (heard fs) items' b.ledger copied)
+    → CallEnds a.ledger (request_of at.rule.depth step.call) said (heard fs) items b.ledger (Err errors.RowNotFound) → HasNoRow at step s.own (heard fs) (next_place at b said s.own fs end)
 row_cause start at a b step said fs items items' copied end st s h =
     let f = h.0 in
-    let found = not_found at.depth step.call f.reply f.status h.1 in
-    let carried = fine_carries start at a at.depth step.call said (heard fs) items items' b.ledger copied st s f in
+    let found = not_found at.rule.depth step.call f.reply f.status h.1 in
+    let carried = fine_carries start at a at.rule.depth step.call said (heard fs) items items' b.ledger copied st s f in
     record {
       wants = found.0;
       no_error = no_error (heard fs) f.well;
       answered = omega (arith, st.ledger, s.counted, f.owes, ended_next at fs, length-append at.groups s.own);
-      whole = fine_own a.ledger (request_of at.depth step.call) said (heard fs) items items' b.ledger copied s f;
+      whole = fine_own a.ledger (request_of at.rule.depth step.call) said (heard fs) items items' b.ledger copied s f;
       response = carried.0;
       says = carried.1;
-      no_row = subst (AllByRecursion (λ item. is_row item ≡ false)) (sym (items_told (heading_of (request_of at.depth step.call)) carried.0 ∙ ap (map item_of) carried.2)) (no_rows (own_items (request_of at.depth step.call) f.reply) found.1);
+      no_row = subst (AllByRecursion (λ item. is_row item ≡ false)) (sym (items_told (heading_of (request_of at.rule.depth step.call)) carried.0 ∙ ap (map item_of) carried.2)) (no_rows (own_items (request_of at.rule.depth step.call) f.reply) found.1);
     }
 
-begin_cause : (start : StreamSeen) (at : Place) (a b : ConnSeen) (step : Step) (said : List FrontendMessage) (fs : List Frame) (items items' : List CallItem) (copied : Bool) (end : End) (status : TransactionStatus) → StandsAt start at a → (s : Summary a.ledger (request_of at.depth step.call) said (heard fs) items' b.ledger copied)
-    → CallEnds a.ledger (request_of at.depth step.call) said (heard fs) items b.ledger (Err (errors.BeginFailed status)) → BeginsNone at step s.own (heard fs) status
+begin_cause : (start : StreamSeen) (at : Place) (a b : ConnSeen) (step : Step) (said : List FrontendMessage) (fs : List Frame) (items items' : List CallItem) (copied : Bool) (end : End) (status : TransactionStatus) → StandsAt start at a → (s : Summary a.ledger (request_of at.rule.depth step.call) said (heard fs) items' b.ledger copied)
+    → CallEnds a.ledger (request_of at.rule.depth step.call) said (heard fs) items b.ledger (Err (errors.BeginFailed status)) → BeginsNone at step s.own (heard fs) status
 begin_cause start at a b step said fs items items' copied end status st s h =
     let f = h.0 in
-    let found = begun_failed at.depth step.call f.reply f.status status h.1 in
-    let whole = fine_own a.ledger (request_of at.depth step.call) said (heard fs) items items' b.ledger copied s f in
+    let found = begun_failed at.rule.depth step.call f.reply f.status status h.1 in
+    let whole = fine_own a.ledger (request_of at.rule.depth step.call) said (heard fs) items items' b.ledger copied s f in
     elim f.last [
-      | inl none ↦ absurd (begins_one at.depth step.call found.0 none)
+      | inl none ↦ absurd (begins_one at.rule.depth step.call found.0 none)
       | inr last ↦ record {
         begins_it = found.0;
         no_error = no_error (heard fs) f.well;
@@ -194,20 +194,20 @@ begin_cause start at a b step said fs items items' copied end status st s h =
 none_own : (start : Ledger) (r : Request) (said : List FrontendMessage) (hs : List Frame) (items : List CallItem) (ledger : Ledger) (copied : Bool) (s : Summary start r said hs items ledger copied) → hs ≡ [] → ledger ≡ start → s.own ≡ []
 none_own start r said hs items ledger copied s e l = nil_from_length s.own (omega (arith, s.counted, ap (λ (x : List Frame). count_by is_ready x) e, ap (λ (x : Ledger). x.owed) l))
 
-call_cause : (start : StreamSeen) (at : Place) (a b : ConnSeen) (step : Step) (said : List FrontendMessage) (fs : List Frame) (items items' : List CallItem) (copied : Bool) (end : End) (e : Error) → StandsAt start at a → (s : Summary a.ledger (request_of at.depth step.call) said (heard fs) items' b.ledger copied)
-    → CallEnds a.ledger (request_of at.depth step.call) said (heard fs) items b.ledger (Err e) → Causes at step s.own (heard fs) (next_place at b said s.own fs end) e
+call_cause : (start : StreamSeen) (at : Place) (a b : ConnSeen) (step : Step) (said : List FrontendMessage) (fs : List Frame) (items items' : List CallItem) (copied : Bool) (end : End) (e : Error) → StandsAt start at a → (s : Summary a.ledger (request_of at.rule.depth step.call) said (heard fs) items' b.ledger copied)
+    → CallEnds a.ledger (request_of at.rule.depth step.call) said (heard fs) items b.ledger (Err e) → Causes at step s.own (heard fs) (next_place at b said s.own fs end) e
 call_cause start at a b step said fs items items' copied end errors.RowNotFound st s h = row_cause start at a b step said fs items items' copied end st s h
 call_cause start at a b step said fs items items' copied end (errors.BeginFailed status) st s h = begin_cause start at a b step said fs items items' copied end status st s h
 call_cause start at a b step said fs items items' copied end (errors.Database details) st s h = (h.1.0, h.1.1, h.1.2)
 call_cause start at a b step said fs items items' copied end (errors.Protocol (protocol.Reply tag)) st s h = copy_cause start at a b step said fs items' items copied _ tag st s h.0.0 h.0.1 h.0.2 h.2
-call_cause start at a b step said fs items items' copied end (errors.Protocol (protocol.Caller fault)) st s h = (none_own a.ledger (request_of at.depth step.call) said (heard fs) items' b.ledger copied s h.1 h.3, h.1, h.4)
+call_cause start at a b step said fs items items' copied end (errors.Protocol (protocol.Caller fault)) st s h = (none_own a.ledger (request_of at.rule.depth step.call) said (heard fs) items' b.ledger copied s h.1 h.3, h.1, h.4)
 call_cause start at a b step said fs items items' copied end (errors.Protocol _) st s h = absurd h
 call_cause start at a b step said fs items items' copied end _ st s h = absurd h
 
 -- ---- an end, of whatever kind
 
 pub cause_step : (o : Option ServerFault) (limits : Limits) (start first : StreamSeen) (old : Counted) (at : Place) (a b : ConnSeen) (step : Step) (said : List FrontendMessage) (fs : List Frame) (shown : List Item) (end : End) (items : List CallItem) → StandsAt start at a → at.broken ≡ o
-    → EndsOn o limits first (asking (request_of at.depth step.call) old a) b (request_of at.depth step.call) said (heard fs) shown end → (s : Summary a.ledger (request_of at.depth step.call) said (heard fs) items b.ledger (refuses_copy end)) → HasCause at step s.own (heard fs) (next_place at b said s.own fs end) end
+    → EndsOn o limits first (asking (request_of at.rule.depth step.call) old a) b (request_of at.rule.depth step.call) said (heard fs) shown end → (s : Summary a.ledger (request_of at.rule.depth step.call) said (heard fs) items b.ledger (refuses_copy end)) → HasCause at step s.own (heard fs) (next_place at b said s.own fs end) end
 cause_step None limits start first old at a b step said fs shown (ends.Ok told) items st w h s = tt
 cause_step None limits start first old at a b step said fs shown (ends.Err e) items st w (inl (xs, k, l, inl h)) s = call_cause start at a b step said fs xs items (refuses_copy (ends.Err e)) (ends.Err e) e st s h
 cause_step None limits start first old at a b step said fs shown (ends.Err e) items st w (inl (xs, k, l, inr (left, well, inl (heard_so, missed)))) s = stream_cause start old at a b step said fs items (refuses_copy (ends.Err e)) (ends.Err e) e st s heard_so missed
@@ -216,7 +216,7 @@ cause_step None limits start first old at a b step said fs shown (ends.Err e) it
 cause_step None limits start first old at a b step said fs shown ends.Dropped items st w h s = tt
 cause_step (Some fault) limits start first old at a b step said fs shown end items st w h s = by end h.0 s
   where
-    by : (end : End) → end ≡ ends.Err (errors.Protocol (protocol.Server fault)) → (s : Summary a.ledger (request_of at.depth step.call) said (heard fs) items b.ledger (refuses_copy end)) → HasCause at step s.own (heard fs) (next_place at b said s.own fs end) end
+    by : (end : End) → end ≡ ends.Err (errors.Protocol (protocol.Server fault)) → (s : Summary a.ledger (request_of at.rule.depth step.call) said (heard fs) items b.ledger (refuses_copy end)) → HasCause at step s.own (heard fs) (next_place at b said s.own fs end) end
     by (ends.Ok told) e s = tt
     by ends.Dropped e s = tt
     by (ends.Err x) e s = kept x (same x e) s
@@ -224,7 +224,7 @@ cause_step (Some fault) limits start first old at a b step said fs shown end ite
         same : (x : Error) → ends.Err x ≡ ends.Err (errors.Protocol (protocol.Server fault)) → x ≡ errors.Protocol (protocol.Server fault)
         same x e = cc
 
-        kept : (x : Error) → x ≡ errors.Protocol (protocol.Server fault) → (s : Summary a.ledger (request_of at.depth step.call) said (heard fs) items b.ledger (refuses_copy (ends.Err x))) → Causes at step s.own (heard fs) (next_place at b said s.own fs (ends.Err x)) x
+        kept : (x : Error) → x ≡ errors.Protocol (protocol.Server fault) → (s : Summary a.ledger (request_of at.rule.depth step.call) said (heard fs) items b.ledger (refuses_copy (ends.Err x))) → Causes at step s.own (heard fs) (next_place at b said s.own fs (ends.Err x)) x
         kept x e s = subst (λ (z : Error). Causes at step s.own (heard fs) (next_place at b said s.own fs (ends.Err x)) z) (sym e) (inl w)
 
 -- ---- a step that was dropped
@@ -233,14 +233,14 @@ cause_step (Some fault) limits start first old at a b step said fs shown end ite
 pub pending_in : (first : StreamSeen) (b : ConnSeen) (polls : ℕ) (shown : List Item) (end : End) → first.waits ≡ 0 → first.moves ≡ 0 → polls < 2 ^ 32 → Waited polls first b.stream → AnsweredPending (outcome_of b shown end) polls
 pending_in first b polls shown end z v p w = (w.spent, omega (arith, z, p, w.all, w.waits), omega (arith, v, p, w.all, w.moves))
 
-starved_at : (start first : StreamSeen) (old : Counted) (at : Place) (a b : ConnSeen) (step : Step) (said : List FrontendMessage) (fs : List Frame) (items : List CallItem) (copied : Bool) (shown : List Item) (end : End) → StandsAt start at a → first.moves ≡ 0 → (s : Summary a.ledger (request_of at.depth step.call) said (heard fs) items b.ledger copied)
-    → EndsStarved first (asking (request_of at.depth step.call) old a) b → IsStarved at (outcome_of b shown end) (next_place at b said s.own fs end)
+starved_at : (start first : StreamSeen) (old : Counted) (at : Place) (a b : ConnSeen) (step : Step) (said : List FrontendMessage) (fs : List Frame) (items : List CallItem) (copied : Bool) (shown : List Item) (end : End) → StandsAt start at a → first.moves ≡ 0 → (s : Summary a.ledger (request_of at.rule.depth step.call) said (heard fs) items b.ledger copied)
+    → EndsStarved first (asking (request_of at.rule.depth step.call) old a) b → IsStarved at (outcome_of b shown end) (next_place at b said s.own fs end)
 starved_at start first old at a b step said fs items copied shown end st v s (inl w) = inl (rw (← st.seen) w)
 starved_at start first old at a b step said fs items copied shown end st v s (inr (inl m)) = inr (inl (omega (arith, v, m)))
-starved_at start first old at a b step said fs items copied shown end st v s (inr (inr x)) = inr (inr (x.0, x.1, owes_next start at a (request_of at.depth step.call) said fs items b.ledger copied st s x.2))
+starved_at start first old at a b step said fs items copied shown end st v s (inr (inr x)) = inr (inr (x.0, x.1, owes_next start at a (request_of at.rule.depth step.call) said fs items b.ledger copied st s x.2))
 
 pub dropped_step : (o : Option ServerFault) (start first : StreamSeen) (old : Counted) (at : Place) (a b : ConnSeen) (step : Step) (said : List FrontendMessage) (fs : List Frame) (shown : List Item) (end : End) (items : List CallItem) → StandsAt start at a → first.waits ≡ 0 → first.moves ≡ 0 → step.polls < 2 ^ 32 → end ≡ ends.Dropped
-    → EndsOn o (limits_of step) first (asking (request_of at.depth step.call) old a) b (request_of at.depth step.call) said (heard fs) shown end → (s : Summary a.ledger (request_of at.depth step.call) said (heard fs) items b.ledger (refuses_copy end))
+    → EndsOn o (limits_of step) first (asking (request_of at.rule.depth step.call) old a) b (request_of at.rule.depth step.call) said (heard fs) shown end → (s : Summary a.ledger (request_of at.rule.depth step.call) said (heard fs) items b.ledger (refuses_copy end))
     → IsDropped at step (outcome_of b shown end) (next_place at b said s.own fs end)
 dropped_step None start first old at a b step said fs shown ends.Dropped items st z v p k h s = elim h.4 [
   | inl waited ↦ inr (inl (pending_in first b step.polls shown ends.Dropped z v p waited.0, starved_at start first old at a b step said fs items false shown ends.Dropped st v s waited.1))

@@ -128,7 +128,7 @@ fair_error first at call step own slice next last (errors.Io _) part g a b n k c
 fair_error first at call step own slice next last (errors.Database details) part g a b n k c = tt
 fair_error first at call step own slice next last (errors.Protocol (protocol.Server fault)) part g a b n k c = absurd (g.unbroken fault (k fault refl))
 fair_error first at call step own slice next last (errors.Protocol (protocol.Reply tag)) part g a b n k c = absurd (no_copy_asked at step own slice tag c n)
-fair_error first at call step own slice next last (errors.Protocol (protocol.Caller fault)) part g a b n k c = (at.depth, step.call, part, c.2)
+fair_error first at call step own slice next last (errors.Protocol (protocol.Caller fault)) part g a b n k c = (at.rule.depth, step.call, part, c.2)
 fair_error first at call step own slice next last (errors.BeginFailed status) part g a b n k c = (part_begins call step.call part c.begins_it, c.other)
 fair_error first at call step own slice next last errors.InvalidSavePointStatement part g a b n k c = part_begins_with call step.call part c.0.0
 fair_error first at call step own slice next last (errors.Protocol _) part g a b n k c = absurd c

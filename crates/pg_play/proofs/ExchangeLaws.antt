@@ -51,7 +51,7 @@ first_request d (calls.Run bound) = refl
 -- What is neither a query nor an exchange alone stays what it is. So what is false of these is true of the first exchange where it is of the call.
 kept_by : (f : Call → Bool) (how : How) (query : QueryText) (o : Option ArgumentsSeen) (call : Call) → ((x : Extended) → f (calls.Describe x) ≡ false) → f call ≡ false → f (first_as how query o call) ≡ f call
 kept_by f how query None call x e = refl
-kept_by f how query (Some arguments) call x e = x (record { how = how; sql = query.sql; arguments = arguments }) ∙ sym e
+kept_by f how query (Some arguments) call x e = x (record { how = how; statement = 0; sql = query.sql; arguments = arguments }) ∙ sym e
 
 record FalseOfQueries (f : Call → Bool) : Type 0 where
   queries : (call : Call) (how : How) → how_of call ≡ Some how → f call ≡ false
@@ -171,14 +171,14 @@ no_flush call x e f = flush_describes x (sym e ∙ ap first_call f)
 
 -- what runs behind a description whose columns were described
 abbrev pub bound_by : Extended → List BackendMessage → Bound
-bound_by x reply = record { how = x.how; arguments = x.arguments; columns = Some (described reply) }
+bound_by x reply = record { how = x.how; statement = x.statement; arguments = x.arguments; columns = Some (described reply) }
 
 pub next_bound : (x : Extended) (reply : List BackendMessage) (status : TransactionStatus) (next : Request) → answer_by (requests.Describe x) reply status ≡ Ok (answers.Next next) → next ≡ requests.Run (bound_by x reply)
 next_bound x reply status next e = sym (same_Some (requests.Run (bound_by x reply)) next (next_is (requests.Describe x) reply status next e).1)
 
 runs_by : (how : How) (query : QueryText) (o : Option ArgumentsSeen) (call : Call) (response : List BackendMessage) (part : Call) → next_call call response ≡ None → next_call (first_as how query o call) response ≡ Some part → (bound : Bound) × (part ≡ calls.Run bound) × (Some how ≡ Some bound.how)
 runs_by how query None call response part n e = let x = sym n ∙ e in absurd cc
-runs_by how query (Some arguments) call response part n e = (bound_by (record { how = how; sql = query.sql; arguments = arguments }) response, sym (same_Some _ part e), refl)
+runs_by how query (Some arguments) call response part n e = (bound_by (record { how = how; statement = 0; sql = query.sql; arguments = arguments }) response, sym (same_Some _ part e), refl)
 
 -- it runs the query as its call does
 pub next_runs : (call : Call) (response : List BackendMessage) (part : Call) → next_call (first_call call) response ≡ Some part → (bound : Bound) × (part ≡ calls.Run bound) × (how_of call ≡ Some bound.how)

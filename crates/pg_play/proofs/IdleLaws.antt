@@ -1,5 +1,6 @@
 -- Where nothing is open, the server's session is idle.
 use Rattle.std.proofs.Common.{◌≡◌, ◌≢◌, ℕ, zero, suc, ◌+◌, ◌-◌, ◌^◌, ◌<◌, ◌≤◌, min, Bool, true, false, cond, List, [], ◌∷◌, length, refl, sym, ap, ◌∙◌, subst, arith, length-append, ◌⊎◌, inl, inr, nat_eq, ◌&&◌, not, codes}
+use Rattle.pg_rule.specs.declared.rule.Rule.{Rule}
 use Rattle.pg_wire.specs.Frontend.{Query}
 use Rattle.std.proofs.lemmas.Bool.{lt-ltb}
 use Rattle.pg_wire.specs.Frame.{Frame}
@@ -161,7 +162,7 @@ commits_at at step out next one k c f e =
     let well = told.well (ap acts_at_once c) in
     k.commits c e (well_error one.told.end step one.told told.response one.call.slice one.ended_at f well) (well_ended one.told.end step one.told told.response one.call.slice one.ended_at f well)
 
-idle_exchange : (idle : ℕ → Type 0) (at : Place) (step : Step) (out : Outcome) (next : Place) (one : Plays_exchange at step out next) → length next.groups < 2 ^ 64 - 1 → KeepsOrder idle at step one.call.own one.settles.cleanup one.call.slice one.ended_at → (at.depth ≡ 0 → idle (length at.groups)) → next.depth ≡ 0 → idle (length next.groups)
+idle_exchange : (idle : ℕ → Type 0) (at : Place) (step : Step) (out : Outcome) (next : Place) (one : Plays_exchange at step out next) → length next.groups < 2 ^ 64 - 1 → KeepsOrder idle at step one.call.own one.settles.cleanup one.call.slice one.ended_at → (at.rule.depth ≡ 0 → idle (length at.groups)) → next.rule.depth ≡ 0 → idle (length next.groups)
 idle_exchange idle at step out next one l k i z =
     let call = one.call in
     let settles = one.settles in
@@ -169,7 +170,7 @@ idle_exchange idle at step out next one l k i z =
     let all : length next.groups ≡ length one.ended_at.groups + length settles.cleanup = ap (λ (g : List Group). length g) settles.groups ∙ length-append one.ended_at.groups settles.cleanup in
     let few : owed one.ended_at < 2 ^ 64 - 1 = omega (arith, all, l) in
     subst idle (omega (arith, first, all))
-    (idle_by idle (length at.groups) at.depth step.call one.told.end call.own settles.cleanup (owed one.ended_at) k.others (commits_at at step out next one k) k.rolls k.cleans settles.cleans call.queued.asks few i (sym settles.depth ∙ z))
+    (idle_by idle (length at.groups) at.rule.depth step.call one.told.end call.own settles.cleanup (owed one.ended_at) k.others (commits_at at step out next one k) k.rolls k.cleans settles.cleans call.queued.asks few i (sym (ap (λ (r : Rule). r.depth) settles.rule) ∙ z))
 
 more_in : (at : Place) (steps : List Step) (outs : List Outcome) (last : Place) → Plays_exchanges at steps outs last → length at.groups ≤ length last.groups
 more_in at [] [] last run = omega (arith, ap (λ (p : Place). length p.groups) run)
@@ -182,7 +183,7 @@ more_in at (s ∷ steps) (o ∷ outs) last run =
     omega (arith, rest, ap (λ (g : List Group). length g) one.call.queued.groups, length-append at.groups one.call.own, ap (λ (g : List Group). length g) one.settles.groups, length-append one.ended_at.groups one.settles.cleanup)
 
 abbrev IdlesAt : (ℕ → Type 0) → Place → Type 0
-IdlesAt idle at = at.depth ≡ 0 → idle (length at.groups)
+IdlesAt idle at = at.rule.depth ≡ 0 → idle (length at.groups)
 
 idles_in : (idle : ℕ → Type 0) (at : Place) (steps : List Step) (outs : List Outcome) (last : Place) (run : Plays_exchanges at steps outs last) → length last.groups < 2 ^ 64 - 1 → IdlesAt idle at → AreOrderlyIn idle at steps outs last run → AreIdleIn idle at steps outs last run × IdlesAt idle last
 idles_in idle at [] [] last run l i o = (tt, subst (IdlesAt idle) (sym run) i)
@@ -205,7 +206,7 @@ more_groups at (s ∷ steps) (o ∷ outs) last run =
     let rest = more_groups run.0 steps outs last run.2 in
     omega (arith, here, rest)
 
-pub idles_all : (idle : ℕ → Type 0) (at : Place) (steps : List Step) (outs : List Outcome) (last : Place) (run : Plays_from at steps outs last) → length last.groups < 2 ^ 64 - 1 → (at.depth ≡ 0 → idle (length at.groups)) → AreOrderly idle at steps outs last run → AreIdle idle at steps outs last run
+pub idles_all : (idle : ℕ → Type 0) (at : Place) (steps : List Step) (outs : List Outcome) (last : Place) (run : Plays_from at steps outs last) → length last.groups < 2 ^ 64 - 1 → (at.rule.depth ≡ 0 → idle (length at.groups)) → AreOrderly idle at steps outs last run → AreIdle idle at steps outs last run
 idles_all idle at [] [] last run l i o = tt
 idles_all idle at [] (x ∷ outs) last run l i o = absurd run
 idles_all idle at (s ∷ steps) [] last run l i o = absurd run

@@ -268,17 +268,17 @@ heard_so before n told part h c r k e =
       own_is = same.rest;
     }
 
--- behind the whole response to a group that described the unnamed statement without an error, what is heard begins a response to the next group, of a
+-- behind the whole response to a group that described a statement without an error, what is heard begins a response to the next group, of a
 -- server that has this statement with as many columns as were described; `told` are the messages of that whole response, its ReadyForQuery included
-pub lawful_knows : (groups : List Group) (sql types : List ℕ) (group : Group) (heards part : List Frame) (front : Frame) (told : List BackendMessage) → AllByRecursion IsGroup groups → IsGroup group
-    → MayHear (said_in ((groups ++ describing [] sql types ∷ []) ++ group ∷ [])) (heards ++ front ∷ []) → count_by is_ready heards ≡ length groups + 1
+pub lawful_knows : (groups : List Group) (name sql types : List ℕ) (group : Group) (heards part : List Frame) (front : Frame) (told : List BackendMessage) → AllByRecursion IsGroup groups → IsGroup group
+    → MayHear (said_in ((groups ++ describing name sql types ∷ []) ++ group ∷ [])) (heards ++ front ∷ []) → count_by is_ready heards ≡ length groups + 1
     → after_readys (length groups) heards ≡ map backend_frame told ++ part → EndsReady told → AllByRecursion HasBackendFrame told → AllByRecursion IsNoError told
-    → BeginsKnowing (([], length (described told)) ∷ []) group (part ++ front ∷ [])
-lawful_knows groups sql types group heards part front told gs g l c after ends frames good =
+    → BeginsKnowing ((name, length (described told)) ∷ []) group (part ++ front ∷ [])
+lawful_knows groups name sql types group heards part front told gs g l c after ends frames good =
     let s = split_front heards front l.heard_is.0 (flat_map (λ rs. rs) l.replies) l.heard_is.1 in
     let ok = (all_split HasBackendFrame s.before (s.message ∷ s.behind) (subst (AllByRecursion HasBackendFrame) s.whole l.replies_have_frames)).0 in
     let h = heard_so s.before (length groups) told part ok (ap (λ (x : List Frame). count_by is_ready x) (sym s.heards_are) ∙ c) ends frames (ap (after_readys (length groups)) (sym s.heards_are) ∙ after) in
-    let before : Group = describing [] sql types in
+    let before : Group = describing name sql types in
     let rest : List FrontendMessage = group ++ l.more in
     let last : List BackendMessage = h.own ++ s.message ∷ [] in
     let whole : (flat_map (λ q. q) h.ps ++ (told ++ last)) ++ s.behind ≡ flat_map (λ rs. rs) l.replies =
@@ -292,10 +292,10 @@ lawful_knows groups sql types group heards part front told gs g l c after ends f
       begins = (s.behind, whole);
     } in
     let there = all_on groups h.ps (before ++ rest) (told ++ last) l.after gs h.ended h.count start in
-    let one = one_on before rest told last l.after (describing_group [] sql types) ends there in
+    let one = one_on before rest told last l.after (describing_group name sql types) ends there in
     let said : map backend_frame last ≡ part ++ front ∷ [] =
     map-append backend_frame h.own (s.message ∷ []) ∙ ap (λ (t : List Frame). t ++ backend_frame s.message ∷ []) h.own_is ∙ ap (λ (m : Frame). part ++ m ∷ []) (sym s.front_is) in
-    begins_known [] (length (described told)) group l.more h.own s.message l.after (part ++ front ∷ []) one.on g h.unready (width_behind [] sql types rest told last l.after there one good) said
+    begins_known name (length (described told)) group l.more h.own s.message l.after (part ++ front ∷ []) one.on g h.unready (width_behind name sql types rest told last l.after there one good) said
   where
     joined : (a b c : List BackendMessage) (m : BackendMessage) (d : List BackendMessage) → (a ++ (b ++ (c ++ m ∷ []))) ++ d ≡ (a ++ (b ++ c)) ++ m ∷ d
     joined a b c m d = simp append_assoc

@@ -50,7 +50,7 @@ none_broken : (o : Option ServerFault) (fault : ServerFault) → o ≡ None → 
 none_broken None fault x y = absurd cc
 none_broken (Some g) fault x y = absurd cc
 
-shown_refutes : (at : Place) (step : Step) (out : Outcome) (next : Place) (one : Plays_call at step out next) (fault : ServerFault) → IsNeverUnlawful at out next → at.broken ≡ None → out.end ≡ ends.Err (errors.Protocol (protocol.Server fault)) → ShowsFault (widths_of (request_of at.depth step.call)) at one.own one.slice next fault → Refutes fault next
+shown_refutes : (at : Place) (step : Step) (out : Outcome) (next : Place) (one : Plays_call at step out next) (fault : ServerFault) → IsNeverUnlawful at out next → at.broken ≡ None → out.end ≡ ends.Err (errors.Protocol (protocol.Server fault)) → ShowsFault (widths_of (request_of at.rule.depth step.call)) at one.own one.slice next fault → Refutes fault next
 shown_refutes at step out next one (faults.Unlawful tag) n w e u = (u.front, u.is_front, n tag u.front w e u.is_front)
 shown_refutes at step out next one (faults.Malformed tag) n w e (inl m) = inl m
 shown_refutes at step out next one (faults.Malformed tag) n w e (inr m) = inr (m.0, m.1, m.3)

@@ -89,15 +89,15 @@ whole_behind owed slice told c (inr (front, z, e, r)) a =
 
 -- ---- what comes next
 
--- one slice heard the responses owed to the groups before, and then the whole response to a group that described the unnamed statement, without an
+-- one slice heard the responses owed to the groups before, and then the whole response to a group that described a statement, without an
 -- error: what was heard since begins a response to the next group, of a server that has this statement with as many columns as were described
-pub knows_next : (groups : List Group) (sql types : List ℕ) (group : Group) (owed : ℕ) (before slice1 slice2 : List Frame) (front : Frame) (told : List BackendMessage) → AllByRecursion IsGroup groups → IsGroup group
-    → MayHear (said_in ((groups ++ describing [] sql types ∷ []) ++ group ∷ [])) (((before ++ slice1) ++ slice2) ++ front ∷ [])
+pub knows_next : (groups : List Group) (name sql types : List ℕ) (group : Group) (owed : ℕ) (before slice1 slice2 : List Frame) (front : Frame) (told : List BackendMessage) → AllByRecursion IsGroup groups → IsGroup group
+    → MayHear (said_in ((groups ++ describing name sql types ∷ []) ++ group ∷ [])) (((before ++ slice1) ++ slice2) ++ front ∷ [])
     → count_by is_ready before + owed ≡ length groups → (owed ≡ 0 → after_readys (length groups) before ≡ [])
     → count_by is_ready slice1 ≡ owed + 1 → count_by is_ready ((before ++ slice1) ++ slice2) ≡ length groups + 1 → HasNoError slice1 → EndsByReady slice1
-    → after_readys owed slice1 ≡ map backend_frame told → AllByRecursion HasBackendFrame told → BeginsKnowing (([], length (described told)) ∷ []) group (slice2 ++ front ∷ [])
-knows_next groups sql types group owed before slice1 slice2 front told gs g l count rests own all good ends after frames =
+    → after_readys owed slice1 ≡ map backend_frame told → AllByRecursion HasBackendFrame told → BeginsKnowing ((name, length (described told)) ∷ []) group (slice2 ++ front ∷ [])
+knows_next groups name sql types group owed before slice1 slice2 front told gs g l count rests own all good ends after frames =
     let heards : List Frame = (before ++ slice1) ++ slice2 in
     let behind : after_readys (length groups) heards ≡ map backend_frame told ++ slice2 =
     ap (after_readys (length groups)) (append_assoc before slice1 slice2) ∙ after_more before (slice1 ++ slice2) (length groups) owed count rests ∙ after_further slice1 slice2 owed (omega (arith, own)) ∙ ap (λ (t : List Frame). t ++ slice2) after in
-    lawful_knows groups sql types group heards slice2 front told gs g l all behind (whole_behind owed slice1 told own ends after) frames (good_messages told (subst HasNoError after (good_after slice1 owed good)))
+    lawful_knows groups name sql types group heards slice2 front told gs g l all behind (whole_behind owed slice1 told own ends after) frames (good_messages told (subst HasNoError after (good_after slice1 owed good)))

@@ -20,7 +20,7 @@ use Rattle.pg_call.specs.declared.request.Request.{Request}
 use Rattle.pg_call.specs.declared.answer.CallItem.{CallItem}
 use Rattle.pg_call.specs.declared.ledger.Ledger.{Ledger}
 use Rattle.pg_call.specs.declared.calling.Call.TheVariants as states
-use Rattle.pg_call.specs.Requests.{Group, said_in, spelled, kind_of, groups_of, messages_of, copy_fail}
+use Rattle.pg_call.specs.Requests.{Group, said_in, spelled, kind_of, groups_of, messages_of, copy_fail, name_of}
 use Rattle.pg_call.specs.Items.{shown}
 use Rattle.pg_call.specs.Drains.{is_copy_in, before_readys, after_readys, drain_fails}
 use Rattle.pg_call.specs.Hearing.{fails_of}
@@ -129,7 +129,7 @@ said_is_queued start at a r said hs items ledger end st s =
 -- ---- the next place
 
 abbrev pub next_place : Place → ConnSeen → List FrontendMessage → List Group → List Frame → End → Place
-next_place at b said own fs end = record { seen = b.stream; said = at.said ++ said; groups = at.groups ++ own; frames = at.frames ++ fs; is_copy_failed = failed_next at own (heard fs) end; broken = broken_after at.broken end; depth = at.depth }
+next_place at b said own fs end = record { seen = b.stream; said = at.said ++ said; groups = at.groups ++ own; frames = at.frames ++ fs; is_copy_failed = failed_next at own (heard fs) end; broken = broken_after at.broken end; rule = at.rule }
 
 pub readies-append : (xs ys : List Frame) → readies (xs ++ ys) ≡ readies xs + readies ys
 readies-append xs ys = sum_by-append (λ (y : Frame). cond (is_ready y) 1 0) xs ys
@@ -175,8 +175,8 @@ groups_asked (suc left) calls.Commit = (inl (commit_text left, refl), tt)
 groups_asked zero calls.Rollback = tt
 groups_asked (suc left) calls.Rollback = (inl (rollback_text left, refl), tt)
 groups_asked d calls.StartRollback = tt
-groups_asked d (calls.Describe extended) = (inr (Parse [] extended.sql extended.arguments.types ∷ DescribeStatement [] ∷ [], (tt, (tt, tt)), refl), tt)
-groups_asked d (calls.Run bound) = (inr (Bind [] bound.arguments.values ∷ Execute [] 0 ∷ ClosePortal [] ∷ [], (tt, (tt, (tt, tt))), refl), tt)
+groups_asked d (calls.Describe extended) = (inr (Parse (name_of extended.statement) extended.sql extended.arguments.types ∷ DescribeStatement (name_of extended.statement) ∷ [], (tt, (tt, tt)), refl), tt)
+groups_asked d (calls.Run bound) = (inr (Bind (name_of bound.statement) bound.arguments.values ∷ Execute [] 0 ∷ ClosePortal [] ∷ [], (tt, (tt, (tt, tt))), refl), tt)
 
 pub own_groups : (p : ℕ) (d : ℕ) (call : Call) (own : List Group) (hs : List Frame) → (own ≡ []) ⊎ QueuedOwn p (request_of d call) own hs → AllByRecursion IsGroup own
 own_groups p d call own hs (inl e) = rw e tt
@@ -268,14 +268,14 @@ pub flows_from : (start s t : StreamSeen) (q : List ℕ) (fs : List Frame) → s
 flows_from start s t q fs e f = subst (λ (x : StreamSeen). Flows start x q fs) e f
 
 pub stands_next : (start : StreamSeen) (at : Place) (a b : ConnSeen) (d : ℕ) (call : Call) (said : List FrontendMessage) (fs : List Frame) (items : List CallItem) (end : End) → StandsAt start at a → (s : Summary a.ledger (request_of d call) said (heard fs) items b.ledger (refuses_copy end))
-    → Flows a.stream b.stream (spelled said) fs → b.broken ≡ broken_after a.broken end → b.call ≡ states.Idle → b.depth ≡ a.depth → HasAllRoom b → (AsksForNoCopy (heard fs) → refuses_copy end ≡ false) → StandsAt start (next_place at b said s.own fs end) b
-stands_next start at a b d call said fs items end st s flows broken idle depth room never = record {
+    → Flows a.stream b.stream (spelled said) fs → b.broken ≡ broken_after a.broken end → b.call ≡ states.Idle → b.rule ≡ a.rule → HasAllRoom b → (AsksForNoCopy (heard fs) → refuses_copy end ≡ false) → StandsAt start (next_place at b said s.own fs end) b
+stands_next start at a b d call said fs items end st s flows broken idle rule room never = record {
   flows = subst (λ (q : List ℕ). Flows start b.stream q (at.frames ++ fs)) (sym (spelled-append at.said said)) (Flows-then start a.stream b.stream (spelled at.said) (spelled said) at.frames fs st.flows flows);
   ledger = omega (arith, st.ledger, s.counted, ended_next at fs, length-append at.groups s.own);
   failed = λ o. failed_here start at a s.own (heard fs) end b.ledger st s.counted o (s.failed_is o);
   broken = broken ∙ ap (λ (o : Option ServerFault). broken_after o end) st.broken;
   seen = refl;
-  depth = depth ∙ st.depth;
+  rule = rule ∙ st.rule;
   room = room;
   idle = idle;
   sayable = each_join HasFrontendFrame at.said said st.sayable (subst (AllByRecursion HasFrontendFrame) (sym (said_is_queued start at a (request_of d call) said (heard fs) items b.ledger end st s))

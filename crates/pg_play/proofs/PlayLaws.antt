@@ -2,7 +2,7 @@
 use Rattle.std.proofs.Common.{◌≡◌, ◌≢◌, ℕ, ◌+◌, ◌*◌, ◌^◌, ◌≤◌, ◌<◌, Bool, true, false, cond, ◌⊎◌, inl, inr, List, [], ◌∷◌, ◌++◌, length, map, replicate, refl, sym, ap, ◌∙◌, subst, arith, append_assoc, append-nil, Option, Some, None, sum_by}
 use Rattle.pg_play.proofs.IdleLaws.{idles_all}
 use Rattle.pg_play.specs.Idles.{SaysIdle, statuses}
-use Rattle.pg_play.proofs.SettledLaws.{SettlesTo, settles_call, settles_rollback, cleanup_polled, depth_other}
+use Rattle.pg_play.proofs.SettledLaws.{SettlesTo, settles_call, settles_rollback, cleanup_polled, depth_other, depth_stands}
 use Rattle.std.specs.List.{count_by, AllByRecursion}
 use Rattle.std.specs.Io.KnownBytes.{Appends}
 use Rattle.pg_wire.specs.declared.error.Error.TheVariants as errors
@@ -26,9 +26,9 @@ use Rattle.pg_request.specs.declared.progress.CacheStep.TheVariants as cache
 use Rattle.pg_call.specs.declared.request.Request.{Request}
 use Rattle.pg_call.specs.declared.request.Request.TheVariants as requests
 use Rattle.pg_call.specs.declared.answer.CallItem.{CallItem}
-use Rattle.pg_call.specs.Requests.{Group, said_in, spelled, groups_of, copy_fail}
+use Rattle.pg_call.specs.Requests.{Group, said_in, spelled, groups_of, copy_fail, name_of}
 use Rattle.pg_call.specs.Drains.{after_readys}
-use Rattle.pg_conn.specs.Connections.{ConnSeen, cleaned, counted_anew, rolled_back, ended as ended_conn}
+use Rattle.pg_conn.specs.Connections.{ConnSeen, cleaned, counted_anew, rolled_back, ended as ended_conn, with_depth}
 use Rattle.pg_report.specs.declared.outcome.Item.{Item}
 use Rattle.pg_report.specs.declared.outcome.Answer.TheVariants.{Unit as AnswersUnit}
 use Rattle.pg_report.specs.declared.outcome.End.{End}
@@ -70,7 +70,7 @@ use Rattle.pg_play.proofs.PartLaws.{no_error}
 use Rattle.pg_play.proofs.ToldLaws.{fine_own}
 use Rattle.pg_play.proofs.SettledLaws.{settles_later}
 use Rattle.pg_play.proofs.NextLaws.{knows_next, replies_same}
-use Rattle.pg_play.proofs.ThroughLaws.{counted_by, handed_described, handed_asking, handed_ended}
+use Rattle.pg_play.proofs.ThroughLaws.{two_at_most, counted_by, handed_described, handed_asking, handed_ended}
 use Rattle.pg_play.proofs.ExchangeLaws.{first_request, first_acts, first_begins_with, first_waits, first_widths, last_next, describes, no_flush, bound_by, next_bound, next_runs}
 use Rattle.pg_play.proofs.DueLaws.{WithinMost, most_by, some_of, polled_most, and_true, duly_step, duly_later, duly_out, dropped_out, dropped_from}
 use Rattle.pg_play.proofs.PlaceLaws.{ends_summary, next_place, own_groups}
@@ -93,7 +93,7 @@ first_step step = record step { call = first_call step.call }
 -- a step of one exchange
 one_step : (start : StreamSeen) (at mid next : Place) (d : ConnSeen) (step : Step) (raw told out : Outcome) (one : Plays_call at (first_step step) raw mid) → IsNeverUnlawful at raw mid → WaitPlaces at raw mid → NoneFalls at.seen.link mid.seen.link → Settles at (first_step step) raw told one.own mid next → StandsAt start next d
     → TellsAll (told ∷ []) out → (is_fine told.end ≡ true → next_call (first_call step.call) one.told.response ≡ None) → next.seen.link.calls ≤ at.seen.link.calls + 256 * (step.polls + step.most) → (out.end ≡ ends.Dropped → IsDropped at step out mid) → (acts_at_once step.call ≡ true → ActsAtOnce at out mid)
-    → (acts_at_once step.call ≡ false → EndsDuly at step (first_of (asked_of at.depth step.call)) out mid) → StepsTo start at step out d
+    → (acts_at_once step.call ≡ false → EndsDuly at step (first_of (asked_of at.rule.depth step.call)) out mid) → StepsTo start at step out d
 unfolding exchanged
 one_step start at mid next d step raw told out one lawful waits counts s stands tells last calls dropped now duly = (
   next,
@@ -123,7 +123,7 @@ told_in {start} {at} {old} {m} {step} {shown} {end} {mid} c = told_of shown end 
 two_steps : (start : StreamSeen) (at mid mid' : Place) (old old' : Counted) (m c m' d : ConnSeen) (step later : Step) (shown : List Item) (end : End) (out : Outcome) (one : Called start at old m (first_step step) [] (ends.Ok AnswersUnit) mid) (s : SettlesTo start at (first_step step) (told_in one) one.one.own mid m c)
     → (two : Called start s.next old' m' later shown end mid') (t : SettlesTo start s.next later (told_in two) two.one.own mid' m' d) → limits_of later ≡ limits_of step → next_call (first_call step.call) one.one.told.response ≡ Some later.call → (is_fine end ≡ true → next_call later.call two.one.told.response ≡ None)
     → TellsAll (s.out ∷ t.out ∷ []) out → t.next.seen.link.calls ≤ at.seen.link.calls + 256 * (step.polls + step.most) → (out.end ≡ ends.Dropped → IsDropped at step out mid') → acts_at_once step.call ≡ false
-    → EndsDuly at step (first_of (asked_of at.depth step.call)) out mid' → StepsTo start at step out d
+    → EndsDuly at step (first_of (asked_of at.rule.depth step.call)) out mid' → StepsTo start at step out d
 unfolding exchanged
 two_steps start at mid mid' old old' m c m' d step later shown end out one s two t limits hands last tells calls dropped waits duly = (
   t.next,
@@ -229,17 +229,17 @@ last_by d call response ends.Dropped l f = absurd cc
 
 -- its first exchange ended the call
 polled_one : (start : StreamSeen) (at : Place) (a b : ConnSeen) (step : Step) (out : Outcome) → StandsAt start at a → (IsUnpolled step → ⊥) → (OpensSavepoint at step → ⊥) → acts_at_once step.call ≡ false → step.polls < 2 ^ 32
-    → PlaysOne (limits_of step) (begun_call (request_of at.depth (first_call step.call)) a).stream (begun_call (request_of at.depth (first_call step.call)) a) b (request_of at.depth (first_call step.call)) out → StepsTo start at step out b
+    → PlaysOne (limits_of step) (begun_call (request_of at.rule.depth (first_call step.call)) a).stream (begun_call (request_of at.rule.depth (first_call step.call)) a) b (request_of at.rule.depth (first_call step.call)) out → StepsTo start at step out b
 polled_one start at a b step out st n opens later p (m, (said, fs, e, last), over, is, outcome) =
     let first = first_step step in
     let waits : acts_at_once first.call ≡ false = first_acts step.call ∙ later in
-    let r = request_of at.depth first.call in
+    let r = request_of at.rule.depth first.call in
     let begun = begun_call r a in
-    let found = ends_summary a.broken (limits_of step) begun.stream begun m at.depth first.call said (heard fs) out.items out.end e.ends in
+    let found = ends_summary a.broken (limits_of step) begun.stream begun m at.rule.depth first.call said (heard fs) out.items out.end e.ends in
     let s = found.1 in
     let room = st.room in
     let mid : Place = next_place at m said s.own fs out.end in
-    let knows = knows_none start at a m first said fs found.0 (refuses_copy out.end) out.end st s (first_widths at.depth step.call) in
+    let knows = knows_none start at a m first said fs found.0 (refuses_copy out.end) out.end st s (first_widths at.rule.depth step.call) in
     let c = called_exchange start begun.stream none_counted at a m first out.items out.end said fs st waits p refl e over (omega (arith, room)) found knows in
     let told : Outcome = told_in c in
     let raw : Outcome = outcome_of m out.items out.end in
@@ -247,15 +247,15 @@ polled_one start at a b step out st n opens later p (m, (said, fs, e, last), ove
     let settled = settles_call start at mid m first told c.one waits c.stands c.small (omega (arith, c.grew.groups, c.one.numbers.groups, c.small)) e.went.started.3 in
     let real : Outcome = outcome_of d out.items out.end in
     let same : real ≡ record raw { groups = d.groups } = same_but_groups m d out.items out.end settled.others in
-    let most = λ (w : waits_to_show step.call ≡ false). most_by at.depth a.broken (limits_of step) begun.stream begun m first said (heard fs) out.items out.end (first_waits step.call w) (polled_most step n) e.ends in
-    let dues : EndsDuly at step r raw mid = duly_step start at a m step r raw said fs found.0 st n opens p e s refl (λ x. ap (λ (y : Call). request_of at.depth (first_call y)) x) most in
+    let most = λ (w : waits_to_show step.call ≡ false). most_by at.rule.depth a.broken (limits_of step) begun.stream begun m first said (heard fs) out.items out.end (first_waits step.call w) (polled_most step n) e.ends in
+    let dues : EndsDuly at step r raw mid = duly_step start at a m step r raw said fs found.0 st n opens p e s refl (λ x. ap (λ (y : Call). request_of at.rule.depth (first_call y)) x) most in
     let steps : StepsTo start at step real d = one_step start at mid settled.next d step told settled.out real c.one c.lawful c.places c.counts settled.settles settled.stands
     (counted_tells start at mid m d first told step.polls c.one settled c.grew p (waited_most (limits_of step) begun.stream m out.end refl e.few))
-    (λ f. last_by at.depth first.call c.one.told.response out.end last (sym (ap (λ (x : Outcome). is_fine x.end) settled.settles.outcome) ∙ f))
+    (λ f. last_by at.rule.depth first.call c.one.told.response out.end last (sym (ap (λ (x : Outcome). is_fine x.end) settled.settles.outcome) ∙ f))
     (omega (arith, e.calls, ap (λ (x : StreamSeen). x.link.calls) st.seen, ap (λ (x : StreamSeen). x.link.calls) settled.settles.seen))
     (λ k. dropped_out at step raw real mid same (dropped_step a.broken start begun.stream none_counted at a m first said fs out.items out.end found.0 st refl refl p k e.ends s))
     (λ now. let x = sym later ∙ now in absurd cc)
-    (λ x. subst (λ (q : Request). EndsDuly at step q real mid) (first_request at.depth step.call) (duly_out at step r raw real mid same (behind_none out.end m) dues)) in
+    (λ x. subst (λ (q : Request). EndsDuly at step q real mid) (first_request at.rule.depth step.call) (duly_out at step r raw real mid same (behind_none out.end m) dues)) in
     subst (λ (x : Outcome). StepsTo start at step x b) (sym (outcome ∙ ap (λ (x : ConnSeen). outcome_of x out.items out.end) is)) (subst (λ (x : ConnSeen). StepsTo start at step real x) (sym is) steps)
 
 described_cleans : (d : ℕ) (x : Extended) (end : End) (own : List Group) (n : ℕ) → cleanup_of d (calls.Describe x) end own n ≡ []
@@ -264,66 +264,66 @@ described_cleans d x end (g ∷ gs) n = refl
 
 -- behind a description that was answered, the columns of the statement are known
 knows_later : (start : StreamSeen) (at next : Place) (a c m : ConnSeen) (x : Extended) (reply : List BackendMessage) (slice : List Frame) (said : List FrontendMessage) (fs : List Frame) (items : List CallItem) (copied : Bool) (end : End) → StandsAt start at a → StandsAt start next c
-    → next.groups ≡ at.groups ++ describing [] x.sql x.arguments.types ∷ [] → heard next.frames ≡ heard at.frames ++ slice → c.ledger.owed ≡ 0 → count_by is_ready slice ≡ a.ledger.owed + 1 → HasNoError slice → EndsByReady slice → after_readys a.ledger.owed slice ≡ map backend_frame reply → AllByRecursion HasBackendFrame reply
-    → (s : Summary c.ledger (request_of next.depth (calls.Run (bound_by x reply))) said (heard fs) items m.ledger copied) → Knows (([], length (described reply)) ∷ []) next s.own (heard fs) (next_place next m said s.own fs end)
+    → next.groups ≡ at.groups ++ describing (name_of x.statement) x.sql x.arguments.types ∷ [] → heard next.frames ≡ heard at.frames ++ slice → c.ledger.owed ≡ 0 → count_by is_ready slice ≡ a.ledger.owed + 1 → HasNoError slice → EndsByReady slice → after_readys a.ledger.owed slice ≡ map backend_frame reply → AllByRecursion HasBackendFrame reply
+    → (s : Summary c.ledger (request_of next.rule.depth (calls.Run (bound_by x reply))) said (heard fs) items m.ledger copied) → Knows ((name_of x.statement, length (described reply)) ∷ []) next s.own (heard fs) (next_place next m said s.own fs end)
 knows_later start at next a c m x reply slice said fs items copied end st st' groups frames owes count fine ends replied has s group front last in_own l =
-    let r : Request = request_of next.depth (calls.Run (bound_by x reply)) in
+    let r : Request = request_of next.rule.depth (calls.Run (bound_by x reply)) in
     let one : length s.own ≡ 1 = ap (λ (g : List Group). length g) last in
     let q = queued_one c.ledger.owed r s.own (heard fs) s.queued one in
-    let own = subst (AllByRecursion IsGroup) last (own_groups c.ledger.owed next.depth (calls.Run (bound_by x reply)) s.own (heard fs) s.queued) in
+    let own = subst (AllByRecursion IsGroup) last (own_groups c.ledger.owed next.rule.depth (calls.Run (bound_by x reply)) s.own (heard fs) s.queued) in
     let main : main_frames next s.own (heard fs) ≡ heard fs = main_after start next c r s.own (heard fs) st' q ∙ ap (λ (k : ℕ). after_readys k (heard fs)) owes in
-    let all : next.groups ++ s.own ≡ (at.groups ++ describing [] x.sql x.arguments.types ∷ []) ++ group ∷ [] = ap₂ (λ (g h : List Group). g ++ h) groups last in
+    let all : next.groups ++ s.own ≡ (at.groups ++ describing (name_of x.statement) x.sql x.arguments.types ∷ []) ++ group ∷ [] = ap₂ (λ (g h : List Group). g ++ h) groups last in
     let listened : heard (next.frames ++ fs) ≡ (heard at.frames ++ slice) ++ heard fs = heard-append next.frames fs ∙ ap (λ (h : List Frame). h ++ heard fs) frames in
     let may = subst (λ (g : List Group). MayHear (said_in g) (((heard at.frames ++ slice) ++ heard fs) ++ front ∷ [])) all (subst (λ (h : List Frame). MayHear (said_in (next.groups ++ s.own)) (h ++ front ∷ [])) listened l) in
-    let answered : count_by is_ready ((heard at.frames ++ slice) ++ heard fs) ≡ length at.groups + 1 = ap (λ (h : List Frame). count_by is_ready h) (sym listened) ∙ in_own ∙ ap (λ (g : List Group). length g) groups ∙ length-append at.groups (describing [] x.sql x.arguments.types ∷ []) in
-    subst (λ (h : List Frame). BeginsKnowing (([], length (described reply)) ∷ []) group (h ++ front ∷ [])) (sym main)
-    (knows_next at.groups x.sql x.arguments.types group a.ledger.owed (heard at.frames) slice (heard fs) front reply st.are_groups own.0 may st.ledger st.between count answered fine ends replied has)
+    let answered : count_by is_ready ((heard at.frames ++ slice) ++ heard fs) ≡ length at.groups + 1 = ap (λ (h : List Frame). count_by is_ready h) (sym listened) ∙ in_own ∙ ap (λ (g : List Group). length g) groups ∙ length-append at.groups (describing (name_of x.statement) x.sql x.arguments.types ∷ []) in
+    subst (λ (h : List Frame). BeginsKnowing ((name_of x.statement, length (described reply)) ∷ []) group (h ++ front ∷ [])) (sym main)
+    (knows_next at.groups (name_of x.statement) x.sql x.arguments.types group a.ledger.owed (heard at.frames) slice (heard fs) front reply st.are_groups own.0 may st.ledger st.between count answered fine ends replied has)
 
 -- its first exchange described the statement, and handed on the one that runs it, which ended the call
 polled_two : (start : StreamSeen) (at : Place) (a b : ConnSeen) (step : Step) (out : Outcome) → StandsAt start at a → (IsUnpolled step → ⊥) → (OpensSavepoint at step → ⊥) → acts_at_once step.call ≡ false → step.polls < 2 ^ 32
-    → (m : ConnSeen) (next : Request) → HandedOn step.polls (begun_call (request_of at.depth (first_call step.call)) a).stream (begun_call (request_of at.depth (first_call step.call)) a) m (request_of at.depth (first_call step.call)) next
-    → PlaysOne (limits_of step) (begun_call (request_of at.depth (first_call step.call)) a).stream (handed_from m next) b next out → StepsTo start at step out b
+    → (m : ConnSeen) (next : Request) → HandedOn step.polls (begun_call (request_of at.rule.depth (first_call step.call)) a).stream (begun_call (request_of at.rule.depth (first_call step.call)) a) m (request_of at.rule.depth (first_call step.call)) next
+    → PlaysOne (limits_of step) (begun_call (request_of at.rule.depth (first_call step.call)) a).stream (handed_from m next) b next out → StepsTo start at step out b
 unfolding called_exchange
 polled_two start at a b step out st n opens later p m next h (m', (said, fs, e, last), over, is, outcome) =
     let first = first_step step in
     let waits : acts_at_once first.call ≡ false = first_acts step.call ∙ later in
-    let r = request_of at.depth first.call in
+    let r = request_of at.rule.depth first.call in
     let begun = begun_call r a in
     let most : 0 < step.most = polled_most step n in
     let e1 = handed_ended (limits_of step) begun.stream begun m r next most h in
-    let found = ends_summary a.broken (limits_of step) begun.stream begun m at.depth first.call h.said (heard h.fs) [] (ends.Ok AnswersUnit) e1.ends in
+    let found = ends_summary a.broken (limits_of step) begun.stream begun m at.rule.depth first.call h.said (heard h.fs) [] (ends.Ok AnswersUnit) e1.ends in
     let s = found.1 in
     let room = st.room in
     let mid : Place = next_place at m h.said s.own h.fs (ends.Ok AnswersUnit) in
-    let knows = knows_none start at a m first h.said h.fs found.0 false (ends.Ok AnswersUnit) st s (first_widths at.depth step.call) in
+    let knows = knows_none start at a m first h.said h.fs found.0 false (ends.Ok AnswersUnit) st s (first_widths at.rule.depth step.call) in
     let c : Called start at none_counted m first [] (ends.Ok AnswersUnit) mid = called_exchange start begun.stream none_counted at a m first [] (ends.Ok AnswersUnit) h.said h.fs st waits p refl e1 h.over (omega (arith, room)) found knows in
     let told : Outcome = told_in c in
     let behind : SettlesTo start at first told c.one.own mid m (settled m) = settles_call start at mid m first told c.one waits c.stands c.small (omega (arith, c.grew.groups, c.one.numbers.groups, c.small)) e1.went.started.3 in
     let f = h.ends.0.0 in
     let reply = f.reply in
-    let asks = describes at.depth first.call (handed_described step.polls begun.stream begun m r next h) in
+    let asks = describes at.rule.depth first.call (handed_described step.polls begun.stream begun m r next h) in
     let x = asks.0 in
-    let whole : s.own ≡ describing [] x.sql x.arguments.types ∷ [] = fine_own a.ledger r h.said (heard h.fs) [] found.0 m.ledger false s f ∙ ap (λ (y : Call). groups_of (request_of at.depth y)) asks.1 in
+    let whole : s.own ≡ describing (name_of x.statement) x.sql x.arguments.types ∷ [] = fine_own a.ledger r h.said (heard h.fs) [] found.0 m.ledger false s f ∙ ap (λ (y : Call). groups_of (request_of at.rule.depth y)) asks.1 in
     let q = queued_one a.ledger.owed r s.own (heard h.fs) s.queued (ap (λ (g : List Group). length g) whole) in
     let same_reply : c.one.told.response ≡ reply = replies_same c.one.told.response reply (sym c.one.told.says.0 ∙ main_after start at a r s.own (heard h.fs) st q ∙ f.replied) c.one.told.says.1 f.reply_has_frames in
     let bound : Bound = bound_by x reply in
     let run : Request = requests.Run bound in
-    let is_next : next ≡ run = next_bound x reply f.status next (subst (λ (y : Request). answer_by y reply f.status ≡ Ok (answers.Next next)) (ap (request_of at.depth) asks.1) h.ends.0.1) in
+    let is_next : next ≡ run = next_bound x reply f.status next (subst (λ (y : Request). answer_by y reply f.status ≡ Ok (answers.Next next)) (ap (request_of at.rule.depth) asks.1) h.ends.0.1) in
     let second : Step = record step { call = calls.Run bound } in
     let hands : next_call (first_call step.call) c.one.told.response ≡ Some (calls.Run bound) = ap (λ (y : Call). next_call y c.one.told.response) asks.1 ∙ ap (λ (ms : List BackendMessage). Some (calls.Run (bound_by x ms))) same_reply in
     let at' : Place = behind.next in
     let a' : ConnSeen = settled m in
-    let none : behind.settles.cleanup ≡ [] = behind.settles.cleans ∙ ap (λ (y : Call). cleanup_of at.depth y told.end c.one.own (owed mid)) asks.1 ∙ described_cleans at.depth x told.end c.one.own (owed mid) in
-    let groups : at'.groups ≡ at.groups ++ describing [] x.sql x.arguments.types ∷ [] = behind.settles.groups ∙ ap (λ (g : List Group). (at.groups ++ s.own) ++ g) none ∙ append-nil (at.groups ++ s.own) ∙ ap (λ (g : List Group). at.groups ++ g) whole in
+    let none : behind.settles.cleanup ≡ [] = behind.settles.cleans ∙ ap (λ (y : Call). cleanup_of at.rule.depth y told.end c.one.own (owed mid)) asks.1 ∙ described_cleans at.rule.depth x told.end c.one.own (owed mid) in
+    let groups : at'.groups ≡ at.groups ++ describing (name_of x.statement) x.sql x.arguments.types ∷ [] = behind.settles.groups ∙ ap (λ (g : List Group). (at.groups ++ s.own) ++ g) none ∙ append-nil (at.groups ++ s.own) ∙ ap (λ (g : List Group). at.groups ++ g) whole in
     let frames : heard at'.frames ≡ heard at.frames ++ heard h.fs = ap heard behind.settles.frames ∙ heard-append at.frames h.fs in
     let e' : Ended (limits_of step) begun.stream (asking run (counted_by m) a') m' run out.items out.end said fs =
     subst (λ (y : Request). Ended (limits_of step) begun.stream (asking y (counted_by m) a') m' y out.items out.end said fs) is_next
     (subst (λ (y : ConnSeen). Ended (limits_of step) begun.stream y m' next out.items out.end said fs) (handed_asking step.polls begun.stream begun m r next h) e) in
-    let found' = ends_summary a'.broken (limits_of step) begun.stream (asking run (counted_by m) a') m' at'.depth second.call said (heard fs) out.items out.end e'.ends in
+    let found' = ends_summary a'.broken (limits_of step) begun.stream (asking run (counted_by m) a') m' at'.rule.depth second.call said (heard fs) out.items out.end e'.ends in
     let s' = found'.1 in
     let room' = behind.stands.room in
     let mid' : Place = next_place at' m' said s'.own fs out.end in
-    let count : count_by is_ready (heard h.fs) ≡ a.ledger.owed + 1 = f.counted ∙ ap (λ (y : Call). a.ledger.owed + length (groups_of (request_of at.depth y))) asks.1 in
+    let count : count_by is_ready (heard h.fs) ≡ a.ledger.owed + 1 = f.counted ∙ ap (λ (y : Call). a.ledger.owed + length (groups_of (request_of at.rule.depth y))) asks.1 in
     let knows' = knows_later start at at' a a' m' x reply (heard h.fs) said fs found'.0 (refuses_copy out.end) out.end st behind.stands groups frames f.owes count (no_error (heard h.fs) f.well) f.ends f.replied f.reply_has_frames s' in
     let c' : Called start at' (counted_by m) m' second out.items out.end mid' = called_exchange start begun.stream (counted_by m) at' a' m' second out.items out.end said fs behind.stands refl p refl e' over (omega (arith, room')) found' knows' in
     let d : ConnSeen = behind_end out.end m' in
@@ -332,20 +332,25 @@ polled_two start at a b step out st n opens later p m next h (m', (said, fs, e, 
     let real : Outcome = outcome_of d out.items out.end in
     let same : real ≡ record raw { groups = d.groups } = same_but_groups m' d out.items out.end behind'.others in
     let runs = next_runs step.call c.one.told.response (calls.Run bound) hands in
-    let shows = λ (w : waits_to_show step.call ≡ false). most_by at'.depth a'.broken (limits_of step) begun.stream (asking run (counted_by m) a') m' second said (heard fs) out.items out.end (ap waits_to_show runs.1 ∙ sym (ap waits_how runs.2) ∙ w) most e'.ends in
+    let shows = λ (w : waits_to_show step.call ≡ false). most_by at'.rule.depth a'.broken (limits_of step) begun.stream (asking run (counted_by m) a') m' second said (heard fs) out.items out.end (ap waits_to_show runs.1 ∙ sym (ap waits_how runs.2) ∙ w) most e'.ends in
     let dues : EndsDuly at step r raw mid' = duly_later begun.stream at mid' m' step r raw refl refl n opens p e'.few refl (sym st.broken ∙ h.whole.0) h.can (no_flush step.call x asks.1) shows in
     let tells : TellsAll (behind.out ∷ behind'.out ∷ []) real = two_tell start at mid mid' at' m a' m' d first second told (told_in c') step.polls c.one behind c'.one behind' c.grew c'.grew refl (omega (arith, c.one.numbers.groups, c.small)) p (waited_most (limits_of step) begun.stream m' out.end refl e'.few) in
     let steps : StepsTo start at step real d = two_steps start at mid mid' none_counted (counted_by m) m a' m' d step second out.items out.end real c behind c' behind' refl hands (λ z. refl) tells
     (omega (arith, e'.calls, ap (λ (y : StreamSeen). y.link.calls) st.seen, ap (λ (y : StreamSeen). y.link.calls) behind'.settles.seen))
     (λ k. dropped_out at step raw real mid' same (dropped_from at at' mid' step raw (omega (arith, c.counts.write_waits, ap (λ (y : StreamSeen). y.link.write_waits) behind.settles.seen))
     (dropped_step a'.broken start begun.stream (counted_by m) at' a' m' second said fs out.items out.end found'.0 behind.stands refl refl p k e'.ends s')))
-    later (subst (λ (y : Request). EndsDuly at step y real mid') (first_request at.depth step.call) (duly_out at step r raw real mid' same (behind_none out.end m') dues)) in
+    later (subst (λ (y : Request). EndsDuly at step y real mid') (first_request at.rule.depth step.call) (duly_out at step r raw real mid' same (behind_none out.end m') dues)) in
     subst (λ (y : Outcome). StepsTo start at step y b) (sym (outcome ∙ ap (λ (y : ConnSeen). outcome_of y out.items out.end) is)) (subst (λ (y : ConnSeen). StepsTo start at step real y) (sym is) steps)
 
 polled_step : (start : StreamSeen) (at : Place) (a b : ConnSeen) (step : Step) (out : Outcome) → StandsAt start at a → (IsUnpolled step → ⊥) → (OpensSavepoint at step → ⊥) → acts_at_once step.call ≡ false → step.polls < 2 ^ 32
-    → PlaysCall (limits_of step) (begun_call (request_of at.depth (first_call step.call)) a) b (request_of at.depth (first_call step.call)) out → StepsTo start at step out b
-polled_step start at a b step out st n opens later p (inl one) = polled_one start at a b step out st n opens later p one
-polled_step start at a b step out st n opens later p (inr (m, next, h, two)) = polled_two start at a b step out st n opens later p m next h two
+    → PlaysCall (limits_of step) (begun_call (request_of at.rule.depth (first_call step.call)) a) b (request_of at.rule.depth (first_call step.call)) out → StepsTo start at step out b
+polled_step start at a b step out st n opens later p played =
+    let asks = request_of at.rule.depth (first_call step.call) in
+    let begun = begun_call asks a in
+    elim (two_at_most step.polls begun.stream (λ x asked. PlaysOne (limits_of step) begun.stream x b asked out) begun asks played) [
+      | inl one ↦ polled_one start at a b step out st n opens later p one
+      | inr two ↦ polled_two start at a b step out st n opens later p two.0 two.1 two.2 two.3
+    ]
 
 -- a step that does nothing, and is no failure of the server
 abbrev IsQuiet : End → Type 0
@@ -424,11 +429,11 @@ quiet_call at step out end k q f c now =
       own = [];
       slice = [];
       queued = record {
-        asks = quiet_queues out.end (groups_of (request_of at.depth step.call)) quiet (λ e. at_once_asks at.depth step.call (fine e));
+        asks = quiet_queues out.end (groups_of (request_of at.rule.depth step.call)) quiet (λ e. at_once_asks at.rule.depth step.call (fine e));
         can = λ n. absurd (n refl);
         said = sym (ap (λ (x : List FrontendMessage). at.said ++ x) (quiet_said at out.end quiet) ∙ append-nil at.said);
         groups = sym (append-nil at.groups);
-        depth = refl;
+        rule = refl;
         taken = sym (append-nil (heard at.frames));
         failed = sym (and_true at.is_copy_failed);
         broken = sym (quiet_breaks at.broken out.end quiet);
@@ -455,15 +460,15 @@ quiet_call at step out end k q f c now =
 
 -- and the connection makes nothing of it
 quiet_step : (start : StreamSeen) (at : Place) (a : ConnSeen) (step : Step) (out : Outcome) (end : End) → StandsAt start at a → acts_at_once step.call ≡ false → is_fine end ≡ false → out ≡ untouched end → IsQuiet end → (one : Plays_call at (first_step step) out at) → one.own ≡ [] → (out.end ≡ ends.Dropped → IsDropped at step out at)
-    → EndsDuly at step (first_of (asked_of at.depth step.call)) out at → StepsTo start at step out a
+    → EndsDuly at step (first_of (asked_of at.rule.depth step.call)) out at → StepsTo start at step out a
 quiet_step start at a step out end st later f k q one none dropped duly =
     let ends_so : out.end ≡ end = ap (λ (x : Outcome). x.end) k in
     let groups : out.groups ≡ 0 = ap (λ (x : Outcome). x.groups) k in
     let waits : acts_at_once (first_call step.call) ≡ false = first_acts step.call ∙ later in
     let settles : Settles at (first_step step) out out one.own at at = record {
       cleanup = [];
-      cleans = rw none (sym (cleanup_polled at.depth (first_call step.call) out.end [] (owed at) waits));
-      depth = sym (depth_other at.depth (first_call step.call) out.end (ap is_fine ends_so ∙ f) waits);
+      cleans = rw none (sym (cleanup_polled at.rule.depth (first_call step.call) out.end [] (owed at) waits));
+      rule = ap (λ (n : ℕ). with_depth n at.rule) (sym (depth_other at.rule.depth (first_call step.call) out.end (ap is_fine ends_so ∙ f) waits));
       said = sym (append-nil at.said);
       groups = sym (append-nil at.groups);
       seen = ap (λ (u : List ℕ). record at.seen { unsent = u }) (sym (append-nil at.seen.unsent));
@@ -530,7 +535,7 @@ refused_duly at step r out n opens k = record {
 rolled_call : (at : Place) (step : Step) → step.call ≡ calls.StartRollback → Plays_call at step (untouched (ends.Ok AnswersUnit)) at
 rolled_call at step c = quiet_call at step (untouched (ends.Ok AnswersUnit)) (ends.Ok AnswersUnit) refl (inr (inr (inr refl))) (λ f. ap acts_at_once c) tt (λ now. (refl, refl))
 
-rolled_step : (start : StreamSeen) (at : Place) (a b : ConnSeen) (step : Step) → StandsAt start at a → a.depth < 2 ^ 64 → step.call ≡ calls.StartRollback → b ≡ rolled_back a → StepsTo start at step (rolled_outcome b) b
+rolled_step : (start : StreamSeen) (at : Place) (a b : ConnSeen) (step : Step) → StandsAt start at a → a.rule.depth < 2 ^ 64 → step.call ≡ calls.StartRollback → b ≡ rolled_back a → StepsTo start at step (rolled_outcome b) b
 unfolding quiet_call rolled_call
 rolled_step start at a b step st l c is =
     let told : Outcome = untouched (ends.Ok AnswersUnit) in
@@ -547,23 +552,23 @@ rolled_step start at a b step st l c is =
 undropped : {P : Type 0} (out : Outcome) (e : Error) → out ≡ untouched (ends.Err e) → out.end ≡ ends.Dropped → P
 undropped {P} out e k d = let x : ends.Err e ≡ ends.Dropped = sym (ap (λ (z : Outcome). z.end) k) ∙ d in absurd cc
 
-pub plays_step : (start : StreamSeen) (at : Place) (a b : ConnSeen) (step : Step) (out : Outcome) → StandsAt start at a → a.depth < 2 ^ 64 → PlaysStep a b step out → StepsTo start at step out b
+pub plays_step : (start : StreamSeen) (at : Place) (a b : ConnSeen) (step : Step) (out : Outcome) → StandsAt start at a → a.rule.depth < 2 ^ 64 → PlaysStep a b step out → StepsTo start at step out b
 unfolding quiet_call unpolled_call unmade_call refused_call
 plays_step start at a b step out st l (inl (c, is, k)) = subst (λ (x : Outcome). StepsTo start at step x b) (sym k) (rolled_step start at a b step st l c is)
 plays_step start at a b step out st l (inr (later, inl (u, is, k))) =
-    subst (λ (x : ConnSeen). StepsTo start at step out x) (sym is) (quiet_step start at a step out ends.Dropped st later refl k (inl refl) (unpolled_call at (first_step step) out (first_acts step.call ∙ later) k) refl (λ x. inl u) (unpolled_duly at step (first_of (asked_of at.depth step.call)) out u k))
+    subst (λ (x : ConnSeen). StepsTo start at step out x) (sym is) (quiet_step start at a step out ends.Dropped st later refl k (inl refl) (unpolled_call at (first_step step) out (first_acts step.call ∙ later) k) refl (λ x. inl u) (unpolled_duly at step (first_of (asked_of at.rule.depth step.call)) out u k))
 plays_step start at a b step out st l (inr (later, inr (n, p, inl (opens, is, k)))) =
-    let asked : OpensSavepoint at step = (opens.0, omega (arith, opens.1, st.depth)) in
+    let asked : OpensSavepoint at step = (opens.0, omega (arith, opens.1, depth_stands start at a st)) in
     subst (λ (x : ConnSeen). StepsTo start at step out x) (sym is) (quiet_step start at a step out (ends.Err errors.InvalidSavePointStatement) st later refl k (inr (inr (inl refl))) (refused_call at (first_step step) out (first_acts step.call ∙ later) (first_begins_with step.call ∙ asked.0, asked.1) k) refl (undropped out errors.InvalidSavePointStatement k)
-    (refused_duly at step (first_of (asked_of at.depth step.call)) out n asked k))
+    (refused_duly at step (first_of (asked_of at.rule.depth step.call)) out n asked k))
 plays_step start at a b step out st l (inr (later, inr (n, p, inr (opens, inl (is, k, h))))) =
-    subst (λ (x : ConnSeen). StepsTo start at step out x) (sym is) (quiet_step start at a step out (ends.Err errors.OutOfMemory) st later refl k (inr (inl refl)) (unmade_call at (first_step step) out (first_acts step.call ∙ later) k) refl (undropped out errors.OutOfMemory k) (unmade_duly at step (first_of (asked_of at.depth step.call)) out n (opens_not at a step st opens) h k))
+    subst (λ (x : ConnSeen). StepsTo start at step out x) (sym is) (quiet_step start at a step out (ends.Err errors.OutOfMemory) st later refl k (inr (inl refl)) (unmade_call at (first_step step) out (first_acts step.call ∙ later) k) refl (undropped out errors.OutOfMemory k) (unmade_duly at step (first_of (asked_of at.rule.depth step.call)) out n (opens_not at a step st opens) h k))
   where
-    opens_not : (at : Place) (a : ConnSeen) (step : Step) → StandsAt start at a → ((begins_with step.call ≡ true) × (0 < a.depth) → ⊥) → OpensSavepoint at step → ⊥
-    opens_not at a step st f o = f (o.0, omega (arith, o.1, st.depth))
+    opens_not : (at : Place) (a : ConnSeen) (step : Step) → StandsAt start at a → ((begins_with step.call ≡ true) × (0 < a.rule.depth) → ⊥) → OpensSavepoint at step → ⊥
+    opens_not at a step st f o = f (o.0, omega (arith, o.1, depth_stands start at a st))
 plays_step start at a b step out st l (inr (later, inr (n, p, inr (opens, inr played)))) =
-    polled_step start at a b step out st n (λ o. opens (o.0, omega (arith, o.1, st.depth))) later p
-    (subst (λ (q : Request). PlaysCall (limits_of step) (begun_call q a) b q out) (sym (first_request at.depth step.call)) (subst (λ (d : ℕ). PlaysCall (limits_of step) (begun_call (first_of (asked_of d step.call)) a) b (first_of (asked_of d step.call)) out) st.depth (played st.idle)))
+    polled_step start at a b step out st n (λ o. opens (o.0, omega (arith, o.1, depth_stands start at a st))) later p
+    (subst (λ (q : Request). PlaysCall (limits_of step) (begun_call q a) b q out) (sym (first_request at.rule.depth step.call)) (subst (λ (d : ℕ). PlaysCall (limits_of step) (begun_call (first_of (asked_of d step.call)) a) b (first_of (asked_of d step.call)) out) (depth_stands start at a st) (played st.idle)))
 
 -- ---- steps one after another
 
@@ -573,7 +578,7 @@ plays_more at mid next [] (o ∷ outs) step out run one = absurd run
 plays_more at mid next (s ∷ steps) [] step out run one = absurd run
 plays_more at mid next (s ∷ steps) (o ∷ outs) step out run one = (run.0, run.1, plays_more run.0 mid next steps outs step out run.2 one)
 
-pub plays_on : (a b c : ConnSeen) (steps : List Step) (outs : List Outcome) (step : Step) (out : Outcome) → PlaysOn a b steps outs → b.depth < 2 ^ 64 → PlaysStep b c step out → PlaysOn a c (steps ++ step ∷ []) (outs ++ out ∷ [])
+pub plays_on : (a b c : ConnSeen) (steps : List Step) (outs : List Outcome) (step : Step) (out : Outcome) → PlaysOn a b steps outs → b.rule.depth < 2 ^ 64 → PlaysStep b c step out → PlaysOn a c (steps ++ step ∷ []) (outs ++ out ∷ [])
 plays_on a b c steps outs step out run d call start at st =
     let so_far = run start at st in
     let one = plays_step start so_far.0 b c step out so_far.2 d call in
@@ -591,7 +596,7 @@ stands_first opening polls link a g = rw g.fresh (record {
   failed = λ o. absurd (omega (arith, o));
   broken = refl;
   seen = refl;
-  depth = refl;
+  rule = refl;
   room = omega arith;
   idle = refl;
   sayable = tt;

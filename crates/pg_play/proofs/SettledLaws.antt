@@ -1,8 +1,9 @@
 -- Where the connection stands once it has settled the end of a step's call.
-use Rattle.std.proofs.Common.{◌≡◌, ◌≢◌, ℕ, zero, suc, ◌+◌, ◌-◌, ◌^◌, ◌<◌, ◌≤◌, Bool, true, false, not, ◌&&◌, cond, nat_eq, ltb, List, [], ◌∷◌, ◌++◌, length, refl, sym, ap, ◌∙◌, subst, arith, append-nil, length-append, inl, ne_eqb}
+use Rattle.std.proofs.Common.{◌≡◌, ◌≢◌, ℕ, zero, suc, ◌+◌, ◌-◌, ◌^◌, ◌<◌, ◌≤◌, Bool, true, false, not, ◌&&◌, cond, nat_eq, ltb, List, [], ◌∷◌, ◌++◌, length, refl, sym, ap, ◌∙◌, subst, arith, append-nil, length-append, inl, ne_eqb, ap₂}
 use Rattle.std.specs.List.{AllByRecursion, count_by}
 use Rattle.std.proofs.lemmas.Bool.{ltb-true}
 use Rattle.std.proofs.lemmas.List.Concat.{flat_map-append}
+use Rattle.pg_rule.specs.declared.rule.Rule.{Rule}
 use Rattle.pg_wire.proofs.Each.{each_join}
 use Rattle.pg_wire.specs.Frame.{Frame}
 use Rattle.pg_wire.specs.Frontend.{FrontendMessage, HasFrontendFrame}
@@ -15,7 +16,7 @@ use Rattle.pg_request.proofs.TextLaws.{rollback_said}
 use Rattle.pg_call.specs.declared.kind.Change.{Change}
 use Rattle.pg_call.specs.declared.kind.Change.TheVariants as changes
 use Rattle.pg_call.specs.Requests.{Group, said_in, spelled, kind_of, change_of}
-use Rattle.pg_conn.specs.Connections.{ConnSeen, opens, depth_behind, settled, cleaned, ended, may_open, has_room_for, with_group, queued_group, rollback, counted_anew, rolled, rolled_back, left}
+use Rattle.pg_conn.specs.Connections.{ConnSeen, opens, depth_behind, settled, cleaned, ended, may_open, has_room_for, with_group, queued_group, rollback, counted_anew, rolled, rolled_back, left, with_depth}
 use Rattle.pg_conn.specs.Turns.{HasAllRoom, ends_request}
 use Rattle.pg_conn.proofs.TurnLaws.{spelled-append, counts-append}
 use Rattle.pg_conn.proofs.CleanupLaws.{fits_room, has_room, group_moves, rollback_short, opening, all_settled, all_cleaned, all_rolled}
@@ -37,13 +38,21 @@ use Rattle.pg_play.specs.Settling.{Settles, cleanup_of, depth_after, rollback_at
 use Rattle.pg_play.specs.Calls.{behind_end, untouched}
 use Rattle.pg_play.specs.Plays.{StandsAt, Plays_call}
 
+-- as many are open there as on the connection
+pub depth_stands : (start : StreamSeen) (at : Place) (a : ConnSeen) → StandsAt start at a → a.rule.depth ≡ at.rule.depth
+depth_stands start at a st = ap (λ (r : Rule). r.depth) st.rule
+
 -- ---- places behind it
 
 abbrev rolled_place : Place → ConnSeen → ℕ → ℕ → Place
-rolled_place mid d left depth = record mid { seen = d.stream; said = mid.said ++ rollback left; groups = mid.groups ++ rollback left ∷ []; is_copy_failed = not (nat_eq (owed mid) 0) && mid.is_copy_failed; depth = depth }
+rolled_place mid d left depth = record mid { seen = d.stream; said = mid.said ++ rollback left; groups = mid.groups ++ rollback left ∷ []; is_copy_failed = not (nat_eq (owed mid) 0) && mid.is_copy_failed; rule = with_depth depth mid.rule }
 
 abbrev rolled_conn : ConnSeen → ℕ → ℕ → ConnSeen
-rolled_conn m left depth = record (with_group (spelled (rollback left)) m) { depth = depth; change = changes.Stays }
+rolled_conn m left depth = record (with_group (spelled (rollback left)) m) { rule = with_depth depth m.rule; change = changes.Stays }
+
+-- the connection where so many are open, and no end of a call is awaited
+abbrev with_open : ℕ → ConnSeen → ConnSeen
+with_open depth m = record m { rule = with_depth depth m.rule; change = changes.Stays }
 
 said_rollback : (left : ℕ) → left < 2 ^ 64 → AllByRecursion HasFrontendFrame (rollback left)
 said_rollback left l = (rollback_said left l, tt)
@@ -79,7 +88,7 @@ stands_group start mid m left depth st l r room =
       failed = λ o. failed_group m.ledger.owed m.ledger.is_copy_failed mid.is_copy_failed st.failed ∙ ap (λ (n : ℕ). not (nat_eq n 0) && mid.is_copy_failed) (sym owes);
       broken = st.broken;
       seen = refl;
-      depth = refl;
+      rule = ap (with_depth depth) st.rule;
       room = room;
       idle = st.idle;
       sayable = each_join HasFrontendFrame mid.said (rollback left) st.sayable (said_rollback left l);
@@ -92,14 +101,14 @@ stands_group start mid m left depth st l r room =
     plain_group : (mid : Place) (left : ℕ) → mid.said ≡ said_in mid.groups → mid.said ++ rollback left ≡ said_in (mid.groups ++ rollback left ∷ [])
     plain_group mid left e = ap (λ (x : List FrontendMessage). x ++ rollback left) e ∙ sym (flat_map-append (λ g. g) mid.groups (rollback left ∷ []))
 
-stands_depth : (start : StreamSeen) (mid : Place) (m : ConnSeen) (depth : ℕ) → StandsAt start mid m → HasAllRoom (record m { depth = depth; change = changes.Stays }) → StandsAt start (record mid { depth = depth }) (record m { depth = depth; change = changes.Stays })
+stands_depth : (start : StreamSeen) (mid : Place) (m : ConnSeen) (depth : ℕ) → StandsAt start mid m → HasAllRoom (with_open depth m) → StandsAt start (record mid { rule = with_depth depth mid.rule }) (with_open depth m)
 stands_depth start mid m depth st room = record {
   flows = st.flows;
   ledger = st.ledger;
   failed = st.failed;
   broken = st.broken;
   seen = st.seen;
-  depth = refl;
+  rule = ap (with_depth depth) st.rule;
   room = room;
   idle = st.idle;
   sayable = st.sayable;
@@ -219,15 +228,15 @@ pub record SettlesTo (start : StreamSeen) (at : Place) (step : Step) (told : Out
   pub others : (d.heard ≡ m.heard) × (d.stream.waits ≡ m.stream.waits) × (d.stream.moves ≡ m.stream.moves)
 
 -- nothing is queued
-settles_plain : (start : StreamSeen) (at mid : Place) (m : ConnSeen) (step : Step) (told : Outcome) (own : List Group) (depth : ℕ) → StandsAt start mid m → HasAllRoom (record m { depth = depth; change = changes.Stays }) → told.groups ≡ length own
-    → [] ≡ cleanup_of at.depth step.call told.end own (owed mid) → depth ≡ depth_after at.depth step.call told.end → SettlesTo start at step told own mid m (record m { depth = depth; change = changes.Stays })
-settles_plain start at mid m step told own depth st room counts none after = record {
-  next = record mid { depth = depth };
+settles_plain : (start : StreamSeen) (at mid : Place) (m : ConnSeen) (step : Step) (told : Outcome) (own : List Group) (depth : ℕ) → StandsAt start mid m → mid.rule ≡ at.rule → HasAllRoom (with_open depth m) → told.groups ≡ length own
+    → [] ≡ cleanup_of at.rule.depth step.call told.end own (owed mid) → depth ≡ depth_after at.rule.depth step.call told.end → SettlesTo start at step told own mid m (with_open depth m)
+settles_plain start at mid m step told own depth st stays room counts none after = record {
+  next = record mid { rule = with_depth depth mid.rule };
   out = told;
   settles = record {
     cleanup = [];
     cleans = none;
-    depth = after;
+    rule = ap₂ with_depth after stays;
     said = sym (append-nil mid.said);
     groups = sym (append-nil mid.groups);
     seen = ap (λ (u : List ℕ). record mid.seen { unsent = u }) (sym (append-nil mid.seen.unsent));
@@ -243,17 +252,17 @@ settles_plain start at mid m step told own depth st room counts none after = rec
 }
 
 -- a rollback is
-settles_rolled : (start : StreamSeen) (at mid : Place) (m : ConnSeen) (step : Step) (told : Outcome) (own : List Group) → StandsAt start mid m → HasAllRoom (rolled_conn m 0 m.depth) → has_room_for (spelled (rollback 0)) m ≡ true → m.groups ≤ 1
-    → rollback 0 ∷ [] ≡ cleanup_of at.depth step.call told.end own (owed mid) → m.depth ≡ depth_after at.depth step.call told.end → SettlesTo start at step told own mid m (rolled_conn m 0 m.depth)
-settles_rolled start at mid m step told own st room r few cleanup after =
-    let d = rolled_conn m 0 m.depth in
+settles_rolled : (start : StreamSeen) (at mid : Place) (m : ConnSeen) (step : Step) (told : Outcome) (own : List Group) → StandsAt start mid m → mid.rule ≡ at.rule → HasAllRoom (rolled_conn m 0 m.rule.depth) → has_room_for (spelled (rollback 0)) m ≡ true → m.groups ≤ 1
+    → rollback 0 ∷ [] ≡ cleanup_of at.rule.depth step.call told.end own (owed mid) → m.rule.depth ≡ depth_after at.rule.depth step.call told.end → SettlesTo start at step told own mid m (rolled_conn m 0 m.rule.depth)
+settles_rolled start at mid m step told own st stays room r few cleanup after =
+    let d = rolled_conn m 0 m.rule.depth in
     record {
-      next = rolled_place mid d 0 m.depth;
+      next = rolled_place mid d 0 m.rule.depth;
       out = record told { groups = length own + 1 };
       settles = record {
         cleanup = rollback 0 ∷ [];
         cleans = cleanup;
-        depth = after;
+        rule = ap₂ with_depth after stays;
         said = refl;
         groups = refl;
         seen = ap (λ (x : StreamSeen). record x { unsent = x.unsent ++ spelled (rollback 0); spare = d.stream.spare; waits = m.stream.waits; moves = m.stream.moves }) st.seen;
@@ -263,7 +272,7 @@ settles_rolled start at mid m step told own st room r few cleanup after =
         outcome = refl;
         counted = omega arith;
       };
-      stands = stands_group start mid m 0 m.depth st (omega arith) r room;
+      stands = stands_group start mid m 0 m.rule.depth st (omega arith) r room;
       groups = omega (arith, few);
       others = (refl, refl, refl);
     }
@@ -329,56 +338,56 @@ behind_unfine (ends.Ok answer) m f = absurd cc
 behind_unfine (ends.Err e) m f = refl
 behind_unfine ends.Dropped m f = refl
 
-pub settles_call : (start : StreamSeen) (at mid : Place) (m : ConnSeen) (step : Step) (told : Outcome) (one : Plays_call at step told mid) → acts_at_once step.call ≡ false → StandsAt start mid m → length one.own ≤ 1 → m.groups ≡ length one.own → m.change ≡ change_of (kind_of (request_of at.depth step.call))
+pub settles_call : (start : StreamSeen) (at mid : Place) (m : ConnSeen) (step : Step) (told : Outcome) (one : Plays_call at step told mid) → acts_at_once step.call ≡ false → StandsAt start mid m → length one.own ≤ 1 → m.groups ≡ length one.own → m.change ≡ change_of (kind_of (request_of at.rule.depth step.call))
     → SettlesTo start at step told one.own mid m (behind_end told.end m)
 settles_call start at mid m step told one a st small groups change = by (is_fine told.end) refl
   where
-    depth_is : m.depth ≡ at.depth
-    depth_is = st.depth ∙ one.queued.depth
+    depth_is : m.rule.depth ≡ at.rule.depth
+    depth_is = ap (λ (r : Rule). r.depth) (st.rule ∙ one.queued.rule)
 
     counts : told.groups ≡ length one.own
     counts = one.numbers.groups
 
-    opening_is : (b : Bool) → may_open m.change m.groups m.depth ≡ b → not (nat_eq m.groups 0) && (nat_eq at.depth 0 && begins step.call) ≡ b
+    opening_is : (b : Bool) → may_open m.change m.groups m.rule.depth ≡ b → not (nat_eq m.groups 0) && (nat_eq at.rule.depth 0 && begins step.call) ≡ b
     opening_is b e =
-        ap (λ (o : Bool). not (nat_eq m.groups 0) && (nat_eq at.depth 0 && o)) (sym (opens_begins at.depth step.call))
-        ∙ ap (λ (n : ℕ). not (nat_eq m.groups 0) && (nat_eq n 0 && opens (change_of (kind_of (request_of at.depth step.call))))) (sym depth_is)
-        ∙ ap (λ (c : Change). not (nat_eq m.groups 0) && (nat_eq m.depth 0 && opens c)) (sym change) ∙ e
+        ap (λ (o : Bool). not (nat_eq m.groups 0) && (nat_eq at.rule.depth 0 && o)) (sym (opens_begins at.rule.depth step.call))
+        ∙ ap (λ (n : ℕ). not (nat_eq m.groups 0) && (nat_eq n 0 && opens (change_of (kind_of (request_of at.rule.depth step.call))))) (sym depth_is)
+        ∙ ap (λ (c : Change). not (nat_eq m.groups 0) && (nat_eq m.rule.depth 0 && opens c)) (sym change) ∙ e
 
     fine : is_fine told.end ≡ true → SettlesTo start at step told one.own mid m (settled m)
     fine f =
-        settles_plain start at mid m step told one.own (depth_behind m.change m.groups m.depth) st (all_settled m st.room) counts
-        (ok_cleans_none at.depth step.call one.own ∙ ap (λ (b : Bool). cleanup_by at.depth step.call b one.own) (sym f) ∙ sym (cleanup_polled at.depth step.call told.end one.own (owed mid) a))
+        settles_plain start at mid m step told one.own (depth_behind m.change m.groups m.rule.depth) st one.queued.rule (all_settled m st.room) counts
+        (ok_cleans_none at.rule.depth step.call one.own ∙ ap (λ (b : Bool). cleanup_by at.rule.depth step.call b one.own) (sym f) ∙ sym (cleanup_polled at.rule.depth step.call told.end one.own (owed mid) a))
         (
-        ap (λ (c : Change). depth_behind c m.groups m.depth) change
-        ∙ ap (λ (n : ℕ). depth_behind (change_of (kind_of (request_of at.depth step.call))) m.groups n) depth_is
-        ∙ depth_ok at.depth step.call m.groups told.end f a (λ b. some_groups (length one.own) m.groups (length_some one.own (λ n. begins_one at.depth step.call b (sym (fine_has told.end _ one.own f one.queued.asks) ∙ n))) groups)
+        ap (λ (c : Change). depth_behind c m.groups m.rule.depth) change
+        ∙ ap (λ (n : ℕ). depth_behind (change_of (kind_of (request_of at.rule.depth step.call))) m.groups n) depth_is
+        ∙ depth_ok at.rule.depth step.call m.groups told.end f a (λ b. some_groups (length one.own) m.groups (length_some one.own (λ n. begins_one at.rule.depth step.call b (sym (fine_has told.end _ one.own f one.queued.asks) ∙ n))) groups)
         )
 
-    other : is_fine told.end ≡ false → (b : Bool) → may_open m.change m.groups m.depth ≡ b → SettlesTo start at step told one.own mid m (cleaned m)
+    other : is_fine told.end ≡ false → (b : Bool) → may_open m.change m.groups m.rule.depth ≡ b → SettlesTo start at step told one.own mid m (cleaned m)
     other f false e =
-        let same : cleaned m ≡ record m { change = changes.Stays } = rw e refl in
-        let none = other_cleans_none at.depth step.call one.own m.groups (λ n. some_groups (length one.own) m.groups (length_some one.own n) groups) (opening_is false e) in
+        let same : cleaned m ≡ with_open m.rule.depth m = rw e refl in
+        let none = other_cleans_none at.rule.depth step.call one.own m.groups (λ n. some_groups (length one.own) m.groups (length_some one.own n) groups) (opening_is false e) in
         subst (λ (x : ConnSeen). SettlesTo start at step told one.own mid m x) (sym same)
-        (settles_plain start at mid m step told one.own m.depth st (subst (λ (x : ConnSeen). HasAllRoom x) same (all_cleaned m st.room)) counts
-        (none ∙ ap (λ (b : Bool). cleanup_by at.depth step.call b one.own) (sym f) ∙ sym (cleanup_polled at.depth step.call told.end one.own (owed mid) a))
-        (depth_is ∙ sym (depth_other at.depth step.call told.end f a)))
+        (settles_plain start at mid m step told one.own m.rule.depth st one.queued.rule (subst (λ (x : ConnSeen). HasAllRoom x) same (all_cleaned m st.room)) counts
+        (none ∙ ap (λ (b : Bool). cleanup_by at.rule.depth step.call b one.own) (sym f) ∙ sym (cleanup_polled at.rule.depth step.call told.end one.own (owed mid) a))
+        (depth_is ∙ sym (depth_other at.rule.depth step.call told.end f a)))
     other f true e =
-        let cleans = other_cleans at.depth step.call one.own m.groups (λ n. groups ∙ ap (λ (g : List Group). length g) n) (opening_is true e) in
+        let cleans = other_cleans at.rule.depth step.call one.own m.groups (λ n. groups ∙ ap (λ (g : List Group). length g) n) (opening_is true e) in
         let few : m.ledger.owed ≤ 1 = omega (arith, st.ledger, one.queued.in_turn cleans.1) in
         let short = rollback_short 0 (omega arith) in
-        let level = opening m.change m.groups m.depth e in
+        let level = opening m.change m.groups m.rule.depth e in
         let room = st.room in
         let r = has_room (spelled (rollback 0)) m (omega (arith, short, level, room)) (omega (arith, few)) in
-        let same : cleaned m ≡ rolled_conn m 0 m.depth = rw (e, r) refl in
+        let same : cleaned m ≡ rolled_conn m 0 m.rule.depth = rw (e, r) refl in
         subst (λ (x : ConnSeen). SettlesTo start at step told one.own mid m x) (sym same)
-        (settles_rolled start at mid m step told one.own st (subst (λ (x : ConnSeen). HasAllRoom x) same (all_cleaned m st.room)) r (omega (arith, groups, small))
-        (cleans.0 ∙ ap (λ (b : Bool). cleanup_by at.depth step.call b one.own) (sym f) ∙ sym (cleanup_polled at.depth step.call told.end one.own (owed mid) a))
-        (depth_is ∙ sym (depth_other at.depth step.call told.end f a)))
+        (settles_rolled start at mid m step told one.own st one.queued.rule (subst (λ (x : ConnSeen). HasAllRoom x) same (all_cleaned m st.room)) r (omega (arith, groups, small))
+        (cleans.0 ∙ ap (λ (b : Bool). cleanup_by at.rule.depth step.call b one.own) (sym f) ∙ sym (cleanup_polled at.rule.depth step.call told.end one.own (owed mid) a))
+        (depth_is ∙ sym (depth_other at.rule.depth step.call told.end f a)))
 
     by : (b : Bool) → is_fine told.end ≡ b → SettlesTo start at step told one.own mid m (behind_end told.end m)
     by true f = subst (λ (x : ConnSeen). SettlesTo start at step told one.own mid m x) (sym (behind_fine told.end m f)) (fine f)
-    by false f = subst (λ (x : ConnSeen). SettlesTo start at step told one.own mid m x) (sym (behind_unfine told.end m f)) (other f (may_open m.change m.groups m.depth) refl)
+    by false f = subst (λ (x : ConnSeen). SettlesTo start at step told one.own mid m x) (sym (behind_unfine told.end m f)) (other f (may_open m.change m.groups m.rule.depth) refl)
 
 later_cleans : (d : ℕ) (bound : Bound) (end : End) (own : List Group) (n : ℕ) → [] ≡ cleanup_of d (calls.Run bound) end own n
 later_cleans d bound end [] n = refl
@@ -388,9 +397,9 @@ later_cleans d bound end (g ∷ gs) n = refl
 pub settles_later : (start : StreamSeen) (at mid : Place) (m : ConnSeen) (step : Step) (bound : Bound) (told : Outcome) (one : Plays_call at step told mid) → step.call ≡ calls.Run bound → StandsAt start mid m → m.change ≡ changes.Stays → SettlesTo start at step told one.own mid m (behind_end told.end m)
 settles_later start at mid m step bound told one c st stays =
     let same : record m { change = changes.Stays } ≡ m = ap (λ (x : Change). record m { change = x }) (sym stays) in
-    let plain = settles_plain start at mid m step told one.own m.depth st (subst (λ (x : ConnSeen). HasAllRoom x) (sym same) st.room) one.numbers.groups
-    (later_cleans at.depth bound told.end one.own (owed mid) ∙ ap (λ (x : Call). cleanup_of at.depth x told.end one.own (owed mid)) (sym c))
-    (st.depth ∙ one.queued.depth ∙ ap (λ (x : Call). depth_after at.depth x told.end) (sym c)) in
+    let plain = settles_plain start at mid m step told one.own m.rule.depth st one.queued.rule (subst (λ (x : ConnSeen). HasAllRoom x) (sym same) st.room) one.numbers.groups
+    (later_cleans at.rule.depth bound told.end one.own (owed mid) ∙ ap (λ (x : Call). cleanup_of at.rule.depth x told.end one.own (owed mid)) (sym c))
+    (ap (λ (r : Rule). r.depth) (st.rule ∙ one.queued.rule) ∙ ap (λ (x : Call). depth_after at.rule.depth x told.end) (sym c)) in
     subst (λ (x : ConnSeen). SettlesTo start at step told one.own mid m x) (same ∙ sym (stays_behind told.end m stays)) plain
 
 -- ---- a rollback without waiting
@@ -405,7 +414,7 @@ stands_anew start at a st =
       failed = st.failed;
       broken = st.broken;
       seen = ap (λ (x : StreamSeen). record x { waits = 0; moves = 0 }) st.seen;
-      depth = st.depth;
+      rule = st.rule;
       room = omega (arith, room);
       idle = st.idle;
       sayable = st.sayable;
@@ -416,15 +425,15 @@ stands_anew start at a st =
     }
 
 -- nothing is open, or no reply more can be counted
-rolls_none : (start : StreamSeen) (at : Place) (a : ConnSeen) (step : Step) (depth : ℕ) → StandsAt start at a → HasAllRoom (record (ended (counted_anew a)) { depth = depth }) → step.call ≡ calls.StartRollback → [] ≡ rollback_at at.depth (owed at) → depth ≡ at.depth - 1
-    → SettlesTo start at step (untouched (ends.Ok AnswersUnit)) [] at (ended (counted_anew a)) (record (ended (counted_anew a)) { depth = depth })
+rolls_none : (start : StreamSeen) (at : Place) (a : ConnSeen) (step : Step) (depth : ℕ) → StandsAt start at a → HasAllRoom (with_open depth (ended (counted_anew a))) → step.call ≡ calls.StartRollback → [] ≡ rollback_at at.rule.depth (owed at) → depth ≡ at.rule.depth - 1
+    → SettlesTo start at step (untouched (ends.Ok AnswersUnit)) [] at (ended (counted_anew a)) (with_open depth (ended (counted_anew a)))
 rolls_none start at a step depth st room c none after = record {
-  next = record at { seen = record at.seen { waits = 0; moves = 0 }; depth = depth };
+  next = record at { seen = record at.seen { waits = 0; moves = 0 }; rule = with_depth depth at.rule };
   out = untouched (ends.Ok AnswersUnit);
   settles = record {
     cleanup = [];
     cleans = rw c none;
-    depth = rw c after;
+    rule = ap (λ (n : ℕ). with_depth n at.rule) (rw c after);
     said = sym (append-nil at.said);
     groups = sym (append-nil at.groups);
     seen = ap (λ (u : List ℕ). record at.seen { unsent = u; waits = 0; moves = 0 }) (sym (append-nil at.seen.unsent));
@@ -440,7 +449,7 @@ rolls_none start at a step depth st room c none after = record {
 }
 
 rolls_one : (start : StreamSeen) (at : Place) (a : ConnSeen) (step : Step) (left : ℕ) → StandsAt start at a → left < 2 ^ 64 → has_room_for (spelled (rollback left)) (ended (counted_anew a)) ≡ true → HasAllRoom (rolled_conn (ended (counted_anew a)) left left) → step.call ≡ calls.StartRollback
-    → rollback left ∷ [] ≡ rollback_at at.depth (owed at) → left ≡ at.depth - 1
+    → rollback left ∷ [] ≡ rollback_at at.rule.depth (owed at) → left ≡ at.rule.depth - 1
     → SettlesTo start at step (untouched (ends.Ok AnswersUnit)) [] at (ended (counted_anew a)) (rolled_conn (ended (counted_anew a)) left left)
 rolls_one start at a step left st l r room c some after =
     let m : ConnSeen = ended (counted_anew a) in
@@ -452,7 +461,7 @@ rolls_one start at a step left st l r room c some after =
       settles = record {
         cleanup = rollback left ∷ [];
         cleans = rw c some;
-        depth = rw c after;
+        rule = ap (λ (n : ℕ). with_depth n at.rule) (rw c after);
         said = refl;
         groups = refl;
         seen = ap (λ (x : StreamSeen). record x { unsent = x.unsent ++ spelled (rollback left); spare = d.stream.spare; waits = 0; moves = 0 }) st.seen;
@@ -478,10 +487,10 @@ no_group : (frame : List ℕ) (c : ConnSeen) → has_room_for frame c ≡ false 
 no_group frame c r = rw r refl
 
 -- one is open no more
-rolled_open : (c : ConnSeen) (n : ℕ) → c.depth ≡ n + 1 → rolled c ≡ queued_group (spelled (rollback n)) (record c { depth = n })
+rolled_open : (c : ConnSeen) (n : ℕ) → c.rule.depth ≡ n + 1 → rolled c ≡ queued_group (spelled (rollback n)) (record c { rule = with_depth n c.rule })
 rolled_open c n e =
-    let some : nat_eq c.depth 0 ≡ false = ne_eqb c.depth 0 (λ z. omega (arith, e, z)) in
-    let fewer : c.depth - 1 ≡ n = omega (arith, e) in
+    let some : nat_eq c.rule.depth 0 ≡ false = ne_eqb c.rule.depth 0 (λ z. omega (arith, e, z)) in
+    let fewer : c.rule.depth - 1 ≡ n = omega (arith, e) in
     rw (some, fewer) refl
 
 rolls_at : (depth n owed : ℕ) → depth ≡ suc n → ltb owed (2 ^ 64 - 1) ≡ true → rollback n ∷ [] ≡ rollback_at depth owed
@@ -490,9 +499,9 @@ rolls_at depth n owed e q = subst (λ (d : ℕ). rollback n ∷ [] ≡ rollback_
 rolls_not_at : (depth n owed : ℕ) → depth ≡ suc n → ltb owed (2 ^ 64 - 1) ≡ false → [] ≡ rollback_at depth owed
 rolls_not_at depth n owed e q = subst (λ (d : ℕ). [] ≡ rollback_at d owed) (sym e) (rw q refl)
 
-pub settles_rollback : (start : StreamSeen) (at : Place) (a b : ConnSeen) (step : Step) → StandsAt start at a → a.depth < 2 ^ 64 → step.call ≡ calls.StartRollback → b ≡ rolled_back a → SettlesTo start at step (untouched (ends.Ok AnswersUnit)) [] at (ended (counted_anew a)) b
+pub settles_rollback : (start : StreamSeen) (at : Place) (a b : ConnSeen) (step : Step) → StandsAt start at a → a.rule.depth < 2 ^ 64 → step.call ≡ calls.StartRollback → b ≡ rolled_back a → SettlesTo start at step (untouched (ends.Ok AnswersUnit)) [] at (ended (counted_anew a)) b
 settles_rollback start at a b step st l c is =
-    subst (λ (x : ConnSeen). SettlesTo start at step (untouched (ends.Ok AnswersUnit)) [] at (ended (counted_anew a)) x) (sym (is ∙ ap (λ (x : ConnSeen). rolled (ended (counted_anew x))) idles)) (by a.depth refl)
+    subst (λ (x : ConnSeen). SettlesTo start at step (untouched (ends.Ok AnswersUnit)) [] at (ended (counted_anew a)) x) (sym (is ∙ ap (λ (x : ConnSeen). rolled (ended (counted_anew x))) idles)) (by a.rule.depth refl)
   where
     idles : left a ≡ a
     idles = rw st.idle refl
@@ -500,11 +509,11 @@ settles_rollback start at a b step st l c is =
     room : HasAllRoom (rolled (ended (counted_anew a)))
     room = let k = st.room in all_rolled (ended (counted_anew a)) l refl (omega (arith, k))
 
-    by : (d : ℕ) → a.depth ≡ d → SettlesTo start at step (untouched (ends.Ok AnswersUnit)) [] at (ended (counted_anew a)) (rolled (ended (counted_anew a)))
+    by : (d : ℕ) → a.rule.depth ≡ d → SettlesTo start at step (untouched (ends.Ok AnswersUnit)) [] at (ended (counted_anew a)) (rolled (ended (counted_anew a)))
     by zero e =
-        let same : rolled (ended (counted_anew a)) ≡ record (ended (counted_anew a)) { depth = 0 } = rw e refl in
+        let same : rolled (ended (counted_anew a)) ≡ with_open 0 (ended (counted_anew a)) = rw e refl in
         subst (λ (x : ConnSeen). SettlesTo start at step (untouched (ends.Ok AnswersUnit)) [] at (ended (counted_anew a)) x) (sym same)
-        (rolls_none start at a step 0 st (subst (λ (x : ConnSeen). HasAllRoom x) same room) c (rw (sym st.depth ∙ e) refl) (omega (arith, st.depth, e)))
+        (rolls_none start at a step 0 st (subst (λ (x : ConnSeen). HasAllRoom x) same room) c (rw (sym (depth_stands start at a st) ∙ e) refl) (omega (arith, depth_stands start at a st, e)))
     by (suc n) e = one (ltb a.ledger.owed (2 ^ 64 - 1)) refl
       where
         owes : ltb (owed at) (2 ^ 64 - 1) ≡ ltb a.ledger.owed (2 ^ 64 - 1)
@@ -515,11 +524,11 @@ settles_rollback start at a b step st l c is =
             let short = rollback_short n (omega (arith, l, e)) in
             let space = st.room in
             let r = has_room (spelled (rollback n)) (ended (counted_anew a)) (omega (arith, short, space, e)) (ltb-true _ _ q) in
-            let same : rolled (ended (counted_anew a)) ≡ rolled_conn (ended (counted_anew a)) n n = rolled_open (ended (counted_anew a)) n (omega (arith, e)) ∙ one_group (spelled (rollback n)) (record (ended (counted_anew a)) { depth = n }) r in
+            let same : rolled (ended (counted_anew a)) ≡ rolled_conn (ended (counted_anew a)) n n = rolled_open (ended (counted_anew a)) n (omega (arith, e)) ∙ one_group (spelled (rollback n)) (with_open n (ended (counted_anew a))) r in
             subst (λ (x : ConnSeen). SettlesTo start at step (untouched (ends.Ok AnswersUnit)) [] at (ended (counted_anew a)) x) (sym same)
-            (rolls_one start at a step n st (omega (arith, l, e)) r (subst (λ (x : ConnSeen). HasAllRoom x) same room) c (rolls_at at.depth n (owed at) (sym st.depth ∙ e) (owes ∙ q)) (omega (arith, st.depth, e)))
+            (rolls_one start at a step n st (omega (arith, l, e)) r (subst (λ (x : ConnSeen). HasAllRoom x) same room) c (rolls_at at.rule.depth n (owed at) (sym (depth_stands start at a st) ∙ e) (owes ∙ q)) (omega (arith, depth_stands start at a st, e)))
         one false q =
             let none : has_room_for (spelled (rollback n)) (ended (counted_anew a)) ≡ false = rw q (and_false _) in
-            let same : rolled (ended (counted_anew a)) ≡ record (ended (counted_anew a)) { depth = n } = rolled_open (ended (counted_anew a)) n (omega (arith, e)) ∙ no_group (spelled (rollback n)) (record (ended (counted_anew a)) { depth = n }) none in
+            let same : rolled (ended (counted_anew a)) ≡ with_open n (ended (counted_anew a)) = rolled_open (ended (counted_anew a)) n (omega (arith, e)) ∙ no_group (spelled (rollback n)) (with_open n (ended (counted_anew a))) none in
             subst (λ (x : ConnSeen). SettlesTo start at step (untouched (ends.Ok AnswersUnit)) [] at (ended (counted_anew a)) x) (sym same)
-            (rolls_none start at a step n st (subst (λ (x : ConnSeen). HasAllRoom x) same room) c (rolls_not_at at.depth n (owed at) (sym st.depth ∙ e) (owes ∙ q)) (omega (arith, st.depth, e)))
+            (rolls_none start at a step n st (subst (λ (x : ConnSeen). HasAllRoom x) same room) c (rolls_not_at at.rule.depth n (owed at) (sym (depth_stands start at a st) ∙ e) (owes ∙ q)) (omega (arith, depth_stands start at a st, e)))

@@ -1,5 +1,5 @@
--- One more poll of a call that is played: of one exchange, or through the end of its first into its second.
-use Rattle.std.proofs.Common.{◌≡◌, ℕ, ◌+◌, ◌*◌, ◌<◌, ◌≤◌, inl, inr, Bool, true, false, List, [], ◌∷◌, ◌++◌, length, map, refl, sym, ap, ◌∙◌, subst, arith, Option, Some, None, Ok, Err}
+-- One more poll of a call that is played: of one exchange, or through its end into the next ones.
+use Rattle.std.proofs.Common.{◌≡◌, ◌⊎◌, ℕ, ◌+◌, ◌*◌, ◌<◌, ◌≤◌, inl, inr, Bool, true, false, List, [], ◌∷◌, ◌++◌, length, map, refl, sym, ap, ◌∙◌, subst, arith, Option, Some, None, Ok, Err}
 use Rattle.futures.specs.declared.task.Poll.{Poll}
 use Rattle.futures.specs.declared.task.Poll.TheVariants.{Ready, Pending}
 use Rattle.pg_wire.specs.declared.error.Error.{Error}
@@ -10,7 +10,7 @@ use Rattle.pg_wire.specs.Frame.{Frame}
 use Rattle.pg_wire.specs.Parts.{heard}
 use Rattle.pg_wire.specs.Frontend.{FrontendMessage}
 use Rattle.pg_stream.specs.Links.{LinkSeen}
-use Rattle.pg_stream.specs.Streams.{StreamSeen, AllMoved}
+use Rattle.pg_stream.specs.Streams.{StreamSeen, AllMoved, Moves}
 use Rattle.pg_stream.proofs.StreamLemmas.{Moves-then, AllMoved-then, NoneWaited-then, WriteWaited-after, PendingCause-after}
 use Rattle.pg_call.specs.declared.kind.Change.{Change}
 use Rattle.pg_call.specs.declared.kind.Change.TheVariants as changes
@@ -35,7 +35,7 @@ use Rattle.pg_call.specs.Items.{own_items, shown}
 use Rattle.pg_call.specs.Calls.{EndsFine}
 use Rattle.pg_call.proofs.FitLaws.{hands_on_described, next_is, main_describes_none}
 use Rattle.pg_conn.specs.Connections.{ConnOf, ConnSeen, seen_by, begun_with, handed, settled, runs, left, started_call}
-use Rattle.pg_conn.specs.Turns.{Polled, PollsThrough, PollsBy, HandsOnNone, beat_of, BeatCause, SendCause, TakesBeat, is_flushed}
+use Rattle.pg_conn.specs.Turns.{Polled, PollsThrough, HandsOver, hands_on, PollsBy, HandsOnNone, beat_of, BeatCause, SendCause, TakesBeat, is_flushed}
 use Rattle.pg_report.specs.declared.outcome.Item.{Item}
 use Rattle.pg_report.specs.declared.outcome.Answer.TheVariants.{Unit as AnswersUnit}
 use Rattle.pg_report.specs.declared.outcome.End.{End}
@@ -44,13 +44,23 @@ use Rattle.pg_report.specs.declared.outcome.Outcome.{Outcome}
 use Rattle.pg_play.specs.declared.tally.Limits.{Limits}
 use Rattle.pg_play.specs.declared.tally.Tally.{Tally}
 use Rattle.pg_play.specs.Shown.{item_of}
-use Rattle.pg_play.specs.Calls.{Adds, Finishes, Waited, IsPlayingOn, IsPlaying, Ended, EndsOn, broken_after, Counted, asking, IsLast, HandedOn, handed_from, OfLast, IsCallPlaying, StopsBy, PollGives, PlaysOne, PlaysCall, outcome_of, begun_call}
+use Rattle.pg_play.specs.Calls.{Adds, Finishes, Waited, IsPlayingOn, IsPlaying, Ended, EndsOn, broken_after, Counted, asking, IsLast, HandedOn, handed_from, OfLastIn, OfLast, IsCallPlaying, StopsBy, PollGives, PlaysOne, PlaysCall, outcome_of, begun_call}
 use Rattle.pg_play.proofs.CallLaws.{stays_behind, AfterSome, PlayBeat, OverPoll, over_poll, after_beat, fresh_play, play_starts, playing_one, plays_one, goes_waits, goes_yields, goes_ok, goes_unshown, goes_err, drops_waiting, drops_shown, goes_unkept}
 
 -- what holds of the exchange that came last
+on_last_in : (later : List Request) (polls : ℕ) (first : StreamSeen) (P Q : ConnSeen → Request → Type 0) (a : ConnSeen) (r : Request) → ((at : ConnSeen) (asked : Request) → P at asked → Q at asked) → OfLastIn later polls first P a r → OfLastIn later polls first Q a r
+on_last_in [] polls first P Q a r f p = f a r p
+on_last_in (next ∷ later) polls first P Q a r f h = (h.0, h.1, on_last_in later polls first P Q (handed_from h.0 next) next f h.2)
+
 pub on_last : (polls : ℕ) (first : StreamSeen) (P Q : ConnSeen → Request → Type 0) (a : ConnSeen) (r : Request) → ((at : ConnSeen) (asked : Request) → P at asked → Q at asked) → OfLast polls first P a r → OfLast polls first Q a r
-on_last polls first P Q a r f (inl p) = inl (f a r p)
-on_last polls first P Q a r f (inr h) = inr (h.0, h.1, h.2, f (handed_from h.0 h.1) h.1 h.3)
+on_last polls first P Q a r f h = (h.0, on_last_in h.0 polls first P Q a r f h.1)
+
+-- the last of those behind the last one is the last of all
+last_behind : (later : List Request) (polls : ℕ) (first : StreamSeen) (P : ConnSeen → Request → Type 0) (a : ConnSeen) (r : Request) → OfLastIn later polls first (λ at asked. OfLast polls first P at asked) a r → OfLast polls first P a r
+last_behind [] polls first P a r h = h
+last_behind (next ∷ later) polls first P a r h =
+    let behind = last_behind later polls first P (handed_from h.0 next) next h.2 in
+    (next ∷ behind.0, (h.0, h.1, behind.1))
 
 -- ---- an exchange that hands on the next one
 
@@ -103,6 +113,15 @@ described_stays (requests.Describe x) k = refl
 described_stays (requests.Run bound) k = refl
 described_stays _ k = absurd cc
 
+-- So a call has two exchanges at most.
+pub two_at_most : (polls : ℕ) (first : StreamSeen) (P : ConnSeen → Request → Type 0) (a : ConnSeen) (r : Request) → OfLast polls first P a r → P a r ⊎ ((m : ConnSeen) × (next : Request) × HandedOn polls first a m r next × P (handed_from m next) next)
+two_at_most polls first P a r h = by h.0 h.1
+  where
+    by : (later : List Request) → OfLastIn later polls first P a r → P a r ⊎ ((m : ConnSeen) × (next : Request) × HandedOn polls first a m r next × P (handed_from m next) next)
+    by [] p = inl p
+    by (next ∷ []) h = inr (h.0, next, h.1, h.2)
+    by (next ∷ more ∷ later) h = absurd (handed_last polls first a h.0 r next h.1 (handed_described polls first (handed_from h.0 next) h.2.0 next more h.2.1))
+
 -- and opens and closes nothing
 pub handed_stays : (polls : ℕ) (first : StreamSeen) (a m : ConnSeen) (r next : Request) → HandedOn polls first a m r next → change_of (kind_of next) ≡ changes.Stays
 handed_stays polls first a m r next h = ap change_of (next_is r h.ends.0.0.reply h.ends.0.0.status next h.ends.0.1).0 ∙ described_stays r (handed_described polls first a m r next h)
@@ -132,7 +151,7 @@ handed_ended limits first a m r next l h = record {
   ends = subst (λ (o : Option ServerFault). EndsOn o limits first a m r h.said (heard h.fs) [] (ends.Ok AnswersUnit)) (sym h.whole.0) ([], answers.Next next, refl, l, refl, h.ends.0, h.ends.1);
 }
 
--- ---- the second exchange begins in the poll in which the first one ended
+-- ---- an exchange begins in the poll in which the one before it ended
 
 send_later : (a b c : ConnSeen) → AllMoved a.stream b.stream → b.stream.left ≤ a.stream.left → c.stream.left ≤ b.stream.left → SendCause b c → SendCause a c
 send_later a b c h k l (inl w) = inl (WriteWaited-after a.stream b.stream c.stream h.2 w)
@@ -146,25 +165,41 @@ cause_later a b c (beats.Yields item) h k l t = NoneWaited-then a.stream b.strea
 cause_later a b c (beats.Ends (Ok answer)) h k l t = AllMoved-then a.stream b.stream c.stream h k t l
 cause_later a b c (beats.Ends (Err e)) h k l t = NoneWaited-then a.stream b.stream c.stream h.2 t
 
--- b is where the poll began, and m where the first exchange stopped
-second_beat : (polls : ℕ) (first : StreamSeen) (a b m c : ConnSeen) (r next : Request) (waits : ℕ) (beat : Beat) → Waited waits first b.stream → b.stream.link.calls ≤ first.link.calls + 256 * waits → TakesBeat (begun_with 256 b) m (beats.Ends (Ok (answers.Next next))) → HandedOn polls first a m r next
-    → (p : Polled (handed_from m next) c beat) → AfterSome first (handed_from m next) p.stopped next waits [] beat
-second_beat polls first a b m c r next waits beat v k t h p =
-    let at : ConnSeen = handed_from m next in
-    let one = t.3 in
+-- An exchange begins in the midst of a poll, which began with b, of a call that has waited so often. All calls of the link in it have moved.
+record Begins (first : StreamSeen) (b at : ConnSeen) (r : Request) (waits : ℕ) : Type 0 where
+  queued : List ℕ
+  frames : List Frame
+  moves : Moves (begun_with 256 b).stream at.stream queued frames
+  moved : AllMoved (begun_with 256 b).stream at.stream
+  waited : Waited waits first b.stream
+  made : b.stream.link.calls ≤ first.link.calls + 256 * waits
+  whole : at.broken ≡ None
+  asks : at.call ≡ calls.Asked r
+  change : at.change ≡ change_of (kind_of r)
+
+later_beat : (first : StreamSeen) (b at c : ConnSeen) (r : Request) (waits : ℕ) (beat : Beat) → Begins first b at r waits → (p : Polled at c beat) → AfterSome first at p.stopped r waits [] beat
+later_beat first b at c r waits beat s p =
     let two = p.turns.3 in
-    let moves = Moves-then (begun_with 256 b).stream m.stream p.stopped.stream t.0 p.turns.0 t.1 p.turns.1 one.moves two.moves in
-    let cause = cause_later (begun_with 256 b) at p.stopped beat one.cause one.moves.left two.moves.left two.cause in
-    let over : OverPoll first at p.stopped waits 0 beat = over_poll first at b p.stopped waits 0 beat (t.0 ++ p.turns.0) (t.1 ++ p.turns.1) (omega (arith, one.cause.2.2.0)) v (omega (arith, k)) moves cause in
-    after_beat at.stream.left at.stream first at at p.stopped next 0 waits [] beat [] [] (fresh_play at next h.whole.1 refl (sym (handed_stays polls first a m r next h))) p.turns p.whole p.says p.flush over
+    let moves = Moves-then (begun_with 256 b).stream at.stream p.stopped.stream s.queued p.turns.0 s.frames p.turns.1 s.moves two.moves in
+    let cause = cause_later (begun_with 256 b) at p.stopped beat s.moved s.moves.left two.moves.left two.cause in
+    let over : OverPoll first at p.stopped waits 0 beat = over_poll first at b p.stopped waits 0 beat (s.queued ++ p.turns.0) (s.frames ++ p.turns.1) (omega (arith, s.moved.2.2.0)) s.waited (omega (arith, s.made)) moves cause in
+    after_beat at.stream.left at.stream first at at p.stopped r 0 waits [] beat [] [] (fresh_play at r s.whole s.asks s.change) p.turns p.whole p.says p.flush over
+
+-- the next one begins where it stopped
+begins_next : (polls : ℕ) (first : StreamSeen) (b at m : ConnSeen) (r next : Request) (waits : ℕ) → Begins first b at r waits → TakesBeat at m (beats.Ends (Ok (answers.Next next))) → HandedOn polls first at m r next → Begins first b (handed_from m next) next waits
+begins_next polls first b at m r next waits s t h = record {
+  queued = s.queued ++ t.0;
+  frames = s.frames ++ t.1;
+  moves = Moves-then (begun_with 256 b).stream at.stream m.stream s.queued t.0 s.frames t.1 s.moves t.3.moves;
+  moved = AllMoved-then (begun_with 256 b).stream at.stream m.stream s.moved s.moves.left t.3.cause t.3.moves.left;
+  waited = s.waited;
+  made = s.made;
+  whole = h.whole.1;
+  asks = refl;
+  change = sym (handed_stays polls first at m r next h);
+}
 
 -- ---- what a poll makes of an exchange
-
--- what the last exchange of a call answers hands on nothing
-last_hands_none : (first : StreamSeen) (a c : ConnSeen) (r : Request) (waits : ℕ) (items : List CallItem) (answer : Poll Turn) → IsLast r → AfterSome first a c r waits items (beat_of answer) → HandsOnNone answer
-last_hands_none first a c r waits items answer n h next e =
-    let fine = (subst (λ (x : Poll Turn). AfterSome first a c r waits items (beat_of x)) e h).2.tells.1 in
-    n (hands_on_described r fine.0.reply fine.0.status next fine.1)
 
 -- an exchange behind a poll, whose answer hands on nothing
 abbrev Turned : ℕ → StreamSeen → ConnSeen → ℕ → List Item → Poll Turn → ConnSeen → Request → Type 0
@@ -176,29 +211,50 @@ fault_hands_none fault answer e next is = let x = sym (ap beat_of is) ∙ e in a
 turned_whole : (most : ℕ) (first : StreamSeen) (a c : ConnSeen) (r : Request) (waits : ℕ) (shown : List Item) (answer : Poll Turn) (o : Option ServerFault) → a.broken ≡ o → PlayBeat o most first a c r waits shown (beat_of answer) → HandsOnNone answer → Turned most first c waits shown answer a r
 turned_whole most first a c r waits shown answer o e h n = (subst (λ (x : Option ServerFault). PlayBeat x most first a c r waits shown (beat_of answer)) (sym e) h, n)
 
--- one exchange went on, or the next one began
+-- exchanges that begin in the midst of a poll, the last of which goes on behind it
+later_turns : (later : List Request) (polls most : ℕ) (first : StreamSeen) (b at last c : ConnSeen) (r : Request) (waits : ℕ) (shown : List Item) (answer : Poll Turn) → waits < polls → shown ≡ [] → length shown < most → Begins first b at r waits → HandsOver at later last → Polled last c (beat_of answer) → HandsOnNone answer
+    → OfLastIn later polls first (Turned most first c waits shown answer) at r
+later_turns [] polls most first b at last c r waits shown answer l n few s h p none =
+    let p' = subst (λ (x : ConnSeen). Polled x c (beat_of answer)) h p in
+    turned_whole most first at c r waits shown answer None s.whole ([], n, few, p'.stopped, p'.behind_is, later_beat first b at c r waits (beat_of answer) s p') none
+later_turns (next ∷ later) polls most first b at last c r waits shown answer l n few s h p none =
+    let one = h.1 in
+    let m = one.stopped in
+    let over = hands_over polls first at m r next waits [] l s.whole (later_beat first b at h.0 r waits (beat_of (hands_on next)) s one) in
+    let further = subst (λ (x : ConnSeen). HandsOver (handed next x) later last) one.behind_is h.2 in
+    (m, over.0, later_turns later polls most first b (handed_from m next) last c next waits shown answer l n few (begins_next polls first b at m r next waits s one.turns over.0) further p none)
+
+-- one exchange went on, or the next ones began
 turns_through : (polls most : ℕ) (first : StreamSeen) (a b c : ConnSeen) (r : Request) (waits : ℕ) (shown : List Item) (answer : Poll Turn) → waits < polls → a.broken ≡ None → IsPlayingOn None most first a b r waits shown → PollsThrough (begun_with 256 b) c answer → OfLast polls first (Turned most first c waits shown answer) a r
-turns_through polls most first a b c r waits shown answer l e i (inl (p, none)) =
-    let over = over_poll first a b p.stopped waits (length i.0) (beat_of answer) p.turns.0 p.turns.1 i.5.went.flows.counts.write_waits i.5.waited i.5.calls p.turns.3.moves p.turns.3.cause in
-    inl (turned_whole most first a c r waits shown answer None e
-    (i.0, i.3, i.4, p.stopped, p.behind_is, after_beat 256 first first a b p.stopped r waits waits i.0 (beat_of answer) i.1 i.2 i.5 p.turns p.whole p.says p.flush over) none)
-turns_through polls most first a b c r waits shown answer l e i (inr two) =
-    let p = two.first in
-    let next = two.next in
-    let m = p.stopped in
-    let beat : Beat = beats.Ends (Ok (answers.Next next)) in
-    let over = over_poll first a b m waits (length i.0) beat p.turns.0 p.turns.1 i.5.went.flows.counts.write_waits i.5.waited i.5.calls p.turns.3.moves p.turns.3.cause in
-    let over_first = hands_over polls first a m r next waits i.0 l e (after_beat 256 first first a b m r waits waits i.0 beat i.1 i.2 i.5 p.turns p.whole p.says p.flush over) in
-    let second : Polled (handed_from m next) c (beat_of answer) = subst (λ (x : ConnSeen). Polled (handed next x) c (beat_of answer)) p.behind_is two.second in
-    let few : b.stream.link.calls ≤ first.link.calls + 256 * waits = omega (arith, i.5.calls, ap (λ (x : List CallItem). length x) over_first.1) in
-    let after = second_beat polls first a b m c r next waits (beat_of answer) i.5.waited few p.turns over_first.0 second in
-    inr (
-      m,
-      next,
-      over_first.0,
-      turned_whole most first (handed_from m next) c next waits shown answer None over_first.0.whole.1
-          ([], i.3 ∙ ap (map item_of) over_first.1, i.4, second.stopped, second.behind_is, after) (last_hands_none first (handed_from m next) second.stopped next waits [] answer (handed_last polls first a m r next over_first.0) after),
-    )
+turns_through polls most first a b c r waits shown answer l e i t = by t.later t.hands
+  where
+    goes_on : (c : ConnSeen) (beat : Beat) → (p : Polled (begun_with 256 b) c beat) → AfterSome first a p.stopped r waits i.0 beat
+    goes_on c beat p =
+        let over = over_poll first a b p.stopped waits (length i.0) beat p.turns.0 p.turns.1 i.5.went.flows.counts.write_waits i.5.waited i.5.calls p.turns.3.moves p.turns.3.cause in
+        after_beat 256 first first a b p.stopped r waits waits i.0 beat i.1 i.2 i.5 p.turns p.whole p.says p.flush over
+
+    by : (later : List Request) → HandsOver (begun_with 256 b) later t.last → OfLast polls first (Turned most first c waits shown answer) a r
+    by [] h =
+        let p = subst (λ (x : ConnSeen). Polled x c (beat_of answer)) h t.polled in
+        ([], turned_whole most first a c r waits shown answer None e (i.0, i.3, i.4, p.stopped, p.behind_is, goes_on c (beat_of answer) p) t.none)
+    by (next ∷ later) h =
+        let one = h.1 in
+        let m = one.stopped in
+        let over = hands_over polls first a m r next waits i.0 l e (goes_on h.0 (beat_of (hands_on next)) one) in
+        let few : b.stream.link.calls ≤ first.link.calls + 256 * waits = omega (arith, i.5.calls, ap (λ (x : List CallItem). length x) over.1) in
+        let begins : Begins first b (handed_from m next) next waits = record {
+          queued = one.turns.0;
+          frames = one.turns.1;
+          moves = one.turns.3.moves;
+          moved = one.turns.3.cause;
+          waited = i.5.waited;
+          made = few;
+          whole = over.0.whole.1;
+          asks = refl;
+          change = sym (handed_stays polls first a m r next over.0);
+        } in
+        let further = subst (λ (x : ConnSeen). HandsOver (handed next x) later t.last) one.behind_is h.2 in
+        (next ∷ later, (m, over.0, later_turns later polls most first b (handed_from m next) t.last c next waits shown answer l (i.3 ∙ ap (map item_of) over.1) i.4 begins further t.polled t.none))
 
 turns_one : (polls most : ℕ) (first : StreamSeen) (a b c : ConnSeen) (r : Request) (waits : ℕ) (shown : List Item) (answer : Poll Turn) → waits < polls → IsPlaying most first a b r waits shown → PollsBy b.broken (begun_with 256 b) b c answer → OfLast polls first (Turned most first c waits shown answer) a r
 turns_one polls most first a b c r waits shown answer l i p = by a.broken refl i
@@ -208,15 +264,13 @@ turns_one polls most first a b c r waits shown answer l i p = by a.broken refl i
     by (Some fault) e i =
         let at_a = subst (λ (d : ConnSeen). PollsBy d.broken (begun_with 256 d) d c answer) i.0 p in
         let broke = subst (λ (k : Option ServerFault). PollsBy k (begun_with 256 a) a c answer) e at_a in
-        inl (turned_whole most first a c r waits shown answer (Some fault) e (broke.0, broke.1, i.1, i.2, i.3) (fault_hands_none fault answer broke.1))
+        ([], turned_whole most first a c r waits shown answer (Some fault) e (broke.0, broke.1, i.1, i.2, i.3) (fault_hands_none fault answer broke.1))
 
 call_turns : (limits : Limits) (a b c : ConnSeen) (r : Request) (waits : ℕ) (shown : List Item) (answer : Poll Turn) → waits < limits.polls → IsCallPlaying limits a b r waits shown → PollsBy b.broken (begun_with 256 b) b c answer → OfLast limits.polls a.stream (Turned limits.most a.stream c waits shown answer) a r
-call_turns limits a b c r waits shown answer l (inl i) p = turns_one limits.polls limits.most a.stream a b c r waits shown answer l i p
-call_turns limits a b c r waits shown answer l (inr h) p = by (turns_one limits.polls limits.most a.stream (handed_from h.0 h.1) b c h.1 waits shown answer l h.3 p)
-  where
-    by : OfLast limits.polls a.stream (Turned limits.most a.stream c waits shown answer) (handed_from h.0 h.1) h.1 → OfLast limits.polls a.stream (Turned limits.most a.stream c waits shown answer) a r
-    by (inl t) = inr (h.0, h.1, h.2, t)
-    by (inr x) = absurd (handed_last limits.polls a.stream a h.0 r h.1 h.2 (handed_described limits.polls a.stream (handed_from h.0 h.1) x.0 h.1 x.1 x.2))
+call_turns limits a b c r waits shown answer l i p =
+    last_behind i.0 limits.polls a.stream (Turned limits.most a.stream c waits shown answer) a r
+    (on_last_in i.0 limits.polls a.stream (λ at asked. IsPlaying limits.most a.stream at b asked waits shown) (λ at asked. OfLast limits.polls a.stream (Turned limits.most a.stream c waits shown answer) at asked) a r
+    (λ at asked j. turns_one limits.polls limits.most a.stream at b c asked waits shown answer l j p) i.1)
 
 -- ---- one poll
 
@@ -272,11 +326,14 @@ poll_item limits a b c r old new item (Some end) l g i p =
 -- ---- the first poll
 
 pub playing_runs : (limits : Limits) (a b : ConnSeen) (r : Request) (waits : ℕ) (shown : List Item) → runs a.call ≡ true → IsCallPlaying limits a b r waits shown → runs b.call ≡ true
-playing_runs limits a b r waits shown k (inl i) = playing_one limits.most a.stream a b r waits shown k i
-playing_runs limits a b r waits shown k (inr h) = playing_one limits.most a.stream (handed_from h.0 h.1) b h.1 waits shown refl h.3
+playing_runs limits a b r waits shown k i = by i.0 a r k i.1
+  where
+    by : (later : List Request) (at : ConnSeen) (asked : Request) → runs at.call ≡ true → OfLastIn later limits.polls a.stream (λ at asked. IsPlaying limits.most a.stream at b asked waits shown) at asked → runs b.call ≡ true
+    by [] at asked k i = playing_one limits.most a.stream at b asked waits shown k i
+    by (next ∷ later) at asked k h = by later (handed_from h.0 next) next refl h.2
 
 pub call_starts : (limits : Limits) (a : ConnSeen) (r : Request) → 0 < limits.most → a.call ≡ calls.Asked r → a.change ≡ change_of (kind_of r) → a.groups ≡ 0 → IsCallPlaying limits a a r 0 []
-call_starts limits a r m k c g = inl (play_starts limits.most a r m k c g)
+call_starts limits a r m k c g = ([], play_starts limits.most a r m k c g)
 
 -- ---- the end
 

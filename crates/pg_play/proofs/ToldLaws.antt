@@ -94,16 +94,16 @@ asks_by None limits first a b r said hs shown ends.Dropped items copied h s = pr
 asks_by (Some fault) limits first a b r said hs shown end items copied h s = rw h.0 (prefix_queued a.ledger.owed r s.own hs s.queued)
 
 pub queued_step : (o : Option ServerFault) (limits : Limits) (start first : StreamSeen) (old : Counted) (at : Place) (a b : ConnSeen) (step : Step) (out : Outcome) (said : List FrontendMessage) (fs : List Frame) (shown : List Item) (items : List CallItem) → StandsAt start at a
-    → EndsOn o limits first (asking (request_of at.depth step.call) old a) b (request_of at.depth step.call) said (heard fs) shown out.end → (s : Summary a.ledger (request_of at.depth step.call) said (heard fs) items b.ledger (refuses_copy out.end)) → Queued at step out s.own (heard fs) (next_place at b said s.own fs out.end)
+    → EndsOn o limits first (asking (request_of at.rule.depth step.call) old a) b (request_of at.rule.depth step.call) said (heard fs) shown out.end → (s : Summary a.ledger (request_of at.rule.depth step.call) said (heard fs) items b.ledger (refuses_copy out.end)) → Queued at step out s.own (heard fs) (next_place at b said s.own fs out.end)
 queued_step o limits start first old at a b step out said fs shown items st h s = record {
-  asks = asks_by o limits first (asking (request_of at.depth step.call) old a) b (request_of at.depth step.call) said (heard fs) shown out.end items (refuses_copy out.end) h s;
+  asks = asks_by o limits first (asking (request_of at.rule.depth step.call) old a) b (request_of at.rule.depth step.call) said (heard fs) shown out.end items (refuses_copy out.end) h s;
   can = λ n. elim s.queued [
     | inl e ↦ absurd (n e)
     | inr q ↦ q.can
   ];
-  said = ap (λ (x : List FrontendMessage). at.said ++ x) (said_is_queued start at a (request_of at.depth step.call) said (heard fs) items b.ledger out.end st s);
+  said = ap (λ (x : List FrontendMessage). at.said ++ x) (said_is_queued start at a (request_of at.rule.depth step.call) said (heard fs) items b.ledger out.end st s);
   groups = refl;
-  depth = refl;
+  rule = refl;
   taken = heard-append at.frames fs;
   failed = refl;
   broken = refl;
@@ -235,15 +235,15 @@ fine_carries start at a d call said hs items items' ledger copied st s f = elim 
     nothing (m ∷ ms) e = absurd cc
 
 well_by : (start : StreamSeen) (at : Place) (a b : ConnSeen) (step : Step) (out : Outcome) (said : List FrontendMessage) (fs : List Frame) (items items' : List CallItem) (answer : CallAnswer) (told : Answer) (response : List BackendMessage) (copied : Bool) → StandsAt start at a
-    → (s : Summary a.ledger (request_of at.depth step.call) said (heard fs) items' b.ledger copied) → (f : IsFine a.ledger (request_of at.depth step.call) said (heard fs) items b.ledger) → answer_by (request_of at.depth step.call) f.reply f.status ≡ Ok answer
-    → out.items ≡ items_with (map item_of items) answer → told ≡ answer_of answer → own_items (request_of at.depth step.call) response ≡ own_items (request_of at.depth step.call) f.reply → b.stream.unsent ≡ [] → IsWell step out told response (heard fs) (next_place at b said s.own fs out.end)
+    → (s : Summary a.ledger (request_of at.rule.depth step.call) said (heard fs) items' b.ledger copied) → (f : IsFine a.ledger (request_of at.rule.depth step.call) said (heard fs) items b.ledger) → answer_by (request_of at.rule.depth step.call) f.reply f.status ≡ Ok answer
+    → out.items ≡ items_with (map item_of items) answer → told ≡ answer_of answer → own_items (request_of at.rule.depth step.call) response ≡ own_items (request_of at.rule.depth step.call) f.reply → b.stream.unsent ≡ [] → IsWell step out told response (heard fs) (next_place at b said s.own fs out.end)
 well_by start at a b step out said fs items items' answer told response copied st s f e k t same sent =
-    let xs = own_items (request_of at.depth step.call) f.reply in
-    let items_same : items_in response ≡ map item_of xs = items_told (heading_of (request_of at.depth step.call)) response ∙ ap (map item_of) same in
+    let xs = own_items (request_of at.rule.depth step.call) f.reply in
+    let items_same : items_in response ≡ map item_of xs = items_told (heading_of (request_of at.rule.depth step.call)) response ∙ ap (map item_of) same in
     record {
-      items = k ∙ ap (λ (x : List CallItem). items_with (map item_of x) answer) f.items_are ∙ all_told at.depth step.call f.reply f.status answer e ∙ ap (shown_by step.call) (sym items_same);
-      answers = t ∙ answer_told at.depth step.call f.reply f.status answer e ∙ ap (answered_by step.call) (sym items_same);
-      row = λ w z. has_row at.depth step.call f.reply f.status answer (map item_of items) e w (sym k ∙ z);
+      items = k ∙ ap (λ (x : List CallItem). items_with (map item_of x) answer) f.items_are ∙ all_told at.rule.depth step.call f.reply f.status answer e ∙ ap (shown_by step.call) (sym items_same);
+      answers = t ∙ answer_told at.rule.depth step.call f.reply f.status answer e ∙ ap (answered_by step.call) (sym items_same);
+      row = λ w z. has_row at.rule.depth step.call f.reply f.status answer (map item_of items) e w (sym k ∙ z);
       no_error = no_error (heard fs) f.well;
       answered = omega (arith, st.ledger, s.counted, f.owes, ended_next at fs, length-append at.groups s.own);
       ready = f.ends;
@@ -251,10 +251,10 @@ well_by start at a b step out said fs items items' answer told response copied s
     }
 
 told_ok : (limits : Limits) (start first : StreamSeen) (old : Counted) (at : Place) (a b : ConnSeen) (step : Step) (out : Outcome) (said : List FrontendMessage) (fs : List Frame) (items' : List CallItem) (told : Answer) (copied : Bool) → StandsAt start at a → out.end ≡ ends.Ok told
-    → EndsOn None limits first (asking (request_of at.depth step.call) old a) b (request_of at.depth step.call) said (heard fs) out.items (ends.Ok told) → (s : Summary a.ledger (request_of at.depth step.call) said (heard fs) items' b.ledger copied) → Told at step out s.own (heard fs) (next_place at b said s.own fs out.end)
+    → EndsOn None limits first (asking (request_of at.rule.depth step.call) old a) b (request_of at.rule.depth step.call) said (heard fs) out.items (ends.Ok told) → (s : Summary a.ledger (request_of at.rule.depth step.call) said (heard fs) items' b.ledger copied) → Told at step out s.own (heard fs) (next_place at b said s.own fs out.end)
 told_ok limits start first old at a b step out said fs items' told copied st e h s =
     let f = h.5.0 in
-    let carried = fine_carries start at a at.depth step.call said (heard fs) h.0 items' b.ledger copied st s f in
+    let carried = fine_carries start at a at.rule.depth step.call said (heard fs) h.0 items' b.ledger copied st s f in
     let well = well_by start at a b step out said fs h.0 items' h.1 told carried.0 copied st s f h.5.1 h.2 h.4 carried.2 h.6 in
     record {
       response = carried.0;
@@ -262,7 +262,7 @@ told_ok limits start first old at a b step out said fs items' told copied st e h
       shows = ([], append-nil out.items ∙ well.items);
       with_answer = λ w n. let x = sym (ap is_fine e) ∙ n in absurd cc;
       well = λ m. subst (λ (z : End). WellAtOk z step out carried.0 (heard fs) (next_place at b said s.own fs out.end)) (sym e) well;
-      error = subst (λ (z : End). AnswersError z (heard fs)) (sym e) (error_by None limits first (asking (request_of at.depth step.call) old a) b (request_of at.depth step.call) said (heard fs) out.items (ends.Ok told) h);
+      error = subst (λ (z : End). AnswersError z (heard fs)) (sym e) (error_by None limits first (asking (request_of at.rule.depth step.call) old a) b (request_of at.rule.depth step.call) said (heard fs) out.items (ends.Ok told) h);
     }
 
 not_well : (end : End) (step : Step) (out : Outcome) (response : List BackendMessage) (hs : List Frame) (next : Place) → is_fine end ≡ false → WellAtOk end step out response hs next
@@ -288,23 +288,23 @@ shows_by d call out_items items reply p (inl e) =
     first_none (x ∷ xs) ys e = absurd cc
 
 told_other : (o : Option ServerFault) (limits : Limits) (start first : StreamSeen) (old : Counted) (at : Place) (a b : ConnSeen) (step : Step) (out : Outcome) (said : List FrontendMessage) (fs : List Frame) (items : List CallItem) → StandsAt start at a → is_fine out.end ≡ false
-    → EndsOn o limits first (asking (request_of at.depth step.call) old a) b (request_of at.depth step.call) said (heard fs) out.items out.end → (s : Summary a.ledger (request_of at.depth step.call) said (heard fs) items b.ledger (refuses_copy out.end)) → ShowsItems out.end out.items items → Told at step out s.own (heard fs) (next_place at b said s.own fs out.end)
+    → EndsOn o limits first (asking (request_of at.rule.depth step.call) old a) b (request_of at.rule.depth step.call) said (heard fs) out.items out.end → (s : Summary a.ledger (request_of at.rule.depth step.call) said (heard fs) items b.ledger (refuses_copy out.end)) → ShowsItems out.end out.items items → Told at step out s.own (heard fs) (next_place at b said s.own fs out.end)
 told_other o limits start first old at a b step out said fs items st n h s k =
-    let shows = shows_by at.depth step.call out.items items s.reply s.shows (subst (λ (t : Bool). MatchBool t (Unit {0}) ((out.items ≡ map item_of items) ⊎ (out.items ≡ []))) n k) in
+    let shows = shows_by at.rule.depth step.call out.items items s.reply s.shows (subst (λ (t : Bool). MatchBool t (Unit {0}) ((out.items ≡ map item_of items) ⊎ (out.items ≡ []))) n k) in
     record {
       response = s.reply;
-      says = (main_is start at a s.own (heard fs) st (at_most_one a.ledger.owed (request_of at.depth step.call) s.own (heard fs) s.queued) ∙ s.replied, s.reply_has_frames);
+      says = (main_is start at a s.own (heard fs) st (at_most_one a.ledger.owed (request_of at.rule.depth step.call) s.own (heard fs) s.queued) ∙ s.replied, s.reply_has_frames);
       shows = shows.0;
       with_answer = λ w z. shows.1 w;
       well = λ m. not_well out.end step out s.reply (heard fs) (next_place at b said s.own fs out.end) n;
-      error = error_by o limits first (asking (request_of at.depth step.call) old a) b (request_of at.depth step.call) said (heard fs) out.items out.end h;
+      error = error_by o limits first (asking (request_of at.rule.depth step.call) old a) b (request_of at.rule.depth step.call) said (heard fs) out.items out.end h;
     }
 
 pub told_step : (o : Option ServerFault) (limits : Limits) (start first : StreamSeen) (old : Counted) (at : Place) (a b : ConnSeen) (step : Step) (out : Outcome) (said : List FrontendMessage) (fs : List Frame) (items : List CallItem) → StandsAt start at a
-    → EndsOn o limits first (asking (request_of at.depth step.call) old a) b (request_of at.depth step.call) said (heard fs) out.items out.end → (s : Summary a.ledger (request_of at.depth step.call) said (heard fs) items b.ledger (refuses_copy out.end)) → ShowsItems out.end out.items items → Told at step out s.own (heard fs) (next_place at b said s.own fs out.end)
+    → EndsOn o limits first (asking (request_of at.rule.depth step.call) old a) b (request_of at.rule.depth step.call) said (heard fs) out.items out.end → (s : Summary a.ledger (request_of at.rule.depth step.call) said (heard fs) items b.ledger (refuses_copy out.end)) → ShowsItems out.end out.items items → Told at step out s.own (heard fs) (next_place at b said s.own fs out.end)
 told_step o limits start first old at a b step out said fs items st h s k = by o out.end refl h refl
   where
-    by : (p : Option ServerFault) (end : End) → out.end ≡ end → EndsOn p limits first (asking (request_of at.depth step.call) old a) b (request_of at.depth step.call) said (heard fs) out.items end → o ≡ p → Told at step out s.own (heard fs) (next_place at b said s.own fs out.end)
+    by : (p : Option ServerFault) (end : End) → out.end ≡ end → EndsOn p limits first (asking (request_of at.rule.depth step.call) old a) b (request_of at.rule.depth step.call) said (heard fs) out.items end → o ≡ p → Told at step out s.own (heard fs) (next_place at b said s.own fs out.end)
     by None (ends.Ok told) e g w = told_ok limits start first old at a b step out said fs items told (refuses_copy out.end) st e g s
     by None (ends.Err x) e g w = told_other o limits start first old at a b step out said fs items st (ap is_fine e) h s k
     by None ends.Dropped e g w = told_other o limits start first old at a b step out said fs items st (ap is_fine e) h s k

@@ -70,7 +70,7 @@ pub record Went (a b : ConnSeen) (said : List FrontendMessage) (fs : List Frame)
   pub waits : WaitsAt a.stream b.stream fs
   pub groups : GrewBy (count_by ends_request said) a.groups b.groups
   pub heard : GrewBy (length (heard fs)) a.heard b.heard
-  pub started : (b.sent ≡ a.sent) × (b.read ≡ a.read) × (b.depth ≡ a.depth) × (b.change ≡ a.change)
+  pub started : (b.sent ≡ a.sent) × (b.read ≡ a.read) × (b.rule ≡ a.rule) × (b.change ≡ a.change)
 
 -- what the connection counts of a call so far
 pub record Counted : Type 0 where
@@ -199,7 +199,7 @@ abbrev pub StopsBy : Limits → StreamSeen → ConnSeen → ConnSeen → Request
 StopsBy limits first a b r shown end = (stopped : ConnSeen) × HasEnded limits first a stopped r shown end
     × (((stopped.call ≡ calls.Idle) × (b ≡ behind_end end stopped)) ⊎ ((runs stopped.call ≡ true) × (b ≡ stopped) × (behind_end end stopped ≡ cleaned stopped)))
 
--- ---- a call that is played: of one exchange, or of a description and of what is run behind it
+-- ---- a call that is played: exchanges one after another, each handed on by the one before it
 
 -- An exchange ended Ok, and handed on the next one. It showed nothing, and m is where it stopped, in the midst of a poll.
 pub record HandedOn (polls : ℕ) (first : StreamSeen) (a m : ConnSeen) (r next : Request) : Type 0 where
@@ -224,9 +224,14 @@ pub record HandedOn (polls : ℕ) (first : StreamSeen) (a m : ConnSeen) (r next 
 abbrev pub handed_from : ConnSeen → Request → ConnSeen
 handed_from m next = handed next (settled m)
 
--- This holds of the exchange that came last, from the connection on which it began: of the call's only one so far, or of the one that its first handed on.
+-- This holds of the exchange that came last, from the connection on which it began: of the one that begins here, or of the last of these, each
+-- handed on by the one before it.
+abbrev pub OfLastIn : List Request → ℕ → StreamSeen → (ConnSeen → Request → Type 0) → ConnSeen → Request → Type 0
+OfLastIn [] polls first P a r = P a r
+OfLastIn (next ∷ later) polls first P a r = (m : ConnSeen) × HandedOn polls first a m r next × OfLastIn later polls first P (handed_from m next) next
+
 abbrev pub OfLast : ℕ → StreamSeen → (ConnSeen → Request → Type 0) → ConnSeen → Request → Type 0
-OfLast polls first P a r = P a r ⊎ ((m : ConnSeen) × (next : Request) × HandedOn polls first a m r next × P (handed_from m next) next)
+OfLast polls first P a r = (later : List Request) × OfLastIn later polls first P a r
 
 -- a call runs, polls being counted from its begin
 abbrev pub IsCallPlaying : Limits → ConnSeen → ConnSeen → Request → ℕ → List Item → Type 0
@@ -258,7 +263,7 @@ outcome_of b shown end = record { items = shown; end = end; groups = b.groups; h
 abbrev pub PlaysOne : Limits → StreamSeen → ConnSeen → ConnSeen → Request → Outcome → Type 0
 PlaysOne limits first a b r out = (stopped : ConnSeen) × HasEnded limits first a stopped r out.items out.end × (stopped.call ≡ calls.Idle) × (b ≡ behind_end out.end stopped) × (out ≡ outcome_of b out.items out.end)
 
--- a call that was polled, on the connection as it began: what ended it is its only exchange, or the one that its first handed on
+-- a call that was polled, on the connection as it began: what ended it is the exchange that came last
 abbrev pub PlaysCall : Limits → ConnSeen → ConnSeen → Request → Outcome → Type 0
 PlaysCall limits a b r out = OfLast limits.polls a.stream (λ at asked. PlaysOne limits a.stream at b asked out) a r
 
@@ -271,10 +276,10 @@ abbrev pub PlaysPolled : ConnSeen → ConnSeen → Step → Outcome → Type 0
 PlaysPolled a b step out =
     (IsUnpolled step × (b ≡ a) × (out ≡ untouched ends.Dropped))
     ⊎ ((IsUnpolled step → ⊥) × (step.polls < 2 ^ 32)
-    × ((((begins_with step.call ≡ true) × (0 < a.depth)) × (b ≡ a) × (out ≡ untouched (ends.Err errors.InvalidSavePointStatement)))
-    ⊎ (((begins_with step.call ≡ true) × (0 < a.depth) → ⊥)
+    × ((((begins_with step.call ≡ true) × (0 < a.rule.depth)) × (b ≡ a) × (out ≡ untouched (ends.Err errors.InvalidSavePointStatement)))
+    ⊎ (((begins_with step.call ≡ true) × (0 < a.rule.depth) → ⊥)
     × (((b ≡ a) × (out ≡ untouched (ends.Err errors.OutOfMemory)) × (has_query step.call ≡ true))
-    ⊎ (a.call ≡ calls.Idle → PlaysCall (limits_of step) (begun_call (first_of (asked_of a.depth step.call)) a) b (first_of (asked_of a.depth step.call)) out)))))
+    ⊎ (a.call ≡ calls.Idle → PlaysCall (limits_of step) (begun_call (first_of (asked_of a.rule.depth step.call)) a) b (first_of (asked_of a.rule.depth step.call)) out)))))
 
 -- a step: a rollback without waiting, or one whose call is polled
 abbrev pub PlaysStep : ConnSeen → ConnSeen → Step → Outcome → Type 0

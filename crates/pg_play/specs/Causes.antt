@@ -70,11 +70,11 @@ pub record IsAskedToCopy (at : Place) (step : Step) (own : List Group) (slice : 
   pub slice_is : slice ≡ front ++ backend_frame last ∷ []
   pub last_has_frame : HasBackendFrame last
   pub tagged : tag ≡ (backend_frame last).tag
-  pub whole : own ≡ groups_of (request_of at.depth step.call)
+  pub whole : own ≡ groups_of (request_of at.rule.depth step.call)
   pub before : List BackendMessage
   pub part : Part
   pub says : Carry (main_frames at own slice) (before ++ last ∷ [])
-  pub so_far : part_after (awaits_first (request_of at.depth step.call)) before ≡ Some part
+  pub so_far : part_after (awaits_first (request_of at.rule.depth step.call)) before ≡ Some part
   pub copies : may_copy part last ≡ true
   pub lawful : (group : Group) → own ≡ group ∷ [] → BeginsCopyResponse group (main_frames at own slice)
 
@@ -83,7 +83,7 @@ pub record HasNoRow (at : Place) (step : Step) (own : List Group) (slice : List 
   pub wants : wants_row step.call ≡ true
   pub no_error : HasNoError slice
   pub answered : ended next ≡ length next.groups
-  pub whole : own ≡ groups_of (request_of at.depth step.call)
+  pub whole : own ≡ groups_of (request_of at.rule.depth step.call)
   pub response : List BackendMessage
   pub says : Carry (main_frames at own slice) response
   pub no_row : AllByRecursion (λ item. is_row item ≡ false) (items_in response)
@@ -92,14 +92,14 @@ pub record HasNoRow (at : Place) (step : Step) (own : List Group) (slice : List 
 pub record BeginsNone (at : Place) (step : Step) (own : List Group) (slice : List Frame) (status : TransactionStatus) : Type 0 where
   pub begins_it : begins step.call ≡ true
   pub no_error : HasNoError slice
-  pub whole : own ≡ groups_of (request_of at.depth step.call)
+  pub whole : own ≡ groups_of (request_of at.rule.depth step.call)
   pub front : List Frame
   pub slice_is : slice ≡ front ++ backend_frame (ReadyForQuery status) ∷ []
   pub other : status ≢ statuses.Transaction
 
 -- a text of its own would open a savepoint
 abbrev pub OpensSavepoint : Place → Step → Type 0
-OpensSavepoint at step = (begins_with step.call ≡ true) × (0 < at.depth)
+OpensSavepoint at step = (begins_with step.call ≡ true) × (0 < at.rule.depth)
 
 -- ---- why a step failed
 
@@ -108,9 +108,9 @@ Causes at step own slice next errors.OutOfMemory = Unit {0}
 Causes at step own slice next (errors.Io io.Fault) = Rose at.seen.link.faults next.seen.link.faults
 Causes at step own slice next (errors.Io io.End) = Rose at.seen.link.ends next.seen.link.ends × (next.seen.unsent ≡ []) × (ended next < length next.groups)
 Causes at step own slice next (errors.Database details) = (front : List Frame) × (slice ≡ front ++ backend_frame (ErrorResponse details) ∷ []) × HasBackendFrame (ErrorResponse details)
-Causes at step own slice next (errors.Protocol (protocol.Server fault)) = (at.broken ≡ Some fault) ⊎ ShowsFault (widths_of (request_of at.depth step.call)) at own slice next fault
+Causes at step own slice next (errors.Protocol (protocol.Server fault)) = (at.broken ≡ Some fault) ⊎ ShowsFault (widths_of (request_of at.rule.depth step.call)) at own slice next fault
 Causes at step own slice next (errors.Protocol (protocol.Reply tag)) = IsAskedToCopy at step own slice tag
-Causes at step own slice next (errors.Protocol (protocol.Caller fault)) = (own ≡ []) × (slice ≡ []) × IsRefusal (request_of at.depth step.call) (errors.Protocol (protocol.Caller fault))
+Causes at step own slice next (errors.Protocol (protocol.Caller fault)) = (own ≡ []) × (slice ≡ []) × IsRefusal (request_of at.rule.depth step.call) (errors.Protocol (protocol.Caller fault))
 Causes at step own slice next errors.RowNotFound = HasNoRow at step own slice next
 Causes at step own slice next (errors.BeginFailed status) = BeginsNone at step own slice status
 Causes at step own slice next errors.InvalidSavePointStatement = OpensSavepoint at step × (own ≡ []) × (slice ≡ [])

@@ -9,6 +9,8 @@ use Rattle.pg_wire.specs.Frontend.{FrontendMessage}
 use Rattle.pg_wire.specs.Parts.{is_ready, parts, heard}
 use Rattle.pg_wire.specs.Server.{IsPrefixOf}
 use Rattle.pg_stream.specs.Streams.{StreamSeen}
+use Rattle.pg_rule.specs.declared.rule.Rule.{Rule}
+use Rattle.pg_rule.specs.Rules.{new_rule}
 use Rattle.pg_call.specs.Requests.{Group, said_in, groups_of, CanBeSaid, copy_fail}
 use Rattle.pg_call.specs.Drains.{is_copy_in}
 use Rattle.pg_report.specs.declared.outcome.End.{End}
@@ -31,11 +33,11 @@ pub record Place : Type 0 where
   pub is_copy_failed : Bool
   -- the fault by which the server broke the connection
   pub broken : Option ServerFault
-  -- how many transactions and savepoints are open
-  pub depth : ℕ
+  -- what is known of the session: how many transactions and savepoints are open, and which statements are kept
+  pub rule : Rule
 
 abbrev pub first_place : StreamSeen → Place
-first_place s = record { seen = s; said = []; groups = []; frames = []; is_copy_failed = false; broken = None; depth = 0 }
+first_place s = record { seen = s; said = []; groups = []; frames = []; is_copy_failed = false; broken = None; rule = new_rule 0 }
 
 -- how many ReadyForQuery are among frames
 abbrev pub readies : List Frame → ℕ
@@ -95,11 +97,11 @@ failed_next at (group ∷ groups) slice end = refuses_copy end
 
 -- From one place to the next a step queued these groups of its own, and heard this slice.
 pub record Queued (at : Place) (step : Step) (out : Outcome) (own : List Group) (slice : List Frame) (next : Place) : Type 0 where
-  pub asks : Queues out.end (groups_of (request_of at.depth step.call)) own
-  pub can : own ≢ [] → CanBeSaid (request_of at.depth step.call)
+  pub asks : Queues out.end (groups_of (request_of at.rule.depth step.call)) own
+  pub can : own ≢ [] → CanBeSaid (request_of at.rule.depth step.call)
   pub said : next.said ≡ at.said ++ queued_by at own slice out.end
   pub groups : next.groups ≡ at.groups ++ own
-  pub depth : next.depth ≡ at.depth
+  pub rule : next.rule ≡ at.rule
   -- the slice follows what was heard before, and nothing is left out
   pub taken : heard next.frames ≡ heard at.frames ++ slice
   pub failed : next.is_copy_failed ≡ failed_next at own slice out.end

@@ -148,7 +148,7 @@ pub record Plays_step (at : Place) (step : Step) (out : Outcome) (next : Place) 
   pub calls : next.seen.link.calls ≤ at.seen.link.calls + 256 * (step.polls + step.most)
   pub dropped : out.end ≡ ends.Dropped → IsDropped at step out stop
   pub at_once : acts_at_once step.call ≡ true → ActsAtOnce at out stop
-  pub duly : acts_at_once step.call ≡ false → EndsDuly at step (first_of (asked_of at.depth step.call)) out stop
+  pub duly : acts_at_once step.call ≡ false → EndsDuly at step (first_of (asked_of at.rule.depth step.call)) out stop
 
 -- one outcome for each step, each from the place where the one before it ended
 abbrev pub Plays_from : Place → List Step → List Outcome → Place → Type 0
@@ -176,7 +176,7 @@ AreOrderly idle at (step ∷ steps) [] last run = ⊥
 -- behind each exchange, where nothing is open, the response to the last group queued ends idle
 abbrev pub AreIdleIn : (idle : ℕ → Type 0) (at : Place) (steps : List Step) (outs : List Outcome) (last : Place) → Plays_exchanges at steps outs last → Type 0
 AreIdleIn idle at [] [] last run = Unit {0}
-AreIdleIn idle at (step ∷ steps) (out ∷ outs) last run = (run.0.depth ≡ 0 → idle (length run.0.groups)) × AreIdleIn idle run.0 steps outs last run.2
+AreIdleIn idle at (step ∷ steps) (out ∷ outs) last run = (run.0.rule.depth ≡ 0 → idle (length run.0.groups)) × AreIdleIn idle run.0 steps outs last run.2
 AreIdleIn idle at [] (out ∷ outs) last run = ⊥
 AreIdleIn idle at (step ∷ steps) [] last run = ⊥
 
@@ -237,7 +237,7 @@ pub record StandsAt (start : StreamSeen) (at : Place) (c : ConnSeen) : Type 0 wh
   pub failed : 0 < c.ledger.owed → c.ledger.is_copy_failed ≡ at.is_copy_failed
   pub broken : c.broken ≡ at.broken
   pub seen : c.stream ≡ at.seen
-  pub depth : c.depth ≡ at.depth
+  pub rule : c.rule ≡ at.rule
   pub room : HasAllRoom c
   pub idle : c.call ≡ calls.Idle
   pub sayable : AllByRecursion HasFrontendFrame at.said

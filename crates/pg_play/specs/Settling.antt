@@ -1,7 +1,8 @@
 -- What a connection makes of an exchange's end, once its call has ended or was dropped.
 use Rattle.std.specs.Prelude.{◌≡◌, ℕ, zero, suc, ◌+◌, ◌-◌, ◌^◌, min, Bool, not, ◌&&◌, List, [], ◌∷◌, ◌++◌, length, nat_eq, ltb, if◌then◌else◌}
 use Rattle.pg_call.specs.Requests.{Group, said_in, spelled}
-use Rattle.pg_conn.specs.Connections.{rollback}
+use Rattle.pg_rule.specs.declared.rule.Rule.{Rule}
+use Rattle.pg_conn.specs.Connections.{rollback, with_depth}
 use Rattle.pg_report.specs.declared.outcome.End.{End}
 use Rattle.pg_report.specs.declared.outcome.Outcome.{Outcome}
 use Rattle.pg_script.specs.declared.step.Call.{Call}
@@ -18,6 +19,10 @@ depth_after depth calls.Commit end = if is_fine end then depth - 1 else depth
 depth_after depth calls.Rollback end = if is_fine end then depth - 1 else depth
 depth_after depth calls.StartRollback end = depth - 1
 depth_after depth _ end = depth
+
+-- what is known of the session behind it
+abbrev pub rule_after : Rule → Call → End → Rule
+rule_after rule call end = with_depth (depth_after rule.depth call end) rule
 
 -- the group of a rollback without waiting, where something is open and one reply more can be counted
 abbrev pub rollback_at : ℕ → ℕ → List Group
@@ -38,8 +43,8 @@ failed_behind (group ∷ groups) at = not (nat_eq (owed at) 0) && at.is_copy_fai
 -- From the place where the exchange's call ended, of which this was told, the connection comes to the next one, which no exchange waits for.
 pub record Settles (at : Place) (step : Step) (told out : Outcome) (own : List Group) (ended_at next : Place) : Type 0 where
   pub cleanup : List Group
-  pub cleans : cleanup ≡ cleanup_of at.depth step.call told.end own (owed ended_at)
-  pub depth : next.depth ≡ depth_after at.depth step.call told.end
+  pub cleans : cleanup ≡ cleanup_of at.rule.depth step.call told.end own (owed ended_at)
+  pub rule : next.rule ≡ rule_after at.rule step.call told.end
   pub said : next.said ≡ ended_at.said ++ said_in cleanup
   pub groups : next.groups ≡ ended_at.groups ++ cleanup
   -- nothing else is different: the cleanup is unsent, and takes of the room that was kept for it

@@ -56,7 +56,7 @@ asked_of depth call = request_of depth call
 -- a query with arguments is described first (PostgreSQL manual, "Extended Query")
 abbrev pub first_as : How → QueryText → Option ArgumentsSeen → Call → Call
 first_as how query None call = call
-first_as how query (Some arguments) call = calls.Describe (record { how = how; sql = query.sql; arguments = arguments })
+first_as how query (Some arguments) call = calls.Describe (record { how = how; statement = 0; sql = query.sql; arguments = arguments })
 
 -- the first exchange of a call
 abbrev pub first_call : Call → Call
@@ -73,7 +73,7 @@ first_call call = call
 
 -- the one behind it: the statement is run, whose columns were described
 abbrev pub next_call : Call → List BackendMessage → Option Call
-next_call (calls.Describe extended) response = Some (calls.Run (record { how = extended.how; arguments = extended.arguments; columns = Some (described response) }))
+next_call (calls.Describe extended) response = Some (calls.Run (record { how = extended.how; statement = extended.statement; arguments = extended.arguments; columns = Some (described response) }))
 next_call call response = None
 
 -- an exchange is one of this call

@@ -105,7 +105,7 @@ fn play_polled<L: Link>(
     depth: u64,
     step: &Step,
 ) -> Outcome
-    requires depth { depth ≡ conn.old.depth }
+    requires depth { depth ≡ conn.old.rule.depth }
     ensures { PlaysPolled (seen_by L.seen conn.old) (seen_by L.seen conn.new) step.now result }
 {
     if step.polls == 0 || step.most == 0 {
@@ -127,7 +127,7 @@ fn play_polled<L: Link>(
 /// Plays one step: a rollback without waiting, which is done at once, or a call that is polled.
 pub(crate) fn play_step<L: Link>(alloc: Global, conn: &mut PgConnection<L>, step: &Step) -> Outcome
     ensures plays { PlaysStep (seen_by L.seen conn.old) (seen_by L.seen conn.new) step.now result }
-    ensures counts { conn.old.depth < 2 ^ 64 }
+    ensures counts { conn.old.rule.depth < 2 ^ 64 }
 {
     let depth = conn.transaction_depth();
     if let Call::StartRollback = step.call {

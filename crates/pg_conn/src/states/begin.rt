@@ -22,7 +22,7 @@ impl<L> PgConnection<L> {
     pub fn begin(&mut self) -> Begin<'_, L>
         ensures same { result.conn.ghost_name ≡ self.entry.ghost_name }
         ensures conn { result.conn.now ≡ self.old }
-        ensures request { result.request ≡ Some (Request.Begin self.old.depth) }
+        ensures request { result.request ≡ Some (Request.Begin self.old.rule.depth) }
         ensures calling { IsCallingPlainly (begun_by result.request result.conn.now) }
     {
         let request = Request::Begin(self.transaction_depth());
@@ -38,8 +38,8 @@ impl<L> PgConnection<L> {
         ensures conn { IfOk result (λ call. call.conn.now ≡ self.old) }
         ensures request { IfOk result (λ call. call.request ≡ Some (Request.BeginWith (plain_text sql))) }
         ensures calling { IfOk result (λ call. IsCallingPlainly (begun_by call.request call.conn.now)) }
-        ensures outside { OnOk result (self.old.depth ≡ 0) }
-        ensures err { IfErr result (λ e. (e ≡ Error.InvalidSavePointStatement) × (0 < self.old.depth)) }
+        ensures outside { OnOk result (self.old.rule.depth ≡ 0) }
+        ensures err { IfErr result (λ e. (e ≡ Error.InvalidSavePointStatement) × (0 < self.old.rule.depth)) }
     {
         if self.transaction_depth() > 0 {
             return Err(Error::InvalidSavePointStatement);

@@ -31,7 +31,7 @@ impl<L> PgConnection<L> {
     pub fn commit(&mut self) -> Commit<'_, L>
         ensures same { result.conn.ghost_name ≡ self.entry.ghost_name }
         ensures conn { result.conn.now ≡ self.old }
-        ensures request { result.request ≡ Some (commit_of self.old.depth) }
+        ensures request { result.request ≡ Some (commit_of self.old.rule.depth) }
         ensures calling { IsCallingPlainly (begun_by result.request result.conn.now) }
     {
         let request = commit_request(self.transaction_depth());

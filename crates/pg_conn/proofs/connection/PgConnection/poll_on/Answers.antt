@@ -16,3 +16,8 @@ returns-in-Ends-Err-clause-polled g c =
     let seen_as = ap (λ (x : ConnOf g.row.L.Denot). cleaned (record x { broken = c.fault_in-self-inside.result })) c.self.view_is in
     let by_fault = ap (λ (o : Option ServerFault). cleaned (record c.beat.new.self { broken = o })) c.fault_in-self-inside.ensures in
     polled g.L.Link.seen c.args.self.now c.beat.new.self _ (beats.Ends (Err c.in-Ends-Err.e)) c.requires e.beat e.says e.flush e.asked (c.clean.ensures ∙ seen_as ∙ by_fault)
+
+pub returns-in-Ends-Ok-clause-falls : goal.returns-in-Ends-Ok-clause-falls
+returns-in-Ends-Ok-clause-falls g c =
+    let e = rw c.in-Ends-Ok.field-0-is at c.in-Ends-Ok.ensures in
+    rw c.settle.ensures e.falls

@@ -1,3 +1,4 @@
+use Rattle.std.proofs.Common.{arith}
 use Rattle.pg_call.specs.declared.calling.Beat.TheVariants as beats
 use Rattle.pg_conn.specs.Connections.{seen_by}
 use Rattle.pg_conn.proofs.TurnLaws.{TakesBeat-none, TakesBeat-then}
@@ -16,4 +17,5 @@ pub returns-in_default : goal.returns-in_default
 returns-in_default g c = record {
   beat = TakesBeat-then (seen_by g.L.Link.seen c.args.self.now) (seen_by g.L.Link.seen c.loop-beat.self) (seen_by g.L.Link.seen c.go_on.new.self) c.go_on.result c.loop-beat.invariant.beat c.go_on.ensures.beat;
   ends = c.in_default.not-More;
+  falls = λ x. omega (arith, c.go_on.ensures.falls x, c.loop-beat.invariant.beat.3.moves.fuel);
 }

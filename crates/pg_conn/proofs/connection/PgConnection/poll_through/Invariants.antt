@@ -1,0 +1,16 @@
+use Rattle.std.specs.Prelude.{◌≡◌, List, None}
+use Rattle.pg_stream.specs.Streams.{stream_by, fuel_of}
+use Rattle.pg_call.specs.declared.request.Request.{Request}
+use Rattle.pg_conn.specs.Connections.{seen_by}
+use Rattle.pg_conn.specs.Turns.{HandsOver}
+use Rattle.pg_conn.proofs.connection.PgConnection.poll_through.Given as goal
+
+abbrev pub invariant-loop-next : goal.invariant-loop-next
+invariant-loop-next g l = record {
+  whole : l.self.broken ≡ None;
+  later : List Request;
+  hands : HandsOver (seen_by g.L.Link.seen l.initial.self) later (seen_by g.L.Link.seen l.self);
+}
+
+abbrev pub decreases-loop-next : goal.decreases-loop-next
+decreases-loop-next g l = fuel_of (stream_by g.L.Link.seen l.self.stream)
