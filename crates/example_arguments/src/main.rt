@@ -30,17 +30,21 @@ fn dial_error(failed: DialFailed) -> Error {
     }
 }
 
-fn connect(rt: &HostRuntime, url: &str) -> Result<PgConnection<SocketLink>, Error> {
-    let options = PgConnectOptions::from_str(rt.alloc(), &PgSettings::empty(), url)?;
-    let mut dial = SocketDial::new(rt.alloc(), rt, SysRng::new(rt));
-    let link = dial.dial(&options).map_err(dial_error)?;
+// The words that a nonce is made of.
+fn draw<D: Dial>(dial: &mut D) -> Result<[u32; 128], Error> {
     let mut words = [0; 128];
     for word in words.iter_mut() {
         *word = dial.word().map_err(dial_error)?;
     }
-    let nonce = nonce_of(&words);
+    Ok(words)
+}
+
+fn open(rt: &HostRuntime, options: &PgConnectOptions) -> Result<PgConnection<SocketLink>, Error> {
+    let mut dial = SocketDial::new(rt.alloc(), rt, SysRng::new(rt));
+    let nonce = nonce_of(&draw(&mut dial)?);
     let nonce = nonce.as_str().as_bytes();
-    let mut start = establish(rt.alloc(), &options, nonce, link).map_err(|(e, _link)| e)?;
+    let link = dial.dial(options).map_err(dial_error)?;
+    let mut start = establish(rt.alloc(), options, nonce, link).map_err(|(e, _link)| e)?;
     for _ in 0..POLLS {
         match start.poll() {
             Poll::Pending => {}
@@ -48,6 +52,11 @@ fn connect(rt: &HostRuntime, url: &str) -> Result<PgConnection<SocketLink>, Erro
         }
     }
     Err(Error::StartupPending)
+}
+
+fn connect(rt: &HostRuntime, url: &str) -> Result<PgConnection<SocketLink>, Error> {
+    let options = PgConnectOptions::from_str(rt.alloc(), &PgSettings::empty(), url)?;
+    open(rt, &options)
 }
 
 // The rows, or None where the server is silent for too long. The call is dropped then, and the next one reads what it left.
@@ -72,13 +81,18 @@ fn numbers(alloc: Global, rows: &[PgRow]) -> Result<Numbers, Error> {
     Ok(numbers)
 }
 
-// The numbers from `first` to `last`, each with its square.
-fn squares(rt: &HostRuntime, url: &str, first: i32, last: i32) -> Result<Option<Numbers>, Error> {
-    let alloc = rt.alloc();
+// The query for the numbers from `first` to `last`.
+fn query(alloc: Global, first: i32, last: i32) -> Result<Query, Error> {
     let mut arguments = PgArguments::new(alloc);
     arguments.add(first)?;
     arguments.add(last)?;
-    let query = Query::with(alloc, SQL, &arguments)?;
+    Query::with(alloc, SQL, &arguments)
+}
+
+// These numbers, each with its square.
+fn squares(rt: &HostRuntime, url: &str, first: i32, last: i32) -> Result<Option<Numbers>, Error> {
+    let alloc = rt.alloc();
+    let query = query(alloc, first, last)?;
     let mut conn = connect(rt, url)?;
     let rows = fetch_all(&mut conn, query);
     drop(conn);

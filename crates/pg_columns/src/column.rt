@@ -6,12 +6,24 @@ use pg_wire::{Field, Oid};
 use std::alloc::{AllocError, Global};
 
 /// A column of a result. (PostgreSQL manual, "Message Formats", RowDescription.)
-#[derive(Debug, Drop)]
+#[derive(Debug)]
 pub struct PgColumn {
     ordinal: usize,
     field: Field,
     type_info: PgTypeInfo,
     origin: ColumnOrigin,
+}
+
+// By hand, so that whoever lets one go makes one call, and doesn't go through its parts.
+impl Drop for PgColumn {
+    fn drop(self) {
+        let PgColumn {
+            ordinal: _,
+            field: _,
+            type_info: _,
+            origin: _,
+        } = self;
+    }
 }
 
 pub(crate) fn copy_of(alloc: Global, field: &Field) -> Result<Field, AllocError>

@@ -12,9 +12,16 @@ use std::marker::Model;
 use std::sync::Arc;
 
 /// The columns of a result, which all its rows share: contracts see what the server told of them.
-#[derive(Debug, Drop)]
+#[derive(Debug)]
 pub struct PgColumns {
     shared: Option<Arc<Vec<PgColumn>>>,
+}
+
+// By hand, so that whoever lets one go makes one call, and doesn't go through its parts.
+impl Drop for PgColumns {
+    fn drop(self) {
+        let PgColumns { shared: _ } = self;
+    }
 }
 
 impl Model for PgColumns {

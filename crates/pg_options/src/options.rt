@@ -18,7 +18,7 @@ mod switches;
 mod writing;
 
 /// How to connect to a server, and what to tell it at start-up.
-#[derive(Debug, Drop)]
+#[derive(Debug)]
 pub struct PgConnectOptions {
     alloc: Global,
     host: Text,
@@ -131,4 +131,27 @@ fn copy_input(
         None => None,
     };
     Ok(())
+}
+
+// By hand, so that whoever lets one go makes one call, and doesn't go through its parts.
+impl Drop for PgConnectOptions {
+    fn drop(self) {
+        let PgConnectOptions {
+            alloc: _,
+            host: _,
+            port: _,
+            socket: _,
+            username: _,
+            password: _,
+            database: _,
+            ssl_mode: _,
+            ssl_root_cert: _,
+            ssl_client_cert: _,
+            ssl_client_key: _,
+            statement_cache_capacity: _,
+            application_name: _,
+            extra_float_digits: _,
+            options: _,
+        } = self;
+    }
 }

@@ -5,7 +5,7 @@ use pg_wire::Text;
 
 /// Settings of the surroundings, as a caller reads them from environment variables: each may be unset.
 /// (PostgreSQL manual, "libpq", "Environment Variables".)
-#[derive(Debug, Drop)]
+#[derive(Debug)]
 pub struct PgSettings {
     /// `PGHOSTADDR`.
     pub host_addr: Option<Text>,
@@ -58,5 +58,27 @@ impl PgSettings {
             options: None,
             default_host: None,
         }
+    }
+}
+
+// By hand, so that whoever lets one go makes one call, and doesn't go through its parts.
+impl Drop for PgSettings {
+    fn drop(self) {
+        let PgSettings {
+            host_addr: _,
+            host: _,
+            port: _,
+            user: _,
+            system_user: _,
+            password: _,
+            database: _,
+            ssl_root_cert: _,
+            ssl_cert: _,
+            ssl_key: _,
+            ssl_mode: _,
+            app_name: _,
+            options: _,
+            default_host: _,
+        } = self;
     }
 }

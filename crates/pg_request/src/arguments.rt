@@ -8,11 +8,22 @@ use std::alloc::Global;
 use std::marker::Model;
 
 /// The arguments of a query as the server gets them: the OIDs of their types, and their values in binary encoding.
-#[derive(Debug, Drop)]
+#[derive(Debug)]
 pub struct Arguments {
     types: Oids,
     count: u64,
     encoded: Blob,
+}
+
+// By hand, so that whoever lets one go makes one call, and doesn't go through its parts.
+impl Drop for Arguments {
+    fn drop(self) {
+        let Arguments {
+            types: _,
+            count: _,
+            encoded: _,
+        } = self;
+    }
 }
 
 impl Model for Arguments {

@@ -9,11 +9,22 @@ use std::alloc::Global;
 use std::marker::Model;
 
 /// A text of SQL to run, which the query owns, perhaps with arguments.
-#[derive(Debug, Drop)]
+#[derive(Debug)]
 pub struct Query {
     sql: Text,
     arguments: Option<Arguments>,
     is_persistent: bool,
+}
+
+// By hand, so that whoever lets one go makes one call, and doesn't go through its parts.
+impl Drop for Query {
+    fn drop(self) {
+        let Query {
+            sql: _,
+            arguments: _,
+            is_persistent: _,
+        } = self;
+    }
 }
 
 impl Model for Query {

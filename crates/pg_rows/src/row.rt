@@ -11,10 +11,20 @@ use std::marker::Model;
 
 /// One row of a result: contracts see its values' bytes, in which a null is None, and its heading.
 /// (PostgreSQL manual, "Message Flow", "Simple Query" and "Extended Query".)
-#[derive(Debug, Drop)]
+#[derive(Debug)]
 pub struct PgRow {
     values: DataRow,
     heading: Heading,
+}
+
+// By hand, so that whoever lets one go makes one call, and doesn't go through its parts.
+impl Drop for PgRow {
+    fn drop(self) {
+        let PgRow {
+            values: _,
+            heading: _,
+        } = self;
+    }
 }
 
 impl Model for PgRow {

@@ -41,7 +41,6 @@ impl<L> Model for Ready<L> {
 }
 
 /// A start-up on its way to a session. It keeps its link until a poll hands the session out.
-#[derive(Drop)]
 pub struct Establish<L> {
     alloc: Global,
     client: Client,
@@ -49,6 +48,20 @@ pub struct Establish<L> {
     message: Blob,
     phase: Phase<L>,
     is_finished: bool,
+}
+
+// By hand, so that whoever lets one go makes one call, and doesn't go through its parts.
+impl<L: Drop> Drop for Establish<L> {
+    fn drop(self) {
+        let Establish {
+            alloc: _,
+            client: _,
+            plan: _,
+            message: _,
+            phase: _,
+            is_finished: _,
+        } = self;
+    }
 }
 
 impl<L> Model for Establish<L> {

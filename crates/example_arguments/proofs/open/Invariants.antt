@@ -1,5 +1,5 @@
 use Rattle.std.proofs.Common.{◌≡◌, false}
-use Rattle.example_arguments.proofs.connect.Given as goal
+use Rattle.example_arguments.proofs.open.Given as goal
 
 abbrev pub invariant-loop : goal.invariant-loop
 invariant-loop l = l.start.is_finished ≡ false
