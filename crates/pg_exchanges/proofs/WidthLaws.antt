@@ -9,6 +9,7 @@ use Rattle.pg_wire.specs.Server.{Server, Statement, statement_at, with_statement
 use Rattle.pg_wire.specs.Groups.{IsBetween}
 use Rattle.pg_wire.specs.Copying.{CopyServer, CopyMode, NotCopying, QueryCopies, ExecuteCopies, Leaves, AnswersQuery, StepsCopyExecute, StepsOutsideCopy, StepsInQueryCopy, StepsInExecuteCopy, StepsInMode, CopyStep, CopyRun}
 use Rattle.pg_exchanges.specs.Expecting.{Widths, HasWidth, HasWidths}
+use Rattle.pg_exchanges.specs.Keeping.{Named, Keeps}
 use Rattle.pg_exchanges.specs.Answering.{described, IsNoError, IsClosedBy, IsKeptBy, describing}
 use Rattle.pg_wire.proofs.Each.{each_first, each_last}
 use Rattle.pg_wire.proofs.StepLaws.{statement_stays}
@@ -79,7 +80,7 @@ step_stays b bs s message old new rs e h = by (old.server.over || old.server.ski
     by true k = stepped b bs s message old.server k.0 old.mode new rs e k.1 k.2
     by false k = mode_stays b bs s message old.server old.mode new rs e k
 
-run_stays : (b : ℕ) (bs : List ℕ) (s : Statement) (messages : List FrontendMessage) (old new : CopyServer) (rss : List (List BackendMessage)) → statement_at old.server (b ∷ bs) ≡ Some s → CopyRun old messages rss new → (IsClosedBy messages (b ∷ bs) → ⊥) → statement_at new.server (b ∷ bs) ≡ Some s
+pub run_stays : (b : ℕ) (bs : List ℕ) (s : Statement) (messages : List FrontendMessage) (old new : CopyServer) (rss : List (List BackendMessage)) → statement_at old.server (b ∷ bs) ≡ Some s → CopyRun old messages rss new → (IsClosedBy messages (b ∷ bs) → ⊥) → statement_at new.server (b ∷ bs) ≡ Some s
 run_stays b bs s [] old new [] e run n = ap (λ (c : CopyServer). statement_at c.server (b ∷ bs)) run ∙ e
 run_stays b bs s [] old new (rs ∷ rss) e run n = absurd run
 run_stays b bs s (m ∷ ms) old new [] e run n = absurd run
@@ -126,8 +127,12 @@ synced_at : (m : Server) (name : List ℕ) (status : TransactionStatus) → stat
 synced_at m [] status = refl
 synced_at m (b ∷ bs) status = refl
 
+-- a statement as its description told of it
+abbrev pub told_as : List ℕ → List ℕ → List BackendMessage → Named
+told_as name sql response = record { name = name; sql = sql; width = length (described response) }
+
 add_width : (m : Server) (name sql types : List ℕ) (c1 c2 c3 : CopyServer) (r1 r2 r3 rest : List BackendMessage) → m.over ≡ false → m.skip ≡ false → CopyStep (plain m) (Parse name sql types) r1 c1 → CopyStep c1 (DescribeStatement name) r2 c2 → CopyStep c2 Sync r3 c3
-    → AllByRecursion IsNoError r1 → AllByRecursion IsNoError r2 → HasWidth c3.server (name, length (described (r1 ++ (r2 ++ rest))))
+    → AllByRecursion IsNoError r1 → AllByRecursion IsNoError r2 → Keeps c3.server (told_as name sql (r1 ++ (r2 ++ rest)))
 add_width m name sql types c1 c2 c3 r1 r2 r3 rest o k step1 step2 step3 h1 h2 =
     let w1 = went_step m c1 (Parse name sql types) r1 o k step1 in
     let p = parsed m w1.0 name sql r1 h1 (plainly m w1.0 (Parse name sql types) r1 o k w1.1) in
@@ -143,18 +148,22 @@ add_width m name sql types c1 c2 c3 r1 r2 r3 rest o k step1 step2 step3 h1 h2 =
     let y = sync_step m1 w3.0 r3 o1 w3.1 in
     let stands : statement_at c3.server name ≡ Some s = ap (λ (c : CopyServer). statement_at c.server name) (w3.2 ∙ ap plain y.1) ∙ synced_at m1 name y.0 ∙ stands_at m name s in
     let columns : p.0 ≡ described (r1 ++ (r2 ++ rest)) = described_by p.0 d.0 d.1 rest d.2 ∙ ap described (sym (joined d.0 d.1 p.1 d.3)) in
-    (s, stands, ap length columns)
+    (s, stands, refl, ap length columns)
   where
     joined : (types : List ℕ) (a : BackendMessage) → r1 ≡ ParseComplete ∷ [] → r2 ≡ ParameterDescription types ∷ a ∷ [] → r1 ++ (r2 ++ rest) ≡ ParseComplete ∷ ParameterDescription types ∷ a ∷ rest
     joined types a e f = rw (e, f) refl
 
+pub description_keeps : (before after : CopyServer) (name sql types : List ℕ) (rss : List (List BackendMessage)) → before.mode ≡ NotCopying → IsBetween before.server → CopyRun before (describing name sql types) rss after
+    → AllByRecursion IsNoError (flat_map (λ rs. rs) rss) → Keeps after.server (told_as name sql (flat_map (λ rs. rs) rss))
+description_keeps before after name sql types [] mode b run h = absurd run
+description_keeps before after name sql types (r1 ∷ []) mode b run h = absurd run.2
+description_keeps before after name sql types (r1 ∷ r2 ∷ []) mode b run h = absurd run.2.2
+description_keeps before after name sql types (r1 ∷ r2 ∷ r3 ∷ []) mode b run h =
+    let further = each_last IsNoError r1 (r2 ++ (r3 ++ [])) h in
+    subst (λ (c : CopyServer). Keeps c.server (told_as name sql (r1 ++ (r2 ++ (r3 ++ []))))) (sym run.2.2.2)
+    (add_width before.server name sql types run.0 run.2.0 run.2.2.0 r1 r2 r3 (r3 ++ []) b.0 b.1 (subst (λ (c : CopyServer). CopyStep c (Parse name sql types) r1 run.0) (only_mode before mode) run.1) run.2.1 run.2.2.1 (each_first IsNoError r1 (r2 ++ (r3 ++ [])) h) (each_first IsNoError r2 (r3 ++ []) further))
+description_keeps before after name sql types (r1 ∷ r2 ∷ r3 ∷ r4 ∷ rss) mode b run h = absurd run.2.2.2
+
 pub description_adds : (before after : CopyServer) (name sql types : List ℕ) (rss : List (List BackendMessage)) → before.mode ≡ NotCopying → IsBetween before.server → CopyRun before (describing name sql types) rss after
     → AllByRecursion IsNoError (flat_map (λ rs. rs) rss) → HasWidth after.server (name, length (described (flat_map (λ rs. rs) rss)))
-description_adds before after name sql types [] mode b run h = absurd run
-description_adds before after name sql types (r1 ∷ []) mode b run h = absurd run.2
-description_adds before after name sql types (r1 ∷ r2 ∷ []) mode b run h = absurd run.2.2
-description_adds before after name sql types (r1 ∷ r2 ∷ r3 ∷ []) mode b run h =
-    let further = each_last IsNoError r1 (r2 ++ (r3 ++ [])) h in
-    subst (λ (c : CopyServer). HasWidth c.server (name, length (described (r1 ++ (r2 ++ (r3 ++ [])))))) (sym run.2.2.2)
-    (add_width before.server name sql types run.0 run.2.0 run.2.2.0 r1 r2 r3 (r3 ++ []) b.0 b.1 (subst (λ (c : CopyServer). CopyStep c (Parse name sql types) r1 run.0) (only_mode before mode) run.1) run.2.1 run.2.2.1 (each_first IsNoError r1 (r2 ++ (r3 ++ [])) h) (each_first IsNoError r2 (r3 ++ []) further))
-description_adds before after name sql types (r1 ∷ r2 ∷ r3 ∷ r4 ∷ rss) mode b run h = absurd run.2.2.2
+description_adds before after name sql types rss mode b run h = let k = description_keeps before after name sql types rss mode b run h in (k.0, k.1, k.3)

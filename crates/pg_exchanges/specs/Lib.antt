@@ -1,2 +1,3 @@
 pub mod Expecting
 pub mod Answering
+pub mod Keeping

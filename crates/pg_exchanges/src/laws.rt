@@ -10,10 +10,11 @@ ghost use Rattle.pg_wire.specs.Backend as backend;
 ghost use Rattle.pg_wire.specs.declared.fields.ErrorField.{ErrorField};
 ghost use Rattle.pg_wire.specs.declared.status.TransactionStatus.{TransactionStatus};
 ghost use Rattle.pg_wire.specs.Server.{Server, IsFree};
-ghost use Rattle.pg_wire.specs.Groups.{IsGroup, IsBetween};
+ghost use Rattle.pg_wire.specs.Groups.{IsGroup, IsBetween, AnswerGroups};
 ghost use Rattle.pg_wire.specs.Copying.{CopyServer, NotCopying, CopyRun};
 ghost use Rattle.pg_wire.specs.Acceptor as acceptor;
 ghost use Rattle.pg_exchanges.specs.Expecting.{Widths, Step, Expected, InQuery, InSteps, following, behind, expected, AreDistinct, HasWidth, HasWidths, BeginsKnowing, MayNotFollow};
+ghost use Rattle.pg_exchanges.specs.Keeping.{Named, Keeps, IsDescribedIn};
 ghost use Rattle.pg_exchanges.specs.Answering.{IsNoError, IsKeptBy, described, Tells, DescribeWhole, HasStatement, IsAble, describing, running, parsed_running, closing};
 
 /// A message that is refused begins no response: behind messages that were accepted, no server between two groups that has these statements goes
@@ -112,6 +113,14 @@ pub fn a_description_makes_a_width_known()
         before.mode ≡ NotCopying → IsBetween before.server → CopyRun before (describing name sql types) rss after →
         AllByRecursion IsNoError (flat_map (λ rs. rs) rss) →
         HasWidth after.server (name, length (described (flat_map (λ rs. rs) rss))) }
+{}
+
+/// A statement with a name that one of these groups described, without an error, and that none behind it closes, is kept by the server that answers
+/// them: under its name, with its text, and with as many columns as were described.
+pub fn what_was_described_is_kept()
+    ensures { (named : Named) (groups : List (List FrontendMessage)) (responses : List (List BackendMessage)) (old new : Server) →
+        named.name ≢ [] → IsBetween old → AllByRecursion IsGroup groups → AnswerGroups old groups responses new →
+        IsDescribedIn named groups responses → Keeps new named }
 {}
 
 /// An error may come at any point of a response before its ReadyForQuery: in that to a Query, where none came yet, only ReadyForQuery is left
