@@ -17,11 +17,22 @@ use std::marker::Model;
 pub const IMAGE_MAX: u64 = 2147483647;
 
 /// Encoded values, to which a value adds its own encoding.
-#[derive(Debug, Drop)]
+#[derive(Debug)]
 pub struct PgArgumentBuffer {
     bytes: Vec<u8>,
     holes: Vec<Hole>,
     values: usize,
+}
+
+// By hand, so that whoever lets one go makes one call, and doesn't go through its parts.
+impl Drop for PgArgumentBuffer {
+    fn drop(self) {
+        let PgArgumentBuffer {
+            bytes: _,
+            holes: _,
+            values: _,
+        } = self;
+    }
 }
 
 impl Model for PgArgumentBuffer {

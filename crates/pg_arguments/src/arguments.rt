@@ -19,10 +19,20 @@ use std::alloc::Global;
 use std::marker::Model;
 
 /// The arguments of a call, in order: their types, and their values in binary encoding.
-#[derive(Debug, Drop)]
+#[derive(Debug)]
 pub struct PgArguments {
     types: Vec<PgTypeInfo>,
     buffer: PgArgumentBuffer,
+}
+
+// By hand, so that whoever lets one go makes one call, and doesn't go through its parts.
+impl Drop for PgArguments {
+    fn drop(self) {
+        let PgArguments {
+            types: _,
+            buffer: _,
+        } = self;
+    }
 }
 
 impl Model for PgArguments {

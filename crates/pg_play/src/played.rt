@@ -3,15 +3,24 @@ use pg_stream::MemoryLink;
 use pg_wire::{Error, Sequence};
 
 /// What came of a play: how start-up ended, what came of each step, and the link behind them.
-#[derive(Drop)]
 pub struct Played<L> {
     pub link: L,
     pub start: Result<Started, Error>,
     pub outcomes: Sequence<Outcome>,
 }
 
+// By hand, so that whoever lets one go makes one call, and doesn't go through its parts.
+impl<L: Drop> Drop for Played<L> {
+    fn drop(self) {
+        let Played {
+            link: _,
+            start: _,
+            outcomes: _,
+        } = self;
+    }
+}
+
 /// How the program ended, and what was played over a link in memory or over a link that was dialled.
-#[derive(Drop)]
 pub struct Ran<L> {
     /// | Status | Where |
     /// |---|---|
@@ -25,4 +34,15 @@ pub struct Ran<L> {
     pub status: u8,
     pub played: Option<Played<MemoryLink>>,
     pub live: Option<Played<L>>,
+}
+
+// By hand, so that whoever lets one go makes one call, and doesn't go through its parts.
+impl<L: Drop> Drop for Ran<L> {
+    fn drop(self) {
+        let Ran {
+            status: _,
+            played: _,
+            live: _,
+        } = self;
+    }
 }

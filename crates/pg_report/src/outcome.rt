@@ -32,7 +32,7 @@ pub enum End {
 }
 
 /// What came of one step.
-#[derive(Debug, Drop)]
+#[derive(Debug)]
 pub struct Outcome {
     pub items: Sequence<Item>,
     pub end: End,
@@ -41,6 +41,21 @@ pub struct Outcome {
     pub cache: CacheStep,
     pub waits: u64,
     pub moved: u64,
+}
+
+// By hand, so that whoever lets one go makes one call, and doesn't go through its parts.
+impl Drop for Outcome {
+    fn drop(self) {
+        let Outcome {
+            items: _,
+            end: _,
+            groups: _,
+            heard: _,
+            cache: _,
+            waits: _,
+            moved: _,
+        } = self;
+    }
 }
 
 /// A start-up that went well: the bytes sent and read up to its end.

@@ -56,9 +56,15 @@ fn column_text_of(alloc: Global, columns: &[(Oid, i16)]) -> Result<Text, AllocEr
 }
 
 /// Finds out which columns of tables the fields of a result come from, by one lookup.
-#[derive(Drop)]
 pub struct ColumnResolver {
     pushed: Sequence<(Oid, i16)>,
+}
+
+// By hand, so that whoever lets one go makes one call, and doesn't go through its parts.
+impl Drop for ColumnResolver {
+    fn drop(self) {
+        let ColumnResolver { pushed: _ } = self;
+    }
 }
 
 impl Model for ColumnResolver {

@@ -11,7 +11,7 @@ use std::alloc::Global;
 ///
 /// After the list of reads every read answers `NotYet` (`Failed` once they are more than `usize` can count), and after the
 /// list of writes every write takes all. An upgrade is `Done` and changes no byte. It tells all bytes and the places of its waits.
-#[derive(Debug, Drop)]
+#[derive(Debug)]
 pub struct MemoryLink {
     reads: ReadList,
     writes: Sequence<WriteEvent>,
@@ -30,6 +30,30 @@ pub struct MemoryLink {
     ends: u64,
     faults: u64,
     upgrade_faults: u64,
+}
+
+// By hand, so that whoever lets one go makes one call, and doesn't go through its parts.
+impl Drop for MemoryLink {
+    fn drop(self) {
+        let MemoryLink {
+            reads: _,
+            writes: _,
+            writes_passed: _,
+            takes_passed: _,
+            taken: _,
+            can_upgrade: _,
+            is_local: _,
+            secured: _,
+            asked: _,
+            calls: _,
+            moved: _,
+            read_waits: _,
+            write_waits: _,
+            ends: _,
+            faults: _,
+            upgrade_faults: _,
+        } = self;
+    }
 }
 
 // What is left of an event that said so many writes.

@@ -23,7 +23,6 @@ pub struct LinkCalls {
 }
 
 /// Frames over a link: what is queued goes out, and what comes in is cut into frames.
-#[derive(Drop)]
 pub struct PgStream<L> {
     link: L,
     unsent: Outgoing,
@@ -33,6 +32,22 @@ pub struct PgStream<L> {
     moves: u64,
     taken: u64,
     parameters: Parameters,
+}
+
+// By hand, so that whoever lets one go makes one call, and doesn't go through its parts.
+impl<L: Drop> Drop for PgStream<L> {
+    fn drop(self) {
+        let PgStream {
+            link: _,
+            unsent: _,
+            held: _,
+            left: _,
+            waits: _,
+            moves: _,
+            taken: _,
+            parameters: _,
+        } = self;
+    }
 }
 
 impl<L> Model for PgStream<L> {

@@ -7,9 +7,16 @@ use std::marker::Model;
 
 /// The error that a server reports in an ErrorResponse: contracts see the list of its fields.
 /// (PostgreSQL manual, "Error and Notice Message Fields".)
-#[derive(Debug, Drop)]
+#[derive(Debug)]
 pub struct PgDatabaseError {
     fields: ErrorFields,
+}
+
+// By hand, so that whoever lets one go makes one call, and doesn't go through its parts.
+impl Drop for PgDatabaseError {
+    fn drop(self) {
+        let PgDatabaseError { fields: _ } = self;
+    }
 }
 
 impl Model for PgDatabaseError {

@@ -29,9 +29,16 @@ pub struct Field {
 }
 
 /// The columns of rows, in order: contracts see the list of them.
-#[derive(Debug, Drop)]
+#[derive(Debug)]
 pub struct RowDescription {
     fields: Vec<Field>,
+}
+
+// By hand, so that whoever lets one go makes one call, and doesn't go through its parts.
+impl Drop for RowDescription {
+    fn drop(self) {
+        let RowDescription { fields: _ } = self;
+    }
 }
 
 impl Model for RowDescription {
