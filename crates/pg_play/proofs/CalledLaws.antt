@@ -8,7 +8,7 @@ use Rattle.pg_wire.specs.declared.error.ProtocolFault.TheVariants as protocol
 use Rattle.pg_wire.specs.declared.error.ServerFault.{ServerFault}
 use Rattle.pg_wire.specs.declared.error.ServerFault.TheVariants as faults
 use Rattle.pg_wire.specs.Frame.{Frame, backend_tags}
-use Rattle.pg_wire.specs.Parts.{heard}
+use Rattle.pg_wire.specs.Parts.{heard, is_ready}
 use Rattle.pg_wire.specs.Frontend.{FrontendMessage}
 use Rattle.pg_wire.specs.Groups.{IsGroup}
 use Rattle.pg_wire.specs.Server.{MayHear}
@@ -39,7 +39,7 @@ use Rattle.pg_play.proofs.StepLaws.{Summary}
 use Rattle.pg_exchanges.specs.Expecting.{Widths, BeginsKnowing}
 use Rattle.pg_call.specs.Requests.{widths_of}
 use Rattle.pg_play.proofs.DueLaws.{kept_own, still_place}
-use Rattle.pg_play.proofs.PlaceLaws.{HasSummary, said_is_queued, next_place, stands_next, never_copies, own_groups}
+use Rattle.pg_play.proofs.PlaceLaws.{HasSummary, said_is_queued, next_place, stands_next, never_copies, own_groups, owed_is}
 use Rattle.pg_play.proofs.ToldLaws.{main_after, queued_one, queued_step, told_of, CountsOn, numbers_step, counts_on, told_step, at_most_one}
 use Rattle.pg_play.proofs.CauseLaws.{cause_step}
 use Rattle.pg_play.proofs.LawfulLaws.{lawful_begins}
@@ -48,20 +48,31 @@ use Rattle.pg_play.proofs.WaitPlaceLaws.{places_step}
 -- ---- a lawful server
 
 -- what any lawful server begins in response to an exchange's own group, behind what was heard
-abbrev pub Knows : Widths → Place → List Group → List Frame → Place → Type 0
+abbrev Knows : Widths → Place → List Group → List Frame → Place → Type 0
 Knows widths at own slice next = (group : Group) (front : Frame) → own ≡ group ∷ [] → ended next ≡ length at.groups → MayHear (said_in next.groups) (heard next.frames ++ front ∷ []) → BeginsKnowing widths group (main_frames at own slice ++ front ∷ [])
 
--- where no columns are known, a response
-pub knows_none : (start : StreamSeen) (at : Place) (a b : ConnSeen) (step : Step) (said : List FrontendMessage) (fs : List Frame) (items : List CallItem) (copied : Bool) (end : End) → StandsAt start at a → (s : Summary a.ledger (request_of at.rule.depth step.call) said (heard fs) items b.ledger copied)
-    → widths_of (request_of at.rule.depth step.call) ≡ [] → Knows (widths_of (request_of at.rule.depth step.call)) at s.own (heard fs) (next_place at b said s.own fs end)
-knows_none start at a b step said fs items copied end st s none group front last in_own l =
-    let one : length s.own ≡ 1 = ap (λ (g : List Group). length g) last in
-    let q = queued_one a.ledger.owed (request_of at.rule.depth step.call) s.own (heard fs) s.queued one in
+-- At this place these columns are known: whatever is heard behind it, any lawful server has begun a response to the next group, and knows them.
+abbrev pub KnownAt : Widths → Place → Type 0
+KnownAt widths at = (group : Group) (slice : List Frame) (front : Frame) → IsGroup group → MayHear (said_in (at.groups ++ group ∷ [])) ((heard at.frames ++ slice) ++ front ∷ []) → count_by is_ready (heard at.frames ++ slice) ≡ length at.groups → BeginsKnowing widths group (after_readys (owed at) slice ++ front ∷ [])
+
+-- no columns are known anywhere
+pub known_none : (start : StreamSeen) (at : Place) (a : ConnSeen) → StandsAt start at a → KnownAt [] at
+known_none start at a st group slice front g l count = (
+  lawful_begins at.groups (group ∷ []) group (heard at.frames ++ slice) (after_readys (owed at) slice) front st.are_groups g refl l count
+      (after_more (heard at.frames) slice (length at.groups) a.ledger.owed st.ledger st.between ∙ ap (λ (n : ℕ). after_readys n slice) (sym (owed_is start at a st))),
+  tt,
+)
+
+-- what is known at a place is known of the exchange that begins there
+pub knows_here : (start : StreamSeen) (at : Place) (a b : ConnSeen) (step : Step) (widths : Widths) (said : List FrontendMessage) (fs : List Frame) (items : List CallItem) (copied : Bool) (end : End) → StandsAt start at a → KnownAt widths at → (s : Summary a.ledger (request_of at.rule.depth step.call) said (heard fs) items b.ledger copied)
+    → Knows widths at s.own (heard fs) (next_place at b said s.own fs end)
+knows_here start at a b step widths said fs items copied end st known s group front last in_own l =
+    let q = queued_one a.ledger.owed (request_of at.rule.depth step.call) s.own (heard fs) s.queued (ap (λ (g : List Group). length g) last) in
     let groups = subst (AllByRecursion IsGroup) last (own_groups a.ledger.owed at.rule.depth step.call s.own (heard fs) s.queued) in
-    let behind : after_readys (length at.groups) (heard (at.frames ++ fs)) ≡ main_frames at s.own (heard fs) =
-    ap (after_readys (length at.groups)) (heard-append at.frames fs) ∙ after_more (heard at.frames) (heard fs) (length at.groups) a.ledger.owed st.ledger st.between ∙ sym (main_after start at a (request_of at.rule.depth step.call) s.own (heard fs) st q) in
-    let begins = lawful_begins at.groups s.own group (heard (at.frames ++ fs)) (main_frames at s.own (heard fs)) front st.are_groups groups.0 last l in_own behind in
-    subst (λ (w : Widths). BeginsKnowing w group (main_frames at s.own (heard fs) ++ front ∷ [])) (sym none) (begins, tt)
+    let listened = heard-append at.frames fs in
+    let main : main_frames at s.own (heard fs) ≡ after_readys (owed at) (heard fs) = main_after start at a (request_of at.rule.depth step.call) s.own (heard fs) st q ∙ ap (λ (n : ℕ). after_readys n (heard fs)) (sym (owed_is start at a st)) in
+    let may = subst (λ (g : List Group). MayHear (said_in (at.groups ++ g)) ((heard at.frames ++ heard fs) ++ front ∷ [])) last (subst (λ (h : List Frame). MayHear (said_in (at.groups ++ s.own)) (h ++ front ∷ [])) listened l) in
+    subst (λ (h : List Frame). BeginsKnowing widths group (h ++ front ∷ [])) (sym main) (known group (heard fs) front groups.0 may (ap (λ (h : List Frame). count_by is_ready h) (sym listened) ∙ in_own))
 
 unlawful_begins : (at next : Place) (widths : Widths) (own : List Group) (slice : List Frame) (tag : ℕ) (front : Frame) → Knows widths at own slice next → IsUnlawful widths at own slice next tag → IsFront next front → MayHear (said_in next.groups) (heard next.frames ++ front ∷ []) → ⊥
 unlawful_begins at next widths own slice tag front k u f l =
@@ -116,8 +127,8 @@ pub record Called (start : StreamSeen) (at : Place) (old : Counted) (m : ConnSee
 
 unfoldable pub called_exchange : (start first : StreamSeen) (old : Counted) (at : Place) (a b : ConnSeen) (step : Step) (shown : List Item) (end : End) (said : List FrontendMessage) (fs : List Frame) → StandsAt start at a → acts_at_once step.call ≡ false → step.polls < 2 ^ 32 → first.waits ≡ 0
     → Ended (limits_of step) first (asking (request_of at.rule.depth step.call) old a) b (request_of at.rule.depth step.call) shown end said fs → b.call ≡ states.Idle → HasAllRoom (asking (request_of at.rule.depth step.call) old a) → (found : HasSummary a.ledger (request_of at.rule.depth step.call) said (heard fs) b.ledger end shown)
-    → Knows (widths_of (request_of at.rule.depth step.call)) at found.1.own (heard fs) (next_place at b said found.1.own fs end) → Called start at old b step shown end (next_place at b said found.1.own fs end)
-called_exchange start first old at a b step shown end said fs st later p z e idles space found knows =
+    → KnownAt (widths_of (request_of at.rule.depth step.call)) at → Called start at old b step shown end (next_place at b said found.1.own fs end)
+called_exchange start first old at a b step shown end said fs st later p z e idles space found known =
     let r = request_of at.rule.depth step.call in
     let begun = asking r old a in
     let s = found.1 in
@@ -150,7 +161,7 @@ called_exchange start first old at a b step shown end said fs st later p z e idl
       };
       stands = stands;
       small = at_most_one a.ledger.owed r s.own (heard fs) s.queued;
-      lawful = never_unlawful at (next_place at b said s.own fs end) step told s.own (heard fs) knows cause;
+      lawful = never_unlawful at (next_place at b said s.own fs end) step told s.own (heard fs) (knows_here start at a b step (widths_of r) said fs found.0 (refuses_copy end) end st known s) cause;
       places = places_step start first old at a b r step.polls told said s.own fs st z p grew.waits e.few went.waits;
       counts = subst (λ (x : StreamSeen). NoneFalls x.link b.stream.link) st.seen went.flows.counts;
       grew = grew;

@@ -28,7 +28,7 @@ use Rattle.pg_script.specs.declared.step.Call.TheVariants as calls
 use Rattle.pg_script.specs.declared.step.Step.{Step}
 use Rattle.pg_play.specs.declared.tally.Limits.{Limits}
 use Rattle.pg_play.specs.Shown.{request_of, waits_to_show, item_of}
-use Rattle.pg_play.specs.Calls.{WaitsFew, HasWaitedFew, StaysIdle, EndsOn, Ended, IsUnpolled, limits_of, untouched, outcome_of, broken_after, begun_call}
+use Rattle.pg_play.specs.Calls.{WaitsFew, HasWaitedFew, StaysIdle, EndsOn, Ended, IsUnpolled, limits_of, HandedOn, untouched, outcome_of, broken_after, begun_call}
 use Rattle.pg_play.specs.Places.{Place, ended, owed, refuses_copy}
 use Rattle.pg_play.specs.Causes.{AnsweredPending, IsDropped, StaysAt, EndsDuly, OpensSavepoint}
 use Rattle.pg_play.specs.Plays.{StandsAt}
@@ -174,7 +174,7 @@ flushed_step start at a b r out said fs items st c k (ended, (none, taken, same)
     ok_breaks_none (Some fault) = refl
 
 -- fewer polls waited than there were
-few_of : (first : StreamSeen) (b : ConnSeen) (step : Step) (out : Outcome) → first.waits ≡ 0 → first.moves ≡ 0 → out ≡ outcome_of b out.items out.end → step.polls < 2 ^ 32 → HasWaitedFew step.polls first b.stream out.end → (pending : ℕ) × AnsweredPending out pending × WaitsFew step.polls pending out.end
+pub few_of : (first : StreamSeen) (b : ConnSeen) (step : Step) (out : Outcome) → first.waits ≡ 0 → first.moves ≡ 0 → out ≡ outcome_of b out.items out.end → step.polls < 2 ^ 32 → HasWaitedFew step.polls first b.stream out.end → (pending : ℕ) × AnsweredPending out pending × WaitsFew step.polls pending out.end
 few_of first b step out z v k p few = (few.0, subst (λ (x : Outcome). AnsweredPending x few.0) (sym k) (pending_in first b few.0 out.items out.end z v (omega (arith, p, few.2.1)) few.1), few.2)
 
 -- the dues of a step whose one exchange asks this
@@ -197,16 +197,16 @@ duly_step start at a b step r out said fs items st n o p e s k flush most = reco
   most = most;
 }
 
--- the dues of a step of two exchanges, of which the first asked this
-pub duly_later : (first : StreamSeen) (at stop : Place) (b : ConnSeen) (step : Step) (r : Request) (out : Outcome) → first.waits ≡ 0 → first.moves ≡ 0 → (IsUnpolled step → ⊥) → (OpensSavepoint at step → ⊥) → step.polls < 2 ^ 32 → HasWaitedFew step.polls first b.stream out.end → out ≡ outcome_of b out.items out.end
-    → at.broken ≡ None → CanBeSaid r → (step.call ≡ calls.Flush → ⊥) → (waits_to_show step.call ≡ false → WithinMost out.end out.items step.most) → EndsDuly at step r out stop
-duly_later first at stop b step r out z v n o p few k whole can flush most = record {
-  savepoint = λ m x. absurd (o x);
+-- the dues of a step whose first exchange asked this, and handed on another
+pub duly_handed : (start : StreamSeen) (at stop : Place) (a m : ConnSeen) (step : Step) (r next : Request) (out : Outcome) → StandsAt start at a → (IsUnpolled step → ⊥) → (OpensSavepoint at step → ⊥) → HandedOn step.polls (begun_call r a).stream (begun_call r a) m r next → (step.call ≡ calls.Flush → r ≡ requests.Flush)
+    → (pending : ℕ) × AnsweredPending out pending × WaitsFew step.polls pending out.end → (waits_to_show step.call ≡ false → WithinMost out.end out.items step.most) → EndsDuly at step r out stop
+duly_handed start at stop a m step r next out st n o h flush few most = record {
+  savepoint = λ z x. absurd (o x);
   unpolled = λ u. absurd (n u);
-  kept = λ fault w. let x = sym whole ∙ w in absurd cc;
-  refused = λ w m x u. absurd (u can);
-  flushed = λ w m c. absurd (flush c);
-  few = few_of first b step out z v k p few;
+  kept = λ fault w. let x = sym h.whole.0 ∙ st.broken ∙ w in absurd cc;
+  refused = λ w z x u. absurd (u h.can);
+  flushed = λ w z c owes sent. let x = sym h.flush ∙ flush_at start at a r st (flush c) owes sent in absurd cc;
+  few = few;
   most = most;
 }
 

@@ -1,5 +1,5 @@
 -- The exchanges of a call.
-use Rattle.std.proofs.Common.{◌≡◌, ℕ, zero, suc, Bool, true, false, List, [], refl, sym, ap, ◌∙◌, Option, Some, None, Ok, inl, inr}
+use Rattle.std.proofs.Common.{◌≡◌, ℕ, zero, suc, Bool, true, false, List, [], length, subst, refl, sym, ap, ◌∙◌, Option, Some, None, Ok, inl, inr}
 use Rattle.std.proofs.lemmas.Option.{same_Some}
 use Rattle.pg_wire.specs.declared.status.TransactionStatus.{TransactionStatus}
 use Rattle.pg_wire.specs.Backend.{BackendMessage}
@@ -13,12 +13,12 @@ use Rattle.pg_call.specs.declared.request.Bound.{Bound}
 use Rattle.pg_call.specs.declared.request.Request.{Request}
 use Rattle.pg_call.specs.declared.request.Request.TheVariants as requests
 use Rattle.pg_call.specs.declared.answer.CallAnswer.TheVariants as answers
-use Rattle.pg_call.specs.Requests.{kind_of, widths_of, first_by, first_of}
+use Rattle.pg_call.specs.Requests.{kind_of, widths_of, groups_of, first_by, first_of}
 use Rattle.pg_call.specs.Calls.{answer_by}
 use Rattle.pg_script.specs.declared.step.Call.{Call}
 use Rattle.pg_script.specs.declared.step.Call.TheVariants as calls
-use Rattle.pg_call.proofs.FitLaws.{next_is}
-use Rattle.pg_play.specs.Shown.{request_of, asked_of, first_as, first_call, next_call, IsPartOf, how_of, waits_to_show, wants_row, wants_how, acts_at_once, begins, begins_with}
+use Rattle.pg_call.proofs.FitLaws.{next_is, hands_on_described}
+use Rattle.pg_play.specs.Shown.{request_of, asked_of, first_as, first_call, next_call, IsPartOf, how_of, waits_how, waits_to_show, wants_row, wants_how, acts_at_once, begins, begins_with}
 use Rattle.pg_play.specs.Calls.{IsLast}
 
 -- ---- the first exchange
@@ -92,22 +92,37 @@ first_begins call = kept_first begins (record { queries = begins_none; described
 pub first_begins_with : (call : Call) → begins_with (first_call call) ≡ begins_with call
 first_begins_with call = kept_first begins_with (record { queries = begins_with_none; described = λ x. refl; flushed = refl }) call
 
-waits_by : (how : How) (query : QueryText) (o : Option ArgumentsSeen) (call : Call) → waits_to_show call ≡ false → waits_to_show (first_as how query o call) ≡ false
-waits_by how query None call w = w
-waits_by how query (Some arguments) call w = refl
+-- how the query is run that an exchange is of
+abbrev pub runs_how : Call → Option How
+runs_how (calls.Describe x) = Some x.how
+runs_how call = how_of call
 
--- what shows its items as they come has a first exchange that does
-pub first_waits : (call : Call) → waits_to_show call ≡ false → waits_to_show (first_call call) ≡ false
-first_waits (calls.Execute query) w = waits_by hows.Execute query query.arguments (calls.Execute query) w
-first_waits (calls.ExecuteMany query) w = waits_by hows.ExecuteMany query query.arguments (calls.ExecuteMany query) w
-first_waits (calls.Fetch query) w = waits_by hows.Fetch query query.arguments (calls.Fetch query) w
-first_waits (calls.FetchMany query) w = waits_by hows.FetchMany query query.arguments (calls.FetchMany query) w
-first_waits (calls.FetchAll query) w = absurd cc
-first_waits (calls.FetchOptional query) w = absurd cc
-first_waits (calls.FetchOne query) w = absurd cc
-first_waits (calls.Describe x) w = refl
-first_waits (calls.Run bound) w = refl
-first_waits _ w = refl
+how_by : (how : How) (query : QueryText) (o : Option ArgumentsSeen) (call : Call) → runs_how call ≡ Some how → runs_how (first_as how query o call) ≡ Some how
+how_by how query None call e = e
+how_by how query (Some arguments) call e = refl
+
+-- what shows its items as they come has a first exchange of a query that does
+pub first_how : (call : Call) → waits_to_show call ≡ false → waits_how (runs_how (first_call call)) ≡ false
+first_how (calls.Execute query) w = ap waits_how (how_by hows.Execute query query.arguments (calls.Execute query) refl)
+first_how (calls.ExecuteMany query) w = ap waits_how (how_by hows.ExecuteMany query query.arguments (calls.ExecuteMany query) refl)
+first_how (calls.Fetch query) w = ap waits_how (how_by hows.Fetch query query.arguments (calls.Fetch query) refl)
+first_how (calls.FetchMany query) w = ap waits_how (how_by hows.FetchMany query query.arguments (calls.FetchMany query) refl)
+first_how (calls.FetchAll query) w = absurd cc
+first_how (calls.FetchOptional query) w = absurd cc
+first_how (calls.FetchOne query) w = absurd cc
+first_how (calls.Describe x) w = refl
+first_how (calls.Run bound) w = refl
+first_how _ w = refl
+
+-- so it is with the one behind it
+pub next_how : (call : Call) (response : List BackendMessage) (part : Call) → next_call call response ≡ Some part → waits_how (runs_how call) ≡ false → waits_how (runs_how part) ≡ false
+next_how (calls.Describe x) response part e w = subst (λ (y : Call). waits_how (runs_how y) ≡ false) (same_Some _ part e) w
+next_how _ response part e w = absurd cc
+
+-- and with each of them
+pub shows_how : (call : Call) → waits_how (runs_how call) ≡ false → waits_to_show call ≡ false
+shows_how (calls.Describe x) w = refl
+shows_how _ w = w
 
 widths_by : (d : ℕ) (how : How) (query : QueryText) (o : Option ArgumentsSeen) (call : Call) → widths_of (request_of d call) ≡ [] → widths_of (request_of d (first_as how query o call)) ≡ []
 widths_by d how query None call w = w
@@ -162,19 +177,34 @@ describes (suc left) calls.Rollback k = absurd cc
 describes d calls.StartRollback k = absurd cc
 describes d (calls.Run bound) k = absurd cc
 
-flush_describes : (x : Extended) → calls.Describe x ≡ calls.Flush → ⊥
-flush_describes x e = cc
-
--- what is described is no flush
-pub no_flush : (call : Call) (x : Extended) → first_call call ≡ calls.Describe x → call ≡ calls.Flush → ⊥
-no_flush call x e f = flush_describes x (sym e ∙ ap first_call f)
-
 -- what runs behind a description whose columns were described
 abbrev pub bound_by : Extended → List BackendMessage → Bound
 bound_by x reply = record { how = x.how; statement = x.statement; arguments = x.arguments; columns = Some (described reply) }
 
 pub next_bound : (x : Extended) (reply : List BackendMessage) (status : TransactionStatus) (next : Request) → answer_by (requests.Describe x) reply status ≡ Ok (answers.Next next) → next ≡ requests.Run (bound_by x reply)
 next_bound x reply status next e = sym (same_Some (requests.Run (bound_by x reply)) next (next_is (requests.Describe x) reply status next e).1)
+
+-- What comes behind an exchange of one group asks what was handed on, wherever it begins, and is polled.
+pub record NextIs (d : ℕ) (call : Call) (reply : List BackendMessage) (next : Request) : Type 0 where
+  pub part : Call
+  pub comes : next_call call reply ≡ Some part
+  pub asks : (depth : ℕ) → request_of depth part ≡ next
+  pub polled : acts_at_once part ≡ false
+  pub one : length (groups_of (request_of d call)) ≡ 1
+
+pub what_is_next : (d : ℕ) (call : Call) (reply : List BackendMessage) (status : TransactionStatus) (next : Request) → answer_by (request_of d call) reply status ≡ Ok (answers.Next next) → NextIs d call reply next
+what_is_next d call reply status next e =
+    let is = describes d call (hands_on_described (request_of d call) reply status next e) in
+    subst (λ (y : Call). NextIs d y reply next) (sym is.1) (described_next is.0 (subst (λ (y : Call). answer_by (request_of d y) reply status ≡ Ok (answers.Next next)) is.1 e))
+  where
+    described_next : (x : Extended) → answer_by (requests.Describe x) reply status ≡ Ok (answers.Next next) → NextIs d (calls.Describe x) reply next
+    described_next x k = record {
+      part = calls.Run (bound_by x reply);
+      comes = refl;
+      asks = λ depth. sym (next_bound x reply status next k);
+      polled = refl;
+      one = refl;
+    }
 
 runs_by : (how : How) (query : QueryText) (o : Option ArgumentsSeen) (call : Call) (response : List BackendMessage) (part : Call) → next_call call response ≡ None → next_call (first_as how query o call) response ≡ Some part → (bound : Bound) × (part ≡ calls.Run bound) × (Some how ≡ Some bound.how)
 runs_by how query None call response part n e = let x = sym n ∙ e in absurd cc

@@ -20,6 +20,7 @@ pub mod WaitPlaceLaws
 pub mod IdleLaws
 pub mod DueLaws
 pub mod CalledLaws
+pub mod InTurnLaws
 pub mod PlayLaws
 pub mod StartLaws
 pub mod TopLaws

@@ -1,20 +1,36 @@
 -- What a lawful server may begin in response to the group behind a description that an earlier exchange heard whole.
-use Rattle.std.proofs.Common.{◌≡◌, ◌∙◌, ℕ, zero, suc, ◌+◌, ◌≤◌, true, false, cond, List, [], ◌∷◌, ◌++◌, length, map, flat_map, inl, inr, refl, sym, ap, ap₂, subst, append_assoc, append-nil, arith}
+use Rattle.std.proofs.Common.{◌≡◌, ◌∙◌, ℕ, zero, suc, ◌+◌, ◌≤◌, true, false, cond, List, [], ◌∷◌, ◌++◌, length, map, flat_map, inl, inr, refl, sym, ap, ap₂, subst, append_assoc, append-nil, length-append, arith, Ok}
 use Rattle.std.specs.List.{AllByRecursion, count_by}
 use Rattle.pg_wire.specs.Frame.{Frame}
-use Rattle.pg_wire.specs.Parts.{is_ready}
+use Rattle.pg_wire.specs.Parts.{heard, is_ready}
 use Rattle.pg_wire.specs.Backend.{BackendMessage, backend_frame, HasBackendFrame, ErrorResponse}
 use Rattle.pg_wire.specs.Server.{MayHear}
 use Rattle.pg_wire.specs.Groups.{EndsReady, IsGroup}
 use Rattle.pg_wire.proofs.Unique.{backend_frame_unique}
-use Rattle.pg_exchanges.specs.Expecting.{BeginsKnowing}
+use Rattle.pg_wire.specs.Frontend.{FrontendMessage}
+use Rattle.pg_stream.specs.Streams.{StreamSeen}
+use Rattle.pg_exchanges.specs.Expecting.{Widths, BeginsKnowing}
 use Rattle.pg_exchanges.specs.Answering.{described, IsNoError, describing}
-use Rattle.pg_call.specs.Requests.{Group, said_in}
+use Rattle.pg_call.specs.declared.request.Extended.{Extended}
+use Rattle.pg_call.specs.declared.request.Request.{Request}
+use Rattle.pg_call.specs.declared.request.Request.TheVariants as requests
+use Rattle.pg_call.specs.declared.answer.CallItem.{CallItem}
+use Rattle.pg_call.specs.declared.answer.CallAnswer.TheVariants as answers
+use Rattle.pg_call.specs.Requests.{Group, said_in, groups_of, name_of, widths_of}
 use Rattle.pg_call.specs.Drains.{is_error, after_readys}
-use Rattle.pg_call.specs.Calls.{EndsByReady}
+use Rattle.pg_call.specs.Calls.{EndsByReady, IsFine, EndsFine}
+use Rattle.pg_call.proofs.FitLaws.{hands_on_described}
+use Rattle.pg_conn.specs.Connections.{ConnSeen}
+use Rattle.pg_script.specs.declared.step.Call.{Call}
 use Rattle.pg_call.proofs.DrainLaws.{count-cons, count-push, after_from}
+use Rattle.pg_play.specs.Shown.{request_of}
+use Rattle.pg_play.specs.Places.{Place, owed}
 use Rattle.pg_play.specs.Told.{HasNoError}
-use Rattle.pg_play.proofs.PartLaws.{count_after, after_more, after_end}
+use Rattle.pg_play.specs.Plays.{StandsAt}
+use Rattle.pg_play.proofs.PartLaws.{count_after, after_more, after_end, no_error}
+use Rattle.pg_play.proofs.PlaceLaws.{owed_is}
+use Rattle.pg_play.proofs.CalledLaws.{KnownAt}
+use Rattle.pg_play.proofs.ExchangeLaws.{describes, next_bound}
 use Rattle.pg_play.proofs.LawfulLaws.{parted}
 use Rattle.pg_play.proofs.KnownLaws.{lawful_knows}
 
@@ -91,7 +107,7 @@ whole_behind owed slice told c (inr (front, z, e, r)) a =
 
 -- one slice heard the responses owed to the groups before, and then the whole response to a group that described a statement, without an
 -- error: what was heard since begins a response to the next group, of a server that has this statement with as many columns as were described
-pub knows_next : (groups : List Group) (name sql types : List ℕ) (group : Group) (owed : ℕ) (before slice1 slice2 : List Frame) (front : Frame) (told : List BackendMessage) → AllByRecursion IsGroup groups → IsGroup group
+knows_next : (groups : List Group) (name sql types : List ℕ) (group : Group) (owed : ℕ) (before slice1 slice2 : List Frame) (front : Frame) (told : List BackendMessage) → AllByRecursion IsGroup groups → IsGroup group
     → MayHear (said_in ((groups ++ describing name sql types ∷ []) ++ group ∷ [])) (((before ++ slice1) ++ slice2) ++ front ∷ [])
     → count_by is_ready before + owed ≡ length groups → (owed ≡ 0 → after_readys (length groups) before ≡ [])
     → count_by is_ready slice1 ≡ owed + 1 → count_by is_ready ((before ++ slice1) ++ slice2) ≡ length groups + 1 → HasNoError slice1 → EndsByReady slice1
@@ -101,3 +117,24 @@ knows_next groups name sql types group owed before slice1 slice2 front told gs g
     let behind : after_readys (length groups) heards ≡ map backend_frame told ++ slice2 =
     ap (after_readys (length groups)) (append_assoc before slice1 slice2) ∙ after_more before (slice1 ++ slice2) (length groups) owed count rests ∙ after_further slice1 slice2 owed (omega (arith, own)) ∙ ap (λ (t : List Frame). t ++ slice2) after in
     lawful_knows groups name sql types group heards slice2 front told gs g l all behind (whole_behind owed slice1 told own ends after) frames (good_messages told (subst HasNoError after (good_after slice1 owed good)))
+
+-- behind a description that was answered, the columns of the statement are known
+described_known : (start : StreamSeen) (at next : Place) (a c : ConnSeen) (x : Extended) (said : List FrontendMessage) (slice : List Frame) (items : List CallItem) → StandsAt start at a → StandsAt start next c → next.groups ≡ at.groups ++ describing (name_of x.statement) x.sql x.arguments.types ∷ [] → heard next.frames ≡ heard at.frames ++ slice
+    → (f : IsFine a.ledger (requests.Describe x) said slice items c.ledger) → KnownAt ((name_of x.statement, length (described f.reply)) ∷ []) next
+described_known start at next a c x said slice items st st' groups frames f group more front g l count =
+    let widths : Widths = (name_of x.statement, length (described f.reply)) ∷ [] in
+    let may = subst (λ (h : List Frame). MayHear (said_in ((at.groups ++ describing (name_of x.statement) x.sql x.arguments.types ∷ []) ++ group ∷ [])) ((h ++ more) ++ front ∷ [])) frames (subst (λ (gs : List Group). MayHear (said_in (gs ++ group ∷ [])) ((heard next.frames ++ more) ++ front ∷ [])) groups l) in
+    let answered : count_by is_ready ((heard at.frames ++ slice) ++ more) ≡ length at.groups + 1 = ap (λ (h : List Frame). count_by is_ready (h ++ more)) (sym frames) ∙ count ∙ ap (λ (gs : List Group). length gs) groups ∙ length-append at.groups (describing (name_of x.statement) x.sql x.arguments.types ∷ []) in
+    let none_owed : owed next ≡ 0 = owed_is start next c st' ∙ f.owes in
+    subst (λ (n : ℕ). BeginsKnowing widths group (after_readys n more ++ front ∷ [])) (sym none_owed)
+    (knows_next at.groups (name_of x.statement) x.sql x.arguments.types group a.ledger.owed (heard at.frames) slice more front f.reply st.are_groups g may st.ledger st.between f.counted answered (no_error slice f.well) f.ends f.replied f.reply_has_frames)
+
+-- what an exchange that hands on has told is known where the next one begins
+pub known_behind : (start : StreamSeen) (at next : Place) (a c : ConnSeen) (d : ℕ) (call : Call) (after : Request) (said : List FrontendMessage) (slice : List Frame) (items : List CallItem) → StandsAt start at a → StandsAt start next c → next.groups ≡ at.groups ++ groups_of (request_of d call) → heard next.frames ≡ heard at.frames ++ slice
+    → EndsFine a.ledger (request_of d call) said slice items c.ledger (Ok (answers.Next after)) → KnownAt (widths_of after) next
+known_behind start at next a c d call after said slice items st st' groups frames e =
+    let is = describes d call (hands_on_described (request_of d call) e.0.reply e.0.status after e.1) in
+    behind is.0 (groups ∙ ap (λ (y : Call). at.groups ++ groups_of (request_of d y)) is.1) (subst (λ (y : Call). EndsFine a.ledger (request_of d y) said slice items c.ledger (Ok (answers.Next after))) is.1 e)
+  where
+    behind : (x : Extended) → next.groups ≡ at.groups ++ describing (name_of x.statement) x.sql x.arguments.types ∷ [] → EndsFine a.ledger (requests.Describe x) said slice items c.ledger (Ok (answers.Next after)) → KnownAt (widths_of after) next
+    behind x g f = subst (λ (r : Request). KnownAt (widths_of r) next) (sym (next_bound x f.0.reply f.0.status after f.1)) (described_known start at next a c x said slice items st st' g frames f.0)

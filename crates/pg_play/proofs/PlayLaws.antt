@@ -1,33 +1,25 @@
 -- A step, steps one after another, and the bytes of a link that tells them.
-use Rattle.std.proofs.Common.{◌≡◌, ◌≢◌, ℕ, ◌+◌, ◌*◌, ◌^◌, ◌≤◌, ◌<◌, Bool, true, false, cond, ◌⊎◌, inl, inr, List, [], ◌∷◌, ◌++◌, length, map, replicate, refl, sym, ap, ◌∙◌, subst, arith, append_assoc, append-nil, Option, Some, None, sum_by}
+use Rattle.std.proofs.Common.{◌≡◌, ◌≢◌, ℕ, ◌+◌, ◌*◌, ◌^◌, ◌≤◌, ◌<◌, Bool, true, false, cond, ◌⊎◌, inl, inr, List, [], ◌∷◌, ◌++◌, length, replicate, refl, sym, ap, ◌∙◌, subst, arith, append_assoc, append-nil, Option, Some, None, sum_by}
 use Rattle.pg_play.proofs.IdleLaws.{idles_all}
 use Rattle.pg_play.specs.Idles.{SaysIdle, statuses}
-use Rattle.pg_play.proofs.SettledLaws.{SettlesTo, settles_call, settles_rollback, cleanup_polled, depth_other, depth_stands}
-use Rattle.std.specs.List.{count_by, AllByRecursion}
+use Rattle.pg_play.proofs.SettledLaws.{settles_rollback, cleanup_polled, depth_other, depth_stands}
 use Rattle.std.specs.Io.KnownBytes.{Appends}
 use Rattle.pg_wire.specs.declared.error.Error.TheVariants as errors
 use Rattle.pg_wire.specs.declared.error.Error.{Error}
 use Rattle.pg_wire.specs.declared.error.ServerFault.{ServerFault}
 use Rattle.pg_wire.specs.Frame.{Frame, text_of, backend_tags}
-use Rattle.pg_wire.specs.Parts.{heard, is_ready}
+use Rattle.pg_wire.specs.Parts.{heard}
 use Rattle.pg_wire.specs.Frontend.{FrontendMessage}
-use Rattle.pg_wire.specs.Groups.{IsGroup}
-use Rattle.pg_wire.specs.Server.{MayHear}
-use Rattle.pg_wire.proofs.PartLaws.{heard-append}
 use Rattle.pg_wire.proofs.CutLaws.{cut_after_taken}
-use Rattle.pg_stream.specs.Links.{LinkSeen, NoneFalls, GrewBy}
+use Rattle.pg_stream.specs.Links.{LinkSeen, GrewBy}
 use Rattle.pg_stream.specs.Streams.{StreamSeen}
 use Rattle.pg_stream.proofs.Known.{Appends-then, Appends-refl, NoneFalls-refl, NoneFalls-then}
 use Rattle.pg_stream.specs.declared.link.TlsWish.{TlsWish}
 use Rattle.pg_startup.specs.Handshake.{ReadyOf, IsSecured, HasBegun}
 use Rattle.pg_startup.specs.Exchange.{proofs_text}
 use Rattle.pg_startup.specs.Establishing.{EstablishSeen}
-use Rattle.pg_request.specs.declared.progress.CacheStep.TheVariants as cache
 use Rattle.pg_call.specs.declared.request.Request.{Request}
-use Rattle.pg_call.specs.declared.request.Request.TheVariants as requests
-use Rattle.pg_call.specs.declared.answer.CallItem.{CallItem}
-use Rattle.pg_call.specs.Requests.{Group, said_in, spelled, groups_of, copy_fail, name_of}
-use Rattle.pg_call.specs.Drains.{after_readys}
+use Rattle.pg_call.specs.Requests.{Group, spelled, groups_of, copy_fail}
 use Rattle.pg_conn.specs.Connections.{ConnSeen, cleaned, counted_anew, rolled_back, ended as ended_conn, with_depth}
 use Rattle.pg_report.specs.declared.outcome.Item.{Item}
 use Rattle.pg_report.specs.declared.outcome.Answer.TheVariants.{Unit as AnswersUnit}
@@ -38,47 +30,29 @@ use Rattle.pg_report.specs.declared.outcome.Started.{Started}
 use Rattle.pg_script.specs.declared.step.Call.{Call}
 use Rattle.pg_script.specs.declared.step.Call.TheVariants as calls
 use Rattle.pg_script.specs.declared.step.Step.{Step}
-use Rattle.pg_play.specs.declared.tally.Limits.{Limits}
-use Rattle.pg_play.specs.Shown.{request_of, has_query, shown_by, waits_to_show, acts_at_once, begins_with}
-use Rattle.pg_play.specs.Calls.{WaitsFew, HasWaitedFew, Ended, PlaysCall, PlaysStep, IsUnpolled, limits_of, untouched, outcome_of, rolled_outcome, broken_after, behind_end, Counted, none_counted, asking, begun_call}
-use Rattle.pg_play.specs.Places.{Place, owed, drained, unfed, queued_by, main_frames, refuses_copy, Queues, first_place, is_fine}
+use Rattle.pg_play.specs.Shown.{request_of, has_query, shown_by, acts_at_once, begins_with}
+use Rattle.pg_play.specs.Calls.{WaitsFew, PlaysCall, PlaysStep, IsUnpolled, limits_of, untouched, outcome_of, rolled_outcome, broken_after, behind_end, none_counted, begun_call}
+use Rattle.pg_play.specs.Places.{Place, owed, drained, unfed, queued_by, refuses_copy, Queues, first_place, is_fine}
 use Rattle.pg_play.specs.Told.{Numbers, CountsTo, WellAtOk}
 use Rattle.pg_play.specs.Causes.{AnsweredPending, IsDropped, HasCause, KeepsFault, EndsDuly, OpensSavepoint}
 use Rattle.pg_play.specs.Settling.{Settles}
-use Rattle.pg_play.specs.WaitPlaces.{LastPlaces, WaitPlaces}
-use Rattle.pg_play.specs.Plays.{IsNeverUnlawful, Plays_call, TellsAll, ActsAtOnce, Plays_step, Plays_from, places_in, TakesInTime, StandsAt, PlaysOn, TellsBytes, Plays, Totals}
+use Rattle.pg_play.specs.WaitPlaces.{LastPlaces}
+use Rattle.pg_play.specs.Plays.{IsNeverUnlawful, Plays_call, ActsAtOnce, Plays_step, Plays_from, places_in, TakesInTime, StandsAt, PlaysOn, TellsBytes, Plays, Totals}
 use Rattle.pg_play.specs.Starts.{Opening, IsOf, HasOpened}
 use Rattle.pg_startup.proofs.FlowLaws.{Flows-none}
 use Rattle.pg_play.proofs.PartLaws.{take_none}
-use Rattle.pg_play.proofs.StepLaws.{Summary}
-use Rattle.std.proofs.Common.{ap₂, Ok, length-append}
-use Rattle.pg_wire.specs.Backend.{BackendMessage, backend_frame, HasBackendFrame}
 use Rattle.pg_call.proofs.RefusalLaws.{memory_refuses}
-use Rattle.pg_exchanges.specs.Answering.{described, describing}
-use Rattle.pg_exchanges.specs.Expecting.{BeginsKnowing}
-use Rattle.pg_call.specs.declared.request.Extended.{Extended}
-use Rattle.pg_call.specs.declared.request.Bound.{Bound}
-use Rattle.pg_call.specs.declared.answer.CallAnswer.TheVariants as answers
+use Rattle.pg_exchanges.specs.Expecting.{Widths}
 use Rattle.pg_call.specs.Requests.{first_of}
-use Rattle.pg_call.specs.Calls.{answer_by, EndsByReady}
-use Rattle.pg_conn.specs.Connections.{settled}
-use Rattle.pg_play.specs.Shown.{asked_of, first_call, next_call, waits_how}
-use Rattle.pg_play.specs.Calls.{PlaysOne, HandedOn, handed_from, EndsCall}
-use Rattle.pg_play.specs.Told.{HasNoError}
-use Rattle.pg_play.specs.Settling.{cleanup_of}
-use Rattle.pg_play.proofs.PartLaws.{no_error}
-use Rattle.pg_play.proofs.ToldLaws.{fine_own}
-use Rattle.pg_play.proofs.SettledLaws.{settles_later}
-use Rattle.pg_play.proofs.NextLaws.{knows_next, replies_same}
-use Rattle.pg_play.proofs.ThroughLaws.{two_at_most, counted_by, handed_described, handed_asking, handed_ended}
-use Rattle.pg_play.proofs.ExchangeLaws.{first_request, first_acts, first_begins_with, first_waits, first_widths, last_next, describes, no_flush, bound_by, next_bound, next_runs}
-use Rattle.pg_play.proofs.DueLaws.{WithinMost, most_by, some_of, polled_most, and_true, duly_step, duly_later, duly_out, dropped_out, dropped_from}
-use Rattle.pg_play.proofs.PlaceLaws.{ends_summary, next_place, own_groups}
-use Rattle.pg_play.proofs.ToldLaws.{main_after, queued_one, told_of, CountsOn}
-use Rattle.pg_play.proofs.CauseLaws.{dropped_step}
-use Rattle.pg_play.proofs.LinkLaws.{sum_more, where_lawful, totals_all}
+use Rattle.pg_play.specs.Shown.{asked_of, first_call, next_call}
+use Rattle.pg_play.proofs.ExchangeLaws.{first_request, first_acts, first_begins_with, first_how, first_widths}
+use Rattle.pg_play.proofs.DueLaws.{WithinMost, some_of, polled_most, and_true, duly_step, duly_handed, duly_out}
+use Rattle.pg_play.proofs.PlaceLaws.{ends_summary, next_place}
+use Rattle.pg_play.proofs.ToldLaws.{CountsOn}
+use Rattle.pg_play.proofs.LinkLaws.{where_lawful, totals_all}
 use Rattle.pg_play.proofs.CompleteLaws.{where_faultless}
-use Rattle.pg_play.proofs.CalledLaws.{Knows, knows_none, Called, called_exchange, exchanged}
+use Rattle.pg_play.proofs.CalledLaws.{KnownAt, known_none}
+use Rattle.pg_play.proofs.InTurnLaws.{AddUp, add_none, add_one, add_alone, counts_settled, InTurn, one_turn, BeginsAt, PlaysInTurn, same_but_groups, last_turn, turns_through}
 use Rattle.pg_play.proofs.WaitPlaceLaws.{places_quiet, places_last, given_next, takes_all}
 
 -- ---- one step
@@ -90,85 +64,42 @@ StepsTo start at step out d = (next : Place) × Plays_step at step out next × S
 abbrev first_step : Step → Step
 first_step step = record step { call = first_call step.call }
 
--- a step of one exchange
-one_step : (start : StreamSeen) (at mid next : Place) (d : ConnSeen) (step : Step) (raw told out : Outcome) (one : Plays_call at (first_step step) raw mid) → IsNeverUnlawful at raw mid → WaitPlaces at raw mid → NoneFalls at.seen.link mid.seen.link → Settles at (first_step step) raw told one.own mid next → StandsAt start next d
-    → TellsAll (told ∷ []) out → (is_fine told.end ≡ true → next_call (first_call step.call) one.told.response ≡ None) → next.seen.link.calls ≤ at.seen.link.calls + 256 * (step.polls + step.most) → (out.end ≡ ends.Dropped → IsDropped at step out mid) → (acts_at_once step.call ≡ true → ActsAtOnce at out mid)
-    → (acts_at_once step.call ≡ false → EndsDuly at step (first_of (asked_of at.rule.depth step.call)) out mid) → StepsTo start at step out d
-unfolding exchanged
-one_step start at mid next d step raw told out one lawful waits counts s stands tells last calls dropped now duly = (
-  next,
+counts_to : (n m k : ℕ) → GrewBy n 0 m → k ≡ m → CountsTo n k
+counts_to n m k g e = (omega (arith, g.1, e), omega (arith, g.2, e))
+
+-- its exchanges come in turn, and their numbers are told in sum
+steps_to : (start : StreamSeen) (at : Place) (step : Step) (out : Outcome) (stop : Place) (d : ConnSeen) → InTurn start at step (first_call step.call) none_counted out stop d → out.waits < 2 ^ 32 → d.stream.link.calls ≤ at.seen.link.calls + 256 * (step.polls + step.most) → (out.end ≡ ends.Dropped → IsDropped at step out stop)
+    → (acts_at_once step.call ≡ true → ActsAtOnce at out stop) → (acts_at_once step.call ≡ false → EndsDuly at step (first_of (asked_of at.rule.depth step.call)) out stop) → StepsTo start at step out d
+steps_to start at step out stop d t few calls dropped now duly = (
+  t.next,
   record {
-    exchanges = first_step step ∷ [];
-    outs = told ∷ [];
-    run = (next, exchanged start at mid next d (first_step step) raw told one lawful waits counts s stands, refl);
+    exchanges = first_step step ∷ t.later;
+    outs = t.told ∷ t.outs;
+    run = t.run;
     first = refl;
-    limits = (refl, tt);
-    hands = (last, tt);
-    tells = tells;
-    stop = mid;
-    stops = refl;
-    calls = calls;
+    limits = (refl, t.limits);
+    hands = t.hands;
+    tells = record {
+      items = t.items;
+      ends = t.ends;
+      groups = counts_to (sum_by (λ (x : Outcome). x.groups) (t.told ∷ t.outs)) out.groups out.groups t.adds.groups refl;
+      heard = counts_to (sum_by (λ (x : Outcome). x.heard) (t.told ∷ t.outs)) out.heard out.heard t.adds.heard refl;
+      waits = exactly (sum_by (λ (x : Outcome). x.waits) (t.told ∷ t.outs)) out.waits t.adds.waits few;
+      moved = counts_to (sum_by (λ (x : Outcome). x.moved) (t.told ∷ t.outs)) out.moved out.moved t.adds.moved refl;
+      cache = t.same;
+    };
+    stop = stop;
+    stops = t.stops;
+    calls = omega (arith, calls, ap (λ (x : StreamSeen). x.link.calls) t.stands.seen);
     dropped = dropped;
     at_once = now;
     duly = duly;
   },
-  stands,
-)
-
--- what is told of an exchange's call
-abbrev told_in : {start : StreamSeen} {at : Place} {old : Counted} {m : ConnSeen} {step : Step} {shown : List Item} {end : End} {mid : Place} → Called start at old m step shown end mid → Outcome
-told_in {start} {at} {old} {m} {step} {shown} {end} {mid} c = told_of shown end c.groups c.heard c.waits c.moved
-
--- a step of two exchanges
-two_steps : (start : StreamSeen) (at mid mid' : Place) (old old' : Counted) (m c m' d : ConnSeen) (step later : Step) (shown : List Item) (end : End) (out : Outcome) (one : Called start at old m (first_step step) [] (ends.Ok AnswersUnit) mid) (s : SettlesTo start at (first_step step) (told_in one) one.one.own mid m c)
-    → (two : Called start s.next old' m' later shown end mid') (t : SettlesTo start s.next later (told_in two) two.one.own mid' m' d) → limits_of later ≡ limits_of step → next_call (first_call step.call) one.one.told.response ≡ Some later.call → (is_fine end ≡ true → next_call later.call two.one.told.response ≡ None)
-    → TellsAll (s.out ∷ t.out ∷ []) out → t.next.seen.link.calls ≤ at.seen.link.calls + 256 * (step.polls + step.most) → (out.end ≡ ends.Dropped → IsDropped at step out mid') → acts_at_once step.call ≡ false
-    → EndsDuly at step (first_of (asked_of at.rule.depth step.call)) out mid' → StepsTo start at step out d
-unfolding exchanged
-two_steps start at mid mid' old old' m c m' d step later shown end out one s two t limits hands last tells calls dropped waits duly = (
-  t.next,
-  record {
-    exchanges = first_step step ∷ later ∷ [];
-    outs = s.out ∷ t.out ∷ [];
-    run = (
-      s.next,
-      exchanged start at mid s.next c (first_step step) (told_in one) s.out one.one one.lawful one.places one.counts s.settles s.stands,
-      (t.next, exchanged start s.next mid' t.next d later (told_in two) t.out two.one two.lawful two.places two.counts t.settles t.stands, refl),
-    );
-    first = refl;
-    limits = (refl, (limits, tt));
-    hands = ((ap (λ (x : Outcome). x.end) s.settles.outcome, hands), (λ f. last (sym (ap (λ (x : Outcome). is_fine x.end) t.settles.outcome) ∙ f), tt));
-    tells = tells;
-    stop = mid';
-    stops = refl;
-    calls = calls;
-    dropped = dropped;
-    at_once = λ now. let x = sym waits ∙ now in absurd cc;
-    duly = λ l. duly;
-  },
   t.stands,
 )
-
-sum_one : (f : Outcome → ℕ) (one : Outcome) → sum_by f (one ∷ []) ≡ f one
-sum_one f one = sum_more f one [] ∙ omega arith
-
-sum_two : (f : Outcome → ℕ) (one two : Outcome) → sum_by f (one ∷ two ∷ []) ≡ f one + f two
-sum_two f one two = sum_more f one (two ∷ []) ∙ ap (λ (n : ℕ). f one + n) (sum_one f two)
-
-tells_one : (told out : Outcome) → out.items ≡ told.items → out.end ≡ told.end → CountsTo told.groups out.groups → CountsTo told.heard out.heard → out.waits ≡ told.waits → CountsTo told.moved out.moved → out.cache ≡ cache.Same → TellsAll (told ∷ []) out
-tells_one told out items end groups heard waits moved same = record {
-  items = items;
-  ends = end;
-  groups = subst (λ (n : ℕ). CountsTo n out.groups) (sym (sum_one (λ (x : Outcome). x.groups) told)) groups;
-  heard = subst (λ (n : ℕ). CountsTo n out.heard) (sym (sum_one (λ (x : Outcome). x.heard) told)) heard;
-  waits = waits ∙ sym (sum_one (λ (x : Outcome). x.waits) told);
-  moved = subst (λ (n : ℕ). CountsTo n out.moved) (sym (sum_one (λ (x : Outcome). x.moved) told)) moved;
-  cache = same;
-}
-
--- only the groups that an end makes are counted behind it
-same_but_groups : (m d : ConnSeen) (items : List Item) (end : End) → (d.heard ≡ m.heard) × (d.stream.waits ≡ m.stream.waits) × (d.stream.moves ≡ m.stream.moves) → outcome_of d items end ≡ record (outcome_of m items end) { groups = d.groups }
-same_but_groups m d items end o = rw (o.0, o.1, o.2) refl
+  where
+    exactly : (n m : ℕ) → GrewBy n 0 m → m < 2 ^ 32 → m ≡ n
+    exactly n m g l = omega (arith, g, l)
 
 none_opens : (m : ConnSeen) → m.groups ≡ 0 → cleaned m ≡ ended_conn m
 none_opens m e = rw e refl
@@ -178,179 +109,42 @@ behind_none (ends.Ok answer) m e = e
 behind_none (ends.Err x) m e = ap (λ (c : ConnSeen). c.groups) (none_opens m e) ∙ e
 behind_none ends.Dropped m e = ap (λ (c : ConnSeen). c.groups) (none_opens m e) ∙ e
 
--- the numbers of a call that began with none, once its end is settled
-counted_tells : (start : StreamSeen) (at mid : Place) (m d : ConnSeen) (step : Step) (told : Outcome) (polls : ℕ) (one : Plays_call at step told mid) (s : SettlesTo start at step told one.own mid m d) → CountsOn none_counted m told → polls < 2 ^ 32 → m.stream.waits ≤ polls → TellsAll (s.out ∷ []) (outcome_of d told.items told.end)
-counted_tells start at mid m d step told polls one s grew p few =
-    let e = s.settles.outcome in
-    tells_one s.out (outcome_of d told.items told.end) (sym (ap (λ (x : Outcome). x.items) e)) (sym (ap (λ (x : Outcome). x.end) e))
-    (omega (arith, s.settles.counted, one.numbers.groups, grew.groups, s.groups), omega (arith, s.settles.counted, one.numbers.groups, grew.groups, s.groups))
-    (omega (arith, grew.heard, s.others.0, ap (λ (x : Outcome). x.heard) e), omega (arith, grew.heard, s.others.0, ap (λ (x : Outcome). x.heard) e))
-    (omega (arith, grew.waits, s.others.1, ap (λ (x : Outcome). x.waits) e, p, few))
-    (omega (arith, grew.moved, s.others.2, ap (λ (x : Outcome). x.moved) e), omega (arith, grew.moved, s.others.2, ap (λ (x : Outcome). x.moved) e))
-    refl
+-- the first exchange of a call begins as any other
+begins_first : (start : StreamSeen) (at : Place) (a : ConnSeen) (step : Step) → StandsAt start at a → acts_at_once step.call ≡ false → BeginsAt start at a none_counted (first_call step.call)
+begins_first start at a step st later = record {
+  stands = st;
+  polled = first_acts step.call ∙ later;
+  known = subst (λ (w : Widths). KnownAt w at) (sym (first_widths at.rule.depth step.call)) (known_none start at a st);
+  level = inl refl;
+}
 
-waited_most : (limits : Limits) (first : StreamSeen) (b : ConnSeen) (end : End) → first.waits ≡ 0 → HasWaitedFew limits.polls first b.stream end → b.stream.waits ≤ limits.polls
-waited_most limits first b end z few = omega (arith, z, few.1.all, few.1.waits.1, few.2.1)
-
--- two exchanges are told of as they were counted, one behind the other
-two_tell : (start : StreamSeen) (at mid mid' next : Place) (m c m' d : ConnSeen) (first later : Step) (told told' : Outcome) (polls : ℕ) (one : Plays_call at first told mid) (s : SettlesTo start at first told one.own mid m c) (two : Plays_call next later told' mid') (t : SettlesTo start next later told' two.own mid' m' d)
-    → CountsOn none_counted m told → CountsOn (counted_by m) m' told' → c.groups ≡ m.groups → told.groups ≤ 1 → polls < 2 ^ 32 → m'.stream.waits ≤ polls → TellsAll (s.out ∷ t.out ∷ []) (outcome_of d told'.items told'.end)
-two_tell start at mid mid' next m c m' d first later told told' polls one s two t grew grew' same small p few =
-    let e = s.settles.outcome in
-    let f = t.settles.outcome in
-    let groups = sum_two (λ (x : Outcome). x.groups) s.out t.out in
-    let heard = sum_two (λ (x : Outcome). x.heard) s.out t.out in
-    let waits = sum_two (λ (x : Outcome). x.waits) s.out t.out in
-    let moved = sum_two (λ (x : Outcome). x.moved) s.out t.out in
-    record {
-      items = sym (ap (λ (x : Outcome). x.items) f);
-      ends = sym (ap (λ (x : Outcome). x.end) f);
-      groups = (
-        omega (arith, groups, s.settles.counted, one.numbers.groups, grew.groups, s.groups, t.settles.counted, two.numbers.groups, grew'.groups, t.groups, same, small),
-        omega (arith, groups, s.settles.counted, one.numbers.groups, grew.groups, s.groups, t.settles.counted, two.numbers.groups, grew'.groups, t.groups, same, small),
-      );
-      heard = (
-        omega (arith, heard, grew.heard, grew'.heard, t.others.0, ap (λ (x : Outcome). x.heard) e, ap (λ (x : Outcome). x.heard) f),
-        omega (arith, heard, grew.heard, grew'.heard, t.others.0, ap (λ (x : Outcome). x.heard) e, ap (λ (x : Outcome). x.heard) f),
-      );
-      waits = omega (arith, waits, grew.waits, grew'.waits, t.others.1, ap (λ (x : Outcome). x.waits) e, ap (λ (x : Outcome). x.waits) f, p, few);
-      moved = (
-        omega (arith, moved, grew.moved, grew'.moved, t.others.2, ap (λ (x : Outcome). x.moved) e, ap (λ (x : Outcome). x.moved) f),
-        omega (arith, moved, grew.moved, grew'.moved, t.others.2, ap (λ (x : Outcome). x.moved) e, ap (λ (x : Outcome). x.moved) f),
-      );
-      cache = refl;
-    }
-
--- what ended hands on nothing where no description ended it
-last_by : (d : ℕ) (call : Call) (response : List BackendMessage) (end : End) → EndsCall (request_of d call) end → is_fine end ≡ true → next_call call response ≡ None
-last_by d call response (ends.Ok told) l f = last_next d call response l
-last_by d call response (ends.Err e) l f = absurd cc
-last_by d call response ends.Dropped l f = absurd cc
-
--- its first exchange ended the call
-polled_one : (start : StreamSeen) (at : Place) (a b : ConnSeen) (step : Step) (out : Outcome) → StandsAt start at a → (IsUnpolled step → ⊥) → (OpensSavepoint at step → ⊥) → acts_at_once step.call ≡ false → step.polls < 2 ^ 32
-    → PlaysOne (limits_of step) (begun_call (request_of at.rule.depth (first_call step.call)) a).stream (begun_call (request_of at.rule.depth (first_call step.call)) a) b (request_of at.rule.depth (first_call step.call)) out → StepsTo start at step out b
-polled_one start at a b step out st n opens later p (m, (said, fs, e, last), over, is, outcome) =
-    let first = first_step step in
-    let waits : acts_at_once first.call ≡ false = first_acts step.call ∙ later in
-    let r = request_of at.rule.depth first.call in
-    let begun = begun_call r a in
-    let found = ends_summary a.broken (limits_of step) begun.stream begun m at.rule.depth first.call said (heard fs) out.items out.end e.ends in
-    let s = found.1 in
-    let room = st.room in
-    let mid : Place = next_place at m said s.own fs out.end in
-    let knows = knows_none start at a m first said fs found.0 (refuses_copy out.end) out.end st s (first_widths at.rule.depth step.call) in
-    let c = called_exchange start begun.stream none_counted at a m first out.items out.end said fs st waits p refl e over (omega (arith, room)) found knows in
-    let told : Outcome = told_in c in
-    let raw : Outcome = outcome_of m out.items out.end in
-    let d : ConnSeen = behind_end out.end m in
-    let settled = settles_call start at mid m first told c.one waits c.stands c.small (omega (arith, c.grew.groups, c.one.numbers.groups, c.small)) e.went.started.3 in
-    let real : Outcome = outcome_of d out.items out.end in
-    let same : real ≡ record raw { groups = d.groups } = same_but_groups m d out.items out.end settled.others in
-    let most = λ (w : waits_to_show step.call ≡ false). most_by at.rule.depth a.broken (limits_of step) begun.stream begun m first said (heard fs) out.items out.end (first_waits step.call w) (polled_most step n) e.ends in
-    let dues : EndsDuly at step r raw mid = duly_step start at a m step r raw said fs found.0 st n opens p e s refl (λ x. ap (λ (y : Call). request_of at.rule.depth (first_call y)) x) most in
-    let steps : StepsTo start at step real d = one_step start at mid settled.next d step told settled.out real c.one c.lawful c.places c.counts settled.settles settled.stands
-    (counted_tells start at mid m d first told step.polls c.one settled c.grew p (waited_most (limits_of step) begun.stream m out.end refl e.few))
-    (λ f. last_by at.rule.depth first.call c.one.told.response out.end last (sym (ap (λ (x : Outcome). is_fine x.end) settled.settles.outcome) ∙ f))
-    (omega (arith, e.calls, ap (λ (x : StreamSeen). x.link.calls) st.seen, ap (λ (x : StreamSeen). x.link.calls) settled.settles.seen))
-    (λ k. dropped_out at step raw real mid same (dropped_step a.broken start begun.stream none_counted at a m first said fs out.items out.end found.0 st refl refl p k e.ends s))
-    (λ now. let x = sym later ∙ now in absurd cc)
-    (λ x. subst (λ (q : Request). EndsDuly at step q real mid) (first_request at.rule.depth step.call) (duly_out at step r raw real mid same (behind_none out.end m) dues)) in
-    subst (λ (x : Outcome). StepsTo start at step x b) (sym (outcome ∙ ap (λ (x : ConnSeen). outcome_of x out.items out.end) is)) (subst (λ (x : ConnSeen). StepsTo start at step real x) (sym is) steps)
-
-described_cleans : (d : ℕ) (x : Extended) (end : End) (own : List Group) (n : ℕ) → cleanup_of d (calls.Describe x) end own n ≡ []
-described_cleans d x end [] n = refl
-described_cleans d x end (g ∷ gs) n = refl
-
--- behind a description that was answered, the columns of the statement are known
-knows_later : (start : StreamSeen) (at next : Place) (a c m : ConnSeen) (x : Extended) (reply : List BackendMessage) (slice : List Frame) (said : List FrontendMessage) (fs : List Frame) (items : List CallItem) (copied : Bool) (end : End) → StandsAt start at a → StandsAt start next c
-    → next.groups ≡ at.groups ++ describing (name_of x.statement) x.sql x.arguments.types ∷ [] → heard next.frames ≡ heard at.frames ++ slice → c.ledger.owed ≡ 0 → count_by is_ready slice ≡ a.ledger.owed + 1 → HasNoError slice → EndsByReady slice → after_readys a.ledger.owed slice ≡ map backend_frame reply → AllByRecursion HasBackendFrame reply
-    → (s : Summary c.ledger (request_of next.rule.depth (calls.Run (bound_by x reply))) said (heard fs) items m.ledger copied) → Knows ((name_of x.statement, length (described reply)) ∷ []) next s.own (heard fs) (next_place next m said s.own fs end)
-knows_later start at next a c m x reply slice said fs items copied end st st' groups frames owes count fine ends replied has s group front last in_own l =
-    let r : Request = request_of next.rule.depth (calls.Run (bound_by x reply)) in
-    let one : length s.own ≡ 1 = ap (λ (g : List Group). length g) last in
-    let q = queued_one c.ledger.owed r s.own (heard fs) s.queued one in
-    let own = subst (AllByRecursion IsGroup) last (own_groups c.ledger.owed next.rule.depth (calls.Run (bound_by x reply)) s.own (heard fs) s.queued) in
-    let main : main_frames next s.own (heard fs) ≡ heard fs = main_after start next c r s.own (heard fs) st' q ∙ ap (λ (k : ℕ). after_readys k (heard fs)) owes in
-    let all : next.groups ++ s.own ≡ (at.groups ++ describing (name_of x.statement) x.sql x.arguments.types ∷ []) ++ group ∷ [] = ap₂ (λ (g h : List Group). g ++ h) groups last in
-    let listened : heard (next.frames ++ fs) ≡ (heard at.frames ++ slice) ++ heard fs = heard-append next.frames fs ∙ ap (λ (h : List Frame). h ++ heard fs) frames in
-    let may = subst (λ (g : List Group). MayHear (said_in g) (((heard at.frames ++ slice) ++ heard fs) ++ front ∷ [])) all (subst (λ (h : List Frame). MayHear (said_in (next.groups ++ s.own)) (h ++ front ∷ [])) listened l) in
-    let answered : count_by is_ready ((heard at.frames ++ slice) ++ heard fs) ≡ length at.groups + 1 = ap (λ (h : List Frame). count_by is_ready h) (sym listened) ∙ in_own ∙ ap (λ (g : List Group). length g) groups ∙ length-append at.groups (describing (name_of x.statement) x.sql x.arguments.types ∷ []) in
-    subst (λ (h : List Frame). BeginsKnowing ((name_of x.statement, length (described reply)) ∷ []) group (h ++ front ∷ [])) (sym main)
-    (knows_next at.groups (name_of x.statement) x.sql x.arguments.types group a.ledger.owed (heard at.frames) slice (heard fs) front reply st.are_groups own.0 may st.ledger st.between count answered fine ends replied has)
-
--- its first exchange described the statement, and handed on the one that runs it, which ended the call
-polled_two : (start : StreamSeen) (at : Place) (a b : ConnSeen) (step : Step) (out : Outcome) → StandsAt start at a → (IsUnpolled step → ⊥) → (OpensSavepoint at step → ⊥) → acts_at_once step.call ≡ false → step.polls < 2 ^ 32
-    → (m : ConnSeen) (next : Request) → HandedOn step.polls (begun_call (request_of at.rule.depth (first_call step.call)) a).stream (begun_call (request_of at.rule.depth (first_call step.call)) a) m (request_of at.rule.depth (first_call step.call)) next
-    → PlaysOne (limits_of step) (begun_call (request_of at.rule.depth (first_call step.call)) a).stream (handed_from m next) b next out → StepsTo start at step out b
-unfolding called_exchange
-polled_two start at a b step out st n opens later p m next h (m', (said, fs, e, last), over, is, outcome) =
-    let first = first_step step in
-    let waits : acts_at_once first.call ≡ false = first_acts step.call ∙ later in
-    let r = request_of at.rule.depth first.call in
-    let begun = begun_call r a in
-    let most : 0 < step.most = polled_most step n in
-    let e1 = handed_ended (limits_of step) begun.stream begun m r next most h in
-    let found = ends_summary a.broken (limits_of step) begun.stream begun m at.rule.depth first.call h.said (heard h.fs) [] (ends.Ok AnswersUnit) e1.ends in
-    let s = found.1 in
-    let room = st.room in
-    let mid : Place = next_place at m h.said s.own h.fs (ends.Ok AnswersUnit) in
-    let knows = knows_none start at a m first h.said h.fs found.0 false (ends.Ok AnswersUnit) st s (first_widths at.rule.depth step.call) in
-    let c : Called start at none_counted m first [] (ends.Ok AnswersUnit) mid = called_exchange start begun.stream none_counted at a m first [] (ends.Ok AnswersUnit) h.said h.fs st waits p refl e1 h.over (omega (arith, room)) found knows in
-    let told : Outcome = told_in c in
-    let behind : SettlesTo start at first told c.one.own mid m (settled m) = settles_call start at mid m first told c.one waits c.stands c.small (omega (arith, c.grew.groups, c.one.numbers.groups, c.small)) e1.went.started.3 in
-    let f = h.ends.0.0 in
-    let reply = f.reply in
-    let asks = describes at.rule.depth first.call (handed_described step.polls begun.stream begun m r next h) in
-    let x = asks.0 in
-    let whole : s.own ≡ describing (name_of x.statement) x.sql x.arguments.types ∷ [] = fine_own a.ledger r h.said (heard h.fs) [] found.0 m.ledger false s f ∙ ap (λ (y : Call). groups_of (request_of at.rule.depth y)) asks.1 in
-    let q = queued_one a.ledger.owed r s.own (heard h.fs) s.queued (ap (λ (g : List Group). length g) whole) in
-    let same_reply : c.one.told.response ≡ reply = replies_same c.one.told.response reply (sym c.one.told.says.0 ∙ main_after start at a r s.own (heard h.fs) st q ∙ f.replied) c.one.told.says.1 f.reply_has_frames in
-    let bound : Bound = bound_by x reply in
-    let run : Request = requests.Run bound in
-    let is_next : next ≡ run = next_bound x reply f.status next (subst (λ (y : Request). answer_by y reply f.status ≡ Ok (answers.Next next)) (ap (request_of at.rule.depth) asks.1) h.ends.0.1) in
-    let second : Step = record step { call = calls.Run bound } in
-    let hands : next_call (first_call step.call) c.one.told.response ≡ Some (calls.Run bound) = ap (λ (y : Call). next_call y c.one.told.response) asks.1 ∙ ap (λ (ms : List BackendMessage). Some (calls.Run (bound_by x ms))) same_reply in
-    let at' : Place = behind.next in
-    let a' : ConnSeen = settled m in
-    let none : behind.settles.cleanup ≡ [] = behind.settles.cleans ∙ ap (λ (y : Call). cleanup_of at.rule.depth y told.end c.one.own (owed mid)) asks.1 ∙ described_cleans at.rule.depth x told.end c.one.own (owed mid) in
-    let groups : at'.groups ≡ at.groups ++ describing (name_of x.statement) x.sql x.arguments.types ∷ [] = behind.settles.groups ∙ ap (λ (g : List Group). (at.groups ++ s.own) ++ g) none ∙ append-nil (at.groups ++ s.own) ∙ ap (λ (g : List Group). at.groups ++ g) whole in
-    let frames : heard at'.frames ≡ heard at.frames ++ heard h.fs = ap heard behind.settles.frames ∙ heard-append at.frames h.fs in
-    let e' : Ended (limits_of step) begun.stream (asking run (counted_by m) a') m' run out.items out.end said fs =
-    subst (λ (y : Request). Ended (limits_of step) begun.stream (asking y (counted_by m) a') m' y out.items out.end said fs) is_next
-    (subst (λ (y : ConnSeen). Ended (limits_of step) begun.stream y m' next out.items out.end said fs) (handed_asking step.polls begun.stream begun m r next h) e) in
-    let found' = ends_summary a'.broken (limits_of step) begun.stream (asking run (counted_by m) a') m' at'.rule.depth second.call said (heard fs) out.items out.end e'.ends in
-    let s' = found'.1 in
-    let room' = behind.stands.room in
-    let mid' : Place = next_place at' m' said s'.own fs out.end in
-    let count : count_by is_ready (heard h.fs) ≡ a.ledger.owed + 1 = f.counted ∙ ap (λ (y : Call). a.ledger.owed + length (groups_of (request_of at.rule.depth y))) asks.1 in
-    let knows' = knows_later start at at' a a' m' x reply (heard h.fs) said fs found'.0 (refuses_copy out.end) out.end st behind.stands groups frames f.owes count (no_error (heard h.fs) f.well) f.ends f.replied f.reply_has_frames s' in
-    let c' : Called start at' (counted_by m) m' second out.items out.end mid' = called_exchange start begun.stream (counted_by m) at' a' m' second out.items out.end said fs behind.stands refl p refl e' over (omega (arith, room')) found' knows' in
-    let d : ConnSeen = behind_end out.end m' in
-    let behind' : SettlesTo start at' second (told_in c') c'.one.own mid' m' d = settles_later start at' mid' m' second bound (told_in c') c'.one refl c'.stands e'.went.started.3 in
-    let raw : Outcome = outcome_of m' out.items out.end in
-    let real : Outcome = outcome_of d out.items out.end in
-    let same : real ≡ record raw { groups = d.groups } = same_but_groups m' d out.items out.end behind'.others in
-    let runs = next_runs step.call c.one.told.response (calls.Run bound) hands in
-    let shows = λ (w : waits_to_show step.call ≡ false). most_by at'.rule.depth a'.broken (limits_of step) begun.stream (asking run (counted_by m) a') m' second said (heard fs) out.items out.end (ap waits_to_show runs.1 ∙ sym (ap waits_how runs.2) ∙ w) most e'.ends in
-    let dues : EndsDuly at step r raw mid' = duly_later begun.stream at mid' m' step r raw refl refl n opens p e'.few refl (sym st.broken ∙ h.whole.0) h.can (no_flush step.call x asks.1) shows in
-    let tells : TellsAll (behind.out ∷ behind'.out ∷ []) real = two_tell start at mid mid' at' m a' m' d first second told (told_in c') step.polls c.one behind c'.one behind' c.grew c'.grew refl (omega (arith, c.one.numbers.groups, c.small)) p (waited_most (limits_of step) begun.stream m' out.end refl e'.few) in
-    let steps : StepsTo start at step real d = two_steps start at mid mid' none_counted (counted_by m) m a' m' d step second out.items out.end real c behind c' behind' refl hands (λ z. refl) tells
-    (omega (arith, e'.calls, ap (λ (y : StreamSeen). y.link.calls) st.seen, ap (λ (y : StreamSeen). y.link.calls) behind'.settles.seen))
-    (λ k. dropped_out at step raw real mid' same (dropped_from at at' mid' step raw (omega (arith, c.counts.write_waits, ap (λ (y : StreamSeen). y.link.write_waits) behind.settles.seen))
-    (dropped_step a'.broken start begun.stream (counted_by m) at' a' m' second said fs out.items out.end found'.0 behind.stands refl refl p k e'.ends s')))
-    later (subst (λ (y : Request). EndsDuly at step y real mid') (first_request at.rule.depth step.call) (duly_out at step r raw real mid' same (behind_none out.end m') dues)) in
-    subst (λ (y : Outcome). StepsTo start at step y b) (sym (outcome ∙ ap (λ (y : ConnSeen). outcome_of y out.items out.end) is)) (subst (λ (y : ConnSeen). StepsTo start at step real y) (sym is) steps)
+-- what its exchanges came to is the step's
+polled_turns : (start : StreamSeen) (at : Place) (a b : ConnSeen) (step : Step) (out : Outcome) (stop : Place) → StandsAt start at a → acts_at_once step.call ≡ false → step.polls < 2 ^ 32 → PlaysInTurn start (begun_call (request_of at.rule.depth (first_call step.call)) a).stream at step (first_call step.call) none_counted out stop b
+    → EndsDuly at step (request_of at.rule.depth (first_call step.call)) out stop → StepsTo start at step out b
+polled_turns start at a b step out stop st later p o duly =
+    steps_to start at step out stop b o.turns (omega (arith, o.waits, p)) (omega (arith, o.calls, ap (λ (x : StreamSeen). x.link.calls) st.seen)) o.dropped (λ now. let x = sym later ∙ now in absurd cc)
+    (λ x. subst (λ (q : Request). EndsDuly at step q out stop) (first_request at.rule.depth step.call) duly)
 
 polled_step : (start : StreamSeen) (at : Place) (a b : ConnSeen) (step : Step) (out : Outcome) → StandsAt start at a → (IsUnpolled step → ⊥) → (OpensSavepoint at step → ⊥) → acts_at_once step.call ≡ false → step.polls < 2 ^ 32
     → PlaysCall (limits_of step) (begun_call (request_of at.rule.depth (first_call step.call)) a) b (request_of at.rule.depth (first_call step.call)) out → StepsTo start at step out b
-polled_step start at a b step out st n opens later p played =
-    let asks = request_of at.rule.depth (first_call step.call) in
-    let begun = begun_call asks a in
-    elim (two_at_most step.polls begun.stream (λ x asked. PlaysOne (limits_of step) begun.stream x b asked out) begun asks played) [
-      | inl one ↦ polled_one start at a b step out st n opens later p one
-      | inr two ↦ polled_two start at a b step out st n opens later p two.0 two.1 two.2 two.3
-    ]
+polled_step start at a b step out st n opens later p ([], (m, (said, fs, e, last), over, is, outcome)) =
+    let call = first_call step.call in
+    let r = request_of at.rule.depth call in
+    let begun = begun_call r a in
+    let d : ConnSeen = behind_end out.end m in
+    let raw : Outcome = outcome_of m out.items out.end in
+    let real : Outcome = outcome_of d out.items out.end in
+    let found = ends_summary a.broken (limits_of step) begun.stream begun m at.rule.depth call said (heard fs) out.items out.end e.ends in
+    let stop : Place = next_place at m said found.1.own fs out.end in
+    let turn = last_turn start begun.stream none_counted at a m step call out.items out.end said fs (begins_first start at a step st later) p refl refl (polled_most step n) e last over found in
+    let dues : EndsDuly at step r raw stop = duly_step start at a m step r raw said fs found.0 st n opens p e found.1 refl (λ x. ap (λ (y : Call). request_of at.rule.depth (first_call y)) x) (λ w. turn.0.most (first_how step.call w)) in
+    let steps : StepsTo start at step real d = polled_turns start at a d step real stop st later p turn.0 (duly_out at step r raw real stop turn.1 (behind_none out.end m) dues) in
+    subst (λ (x : Outcome). StepsTo start at step x b) (sym (outcome ∙ ap (λ (x : ConnSeen). outcome_of x out.items out.end) is)) (subst (λ (x : ConnSeen). StepsTo start at step real x) (sym is) steps)
+polled_step start at a b step out st n opens later p (next ∷ more, played) =
+    let r = request_of at.rule.depth (first_call step.call) in
+    let t = turns_through (next ∷ more) start (begun_call r a).stream none_counted at a b step (first_call step.call) out (begins_first start at a step st later) p refl refl (polled_most step n) played in
+    polled_turns start at a b step out t.0 st later p t.1
+    (duly_handed start at t.0 a played.0 step r next out st n opens played.1 (λ x. ap (λ (y : Call). request_of at.rule.depth (first_call y)) x) t.1.few (λ w. t.1.most (first_how step.call w)))
 
 -- a step that does nothing, and is no failure of the server
 abbrev IsQuiet : End → Type 0
@@ -478,10 +272,10 @@ quiet_step start at a step out end st later f k q one none dropped duly =
       outcome = refl;
       counted = rw (none, groups) (omega arith);
     } in
-    one_step start at at at a step out out out one (quiet_lawful at out (subst IsQuiet (sym ends_so) q)) (places_quiet at out (ap (λ (x : Outcome). x.waits) k)) (NoneFalls-refl at.seen.link) settles st (tells_one out out refl refl (same_counts out.groups) (same_counts out.heard) refl (same_counts out.moved) (ap (λ (x : Outcome). x.cache) k)) (λ z. let x = sym (ap is_fine ends_so ∙ f) ∙ z in absurd cc) (omega arith) dropped (λ now. let x = sym later ∙ now in absurd cc) (λ x. duly)
-  where
-    same_counts : (n : ℕ) → CountsTo n n
-    same_counts n = (omega arith, omega arith)
+    let none_waits : out.waits ≡ 0 = ap (λ (x : Outcome). x.waits) k in
+    let turns = one_turn start at at at a step (first_call step.call) none_counted out out out one (quiet_lawful at out (subst IsQuiet (sym ends_so) q)) (places_quiet at out (ap (λ (x : Outcome). x.waits) k)) (NoneFalls-refl at.seen.link) settles st refl refl (add_alone out) (ap (λ (x : Outcome). x.cache) k)
+    (λ z. let x = sym (ap is_fine ends_so ∙ f) ∙ z in absurd cc) in
+    steps_to start at step out at a turns (omega (arith, none_waits)) (omega (arith, ap (λ (x : StreamSeen). x.link.calls) st.seen)) dropped (λ now. let x = sym later ∙ now in absurd cc) (λ x. duly)
 
 quiet_most : (step : Step) (out : Outcome) (end : End) → out ≡ untouched end → (out.end ≢ ends.Dropped → 0 < step.most) → WithinMost out.end out.items step.most
 quiet_most step out end k m = let z : length out.items ≡ 0 = ap (λ (x : Outcome). length x.items) k in (λ n. omega (arith, z, m n), omega (arith, z))
@@ -545,8 +339,11 @@ rolled_step start at a b step st l c is =
     let settled = settles_rollback start at a b first st l rolls is in
     let grew : CountsOn none_counted (ended_conn (counted_anew a)) told = record { groups = omega arith; heard = omega arith; waits = omega arith; moved = omega arith } in
     let same : rolled_outcome b ≡ record told { groups = b.groups } = same_but_groups (ended_conn (counted_anew a)) b [] (ends.Ok AnswersUnit) settled.others in
-    one_step start at at settled.next b step told settled.out (rolled_outcome b) one (quiet_lawful at told (inr (inr (inr refl)))) (places_quiet at told refl) (NoneFalls-refl at.seen.link) settled.settles settled.stands (counted_tells start at at (ended_conn (counted_anew a)) b first told 0 one settled grew (omega arith) (omega arith)) (λ f. ap (λ (x : Call). next_call x []) rolls)
-    (omega (arith, ap (λ (x : StreamSeen). x.link.calls) settled.settles.seen)) (λ k. absurd cc) (λ now. (same, refl)) (λ later. let x = sym later ∙ ap acts_at_once c in absurd cc)
+    let adds : AddUp none_counted (settled.out ∷ []) (rolled_outcome b) = add_one none_counted b settled.out [] (rolled_outcome b) (counts_settled start none_counted at at (ended_conn (counted_anew a)) b first told one settled grew) (add_none b [] (ends.Ok AnswersUnit)) in
+    let k = settled.settles.outcome in
+    let turns = one_turn start at at settled.next b step (first_call step.call) none_counted told settled.out (rolled_outcome b) one (quiet_lawful at told (inr (inr (inr refl)))) (places_quiet at told refl) (NoneFalls-refl at.seen.link) settled.settles settled.stands
+    (sym (ap (λ (x : Outcome). x.items) k)) (sym (ap (λ (x : Outcome). x.end) k)) adds refl (λ f. ap (λ (x : Call). next_call x []) rolls) in
+    steps_to start at step (rolled_outcome b) at b turns (omega (arith, settled.others.1)) (omega (arith, ap (λ (x : StreamSeen). x.link.calls) settled.stands.seen, ap (λ (x : StreamSeen). x.link.calls) settled.settles.seen)) (λ x. absurd cc) (λ now. (same, refl)) (λ later. let x = sym later ∙ ap acts_at_once c in absurd cc)
 
 -- an error is no drop
 undropped : {P : Type 0} (out : Outcome) (e : Error) → out ≡ untouched (ends.Err e) → out.end ≡ ends.Dropped → P
@@ -613,9 +410,6 @@ tells_new (Some x) (Some y) old new bytes e f h =
     let p : x ≡ old = cc in
     let q : y ≡ new = cc in
     sym q ∙ h ∙ ap (λ (z : List ℕ). z ++ bytes) p
-
-counts_to : (n m k : ℕ) → GrewBy n 0 m → k ≡ m → CountsTo n k
-counts_to n m k g e = (omega (arith, g.1, e), omega (arith, g.2, e))
 
 -- the bytes behind a handshake, which its stream begins with
 tells_over : (opening : Opening) (link : LinkSeen) (e : EstablishSeen) (ready : ReadyOf LinkSeen) (b : ConnSeen) (started : Started) (at : Place) → IsOf opening e → HasBegun e.client e.plan e.message link ready → StandsAt ready.stream at b → started.sent ≡ ready.sent → started.read ≡ ready.read → TellsBytes opening link b.stream.link started at

@@ -23,7 +23,6 @@ use Rattle.pg_conn.proofs.CleanupLaws.{fits_room, has_room, group_moves, rollbac
 use Rattle.pg_report.specs.declared.outcome.End.{End}
 use Rattle.pg_report.specs.declared.outcome.End.TheVariants as ends
 use Rattle.pg_report.specs.declared.outcome.Outcome.{Outcome}
-use Rattle.pg_call.specs.declared.request.Bound.{Bound}
 use Rattle.pg_script.specs.declared.step.Call.{Call}
 use Rattle.pg_script.specs.declared.step.Call.TheVariants as calls
 use Rattle.pg_script.specs.declared.step.Step.{Step}
@@ -277,7 +276,7 @@ settles_rolled start at mid m step told own st stays room r few cleanup after =
       others = (refl, refl, refl);
     }
 
-ok_cleans_none : (d : ℕ) (call : Call) (own : List Group) → [] ≡ cleanup_by d call true own
+pub ok_cleans_none : (d : ℕ) (call : Call) (own : List Group) → [] ≡ cleanup_by d call true own
 ok_cleans_none d call [] = refl
 ok_cleans_none d call (g ∷ gs) = by (begins call) (nat_eq d 0)
   where
@@ -389,17 +388,24 @@ settles_call start at mid m step told one a st small groups change = by (is_fine
     by true f = subst (λ (x : ConnSeen). SettlesTo start at step told one.own mid m x) (sym (behind_fine told.end m f)) (fine f)
     by false f = subst (λ (x : ConnSeen). SettlesTo start at step told one.own mid m x) (sym (behind_unfine told.end m f)) (other f (may_open m.change m.groups m.rule.depth) refl)
 
-later_cleans : (d : ℕ) (bound : Bound) (end : End) (own : List Group) (n : ℕ) → [] ≡ cleanup_of d (calls.Run bound) end own n
-later_cleans d bound end [] n = refl
-later_cleans d bound end (g ∷ gs) n = refl
+-- what neither opens nor closes leaves the depth as it was
+depth_same : (d : ℕ) (call : Call) (end : End) → acts_at_once call ≡ false → change_of (kind_of (request_of d call)) ≡ changes.Stays → (b : Bool) → is_fine end ≡ b → d ≡ depth_after d call end
+depth_same d call end a stays true f = sym (ap (λ (c : Change). depth_behind c 1 d) stays) ∙ depth_ok d call 1 end f a (λ b. refl)
+depth_same d call end a stays false f = sym (depth_other d call end f a)
 
--- the end of a later exchange makes nothing of the connection
-pub settles_later : (start : StreamSeen) (at mid : Place) (m : ConnSeen) (step : Step) (bound : Bound) (told : Outcome) (one : Plays_call at step told mid) → step.call ≡ calls.Run bound → StandsAt start mid m → m.change ≡ changes.Stays → SettlesTo start at step told one.own mid m (behind_end told.end m)
-settles_later start at mid m step bound told one c st stays =
+-- and no begin is cleaned up
+stays_cleans_none : (d : ℕ) (call : Call) (fine : Bool) (own : List Group) → change_of (kind_of (request_of d call)) ≡ changes.Stays → [] ≡ cleanup_by d call fine own
+stays_cleans_none d call fine [] stays = refl
+stays_cleans_none d call fine (g ∷ gs) stays = ap (λ (b : Bool). cond (b && (nat_eq d 0 && not fine)) (rollback 0 ∷ []) []) (ap opens (sym stays) ∙ opens_begins d call)
+
+-- the end of an exchange that opens and closes nothing makes nothing of the connection, whatever its call has queued before
+pub settles_stays : (start : StreamSeen) (at mid : Place) (m : ConnSeen) (step : Step) (told : Outcome) (one : Plays_call at step told mid) → acts_at_once step.call ≡ false → change_of (kind_of (request_of at.rule.depth step.call)) ≡ changes.Stays → StandsAt start mid m → m.change ≡ changes.Stays
+    → SettlesTo start at step told one.own mid m (behind_end told.end m)
+settles_stays start at mid m step told one a is st stays =
     let same : record m { change = changes.Stays } ≡ m = ap (λ (x : Change). record m { change = x }) (sym stays) in
     let plain = settles_plain start at mid m step told one.own m.rule.depth st one.queued.rule (subst (λ (x : ConnSeen). HasAllRoom x) (sym same) st.room) one.numbers.groups
-    (later_cleans at.rule.depth bound told.end one.own (owed mid) ∙ ap (λ (x : Call). cleanup_of at.rule.depth x told.end one.own (owed mid)) (sym c))
-    (ap (λ (r : Rule). r.depth) (st.rule ∙ one.queued.rule) ∙ ap (λ (x : Call). depth_after at.rule.depth x told.end) (sym c)) in
+    (stays_cleans_none at.rule.depth step.call (is_fine told.end) one.own is ∙ sym (cleanup_polled at.rule.depth step.call told.end one.own (owed mid) a))
+    (ap (λ (r : Rule). r.depth) (st.rule ∙ one.queued.rule) ∙ depth_same at.rule.depth step.call told.end a is (is_fine told.end) refl) in
     subst (λ (x : ConnSeen). SettlesTo start at step told one.own mid m x) (same ∙ sym (stays_behind told.end m stays)) plain
 
 -- ---- a rollback without waiting

@@ -1,5 +1,5 @@
 -- One more poll of a call that is played: of one exchange, or through its end into the next ones.
-use Rattle.std.proofs.Common.{◌≡◌, ◌⊎◌, ℕ, ◌+◌, ◌*◌, ◌<◌, ◌≤◌, inl, inr, Bool, true, false, List, [], ◌∷◌, ◌++◌, length, map, refl, sym, ap, ◌∙◌, subst, arith, Option, Some, None, Ok, Err}
+use Rattle.std.proofs.Common.{◌≡◌, ℕ, ◌+◌, ◌*◌, ◌<◌, ◌≤◌, inl, inr, Bool, true, false, List, [], ◌∷◌, ◌++◌, length, map, refl, sym, ap, ◌∙◌, subst, arith, Option, Some, None, Ok, Err}
 use Rattle.futures.specs.declared.task.Poll.{Poll}
 use Rattle.futures.specs.declared.task.Poll.TheVariants.{Ready, Pending}
 use Rattle.pg_wire.specs.declared.error.Error.{Error}
@@ -33,7 +33,7 @@ use Rattle.pg_call.specs.declared.calling.Beat.TheVariants as beats
 use Rattle.pg_call.specs.Requests.{kind_of, main_kind, change_of, first_of, first_by}
 use Rattle.pg_call.specs.Items.{own_items, shown}
 use Rattle.pg_call.specs.Calls.{EndsFine}
-use Rattle.pg_call.proofs.FitLaws.{hands_on_described, next_is, main_describes_none}
+use Rattle.pg_call.proofs.FitLaws.{hands_on_described, next_is}
 use Rattle.pg_conn.specs.Connections.{ConnOf, ConnSeen, seen_by, begun_with, handed, settled, runs, left, started_call}
 use Rattle.pg_conn.specs.Turns.{Polled, PollsThrough, HandsOver, hands_on, PollsBy, HandsOnNone, beat_of, BeatCause, SendCause, TakesBeat, is_flushed}
 use Rattle.pg_report.specs.declared.outcome.Item.{Item}
@@ -44,8 +44,8 @@ use Rattle.pg_report.specs.declared.outcome.Outcome.{Outcome}
 use Rattle.pg_play.specs.declared.tally.Limits.{Limits}
 use Rattle.pg_play.specs.declared.tally.Tally.{Tally}
 use Rattle.pg_play.specs.Shown.{item_of}
-use Rattle.pg_play.specs.Calls.{Adds, Finishes, Waited, IsPlayingOn, IsPlaying, Ended, EndsOn, broken_after, Counted, asking, IsLast, HandedOn, handed_from, OfLastIn, OfLast, IsCallPlaying, StopsBy, PollGives, PlaysOne, PlaysCall, outcome_of, begun_call}
-use Rattle.pg_play.proofs.CallLaws.{stays_behind, AfterSome, PlayBeat, OverPoll, over_poll, after_beat, fresh_play, play_starts, playing_one, plays_one, goes_waits, goes_yields, goes_ok, goes_unshown, goes_err, drops_waiting, drops_shown, goes_unkept}
+use Rattle.pg_play.specs.Calls.{Adds, Finishes, Waited, IsPlayingOn, IsPlaying, Ended, EndsOn, broken_after, Counted, asking, HandedOn, handed_from, OfLastIn, OfLast, IsCallPlaying, StopsBy, PollGives, PlaysOne, PlaysCall, outcome_of, begun_call}
+use Rattle.pg_play.proofs.CallLaws.{AfterSome, PlayBeat, OverPoll, over_poll, after_beat, fresh_play, play_starts, playing_one, plays_one, goes_waits, goes_yields, goes_ok, goes_unshown, goes_err, drops_waiting, drops_shown, goes_unkept}
 
 -- what holds of the exchange that came last
 on_last_in : (later : List Request) (polls : ℕ) (first : StreamSeen) (P Q : ConnSeen → Request → Type 0) (a : ConnSeen) (r : Request) → ((at : ConnSeen) (asked : Request) → P at asked → Q at asked) → OfLastIn later polls first P a r → OfLastIn later polls first Q a r
@@ -101,34 +101,17 @@ hands_over polls first a m r next waits items l e h =
     )
 
 -- what handed on is a description
-pub handed_described : (polls : ℕ) (first : StreamSeen) (a m : ConnSeen) (r next : Request) → HandedOn polls first a m r next → kind_of r ≡ kinds.Describe
+handed_described : (polls : ℕ) (first : StreamSeen) (a m : ConnSeen) (r next : Request) → HandedOn polls first a m r next → kind_of r ≡ kinds.Describe
 handed_described polls first a m r next h = hands_on_described r h.ends.0.0.reply h.ends.0.0.status next h.ends.0.1
-
--- what was handed on is the last exchange of its call
-pub handed_last : (polls : ℕ) (first : StreamSeen) (a m : ConnSeen) (r next : Request) → HandedOn polls first a m r next → IsLast next
-handed_last polls first a m r next h d = main_describes_none r (sym (next_is r h.ends.0.0.reply h.ends.0.0.status next h.ends.0.1).0 ∙ d)
 
 described_stays : (r : Request) → kind_of r ≡ kinds.Describe → change_of (main_kind r) ≡ changes.Stays
 described_stays (requests.Describe x) k = refl
 described_stays (requests.Run bound) k = refl
 described_stays _ k = absurd cc
 
--- So a call has two exchanges at most.
-pub two_at_most : (polls : ℕ) (first : StreamSeen) (P : ConnSeen → Request → Type 0) (a : ConnSeen) (r : Request) → OfLast polls first P a r → P a r ⊎ ((m : ConnSeen) × (next : Request) × HandedOn polls first a m r next × P (handed_from m next) next)
-two_at_most polls first P a r h = by h.0 h.1
-  where
-    by : (later : List Request) → OfLastIn later polls first P a r → P a r ⊎ ((m : ConnSeen) × (next : Request) × HandedOn polls first a m r next × P (handed_from m next) next)
-    by [] p = inl p
-    by (next ∷ []) h = inr (h.0, next, h.1, h.2)
-    by (next ∷ more ∷ later) h = absurd (handed_last polls first a h.0 r next h.1 (handed_described polls first (handed_from h.0 next) h.2.0 next more h.2.1))
-
--- and opens and closes nothing
+-- what was handed on opens and closes nothing
 pub handed_stays : (polls : ℕ) (first : StreamSeen) (a m : ConnSeen) (r next : Request) → HandedOn polls first a m r next → change_of (kind_of next) ≡ changes.Stays
 handed_stays polls first a m r next h = ap change_of (next_is r h.ends.0.0.reply h.ends.0.0.status next h.ends.0.1).0 ∙ described_stays r (handed_described polls first a m r next h)
-
--- and it opened and closed nothing
-pub handed_settled : (polls : ℕ) (first : StreamSeen) (a m : ConnSeen) (r next : Request) → HandedOn polls first a m r next → settled m ≡ m
-handed_settled polls first a m r next h = stays_behind (ends.Ok AnswersUnit) m (h.went.started.3 ∙ h.asked ∙ ap change_of (handed_described polls first a m r next h))
 
 -- what a connection has counted
 abbrev pub counted_by : ConnSeen → Counted

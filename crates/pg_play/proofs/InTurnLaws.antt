@@ -1,0 +1,322 @@
+-- The exchanges of a step, one behind another: an induction over those that were handed on.
+use Rattle.std.proofs.Common.{◌≡◌, ◌⊎◌, ℕ, ◌+◌, ◌*◌, ◌^◌, ◌≤◌, ◌<◌, Bool, true, false, cond, nat_eq, inl, inr, List, [], ◌∷◌, ◌++◌, length, refl, sym, ap, ◌∙◌, subst, arith, append-nil, Some, None, sum_by}
+use Rattle.std.specs.List.{AllByRecursion}
+use Rattle.pg_wire.specs.Frame.{Frame}
+use Rattle.pg_wire.specs.Parts.{heard}
+use Rattle.pg_wire.specs.Frontend.{FrontendMessage}
+use Rattle.pg_wire.specs.Backend.{BackendMessage}
+use Rattle.pg_wire.proofs.PartLaws.{heard-append}
+use Rattle.pg_stream.specs.Links.{NoneFalls, GrewBy}
+use Rattle.pg_stream.specs.Streams.{StreamSeen}
+use Rattle.pg_stream.proofs.StreamLemmas.{GrewBy-then}
+use Rattle.pg_request.specs.declared.progress.CacheStep.TheVariants as cache
+use Rattle.pg_call.specs.declared.kind.Change.{Change}
+use Rattle.pg_call.specs.declared.kind.Change.TheVariants as changes
+use Rattle.pg_call.specs.declared.request.Request.{Request}
+use Rattle.pg_call.specs.declared.calling.Call.TheVariants as states
+use Rattle.pg_call.specs.Requests.{Group, groups_of, kind_of, change_of, widths_of}
+use Rattle.pg_conn.specs.Connections.{ConnSeen, settled}
+use Rattle.pg_conn.specs.Turns.{HasAllRoom, level_of}
+use Rattle.pg_report.specs.declared.outcome.Item.{Item}
+use Rattle.pg_report.specs.declared.outcome.Answer.TheVariants.{Unit as AnswersUnit}
+use Rattle.pg_report.specs.declared.outcome.End.{End}
+use Rattle.pg_report.specs.declared.outcome.End.TheVariants as ends
+use Rattle.pg_report.specs.declared.outcome.Outcome.{Outcome}
+use Rattle.pg_script.specs.declared.step.Call.{Call}
+use Rattle.pg_script.specs.declared.step.Step.{Step}
+use Rattle.pg_play.specs.Shown.{request_of, next_call, waits_how, acts_at_once}
+use Rattle.pg_play.specs.Calls.{WaitsFew, HasWaitedFew, Ended, EndsCall, PlaysOne, HandedOn, OfLastIn, Counted, none_counted, asking, behind_end, limits_of, outcome_of}
+use Rattle.pg_play.specs.Places.{Place, owed, is_fine}
+use Rattle.pg_play.specs.Causes.{AnsweredPending, IsDropped}
+use Rattle.pg_play.specs.Settling.{Settles}
+use Rattle.pg_play.specs.WaitPlaces.{WaitPlaces}
+use Rattle.pg_play.specs.Plays.{IsNeverUnlawful, Plays_call, Plays_exchanges, HandsOn, stopped_at, last_of, StandsAt}
+use Rattle.pg_play.specs.declared.tally.Limits.{Limits}
+use Rattle.pg_play.proofs.PlaceLaws.{HasSummary, ends_summary, next_place}
+use Rattle.pg_play.proofs.ToldLaws.{main_after, queued_one, fine_own, told_of, CountsOn}
+use Rattle.pg_play.proofs.CauseLaws.{dropped_step}
+use Rattle.pg_play.proofs.LinkLaws.{sum_more}
+use Rattle.pg_play.proofs.SettledLaws.{SettlesTo, settles_call, settles_stays, cleanup_polled, ok_cleans_none}
+use Rattle.pg_play.proofs.CalledLaws.{KnownAt, Called, called_exchange, exchanged}
+use Rattle.pg_play.proofs.ThroughLaws.{counted_by, handed_stays, handed_asking, handed_ended}
+use Rattle.pg_play.proofs.ExchangeLaws.{runs_how, shows_how, next_how, last_next, NextIs, what_is_next}
+use Rattle.pg_play.proofs.NextLaws.{known_behind, replies_same}
+use Rattle.pg_play.proofs.DueLaws.{WithinMost, most_by, few_of, dropped_out, dropped_from}
+
+-- ---- what exchanges tell together
+
+abbrev pub exchange_of : Step → Call → Step
+exchange_of step call = record step { call = call }
+
+-- behind so many, the numbers of these exchanges are those of the outcome
+pub record AddUp (old : Counted) (outs : List Outcome) (out : Outcome) : Type 0 where
+  pub groups : GrewBy (sum_by (λ one. one.groups) outs) old.groups out.groups
+  pub heard : GrewBy (sum_by (λ one. one.heard) outs) old.heard out.heard
+  pub waits : GrewBy (sum_by (λ one. one.waits) outs) old.waits out.waits
+  pub moved : GrewBy (sum_by (λ one. one.moved) outs) old.moves out.moved
+
+grew_none : (x : ℕ) → GrewBy 0 x x
+grew_none x = (omega arith, omega arith, omega arith)
+
+pub add_none : (d : ConnSeen) (items : List Item) (end : End) → AddUp (counted_by d) [] (outcome_of d items end)
+add_none d items end = record {
+  groups = grew_none d.groups;
+  heard = grew_none d.heard;
+  waits = grew_none d.stream.waits;
+  moved = grew_none d.stream.moves;
+}
+
+pub add_one : (old : Counted) (c : ConnSeen) (told : Outcome) (outs : List Outcome) (out : Outcome) → CountsOn old c told → AddUp (counted_by c) outs out → AddUp old (told ∷ outs) out
+add_one old c told outs out grew more = record {
+  groups = GrewBy-then told.groups (sum_by (λ (x : Outcome). x.groups) outs) (sum_by (λ (x : Outcome). x.groups) (told ∷ outs)) old.groups c.groups out.groups grew.groups more.groups (sum_more (λ (x : Outcome). x.groups) told outs);
+  heard = GrewBy-then told.heard (sum_by (λ (x : Outcome). x.heard) outs) (sum_by (λ (x : Outcome). x.heard) (told ∷ outs)) old.heard c.heard out.heard grew.heard more.heard (sum_more (λ (x : Outcome). x.heard) told outs);
+  waits = GrewBy-then told.waits (sum_by (λ (x : Outcome). x.waits) outs) (sum_by (λ (x : Outcome). x.waits) (told ∷ outs)) old.waits c.stream.waits out.waits grew.waits more.waits (sum_more (λ (x : Outcome). x.waits) told outs);
+  moved = GrewBy-then told.moved (sum_by (λ (x : Outcome). x.moved) outs) (sum_by (λ (x : Outcome). x.moved) (told ∷ outs)) old.moves c.stream.moves out.moved grew.moved more.moved (sum_more (λ (x : Outcome). x.moved) told outs);
+}
+
+-- one outcome alone, behind nothing
+pub add_alone : (out : Outcome) → AddUp none_counted (out ∷ []) out
+add_alone out = record {
+  groups = alone (λ (x : Outcome). x.groups);
+  heard = alone (λ (x : Outcome). x.heard);
+  waits = alone (λ (x : Outcome). x.waits);
+  moved = alone (λ (x : Outcome). x.moved);
+}
+  where
+    alone : (f : Outcome → ℕ) → GrewBy (sum_by f (out ∷ [])) 0 (f out)
+    alone f = let e = sum_more f out [] in (omega arith, omega (arith, e), omega (arith, e))
+
+-- the groups of its cleanup are counted too
+grew_still : (n k x y z : ℕ) → k ≡ n → z ≡ y → GrewBy n x y → GrewBy k x z
+grew_still n k x y z e f g = (omega (arith, f, g), omega (arith, e, f, g), omega (arith, e, f, g))
+
+pub counts_settled : (start : StreamSeen) (old : Counted) (at mid : Place) (m d : ConnSeen) (step : Step) (told : Outcome) (one : Plays_call at step told mid) (s : SettlesTo start at step told one.own mid m d) → CountsOn old m told → CountsOn old d s.out
+counts_settled start old at mid m d step told one s grew =
+    let e = s.settles.outcome in
+    record {
+      groups = GrewBy-then told.groups (length s.settles.cleanup) s.out.groups old.groups m.groups d.groups grew.groups s.groups (s.settles.counted ∙ ap (λ (n : ℕ). n + length s.settles.cleanup) (sym one.numbers.groups));
+      heard = grew_still told.heard s.out.heard old.heard m.heard d.heard (ap (λ (x : Outcome). x.heard) e) s.others.0 grew.heard;
+      waits = grew_still told.waits s.out.waits old.waits m.stream.waits d.stream.waits (ap (λ (x : Outcome). x.waits) e) s.others.1 grew.waits;
+      moved = grew_still told.moved s.out.moved old.moves m.stream.moves d.stream.moves (ap (λ (x : Outcome). x.moved) e) s.others.2 grew.moved;
+    }
+
+-- ---- exchanges one behind another
+
+-- From this place on, behind what was counted, a step goes through exchanges, the first of which this call stands for. The call of the last
+-- stopped here, and the connection stands behind them.
+pub record InTurn (start : StreamSeen) (at : Place) (step : Step) (call : Call) (old : Counted) (out : Outcome) (stop : Place) (d : ConnSeen) : Type 0 where
+  pub later : List Step
+  pub told : Outcome
+  pub outs : List Outcome
+  pub next : Place
+  pub run : Plays_exchanges at (exchange_of step call ∷ later) (told ∷ outs) next
+  pub limits : AllByRecursion (λ exchange. limits_of exchange ≡ limits_of step) later
+  pub hands : HandsOn at (exchange_of step call ∷ later) (told ∷ outs) next run
+  pub items : out.items ≡ (last_of told outs).items
+  pub ends : out.end ≡ (last_of told outs).end
+  pub adds : AddUp old (told ∷ outs) out
+  pub same : out.cache ≡ cache.Same
+  pub stops : stop ≡ stopped_at at at (exchange_of step call ∷ later) (told ∷ outs) next run
+  pub stands : StandsAt start next d
+
+-- there is one alone
+pub one_turn : (start : StreamSeen) (at mid next : Place) (d : ConnSeen) (step : Step) (call : Call) (old : Counted) (raw told out : Outcome) (one : Plays_call at (exchange_of step call) raw mid) → IsNeverUnlawful at raw mid → WaitPlaces at raw mid → NoneFalls at.seen.link mid.seen.link → Settles at (exchange_of step call) raw told one.own mid next
+    → StandsAt start next d → out.items ≡ told.items → out.end ≡ told.end → AddUp old (told ∷ []) out → out.cache ≡ cache.Same → (is_fine told.end ≡ true → next_call call one.told.response ≡ None) → InTurn start at step call old out mid d
+unfolding exchanged
+one_turn start at mid next d step call old raw told out one lawful waits counts s stands items ends adds same last = record {
+  later = [];
+  told = told;
+  outs = [];
+  next = next;
+  run = (next, exchanged start at mid next d (exchange_of step call) raw told one lawful waits counts s stands, refl);
+  limits = tt;
+  hands = (last, tt);
+  items = items;
+  ends = ends;
+  adds = adds;
+  same = same;
+  stops = refl;
+  stands = stands;
+}
+
+-- what is told of an exchange's call
+abbrev told_in : {start : StreamSeen} {at : Place} {old : Counted} {m : ConnSeen} {step : Step} {shown : List Item} {end : End} {mid : Place} → Called start at old m step shown end mid → Outcome
+told_in {start} {at} {old} {m} {step} {shown} {end} {mid} c = told_of shown end c.groups c.heard c.waits c.moved
+
+-- one stands before the others
+more_turns : (start : StreamSeen) (at mid stop : Place) (m c d : ConnSeen) (step : Step) (call part : Call) (old : Counted) (out : Outcome) (one : Called start at old m (exchange_of step call) [] (ends.Ok AnswersUnit) mid) (s : SettlesTo start at (exchange_of step call) (told_in one) one.one.own mid m c) → next_call call one.one.told.response ≡ Some part
+    → InTurn start s.next step part (counted_by c) out stop d → InTurn start at step call old out stop d
+unfolding exchanged
+more_turns start at mid stop m c d step call part old out one s comes t = record {
+  later = exchange_of step part ∷ t.later;
+  told = s.out;
+  outs = t.told ∷ t.outs;
+  next = t.next;
+  run = (s.next, exchanged start at mid s.next c (exchange_of step call) (told_in one) s.out one.one one.lawful one.places one.counts s.settles s.stands, t.run);
+  limits = (refl, t.limits);
+  hands = ((ap (λ (x : Outcome). x.end) s.settles.outcome, comes), t.hands);
+  items = t.items;
+  ends = t.ends;
+  adds = add_one old c s.out (t.told ∷ t.outs) out (counts_settled start old at mid m c (exchange_of step call) (told_in one) one.one s one.grew) t.adds;
+  same = t.same;
+  stops = t.stops;
+  stands = t.stands;
+}
+
+-- ---- exchanges of a call that was polled
+
+-- An exchange begins at this place, behind what was counted: what its request knows is known there, and it is its call's first group, or opens and closes nothing.
+pub record BeginsAt (start : StreamSeen) (at : Place) (a : ConnSeen) (old : Counted) (call : Call) : Type 0 where
+  pub stands : StandsAt start at a
+  pub polled : acts_at_once call ≡ false
+  pub known : KnownAt (widths_of (request_of at.rule.depth call)) at
+  pub level : (old.groups ≡ 0) ⊎ (change_of (kind_of (request_of at.rule.depth call)) ≡ changes.Stays)
+
+-- and all of them were polled to the step's end
+pub record PlaysInTurn (start first : StreamSeen) (at : Place) (step : Step) (call : Call) (old : Counted) (out : Outcome) (stop : Place) (d : ConnSeen) : Type 0 where
+  pub turns : InTurn start at step call old out stop d
+  pub dropped : out.end ≡ ends.Dropped → IsDropped at step out stop
+  pub few : (pending : ℕ) × AnsweredPending out pending × WaitsFew step.polls pending out.end
+  pub most : waits_how (runs_how call) ≡ false → WithinMost out.end out.items step.most
+  pub waits : out.waits ≤ step.polls
+  pub calls : d.stream.link.calls ≤ first.link.calls + 256 * (step.polls + step.most)
+
+-- what is no first group of a begin takes no room
+level_none : (change : Change) (groups : ℕ) → (groups ≡ 0) ⊎ (change ≡ changes.Stays) → level_of change groups ≡ 0
+level_none change groups (inl e) = ap (λ (n : ℕ). level_of change n) e
+level_none change groups (inr e) = ap (λ (c : Change). level_of c groups) e ∙ either (nat_eq groups 0)
+  where
+    either : (b : Bool) → ◌≡◌ {A = ℕ} (cond b 0 0) 0
+    either true = refl
+    either false = refl
+
+has_room_at : (start : StreamSeen) (at : Place) (a : ConnSeen) (old : Counted) (call : Call) → BeginsAt start at a old call → HasAllRoom (asking (request_of at.rule.depth call) old a)
+has_room_at start at a old call b =
+    let room = b.stands.room in
+    let none = level_none (change_of (kind_of (request_of at.rule.depth call))) old.groups b.level in
+    omega (arith, room, none)
+
+settles_level : (start : StreamSeen) (at mid : Place) (a m : ConnSeen) (old : Counted) (step : Step) (call : Call) (shown : List Item) (end : End) → BeginsAt start at a old call → (c : Called start at old m (exchange_of step call) shown end mid) → m.change ≡ change_of (kind_of (request_of at.rule.depth call))
+    → SettlesTo start at (exchange_of step call) (told_in c) c.one.own mid m (behind_end end m)
+settles_level start at mid a m old step call shown end b c change = elim b.level [
+  | inl none ↦ settles_call start at mid m (exchange_of step call) (told_in c) c.one b.polled c.stands c.small (omega (arith, c.grew.groups, c.one.numbers.groups, c.small, none)) change
+  | inr stays ↦ settles_stays start at mid m (exchange_of step call) (told_in c) c.one b.polled stays c.stands (change ∙ stays)
+]
+
+-- only the groups that an end makes are counted behind it
+pub same_but_groups : (m d : ConnSeen) (items : List Item) (end : End) → (d.heard ≡ m.heard) × (d.stream.waits ≡ m.stream.waits) × (d.stream.moves ≡ m.stream.moves) → outcome_of d items end ≡ record (outcome_of m items end) { groups = d.groups }
+same_but_groups m d items end o = rw (o.0, o.1, o.2) refl
+
+waited_most : (limits : Limits) (first : StreamSeen) (b : ConnSeen) (end : End) → first.waits ≡ 0 → HasWaitedFew limits.polls first b.stream end → b.stream.waits ≤ limits.polls
+waited_most limits first b end z few = omega (arith, z, few.1.all, few.1.waits.1, few.2.1)
+
+-- what ended hands on nothing where no description ended it
+last_by : (d : ℕ) (call : Call) (response : List BackendMessage) (end : End) → EndsCall (request_of d call) end → is_fine end ≡ true → next_call call response ≡ None
+last_by d call response (ends.Ok told) l f = last_next d call response l
+last_by d call response (ends.Err e) l f = absurd cc
+last_by d call response ends.Dropped l f = absurd cc
+
+-- the exchange that ended its call, behind which the groups alone are counted on
+pub last_turn : (start first : StreamSeen) (old : Counted) (at : Place) (a m : ConnSeen) (step : Step) (call : Call) (items : List Item) (end : End) (said : List FrontendMessage) (fs : List Frame) → BeginsAt start at a old call → step.polls < 2 ^ 32 → first.waits ≡ 0 → first.moves ≡ 0 → 0 < step.most
+    → Ended (limits_of step) first (asking (request_of at.rule.depth call) old a) m (request_of at.rule.depth call) items end said fs → EndsCall (request_of at.rule.depth call) end → m.call ≡ states.Idle → (found : HasSummary a.ledger (request_of at.rule.depth call) said (heard fs) m.ledger end items)
+    → PlaysInTurn start first at step call old (outcome_of (behind_end end m) items end) (next_place at m said found.1.own fs end) (behind_end end m) × (outcome_of (behind_end end m) items end ≡ record (outcome_of m items end) { groups = (behind_end end m).groups })
+last_turn start first old at a m step call items end said fs h p z v l e last over found =
+    let exchange = exchange_of step call in
+    let s = found.1 in
+    let mid : Place = next_place at m said s.own fs end in
+    let c : Called start at old m exchange items end mid = called_exchange start first old at a m exchange items end said fs h.stands h.polled p z e over (has_room_at start at a old call h) found h.known in
+    let d : ConnSeen = behind_end end m in
+    let t : SettlesTo start at exchange (told_in c) c.one.own mid m d = settles_level start at mid a m old step call items end h c e.went.started.3 in
+    let k = t.settles.outcome in
+    let raw : Outcome = outcome_of m items end in
+    let real : Outcome = outcome_of d items end in
+    let same : real ≡ record raw { groups = d.groups } = same_but_groups m d items end t.others in
+    let few : m.stream.waits ≤ step.polls = waited_most (limits_of step) first m end z e.few in
+    let plays : PlaysInTurn start first at step call old real mid d = record {
+      turns = one_turn start at mid t.next d step call old (told_in c) t.out real c.one c.lawful c.places c.counts t.settles t.stands (sym (ap (λ (x : Outcome). x.items) k)) (sym (ap (λ (x : Outcome). x.end) k))
+          (add_one old d t.out [] real (counts_settled start old at mid m d exchange (told_in c) c.one t c.grew) (add_none d items end)) refl (λ f. last_by at.rule.depth call c.one.told.response end last (sym (ap (λ (x : Outcome). is_fine x.end) k) ∙ f));
+      dropped = λ y. dropped_out at step raw real mid same (dropped_step a.broken start first old at a m exchange said fs items end found.0 h.stands z v p y e.ends s);
+      few = subst (λ (x : Outcome). (pending : ℕ) × AnsweredPending x pending × WaitsFew step.polls pending x.end) (sym same) (few_of first m step raw z v refl p e.few);
+      most = λ w. most_by at.rule.depth a.broken (limits_of step) first (asking (request_of at.rule.depth call) old a) m exchange said (heard fs) items end (shows_how call w) l e.ends;
+      waits = omega (arith, t.others.1, few);
+      calls = omega (arith, e.calls, ap (λ (x : StreamSeen). x.link.calls) t.stands.seen, ap (λ (x : StreamSeen). x.link.calls) t.settles.seen);
+    } in
+    (plays, same)
+
+-- an exchange that handed on another: it is told, and the next one begins behind it
+record TurnsOn (start : StreamSeen) (at : Place) (m : ConnSeen) (old : Counted) (step : Step) (call : Call) (next : Request) : Type 0 where
+  mid : Place
+  one : Called start at old m (exchange_of step call) [] (ends.Ok AnswersUnit) mid
+  settles : SettlesTo start at (exchange_of step call) (told_in one) one.one.own mid m (settled m)
+  part : Call
+  comes : next_call call one.one.told.response ≡ Some part
+  asks : request_of settles.next.rule.depth part ≡ next
+  begins : BeginsAt start settles.next (settled m) (counted_by m) part
+
+turns_on : (start first : StreamSeen) (old : Counted) (at : Place) (a m : ConnSeen) (step : Step) (call : Call) (next : Request) → BeginsAt start at a old call → step.polls < 2 ^ 32 → first.waits ≡ 0 → 0 < step.most
+    → HandedOn step.polls first (asking (request_of at.rule.depth call) old a) m (request_of at.rule.depth call) next → TurnsOn start at m old step call next
+unfolding called_exchange
+turns_on start first old at a m step call next b p z l h =
+    let exchange = exchange_of step call in
+    let r = request_of at.rule.depth call in
+    let begun = asking r old a in
+    let e = handed_ended (limits_of step) first begun m r next l h in
+    let found = ends_summary a.broken (limits_of step) first begun m at.rule.depth call h.said (heard h.fs) [] (ends.Ok AnswersUnit) e.ends in
+    let s = found.1 in
+    let st = b.stands in
+    let mid : Place = next_place at m h.said s.own h.fs (ends.Ok AnswersUnit) in
+    let c : Called start at old m exchange [] (ends.Ok AnswersUnit) mid = called_exchange start first old at a m exchange [] (ends.Ok AnswersUnit) h.said h.fs st b.polled p z e h.over (has_room_at start at a old call b) found b.known in
+    let t : SettlesTo start at exchange (told_in c) c.one.own mid m (settled m) = settles_level start at mid a m old step call [] (ends.Ok AnswersUnit) b c e.went.started.3 in
+    let f = h.ends.0.0 in
+    let n : NextIs at.rule.depth call f.reply next = what_is_next at.rule.depth call f.reply f.status next h.ends.0.1 in
+    let whole : s.own ≡ groups_of r = fine_own a.ledger r h.said (heard h.fs) [] found.0 m.ledger false s f in
+    let q = queued_one a.ledger.owed r s.own (heard h.fs) s.queued (ap (λ (g : List Group). length g) whole ∙ n.one) in
+    let same : c.one.told.response ≡ f.reply = replies_same c.one.told.response f.reply (sym c.one.told.says.0 ∙ main_after start at a r s.own (heard h.fs) st q ∙ f.replied) c.one.told.says.1 f.reply_has_frames in
+    let none : t.settles.cleanup ≡ [] = t.settles.cleans ∙ cleanup_polled at.rule.depth call (ends.Ok AnswersUnit) c.one.own (owed mid) b.polled ∙ sym (ok_cleans_none at.rule.depth call c.one.own) in
+    let groups : t.next.groups ≡ at.groups ++ groups_of r = t.settles.groups ∙ ap (λ (g : List Group). (at.groups ++ s.own) ++ g) none ∙ append-nil (at.groups ++ s.own) ∙ ap (λ (g : List Group). at.groups ++ g) whole in
+    let frames : heard t.next.frames ≡ heard at.frames ++ heard h.fs = ap heard t.settles.frames ∙ heard-append at.frames h.fs in
+    let known : KnownAt (widths_of next) t.next = known_behind start at t.next a (settled m) at.rule.depth call next h.said (heard h.fs) [] st t.stands groups frames h.ends.0 in
+    let asks = n.asks t.next.rule.depth in
+    record {
+      mid = mid;
+      one = c;
+      settles = t;
+      part = n.part;
+      comes = ap (λ (ms : List BackendMessage). next_call call ms) same ∙ n.comes;
+      asks = asks;
+      begins = record {
+        stands = t.stands;
+        polled = n.polled;
+        known = subst (λ (q : Request). KnownAt (widths_of q) t.next) (sym asks) known;
+        level = inr (ap (λ (q : Request). change_of (kind_of q)) asks ∙ handed_stays step.polls first begun m r next h);
+      };
+    }
+
+-- Any number of exchanges, each handed on by the one before it, is told from the place on at which the first begins.
+pub turns_through : (later : List Request) (start first : StreamSeen) (old : Counted) (at : Place) (a b : ConnSeen) (step : Step) (call : Call) (out : Outcome) → BeginsAt start at a old call → step.polls < 2 ^ 32 → first.waits ≡ 0 → first.moves ≡ 0 → 0 < step.most
+    → OfLastIn later step.polls first (λ x asked. PlaysOne (limits_of step) first x b asked out) (asking (request_of at.rule.depth call) old a) (request_of at.rule.depth call) → (stop : Place) × PlaysInTurn start first at step call old out stop b
+turns_through [] start first old at a b step call out h p z v l (m, (said, fs, e, last), over, is, outcome) =
+    let found = ends_summary a.broken (limits_of step) first (asking (request_of at.rule.depth call) old a) m at.rule.depth call said (heard fs) out.items out.end e.ends in
+    let stop : Place = next_place at m said found.1.own fs out.end in
+    let turn = last_turn start first old at a m step call out.items out.end said fs h p z v l e last over found in (
+      stop,
+      subst (λ (x : Outcome). PlaysInTurn start first at step call old x stop b) (sym (outcome ∙ ap (λ (x : ConnSeen). outcome_of x out.items out.end) is))
+          (subst (λ (x : ConnSeen). PlaysInTurn start first at step call old (outcome_of (behind_end out.end m) out.items out.end) stop x) (sym is) turn.0),
+    )
+turns_through (next ∷ later) start first old at a b step call out h p z v l (m, handed, behind) =
+    let r = request_of at.rule.depth call in
+    let t = turns_on start first old at a m step call next h p z l handed in
+    let further = subst (λ (q : Request). OfLastIn later step.polls first (λ x asked. PlaysOne (limits_of step) first x b asked out) (asking q (counted_by m) (settled m)) q) (sym t.asks)
+    (subst (λ (x : ConnSeen). OfLastIn later step.polls first (λ x asked. PlaysOne (limits_of step) first x b asked out) x next) (handed_asking step.polls first (asking r old a) m r next handed) behind) in
+    let others = turns_through later start first (counted_by m) t.settles.next (settled m) b step t.part out t.begins p z v l further in
+    let o = others.1 in (
+      others.0,
+      record {
+        turns = more_turns start at t.mid others.0 m (settled m) b step call t.part old out t.one t.settles t.comes o.turns;
+        dropped = λ k. dropped_from at t.settles.next others.0 step out (omega (arith, t.one.counts.write_waits, ap (λ (y : StreamSeen). y.link.write_waits) t.settles.settles.seen)) (o.dropped k);
+        few = o.few;
+        most = λ w. o.most (next_how call t.one.one.told.response t.part t.comes w);
+        waits = o.waits;
+        calls = o.calls;
+      },
+    )
