@@ -1,5 +1,5 @@
 -- Where neither the link nor the server failed, no step ends by a failure of theirs.
-use Rattle.std.proofs.Common.{◌≡◌, ℕ, true, false, inl, inr, Option, IfSome, List, [], ◌∷◌, ◌++◌, refl, sym, ap, ◌∙◌, subst, append_assoc, append-nil, Some, None, arith}
+use Rattle.std.proofs.Common.{◌≡◌, ℕ, true, false, inl, inr, List, [], ◌∷◌, ◌++◌, refl, sym, ap, ◌∙◌, subst, append_assoc, append-nil, Some, None, arith}
 use Rattle.std.specs.List.{AllByRecursion}
 use Rattle.pg_wire.specs.declared.error.Error.{Error}
 use Rattle.pg_wire.specs.declared.error.Error.TheVariants as errors
@@ -31,8 +31,7 @@ use Rattle.pg_play.specs.Places.{Place}
 use Rattle.pg_play.specs.Causes.{IsAskedToCopy, Causes, IsDropped, HasCause}
 use Rattle.pg_play.specs.Complete.{IsFaultless, IsFairError, WasCutShort, IsFairEnd, EndFairly, WhereFaultless}
 use Rattle.pg_script.specs.declared.step.Call.{Call}
-use Rattle.pg_play.specs.Shown.{IsPartOf, first_call, next_call}
-use Rattle.pg_play.proofs.ExchangeLaws.{part_begins, part_begins_with, part_wants, next_runs}
+use Rattle.pg_play.proofs.ExchangeLaws.{IsOf, first_is_of, next_is_of, wants_so}
 use Rattle.pg_play.specs.Plays.{Plays_call, Plays_exchange, Plays_exchanges, last_of, FirstIs, Hands, HandsOn, Plays_step, Plays_from, AsksForNoCopy}
 use Rattle.pg_play.proofs.CauseLaws.{copies_begin}
 use Rattle.pg_play.proofs.RepliesLaws.{starts_copy, StartsNoCopy, all_prefix, replies_start_no_copy, replies_are_said}
@@ -119,7 +118,7 @@ no_copy_asked at step own slice tag c n =
     let begun = starts c.last (copies_begin c.part c.last c.copies) in
     absurd cc
 
-fair_error : (first : LinkSeen) (at : Place) (call : Call) (step : Step) (own : List Group) (slice : List Frame) (next last : Place) (e : Error) → IsPartOf call step.call → Holds first last → NoneFalls first at.seen.link → NoneFalls next.seen.link last.seen.link → AllByRecursion StartsNoCopy slice
+fair_error : (first : LinkSeen) (at : Place) (call : Call) (step : Step) (own : List Group) (slice : List Frame) (next last : Place) (e : Error) → IsOf call step.call → Holds first last → NoneFalls first at.seen.link → NoneFalls next.seen.link last.seen.link → AllByRecursion StartsNoCopy slice
     → ((fault : ServerFault) → e ≡ errors.Protocol (protocol.Server fault) → last.broken ≡ Some fault) → Causes at step own slice next e → IsFairError call e
 fair_error first at call step own slice next last errors.OutOfMemory part g a b n k c = tt
 fair_error first at call step own slice next last (errors.Io io.Fault) part g a b n k c = absurd (g.no_fault (omega (arith, a.faults, b.faults, c)))
@@ -128,11 +127,11 @@ fair_error first at call step own slice next last (errors.Io _) part g a b n k c
 fair_error first at call step own slice next last (errors.Database details) part g a b n k c = tt
 fair_error first at call step own slice next last (errors.Protocol (protocol.Server fault)) part g a b n k c = absurd (g.unbroken fault (k fault refl))
 fair_error first at call step own slice next last (errors.Protocol (protocol.Reply tag)) part g a b n k c = absurd (no_copy_asked at step own slice tag c n)
-fair_error first at call step own slice next last (errors.Protocol (protocol.Caller fault)) part g a b n k c = (at.rule.depth, step.call, part, c.2)
-fair_error first at call step own slice next last (errors.BeginFailed status) part g a b n k c = (part_begins call step.call part c.begins_it, c.other)
-fair_error first at call step own slice next last errors.InvalidSavePointStatement part g a b n k c = part_begins_with call step.call part c.0.0
+fair_error first at call step own slice next last (errors.Protocol (protocol.Caller fault)) part g a b n k c = (at.rule.depth, step.call, part.is_part, c.2)
+fair_error first at call step own slice next last (errors.BeginFailed status) part g a b n k c = (part.opens c.begins_it, c.other)
+fair_error first at call step own slice next last errors.InvalidSavePointStatement part g a b n k c = part.opens_with c.0.0
 fair_error first at call step own slice next last (errors.Protocol _) part g a b n k c = absurd c
-fair_error first at call step own slice next last errors.RowNotFound part g a b n k c = part_wants call step.call part c.wants
+fair_error first at call step own slice next last errors.RowNotFound part g a b n k c = part.wants (wants_so step.call c.wants)
 fair_error first at call step own slice next last _ part g a b n k c = absurd c
 
 cut_short : (at : Place) (step : Step) (out : Outcome) (next : Place) → IsDropped at step out next → WasCutShort step out
@@ -163,7 +162,7 @@ leads_in at steps outs next last run l = record {
 }
 
 -- an error of an exchange is fair for its call
-exchange_fair : (first : LinkSeen) (at : Place) (call : Call) (step : Step) (out : Outcome) (next last : Place) → IsPartOf call step.call → Holds first last → NoneFalls first at.seen.link → Plays_exchange at step out next → LeadsTo next last → (e : Error) → out.end ≡ ends.Err e → IsFairError call e
+exchange_fair : (first : LinkSeen) (at : Place) (call : Call) (step : Step) (out : Outcome) (next last : Place) → IsOf call step.call → Holds first last → NoneFalls first at.seen.link → Plays_exchange at step out next → LeadsTo next last → (e : Error) → out.end ≡ ends.Err e → IsFairError call e
 exchange_fair first at whole step out next last part g a one l e k =
     let call = one.call in
     let mid = one.ended_at in
@@ -175,32 +174,24 @@ exchange_fair first at whole step out next last part g a one l e k =
 
 -- ---- the exchanges of a step are those of its call
 
-abbrev ArePartsOf : Call → List Step → Type 0
-ArePartsOf call steps = AllByRecursion (λ step. IsPartOf call step.call) steps
+abbrev AreOf : Call → List Step → Type 0
+AreOf call steps = AllByRecursion (λ step. IsOf call step.call) steps
 
--- behind what runs a statement comes none
-part_ends : (call : Call) (response : List BackendMessage) (part : Call) → IsPartOf call part → (o : Option Call) → next_call part response ≡ o → IfSome o (λ next. (part ≡ first_call call) × (next_call (first_call call) response ≡ Some next))
-part_ends call response part (inl e) None k = tt
-part_ends call response part (inl e) (Some next) k = (e, ap (λ (x : Call). next_call x response) (sym e) ∙ k)
-part_ends call response part (inr (told, e)) None k = tt
-part_ends call response part (inr (told, e)) (Some next) k = let runs = next_runs call told part e in let x = sym (ap (λ (y : Call). next_call y response) runs.1) ∙ k in absurd cc
+are_of : (call : Call) (at : Place) (steps : List Step) (outs : List Outcome) (last : Place) (run : Plays_exchanges at steps outs last) (first : Step) (response : List BackendMessage) (end : End) → IsOf call first.call → Hands first end response steps → HandsOn at steps outs last run → AreOf call steps
+are_of call at [] outs last run first response end of h k = tt
+are_of call at (s ∷ steps) [] last run first response end of h k = absurd run
+are_of call at (s ∷ steps) (o ∷ outs) last run first response end of h k =
+    let mine = next_is_of call first.call s.call response of h.1 in
+    (mine, are_of call run.0 steps outs last run.2 s run.1.call.told.response o.end mine k.0 k.1)
 
-parts_on : (call : Call) (at : Place) (steps : List Step) (outs : List Outcome) (last : Place) (run : Plays_exchanges at steps outs last) (first : Step) (response : List BackendMessage) (end : End) → IsPartOf call first.call → Hands first end response steps → HandsOn at steps outs last run → ArePartsOf call steps
-parts_on call at [] outs last run first response end part h k = tt
-parts_on call at (s ∷ steps) [] last run first response end part h k = absurd run
-parts_on call at (s ∷ steps) (o ∷ outs) last run first response end part h k =
-    let behind = part_ends call response first.call part (Some s.call) h.1 in
-    let mine : IsPartOf call s.call = inr (response, behind.1) in
-    (mine, parts_on call run.0 steps outs last run.2 s run.1.call.told.response o.end mine k.0 k.1)
+all_are_of : (step : Step) (at : Place) (steps : List Step) (outs : List Outcome) (last : Place) (run : Plays_exchanges at steps outs last) → FirstIs step steps → HandsOn at steps outs last run → AreOf step.call steps
+all_are_of step at [] outs last run f k = tt
+all_are_of step at (s ∷ steps) [] last run f k = absurd run
+all_are_of step at (s ∷ steps) (o ∷ outs) last run f k =
+    let mine = subst (IsOf step.call) (sym (ap (λ (x : Step). x.call) f)) (first_is_of step.call) in
+    (mine, are_of step.call run.0 steps outs last run.2 s run.1.call.told.response o.end mine k.0 k.1)
 
-parts_are : (step : Step) (at : Place) (steps : List Step) (outs : List Outcome) (last : Place) (run : Plays_exchanges at steps outs last) → FirstIs step steps → HandsOn at steps outs last run → ArePartsOf step.call steps
-parts_are step at [] outs last run f k = tt
-parts_are step at (s ∷ steps) [] last run f k = absurd run
-parts_are step at (s ∷ steps) (o ∷ outs) last run f k =
-    let mine : IsPartOf step.call s.call = inl (ap (λ (x : Step). x.call) f) in
-    (mine, parts_on step.call run.0 steps outs last run.2 s run.1.call.told.response o.end mine k.0 k.1)
-
-fair_in : (first : LinkSeen) (call : Call) (before : Outcome) (at : Place) (steps : List Step) (outs : List Outcome) (next last : Place) → Holds first last → NoneFalls first at.seen.link → Plays_exchanges at steps outs next → LeadsTo next last → ArePartsOf call steps
+fair_in : (first : LinkSeen) (call : Call) (before : Outcome) (at : Place) (steps : List Step) (outs : List Outcome) (next last : Place) → Holds first last → NoneFalls first at.seen.link → Plays_exchanges at steps outs next → LeadsTo next last → AreOf call steps
     → ((e : Error) → before.end ≡ ends.Err e → IsFairError call e) → (e : Error) → (last_of before outs).end ≡ ends.Err e → IsFairError call e
 fair_in first call before at [] [] next last g a run l parts so e k = so e k
 fair_in first call before at [] (o ∷ outs) next last g a run l parts so e k = absurd run
@@ -212,7 +203,7 @@ fair_in first call before at (s ∷ steps) (o ∷ outs) next last g a run l part
 step_fair : (first : LinkSeen) (at : Place) (step : Step) (out : Outcome) (next last : Place) → Holds first last → NoneFalls first at.seen.link → (one : Plays_step at step out next) → LeadsTo next last → IsFairEnd step out out.end
 step_fair first at step out next last g a one l = by out.end refl
   where
-    error_at : (xs : List Step) (ys : List Outcome) → Plays_exchanges at xs ys next → FirstIs step xs → ArePartsOf step.call xs → (e : Error) → (last_of out ys).end ≡ ends.Err e → IsFairError step.call e
+    error_at : (xs : List Step) (ys : List Outcome) → Plays_exchanges at xs ys next → FirstIs step xs → AreOf step.call xs → (e : Error) → (last_of out ys).end ≡ ends.Err e → IsFairError step.call e
     error_at [] ys run f parts e k = absurd (some_first step f)
     error_at (x ∷ xs) [] run f parts e k = absurd run
     error_at (x ∷ xs) (y ∷ ys) run f parts e k = fair_in first step.call y run.0 xs ys next last g (NoneFalls-then first at.seen.link run.0.seen.link a run.1.counts) run.2 l parts.1 (λ z h. exchange_fair first at step.call x y run.0 last parts.0 g a run.1 (leads_in run.0 xs ys next last run.2 l) z h) e k
@@ -220,7 +211,7 @@ step_fair first at step out next last g a one l = by out.end refl
     by : (end : End) → out.end ≡ end → IsFairEnd step out end
     by (ends.Ok answer) e = tt
     by ends.Dropped e = cut_short at step out one.stop (one.dropped e)
-    by (ends.Err x) e = error_at one.exchanges one.outs one.run one.first (parts_are step at one.exchanges one.outs next one.run one.first one.hands) x (sym one.tells.ends ∙ e)
+    by (ends.Err x) e = error_at one.exchanges one.outs one.run one.first (all_are_of step at one.exchanges one.outs next one.run one.first one.hands) x (sym one.tells.ends ∙ e)
 
 all_fair : (first : LinkSeen) (at : Place) (steps : List Step) (outs : List Outcome) (last : Place) → Holds first last → NoneFalls first at.seen.link → Plays_from at steps outs last → EndFairly steps outs
 all_fair first at [] [] last g a run = tt

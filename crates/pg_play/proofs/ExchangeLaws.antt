@@ -1,5 +1,5 @@
 -- The exchanges of a call.
-use Rattle.std.proofs.Common.{◌≡◌, ℕ, zero, suc, Bool, true, false, List, [], length, subst, refl, sym, ap, ◌∙◌, Option, Some, None, Ok, inl, inr}
+use Rattle.std.proofs.Common.{◌≡◌, ◌⊎◌, ℕ, zero, suc, Bool, true, false, List, [], length, subst, refl, sym, ap, ◌∙◌, Option, Some, None, Ok, inl, inr}
 use Rattle.std.proofs.lemmas.Option.{same_Some}
 use Rattle.pg_wire.specs.declared.status.TransactionStatus.{TransactionStatus}
 use Rattle.pg_wire.specs.Backend.{BackendMessage}
@@ -101,28 +101,38 @@ how_by : (how : How) (query : QueryText) (o : Option ArgumentsSeen) (call : Call
 how_by how query None call e = e
 how_by how query (Some arguments) call e = refl
 
--- what shows its items as they come has a first exchange of a query that does
-pub first_how : (call : Call) → waits_to_show call ≡ false → waits_how (runs_how (first_call call)) ≡ false
-first_how (calls.Execute query) w = ap waits_how (how_by hows.Execute query query.arguments (calls.Execute query) refl)
-first_how (calls.ExecuteMany query) w = ap waits_how (how_by hows.ExecuteMany query query.arguments (calls.ExecuteMany query) refl)
-first_how (calls.Fetch query) w = ap waits_how (how_by hows.Fetch query query.arguments (calls.Fetch query) refl)
-first_how (calls.FetchMany query) w = ap waits_how (how_by hows.FetchMany query query.arguments (calls.FetchMany query) refl)
-first_how (calls.FetchAll query) w = absurd cc
-first_how (calls.FetchOptional query) w = absurd cc
-first_how (calls.FetchOne query) w = absurd cc
-first_how (calls.Describe x) w = refl
-first_how (calls.Run bound) w = refl
-first_how _ w = refl
+-- its first exchange is of that query, or of none
+first_how : (call : Call) → (runs_how (first_call call) ≡ how_of call) ⊎ (runs_how (first_call call) ≡ None)
+first_how (calls.Execute query) = inl (how_by hows.Execute query query.arguments (calls.Execute query) refl)
+first_how (calls.ExecuteMany query) = inl (how_by hows.ExecuteMany query query.arguments (calls.ExecuteMany query) refl)
+first_how (calls.Fetch query) = inl (how_by hows.Fetch query query.arguments (calls.Fetch query) refl)
+first_how (calls.FetchMany query) = inl (how_by hows.FetchMany query query.arguments (calls.FetchMany query) refl)
+first_how (calls.FetchAll query) = inl (how_by hows.FetchAll query query.arguments (calls.FetchAll query) refl)
+first_how (calls.FetchOptional query) = inl (how_by hows.FetchOptional query query.arguments (calls.FetchOptional query) refl)
+first_how (calls.FetchOne query) = inl (how_by hows.FetchOne query query.arguments (calls.FetchOne query) refl)
+first_how _ = inr refl
 
--- so it is with the one behind it
-pub next_how : (call : Call) (response : List BackendMessage) (part : Call) → next_call call response ≡ Some part → waits_how (runs_how call) ≡ false → waits_how (runs_how part) ≡ false
-next_how (calls.Describe x) response part e w = subst (λ (y : Call). waits_how (runs_how y) ≡ false) (same_Some _ part e) w
-next_how _ response part e w = absurd cc
+-- so what shows its items as they come has a first exchange that does, and what wants no row one that wants none
+pub first_waits : (call : Call) → waits_to_show call ≡ false → waits_how (runs_how (first_call call)) ≡ false
+first_waits call w = elim (first_how call) [
+  | inl e ↦ ap waits_how e ∙ w
+  | inr e ↦ ap waits_how e
+]
 
--- and with each of them
+first_wants : (call : Call) → wants_how (runs_how (first_call call)) ≡ true → wants_row call ≡ true
+first_wants call w = elim (first_how call) [
+  | inl e ↦ ap wants_how (sym e) ∙ w
+  | inr e ↦ let x = ap wants_how (sym e) ∙ w in absurd cc
+]
+
+-- an exchange that shows items, or wants a row, is of a query that does
 pub shows_how : (call : Call) → waits_how (runs_how call) ≡ false → waits_to_show call ≡ false
 shows_how (calls.Describe x) w = refl
 shows_how _ w = w
+
+pub wants_so : (call : Call) → wants_row call ≡ true → wants_how (runs_how call) ≡ true
+wants_so (calls.Describe x) w = absurd cc
+wants_so _ w = w
 
 widths_by : (d : ℕ) (how : How) (query : QueryText) (o : Option ArgumentsSeen) (call : Call) → widths_of (request_of d call) ≡ [] → widths_of (request_of d (first_as how query o call)) ≡ []
 widths_by d how query None call w = w
@@ -206,47 +216,46 @@ what_is_next d call reply status next e =
       one = refl;
     }
 
-runs_by : (how : How) (query : QueryText) (o : Option ArgumentsSeen) (call : Call) (response : List BackendMessage) (part : Call) → next_call call response ≡ None → next_call (first_as how query o call) response ≡ Some part → (bound : Bound) × (part ≡ calls.Run bound) × (Some how ≡ Some bound.how)
-runs_by how query None call response part n e = let x = sym n ∙ e in absurd cc
-runs_by how query (Some arguments) call response part n e = (bound_by (record { how = how; statement = 0; sql = query.sql; arguments = arguments }) response, sym (same_Some _ part e), refl)
+-- it is of the same query, and opens nothing
+pub next_how : (call : Call) (response : List BackendMessage) (part : Call) → next_call call response ≡ Some part → runs_how part ≡ runs_how call
+next_how (calls.Describe x) response part e = ap runs_how (sym (same_Some _ part e))
+next_how _ response part e = absurd cc
 
--- it runs the query as its call does
-pub next_runs : (call : Call) (response : List BackendMessage) (part : Call) → next_call (first_call call) response ≡ Some part → (bound : Bound) × (part ≡ calls.Run bound) × (how_of call ≡ Some bound.how)
-next_runs (calls.Execute query) response part e = runs_by hows.Execute query query.arguments (calls.Execute query) response part refl e
-next_runs (calls.ExecuteMany query) response part e = runs_by hows.ExecuteMany query query.arguments (calls.ExecuteMany query) response part refl e
-next_runs (calls.Fetch query) response part e = runs_by hows.Fetch query query.arguments (calls.Fetch query) response part refl e
-next_runs (calls.FetchMany query) response part e = runs_by hows.FetchMany query query.arguments (calls.FetchMany query) response part refl e
-next_runs (calls.FetchAll query) response part e = runs_by hows.FetchAll query query.arguments (calls.FetchAll query) response part refl e
-next_runs (calls.FetchOptional query) response part e = runs_by hows.FetchOptional query query.arguments (calls.FetchOptional query) response part refl e
-next_runs (calls.FetchOne query) response part e = runs_by hows.FetchOne query query.arguments (calls.FetchOne query) response part refl e
-next_runs _ response part e = absurd cc
+next_begins : (call : Call) (response : List BackendMessage) (part : Call) → next_call call response ≡ Some part → (begins part ≡ false) × (begins_with part ≡ false)
+next_begins (calls.Describe x) response part e = (ap begins (sym (same_Some _ part e)), ap begins_with (sym (same_Some _ part e)))
+next_begins _ response part e = absurd cc
+
+-- and the last one
+next_ends : (call : Call) (told response : List BackendMessage) (part : Call) → next_call call told ≡ Some part → next_call part response ≡ None
+next_ends (calls.Describe x) told response part e = ap (λ (y : Call). next_call y response) (sym (same_Some _ part e))
+next_ends _ told response part e = absurd cc
 
 -- ---- what is so of an exchange is so of its call
 
-pub part_begins : (call part : Call) → IsPartOf call part → begins part ≡ true → begins call ≡ true
-part_begins call part (inl e) b = sym (first_begins call) ∙ sym (ap begins e) ∙ b
-part_begins call part (inr (response, e)) b = let runs = next_runs call response part e in let x = sym (ap begins runs.1) ∙ b in absurd cc
+pub record IsOf (call part : Call) : Type 0 where
+  pub is_part : IsPartOf call part
+  pub opens : begins part ≡ true → begins call ≡ true
+  pub opens_with : begins_with part ≡ true → begins_with call ≡ true
+  pub wants : wants_how (runs_how part) ≡ true → wants_row call ≡ true
 
-pub part_begins_with : (call part : Call) → IsPartOf call part → begins_with part ≡ true → begins_with call ≡ true
-part_begins_with call part (inl e) b = sym (first_begins_with call) ∙ sym (ap begins_with e) ∙ b
-part_begins_with call part (inr (response, e)) b = let runs = next_runs call response part e in let x = sym (ap begins_with runs.1) ∙ b in absurd cc
+pub first_is_of : (call : Call) → IsOf call (first_call call)
+first_is_of call = record {
+  is_part = inl refl;
+  opens = λ b. sym (first_begins call) ∙ b;
+  opens_with = λ b. sym (first_begins_with call) ∙ b;
+  wants = first_wants call;
+}
 
-wants_by : (how : How) (query : QueryText) (o : Option ArgumentsSeen) (call : Call) → wants_row (first_as how query o call) ≡ true → wants_row call ≡ true
-wants_by how query None call w = w
-wants_by how query (Some arguments) call w = absurd cc
+next_is_part : (call part next : Call) (response : List BackendMessage) → IsPartOf call part → next_call part response ≡ Some next → IsPartOf call next
+next_is_part call part next response (inl e) k = inr (response, ap (λ (y : Call). next_call y response) (sym e) ∙ k)
+next_is_part call part next response (inr (told, e)) k = let x = sym (next_ends (first_call call) told response part e) ∙ k in absurd cc
 
-first_wants : (call : Call) → wants_row (first_call call) ≡ true → wants_row call ≡ true
-first_wants (calls.Execute query) w = wants_by hows.Execute query query.arguments (calls.Execute query) w
-first_wants (calls.ExecuteMany query) w = wants_by hows.ExecuteMany query query.arguments (calls.ExecuteMany query) w
-first_wants (calls.Fetch query) w = wants_by hows.Fetch query query.arguments (calls.Fetch query) w
-first_wants (calls.FetchMany query) w = wants_by hows.FetchMany query query.arguments (calls.FetchMany query) w
-first_wants (calls.FetchAll query) w = wants_by hows.FetchAll query query.arguments (calls.FetchAll query) w
-first_wants (calls.FetchOptional query) w = wants_by hows.FetchOptional query query.arguments (calls.FetchOptional query) w
-first_wants (calls.FetchOne query) w = refl
-first_wants _ w = absurd cc
-
-pub part_wants : (call part : Call) → IsPartOf call part → wants_row part ≡ true → wants_row call ≡ true
-part_wants call part (inl e) w = first_wants call (sym (ap wants_row e) ∙ w)
-part_wants call part (inr (response, e)) w =
-    let runs = next_runs call response part e in
-    ap wants_how runs.2 ∙ sym (ap wants_row runs.1) ∙ w
+pub next_is_of : (call part next : Call) (response : List BackendMessage) → IsOf call part → next_call part response ≡ Some next → IsOf call next
+next_is_of call part next response of k =
+    let none = next_begins part response next k in
+    record {
+      is_part = next_is_part call part next response of.is_part k;
+      opens = λ b. let x = sym none.0 ∙ b in absurd cc;
+      opens_with = λ b. let x = sym none.1 ∙ b in absurd cc;
+      wants = λ w. of.wants (ap wants_how (sym (next_how part response next k)) ∙ w);
+    }

@@ -315,7 +315,7 @@ turns_through (next ∷ later) start first old at a b step call out h p z v l (m
         turns = more_turns start at t.mid others.0 m (settled m) b step call t.part old out t.one t.settles t.comes o.turns;
         dropped = λ k. dropped_from at t.settles.next others.0 step out (omega (arith, t.one.counts.write_waits, ap (λ (y : StreamSeen). y.link.write_waits) t.settles.settles.seen)) (o.dropped k);
         few = o.few;
-        most = λ w. o.most (next_how call t.one.one.told.response t.part t.comes w);
+        most = λ w. o.most (ap waits_how (next_how call t.one.one.told.response t.part t.comes) ∙ w);
         waits = o.waits;
         calls = o.calls;
       },

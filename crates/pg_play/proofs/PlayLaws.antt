@@ -45,7 +45,7 @@ use Rattle.pg_call.proofs.RefusalLaws.{memory_refuses}
 use Rattle.pg_exchanges.specs.Expecting.{Widths}
 use Rattle.pg_call.specs.Requests.{first_of}
 use Rattle.pg_play.specs.Shown.{asked_of, first_call, next_call}
-use Rattle.pg_play.proofs.ExchangeLaws.{first_request, first_acts, first_begins_with, first_how, first_widths}
+use Rattle.pg_play.proofs.ExchangeLaws.{first_request, first_acts, first_begins_with, first_waits, first_widths}
 use Rattle.pg_play.proofs.DueLaws.{WithinMost, some_of, polled_most, and_true, duly_step, duly_handed, duly_out}
 use Rattle.pg_play.proofs.PlaceLaws.{ends_summary, next_place}
 use Rattle.pg_play.proofs.ToldLaws.{CountsOn}
@@ -137,14 +137,14 @@ polled_step start at a b step out st n opens later p ([], (m, (said, fs, e, last
     let found = ends_summary a.broken (limits_of step) begun.stream begun m at.rule.depth call said (heard fs) out.items out.end e.ends in
     let stop : Place = next_place at m said found.1.own fs out.end in
     let turn = last_turn start begun.stream none_counted at a m step call out.items out.end said fs (begins_first start at a step st later) p refl refl (polled_most step n) e last over found in
-    let dues : EndsDuly at step r raw stop = duly_step start at a m step r raw said fs found.0 st n opens p e found.1 refl (λ x. ap (λ (y : Call). request_of at.rule.depth (first_call y)) x) (λ w. turn.0.most (first_how step.call w)) in
+    let dues : EndsDuly at step r raw stop = duly_step start at a m step r raw said fs found.0 st n opens p e found.1 refl (λ x. ap (λ (y : Call). request_of at.rule.depth (first_call y)) x) (λ w. turn.0.most (first_waits step.call w)) in
     let steps : StepsTo start at step real d = polled_turns start at a d step real stop st later p turn.0 (duly_out at step r raw real stop turn.1 (behind_none out.end m) dues) in
     subst (λ (x : Outcome). StepsTo start at step x b) (sym (outcome ∙ ap (λ (x : ConnSeen). outcome_of x out.items out.end) is)) (subst (λ (x : ConnSeen). StepsTo start at step real x) (sym is) steps)
 polled_step start at a b step out st n opens later p (next ∷ more, played) =
     let r = request_of at.rule.depth (first_call step.call) in
     let t = turns_through (next ∷ more) start (begun_call r a).stream none_counted at a b step (first_call step.call) out (begins_first start at a step st later) p refl refl (polled_most step n) played in
     polled_turns start at a b step out t.0 st later p t.1
-    (duly_handed start at t.0 a played.0 step r next out st n opens played.1 (λ x. ap (λ (y : Call). request_of at.rule.depth (first_call y)) x) t.1.few (λ w. t.1.most (first_how step.call w)))
+    (duly_handed start at t.0 a played.0 step r next out st n opens played.1 (λ x. ap (λ (y : Call). request_of at.rule.depth (first_call y)) x) t.1.few (λ w. t.1.most (first_waits step.call w)))
 
 -- a step that does nothing, and is no failure of the server
 abbrev IsQuiet : End → Type 0
