@@ -66,12 +66,15 @@ add_none d items end = record {
   moved = grew_none d.stream.moves;
 }
 
+grew_more : (f : Outcome → ℕ) (told : Outcome) (outs : List Outcome) (x y z : ℕ) → GrewBy (f told) x y → GrewBy (sum_by f outs) y z → GrewBy (sum_by f (told ∷ outs)) x z
+grew_more f told outs x y z g more = GrewBy-then (f told) (sum_by f outs) (sum_by f (told ∷ outs)) x y z g more (sum_more f told outs)
+
 pub add_one : (old : Counted) (c : ConnSeen) (told : Outcome) (outs : List Outcome) (out : Outcome) → CountsOn old c told → AddUp (counted_by c) outs out → AddUp old (told ∷ outs) out
 add_one old c told outs out grew more = record {
-  groups = GrewBy-then told.groups (sum_by (λ (x : Outcome). x.groups) outs) (sum_by (λ (x : Outcome). x.groups) (told ∷ outs)) old.groups c.groups out.groups grew.groups more.groups (sum_more (λ (x : Outcome). x.groups) told outs);
-  heard = GrewBy-then told.heard (sum_by (λ (x : Outcome). x.heard) outs) (sum_by (λ (x : Outcome). x.heard) (told ∷ outs)) old.heard c.heard out.heard grew.heard more.heard (sum_more (λ (x : Outcome). x.heard) told outs);
-  waits = GrewBy-then told.waits (sum_by (λ (x : Outcome). x.waits) outs) (sum_by (λ (x : Outcome). x.waits) (told ∷ outs)) old.waits c.stream.waits out.waits grew.waits more.waits (sum_more (λ (x : Outcome). x.waits) told outs);
-  moved = GrewBy-then told.moved (sum_by (λ (x : Outcome). x.moved) outs) (sum_by (λ (x : Outcome). x.moved) (told ∷ outs)) old.moves c.stream.moves out.moved grew.moved more.moved (sum_more (λ (x : Outcome). x.moved) told outs);
+  groups = grew_more (λ (x : Outcome). x.groups) told outs old.groups c.groups out.groups grew.groups more.groups;
+  heard = grew_more (λ (x : Outcome). x.heard) told outs old.heard c.heard out.heard grew.heard more.heard;
+  waits = grew_more (λ (x : Outcome). x.waits) told outs old.waits c.stream.waits out.waits grew.waits more.waits;
+  moved = grew_more (λ (x : Outcome). x.moved) told outs old.moves c.stream.moves out.moved grew.moved more.moved;
 }
 
 -- one outcome alone, behind nothing
