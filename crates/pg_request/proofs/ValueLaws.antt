@@ -14,7 +14,7 @@ use Rattle.pg_wire.proofs.ListLaws.{value_exact}
 use Rattle.pg_arguments.specs.Encoded.{Encoded, wire, wires, FitsWire}
 use Rattle.pg_arguments.specs.Arguments.{Arguments, HasValues}
 use Rattle.pg_request.specs.Queries.{values_in, those_in, AreValues}
-use Rattle.pg_request.specs.Asked.{bytes_of, no_arguments}
+use Rattle.pg_request.specs.Asked.{bytes_of, typed_arguments}
 
 -- as many values as there are, with some bytes behind them
 values_again : (values : List (Option (List ℕ))) (rest : List ℕ) → AllByRecursion FitsValue values → many_at value_at (length values) (flat_map value values ++ rest) ≡ Some (values, rest)
@@ -84,6 +84,6 @@ pub none_are_values : (bytes : List ℕ) → bytes ≡ [] → AreValues 0 bytes
 unfolding many_at
 none_are_values bytes e = rw e (refl, refl)
 
-pub no_values : (types bytes : List ℕ) → types ≡ [] → record { types = types; values = values_in 0 bytes } ≡ no_arguments
+pub no_values : (types bytes : List ℕ) → record { types = types; values = values_in 0 bytes } ≡ typed_arguments types
 unfolding many_at
-no_values types bytes e = rw e refl
+no_values types bytes = refl

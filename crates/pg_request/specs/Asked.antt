@@ -45,8 +45,12 @@ sent_as a = record { types = oids_in a.types; values = values_in (length a.types
 abbrev pub HasBytesOf : Arguments → ArgumentsSeen → Type 0
 HasBytesOf a seen = (values : List (Option Encoded)) → HasValues a values → seen.values ≡ bytes_of values
 
+-- types alone
+abbrev pub typed_arguments : List ℕ → ArgumentsSeen
+typed_arguments types = record { types = types; values = [] }
+
 abbrev pub no_arguments : ArgumentsSeen
-no_arguments = record { types = []; values = [] }
+no_arguments = typed_arguments []
 
 -- a query of the extended kind, whose statement is kept
 abbrev pub kept_query : List ℕ → ArgumentsSeen → QueryText

@@ -1,6 +1,6 @@
 ghost use Rattle.std.specs.Prelude.{◌≡◌, Some, None, IfOk, IfErr, OnOk, length, flat_map};
 ghost use Rattle.pg_wire.specs.Bytes.{value};
-ghost use Rattle.pg_request.specs.Asked.{oids_in, unknown_type, open_type, missing_type, RefusesType, sent_as, no_arguments, HasBytesOf};
+ghost use Rattle.pg_request.specs.Asked.{oids_in, unknown_type, open_type, missing_type, RefusesType, sent_as, typed_arguments, no_arguments, HasBytesOf};
 
 use pg_arguments::{Hole, PgArguments, PgTypeInfo};
 use pg_wire::{Blob, Error, Oid, Oids, Text};
@@ -74,15 +74,22 @@ fn none_open(alloc: Global, holes: &[Hole]) -> Result<(), Error>
 }
 
 impl Arguments {
+    /// No values, but the types of arguments as far as a caller says them. Takes no memory.
+    pub fn typed(alloc: Global, types: Oids) -> Self
+        ensures { result ≡ typed_arguments types }
+    {
+        Arguments {
+            types,
+            count: 0,
+            encoded: Blob::new(alloc),
+        }
+    }
+
     /// No arguments, which takes no memory.
     pub(crate) fn none(alloc: Global) -> Self
         ensures { result ≡ no_arguments }
     {
-        Arguments {
-            types: Oids::new(alloc),
-            count: 0,
-            encoded: Blob::new(alloc),
-        }
+        Arguments::typed(alloc, Oids::new(alloc))
     }
 
     /// Equal arguments, of which each type has an OID, and none is open in a value.
