@@ -22,7 +22,8 @@ use Rattle.pg_call.specs.declared.kind.How.TheVariants as hows
 use Rattle.pg_call.specs.declared.kind.Kind.{Kind}
 use Rattle.pg_call.specs.declared.kind.Kind.TheVariants as kinds
 use Rattle.pg_call.specs.declared.tally.Tally.{Tally}
-use Rattle.pg_call.specs.declared.request.Bound.{Bound}
+use Rattle.pg_call.specs.declared.statement.Rest.{Rest}
+use Rattle.pg_call.specs.declared.statement.Rest.TheVariants as rests
 use Rattle.pg_call.specs.declared.answer.CallAnswer.TheVariants as answers
 use Rattle.pg_exchanges.specs.Answering.{described}
 use Rattle.pg_call.specs.declared.request.Request.{Request}
@@ -42,14 +43,14 @@ use Rattle.pg_call.specs.declared.calling.Beat.{Beat}
 use Rattle.pg_call.specs.declared.calling.Beat.TheVariants as beats
 use Rattle.pg_call.specs.declared.calling.Taken.{Taken}
 use Rattle.pg_call.specs.declared.running.Running.{Running}
-use Rattle.pg_call.specs.Requests.{Group, said_in, kind_of, groups_of, messages_of, farewell, heading_of, rest_of, CanBeSaid}
-use Rattle.pg_call.specs.Items.{news_of, heading_by, heading_after, item_by, items_of, yields, shown, tally_of, answer_to, finished, one_row, begun}
+use Rattle.pg_call.specs.Requests.{Group, said_in, kind_of, groups_of, messages_of, farewell, heading_of, rest_of, told, CanBeSaid}
+use Rattle.pg_call.specs.Items.{news_of, heading_by, heading_after, item_by, items_of, yields, shown, tally_of, answer_to, finished, one_row, begun, parameters_after, parameters_by}
 use Rattle.pg_call.specs.Replies.{awaits_first, goes_on, may_close, part_after, may_copy, MayNotCome, IsFault}
 use Rattle.pg_call.specs.Drains.{is_error, is_copy_in, before_readys, after_readys, failed_behind, fails_for, drain_fails}
 use Rattle.pg_call.specs.Hearing.{framed, added_all, gone_on, HearsMessage, Hears, marked, ledger_behind, fails_of, DrainsBy, Drains, Follows, handed_on}
 use Rattle.pg_call.specs.Calls.{answer_by, IsDraining, IsReplying, owes_own, owes_none, CallIs, owner_failed, Leaves, IsFine, EndsFine, CallEnds, IsFrontFault, CallTakes, StaysIn, TakesMessage, RefusesMessage}
 use Rattle.pg_call.proofs.DrainLaws.{count-push, count-same, after_below, after_from, before_below, before_from, failed-push, fails-push, still_failed, no_more_failed}
-use Rattle.pg_call.proofs.ItemLaws.{items-push, heading-push, tally-more}
+use Rattle.pg_call.proofs.ItemLaws.{items-push, heading-push, tally-more, parameters-push}
 use Rattle.pg_wire.specs.Refusals.{BeginsCopyResponse}
 use Rattle.pg_call.proofs.RefusedLaws.{Describes, describes_after, described_columns, group_refused, group_copies}
 use Rattle.pg_wire.proofs.Each.{each_end}
@@ -235,6 +236,9 @@ no_groups_close requests.Close e = (refl, refl)
 no_groups_close requests.Flush e = absurd cc
 no_groups_close (requests.Describe extended) e = absurd cc
 no_groups_close (requests.Run bound) e = absurd cc
+no_groups_close (requests.Evict eviction) e = absurd cc
+no_groups_close (requests.Clear statements) e = absurd cc
+no_groups_close (requests.Prepare prepared) e = absurd cc
 no_groups_close requests.Ping e = absurd cc
 no_groups_close (requests.Execute query) e = absurd cc
 no_groups_close (requests.ExecuteMany query) e = absurd cc
@@ -277,6 +281,8 @@ finished_last (kinds.Run hows.FetchAll) t status = tt
 finished_last (kinds.Run hows.FetchOptional) t status = tt
 finished_last (kinds.Run hows.FetchOne) t status = one_row_last t.first
 finished_last kinds.Describe t status = tt
+finished_last kinds.Prepare t status = tt
+finished_last kinds.Clear t status = tt
 finished_last kinds.Begin t status = begun_last status
 finished_last kinds.Commit t status = tt
 finished_last kinds.Rollback t status = tt
@@ -304,6 +310,9 @@ plain_messages (requests.Commit left) n = refl
 plain_messages (requests.Rollback left) n = refl
 plain_messages (requests.Describe extended) n = refl
 plain_messages (requests.Run bound) n = refl
+plain_messages (requests.Evict eviction) n = refl
+plain_messages (requests.Clear statements) n = sym (append-nil (said_in (groups_of (requests.Clear statements))))
+plain_messages (requests.Prepare prepared) n = absurd (omega (arith, n))
 plain_messages requests.Ping n = refl
 plain_messages requests.Flush n = absurd (omega (arith, n))
 plain_messages requests.Close n = absurd (omega (arith, n))
@@ -331,9 +340,9 @@ closed_fine start r said hs items reply i status can =
 own_not_close : (r : Request) → length (groups_of r) ≡ 1 → kind_of r ≡ kinds.Close → ⊥
 own_not_close r n k = let z = ap (λ (g : List Group). length g) (no_groups_close r k).0 in absurd (omega (arith, n, z))
 
-handed_last : (rest : Option Bound) (columns : Option (List FieldDescription)) (answer : Result CallAnswer Error) → IsLast answer → IsLast (handed_on rest columns answer)
-handed_last None columns answer l = l
-handed_last (Some bound) columns answer l = tt
+handed_last : (rest : Rest) (parameters : List ℕ) (columns : Option (List FieldDescription)) (answer : Result CallAnswer Error) → IsLast answer → IsLast (handed_on rest parameters columns answer)
+handed_last rests.Nothing parameters columns answer l = l
+handed_last _ parameters columns answer l = tt
 
 -- what closes a description has described these columns
 described_at : (h : Heading) (own : List BackendMessage) (part : Part) (status : TransactionStatus) → h.columns ≡ Some [] → part_after parts.Parsing own ≡ Some part → may_close part ≡ true → (heading_after h own).columns ≡ Some (described (own ++ ReadyForQuery status ∷ []))
@@ -346,24 +355,27 @@ described_at h own part status none e c = by part (describes_after parts.Parsing
     by parts.Describing d e c = absurd cc
     by _ d e c = absurd d
 
-answers_same : (r : Request) (own : List BackendMessage) (reply : Reply) (status : TransactionStatus) → reply.rest ≡ rest_of r → reply.heading ≡ heading_after (heading_of r) own → part_after (awaits_first r) own ≡ Some reply.part → may_close reply.part ≡ true
+answers_same : (r : Request) (own : List BackendMessage) (reply : Reply) (status : TransactionStatus) → reply.rest ≡ rest_of r → reply.heading ≡ heading_after (heading_of r) own → reply.parameters ≡ parameters_after [] own → part_after (awaits_first r) own ≡ Some reply.part → may_close reply.part ≡ true
     → answer_to (kind_of r) (items_of (heading_of r) (own ++ ReadyForQuery status ∷ [])) status ≡ finished reply.kind reply.tally status
-    → answer_by r (own ++ ReadyForQuery status ∷ []) status ≡ handed_on reply.rest reply.heading.columns (finished reply.kind reply.tally status)
-answers_same (requests.Describe x) own reply status k h p c e =
+    → answer_by r (own ++ ReadyForQuery status ∷ []) status ≡ handed_on reply.rest reply.parameters reply.heading.columns (finished reply.kind reply.tally status)
+answers_same (requests.Describe x) own reply status k h t p c e =
     let r : Request = requests.Describe x in
-    ap (λ (w : Option (List FieldDescription)). Ok (answers.Next (requests.Run (record { how = x.how; statement = x.statement; arguments = x.arguments; columns = w })))) (sym (ap (λ (y : Heading). y.columns) h ∙ described_at (heading_of r) own reply.part status refl p c))
-    ∙ ap (λ (o : Option Bound). handed_on o reply.heading.columns (finished reply.kind reply.tally status)) (sym k)
-answers_same _ own reply status k h p c e = e ∙ ap (λ (o : Option Bound). handed_on o reply.heading.columns (finished reply.kind reply.tally status)) (sym k)
+    ap (λ (w : Option (List FieldDescription)). Ok (answers.Next (requests.Describe (told (parameters_after [] (own ++ ReadyForQuery status ∷ [])) w x)))) (sym (ap (λ (y : Heading). y.columns) h ∙ described_at (heading_of r) own reply.part status refl p c))
+    ∙ ap (λ (w : List ℕ). Ok (answers.Next (requests.Describe (told w reply.heading.columns x)))) (parameters-push [] own (ReadyForQuery status) ∙ sym t)
+    ∙ ap (λ (o : Rest). handed_on o reply.parameters reply.heading.columns (finished reply.kind reply.tally status)) (sym k)
+answers_same (requests.Evict eviction) own reply status k h t p c e = ap (λ (o : Rest). handed_on o reply.parameters reply.heading.columns (finished reply.kind reply.tally status)) (sym k)
+answers_same (requests.Prepare prepared) own reply status k h t p c e = ap (λ (o : Rest). handed_on o reply.parameters reply.heading.columns (finished reply.kind reply.tally status)) (sym k)
+answers_same _ own reply status k h t p c e = e ∙ ap (λ (o : Rest). handed_on o reply.parameters reply.heading.columns (finished reply.kind reply.tally status)) (sym k)
 
 own_closes : (start : Ledger) (r : Request) (said : List FrontendMessage) (hs : List Frame) (items : List CallItem) (reply : Reply) (status : TransactionStatus) → may_close reply.part ≡ true → CanBeSaid r → IsReplying start r said hs items reply
-    → CallTakes start r (said ++ []) (hs ++ backend_frame (ReadyForQuery status) ∷ []) items owes_none calls.Idle (beats.Ends (handed_on reply.rest reply.heading.columns (finished reply.kind reply.tally status)))
+    → CallTakes start r (said ++ []) (hs ++ backend_frame (ReadyForQuery status) ∷ []) items owes_none calls.Idle (beats.Ends (handed_on reply.rest reply.parameters reply.heading.columns (finished reply.kind reply.tally status)))
 unfolding closed_fine
 own_closes start r said hs items reply status closes can i =
-    let answer = handed_on reply.rest reply.heading.columns (finished reply.kind reply.tally status) in
+    let answer = handed_on reply.rest reply.parameters reply.heading.columns (finished reply.kind reply.tally status) in
     let plain : answer_to (kind_of r) (items_of (heading_of r) (i.own ++ ReadyForQuery status ∷ [])) status ≡ finished reply.kind reply.tally status =
     ap (λ (t : List CallItem). answer_to (kind_of r) t status) (items_same (heading_of r) i.own (ReadyForQuery status) (λ h. refl)) ∙ ap (λ (k : Kind). answer_to k (items_of (heading_of r) i.own) status) (sym i.kind_is) ∙ ap (λ (t : Tally). finished reply.kind t status) (sym i.tally_is) in
-    let same = answers_same r i.own reply status i.rest_is i.heading_is i.so_far closes plain in
-    (refl, ends_fine start r (said ++ []) _ items owes_none _ (handed_last reply.rest reply.heading.columns _ (finished_last reply.kind reply.tally status)) (rw (append-nil said) (closed_fine start r said hs items reply i status can, same)), on_ok answer (kind_of r ≡ kinds.Close → ⊥) (λ k. own_not_close r i.one k))
+    let same = answers_same r i.own reply status i.rest_is i.heading_is i.parameters_are i.so_far closes plain in
+    (refl, ends_fine start r (said ++ []) _ items owes_none _ (handed_last reply.rest reply.parameters reply.heading.columns _ (finished_last reply.kind reply.tally status)) (rw (append-nil said) (closed_fine start r said hs items reply i status can, same)), on_ok answer (kind_of r ≡ kinds.Close → ⊥) (λ k. own_not_close r i.one k))
 
 -- ---- a copy that nobody asked for
 
@@ -426,6 +438,7 @@ went_on start r said hs items reply next m have goes z e i =
       so_far = part-push (awaits_first r) reply.part next i.own m i.so_far goes;
       rest_is = i.rest_is;
       heading_is = ap (λ (h : Heading). heading_by h (news_of m)) i.heading_is ∙ sym (heading-push (heading_of r) i.own m);
+      parameters_are = ap (λ (t : List ℕ). parameters_by t (news_of m)) i.parameters_are ∙ sym (parameters-push [] i.own m);
       tally_is = ap (λ (t : Tally). added_all reply.kind t (item_by reply.heading (news_of m))) i.tally_is ∙ tally-more reply.kind (items_of (heading_of r) i.own) (item_by reply.heading (news_of m)) ∙ ap (tally_of reply.kind) added;
       items_are = ap (λ (t : List CallItem). t ++ filter (yields reply.kind) (item_by reply.heading (news_of m))) i.items_are ∙ sym (filter-append (yields reply.kind) (items_of (heading_of r) i.own) (item_by reply.heading (news_of m))) ∙ ap (shown reply.kind) added;
     }
@@ -443,7 +456,7 @@ no_ready (parts.Described columns) next status e = absurd cc
 no_ready (parts.Binding width) next status e = absurd cc
 no_ready (parts.Running width) next status e = absurd cc
 no_ready (parts.RunningOn columns) next status e = absurd cc
-no_ready parts.Closing next status e = absurd cc
+no_ready (parts.Closing more) next status e = absurd cc
 
 no_error : (part next : Part) (details : List ErrorField) → goes_on part (ErrorResponse details) ≡ Some next → ⊥
 no_error parts.First next details e = absurd cc
@@ -457,7 +470,7 @@ no_error (parts.Described columns) next details e = absurd cc
 no_error (parts.Binding width) next details e = absurd cc
 no_error (parts.Running width) next details e = absurd cc
 no_error (parts.RunningOn columns) next details e = absurd cc
-no_error parts.Closing next details e = absurd cc
+no_error (parts.Closing more) next details e = absurd cc
 
 goes_plain : (part next : Part) (m : BackendMessage) → goes_on part m ≡ Some next → (is_ready (backend_frame m) ≡ false) × (is_error (backend_frame m) ≡ false)
 goes_plain part next (ReadyForQuery status) e = absurd (no_ready part next status e)

@@ -19,12 +19,14 @@ use Rattle.pg_call.specs.declared.tally.Tally.{Tally}
 use Rattle.pg_call.specs.declared.ledger.Ledger.{Ledger}
 use Rattle.pg_call.specs.declared.calling.Call.{Call}
 use Rattle.pg_call.specs.declared.calling.Call.TheVariants as calls
-use Rattle.pg_request.specs.Queries.{QueryText, ArgumentsSeen}
-use Rattle.pg_call.specs.declared.kind.How.{How}
-use Rattle.pg_call.specs.Requests.{kind_of, main_kind, first_by, first_of}
+use Rattle.pg_call.specs.declared.statement.Goal.{Goal}
+use Rattle.pg_call.specs.declared.statement.Goal.TheVariants as goals
+use Rattle.pg_call.specs.declared.statement.After.{After}
+use Rattle.pg_call.specs.declared.statement.After.TheVariants as afters
+use Rattle.pg_call.specs.Requests.{kind_of, main_kind, goal_kind, after_kind, request_behind}
 use Rattle.pg_call.specs.Items.{answer_to, own_items, tally_of, yields, finished, one_row, begun}
 use Rattle.pg_call.specs.Answers.{AnswerFits}
-use Rattle.pg_call.specs.Calls.{CallIs, answer_by, answer_or_next, next_of}
+use Rattle.pg_call.specs.Calls.{CallIs, answer_by, answer_or_next, next_of, own_answer}
 
 -- the last of the items that pass has passed
 all_pass : (t : CallItem → Bool) (xs zs : List CallItem) (y : CallItem) → xs ++ y ∷ [] ≡ filter t zs → t y ≡ true
@@ -73,36 +75,61 @@ begun_fits statuses.Transaction answer e = subst (AnswerFits kinds.Begin) (the_o
 begun_fits statuses.Idle answer e = absurd cc
 begun_fits statuses.Error answer e = absurd cc
 
-finished_fits : (kind : Kind) (t : Tally) (status : TransactionStatus) (answer : CallAnswer) → (kind ≡ kinds.Describe → ⊥) → finished kind t status ≡ Ok answer → AnswerFits kind answer
-finished_fits (kinds.Run hows.Execute) t status answer n e = subst (AnswerFits (kinds.Run hows.Execute)) (the_ok _ _ e) tt
-finished_fits (kinds.Run hows.ExecuteMany) t status answer n e = subst (AnswerFits (kinds.Run hows.ExecuteMany)) (the_ok _ _ e) tt
-finished_fits (kinds.Run hows.Fetch) t status answer n e = subst (AnswerFits (kinds.Run hows.Fetch)) (the_ok _ _ e) tt
-finished_fits (kinds.Run hows.FetchMany) t status answer n e = subst (AnswerFits (kinds.Run hows.FetchMany)) (the_ok _ _ e) tt
-finished_fits (kinds.Run hows.FetchAll) t status answer n e = subst (AnswerFits (kinds.Run hows.FetchAll)) (the_ok _ _ e) tt
-finished_fits (kinds.Run hows.FetchOptional) t status answer n e = subst (AnswerFits (kinds.Run hows.FetchOptional)) (the_ok _ _ e) tt
-finished_fits (kinds.Run hows.FetchOne) t status answer n e = one_fits t.first answer e
-finished_fits kinds.Begin t status answer n e = begun_fits status answer e
-finished_fits kinds.Commit t status answer n e = subst (AnswerFits kinds.Commit) (the_ok _ _ e) tt
-finished_fits kinds.Rollback t status answer n e = subst (AnswerFits kinds.Rollback) (the_ok _ _ e) tt
-finished_fits kinds.Ping t status answer n e = subst (AnswerFits kinds.Ping) (the_ok _ _ e) tt
-finished_fits kinds.Flush t status answer n e = subst (AnswerFits kinds.Flush) (the_ok _ _ e) tt
-finished_fits kinds.Close t status answer n e = subst (AnswerFits kinds.Close) (the_ok _ _ e) tt
-finished_fits kinds.Describe t status answer n e = absurd (n refl)
+finished_fits : (kind : Kind) (t : Tally) (status : TransactionStatus) (answer : CallAnswer) → (kind ≡ kinds.Describe → ⊥) → (kind ≡ kinds.Prepare → ⊥) → finished kind t status ≡ Ok answer → AnswerFits kind answer
+finished_fits (kinds.Run hows.Execute) t status answer n m e = subst (AnswerFits (kinds.Run hows.Execute)) (the_ok _ _ e) tt
+finished_fits (kinds.Run hows.ExecuteMany) t status answer n m e = subst (AnswerFits (kinds.Run hows.ExecuteMany)) (the_ok _ _ e) tt
+finished_fits (kinds.Run hows.Fetch) t status answer n m e = subst (AnswerFits (kinds.Run hows.Fetch)) (the_ok _ _ e) tt
+finished_fits (kinds.Run hows.FetchMany) t status answer n m e = subst (AnswerFits (kinds.Run hows.FetchMany)) (the_ok _ _ e) tt
+finished_fits (kinds.Run hows.FetchAll) t status answer n m e = subst (AnswerFits (kinds.Run hows.FetchAll)) (the_ok _ _ e) tt
+finished_fits (kinds.Run hows.FetchOptional) t status answer n m e = subst (AnswerFits (kinds.Run hows.FetchOptional)) (the_ok _ _ e) tt
+finished_fits (kinds.Run hows.FetchOne) t status answer n m e = one_fits t.first answer e
+finished_fits kinds.Begin t status answer n m e = begun_fits status answer e
+finished_fits kinds.Commit t status answer n m e = subst (AnswerFits kinds.Commit) (the_ok _ _ e) tt
+finished_fits kinds.Rollback t status answer n m e = subst (AnswerFits kinds.Rollback) (the_ok _ _ e) tt
+finished_fits kinds.Ping t status answer n m e = subst (AnswerFits kinds.Ping) (the_ok _ _ e) tt
+finished_fits kinds.Flush t status answer n m e = subst (AnswerFits kinds.Flush) (the_ok _ _ e) tt
+finished_fits kinds.Close t status answer n m e = subst (AnswerFits kinds.Close) (the_ok _ _ e) tt
+finished_fits kinds.Clear t status answer n m e = subst (AnswerFits kinds.Clear) (the_ok _ _ e) tt
+finished_fits kinds.Describe t status answer n m e = absurd (n refl)
+finished_fits kinds.Prepare t status answer n m e = absurd (m refl)
 
 no_description : (r : Request) (reply : List BackendMessage) → next_of r reply ≡ None → kind_of r ≡ kinds.Describe → ⊥
 no_description (requests.Describe extended) reply n k = cc
+no_description (requests.Evict eviction) reply n k = cc
 no_description (requests.Run bound) reply n k = cc
 no_description _ reply n k = cc
+
+own_fits : (r : Request) (t : Tally) (status : TransactionStatus) (answer : CallAnswer) → (kind_of r ≡ kinds.Describe → ⊥) → own_answer r (finished (kind_of r) t status) ≡ Ok answer → AnswerFits (kind_of r) answer
+own_fits (requests.Prepare prepared) t status answer n e = subst (AnswerFits kinds.Prepare) (the_ok _ _ e) tt
+own_fits (requests.Run bound) t status answer n e = finished_fits (kinds.Run bound.how) t status answer n (λ k. cc) e
+own_fits (requests.Describe extended) t status answer n e = absurd (n refl)
+own_fits (requests.Evict eviction) t status answer n e = absurd (n refl)
+own_fits (requests.Execute query) t status answer n e = finished_fits (kinds.Run hows.Execute) t status answer n (λ k. cc) e
+own_fits (requests.ExecuteMany query) t status answer n e = finished_fits (kinds.Run hows.ExecuteMany) t status answer n (λ k. cc) e
+own_fits (requests.Fetch query) t status answer n e = finished_fits (kinds.Run hows.Fetch) t status answer n (λ k. cc) e
+own_fits (requests.FetchMany query) t status answer n e = finished_fits (kinds.Run hows.FetchMany) t status answer n (λ k. cc) e
+own_fits (requests.FetchAll query) t status answer n e = finished_fits (kinds.Run hows.FetchAll) t status answer n (λ k. cc) e
+own_fits (requests.FetchOptional query) t status answer n e = finished_fits (kinds.Run hows.FetchOptional) t status answer n (λ k. cc) e
+own_fits (requests.FetchOne query) t status answer n e = finished_fits (kinds.Run hows.FetchOne) t status answer n (λ k. cc) e
+own_fits (requests.Begin depth) t status answer n e = finished_fits kinds.Begin t status answer n (λ k. cc) e
+own_fits (requests.BeginWith query) t status answer n e = finished_fits kinds.Begin t status answer n (λ k. cc) e
+own_fits (requests.Commit left) t status answer n e = finished_fits kinds.Commit t status answer n (λ k. cc) e
+own_fits (requests.Rollback left) t status answer n e = finished_fits kinds.Rollback t status answer n (λ k. cc) e
+own_fits (requests.Clear statements) t status answer n e = finished_fits kinds.Clear t status answer n (λ k. cc) e
+own_fits requests.Ping t status answer n e = finished_fits kinds.Ping t status answer n (λ k. cc) e
+own_fits requests.Flush t status answer n e = finished_fits kinds.Flush t status answer n (λ k. cc) e
+own_fits requests.Close t status answer n e = finished_fits kinds.Close t status answer n (λ k. cc) e
 
 pub answers_fit : (r : Request) (reply : List BackendMessage) (status : TransactionStatus) (answer : CallAnswer) → answer_by r reply status ≡ Ok answer → AnswerFits (kind_of r) answer
 answers_fit r reply status answer e = by r (next_of r reply) refl e
   where
     handed : (r : Request) (reply : List BackendMessage) (next : Request) → next_of r reply ≡ Some next → AnswerFits (kind_of r) (answers.Next next)
     handed (requests.Describe extended) reply next k = tt
+    handed (requests.Evict eviction) reply next k = tt
     handed _ reply next k = absurd cc
 
-    by : (r : Request) (o : Option Request) → next_of r reply ≡ o → answer_or_next o (answer_to (kind_of r) (own_items r reply) status) ≡ Ok answer → AnswerFits (kind_of r) answer
-    by r None k e = finished_fits (kind_of r) (tally_of (kind_of r) (own_items r reply)) status answer (no_description r reply k) e
+    by : (r : Request) (o : Option Request) → next_of r reply ≡ o → answer_or_next o (own_answer r (answer_to (kind_of r) (own_items r reply) status)) ≡ Ok answer → AnswerFits (kind_of r) answer
+    by r None k e = own_fits r (tally_of (kind_of r) (own_items r reply)) status answer (no_description r reply k) e
     by r (Some next) k e = subst (AnswerFits (kind_of r)) (the_ok _ _ e) (handed r reply next k)
 
 -- ---- the exchanges of a call
@@ -120,6 +147,8 @@ next_fits (kinds.Run hows.FetchMany) next f = absurd f
 next_fits (kinds.Run hows.FetchAll) next f = absurd f
 next_fits (kinds.Run hows.FetchOptional) next f = absurd f
 next_fits (kinds.Run hows.FetchOne) next f = absurd f
+next_fits kinds.Prepare next f = absurd f
+next_fits kinds.Clear next f = absurd f
 next_fits kinds.Begin next f = absurd f
 next_fits kinds.Commit next f = absurd f
 next_fits kinds.Rollback next f = absurd f
@@ -133,39 +162,35 @@ hands_on_described r reply status next e = next_fits (kind_of r) next (answers_f
 the_next : (x y : Request) → answers.Next x ≡ answers.Next y → x ≡ y
 the_next x y e = cc
 
+behind_kind : (after : After) → main_kind (request_behind after) ≡ after_kind after
+behind_kind (afters.Run bound) = refl
+behind_kind (afters.Prepare prepared) = refl
+
 -- what is handed on is of the call's kind, and is what was to be asked next
-pub next_is : (r : Request) (reply : List BackendMessage) (status : TransactionStatus) (next : Request) → answer_by r reply status ≡ Ok (answers.Next next) → (kind_of next ≡ main_kind r) × (next_of r reply ≡ Some next)
+pub next_is : (r : Request) (reply : List BackendMessage) (status : TransactionStatus) (next : Request) → answer_by r reply status ≡ Ok (answers.Next next) → (main_kind next ≡ main_kind r) × (next_of r reply ≡ Some next)
 next_is r reply status next e = by r (hands_on_described r reply status next e) e
   where
-    by : (r : Request) → IsDescribe (kind_of r) → answer_by r reply status ≡ Ok (answers.Next next) → (kind_of next ≡ main_kind r) × (next_of r reply ≡ Some next)
+    by : (r : Request) → IsDescribe (kind_of r) → answer_by r reply status ≡ Ok (answers.Next next) → (main_kind next ≡ main_kind r) × (next_of r reply ≡ Some next)
     by (requests.Describe x) k e =
         let is = the_next _ next (the_ok _ _ e) in
-        (ap (λ (n : Request). kind_of n) (sym is), ap (λ (n : Request). Some n) is)
+        (ap (λ (n : Request). main_kind n) (sym is), ap (λ (n : Request). Some n) is)
+    by (requests.Evict eviction) k e =
+        let is = the_next _ next (the_ok _ _ e) in
+        (ap (λ (n : Request). main_kind n) (sym is) ∙ behind_kind eviction.after, ap (λ (n : Request). Some n) is)
     by (requests.Run bound) k e = absurd cc
     by _ k e = absurd cc
-
--- the first exchange of a call is of its kind
-first_main : (kind : Kind) (how : How) (query : QueryText) (o : Option ArgumentsSeen) (r : Request) → kinds.Run how ≡ kind → main_kind r ≡ kind → main_kind (first_by how query o r) ≡ kind
-first_main kind how query None r k e = e
-first_main kind how query (Some arguments) r k e = k
-
-pub main_first : (r : Request) → main_kind (first_of r) ≡ main_kind r
-main_first (requests.Execute query) = first_main _ hows.Execute query query.arguments (requests.Execute query) refl refl
-main_first (requests.ExecuteMany query) = first_main _ hows.ExecuteMany query query.arguments (requests.ExecuteMany query) refl refl
-main_first (requests.Fetch query) = first_main _ hows.Fetch query query.arguments (requests.Fetch query) refl refl
-main_first (requests.FetchMany query) = first_main _ hows.FetchMany query query.arguments (requests.FetchMany query) refl refl
-main_first (requests.FetchAll query) = first_main _ hows.FetchAll query query.arguments (requests.FetchAll query) refl refl
-main_first (requests.FetchOptional query) = first_main _ hows.FetchOptional query query.arguments (requests.FetchOptional query) refl refl
-main_first (requests.FetchOne query) = first_main _ hows.FetchOne query query.arguments (requests.FetchOne query) refl refl
-main_first _ = refl
 
 -- what an exchange shows is of the call's kind, and so is what it answers, where that is no further exchange
 pub shows_main : (r : Request) (item : CallItem) → yields (kind_of r) item ≡ true → yields (main_kind r) item ≡ true
 shows_main (requests.Describe x) item e = absurd cc
+shows_main (requests.Evict eviction) item e = absurd cc
 shows_main _ item e = e
 
 pub answers_main : (r : Request) (reply : List BackendMessage) (status : TransactionStatus) (answer : CallAnswer) → answer_by r reply status ≡ Ok answer → ((next : Request) → answer ≡ answers.Next next → ⊥) → AnswerFits (main_kind r) answer
 answers_main (requests.Describe x) reply status answer e n = absurd (n _ (sym (the_ok _ _ e)))
+answers_main (requests.Evict eviction) reply status answer e n = absurd (n _ (sym (the_ok _ _ e)))
+answers_main (requests.Prepare prepared) reply status answer e n = answers_fit (requests.Prepare prepared) reply status answer e
+answers_main (requests.Clear statements) reply status answer e n = answers_fit (requests.Clear statements) reply status answer e
 answers_main (requests.Run bound) reply status answer e n = answers_fit (requests.Run bound) reply status answer e
 answers_main (requests.Execute query) reply status answer e n = answers_fit (requests.Execute query) reply status answer e
 answers_main (requests.ExecuteMany query) reply status answer e n = answers_fit (requests.ExecuteMany query) reply status answer e
@@ -182,13 +207,23 @@ answers_main requests.Ping reply status answer e n = answers_fit requests.Ping r
 answers_main requests.Flush reply status answer e n = answers_fit requests.Flush reply status answer e
 answers_main requests.Close reply status answer e n = answers_fit requests.Close reply status answer e
 
+goal_describes_none : (goal : Goal) → goal_kind goal ≡ kinds.Describe → ⊥
+goal_describes_none (goals.Run how) e = cc
+goal_describes_none goals.Prepare e = cc
+
+after_describes_none : (after : After) → after_kind after ≡ kinds.Describe → ⊥
+after_describes_none (afters.Run bound) e = cc
+after_describes_none (afters.Prepare prepared) e = cc
+
 -- no call is a description as a whole
 pub main_describes_none : (r : Request) → main_kind r ≡ kinds.Describe → ⊥
-main_describes_none (requests.Describe x) e = cc
+main_describes_none (requests.Describe x) e = goal_describes_none x.goal e
+main_describes_none (requests.Evict eviction) e = after_describes_none eviction.after e
 main_describes_none (requests.Run bound) e = cc
 main_describes_none _ e = cc
 
 -- an exchange that isn't a description is its call's
 pub main_alone : (r : Request) → (kind_of r ≡ kinds.Describe → ⊥) → main_kind r ≡ kind_of r
 main_alone (requests.Describe x) n = absurd (n refl)
+main_alone (requests.Evict eviction) n = absurd (n refl)
 main_alone _ n = refl

@@ -9,7 +9,7 @@ use Rattle.pg_call.specs.declared.kind.Kind.{Kind}
 use Rattle.pg_call.specs.declared.answer.CallItem.{CallItem}
 use Rattle.pg_call.specs.declared.answer.CallItem.TheVariants.{Row, Count}
 use Rattle.pg_call.specs.declared.tally.Tally.{Tally}
-use Rattle.pg_call.specs.Items.{news_of, heading_by, heading_after, item_by, items_of, row_in, rows_in, count_in, total_of, first_row, first_of, keeps_all, keeps_first, tally_of, added}
+use Rattle.pg_call.specs.Items.{news_of, heading_by, heading_after, parameters_by, parameters_after, item_by, items_of, row_in, rows_in, count_in, total_of, first_row, first_of, keeps_all, keeps_first, tally_of, added}
 use Rattle.pg_call.specs.Hearing.{added_all}
 
 pub items-push : (h : Heading) (ms : List BackendMessage) (m : BackendMessage) → items_of h (ms ++ m ∷ []) ≡ items_of h ms ++ item_by (heading_after h ms) (news_of m)
@@ -21,6 +21,10 @@ items-push h (x ∷ xs) m =
 pub heading-push : (h : Heading) (ms : List BackendMessage) (m : BackendMessage) → heading_after h (ms ++ m ∷ []) ≡ heading_by (heading_after h ms) (news_of m)
 heading-push h [] m = refl
 heading-push h (x ∷ xs) m = heading-push (heading_by h (news_of x)) xs m
+
+pub parameters-push : (types : List ℕ) (ms : List BackendMessage) (m : BackendMessage) → parameters_after types (ms ++ m ∷ []) ≡ parameters_by (parameters_after types ms) (news_of m)
+parameters-push types [] m = refl
+parameters-push types (x ∷ xs) m = parameters-push (parameters_by types (news_of x)) xs m
 
 rows-push : (xs : List CallItem) (i : CallItem) → rows_in (xs ++ i ∷ []) ≡ rows_in xs ++ row_in i
 rows-push xs i = flat_map-append row_in xs (i ∷ []) ∙ ap (λ (t : List RowSeen). rows_in xs ++ t) (append-nil (row_in i))

@@ -16,10 +16,11 @@ use Rattle.pg_call.specs.declared.ledger.Ledger.{Ledger}
 use Rattle.pg_call.specs.declared.waiting.Waiting.{Waiting}
 use Rattle.pg_call.specs.declared.calling.Call.{Call}
 use Rattle.pg_call.specs.declared.calling.Call.TheVariants as calls
-use Rattle.pg_call.specs.Requests.{Group, said_in, kind_of, groups_of, messages_of, farewell, is_flush, is_close, CanBeSaid}
+use Rattle.pg_call.specs.Requests.{Group, said_in, kind_of, groups_of, messages_of, farewell, is_flush, is_close, CanBeSaid, rest_of}
 use Rattle.pg_call.specs.declared.tally.Tally.{Tally}
 use Rattle.pg_call.specs.Items.{shown, empty_tally, tally_of, keeps_all, keeps_first}
-use Rattle.pg_call.specs.Hearing.{fresh_reply}
+use Rattle.pg_call.specs.Hearing.{fresh_reply, sent_rest}
+use Rattle.pg_call.specs.declared.statement.Rest.{Rest}
 use Rattle.pg_call.specs.Drains.{is_error, before_readys, after_readys, drain_fails}
 use Rattle.pg_call.specs.Calls.{answer_by, CallIs, IsDraining, IsClosing, Leaves, IsFine, EndsByReady, CallEnds, owes_own}
 use Rattle.pg_call.proofs.DrainLaws.{count-cons, after_nil, before_nil}
@@ -128,8 +129,11 @@ call_well start r said hs items ledger calls.Idle i = absurd i
 
 -- ---- the end of a flush and of a close
 
-no_groups_flush : (r : Request) → is_flush (kind_of r) ≡ true → (groups_of r ≡ []) × (messages_of r ≡ []) × (kind_of r ≡ kinds.Flush)
-no_groups_flush requests.Flush e = (refl, refl, refl)
+no_groups_flush : (r : Request) → is_flush (kind_of r) ≡ true → (groups_of r ≡ []) × (messages_of r ≡ [])
+no_groups_flush requests.Flush e = (refl, refl)
+no_groups_flush (requests.Prepare prepared) e = (refl, refl)
+no_groups_flush (requests.Evict eviction) e = absurd cc
+no_groups_flush (requests.Clear statements) e = absurd cc
 no_groups_flush requests.Ping e = absurd cc
 no_groups_flush (requests.Describe extended) e = absurd cc
 no_groups_flush (requests.Run bound) e = absurd cc
@@ -146,10 +150,13 @@ no_groups_flush (requests.BeginWith query) e = absurd cc
 no_groups_flush (requests.Commit left) e = absurd cc
 no_groups_flush (requests.Rollback left) e = absurd cc
 
--- a flush and a close are told by their kinds
-flush_alone : (r : Request) → is_flush (kind_of r) ≡ true → requests.Flush ≡ r
-flush_alone requests.Flush e = refl
-flush_alone _ e = absurd cc
+-- what it answers: the statement that it tells of, where there is one
+sent_by : (r : Request) → is_flush (kind_of r) ≡ true → answer_by r [] statuses.Idle ≡ Ok (sent_rest (rest_of r))
+sent_by requests.Flush e = refl
+sent_by (requests.Prepare prepared) e = refl
+sent_by _ e = absurd cc
+
+-- a close is told by its kind
 
 close_alone : (r : Request) → kind_of r ≡ kinds.Close → requests.Close ≡ r
 close_alone requests.Close e = refl
@@ -173,11 +180,11 @@ fine_drained start r said drained hs items ledger failed can none owes s d = rec
 }
 
 pub flush_fine : (start : Ledger) (r : Request) (said : List FrontendMessage) (hs : List Frame) (items : List CallItem) (ledger : Ledger) (w : Waiting) → is_flush w.kind ≡ true → ledger.owed ≡ 0 → CallIs start r said hs items ledger (calls.Waiting w)
-    → CallEnds start r said hs items ledger (Ok answers.Unit)
+    → CallEnds start r said hs items ledger (Ok (sent_rest w.rest))
 unfolding fine_drained
 flush_fine start r said hs items ledger w f z i =
     let g = no_groups_flush r (rw i.0 at f) in
-    (fine_drained start r said said hs items ledger w.is_copy_failed i.2 g.0 z (sym (append-nil said) ∙ ap (λ (t : List FrontendMessage). said ++ t) (sym g.1)) i.3, subst (λ (x : Request). answer_by x [] statuses.Idle ≡ Ok answers.Unit) (flush_alone r (rw i.0 at f)) refl)
+    (fine_drained start r said said hs items ledger w.is_copy_failed i.2 g.0 z (sym (append-nil said) ∙ ap (λ (t : List FrontendMessage). said ++ t) (sym g.1)) i.3, sent_by r (rw i.0 at f) ∙ ap (λ (t : Rest). Ok (sent_rest t)) (sym i.5))
 
 pub closing_fine : (start : Ledger) (r : Request) (said : List FrontendMessage) (hs : List Frame) (items : List CallItem) (ledger : Ledger) → CallIs start r said hs items ledger calls.Closing → CallEnds start r said hs items ledger (Ok answers.Unit)
 unfolding fine_drained
@@ -202,6 +209,9 @@ one_of (requests.Commit left) f c = (refl, refl)
 one_of (requests.Rollback left) f c = (refl, refl)
 one_of (requests.Describe extended) f c = (refl, refl)
 one_of (requests.Run bound) f c = (refl, refl)
+one_of (requests.Evict eviction) f c = (refl, refl)
+one_of (requests.Clear statements) f c = (refl, sym (append-nil (said_in (groups_of (requests.Clear statements)))))
+one_of (requests.Prepare prepared) f c = absurd cc
 one_of requests.Ping f c = (refl, refl)
 one_of requests.Flush f c = absurd cc
 one_of requests.Close f c = absurd cc
@@ -209,6 +219,9 @@ one_of requests.Close f c = absurd cc
 close_kind : (r : Request) → is_close (kind_of r) ≡ true → kind_of r ≡ kinds.Close
 close_kind requests.Close e = refl
 close_kind requests.Flush e = absurd cc
+close_kind (requests.Evict eviction) e = absurd cc
+close_kind (requests.Clear statements) e = absurd cc
+close_kind (requests.Prepare prepared) e = absurd cc
 close_kind requests.Ping e = absurd cc
 close_kind (requests.Describe extended) e = absurd cc
 close_kind (requests.Run bound) e = absurd cc
@@ -256,6 +269,7 @@ replying_from start r said hs items ledger w f c z i =
         so_far = ap (λ (p : Part). Some p) (sym i.4);
         rest_is = i.5;
         heading_is = i.6;
+        parameters_are = refl;
         tally_is = tally_nil w.kind;
         items_are = d.items_are;
       },

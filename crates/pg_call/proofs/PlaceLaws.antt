@@ -10,7 +10,7 @@ use Rattle.pg_wire.specs.Decoding.{Says}
 use Rattle.pg_wire.proofs.Unique.{backend_frame_unique}
 use Rattle.pg_call.specs.declared.judging.Part.{Part}
 use Rattle.pg_call.specs.declared.judging.Part.TheVariants.{First, Further, Rows, Synced, Parsing, Typing, Describing, Described, Binding, Running, RunningOn, Closing}
-use Rattle.pg_call.specs.Replies.{goes_on, goes_plainly, may_copy, may_close, after_row, after_bind, after_columns, after_end, tags_of, MayNotCome, IsAny, IsFault, Judges}
+use Rattle.pg_call.specs.Replies.{goes_on, goes_plainly, may_copy, may_close, after_row, after_bind, after_close, after_columns, after_end, tags_of, MayNotCome, IsAny, IsFault, Judges}
 use Rattle.pg_call.specs.declared.judging.Verdict.{Verdict}
 use Rattle.pg_call.specs.declared.judging.News.TheVariants.{Nothing}
 use Rattle.pg_call.specs.Items.{news_of}
@@ -43,9 +43,9 @@ pub binds_at : (part : Part) → is_known (tags_of part) 50 ≡ true → goes_on
 binds_at (Binding width) k = refl
 binds_at _ k = absurd cc
 
-pub closes_portal_at : (part : Part) → is_known (tags_of part) 51 ≡ true → goes_on part CloseComplete ≡ Some Synced
-closes_portal_at Closing k = refl
-closes_portal_at _ k = absurd cc
+pub closes_one_at : (part : Part) → is_known (tags_of part) 51 ≡ true → goes_on part CloseComplete ≡ Some (after_close part)
+closes_one_at (Closing more) k = refl
+closes_one_at _ k = absurd cc
 
 pub ends_at : (part : Part) (tag : List ℕ) → is_known (tags_of part) 67 ≡ true → goes_on part (CommandComplete tag) ≡ Some (after_end part)
 ends_at First tag k = refl
@@ -136,10 +136,10 @@ untold (RunningOn columns) EmptyQueryResponse k = absurd cc
 untold (RunningOn columns) (ErrorResponse details) k = absurd cc
 untold (RunningOn columns) (ReadyForQuery status) k = refl
 untold (RunningOn columns) _ k = (refl, refl)
-untold Closing CloseComplete k = absurd cc
-untold Closing (ErrorResponse details) k = absurd cc
-untold Closing (ReadyForQuery status) k = refl
-untold Closing _ k = (refl, refl)
+untold (Closing more) CloseComplete k = absurd cc
+untold (Closing more) (ErrorResponse details) k = absurd cc
+untold (Closing more) (ReadyForQuery status) k = refl
+untold (Closing more) _ k = (refl, refl)
 
 out_of_place : (part : Part) (m : BackendMessage) (tag : ℕ) (body : List ℕ) → Says tag body m → is_known (tags_of part) tag ≡ false → MayNotCome part m
 out_of_place part m tag body s k = untold part m (ap (λ (f : Frame). is_known (tags_of part) f.tag) s.1 ∙ k)
@@ -168,7 +168,7 @@ row_goes Typing next values e = absurd cc
 row_goes Describing next values e = absurd cc
 row_goes (Described columns) next values e = absurd cc
 row_goes (Binding width) next values e = absurd cc
-row_goes Closing next values e = absurd cc
+row_goes (Closing more) next values e = absurd cc
 
 unfitting : (part : Part) (values : Values) → after_row part (length values) ≡ None → MayNotCome part (DataRow values)
 unfitting (Rows columns) values e = (e, refl)
@@ -182,7 +182,7 @@ unfitting Typing values e = (refl, refl)
 unfitting Describing values e = (refl, refl)
 unfitting (Described columns) values e = (refl, refl)
 unfitting (Binding width) values e = (refl, refl)
-unfitting Closing values e = (refl, refl)
+unfitting (Closing more) values e = (refl, refl)
 
 pub other_width : (part : Part) (values : Values) (body : List ℕ) (e : Error) → Says 68 body (DataRow values) → after_row part (length values) ≡ None → IsFault IsAny 68 body e → Judges part 68 body (Err e)
 other_width part values body e s n h =

@@ -6,7 +6,7 @@ use Rattle.pg_wire.specs.declared.error.CallerFault.{CallerFault}
 use Rattle.pg_wire.specs.declared.error.ProtocolFault.TheVariants as protocol
 use Rattle.pg_wire.specs.Encoding.{Refuses}
 use Rattle.pg_request.specs.Queries.{QueryText}
-use Rattle.pg_call.specs.declared.request.Extended.{Extended}
+use Rattle.pg_call.specs.declared.statement.Extended.{Extended}
 use Rattle.pg_call.specs.declared.request.Request.{Request}
 use Rattle.pg_call.specs.declared.request.Request.TheVariants as requests
 use Rattle.pg_call.specs.Requests.{query_of, RefusesQuery, RefusesExtended, IsRefusal}
@@ -42,6 +42,9 @@ refusal_is (requests.Begin depth) e h = query_is (query_of (requests.Begin depth
 refusal_is (requests.BeginWith query) e h = query_is (Some query) e h
 refusal_is (requests.Commit left) e h = query_is (query_of (requests.Commit left)) e h
 refusal_is (requests.Rollback left) e h = query_is (query_of (requests.Rollback left)) e h
+refusal_is (requests.Evict eviction) e h = query_is None e h
+refusal_is (requests.Prepare prepared) e h = query_is None e h
+refusal_is (requests.Clear statements) e h = query_is None e h
 refusal_is requests.Ping e h = query_is None e h
 refusal_is requests.Flush e h = query_is None e h
 refusal_is requests.Close e h = query_is None e h
@@ -50,6 +53,9 @@ refusal_is requests.Close e h = query_is None e h
 pub memory_refuses : (r : Request) → IsRefusal r errors.OutOfMemory
 memory_refuses (requests.Describe extended) = tt
 memory_refuses (requests.Run bound) = tt
+memory_refuses (requests.Evict eviction) = refl
+memory_refuses (requests.Prepare prepared) = refl
+memory_refuses (requests.Clear statements) = refl
 memory_refuses requests.Ping = refl
 memory_refuses requests.Flush = refl
 memory_refuses requests.Close = refl

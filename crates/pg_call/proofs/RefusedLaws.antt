@@ -1,17 +1,19 @@
 -- A message that may not come begins no response of any server, and a copy that may come begins one.
-use Rattle.std.proofs.Common.{◌≡◌, ◌∙◌, ℕ, Bool, true, false, cond, ◌==◌, inl, inr, List, [], ◌∷◌, ◌++◌, length, map, refl, sym, ap, subst, Option, Some, None, option_and_then}
+use Rattle.std.proofs.Common.{◌≡◌, ◌∙◌, ℕ, zero, suc, ◌-◌, nat_eq, arith, replicate, Bool, true, false, cond, ◌==◌, inl, inr, List, [], ◌∷◌, ◌++◌, length, map, refl, sym, ap, subst, Option, Some, None, option_and_then}
 use Rattle.std.specs.List.{AllByRecursion}
+use Rattle.std.proofs.lemmas.Bool.{eqb-true}
 use Rattle.std.proofs.lemmas.Option.{same_Some}
 use Rattle.std.proofs.lemmas.Slice.Eq.{bytes_eq-Decides}
 use Rattle.pg_wire.specs.declared.status.TransactionStatus.{TransactionStatus}
 use Rattle.pg_wire.specs.Frame.{Frame}
-use Rattle.pg_wire.specs.Frontend.{Query, Parse, DescribeStatement, Bind, Execute, ClosePortal}
+use Rattle.pg_wire.specs.Frontend.{Query, Parse, DescribeStatement, Bind, Execute, CloseStatement, ClosePortal}
 use Rattle.pg_wire.specs.Backend.{BackendMessage, backend_frame, HasBackendFrame, ReadyForQuery, RowDescription, DataRow, CommandComplete, ErrorResponse, EmptyQueryResponse, ParameterDescription, ParseComplete, BindComplete, CloseComplete, NoData, CopyInResponse, CopyOutResponse}
 use Rattle.pg_wire.specs.Acceptor.{Awaits, FirstSegment, FurtherSegment, RowsOf, next, accepts}
-use Rattle.pg_wire.specs.Groups.{IsGroup}
+use Rattle.pg_wire.specs.Groups.{IsGroup, IsInner}
 use Rattle.pg_wire.specs.Refusals.{BeginsCopyResponse, MayBeginCopy}
-use Rattle.pg_exchanges.specs.Expecting.{Closes, Expected, InQuery, in_query, rows_on, following, behind, expected, width_at, MayCopy, BeginsKnowing}
+use Rattle.pg_exchanges.specs.Expecting.{Step, Closes, Expected, steps_of, InQuery, InSteps, in_query, rows_on, following, behind, expected, width_at, MayCopy, BeginsKnowing}
 use Rattle.pg_exchanges.specs.Answering.{described, running}
+use Rattle.pg_exchanges.specs.Answering.{closing as closing_group}
 use Rattle.pg_exchanges.proofs.ExpectingLaws.{refused_begins_no_group_response}
 use Rattle.pg_call.proofs.CopyBegun.{copy_begins_response, copy_begins_run}
 use Rattle.pg_call.specs.declared.request.Request.{Request}
@@ -21,7 +23,7 @@ use Rattle.pg_call.specs.declared.judging.Part.TheVariants.{First, Further, Rows
 use Rattle.pg_rows.specs.declared.heading.Heading.{Heading}
 use Rattle.pg_call.specs.Requests.{Group, groups_of, known, name_of, width_of, widths_of}
 use Rattle.pg_call.specs.Items.{heading_after}
-use Rattle.pg_call.specs.Replies.{awaited, awaits_first, begins, goes_on, part_after, may_copy, MayNotCome}
+use Rattle.pg_call.specs.Replies.{awaited, awaits_first, begins, closing, goes_on, part_after, may_copy, MayNotCome}
 
 -- ---- the reply goes on as the protocol says
 
@@ -49,6 +51,17 @@ of_portal : (columns : ℕ) (b : Bool) → Leads (rows_on (Closes ∷ []) (cond 
 of_portal columns true = refl
 of_portal columns false = tt
 
+closing_suc : (more : ℕ) → closing (suc more) ≡ Closing more
+closing_suc more = by (nat_eq (suc more) 0) refl
+  where
+    by : (b : Bool) → nat_eq (suc more) 0 ≡ b → cond b Synced (Closing (suc more - 1)) ≡ Closing more
+    by true e = let z = eqb-true (suc more) 0 e in absurd (omega (arith, z))
+    by false e = let same : suc more - 1 ≡ more = omega arith in ap (λ (n : ℕ). Closing n) same
+
+closes_on : (more : ℕ) → Leads (Some (InSteps (replicate more Closes))) (Some (closing more))
+closes_on zero = refl
+closes_on (suc more) = subst (λ (p : Part). Leads (Some (InSteps (replicate (suc more) Closes))) (Some p)) (sym (closing_suc more)) refl
+
 gone : (part : Part) (m : BackendMessage) → Leads (following (awaited part) m) (goes_on part m)
 gone First m = begun m
 gone Further m = begun_further m
@@ -75,8 +88,8 @@ gone (RunningOn columns) (DataRow values) = of_portal columns (length values == 
 gone (RunningOn columns) (CommandComplete tag) = refl
 gone (RunningOn columns) EmptyQueryResponse = refl
 gone (RunningOn columns) _ = tt
-gone Closing CloseComplete = refl
-gone Closing _ = tt
+gone (Closing more) CloseComplete = closes_on more
+gone (Closing more) _ = tt
 
 followed : (part next : Part) (m : BackendMessage) → goes_on part m ≡ Some next → following (awaited part) m ≡ Some (awaited next)
 followed part next m e = subst (Leads (following (awaited part) m)) e (gone part m)
@@ -152,9 +165,9 @@ refused (RunningOn columns) (CommandComplete tag) h = absurd cc
 refused (RunningOn columns) EmptyQueryResponse h = absurd cc
 refused (RunningOn columns) (ErrorResponse details) h = absurd h
 refused (RunningOn columns) _ h = (refl, λ x. x)
-refused Closing CloseComplete h = absurd cc
-refused Closing (ErrorResponse details) h = absurd h
-refused Closing _ h = (refl, λ x. x)
+refused (Closing more) CloseComplete h = absurd cc
+refused (Closing more) (ErrorResponse details) h = absurd h
+refused (Closing more) _ h = (refl, λ x. x)
 
 -- ---- the groups that calls queue
 
@@ -163,6 +176,10 @@ the_first g h e = cc
 
 none_first : (h : Group) → [] ≡ h ∷ [] → ⊥
 none_first h e = cc
+
+closes_end : (names : List (List ℕ)) → AllByRecursion IsInner (map CloseStatement names)
+closes_end [] = tt
+closes_end (name ∷ names) = (tt, closes_end names)
 
 pub groups_are : (r : Request) → AllByRecursion IsGroup (groups_of r)
 groups_are (requests.Execute query) = (inl (query.sql, refl), tt)
@@ -178,6 +195,9 @@ groups_are (requests.Commit left) = (inl (_, refl), tt)
 groups_are (requests.Rollback left) = (inl (_, refl), tt)
 groups_are (requests.Describe x) = (inr (Parse (name_of x.statement) x.sql x.arguments.types ∷ DescribeStatement (name_of x.statement) ∷ [], (tt, (tt, tt)), refl), tt)
 groups_are (requests.Run bound) = (inr (Bind (name_of bound.statement) bound.arguments.values ∷ Execute [] 0 ∷ ClosePortal [] ∷ [], (tt, (tt, (tt, tt))), refl), tt)
+groups_are (requests.Evict eviction) = (inr (CloseStatement (name_of eviction.statement) ∷ [], (tt, tt), refl), tt)
+groups_are (requests.Clear statements) = (inr (map CloseStatement (map name_of statements), closes_end (map name_of statements), refl), tt)
+groups_are (requests.Prepare prepared) = tt
 groups_are requests.Ping = (inr ([], tt, refl), tt)
 groups_are requests.Flush = tt
 groups_are requests.Close = tt
@@ -190,6 +210,15 @@ known_at name (Some columns) = ap (λ (b : Bool). cond b (Some columns) None) ((
 -- so the first row of what is run has this width
 run_awaits : (name : List ℕ) (values : List (Option (List ℕ))) (width : Option ℕ) → expected (known name width) (running name values 0) ≡ awaited (Binding width)
 run_awaits name values width = ap (λ (w : Option ℕ). awaited (Binding w)) (known_at name width)
+
+-- so many closes are awaited as there are statements to close
+closes_steps : (statements : List ℕ) → steps_of [] None (closing_group (map name_of statements)) ≡ replicate (length statements) Closes
+closes_steps [] = refl
+closes_steps (s ∷ ss) = ap (λ (t : List Step). Closes ∷ t) (closes_steps ss)
+
+closes_awaited : (statements : List ℕ) → expected [] (closing_group (map name_of statements)) ≡ awaited (closing (length statements))
+closes_awaited [] = refl
+closes_awaited (s ∷ ss) = ap (λ (t : List Step). InSteps (Closes ∷ t)) (closes_steps ss) ∙ ap awaited (sym (closing_suc (length ss)))
 
 -- what is awaited first is what the protocol says of the group
 first_awaits : (r : Request) (group : Group) → groups_of r ≡ group ∷ [] → expected (widths_of r) group ≡ awaited (awaits_first r)
@@ -206,6 +235,9 @@ first_awaits (requests.Commit left) group e = rw (← the_first _ _ e) refl
 first_awaits (requests.Rollback left) group e = rw (← the_first _ _ e) refl
 first_awaits (requests.Describe extended) group e = rw (← the_first _ _ e) refl
 first_awaits (requests.Run bound) group e = rw (← the_first _ _ e) (run_awaits (name_of bound.statement) bound.arguments.values (width_of bound))
+first_awaits (requests.Evict eviction) group e = rw (← the_first _ _ e) refl
+first_awaits (requests.Clear statements) group e = rw (← the_first _ _ e) (closes_awaited statements)
+first_awaits (requests.Prepare prepared) group e = absurd (none_first group e)
 first_awaits requests.Ping group e = rw (← the_first _ _ e) refl
 first_awaits requests.Flush group e = absurd (none_first group e)
 first_awaits requests.Close group e = absurd (none_first group e)
@@ -260,9 +292,13 @@ query_copies sql group own part m g have h e may =
 -- a portal's copy begins right behind BindComplete
 abbrev IsPast : Part → Type 0
 IsPast (RunningOn columns) = Unit {0}
-IsPast Closing = Unit {0}
+IsPast (Closing more) = Unit {0}
 IsPast Synced = Unit {0}
 IsPast _ = ⊥
+
+closing_past : (count : ℕ) → IsPast (closing count)
+closing_past zero = tt
+closing_past (suc more) = subst IsPast (sym (closing_suc more)) tt
 
 goes_past : (columns : ℕ) (b : Bool) (n : Part) → cond b (Some (RunningOn columns)) None ≡ Some n → IsPast n
 goes_past columns true n e = subst IsPast (same_Some (RunningOn columns) n e) tt
@@ -270,19 +306,19 @@ goes_past columns false n e = absurd cc
 
 past_on : (part n : Part) (m : BackendMessage) → IsPast part → goes_on part m ≡ Some n → IsPast n
 past_on (RunningOn columns) n (DataRow values) i e = goes_past columns (length values == columns) n e
-past_on (RunningOn columns) n (CommandComplete tag) i e = subst IsPast (same_Some Closing n e) tt
-past_on (RunningOn columns) n EmptyQueryResponse i e = subst IsPast (same_Some Closing n e) tt
+past_on (RunningOn columns) n (CommandComplete tag) i e = subst IsPast (same_Some (Closing 0) n e) tt
+past_on (RunningOn columns) n EmptyQueryResponse i e = subst IsPast (same_Some (Closing 0) n e) tt
 past_on (RunningOn columns) n _ i e = absurd cc
-past_on Closing n CloseComplete i e = subst IsPast (same_Some Synced n e) tt
-past_on Closing n _ i e = absurd cc
+past_on (Closing more) n CloseComplete i e = subst IsPast (same_Some (closing more) n e) (closing_past more)
+past_on (Closing more) n _ i e = absurd cc
 past_on Synced n m i e = absurd cc
 past_on _ n m i e = absurd i
 
 running_on : (width : Option ℕ) (n : Part) (m : BackendMessage) → goes_on (Running width) m ≡ Some n → IsPast n
 running_on None n (DataRow values) e = subst IsPast (same_Some (RunningOn (length values)) n e) tt
 running_on (Some columns) n (DataRow values) e = goes_past columns (length values == columns) n e
-running_on width n (CommandComplete tag) e = subst IsPast (same_Some Closing n e) tt
-running_on width n EmptyQueryResponse e = subst IsPast (same_Some Closing n e) tt
+running_on width n (CommandComplete tag) e = subst IsPast (same_Some (Closing 0) n e) tt
+running_on width n EmptyQueryResponse e = subst IsPast (same_Some (Closing 0) n e) tt
 running_on width n _ e = absurd cc
 
 past_after : (part q : Part) (ms : List BackendMessage) → IsPast part → part_after part ms ≡ Some q → IsPast q
@@ -295,7 +331,7 @@ past_after part q (m ∷ ms) i e = by (goes_on part m) refl (λ n j k. past_afte
 
 past_copies_none : (part : Part) (m : BackendMessage) → IsPast part → may_copy part m ≡ true → ⊥
 past_copies_none (RunningOn columns) m i e = cc
-past_copies_none Closing m i e = cc
+past_copies_none (Closing more) m i e = cc
 past_copies_none Synced m i e = cc
 past_copies_none _ m i e = i
 
@@ -384,6 +420,9 @@ group_copies (requests.Commit left) group own part m g have h e may = query_copi
 group_copies (requests.Rollback left) group own part m g have h e may = query_copies _ group own part m g have h e may
 group_copies (requests.Describe extended) group own part m g have h e may = absurd (describes_copies_none part m (describes_after Parsing part own tt e) may)
 group_copies (requests.Run bound) group own part m g have h e may = run_copies (name_of bound.statement) bound.arguments.values (width_of bound) group own part m g h e may
+group_copies (requests.Evict eviction) group own part m g have h e may = absurd (past_copies_none part m (past_after (Closing 0) part own tt e) may)
+group_copies (requests.Clear statements) group own part m g have h e may = absurd (past_copies_none part m (past_after (closing (length statements)) part own (closing_past (length statements)) e) may)
+group_copies (requests.Prepare prepared) group own part m g have h e may = absurd (none_first group g)
 group_copies requests.Ping group own part m g have h e may = absurd (no_copy_synced own part m e may)
 group_copies requests.Flush group own part m g have h e may = absurd (none_first group g)
 group_copies requests.Close group own part m g have h e may = absurd (none_first group g)

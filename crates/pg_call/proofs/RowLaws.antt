@@ -35,6 +35,8 @@ adds_none (kinds.Run hows.FetchOptional) t row e = ap (λ (first : Option RowSee
     optional_stays (Some kept) row e = refl
 adds_none (kinds.Run hows.FetchOne) t row e = ap (λ (first : Option RowSeen). record t { first = first }) (first_stays t.first row e)
 adds_none kinds.Describe t row e = refl
+adds_none kinds.Prepare t row e = refl
+adds_none kinds.Clear t row e = refl
 adds_none kinds.Begin t row e = refl
 adds_none kinds.Commit t row e = refl
 adds_none kinds.Rollback t row e = refl
@@ -51,6 +53,8 @@ yields_none (kinds.Run hows.FetchAll) first row e = refl
 yields_none (kinds.Run hows.FetchOptional) first row e = refl
 yields_none (kinds.Run hows.FetchOne) first row e = refl
 yields_none kinds.Describe first row e = refl
+yields_none kinds.Prepare first row e = refl
+yields_none kinds.Clear first row e = refl
 yields_none kinds.Begin first row e = refl
 yields_none kinds.Commit first row e = refl
 yields_none kinds.Rollback first row e = refl

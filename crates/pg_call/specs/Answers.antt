@@ -5,6 +5,7 @@ use Rattle.either.specs.declared.Either.TheVariants.{Left, Right}
 use Rattle.pg_wire.specs.declared.error.Error.{Error}
 use Rattle.pg_rows.specs.Rows.{RowSeen}
 use Rattle.pg_call.specs.declared.query_result.PgQueryResult.{PgQueryResult}
+use Rattle.pg_call.specs.declared.statement.Prepared.{Prepared}
 use Rattle.pg_call.specs.declared.kind.How.TheVariants as hows
 use Rattle.pg_call.specs.declared.kind.Kind.{Kind}
 use Rattle.pg_call.specs.declared.kind.Kind.TheVariants as kinds
@@ -24,6 +25,8 @@ AnswerFits (kinds.Run hows.ExecuteMany) answers.Unit = Unit {0}
 AnswerFits (kinds.Run hows.Fetch) answers.Unit = Unit {0}
 AnswerFits (kinds.Run hows.FetchMany) answers.Unit = Unit {0}
 AnswerFits kinds.Describe (answers.Next request) = Unit {0}
+AnswerFits kinds.Prepare (answers.Statement prepared) = Unit {0}
+AnswerFits kinds.Clear answers.Unit = Unit {0}
 AnswerFits kinds.Begin answers.Unit = Unit {0}
 AnswerFits kinds.Commit answers.Unit = Unit {0}
 AnswerFits kinds.Rollback answers.Unit = Unit {0}
@@ -41,6 +44,7 @@ TurnFits kind (turns.Err e) = Unit {0}
 abbrev pub TurnIsPlain : Kind → Type 0
 TurnIsPlain (kinds.Run how) = ⊥
 TurnIsPlain kinds.Describe = ⊥
+TurnIsPlain kinds.Prepare = ⊥
 TurnIsPlain _ = Unit {0}
 
 -- ---- what a state of such a call answers, as the core's
@@ -64,6 +68,10 @@ optional_turn (Err e) = turns.Err e
 abbrev pub one_turn : Result RowSeen Error → Turn
 one_turn (Ok row) = turns.Ok (answers.OneRow (Some row))
 one_turn (Err e) = turns.Err e
+
+abbrev pub statement_turn : Result Prepared Error → Turn
+statement_turn (Ok prepared) = turns.Ok (answers.Statement prepared)
+statement_turn (Err e) = turns.Err e
 
 abbrev pub row_turn : Option (Result RowSeen Error) → Turn
 row_turn (Some (Ok row)) = turns.Item (items.Row row)

@@ -29,8 +29,8 @@ use Rattle.pg_call.specs.declared.calling.Beat.{Beat}
 use Rattle.pg_call.specs.declared.calling.Beat.TheVariants as beats
 use Rattle.pg_call.specs.declared.calling.Taken.{Taken}
 use Rattle.pg_call.specs.declared.running.Running.{Running}
-use Rattle.pg_call.specs.Requests.{Group, said_in, spelled, kind_of, groups_of, messages_of, farewell, heading_of, rest_of, widths_of, CanBeSaid, IsRefusal}
-use Rattle.pg_call.specs.Items.{heading_after, own_items, shown, tally_of, answer_to}
+use Rattle.pg_call.specs.Requests.{Group, said_in, spelled, kind_of, groups_of, messages_of, farewell, heading_of, request_behind, rest_of, told, widths_of, CanBeSaid, IsRefusal}
+use Rattle.pg_call.specs.Items.{heading_after, parameters_after, own_items, shown, tally_of, answer_to}
 use Rattle.pg_call.specs.Replies.{awaits_first, part_after, may_copy}
 use Rattle.pg_call.specs.Drains.{is_error, before_readys, after_readys, failed_after, drain_fails}
 use Rattle.pg_call.specs.Hearing.{framed, fails_of}
@@ -69,6 +69,7 @@ pub record IsReplying (start : Ledger) (r : Request) (said : List FrontendMessag
   pub so_far : part_after (awaits_first r) own ≡ Some reply.part
   pub rest_is : reply.rest ≡ rest_of r
   pub heading_is : reply.heading ≡ heading_after (heading_of r) own
+  pub parameters_are : reply.parameters ≡ parameters_after [] own
   pub tally_is : reply.tally ≡ tally_of reply.kind (own_items r own)
   pub items_are : items ≡ shown reply.kind (own_items r own)
 
@@ -142,18 +143,24 @@ pub record IsFine (start : Ledger) (r : Request) (said : List FrontendMessage) (
   pub ends : EndsByReady hs
   pub last : (groups_of r ≡ []) ⊎ EndsByStatus hs status
 
--- What is asked behind a description: that the statement is run, whose columns were described. What every other call answers is told by its items
--- and by the status behind them.
+-- What is asked behind a description and behind a close: what the statement was described for, and what the other one was closed for. What every other call answers is told by its
+-- items and by the status behind them.
 abbrev pub next_of : Request → List BackendMessage → Option Request
-next_of (requests.Describe extended) reply = Some (requests.Run (record { how = extended.how; statement = extended.statement; arguments = extended.arguments; columns = Some (described reply) }))
+next_of (requests.Describe extended) reply = Some (requests.Describe (told (parameters_after [] reply) (Some (described reply)) extended))
+next_of (requests.Evict eviction) reply = Some (request_behind eviction.after)
 next_of _ reply = None
+
+-- a statement is told as it was described
+abbrev pub own_answer : Request → Result CallAnswer Error → Result CallAnswer Error
+own_answer (requests.Prepare prepared) answer = Ok (answers.Statement prepared)
+own_answer _ answer = answer
 
 abbrev pub answer_or_next : Option Request → Result CallAnswer Error → Result CallAnswer Error
 answer_or_next None answer = answer
 answer_or_next (Some next) answer = Ok (answers.Next next)
 
 abbrev pub answer_by : Request → List BackendMessage → TransactionStatus → Result CallAnswer Error
-answer_by r reply status = answer_or_next (next_of r reply) (answer_to (kind_of r) (own_items r reply) status)
+answer_by r reply status = answer_or_next (next_of r reply) (own_answer r (answer_to (kind_of r) (own_items r reply) status))
 
 -- it ends with the answer to its reply
 abbrev pub EndsFine : Ledger → Request → List FrontendMessage → List Frame → List CallItem → Ledger → Result CallAnswer Error → Type 0

@@ -14,7 +14,8 @@ use Rattle.pg_call.specs.declared.kind.Kind.{Kind}
 use Rattle.pg_call.specs.declared.answer.CallItem.{CallItem}
 use Rattle.pg_call.specs.declared.answer.CallAnswer.{CallAnswer}
 use Rattle.pg_call.specs.declared.answer.CallAnswer.TheVariants as answers
-use Rattle.pg_call.specs.declared.request.Bound.{Bound}
+use Rattle.pg_call.specs.declared.statement.Rest.{Rest}
+use Rattle.pg_call.specs.declared.statement.Rest.TheVariants as rests
 use Rattle.pg_call.specs.declared.request.Request.{Request}
 use Rattle.pg_call.specs.declared.request.Request.TheVariants as requests
 use Rattle.pg_call.specs.declared.waiting.Waiting.{Waiting}
@@ -31,8 +32,8 @@ use Rattle.pg_call.specs.declared.calling.Beat.{Beat}
 use Rattle.pg_call.specs.declared.calling.Beat.TheVariants as beats
 use Rattle.pg_call.specs.declared.calling.Taken.{Taken}
 use Rattle.pg_call.specs.declared.running.Running.{Running}
-use Rattle.pg_call.specs.Requests.{copy_fail, kind_of, rest_of, heading_of}
-use Rattle.pg_call.specs.Items.{news_of, heading_by, item_by, yields, added, empty_tally, finished, keeps_row}
+use Rattle.pg_call.specs.Requests.{copy_fail, kind_of, request_behind, rest_of, heading_of, told}
+use Rattle.pg_call.specs.Items.{news_of, heading_by, parameters_by, item_by, yields, added, empty_tally, finished, keeps_row}
 use Rattle.pg_call.specs.Replies.{awaits_first, goes_on, may_close, may_copy}
 use Rattle.pg_call.specs.Drains.{is_error, failed_behind, fails_for}
 
@@ -42,7 +43,7 @@ framed tag body = record { tag = tag; body = body }
 -- ---- the own reply
 
 abbrev pub fresh_reply : Waiting → Reply
-fresh_reply w = record { kind = w.kind; tally = empty_tally; part = w.part; rest = w.rest; heading = w.heading }
+fresh_reply w = record { kind = w.kind; tally = empty_tally; part = w.part; rest = w.rest; heading = w.heading; parameters = [] }
 
 -- the tally with more items
 abbrev pub added_all : Kind → Tally → List CallItem → Tally
@@ -51,7 +52,7 @@ added_all kind t (i ∷ is) = added_all kind (added kind t i) is
 
 -- the reply with what one message tells
 abbrev pub gone_on : Reply → Part → News → Reply
-gone_on r part news = record r { tally = added_all r.kind r.tally (item_by r.heading news); part = part; heading = heading_by r.heading news }
+gone_on r part news = record r { tally = added_all r.kind r.tally (item_by r.heading news); part = part; heading = heading_by r.heading news; parameters = parameters_by r.parameters news }
 
 -- which item is shown at once
 abbrev pub Shows : List CallItem → Heard → Type 0
@@ -85,6 +86,15 @@ waits frames failed call = call
 abbrev pub awaits : Call → Call
 awaits (calls.Waiting waiting) = calls.Own (fresh_reply waiting)
 awaits call = call
+
+-- what was not begun yet, and what stands where it was taken out
+abbrev pub asked_in : Call → Option Request
+asked_in (calls.Asked request) = Some request
+asked_in call = None
+
+abbrev pub without_asked : Call → Call
+without_asked (calls.Asked request) = calls.Idle
+without_asked call = call
 
 -- ---- a reply to an earlier call
 
@@ -124,17 +134,25 @@ abbrev pub keeps_now : Call → Bool
 keeps_now (calls.Own reply) = keeps_row reply.kind reply.tally.first
 keeps_now _ = false
 
--- what runs behind a description is told the columns
-abbrev pub told : Option (List FieldDescription) → Bound → Bound
-told columns bound = record bound { columns = columns }
+-- what comes of it at its end, where that is not its answer
+abbrev pub handed_on : Rest → List ℕ → Option (List FieldDescription) → Result CallAnswer Error → Result CallAnswer Error
+handed_on rests.Nothing parameters columns answer = answer
+handed_on (rests.Describe extended) parameters columns answer = Ok (answers.Next (requests.Describe (told parameters columns extended)))
+handed_on (rests.After after) parameters columns answer = Ok (answers.Next (request_behind after))
+handed_on (rests.Tell prepared) parameters columns answer = Ok (answers.Statement prepared)
 
--- it is handed on, where there is something
-abbrev pub handed_on : Option Bound → Option (List FieldDescription) → Result CallAnswer Error → Result CallAnswer Error
-handed_on None columns answer = answer
-handed_on (Some bound) columns answer = Ok (answers.Next (requests.Run (told columns bound)))
+-- the answer where nothing is left but to send: a statement is told, where it is asked for
+abbrev pub sent_rest : Rest → CallAnswer
+sent_rest (rests.Tell prepared) = answers.Statement prepared
+sent_rest _ = answers.Unit
+
+abbrev pub sent_answer : Call → CallAnswer
+sent_answer (calls.Asked request) = sent_rest (rest_of request)
+sent_answer (calls.Waiting waiting) = sent_rest waiting.rest
+sent_answer _ = answers.Unit
 
 abbrev pub finished_by : TransactionStatus → Call → Result CallAnswer Error
-finished_by status (calls.Own reply) = handed_on reply.rest reply.heading.columns (finished reply.kind reply.tally status)
+finished_by status (calls.Own reply) = handed_on reply.rest reply.parameters reply.heading.columns (finished reply.kind reply.tally status)
 finished_by status _ = Err errors.OutOfMemory
 
 abbrev pub Closes : TransactionStatus → Running → Running → Taken → Type 0

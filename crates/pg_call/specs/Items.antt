@@ -4,7 +4,7 @@ use Rattle.pg_wire.specs.declared.error.Error.{Error}
 use Rattle.pg_wire.specs.declared.error.Error.TheVariants as errors
 use Rattle.pg_wire.specs.declared.status.TransactionStatus.{TransactionStatus}
 use Rattle.pg_wire.specs.declared.status.TransactionStatus.TheVariants as statuses
-use Rattle.pg_wire.specs.Backend.{BackendMessage, RowDescription, DataRow, CommandComplete}
+use Rattle.pg_wire.specs.Backend.{BackendMessage, RowDescription, DataRow, CommandComplete, ParameterDescription}
 use Rattle.pg_wire.specs.Completion.{rows_affected}
 use Rattle.pg_rows.specs.declared.heading.Heading.{Heading}
 use Rattle.pg_rows.specs.Rows.{RowSeen}
@@ -21,11 +21,12 @@ use Rattle.pg_call.specs.declared.request.Request.{Request}
 use Rattle.pg_call.specs.declared.tally.Tally.{Tally}
 use Rattle.pg_call.specs.Requests.{heading_of}
 
--- what a message tells of rows: their columns, a row, or their count
+-- what a message tells of rows: their columns, a row, or their count; or the types of parameters
 abbrev pub news_of : BackendMessage → News
 news_of (RowDescription fields) = news.Columns fields
 news_of (DataRow values) = news.Row values
 news_of (CommandComplete tag) = news.Count (record { rows = rows_affected tag })
+news_of (ParameterDescription types) = news.Parameters types
 news_of _ = news.Nothing
 
 -- the heading of the rows behind it, where their columns are kept
@@ -51,6 +52,15 @@ own_items r reply = items_of (heading_of r) reply
 abbrev pub heading_after : Heading → List BackendMessage → Heading
 heading_after heading [] = heading
 heading_after heading (m ∷ ms) = heading_after (heading_by heading (news_of m)) ms
+
+-- the types of parameters that were described last
+abbrev pub parameters_by : List ℕ → News → List ℕ
+parameters_by types (news.Parameters told) = told
+parameters_by types _ = types
+
+abbrev pub parameters_after : List ℕ → List BackendMessage → List ℕ
+parameters_after types [] = types
+parameters_after types (m ∷ ms) = parameters_after (parameters_by types (news_of m)) ms
 
 abbrev pub row_in : CallItem → List RowSeen
 row_in (Row row) = row ∷ []

@@ -1,6 +1,6 @@
 -- What may come next in the reply to a group, message by message (PostgreSQL manual, "Message Flow", "Simple Query", "Extended Query",
 -- "COPY Operations").
-use Rattle.std.specs.Prelude.{◌≡◌, ℕ, List, [], ◌∷◌, length, codes, Bool, true, false, ◌==◌, if◌then◌else◌, Option, Some, None, Result, Ok, Err, option_and_then}
+use Rattle.std.specs.Prelude.{◌≡◌, ℕ, ◌-◌, nat_eq, replicate, List, [], ◌∷◌, length, codes, Bool, true, false, ◌==◌, if◌then◌else◌, Option, Some, None, Result, Ok, Err, option_and_then}
 use Rattle.pg_wire.specs.declared.error.Error.{Error}
 use Rattle.pg_wire.specs.declared.error.Error.TheVariants as errors
 use Rattle.pg_wire.specs.declared.error.ProtocolFault.TheVariants as protocol
@@ -30,9 +30,15 @@ first_part kinds.Commit = First
 first_part kinds.Rollback = First
 first_part _ = Synced
 
+-- that so many statements are closed, and then the end
+abbrev pub closing : ℕ → Part
+closing count = if nat_eq count 0 then Synced else Closing (count - 1)
+
 abbrev pub awaits_first : Request → Part
 awaits_first (requests.Describe extended) = Parsing
 awaits_first (requests.Run bound) = Binding (width_of bound)
+awaits_first (requests.Evict eviction) = Closing 0
+awaits_first (requests.Clear statements) = closing (length statements)
 awaits_first request = first_part (kind_of request)
 
 -- the first message of a segment, and what comes behind it
@@ -63,10 +69,15 @@ abbrev pub after_bind : Part → Part
 after_bind (Binding width) = Running width
 after_bind part = part
 
+-- behind CloseComplete
+abbrev pub after_close : Part → Part
+after_close (Closing more) = closing more
+after_close part = part
+
 -- behind the end of a statement
 abbrev pub after_end : Part → Part
-after_end (Running width) = Closing
-after_end (RunningOn width) = Closing
+after_end (Running width) = Closing 0
+after_end (RunningOn width) = Closing 0
 after_end _ = Further
 
 -- what is awaited behind one more message; None where the reply doesn't go on by it
@@ -81,12 +92,12 @@ goes_on Describing (RowDescription fields) = Some (Described (length fields))
 goes_on Describing NoData = Some (Described 0)
 goes_on (Binding width) BindComplete = Some (Running width)
 goes_on (Running width) (DataRow values) = after_row (Running width) (length values)
-goes_on (Running width) (CommandComplete tag) = Some Closing
-goes_on (Running width) EmptyQueryResponse = Some Closing
+goes_on (Running width) (CommandComplete tag) = Some (Closing 0)
+goes_on (Running width) EmptyQueryResponse = Some (Closing 0)
 goes_on (RunningOn columns) (DataRow values) = after_row (RunningOn columns) (length values)
-goes_on (RunningOn columns) (CommandComplete tag) = Some Closing
-goes_on (RunningOn columns) EmptyQueryResponse = Some Closing
-goes_on Closing CloseComplete = Some Synced
+goes_on (RunningOn columns) (CommandComplete tag) = Some (Closing 0)
+goes_on (RunningOn columns) EmptyQueryResponse = Some (Closing 0)
+goes_on (Closing more) CloseComplete = Some (closing more)
 goes_on _ _ = None
 
 -- what is awaited behind these messages
@@ -126,7 +137,7 @@ tags_of (Described columns) = codes "EZ"
 tags_of (Binding width) = codes "2E"
 tags_of (Running width) = codes "DCIEGH"
 tags_of (RunningOn columns) = codes "DCIE"
-tags_of Closing = codes "3E"
+tags_of (Closing more) = codes "3E"
 
 -- what a part awaits, as the protocol says it
 abbrev pub awaited : Part → Expected
@@ -141,7 +152,7 @@ awaited (Described columns) = InSteps []
 awaited (Binding width) = InSteps (Binds ∷ Runs width ∷ Closes ∷ [])
 awaited (Running width) = InSteps (Runs width ∷ Closes ∷ [])
 awaited (RunningOn columns) = InSteps (RunsOn columns ∷ Closes ∷ [])
-awaited Closing = InSteps (Closes ∷ [])
+awaited (Closing more) = InSteps (Closes ∷ replicate more Closes)
 
 -- no error, no end, and nothing that the reply goes on by
 abbrev pub MayNotCome : Part → BackendMessage → Type 0

@@ -1,16 +1,16 @@
 -- The request rule: which messages a call sends (PostgreSQL manual, "Message Flow", "Simple Query").
-use Rattle.std.specs.Prelude.{◌≡◌, ℕ, option_map, unwrap_or, ◌<◌, ◌≤◌, ◌⊎◌, List, [], ◌∷◌, ◌++◌, length, map, flat_map, codes, Bool, true, false, Option, Some, None, if◌then◌else◌}
+use Rattle.std.specs.Prelude.{◌≡◌, ℕ, nat_eq, option_map, unwrap_or, ◌<◌, ◌≤◌, ◌⊎◌, List, [], ◌∷◌, ◌++◌, length, map, flat_map, codes, Bool, true, false, Option, Some, None, if◌then◌else◌}
 use Rattle.std.specs.List.{AllByRecursion}
 use Rattle.pg_wire.specs.declared.error.Error.{Error}
 use Rattle.pg_wire.specs.declared.error.Error.TheVariants as errors
 use Rattle.pg_wire.specs.Bytes.{HasNoNul}
 use Rattle.pg_wire.specs.Frame.{text_of}
-use Rattle.pg_wire.specs.Frontend.{FrontendMessage, frontend_frame, HasFrontendFrame, Query, Parse, Bind, Sync, Terminate, CopyFail, name_under, statement_name}
+use Rattle.pg_wire.specs.Frontend.{FrontendMessage, frontend_frame, HasFrontendFrame, Query, Parse, Bind, CloseStatement, Sync, Terminate, CopyFail, name_under, statement_name}
 use Rattle.pg_wire.specs.declared.error.ProtocolFault.TheVariants as protocol
 use Rattle.pg_wire.specs.declared.error.CallerFault.TheVariants as callers
 use Rattle.pg_wire.specs.Encoding.{Refuses, body_max}
 use Rattle.pg_exchanges.specs.Expecting.{Widths}
-use Rattle.pg_exchanges.specs.Answering.{describing, running}
+use Rattle.pg_exchanges.specs.Answering.{closing, describing, running}
 use Rattle.pg_request.specs.Queries.{QueryText, ArgumentsSeen, plain_text}
 use Rattle.pg_request.specs.Texts.{begin_text, commit_text, rollback_text}
 use Rattle.pg_wire.specs.Backend.{FieldDescription}
@@ -23,9 +23,22 @@ use Rattle.pg_call.specs.declared.kind.Kind.{Kind}
 use Rattle.pg_call.specs.declared.kind.Kind.TheVariants as kinds
 use Rattle.pg_call.specs.declared.kind.Change.{Change}
 use Rattle.pg_call.specs.declared.kind.Change.TheVariants as changes
-use Rattle.pg_call.specs.declared.request.Extended.{Extended}
-use Rattle.pg_call.specs.declared.request.Bound.{Bound}
+use Rattle.pg_call.specs.declared.kind.Keeping.{Keeping}
+use Rattle.pg_call.specs.declared.kind.Keeping.TheVariants as keepings
+use Rattle.pg_call.specs.declared.statement.Goal.{Goal}
+use Rattle.pg_call.specs.declared.statement.Goal.TheVariants as goals
+use Rattle.pg_call.specs.declared.statement.Described.{Described}
+use Rattle.pg_call.specs.declared.statement.Extended.{Extended}
+use Rattle.pg_call.specs.declared.statement.Bound.{Bound}
+use Rattle.pg_call.specs.declared.statement.Prepared.{Prepared}
+use Rattle.pg_call.specs.declared.statement.After.{After}
+use Rattle.pg_call.specs.declared.statement.After.TheVariants as afters
+use Rattle.pg_call.specs.declared.statement.Eviction.{Eviction}
+use Rattle.pg_call.specs.declared.statement.Rest.{Rest}
+use Rattle.pg_call.specs.declared.statement.Rest.TheVariants as rests
 use Rattle.pg_call.specs.declared.request.Request.{Request}
+use Rattle.pg_call.specs.declared.request.Sort.{Sort}
+use Rattle.pg_call.specs.declared.request.Sort.TheVariants as sorts
 use Rattle.pg_call.specs.declared.request.Request.TheVariants as requests
 
 abbrev pub Group : Type 0
@@ -53,6 +66,9 @@ kind_of (requests.Commit left) = kinds.Commit
 kind_of (requests.Rollback left) = kinds.Rollback
 kind_of (requests.Describe extended) = kinds.Describe
 kind_of (requests.Run bound) = kinds.Run bound.how
+kind_of (requests.Evict eviction) = kinds.Describe
+kind_of (requests.Prepare prepared) = kinds.Prepare
+kind_of (requests.Clear statements) = kinds.Clear
 kind_of requests.Ping = kinds.Ping
 kind_of requests.Flush = kinds.Flush
 kind_of requests.Close = kinds.Close
@@ -82,10 +98,16 @@ groups_by _ None = []
 abbrev pub name_of : ℕ → List ℕ
 name_of number = name_under statement_name number
 
--- A statement is prepared and described, and what is so prepared is run with its arguments ("Extended Query").
+-- the message that closes a statement
+abbrev pub close_of : ℕ → FrontendMessage
+close_of number = CloseStatement (name_of number)
+
+-- A statement is prepared and described, what is so prepared is run with its arguments, and statements are closed ("Extended Query").
 abbrev pub groups_of : Request → List Group
 groups_of (requests.Describe extended) = describing (name_of extended.statement) extended.sql extended.arguments.types ∷ []
 groups_of (requests.Run bound) = running (name_of bound.statement) bound.arguments.values 0 ∷ []
+groups_of (requests.Evict eviction) = closing (name_of eviction.statement ∷ []) ∷ []
+groups_of (requests.Clear statements) = closing (map name_of statements) ∷ []
 groups_of request = groups_by (kind_of request) (query_of request)
 
 -- how many columns a statement has, where that is known
@@ -101,14 +123,23 @@ abbrev pub widths_of : Request → Widths
 widths_of (requests.Run bound) = known (name_of bound.statement) (width_of bound)
 widths_of _ = []
 
--- ---- what is asked first, and what behind it
+-- ---- what comes of an exchange at its end
 
--- a query with arguments is described first, as the unnamed statement
-abbrev pub first_by : How → QueryText → Option ArgumentsSeen → Request → Request
-first_by how query None request = request
-first_by how query (Some arguments) request = requests.Describe (record { how = how; statement = 0; sql = query.sql; arguments = arguments })
+-- the kind of the call for which a statement is described
+abbrev pub goal_kind : Goal → Kind
+goal_kind (goals.Run how) = kinds.Run how
+goal_kind goals.Prepare = kinds.Prepare
 
--- a query without arguments
+-- the same of what comes behind a close
+abbrev pub after_kind : After → Kind
+after_kind (afters.Run bound) = kinds.Run bound.how
+after_kind (afters.Prepare prepared) = kinds.Prepare
+
+abbrev pub request_behind : After → Request
+request_behind (afters.Run bound) = requests.Run bound
+request_behind (afters.Prepare prepared) = requests.Prepare prepared
+
+-- a query, in one of its ways
 abbrev pub raw : How → QueryText → Request
 raw hows.Execute query = requests.Execute query
 raw hows.ExecuteMany query = requests.ExecuteMany query
@@ -118,20 +149,48 @@ raw hows.FetchAll query = requests.FetchAll query
 raw hows.FetchOptional query = requests.FetchOptional query
 raw hows.FetchOne query = requests.FetchOne query
 
-abbrev pub first_of : Request → Request
-first_of (requests.Execute query) = first_by hows.Execute query query.arguments (requests.Execute query)
-first_of (requests.ExecuteMany query) = first_by hows.ExecuteMany query query.arguments (requests.ExecuteMany query)
-first_of (requests.Fetch query) = first_by hows.Fetch query query.arguments (requests.Fetch query)
-first_of (requests.FetchMany query) = first_by hows.FetchMany query query.arguments (requests.FetchMany query)
-first_of (requests.FetchAll query) = first_by hows.FetchAll query query.arguments (requests.FetchAll query)
-first_of (requests.FetchOptional query) = first_by hows.FetchOptional query query.arguments (requests.FetchOptional query)
-first_of (requests.FetchOne query) = first_by hows.FetchOne query query.arguments (requests.FetchOne query)
-first_of request = request
+-- what is asked, by what decides how
+abbrev pub sort_of : Request → Sort
+sort_of (requests.Execute query) = sorts.Query hows.Execute query
+sort_of (requests.ExecuteMany query) = sorts.Query hows.ExecuteMany query
+sort_of (requests.Fetch query) = sorts.Query hows.Fetch query
+sort_of (requests.FetchMany query) = sorts.Query hows.FetchMany query
+sort_of (requests.FetchAll query) = sorts.Query hows.FetchAll query
+sort_of (requests.FetchOptional query) = sorts.Query hows.FetchOptional query
+sort_of (requests.FetchOne query) = sorts.Query hows.FetchOne query
+sort_of (requests.Describe extended) = sorts.Describe extended
+sort_of (requests.Prepare prepared) = sorts.Prepare prepared
+sort_of (requests.Clear statements) = sorts.Clear
+sort_of request = sorts.Plain request
 
--- what is run behind a description, before its columns are known
-abbrev pub rest_of : Request → Option Bound
-rest_of (requests.Describe extended) = Some (record { how = extended.how; statement = extended.statement; arguments = extended.arguments; columns = None })
-rest_of _ = None
+-- what a statement was described for, which makes this of the statements that are kept
+abbrev pub behind_goal : Goal → Extended → Described → Keeping → After
+behind_goal (goals.Run how) x d keeping = afters.Run (record { how = how; statement = x.statement; arguments = x.arguments; columns = d.columns; keeping = keeping })
+behind_goal goals.Prepare x d keeping = afters.Prepare (record { sql = x.sql; parameters = d.parameters; columns = d.columns; keeping = keeping })
+
+-- a statement that was described so
+abbrev pub told : List ℕ → Option (List FieldDescription) → Extended → Extended
+told parameters columns x = record x { described = Some (record { parameters = parameters; columns = columns }) }
+
+-- what an exchange hands on, or answers: the statement that it describes, what comes behind a close, or the statement that it tells of
+abbrev pub rest_of : Request → Rest
+rest_of (requests.Describe extended) = rests.Describe extended
+rest_of (requests.Evict eviction) = rests.After eviction.after
+rest_of (requests.Prepare prepared) = rests.Tell prepared
+rest_of _ = rests.Nothing
+
+-- what describing a statement of this number makes of those that are kept: its name uses up a number
+abbrev pub named_keeping : ℕ → Keeping
+named_keeping number = if nat_eq number 0 then keepings.Stays else keepings.Draws
+
+-- what a request makes of them, once its group is queued, or it is Ok
+abbrev pub keeping_of : Request → Keeping
+keeping_of (requests.Describe extended) = named_keeping extended.statement
+keeping_of (requests.Run bound) = bound.keeping
+keeping_of (requests.Evict eviction) = keepings.Evicts
+keeping_of (requests.Prepare prepared) = prepared.keeping
+keeping_of (requests.Clear statements) = keepings.Clears
+keeping_of _ = keepings.Stays
 
 -- whether a call shows rows, or hands their columns on
 abbrev pub sees_rows : Kind → Bool
@@ -150,9 +209,10 @@ abbrev pub heading_of : Request → Heading
 heading_of (requests.Run bound) = heading_for (kinds.Run bound.how) (unwrap_or bound.columns []) formats.Binary
 heading_of request = heading_for (kind_of request) [] formats.Text
 
--- the kind of the last of them, whose response is the call's own
+-- the kind of the call: that of its last exchange, whose response is the call's own
 abbrev pub main_kind : Request → Kind
-main_kind (requests.Describe extended) = kinds.Run extended.how
+main_kind (requests.Describe extended) = goal_kind extended.goal
+main_kind (requests.Evict eviction) = after_kind eviction.after
 main_kind request = kind_of request
 
 -- what an Ok of it makes of the transactions that are open
@@ -162,9 +222,10 @@ change_of kinds.Commit = changes.Closes
 change_of kinds.Rollback = changes.Closes
 change_of _ = changes.Stays
 
--- Flush asks nothing of the server, and Close ends the session
+-- a flush and what tells of a statement ask nothing of the server, and Close ends the session
 abbrev pub is_flush : Kind → Bool
 is_flush kinds.Flush = true
+is_flush kinds.Prepare = true
 is_flush _ = false
 
 abbrev pub is_close : Kind → Bool
@@ -180,9 +241,9 @@ farewell _ = []
 abbrev pub messages_of : Request → List FrontendMessage
 messages_of request = said_in (groups_of request) ++ farewell (kind_of request)
 
--- what is asked behind it can be said too
+-- what is asked behind it can be said too, and there is a number for its name
 abbrev pub LaterCanBeSaid : Request → Type 0
-LaterCanBeSaid (requests.Describe extended) = HasFrontendFrame (Bind (name_of extended.statement) extended.arguments.values)
+LaterCanBeSaid (requests.Describe extended) = HasFrontendFrame (Bind (name_of extended.statement) extended.arguments.values) × (extended.is_numbered ≡ true)
 LaterCanBeSaid _ = Unit {0}
 
 -- a frame can carry each of them: its texts have no zero byte, and there are at most 65535 arguments
@@ -212,11 +273,13 @@ AreFew arguments = (length arguments.values ≤ 65535) × (length arguments.type
 abbrev pub IsTooLong : Extended → ℕ → Type 0
 IsTooLong x n = ((n ≡ parse_size x) × (body_max < n)) ⊎ ((parse_size x ≤ body_max) × (n ≡ bind_size x.statement x.arguments) × (body_max < n))
 
--- why a query with arguments is refused, the first cause that holds: too many arguments or types, a zero byte in the text, or a message that is too long
+-- why a query with arguments is refused, the first cause that holds: too many arguments or types, a zero byte in the text, a message that is too long, or no number
+-- that is left for its name
 abbrev pub RefusesExtended : Extended → Error → Type 0
 RefusesExtended x (errors.Protocol (protocol.Caller (callers.TooMany n))) = IsTooMany x.arguments n
 RefusesExtended x (errors.Protocol (protocol.Caller callers.Nul)) = AreFew x.arguments × (HasNoNul x.sql → ⊥)
 RefusesExtended x (errors.Protocol (protocol.Caller (callers.TooLong n))) = AreFew x.arguments × HasNoNul x.sql × IsTooLong x n
+RefusesExtended x (errors.Protocol (protocol.Caller callers.NoStatementNumber)) = AreFew x.arguments × HasNoNul x.sql × (parse_size x ≤ body_max) × (bind_size x.statement x.arguments ≤ body_max) × (x.is_numbered ≡ false)
 RefusesExtended x errors.OutOfMemory = Unit {0}
 RefusesExtended x _ = ⊥
 

@@ -1,8 +1,8 @@
 ghost use Rattle.std.specs.Prelude.{◌≡◌};
 ghost use Rattle.pg_call.specs.declared.kind.How.TheVariants as hows;
-ghost use Rattle.pg_call.specs.Answers.{TurnFits, TurnIsPlain, total_turn, unit_turn, rows_turn, optional_turn, one_turn, row_turn, count_turn, either_turn};
+ghost use Rattle.pg_call.specs.Answers.{TurnFits, TurnIsPlain, total_turn, unit_turn, rows_turn, optional_turn, one_turn, statement_turn, row_turn, count_turn, either_turn};
 
-use crate::{Kind, PgQueryResult, Request};
+use crate::{Kind, PgQueryResult, Prepared, Request};
 use either::Either;
 use pg_rows::PgRow;
 use pg_wire::{Error, Sequence};
@@ -22,6 +22,8 @@ pub enum CallAnswer {
     Total(PgQueryResult),
     Rows(Sequence<PgRow>),
     OneRow(Option<PgRow>),
+    /// A statement, as it was described.
+    Statement(Prepared),
     /// This is asked next, of the same connection: the call isn't over yet.
     Next(Request),
 }
@@ -87,6 +89,17 @@ impl Turn {
     {
         match self {
             Turn::Ok(CallAnswer::Unit) => Ok(()),
+            Turn::Err(e) => Err(e),
+            Turn::Ok(_) | Turn::Item(_) => unreachable!(),
+        }
+    }
+
+    pub fn into_statement(self) -> Result<Prepared, Error>
+        requires { TurnFits Kind.Prepare self }
+        ensures { self ≡ statement_turn result }
+    {
+        match self {
+            Turn::Ok(CallAnswer::Statement(prepared)) => Ok(prepared),
             Turn::Err(e) => Err(e),
             Turn::Ok(_) | Turn::Item(_) => unreachable!(),
         }

@@ -3,13 +3,13 @@ ghost use Rattle.pg_wire.specs.Backend as backend;
 ghost use Rattle.pg_wire.specs.Backend.{Values};
 ghost use Rattle.pg_wire.specs.Decoding.{Says};
 ghost use Rattle.pg_wire.specs.Frame.{is_known};
-ghost use Rattle.pg_call.specs.Replies.{Judges, PassesColumns, PassesRow, after_bind, after_columns, after_end, after_row, awaits_first, goes_plainly, tags_of};
+ghost use Rattle.pg_call.specs.Replies.{Judges, PassesColumns, PassesRow, after_bind, after_close, after_columns, after_end, after_row, awaits_first, closing, goes_plainly, tags_of};
 
 use crate::format::refuse;
 use crate::{PgQueryResult, Request};
 use pg_columns::PgColumns;
 use pg_wire::{
-    DataRow, Error, Frame, PgDatabaseError, TransactionStatus, check_data_row,
+    DataRow, Error, Frame, Oids, PgDatabaseError, TransactionStatus, check_data_row,
     check_row_description, claimed_width, cut_data_row, decode_bind_complete,
     decode_close_complete, decode_command_complete, decode_copy_in_response,
     decode_copy_out_response, decode_data_row, decode_empty_query, decode_error_response,
@@ -28,9 +28,9 @@ use std::alloc::Global;
 /// | `Typing` | t: `Describing` |
 /// | `Describing` | T, n: `Described(n)` |
 /// | `Binding(width)` | 2: `Running(width)` |
-/// | `Running(width)` | D of this width, or of any: `RunningOn(n)`; C, I: `Closing` |
-/// | `RunningOn(n)` | D of n values; C, I: `Closing` |
-/// | `Closing` | 3: `Synced` |
+/// | `Running(width)` | D of this width, or of any: `RunningOn(n)`; C, I: `Closing(0)` |
+/// | `RunningOn(n)` | D of n values; C, I: `Closing(0)` |
+/// | `Closing(n)` | 3: `Closing(n - 1)`, or `Synced` where n is 0 |
 ///
 /// Each fails by E. `Further`, `Described` and `Synced` close by Z. `First`, `Further` and `Running` may begin a copy by G or H. Whatever stands nowhere in
 /// the table is refused.
@@ -58,8 +58,18 @@ pub enum Part {
     Running(Option<usize>),
     /// A further row, of so many values, or the end of the rows.
     RunningOn(usize),
-    /// That the portal is closed.
-    Closing,
+    /// That the portal or a statement is closed, and behind it so many more.
+    Closing(usize),
+}
+
+// That so many statements are closed, and the end.
+fn closing(count: usize) -> Part
+    ensures { result ≡ closing count }
+{
+    match count {
+        0 => Part::Synced,
+        _ => Part::Closing(count - 1),
+    }
 }
 
 impl Part {
@@ -70,7 +80,9 @@ impl Part {
         match request {
             Request::Describe(_) => Part::Parsing,
             Request::Run(bound) => Part::Binding(bound.width()),
-            Request::Ping | Request::Flush | Request::Close => Part::Synced,
+            Request::Evict(_) => Part::Closing(0),
+            Request::Clear(statements) => closing(statements.len()),
+            Request::Prepare(_) | Request::Ping | Request::Flush | Request::Close => Part::Synced,
             _ => Part::First,
         }
     }
@@ -90,7 +102,7 @@ impl Part {
             Part::Binding(_) => matches!(tag, b'2' | b'E'),
             Part::Running(_) => matches!(tag, b'D' | b'C' | b'I' | b'E' | b'G' | b'H'),
             Part::RunningOn(_) => matches!(tag, b'D' | b'C' | b'I' | b'E'),
-            Part::Closing => matches!(tag, b'3' | b'E'),
+            Part::Closing(_) => matches!(tag, b'3' | b'E'),
         }
     }
 
@@ -137,12 +149,22 @@ impl Part {
         }
     }
 
+    // Behind CloseComplete.
+    fn after_close(self) -> Part
+        ensures { result ≡ after_close self }
+    {
+        match self {
+            Part::Closing(more) => closing(more),
+            _ => self,
+        }
+    }
+
     // Behind the end of a statement.
     fn after_end(self) -> Part
         ensures { result ≡ after_end self }
     {
         match self {
-            Part::Running(_) | Part::RunningOn(_) => Part::Closing,
+            Part::Running(_) | Part::RunningOn(_) => Part::Closing(0),
             _ => Part::Further,
         }
     }
@@ -154,6 +176,8 @@ pub enum News {
     Nothing,
     /// The columns of the rows to come.
     Columns(PgColumns),
+    /// The types of parameters.
+    Parameters(Oids),
     Row(DataRow),
     /// The rows that a statement counts.
     Count(PgQueryResult),
@@ -207,8 +231,11 @@ fn type_parameters(alloc: Global, part: Part, body: &[u8]) -> Result<Verdict, Er
     requires { is_known (tags_of part) 116 ≡ true }
     ensures { Judges part 116 body.now result }
 {
-    let _ = decode_parameter_description(alloc, body)?;
-    Ok(go_on(Part::Describing))
+    let types = decode_parameter_description(alloc, body)?;
+    Ok(Verdict::On {
+        part: Part::Describing,
+        news: News::Parameters(types),
+    })
 }
 
 fn parse(part: Part, body: &[u8]) -> Result<Verdict, Error>
@@ -227,12 +254,12 @@ fn bind(part: Part, body: &[u8]) -> Result<Verdict, Error>
     Ok(go_on(part.after_bind()))
 }
 
-fn close_portal(part: Part, body: &[u8]) -> Result<Verdict, Error>
+fn be_closed(part: Part, body: &[u8]) -> Result<Verdict, Error>
     requires { is_known (tags_of part) 51 ≡ true }
     ensures { Judges part 51 body.now result }
 {
     decode_close_complete(body)?;
-    Ok(go_on(Part::Synced))
+    Ok(go_on(part.after_close()))
 }
 
 // The end of a statement, which counts its rows.
@@ -350,7 +377,7 @@ pub fn judge(alloc: Global, part: Part, tag: u8, body: &[u8]) -> Result<Verdict,
         b't' => type_parameters(alloc, part, body),
         b'1' => parse(part, body),
         b'2' => bind(part, body),
-        b'3' => close_portal(part, body),
+        b'3' => be_closed(part, body),
         b'C' => complete(part, body),
         b'I' => be_empty(part, body),
         b'D' => row(alloc, part, body),

@@ -24,8 +24,12 @@ pub enum How {
 #[derive(Clone, Copy, Debug, PartialEq, Eq)]
 pub enum Kind {
     Run(How),
-    /// A statement is prepared, and what it takes and gives is described.
+    /// What comes behind it is made ready: a statement is prepared and described, or one that is kept is closed.
     Describe,
+    /// What was described is told.
+    Prepare,
+    /// The statements that are kept are closed.
+    Clear,
     /// A transaction is opened, or a savepoint in one.
     Begin,
     /// It is committed, or the savepoint released.
@@ -47,6 +51,22 @@ pub enum Change {
     Closes,
 }
 
+/// What becomes of the statements that are kept by an exchange that has queued its group, or is Ok.
+#[derive(Clone, Copy, Debug, PartialEq, Eq)]
+pub enum Keeping {
+    Stays,
+    /// The one of this number is used.
+    Hits(u32),
+    /// The number of the next one is used up.
+    Draws,
+    /// The one that was described is kept.
+    Puts,
+    /// The same, where the one that was used longest ago is closed for it.
+    Evicts,
+    /// None is kept.
+    Clears,
+}
+
 impl Kind {
     /// Whether it shows rows, or hands their columns on.
     pub fn sees_rows(self) -> bool
@@ -55,8 +75,14 @@ impl Kind {
         match self {
             Kind::Run(How::Execute | How::ExecuteMany) => false,
             Kind::Run(_) | Kind::Describe => true,
-            Kind::Begin | Kind::Commit | Kind::Rollback | Kind::Ping | Kind::Flush | Kind::Close =>
-                false,
+            Kind::Prepare
+            | Kind::Clear
+            | Kind::Begin
+            | Kind::Commit
+            | Kind::Rollback
+            | Kind::Ping
+            | Kind::Flush
+            | Kind::Close => false,
         }
     }
 
@@ -67,7 +93,13 @@ impl Kind {
         match self {
             Kind::Begin => Change::Opens,
             Kind::Commit | Kind::Rollback => Change::Closes,
-            Kind::Run(_) | Kind::Describe | Kind::Ping | Kind::Flush | Kind::Close => Change::Stays,
+            Kind::Run(_)
+            | Kind::Describe
+            | Kind::Prepare
+            | Kind::Clear
+            | Kind::Ping
+            | Kind::Flush
+            | Kind::Close => Change::Stays,
         }
     }
 
@@ -75,7 +107,7 @@ impl Kind {
     pub fn is_flush(self) -> bool
         ensures { result ≡ is_flush self }
     {
-        matches!(self, Kind::Flush)
+        matches!(self, Kind::Flush | Kind::Prepare)
     }
 
     /// Whether the session ends by it.

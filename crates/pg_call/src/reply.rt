@@ -6,10 +6,10 @@ ghost use Rattle.pg_call.specs.Hearing.{Hears, HearsMessage, HearsNews, fresh_re
 
 use crate::judging::{judge_row, pass_columns, pass_row};
 use crate::{
-    Bound, CallAnswer, CallItem, How, Kind, News, Part, Request, Tally, Verdict, Waiting, judge,
+    CallAnswer, CallItem, How, Kind, News, Part, Request, Rest, Tally, Verdict, Waiting, judge,
 };
 use pg_rows::{Heading, PgRow};
-use pg_wire::{DataRow, Error, Frame, PgDatabaseError, TransactionStatus};
+use pg_wire::{DataRow, Error, Frame, Oids, PgDatabaseError, TransactionStatus};
 use std::alloc::Global;
 
 /// The call's own reply, as far as it has come.
@@ -18,10 +18,12 @@ pub struct Reply {
     pub tally: Tally,
     /// What is awaited.
     pub part: Part,
-    /// What is run behind it.
-    pub rest: Option<Bound>,
+    /// What comes of it at its end.
+    pub rest: Rest,
     /// The heading of its next rows.
     pub heading: Heading,
+    /// The types of parameters that were described.
+    pub parameters: Oids,
 }
 
 // By hand, so that whoever lets one go makes one call, and doesn't go through its parts.
@@ -33,6 +35,7 @@ impl Drop for Reply {
             part: _,
             rest: _,
             heading: _,
+            parameters: _,
         } = self;
     }
 }
@@ -67,6 +70,7 @@ impl Reply {
             part,
             rest,
             heading,
+            parameters: Oids::new(alloc),
         }
     }
 
@@ -100,6 +104,10 @@ impl Reply {
                 if self.heading.columns.is_some() {
                     self.heading.columns = Some(columns);
                 }
+                Ok(None)
+            }
+            News::Parameters(types) => {
+                self.parameters = types;
                 Ok(None)
             }
             News::Row(values) => self.add_row(values),
@@ -173,7 +181,7 @@ impl Reply {
 
     /// What the call answers at the end of its reply, which told this status; or what is asked next.
     pub fn finish(self, status: TransactionStatus) -> Result<CallAnswer, Error>
-        ensures { result ≡ handed_on self.rest self.heading.columns (finished self.kind self.tally status) }
+        ensures { result ≡ handed_on self.rest self.parameters self.heading.columns (finished self.kind self.tally status) }
     {
         let Reply {
             kind,
@@ -181,10 +189,16 @@ impl Reply {
             part: _,
             rest,
             heading,
+            parameters,
         } = self;
         match rest {
-            Some(bound) => Ok(CallAnswer::Next(Request::Run(bound.told(heading.columns)))),
-            None => tally.finish(kind, status),
+            Rest::Nothing => tally.finish(kind, status),
+            Rest::Describe(extended) => {
+                let next = extended.told(parameters, heading.columns);
+                Ok(CallAnswer::Next(Request::Describe(next)))
+            }
+            Rest::After(after) => Ok(CallAnswer::Next(after.request())),
+            Rest::Tell(prepared) => Ok(CallAnswer::Statement(prepared)),
         }
     }
 }

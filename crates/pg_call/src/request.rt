@@ -1,145 +1,17 @@
-ghost use Rattle.std.specs.Prelude.{◌≡◌, ◌++◌, [], IfOk, OnOk, IfErr, option_map};
-ghost use Rattle.pg_values.specs.declared.format.PgValueFormat.TheVariants as formats;
-ghost use Rattle.pg_call.specs.Hearing.{told};
-ghost use Rattle.pg_call.specs.Requests.{kind_of, query_of, messages_of, spelled, CanBeSaid, IsRefusal, first_by, first_of, heading_for, heading_of, raw, rest_of, width_of};
+ghost use Rattle.std.specs.Prelude.{◌≡◌, ◌++◌, [], IfOk, OnOk, IfErr};
+ghost use Rattle.pg_call.specs.Requests.{kind_of, keeping_of, messages_of, raw, sort_of, spelled, CanBeSaid, IsRefusal, heading_of, rest_of};
+ghost use Rattle.pg_call.specs.Hearing.{sent_rest};
 
-use crate::writing::{encode_description, encode_run};
-use crate::{How, Kind};
-use pg_columns::{PgColumns, share_known};
-use pg_request::{Arguments, Query, begin_text, commit_text, rollback_text};
+use crate::heading::raw_heading;
+use crate::writing::{encode_closing, encode_description, encode_run};
+use crate::{Bound, CallAnswer, Eviction, Extended, How, Keeping, Kind, Prepared, Rest};
+use pg_request::{Query, begin_text, commit_text, rollback_text};
 use pg_rows::Heading;
-use pg_values::PgValueFormat;
-use pg_wire::{Blob, Error, StatementId, Text, encode_query, encode_sync, encode_terminate};
+use pg_wire::{Blob, Error, Sequence, StatementId, encode_query, encode_sync, encode_terminate};
 use std::alloc::Global;
 
-/// A text with arguments, to be prepared under a name, or without one, and described before it is run.
-#[derive(Debug, Drop)]
-pub struct Extended {
-    pub how: How,
-    pub statement: StatementId,
-    pub sql: Text,
-    pub arguments: Arguments,
-}
-
-impl Extended {
-    /// The same again. Only want of memory refuses it.
-    pub fn to_copy(&self, alloc: Global) -> Result<Self, Error>
-        ensures copy { IfOk result (λ x. x ≡ self.now) }
-        ensures memory { IfErr result (λ e. e ≡ Error.OutOfMemory) }
-    {
-        let sql = self.sql.to_copy(alloc)?;
-        let arguments = self.arguments.to_copy(alloc)?;
-        Ok(Extended {
-            how: self.how,
-            statement: self.statement,
-            sql,
-            arguments,
-        })
-    }
-}
-
-/// A statement that is prepared, to be run with these arguments.
-#[derive(Debug)]
-pub struct Bound {
-    pub how: How,
-    pub statement: StatementId,
-    pub arguments: Arguments,
-    /// Its columns, where they are known.
-    pub columns: Option<PgColumns>,
-}
-
-// By hand, so that whoever lets one go makes one call, and doesn't go through its parts.
-impl Drop for Bound {
-    fn drop(self) {
-        let Bound {
-            how: _,
-            statement: _,
-            arguments: _,
-            columns: _,
-        } = self;
-    }
-}
-
-// The heading of rows of these columns, as far as a call of this kind sees them.
-fn heading(kind: Kind, columns: PgColumns, format: PgValueFormat) -> Heading
-    ensures { result ≡ heading_for kind columns format }
-{
-    let columns = if kind.sees_rows() {
-        Some(columns)
-    } else {
-        None
-    };
-    Heading { columns, format }
-}
-
-// The heading of rows before their columns are described.
-fn raw_heading(kind: Kind) -> Heading
-    ensures { result ≡ heading_for kind [] formats.Text }
-{
-    heading(kind, PgColumns::none(), PgValueFormat::Text)
-}
-
-impl Bound {
-    /// The same again. Only want of memory refuses it.
-    pub fn to_copy(&self, alloc: Global) -> Result<Self, Error>
-        ensures copy { IfOk result (λ x. x ≡ self.now) }
-        ensures memory { IfErr result (λ e. e ≡ Error.OutOfMemory) }
-    {
-        let arguments = self.arguments.to_copy(alloc)?;
-        let columns = share_known(&self.columns)?;
-        Ok(Bound {
-            how: self.how,
-            statement: self.statement,
-            arguments,
-            columns,
-        })
-    }
-
-    /// How many columns it has, where that is known.
-    pub fn width(&self) -> Option<usize>
-        ensures { result ≡ width_of self.now }
-    {
-        match &self.columns {
-            Some(columns) => Some(columns.len()),
-            None => None,
-        }
-    }
-
-    /// The same, once its columns were described.
-    pub(crate) fn told(self, columns: Option<PgColumns>) -> Self
-        ensures { result ≡ told columns self }
-    {
-        let Bound {
-            how,
-            statement,
-            arguments,
-            columns: _,
-        } = self;
-        Bound {
-            how,
-            statement,
-            arguments,
-            columns,
-        }
-    }
-
-    // The heading of its rows, as far as it is known.
-    fn into_heading(self) -> Heading
-        ensures { result ≡ heading_of (Request.Run self) }
-    {
-        let Bound {
-            how,
-            statement: _,
-            arguments: _,
-            columns,
-        } = self;
-        let columns = columns.unwrap_or_else(PgColumns::none);
-        heading(Kind::Run(how), columns, PgValueFormat::Binary)
-    }
-}
-
-/// What a caller asks of a connection. A query with arguments is asked in two exchanges, `Describe` and then `Run`, which `first` and the answer of
-/// the first of them make. (PostgreSQL manual, "Message Flow", "Extended Query".)
+/// What is asked of a connection. A query with arguments is asked in exchanges of their own: `Describe` and then `Run`, or `Run` alone where its statement is
+/// kept, and `Evict` between them where another statement is closed for it. (PostgreSQL manual, "Message Flow", "Extended Query".)
 pub enum Request {
     Execute(Query),
     ExecuteMany(Query),
@@ -160,6 +32,12 @@ pub enum Request {
     Describe(Extended),
     /// Runs a statement that is prepared.
     Run(Bound),
+    /// Closes a statement that is kept.
+    Evict(Eviction),
+    /// Tells of a statement, which is described before where it has to be. It asks nothing of the server.
+    Prepare(Prepared),
+    /// Closes these statements, the first of them first. A caller gives none: they are all that are kept.
+    Clear(Sequence<StatementId>),
     /// Asks for a sign of life: a Sync, which the server answers by ReadyForQuery.
     Ping,
     /// Sends what is unsent, and reads what is owed.
@@ -185,6 +63,9 @@ impl Drop for Request {
             | Request::Rollback(_)
             | Request::Describe(_)
             | Request::Run(_)
+            | Request::Evict(_)
+            | Request::Prepare(_)
+            | Request::Clear(_)
             | Request::Ping
             | Request::Flush
             | Request::Close => {}
@@ -192,37 +73,51 @@ impl Drop for Request {
     }
 }
 
-// A query as it is, or its description where it has arguments.
-fn first(how: How, query: Query) -> Request
-    ensures { result ≡ first_by how query query.arguments (raw how query) }
-{
-    match query.into_extended() {
-        Ok((sql, arguments)) => Request::Describe(Extended {
-            how,
-            statement: StatementId::UNNAMED,
-            sql,
-            arguments,
-        }),
-        Err(query) => raw(how, query),
-    }
-}
-
-// A query without arguments.
-fn raw(how: How, query: Query) -> Request
-    ensures { result ≡ raw how query }
-{
-    match how {
-        How::Execute => Request::Execute(query),
-        How::ExecuteMany => Request::ExecuteMany(query),
-        How::Fetch => Request::Fetch(query),
-        How::FetchMany => Request::FetchMany(query),
-        How::FetchAll => Request::FetchAll(query),
-        How::FetchOptional => Request::FetchOptional(query),
-        How::FetchOne => Request::FetchOne(query),
-    }
+/// What is asked, by what decides how: a query in one of its ways, a description, a statement to be told of, all that are kept, or what is asked as it is.
+#[derive(Drop)]
+pub enum Sort {
+    Query(How, Query),
+    Describe(Extended),
+    Prepare(Prepared),
+    Clear,
+    Plain(Request),
 }
 
 impl Request {
+    /// What it is, by what decides how it is asked.
+    pub fn sort(self) -> Sort
+        ensures { result ≡ sort_of self }
+    {
+        match self {
+            Request::Execute(query) => Sort::Query(How::Execute, query),
+            Request::ExecuteMany(query) => Sort::Query(How::ExecuteMany, query),
+            Request::Fetch(query) => Sort::Query(How::Fetch, query),
+            Request::FetchMany(query) => Sort::Query(How::FetchMany, query),
+            Request::FetchAll(query) => Sort::Query(How::FetchAll, query),
+            Request::FetchOptional(query) => Sort::Query(How::FetchOptional, query),
+            Request::FetchOne(query) => Sort::Query(How::FetchOne, query),
+            Request::Describe(extended) => Sort::Describe(extended),
+            Request::Prepare(prepared) => Sort::Prepare(prepared),
+            Request::Clear(_) => Sort::Clear,
+            other => Sort::Plain(other),
+        }
+    }
+
+    /// A query without arguments, in this way.
+    pub fn raw(how: How, query: Query) -> Self
+        ensures { result ≡ raw how query }
+    {
+        match how {
+            How::Execute => Request::Execute(query),
+            How::ExecuteMany => Request::ExecuteMany(query),
+            How::Fetch => Request::Fetch(query),
+            How::FetchMany => Request::FetchMany(query),
+            How::FetchAll => Request::FetchAll(query),
+            How::FetchOptional => Request::FetchOptional(query),
+            How::FetchOne => Request::FetchOne(query),
+        }
+    }
+
     /// What is asked, without its text.
     pub fn kind(&self) -> Kind
         ensures { result ≡ kind_of self.now }
@@ -240,56 +135,55 @@ impl Request {
             Request::Rollback(_) => Kind::Rollback,
             Request::Describe(_) => Kind::Describe,
             Request::Run(bound) => Kind::Run(bound.how),
+            Request::Evict(_) => Kind::Describe,
+            Request::Prepare(_) => Kind::Prepare,
+            Request::Clear(_) => Kind::Clear,
             Request::Ping => Kind::Ping,
             Request::Flush => Kind::Flush,
             Request::Close => Kind::Close,
         }
     }
 
-    /// What is asked first: a query with arguments is described.
-    pub fn first(self) -> Self
-        ensures { result ≡ first_of self }
+    /// What it makes of the statements that are kept.
+    pub fn keeping(&self) -> Keeping
+        ensures { result ≡ keeping_of self.now }
     {
         match self {
-            Request::Execute(query) => first(How::Execute, query),
-            Request::ExecuteMany(query) => first(How::ExecuteMany, query),
-            Request::Fetch(query) => first(How::Fetch, query),
-            Request::FetchMany(query) => first(How::FetchMany, query),
-            Request::FetchAll(query) => first(How::FetchAll, query),
-            Request::FetchOptional(query) => first(How::FetchOptional, query),
-            Request::FetchOne(query) => first(How::FetchOne, query),
-            other => other,
+            Request::Describe(extended) => extended.keeping(),
+            Request::Run(bound) => bound.keeping,
+            Request::Evict(_) => Keeping::Evicts,
+            Request::Prepare(prepared) => prepared.keeping,
+            Request::Clear(_) => Keeping::Clears,
+            _ => Keeping::Stays,
         }
     }
 
-    /// What is run behind its reply, and the heading of its rows before a message of the reply has come, where this is its kind.
-    pub(crate) fn into_parts(self, kind: Kind) -> (Option<Bound>, Heading)
+    /// What comes of it at its end, and the heading of its rows before a message of the reply has come, where this is its kind.
+    pub(crate) fn into_parts(self, kind: Kind) -> (Rest, Heading)
         requires { kind ≡ kind_of self }
         ensures { result ≡ (rest_of self, heading_of self) }
     {
         match self {
-            Request::Describe(
-                Extended {
-                    how,
-                    statement,
-                    sql: _,
-                    arguments,
-                },
-            ) => {
-                let rest = Bound {
-                    how,
-                    statement,
-                    arguments,
-                    columns: None,
-                };
-                (Some(rest), raw_heading(kind))
-            }
-            Request::Run(bound) => (None, bound.into_heading()),
-            _ => (None, raw_heading(kind)),
+            Request::Describe(extended) => (Rest::Describe(extended), raw_heading(kind)),
+            Request::Run(bound) => (Rest::Nothing, bound.into_heading()),
+            Request::Evict(eviction) => (Rest::After(eviction.after), raw_heading(kind)),
+            Request::Prepare(prepared) => (Rest::Tell(prepared), raw_heading(kind)),
+            _ => (Rest::Nothing, raw_heading(kind)),
         }
     }
 
-    /// The frames that ask it, or why no frame can: too many arguments, a zero byte in the text, or a text that is too long for a frame.
+    // What is answered where nothing is left but to send.
+    pub(crate) fn into_answer(self) -> CallAnswer
+        ensures { result ≡ sent_rest (rest_of self) }
+    {
+        match self {
+            Request::Prepare(prepared) => CallAnswer::Statement(prepared),
+            _ => CallAnswer::Unit,
+        }
+    }
+
+    /// The frames that ask it, or why no frame can: too many arguments, a zero byte in the text, a text that is too long for a frame, or no number that is
+    /// left for a name.
     pub fn encode(&self, alloc: Global) -> Result<Blob, Error>
         ensures ok { IfOk result (λ frames. frames ≡ spelled (messages_of self.now)) }
         ensures said { OnOk result (CanBeSaid self.now) }
@@ -310,9 +204,11 @@ impl Request {
             Request::Rollback(left) => encode_query(&mut frames, rollback_text(*left).as_str())?,
             Request::Describe(extended) => encode_description(&mut frames, extended)?,
             Request::Run(bound) => encode_run(&mut frames, bound)?,
+            Request::Evict(eviction) => encode_closing(&mut frames, &[eviction.statement])?,
+            Request::Clear(statements) => encode_closing(&mut frames, statements.as_slice())?,
             Request::Ping => encode_sync(&mut frames)?,
             Request::Close => encode_terminate(&mut frames)?,
-            Request::Flush => {}
+            Request::Prepare(_) | Request::Flush => {}
         }
         Ok(frames)
     }

@@ -1,9 +1,11 @@
 ghost use Rattle.std.specs.Prelude.{◌≡◌, ◌≢◌, ◌<◌, true, false, IfOk, IfErr, OnErr};
 ghost use Rattle.pg_wire.specs.Decoding.{IsRefused};
 ghost use Rattle.pg_call.specs.Calls.{owes_own, IsAwaiting, StaysIn, TakesMessage, RefusesMessage};
-ghost use Rattle.pg_call.specs.Hearing.{Drains, Closes, RefusesCopy, Follows, IsReplied, awaits, keeps_now, marked, waits};
+ghost use Rattle.pg_call.specs.Hearing.{Drains, Closes, RefusesCopy, Follows, IsReplied, asked_in, awaits, keeps_now, marked, sent_answer, waits, without_asked};
 
-use crate::{Beat, Call, CallAnswer, CallItem, Heard, Ledger, Part, Reply, Taken, Waiting};
+use crate::{
+    Beat, Call, CallAnswer, CallItem, Heard, Ledger, Part, Reply, Request, Taken, Waiting,
+};
 use pg_wire::{
     Blob, Error, Frame, ProtocolFault, TransactionStatus, decode_error_response,
     decode_ready_for_query,
@@ -66,6 +68,27 @@ fn awaiting(alloc: Global, call: Call) -> Call
     }
 }
 
+// What is asked, and what stands in its place.
+fn taken(call: Call) -> (Option<Request>, Call)
+    ensures { result ≡ (asked_in call, without_asked call) }
+{
+    match call {
+        Call::Asked(request) => (Some(request), Call::Idle),
+        call => (None, call),
+    }
+}
+
+// What is answered where nothing is left but to send.
+fn sent(call: Call) -> CallAnswer
+    ensures { result ≡ sent_answer call }
+{
+    match call {
+        Call::Asked(request) => request.into_answer(),
+        Call::Waiting(waiting) => waiting.into_answer(),
+        _ => CallAnswer::Unit,
+    }
+}
+
 impl Running {
     /// No call runs, and nothing is owed.
     pub fn new() -> Self
@@ -75,6 +98,16 @@ impl Running {
             ledger: Ledger::new(),
             call: Call::Idle,
         }
+    }
+
+    /// What is asked, which is taken out where it was not begun yet.
+    pub fn take_asked(&mut self) -> Option<Request>
+        ensures asked { result ≡ asked_in self.old.call }
+        ensures now { self.new ≡ record self.old { call = without_asked self.old.call } }
+    {
+        let (request, call) = taken(mem::replace(&mut self.call, Call::Idle));
+        self.call = call;
+        request
     }
 
     // No call runs any more.
@@ -111,6 +144,14 @@ impl Running {
     {
         self.stop();
         plain(Beat::Ends(answer))
+    }
+
+    /// Nothing is left but to send, and that is done: the call ends, and this is its answer.
+    pub fn end_sent(&mut self) -> CallAnswer
+        ensures answer { result ≡ sent_answer self.old.call }
+        ensures idle { self.new ≡ record self.old { call = Call.Idle } }
+    {
+        sent(mem::replace(&mut self.call, Call::Idle))
     }
 
     // Marks whether a CopyFail was queued for the reply that is drained now.

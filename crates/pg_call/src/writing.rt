@@ -1,15 +1,16 @@
-ghost use Rattle.std.specs.Prelude.{◌≡◌, ◌<◌, ◌≤◌, ◌++◌, length, IfErr, OnOk};
+ghost use Rattle.std.specs.Prelude.{◌≡◌, ◌<◌, ◌≤◌, ◌++◌, length, map, true, false, IfErr, OnOk};
 ghost use Rattle.std.specs.List.{AllByRecursion};
 ghost use Rattle.pg_wire.specs.Encoding.{body_max};
 ghost use Rattle.pg_wire.specs.Frontend.{Bind, FitsValue, HasFrontendFrame};
-ghost use Rattle.pg_exchanges.specs.Answering.{describing, running};
-ghost use Rattle.pg_call.specs.Requests.{name_of, spelled, bind_size, RefusesExtended, RefusesBind};
+ghost use Rattle.pg_exchanges.specs.Answering.{closing, describing, running};
+ghost use Rattle.pg_call.specs.Requests.{close_of, name_of, spelled, bind_size, RefusesExtended, RefusesBind};
 
 use crate::{Bound, Extended};
 use pg_request::Arguments;
 use pg_wire::{
     Blob, CallerFault, Error, PortalId, ProtocolFault, StatementId, check_body, encode_bind,
-    encode_close_portal, encode_describe_statement, encode_execute, encode_parse, encode_sync,
+    encode_close_portal, encode_close_statement, encode_describe_statement, encode_execute,
+    encode_parse, encode_sync,
 };
 
 // Refuses more arguments than two bytes can count.
@@ -46,18 +47,31 @@ fn check_bind(statement: StatementId, arguments: &Arguments) -> Result<(), Error
     Ok(())
 }
 
+// Refuses a statement for whose name no number is left.
+fn check_number(extended: &Extended) -> Result<(), Error>
+    ensures ok { OnOk result (extended.now.is_numbered ≡ true) }
+    ensures err { IfErr result (λ e. (e ≡ Error.Protocol (ProtocolFault.Caller CallerFault.NoStatementNumber)) × (extended.now.is_numbered ≡ false)) }
+{
+    if extended.is_numbered {
+        Ok(())
+    } else {
+        Err(Error::Protocol(ProtocolFault::Caller(CallerFault::NoStatementNumber)))
+    }
+}
+
 /// Adds the frames that prepare and describe a statement. What runs it later is looked at first, so that it is refused before anything is asked.
 /// (PostgreSQL manual, "Message Flow", "Extended Query".)
 pub(crate) fn encode_description(out: &mut Blob, extended: &Extended) -> Result<(), Error>
     ensures ok { OnOk result (out.new ≡ out.old ++ spelled (describing (name_of extended.now.statement) extended.now.sql extended.now.arguments.types)) }
     ensures said { OnOk result (AllByRecursion HasFrontendFrame (describing (name_of extended.now.statement) extended.now.sql extended.now.arguments.types)) }
-    ensures later { OnOk result (HasFrontendFrame (Bind (name_of extended.now.statement) extended.now.arguments.values)) }
+    ensures later { OnOk result (HasFrontendFrame (Bind (name_of extended.now.statement) extended.now.arguments.values) × (extended.now.is_numbered ≡ true)) }
     ensures err { IfErr result (RefusesExtended extended.now) }
 {
     check_count(&extended.arguments)?;
     let sql = extended.sql.as_str();
     encode_parse(out, extended.statement, sql, extended.arguments.types())?;
     check_bind(extended.statement, &extended.arguments)?;
+    check_number(extended)?;
     encode_describe_statement(out, extended.statement)?;
     encode_sync(out)
 }
@@ -76,5 +90,27 @@ pub(crate) fn encode_run(out: &mut Blob, bound: &Bound) -> Result<(), Error>
     )?;
     encode_execute(out, PortalId::UNNAMED, 0)?;
     encode_close_portal(out, PortalId::UNNAMED)?;
+    encode_sync(out)
+}
+
+// Adds the frame that closes each of these statements.
+fn close_each(out: &mut Blob, statements: &[StatementId]) -> Result<(), Error>
+    ensures ok { OnOk result (out.new ≡ out.old ++ spelled (map close_of statements.now)) }
+    ensures said { OnOk result (AllByRecursion HasFrontendFrame (map close_of statements.now)) }
+    ensures err { IfErr result (λ e. e ≡ Error.OutOfMemory) }
+{
+    for statement in statements {
+        encode_close_statement(out, *statement)?;
+    }
+    Ok(())
+}
+
+/// Adds the frames that close statements, the first of these first.
+pub(crate) fn encode_closing(out: &mut Blob, statements: &[StatementId]) -> Result<(), Error>
+    ensures ok { OnOk result (out.new ≡ out.old ++ spelled (closing (map name_of statements.now))) }
+    ensures said { OnOk result (AllByRecursion HasFrontendFrame (closing (map name_of statements.now))) }
+    ensures err { IfErr result (λ e. e ≡ Error.OutOfMemory) }
+{
+    close_each(out, statements)?;
     encode_sync(out)
 }

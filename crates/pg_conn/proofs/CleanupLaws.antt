@@ -14,7 +14,12 @@ use Rattle.pg_call.specs.declared.kind.Change.TheVariants as changes
 use Rattle.pg_call.specs.declared.request.Request.{Request}
 use Rattle.pg_call.specs.Requests.{spelled}
 use Rattle.pg_rule.specs.declared.rule.Rule.{Rule}
-use Rattle.pg_conn.specs.Connections.{ConnSeen, with_depth, cleaned, counted_anew, depth_behind, ended, fresh_connection, has_room_for, idle, left, may_open, opens, queued_group, rollback, rolled, rolled_back, runs, settled, started_call, with_group}
+use Rattle.pg_conn.specs.Connections.{ConnSeen, with_depth, cleaned, counted_anew, depth_behind, ended, fresh_connection, has_room_for, idle, left, may_open, opens, queued_group, resolved, resolved_by, restated, rollback, rolled, rolled_back, runs, settled, started_call, with_group}
+use Rattle.pg_call.specs.declared.calling.Call.{Call}
+use Rattle.pg_call.specs.declared.calling.Call.TheVariants as calls
+use Rattle.pg_call.specs.declared.ledger.Ledger.{Ledger}
+use Rattle.pg_conn.specs.Statements.{moved, unmoved, step_of}
+use Rattle.pg_conn.proofs.StatementLaws.{depth_moved, depth_unmoved, depth_held}
 use Rattle.pg_conn.specs.Turns.{HasAllRoom, HasRoom, HasRoomBeside, behind, broken_by, cleanup_of, level_of}
 
 pub fits_room : (bytes : List ℕ) (c : ConnSeen) → has_room_for bytes c ≡ true → (length bytes ≤ c.stream.spare) × (c.ledger.owed < 2 ^ 64 - 1)
@@ -76,14 +81,35 @@ room_queued n frame c s h = by (has_room_for frame c)
     by true = omega (arith, s, h)
     by false = omega (arith, h)
 
+-- what becomes of the statements takes no room, and leaves the depth
+record Restates (c d : ConnSeen) : Type 0 where
+  spare : d.stream.spare ≡ c.stream.spare
+  call : d.call ≡ c.call
+  ledger : d.ledger ≡ c.ledger
+  stream : d.stream ≡ c.stream
+  change : d.change ≡ c.change
+  depth : d.rule.depth ≡ c.rule.depth
+
+restates : (c : ConnSeen) → Restates c (restated c)
+restates c = by (nat_eq c.groups 0)
+  where
+    by : (b : Bool) → Restates c (cond b (record c { rule = unmoved c.keeping c.rule }) (record c { rule = moved c.keeping c.rule; cache = step_of c.keeping c.cache }))
+    by true = record { spare = refl; call = refl; ledger = refl; stream = refl; change = refl; depth = depth_unmoved c.keeping c.rule }
+    by false = record { spare = refl; call = refl; ledger = refl; stream = refl; change = refl; depth = depth_moved c.keeping c.rule }
+
 pub room_cleaned : (n : ℕ) (c : ConnSeen) → HasRoomBeside n c → HasRoomBeside n (cleaned c)
+unfolding restates
 room_cleaned n c h = by (may_open c.change c.groups c.rule.depth) refl
   where
-    by : (b : Bool) → may_open c.change c.groups c.rule.depth ≡ b → HasRoomBeside n (ended (cond b (queued_group (spelled (rollback 0)) c) c))
+    same : Restates c (restated c)
+    same = restates c
+
+    by : (b : Bool) → may_open c.change c.groups c.rule.depth ≡ b → HasRoomBeside n (ended (cond b (queued_group (spelled (rollback 0)) (restated c)) (restated c)))
     by true e =
         let level = opening c.change c.groups c.rule.depth e in
-        room_ended n (queued_group (spelled (rollback 0)) c) (room_queued n (spelled (rollback 0)) c (rollback_short 0 (omega arith)) (omega (arith, h, level)))
-    by false e = room_ended n c (omega (arith, h))
+        let wants = ap cleanup_of same.call in
+        room_ended n (queued_group (spelled (rollback 0)) (restated c)) (room_queued n (spelled (rollback 0)) (restated c) (rollback_short 0 (omega arith)) (omega (arith, h, level, wants, same.spare)))
+    by false e = let wants = ap cleanup_of same.call in room_ended n (restated c) (omega (arith, h, wants, same.spare))
 
 -- what is known of the session stays
 rule_queued : (frame : List ℕ) (c : ConnSeen) → (queued_group frame c).rule ≡ c.rule
@@ -93,15 +119,18 @@ rule_queued frame c = by (has_room_for frame c)
     by true = refl
     by false = refl
 
-pub rule_cleaned : (c : ConnSeen) → (cleaned c).rule ≡ c.rule
+pub rule_cleaned : (c : ConnSeen) → (cleaned c).rule ≡ (restated c).rule
 rule_cleaned c = by (may_open c.change c.groups c.rule.depth)
   where
-    by : (b : Bool) → (ended (cond b (queued_group (spelled (rollback 0)) c) c)).rule ≡ c.rule
-    by true = rule_queued (spelled (rollback 0)) c
+    by : (b : Bool) → (ended (cond b (queued_group (spelled (rollback 0)) (restated c)) (restated c))).rule ≡ (restated c).rule
+    by true = rule_queued (spelled (rollback 0)) (restated c)
     by false = refl
 
+pub depth_cleaned : (c : ConnSeen) → (cleaned c).rule.depth ≡ c.rule.depth
+depth_cleaned c = ap (λ (r : Rule). r.depth) (rule_cleaned c) ∙ (restates c).depth
+
 pub all_cleaned : (c : ConnSeen) → HasAllRoom c → HasAllRoom (cleaned c)
-all_cleaned c h = subst (λ (r : Rule). HasRoomBeside (64 * r.depth) (cleaned c)) (sym (rule_cleaned c)) (room_cleaned (64 * c.rule.depth) c h)
+all_cleaned c h = subst (λ (n : ℕ). HasRoomBeside (64 * n) (cleaned c)) (sym (depth_cleaned c)) (room_cleaned (64 * c.rule.depth) c h)
 
 -- an Ok of a begin takes the room that was kept for it
 depth_fits : (change : Change) (groups depth : ℕ) → 64 * depth_behind change groups depth ≤ 64 * depth + level_of change groups
@@ -114,7 +143,7 @@ depth_fits changes.Opens groups depth = by (nat_eq groups 0)
     by false = omega arith
 
 pub all_settled : (c : ConnSeen) → HasAllRoom c → HasAllRoom (settled c)
-all_settled c h = omega (arith, h, depth_fits c.change c.groups c.rule.depth, level_none c.groups)
+all_settled c h = omega (arith, h, depth_fits c.change c.groups c.rule.depth, level_none c.groups, depth_moved c.keeping (with_depth (depth_behind c.change c.groups c.rule.depth) c.rule))
 
 room_settled : (c : ConnSeen) → HasRoom c → HasRoom (settled c)
 room_settled c h = omega (arith, h, level_none c.groups)
@@ -145,12 +174,33 @@ all_left c h = by (runs c.call)
 pub all_started : (a : ConnSeen) (request : Request) → HasAllRoom a → HasAllRoom (started_call request a)
 all_started a request h = let k = all_left a h in omega (arith, k)
 
-pub rule_left : (c : ConnSeen) → (left c).rule ≡ c.rule
-rule_left c = by (runs c.call)
+pub depth_left : (c : ConnSeen) → (left c).rule.depth ≡ c.rule.depth
+depth_left c = by (runs c.call)
   where
-    by : (b : Bool) → (cond b (idle (cleaned c)) c).rule ≡ c.rule
-    by true = rule_cleaned c
+    by : (b : Bool) → (cond b (idle (cleaned c)) c).rule.depth ≡ c.rule.depth
+    by true = depth_cleaned c
     by false = refl
+
+-- what stands as an exchange has the room that there was
+pub room_resolved : (c : ConnSeen) → HasRoom c → HasRoom (resolved c)
+room_resolved c h = by c.call refl
+  where
+    by : (call : Call) → c.call ≡ call → HasRoom (resolved_by call c)
+    by (calls.Asked r) e = omega arith
+    by calls.Idle e = h
+    by (calls.Waiting w) e = h
+    by (calls.Own reply) e = h
+    by calls.Closing e = h
+
+pub all_resolved : (c : ConnSeen) → HasAllRoom c → HasAllRoom (resolved c)
+all_resolved c h = by c.call refl
+  where
+    by : (call : Call) → c.call ≡ call → HasAllRoom (resolved_by call c)
+    by (calls.Asked r) e = omega (arith, h, depth_held c.rule r)
+    by calls.Idle e = h
+    by (calls.Waiting w) e = h
+    by (calls.Own reply) e = h
+    by calls.Closing e = h
 
 change_queued : (frame : List ℕ) (c : ConnSeen) → (queued_group frame c).change ≡ c.change
 change_queued frame c = by (has_room_for frame c)
@@ -184,15 +234,17 @@ pub all_rolled_back : (a : ConnSeen) → a.rule.depth < 2 ^ 64 → HasAllRoom a 
 all_rolled_back a l h =
     let k = all_left a h in
     let d : ConnSeen = ended (counted_anew (left a)) in
-    all_rolled d (rw (rule_left a) l) refl (omega (arith, k, level_none 0))
+    all_rolled d (rw (depth_left a) l) refl (omega (arith, k, level_none 0))
 
 -- ---- a begin that is dropped
 
-pub rolls_dropped : (c : ConnSeen) → runs c.call ≡ true → may_open c.change c.groups c.rule.depth ≡ true → HasRoom c → c.ledger.owed < 2 ^ 64 - 1 → left c ≡ idle (ended (with_group (spelled (rollback 0)) c))
+pub rolls_dropped : (c : ConnSeen) → runs c.call ≡ true → may_open c.change c.groups c.rule.depth ≡ true → HasRoom c → c.ledger.owed < 2 ^ 64 - 1 → left c ≡ idle (ended (with_group (spelled (rollback 0)) (restated c)))
 rolls_dropped c r m h l =
     let short = rollback_short 0 (omega arith) in
     let level = opening c.change c.groups c.rule.depth m in
-    let room = has_room (spelled (rollback 0)) c (omega (arith, short, level, h)) l in
+    let same = restates c in
+    let owed = ap (λ (x : Ledger). x.owed) same.ledger in
+    let room = has_room (spelled (rollback 0)) (restated c) (omega (arith, short, level, h, same.spare)) (omega (arith, l, owed)) in
     rw (r, m, room) refl
 
 -- and of another call nothing is queued
@@ -200,9 +252,9 @@ pub stays_dropped : (c : ConnSeen) → may_open c.change c.groups c.rule.depth �
 stays_dropped c m = by (runs c.call)
   where
     by : (b : Bool) → ((cond b (idle (cleaned c)) c).ledger ≡ c.ledger) × ((cond b (idle (cleaned c)) c).stream ≡ c.stream)
-    by true = rw m (refl, refl)
+    by true = rw m ((restates c).ledger, (restates c).stream)
     by false = (refl, refl)
 
 -- behind start-up nothing is open
-pub all_fresh : (stream : StreamSeen) (sent read : ℕ) → HasAllRoom (fresh_connection stream sent read)
-all_fresh stream sent read = omega arith
+pub all_fresh : (capacity : ℕ) (stream : StreamSeen) (sent read : ℕ) → HasAllRoom (fresh_connection capacity stream sent read)
+all_fresh capacity stream sent read = omega arith

@@ -1,7 +1,9 @@
 -- What is owed between any two polls follows from where the call stands before and behind each.
-use Rattle.std.proofs.Common.{◌≡◌, ◌⊎◌, inl, inr, ℕ, ◌+◌, Bool, true, false, not, ◌&&◌, ◌==◌, cond, List, [], ◌∷◌, ◌++◌, length, codes, refl, sym, ap, ◌∙◌, subst, arith, Result, Ok, Err, Option, Some, None, ◌-◌, nat_eq}
+use Rattle.std.proofs.Common.{◌≡◌, ◌⊎◌, inl, inr, ℕ, ◌+◌, Bool, true, false, not, ◌&&◌, ◌==◌, cond, List, [], ◌∷◌, ◌++◌, append-nil, map, length, codes, refl, sym, ap, ◌∙◌, subst, arith, Result, Ok, Err, Option, Some, None, ◌-◌, nat_eq}
 use Rattle.pg_conn.proofs.CleanupLaws.{group_moves, fits_room}
 use Rattle.std.specs.List.{count_by}
+use Rattle.pg_exchanges.specs.Answering.{closing as closing_group}
+use Rattle.pg_conn.specs.Statements.{moved, unmoved, step_of}
 use Rattle.std.proofs.lemmas.List.Sums.{sum_by-append, sum_by-cons}
 use Rattle.futures.specs.declared.task.Poll.{Poll}
 use Rattle.pg_wire.specs.declared.error.Error.{Error}
@@ -25,16 +27,16 @@ use Rattle.pg_call.specs.declared.calling.Call.{Call}
 use Rattle.pg_call.specs.declared.calling.Call.TheVariants as calls
 use Rattle.pg_call.specs.declared.calling.Beat.{Beat}
 use Rattle.pg_call.specs.declared.calling.Beat.TheVariants as beats
-use Rattle.pg_call.specs.Requests.{Group, said_in, kind_of, groups_of, messages_of, farewell, CanBeSaid, copy_fail, spelled}
+use Rattle.pg_call.specs.Requests.{Group, said_in, kind_of, name_of, groups_of, messages_of, farewell, CanBeSaid, copy_fail, spelled}
 use Rattle.pg_call.specs.Drains.{before_readys, is_copy_in, failed_behind, fails_for, drain_fails}
 use Rattle.pg_call.specs.Hearing.{fails_of}
 use Rattle.pg_call.specs.Calls.{CallIs, IsDraining, Leaves, IsFine, CallEnds}
-use Rattle.pg_conn.proofs.StateLaws.{hands_keep, last_calls}
-use Rattle.pg_conn.specs.Connections.{ConnSeen, with_depth, handed, idle, started_call, begun_with, left, cleaned, settled, ended, rolled, rolled_back, counted_anew, queued_group, with_group, has_room_for, rollback, may_open, runs}
+use Rattle.pg_conn.proofs.StateLaws.{hands_keep, last_calls, resolved_calls}
+use Rattle.pg_conn.specs.Connections.{ConnSeen, with_depth, handed, idle, started_call, begun_with, left, cleaned, settled, ended, resolved, resolved_by, restated, rolled, rolled_back, counted_anew, queued_group, with_group, has_room_for, rollback, may_open, runs}
 use Rattle.pg_conn.specs.Turns.{ends_request, Tells, TakesBeat, Polled, PollsThrough, PollsBy, PollsWithin, hands_on, beat_of, behind, broken_by}
 use Rattle.pg_conn.specs.States.{IsCalling}
 use Rattle.pg_conn.specs.Ledgers.{Owes, OwesSome}
-use Rattle.pg_conn.proofs.TurnLaws.{counts-append, no_groups, is_Z, spelled-append}
+use Rattle.pg_conn.proofs.TurnLaws.{closes_said, counts-append, no_groups, is_Z, spelled-append}
 
 -- ---- ReadyForQuery is no asynchronous message
 
@@ -95,6 +97,9 @@ groups_ask (requests.Commit left) = refl
 groups_ask (requests.Rollback left) = refl
 groups_ask (requests.Describe extended) = refl
 groups_ask (requests.Run bound) = refl
+groups_ask (requests.Evict eviction) = refl
+groups_ask (requests.Clear statements) = rw (append-nil (closing_group (map name_of statements))) (closes_said (map name_of statements))
+groups_ask (requests.Prepare prepared) = refl
 groups_ask requests.Ping = refl
 groups_ask requests.Flush = refl
 groups_ask requests.Close = refl
@@ -102,6 +107,8 @@ groups_ask requests.Close = refl
 farewell_asks_none : (kind : Kind) → count_by ends_request (farewell kind) ≡ 0
 farewell_asks_none (kinds.Run how) = refl
 farewell_asks_none kinds.Describe = refl
+farewell_asks_none kinds.Prepare = refl
+farewell_asks_none kinds.Clear = refl
 farewell_asks_none kinds.Begin = refl
 farewell_asks_none kinds.Commit = refl
 farewell_asks_none kinds.Rollback = refl
@@ -239,12 +246,46 @@ owes_by a b c o s l = (
   },
 )
 
+restated_stream : (c : ConnSeen) → (restated c).stream ≡ c.stream
+restated_stream c = by (nat_eq c.groups 0)
+  where
+    by : (b : Bool) → (cond b (record c { rule = unmoved c.keeping c.rule }) (record c { rule = moved c.keeping c.rule; cache = step_of c.keeping c.cache })).stream ≡ c.stream
+    by true = refl
+    by false = refl
+
+restated_ledger : (c : ConnSeen) → (restated c).ledger ≡ c.ledger
+restated_ledger c = by (nat_eq c.groups 0)
+  where
+    by : (b : Bool) → (cond b (record c { rule = unmoved c.keeping c.rule }) (record c { rule = moved c.keeping c.rule; cache = step_of c.keeping c.cache })).ledger ≡ c.ledger
+    by true = refl
+    by false = refl
+
+resolved_stream : (c : ConnSeen) → (resolved c).stream ≡ c.stream
+resolved_stream c = by c.call
+  where
+    by : (call : Call) → (resolved_by call c).stream ≡ c.stream
+    by (calls.Asked r) = refl
+    by _ = refl
+
+resolved_ledger : (c : ConnSeen) → (resolved c).ledger ≡ c.ledger
+resolved_ledger c = by c.call
+  where
+    by : (call : Call) → (resolved_by call c).ledger ≡ c.ledger
+    by (calls.Asked r) = refl
+    by _ = refl
+
 owes_cleaned : (c : ConnSeen) → OwesSome c (cleaned c)
 owes_cleaned c = by (may_open c.change c.groups c.rule.depth)
   where
-    by : (b : Bool) → OwesSome c (ended (cond b (queued_group (spelled (rollback 0)) c) c))
-    by true = owes_by c (queued_group (spelled (rollback 0)) c) (ended (queued_group (spelled (rollback 0)) c)) (owes_queued 0 c) refl refl
-    by false = ([], [], owes_same c (ended c) refl refl)
+    d : ConnSeen
+    d = restated c
+
+    same : OwesSome c d
+    same = ([], [], owes_same c d (restated_stream c) (restated_ledger c))
+
+    by : (b : Bool) → OwesSome c (ended (cond b (queued_group (spelled (rollback 0)) d) d))
+    by true = owes_by c (queued_group (spelled (rollback 0)) d) (ended (queued_group (spelled (rollback 0)) d)) (OwesSome-then c d (queued_group (spelled (rollback 0)) d) same (owes_queued 0 d)) refl refl
+    by false = owes_by c d (ended d) same refl refl
 
 pub owes_left : (c : ConnSeen) → OwesSome c (left c)
 owes_left c = by (runs c.call)
@@ -284,16 +325,22 @@ owes_behind (beats.Yields item) c = ([], [], owes_same c c refl refl)
 owes_polled : (kind : Kind) (begun b : ConnSeen) (beat : Beat) → IsCalling kind begun → Polled begun b beat → OwesSome begun b
 owes_polled kind begun b beat i p = subst (OwesSome begun) (sym p.behind_is) (OwesSome-then begun p.stopped (behind beat p.stopped) (owes_beat begun p.stopped kind beat p.turns i) (owes_behind beat p.stopped))
 
-owes_handed : (kind : Kind) (begun a b : ConnSeen) (next : Request) → Polled a b (beat_of (hands_on next)) → IsCalling kind a × OwesSome begun a → IsCalling kind (handed next b) × OwesSome begun (handed next b)
+-- what stands as an exchange owes what was owed
+owes_resolved : (kind : Kind) (a b : ConnSeen) (beat : Beat) → IsCalling kind a → Polled (resolved a) b beat → OwesSome a b
+owes_resolved kind a b beat i p =
+    let first : OwesSome a (resolved a) = ([], [], owes_same a (resolved a) (resolved_stream a) (resolved_ledger a)) in
+    OwesSome-then a (resolved a) b first (owes_polled kind (resolved a) b beat (resolved_calls kind a i) p)
+
+owes_handed : (kind : Kind) (begun a b : ConnSeen) (next : Request) → Polled (resolved a) b (beat_of (hands_on next)) → IsCalling kind a × OwesSome begun a → IsCalling kind (handed next b) × OwesSome begun (handed next b)
 owes_handed kind begun a b next p i = (
   last_calls kind (next ∷ []) a (handed next b) (b, p, refl) i.0,
-  OwesSome-then begun a (handed next b) i.1 (owes_by a b (handed next b) (owes_polled kind a b (beat_of (hands_on next)) i.0 p) refl refl),
+  OwesSome-then begun a (handed next b) i.1 (owes_by a b (handed next b) (owes_resolved kind a b (beat_of (hands_on next)) i.0 p) refl refl),
 )
 
 owes_through : (kind : Kind) (begun b : ConnSeen) (answer : Poll Turn) → IsCalling kind begun → PollsThrough begun b answer → OwesSome begun b
 owes_through kind begun b answer i p =
     let k = hands_keep (λ (c : ConnSeen). IsCalling kind c × OwesSome begun c) (owes_handed kind begun) p.later begun p.last p.hands (i, ([], [], owes_same begun begun refl refl)) in
-    OwesSome-then begun p.last b k.1 (owes_polled kind p.last b (beat_of answer) k.0 p.polled)
+    OwesSome-then begun p.last b k.1 (owes_resolved kind p.last b (beat_of answer) k.0 p.polled)
 
 pub owes_poll : (kind : Kind) (left : ℕ) (a b : ConnSeen) (answer : Poll Turn) → IsCalling kind a → PollsWithin left a b answer → OwesSome a b
 owes_poll kind left a b answer i p = by a.broken p

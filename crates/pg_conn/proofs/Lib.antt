@@ -3,3 +3,4 @@ pub mod CleanupLaws
 pub mod StateLaws
 pub mod RefusalLaws
 pub mod LedgerLaws
+pub mod StatementLaws

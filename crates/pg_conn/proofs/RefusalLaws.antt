@@ -1,5 +1,5 @@
 -- A request that no frame can say is refused by its first poll, and a flush with nothing to do is done by its first poll.
-use Rattle.std.proofs.Common.{◌≡◌, ◌⊎◌, inl, inr, List, [], ◌∷◌, refl, ap, ◌∙◌, subst, Ok, Err, Option, None, Bool, true, false, cond, sym}
+use Rattle.std.proofs.Common.{◌≡◌, ◌⊎◌, inl, inr, List, [], ◌∷◌, refl, ap, ◌∙◌, subst, Ok, Err, Option, None, Bool, true, false, cond, nat_eq, sym, ℕ, ◌+◌, ◌-◌, ◌^◌, min, arith}
 use Rattle.futures.specs.declared.task.Poll.{Poll}
 use Rattle.futures.specs.declared.task.Poll.TheVariants.{Ready, Pending}
 use Rattle.pg_wire.specs.declared.error.Error.{Error}
@@ -10,10 +10,11 @@ use Rattle.pg_call.specs.declared.answer.CallAnswer.TheVariants as answers
 use Rattle.pg_call.specs.declared.answer.Turn.{Turn}
 use Rattle.pg_call.specs.declared.answer.Turn.TheVariants as turns
 use Rattle.pg_call.specs.declared.calling.Beat.TheVariants as beats
-use Rattle.pg_call.specs.Requests.{CanBeSaid, first_of, IsRefusal, spelled}
+use Rattle.pg_call.specs.Requests.{CanBeSaid, IsRefusal, spelled}
 use Rattle.pg_call.proofs.RefusalLaws.{refusal_is}
-use Rattle.pg_conn.specs.Connections.{ConnSeen, idle, started_call, begun, left, cleaned, settled, ended, runs, may_open, has_room_for, with_group, rollback}
-use Rattle.pg_conn.specs.Turns.{Refused, Polled, PollsThrough, HandsOver, PollsBy, PollsCall, hands_on, beat_of, broken_by, RefusesAtOnce, FlushesAtOnce, behind}
+use Rattle.pg_conn.specs.Connections.{ConnSeen, idle, started_call, begun, left, cleaned, settled, ended, resolved, restated, runs, may_open, has_room_for, with_group, rollback}
+use Rattle.pg_conn.specs.Statements.{moved, unmoved, step_of}
+use Rattle.pg_conn.specs.Turns.{Refused, Polled, PollsThrough, HandsOver, PollsBy, PollsCall, hands_on, beat_of, broken_by, first_exchange, RefusesAtOnce, FlushesAtOnce, behind}
 
 -- a refusal is no fault of the server
 refusal_breaks_none : (r : Request) (e : Error) → IsRefusal r e → broken_by (beats.Ends (Err e)) ≡ None
@@ -23,14 +24,21 @@ refusal_breaks_none r e h = elim (refusal_is r e h) [
 ]
 
 -- a start leaves whole what is whole
-broken_left : (a : ConnSeen) → (left a).broken ≡ a.broken
-broken_left a = by (runs a.call) (may_open a.change a.groups a.rule.depth) (has_room_for (spelled (rollback 0)) a)
+broken_restated : (c : ConnSeen) → (restated c).broken ≡ c.broken
+broken_restated c = by (nat_eq c.groups 0)
   where
-    by : (r m h : Bool) → (cond r (idle (ended (cond m (cond h (with_group (spelled (rollback 0)) a) a) a))) a).broken ≡ a.broken
+    by : (b : Bool) → (cond b (record c { rule = unmoved c.keeping c.rule }) (record c { rule = moved c.keeping c.rule; cache = step_of c.keeping c.cache })).broken ≡ c.broken
+    by true = refl
+    by false = refl
+
+broken_left : (a : ConnSeen) → (left a).broken ≡ a.broken
+broken_left a = by (runs a.call) (may_open a.change a.groups a.rule.depth) (has_room_for (spelled (rollback 0)) (restated a))
+  where
+    by : (r m h : Bool) → (cond r (idle (ended (cond m (cond h (with_group (spelled (rollback 0)) (restated a)) (restated a)) (restated a)))) a).broken ≡ a.broken
     by false m h = refl
-    by true false h = refl
-    by true true false = refl
-    by true true true = refl
+    by true false h = broken_restated a
+    by true true false = broken_restated a
+    by true true true = broken_restated a
 
 broken_started : (a : ConnSeen) (request : Request) → (started_call request a).broken ≡ a.broken
 broken_started a request = broken_left a
@@ -41,13 +49,13 @@ first_polls a b request answer whole p =
     let first = started_call request a in
     subst (λ (o : Option ServerFault). PollsBy o (begun first) first b answer) (broken_started a request ∙ whole) p
 
-refuses_once : (a b : ConnSeen) (request : Request) (answer : Poll Turn) → Polled (begun (started_call request a)) b (beat_of answer) → (CanBeSaid (first_of request) → ⊥) → RefusesAtOnce request a b answer
+refuses_once : (a b : ConnSeen) (request : Request) (answer : Poll Turn) → Polled (resolved (begun (started_call request a))) b (beat_of answer) → (CanBeSaid (first_exchange request a) → ⊥) → RefusesAtOnce request a b answer
 refuses_once a b request answer polled unsaid = elim polled.says [
   | inl can ↦ absurd (unsaid can)
   | inr refused ↦ by answer polled.stopped polled.whole polled.behind_is refused
 ]
   where
-    by : (answer : Poll Turn) (s : ConnSeen) → s.broken ≡ None → b ≡ behind (beat_of answer) s → Refused (begun (started_call request a)) s (beat_of answer) → RefusesAtOnce request a b answer
+    by : (answer : Poll Turn) (s : ConnSeen) → s.broken ≡ None → b ≡ behind (beat_of answer) s → Refused (resolved (begun (started_call request a))) s (beat_of answer) → RefusesAtOnce request a b answer
     by Pending s w k r = absurd r
     by (Ready (turns.Item item)) s w k r = absurd r
     by (Ready (turns.Ok answer)) s w k r = absurd r
@@ -55,31 +63,34 @@ refuses_once a b request answer polled unsaid = elim polled.says [
       e,
       refl,
       r.0,
-      k ∙ ap (λ (o : Option ServerFault). cleaned (record s { broken = o })) (refusal_breaks_none (first_of request) e r.0 ∙ sym w) ∙ ap (λ (c : ConnSeen). cleaned c) r.1,
+      k ∙ ap (λ (o : Option ServerFault). cleaned (record s { broken = o })) (refusal_breaks_none (first_exchange request a) e r.0 ∙ sym w) ∙ ap (λ (c : ConnSeen). cleaned c) r.1,
     )
 
-pub refuses_at_once : (a b : ConnSeen) (request : Request) (answer : Poll Turn) → a.broken ≡ None → PollsCall (started_call request a) b answer → (CanBeSaid (first_of request) → ⊥) → RefusesAtOnce request a b answer
+pub refuses_at_once : (a b : ConnSeen) (request : Request) (answer : Poll Turn) → a.broken ≡ None → PollsCall (started_call request a) b answer → (CanBeSaid (first_exchange request a) → ⊥) → RefusesAtOnce request a b answer
 refuses_at_once a b request answer whole p unsaid =
     let t = first_polls a b request answer whole p in
     by t.later t.last t.hands t.polled
   where
-    said : CanBeSaid (first_of request) ⊎ ⊥ → ⊥
+    said : CanBeSaid (first_exchange request a) ⊎ ⊥ → ⊥
     said (inl can) = unsaid can
     said (inr refused) = refused
 
-    by : (later : List Request) (last : ConnSeen) → HandsOver (begun (started_call request a)) later last → Polled last b (beat_of answer) → RefusesAtOnce request a b answer
-    by [] last h polled = refuses_once a b request answer (subst (λ (c : ConnSeen). Polled c b (beat_of answer)) h polled) unsaid
+    by : (later : List Request) (last : ConnSeen) → HandsOver (begun (started_call request a)) later last → Polled (resolved last) b (beat_of answer) → RefusesAtOnce request a b answer
+    by [] last h polled = refuses_once a b request answer (subst (λ (c : ConnSeen). Polled (resolved c) b (beat_of answer)) h polled) unsaid
     by (next ∷ later) last h polled = absurd (said h.1.says)
 
-flushes_once : (a b : ConnSeen) (answer : Poll Turn) → (left a).ledger.owed ≡ 0 → (left a).stream.unsent ≡ [] → Polled (begun (started_call requests.Flush a)) b (beat_of answer) → FlushesAtOnce a b answer
+flushes_once : (a b : ConnSeen) (answer : Poll Turn) → (left a).ledger.owed ≡ 0 → (left a).stream.unsent ≡ [] → Polled (resolved (begun (started_call requests.Flush a))) b (beat_of answer) → FlushesAtOnce a b answer
 flushes_once a b answer owed sent polled =
     let done = polled.flush (rw (owed, sent) refl) in
     by answer polled.stopped polled.behind_is done.0 done.1
   where
-    by : (answer : Poll Turn) (s : ConnSeen) → b ≡ behind (beat_of answer) s → beat_of answer ≡ beats.Ends (Ok answers.Unit) → s ≡ idle (begun (started_call requests.Flush a)) → FlushesAtOnce a b answer
+    none : min (0 + 0) (2 ^ 64 - 1) ≡ 0
+    none = omega arith
+
+    by : (answer : Poll Turn) (s : ConnSeen) → b ≡ behind (beat_of answer) s → beat_of answer ≡ beats.Ends (Ok answers.Unit) → s ≡ idle (resolved (begun (started_call requests.Flush a))) → FlushesAtOnce a b answer
     by Pending s k e is = absurd cc
     by (Ready (turns.Item item)) s k e is = absurd cc
-    by (Ready (turns.Ok answer)) s k e is = (cc, k ∙ ap (λ (c : ConnSeen). settled c) is)
+    by (Ready (turns.Ok answer)) s k e is = (cc, k ∙ ap (λ (c : ConnSeen). settled c) is ∙ ap (λ (n : ℕ). record (ended (idle (begun (started_call requests.Flush a)))) { earlier = n }) none)
     by (Ready (turns.Err error)) s k e is = absurd cc
 
 pub flushes_at_once : (a b : ConnSeen) (answer : Poll Turn) → a.broken ≡ None → (left a).ledger.owed ≡ 0 → (left a).stream.unsent ≡ [] → PollsCall (started_call requests.Flush a) b answer → FlushesAtOnce a b answer
@@ -90,6 +101,6 @@ flushes_at_once a b answer whole owed sent p =
     other : (next : Request) → hands_on next ≡ Ready (turns.Ok answers.Unit) → ⊥
     other next e = cc
 
-    by : (later : List Request) (last : ConnSeen) → HandsOver (begun (started_call requests.Flush a)) later last → Polled last b (beat_of answer) → FlushesAtOnce a b answer
-    by [] last h polled = flushes_once a b answer owed sent (subst (λ (c : ConnSeen). Polled c b (beat_of answer)) h polled)
+    by : (later : List Request) (last : ConnSeen) → HandsOver (begun (started_call requests.Flush a)) later last → Polled (resolved last) b (beat_of answer) → FlushesAtOnce a b answer
+    by [] last h polled = flushes_once a b answer owed sent (subst (λ (c : ConnSeen). Polled (resolved c) b (beat_of answer)) h polled)
     by (next ∷ later) last h polled = absurd (other next (flushes_once a h.0 (hands_on next) owed sent h.1).0)

@@ -1,5 +1,5 @@
 -- What a poll answers is of the call's kind.
-use Rattle.std.proofs.Common.{◌≡◌, ◌≤◌, ℕ, inl, inr, List, [], ◌∷◌, ◌++◌, refl, sym, ap, ◌∙◌, subst, arith, Result, Ok, Err, Option, Some, None, ◌-◌, ◌*◌, nat_eq, cond, Bool, true, false}
+use Rattle.std.proofs.Common.{◌≡◌, ◌≤◌, ℕ, List, [], ◌∷◌, ◌++◌, refl, sym, ap, ◌∙◌, subst, arith, Result, Ok, Err, Option, Some, None, ◌-◌, ◌*◌, nat_eq, cond, Bool, true, false}
 use Rattle.pg_wire.specs.declared.status.TransactionStatus.{TransactionStatus}
 use Rattle.pg_wire.specs.Backend.{BackendMessage}
 use Rattle.pg_wire.specs.Frame.{Frame}
@@ -10,7 +10,7 @@ use Rattle.pg_call.specs.declared.answer.CallItem.{CallItem}
 use Rattle.pg_call.specs.declared.answer.CallAnswer.{CallAnswer}
 use Rattle.pg_call.specs.declared.answer.CallAnswer.TheVariants as answers
 use Rattle.pg_call.specs.declared.request.Request.TheVariants as requests
-use Rattle.pg_conn.proofs.CleanupLaws.{room_behind, all_behind, level_none}
+use Rattle.pg_conn.proofs.CleanupLaws.{room_behind, all_behind, level_none, room_resolved, all_resolved}
 use Rattle.futures.specs.declared.task.Poll.{Poll}
 use Rattle.futures.specs.declared.task.Poll.TheVariants.{Ready, Pending}
 use Rattle.pg_wire.specs.declared.error.ServerFault.{ServerFault}
@@ -25,18 +25,35 @@ use Rattle.pg_call.specs.declared.answer.Turn.{Turn}
 use Rattle.pg_call.specs.declared.answer.Turn.TheVariants as turns
 use Rattle.pg_call.specs.declared.calling.Beat.{Beat}
 use Rattle.pg_call.specs.declared.calling.Beat.TheVariants as beats
-use Rattle.pg_call.specs.Requests.{kind_of, main_kind, first_of, spelled}
+use Rattle.pg_call.specs.Requests.{kind_of, main_kind, spelled}
 use Rattle.pg_call.specs.Items.{yields}
 use Rattle.pg_call.specs.Answers.{TurnFits, AnswerFits, TurnIsPlain}
-use Rattle.pg_call.proofs.FitLaws.{shown_fits, answers_main, main_alone, main_describes_none, main_first, next_is, shows_main}
+use Rattle.pg_call.proofs.FitLaws.{shown_fits, answers_main, next_is, shows_main}
 use Rattle.pg_rule.specs.declared.rule.Rule.{Rule}
-use Rattle.pg_conn.specs.Connections.{ConnOf, ConnSeen, seen_by, started_call, begun_with, begun_by, handed, left, commit_of, rollback_of, cleaned, may_open, has_room_for, with_group, rollback, ended}
+use Rattle.pg_conn.specs.Connections.{ConnOf, ConnSeen, seen_by, started_call, begun_with, begun_by, handed, left, commit_of, resolved, resolved_by, restated, rollback_of, cleaned, may_open, has_room_for, with_group, rollback, ended}
+use Rattle.pg_conn.specs.Statements.{asked_by, begun_as, moved, unmoved, step_of}
+use Rattle.pg_conn.proofs.StatementLaws.{asked_main}
+use Rattle.pg_call.specs.declared.calling.Call.{Call}
+use Rattle.pg_call.specs.declared.calling.Call.TheVariants as calls
 use Rattle.pg_conn.specs.Turns.{HasRoom, TakesBeat, Polled, PollsThrough, HandsOver, PollsBy, PollsWithin, PollsCall, HandsOnNone, hands_on, beat_of, HasRoomBeside, HasAllRoom, behind, broken_by}
 use Rattle.pg_conn.specs.States.{IsCalling, PollFits, turn_of, closing_turn, KeepsConn, PollsClose, IsCallingPlainly}
 
 -- a call that was started
-pub started_calling : {A : Type 0} (r : Request) (c : ConnOf A) → IsCalling (main_kind r) (started_call r c)
-started_calling r c = ((left c).ledger, first_of r, [], [], [], main_first r, (refl, refl, refl, refl, refl), omega arith)
+pub started_calling : {A : Type 0} (r : Request) (c : ConnOf A) → main_kind (begun_as (left c).rule r) ≡ main_kind r → IsCalling (main_kind r) (started_call r c)
+started_calling r c k = ((left c).ledger, begun_as (left c).rule r, [], [], [], k, (refl, refl, refl, refl, refl), omega arith)
+
+-- what stands as an exchange is of its kind
+pub resolved_calls : (kind : Kind) (c : ConnSeen) → IsCalling kind c → IsCalling kind (resolved c)
+resolved_calls kind c (start, r, said, hs, items, k, is, room) = by c.call refl
+  where
+    by : (call : Call) → c.call ≡ call → IsCalling kind (resolved_by call c)
+    by (calls.Asked asked) e =
+        let i = subst (λ (x : Call). CallIs start r said hs items c.ledger x) e is in
+        (start, asked_by c.rule asked, [], [], [], asked_main c.rule asked ∙ ap main_kind i.0 ∙ k, (refl, i.1, refl, refl, refl), omega arith)
+    by calls.Idle e = (start, r, said, hs, items, k, is, room)
+    by (calls.Waiting w) e = (start, r, said, hs, items, k, is, room)
+    by (calls.Own reply) e = (start, r, said, hs, items, k, is, room)
+    by calls.Closing e = (start, r, said, hs, items, k, is, room)
 
 -- ---- one exchange
 
@@ -94,27 +111,27 @@ fits_main kind r b (Ready (turns.Err e)) k n f = (tt, tt)
 handed_runs : (r next : Request) (m : ConnSeen) (reply : List BackendMessage) (status : TransactionStatus) → answer_by r reply status ≡ Ok (answers.Next next) → HasRoom m → Runs next (handed next m) × (main_kind next ≡ main_kind r)
 handed_runs r next m reply status e h =
     let is = next_is r reply status next e in
-    let last : kind_of next ≡ kinds.Describe → ⊥ = λ d. main_describes_none r (sym is.0 ∙ d) in
-    ((m.ledger, [], [], [], (refl, refl, refl, refl, refl), omega (arith, h)), main_alone next last ∙ is.0)
+    ((m.ledger, [], [], [], (refl, refl, refl, refl, refl), omega (arith, h)), is.0)
 
 keeps_polled : (begun b : ConnSeen) (beat : Beat) → HasRoom begun → Polled begun b beat → HasRoom b
 keeps_polled begun b beat h p = subst (λ (c : ConnSeen). HasRoom c) (sym p.behind_is) (room_behind beat p.stopped (p.turns.3.room 0 (omega arith) h))
 
 -- the call that an exchange hands on is of the same kind
-handed_calls : (begun m : ConnSeen) (kind : Kind) (next : Request) → Polled begun m (beat_of (hands_on next)) → IsCalling kind begun → IsCalling kind (handed next m)
-handed_calls begun m kind next p i =
-    let first = answered_by begun m i.1 (hands_on next) p (i.0, i.2, i.3, i.4, i.6, i.7) in
-    let further = handed_runs i.1 next m first.0 first.1 first.2 (keeps_polled begun m (beat_of (hands_on next)) i.7 p) in
+handed_calls : (begun m : ConnSeen) (kind : Kind) (next : Request) → Polled (resolved begun) m (beat_of (hands_on next)) → IsCalling kind begun → IsCalling kind (handed next m)
+handed_calls begun m kind next p calling =
+    let i = resolved_calls kind begun calling in
+    let first = answered_by (resolved begun) m i.1 (hands_on next) p (i.0, i.2, i.3, i.4, i.6, i.7) in
+    let further = handed_runs i.1 next m first.0 first.1 first.2 (keeps_polled (resolved begun) m (beat_of (hands_on next)) i.7 p) in
     runs_call kind next (handed next m) (further.1 ∙ i.5) further.0
 
 -- what each exchange keeps that hands on the next one
-pub hands_keep : (P : ConnSeen → Type 0) → ((a b : ConnSeen) (next : Request) → Polled a b (beat_of (hands_on next)) → P a → P (handed next b)) → (later : List Request) (begun last : ConnSeen) → HandsOver begun later last → P begun → P last
+pub hands_keep : (P : ConnSeen → Type 0) → ((a b : ConnSeen) (next : Request) → Polled (resolved a) b (beat_of (hands_on next)) → P a → P (handed next b)) → (later : List Request) (begun last : ConnSeen) → HandsOver begun later last → P begun → P last
 hands_keep P on [] begun last h i = subst P (sym h) i
 hands_keep P on (next ∷ later) begun last h i = hands_keep P on later (handed next h.0) last h.2 (on begun h.0 next h.1 i)
 
 -- one more exchange ended, and handed on the next one
-pub hands_more : (later : List Request) (begun now between : ConnSeen) (next : Request) → HandsOver begun later now → Polled now between (beat_of (hands_on next)) → HandsOver begun (later ++ next ∷ []) (handed next between)
-hands_more [] begun now between next h p = (between, subst (λ (x : ConnSeen). Polled x between (beat_of (hands_on next))) h p, refl)
+pub hands_more : (later : List Request) (begun now between : ConnSeen) (next : Request) → HandsOver begun later now → Polled (resolved now) between (beat_of (hands_on next)) → HandsOver begun (later ++ next ∷ []) (handed next between)
+hands_more [] begun now between next h p = (between, subst (λ (x : ConnSeen). Polled (resolved x) between (beat_of (hands_on next))) h p, refl)
 hands_more (one ∷ later) begun now between next h p = (h.0, h.1, hands_more later (handed one h.0) now between next h.2 p)
 
 -- the call of the exchange that came last is of the same kind
@@ -123,8 +140,8 @@ last_calls kind later begun last h i = hands_keep (λ (c : ConnSeen). IsCalling 
 
 fits_through : (begun b : ConnSeen) (kind : Kind) (answer : Poll Turn) → PollsThrough begun b answer → IsCalling kind begun → PollFits kind b answer
 fits_through begun b kind answer p i =
-    let k = last_calls kind p.later begun p.last p.hands i in
-    fits_main kind k.1 b answer k.5 p.none (answered_by p.last b k.1 answer p.polled (k.0, k.2, k.3, k.4, k.6, k.7))
+    let k = resolved_calls kind p.last (last_calls kind p.later begun p.last p.hands i) in
+    fits_main kind k.1 b answer k.5 p.none (answered_by (resolved p.last) b k.1 answer p.polled (k.0, k.2, k.3, k.4, k.6, k.7))
 
 fits_by : (o : Option ServerFault) (begun a b : ConnSeen) (kind : Kind) (answer : Poll Turn) → PollsBy o begun a b answer → IsCalling kind begun → PollFits kind b answer
 fits_by None begun a b kind answer p i = fits_through begun b kind answer p i
@@ -142,13 +159,30 @@ poll_fits seen a b kind answer p i = unseen seen b kind answer (fits_by a.broken
 
 -- ---- the calls of the link that are left
 
-left_cleaned : (c : ConnSeen) → (cleaned c).stream.left ≡ c.stream.left
-left_cleaned c = by (may_open c.change c.groups c.rule.depth) (has_room_for (spelled (rollback 0)) c)
+left_restated : (c : ConnSeen) → (restated c).stream.left ≡ c.stream.left
+left_restated c = by (nat_eq c.groups 0)
   where
-    by : (m h : Bool) → (ended (cond m (cond h (with_group (spelled (rollback 0)) c) c) c)).stream.left ≡ c.stream.left
+    by : (b : Bool) → (cond b (record c { rule = unmoved c.keeping c.rule }) (record c { rule = moved c.keeping c.rule; cache = step_of c.keeping c.cache })).stream.left ≡ c.stream.left
+    by true = refl
+    by false = refl
+
+left_cleaned : (c : ConnSeen) → (cleaned c).stream.left ≡ c.stream.left
+left_cleaned c = by (may_open c.change c.groups c.rule.depth) (has_room_for (spelled (rollback 0)) (restated c)) ∙ left_restated c
+  where
+    by : (m h : Bool) → (ended (cond m (cond h (with_group (spelled (rollback 0)) (restated c)) (restated c)) (restated c))).stream.left ≡ (restated c).stream.left
     by false h = refl
     by true false = refl
     by true true = refl
+
+left_resolved : (c : ConnSeen) → (resolved c).stream.left ≡ c.stream.left
+left_resolved c = by c.call
+  where
+    by : (call : Call) → (resolved_by call c).stream.left ≡ c.stream.left
+    by (calls.Asked r) = refl
+    by calls.Idle = refl
+    by (calls.Waiting w) = refl
+    by (calls.Own reply) = refl
+    by calls.Closing = refl
 
 left_behind : (beat : Beat) (c : ConnSeen) → (behind beat c).stream.left ≡ c.stream.left
 left_behind (beats.Ends (Ok answer)) c = refl
@@ -163,19 +197,19 @@ left_polled a b beat p = omega (arith, ap (λ (c : ConnSeen). c.stream.left) p.b
 -- a poll takes calls off, and adds none
 pub left_through : (begun b : ConnSeen) (answer : Poll Turn) → PollsThrough begun b answer → b.stream.left ≤ begun.stream.left
 left_through begun b answer p =
-    let last = hands_keep (λ (c : ConnSeen). c.stream.left ≤ begun.stream.left) (λ a m next q l. omega (arith, l, left_polled a m (beat_of (hands_on next)) q)) p.later begun p.last p.hands (omega arith) in
-    omega (arith, last, left_polled p.last b (beat_of answer) p.polled)
+    let last = hands_keep (λ (c : ConnSeen). c.stream.left ≤ begun.stream.left) (λ a m next q l. omega (arith, l, left_polled (resolved a) m (beat_of (hands_on next)) q, left_resolved a)) p.later begun p.last p.hands (omega arith) in
+    omega (arith, last, left_polled (resolved p.last) b (beat_of answer) p.polled, left_resolved p.last)
 
 -- ---- the room for cleanup
 
-room_handed : (a b : ConnSeen) (next : Request) → Polled a b (beat_of (hands_on next)) → HasRoom a → HasRoom (handed next b)
-room_handed a b next p h = omega (arith, keeps_polled a b (beat_of (hands_on next)) h p)
+room_handed : (a b : ConnSeen) (next : Request) → Polled (resolved a) b (beat_of (hands_on next)) → HasRoom a → HasRoom (handed next b)
+room_handed a b next p h = omega (arith, keeps_polled (resolved a) b (beat_of (hands_on next)) (room_resolved a h) p)
 
 pub keeps_room : (left : ℕ) (a b : ConnSeen) (answer : Poll Turn) → HasRoom a → PollsWithin left a b answer → HasRoom b
 keeps_room left a b answer h p = by a.broken p
   where
     by : (o : Option ServerFault) → PollsBy o (begun_with left a) a b answer → HasRoom b
-    by None p = keeps_polled p.last b (beat_of answer) (hands_keep (λ (c : ConnSeen). HasRoom c) room_handed p.later (begun_with left a) p.last p.hands h) p.polled
+    by None p = keeps_polled (resolved p.last) b (beat_of answer) (room_resolved p.last (hands_keep (λ (c : ConnSeen). HasRoom c) room_handed p.later (begun_with left a) p.last p.hands h)) p.polled
     by (Some fault) p = subst (λ (c : ConnSeen). HasRoom c) (sym p.0) (omega (arith, h, level_none a.groups))
 
 keeps_all_polled : (begun b : ConnSeen) (beat : Beat) → HasAllRoom begun → Polled begun b beat → HasAllRoom b
@@ -183,14 +217,14 @@ keeps_all_polled begun b beat h p =
     let kept : HasAllRoom p.stopped = subst (λ (r : Rule). HasRoomBeside (64 * r.depth) p.stopped) (sym p.turns.3.started.2) (p.turns.3.room (64 * begun.rule.depth) (omega arith) h) in
     subst (λ (c : ConnSeen). HasAllRoom c) (sym p.behind_is) (all_behind beat p.stopped kept)
 
-all_handed : (a b : ConnSeen) (next : Request) → Polled a b (beat_of (hands_on next)) → HasAllRoom a → HasAllRoom (handed next b)
-all_handed a b next p h = omega (arith, keeps_all_polled a b (beat_of (hands_on next)) h p)
+all_handed : (a b : ConnSeen) (next : Request) → Polled (resolved a) b (beat_of (hands_on next)) → HasAllRoom a → HasAllRoom (handed next b)
+all_handed a b next p h = omega (arith, keeps_all_polled (resolved a) b (beat_of (hands_on next)) (all_resolved a h) p)
 
 pub keeps_all_room : (left : ℕ) (a b : ConnSeen) (answer : Poll Turn) → HasAllRoom a → PollsWithin left a b answer → HasAllRoom b
 keeps_all_room left a b answer h p = by a.broken p
   where
     by : (o : Option ServerFault) → PollsBy o (begun_with left a) a b answer → HasAllRoom b
-    by None p = keeps_all_polled p.last b (beat_of answer) (hands_keep (λ (c : ConnSeen). HasAllRoom c) all_handed p.later (begun_with left a) p.last p.hands h) p.polled
+    by None p = keeps_all_polled (resolved p.last) b (beat_of answer) (all_resolved p.last (hands_keep (λ (c : ConnSeen). HasAllRoom c) all_handed p.later (begun_with left a) p.last p.hands h)) p.polled
     by (Some fault) p = subst (λ (c : ConnSeen). HasAllRoom c) (sym p.0) (omega (arith, h, level_none a.groups))
 
 pub starts_with_room : (a : ConnSeen) (request : Request) → HasRoom (started_call request a)
@@ -208,6 +242,17 @@ plain_answer : (kind : Kind) (answer : CallAnswer) → TurnIsPlain kind → Answ
 plain_answer (kinds.Run how) answer p f = absurd p
 plain_answer kinds.Describe answer p f = absurd p
 plain_answer kind answers.Unit p f = tt
+plain_answer kinds.Prepare answer p f = absurd p
+plain_answer kinds.Clear (answers.Total total) p f = absurd f
+plain_answer kinds.Clear (answers.Rows rows) p f = absurd f
+plain_answer kinds.Clear (answers.OneRow row) p f = absurd f
+plain_answer kinds.Clear (answers.Statement prepared) p f = absurd f
+plain_answer kinds.Clear (answers.Next request) p f = absurd f
+plain_answer kinds.Begin (answers.Statement prepared) p f = absurd f
+plain_answer kinds.Commit (answers.Statement prepared) p f = absurd f
+plain_answer kinds.Rollback (answers.Statement prepared) p f = absurd f
+plain_answer kinds.Ping (answers.Statement prepared) p f = absurd f
+plain_answer kinds.Close (answers.Statement prepared) p f = absurd f
 plain_answer kinds.Begin (answers.Total total) p f = absurd f
 plain_answer kinds.Begin (answers.Rows rows) p f = absurd f
 plain_answer kinds.Begin (answers.OneRow row) p f = absurd f
@@ -233,6 +278,8 @@ plain_answer kinds.Close (answers.Next request) p f = absurd f
 plain_item : (kind : Kind) (item : CallItem) → TurnIsPlain kind → yields kind item ≡ true → yields kinds.Flush item ≡ true
 plain_item (kinds.Run how) item p f = absurd p
 plain_item kinds.Describe item p f = absurd p
+plain_item kinds.Prepare item p f = absurd p
+plain_item kinds.Clear item p f = absurd cc
 plain_item kinds.Begin item p f = absurd cc
 plain_item kinds.Commit item p f = absurd cc
 plain_item kinds.Rollback item p f = absurd cc
@@ -250,12 +297,12 @@ pub commit_calls : {A : Type 0} (depth : ℕ) (c : ConnOf A) → IsCallingPlainl
 commit_calls {A} depth c = by (nat_eq depth 0)
   where
     by : (b : Bool) → IsCallingPlainly (begun_by (Some (cond b requests.Flush (requests.Commit (depth - 1)))) c)
-    by true = (kinds.Flush, tt, started_calling requests.Flush c)
-    by false = (kinds.Commit, tt, started_calling (requests.Commit (depth - 1)) c)
+    by true = (kinds.Flush, tt, started_calling requests.Flush c refl)
+    by false = (kinds.Commit, tt, started_calling (requests.Commit (depth - 1)) c refl)
 
 pub rollback_calls : {A : Type 0} (depth : ℕ) (c : ConnOf A) → IsCallingPlainly (begun_by (Some (rollback_of depth)) c)
 rollback_calls {A} depth c = by (nat_eq depth 0)
   where
     by : (b : Bool) → IsCallingPlainly (begun_by (Some (cond b requests.Flush (requests.Rollback (depth - 1)))) c)
-    by true = (kinds.Flush, tt, started_calling requests.Flush c)
-    by false = (kinds.Rollback, tt, started_calling (requests.Rollback (depth - 1)) c)
+    by true = (kinds.Flush, tt, started_calling requests.Flush c refl)
+    by false = (kinds.Rollback, tt, started_calling (requests.Rollback (depth - 1)) c refl)

@@ -1,7 +1,17 @@
 -- How the beats of a call follow one another.
-use Rattle.std.proofs.Common.{◌≡◌, ◌≢◌, ◌⊎◌, ℕ, ◌+◌, ◌-◌, ◌<◌, ◌≤◌, cond, inl, inr, Bool, true, false, ◌&&◌, ◌||◌, ◌==◌, nat_eq, List, [], ◌∷◌, ◌++◌, length, map, refl, sym, ap, ◌∙◌, subst, append_assoc, append-nil, length-append, arith, Ok, Err, None, Result, IfOk, IfErr, OnErr, take, drop, ◌*◌}
+use Rattle.std.proofs.Common.{◌≡◌, ◌≢◌, ◌⊎◌, ℕ, Option, ◌+◌, ◌-◌, ◌<◌, ◌≤◌, cond, inl, inr, Bool, true, false, ◌&&◌, ◌||◌, ◌==◌, nat_eq, List, [], ◌∷◌, ◌++◌, length, map, refl, sym, ap, ◌∙◌, subst, append_assoc, append-nil, length-append, arith, Ok, Err, None, Result, IfOk, IfErr, OnErr, take, drop, ◌*◌}
 use Rattle.pg_wire.proofs.Tests.{both_true}
 use Rattle.pg_call.specs.declared.kind.Change.{Change}
+use Rattle.pg_call.specs.declared.kind.Kind.{Kind}
+use Rattle.pg_call.specs.declared.kind.Kind.TheVariants as kinds
+use Rattle.pg_call.specs.declared.statement.Goal.{Goal}
+use Rattle.pg_call.specs.declared.statement.Goal.TheVariants as goals
+use Rattle.pg_call.specs.declared.statement.After.{After}
+use Rattle.pg_call.specs.declared.statement.After.TheVariants as afters
+use Rattle.futures.specs.declared.task.Poll.{Poll}
+use Rattle.pg_call.specs.declared.answer.Turn.{Turn}
+use Rattle.pg_call.specs.declared.answer.Turn.TheVariants as turns
+use Rattle.pg_wire.specs.declared.error.ServerFault.{ServerFault}
 use Rattle.std.specs.List.{count_by}
 use Rattle.std.proofs.lemmas.Bool.{eqb-true}
 use Rattle.std.proofs.lemmas.List.{map-append, same_from_push}
@@ -22,7 +32,6 @@ use Rattle.pg_stream.proofs.StreamLemmas.{NoneWaited-none, NoneWaited-then, Move
 use Rattle.pg_call.specs.declared.request.Request.{Request}
 use Rattle.pg_call.specs.declared.request.Request.TheVariants as requests
 use Rattle.pg_call.specs.declared.answer.CallItem.{CallItem}
-use Rattle.pg_call.specs.declared.answer.CallAnswer.TheVariants as answers
 use Rattle.pg_call.specs.declared.ledger.Ledger.{Ledger}
 use Rattle.pg_call.specs.declared.waiting.Waiting.{Waiting}
 use Rattle.pg_call.specs.declared.calling.Call.{Call}
@@ -31,15 +40,20 @@ use Rattle.pg_call.specs.declared.calling.Beat.{Beat}
 use Rattle.pg_call.specs.declared.calling.Beat.TheVariants as beats
 use Rattle.pg_call.specs.declared.calling.Taken.{Taken}
 use Rattle.pg_call.specs.declared.running.Running.{Running}
-use Rattle.pg_call.specs.Requests.{Group, spelled, kind_of, messages_of, is_flush, is_close, CanBeSaid, IsRefusal}
-use Rattle.pg_call.specs.Hearing.{framed, fails_of, fresh_reply, awaits, waits, waiting_for, IsReplied}
+use Rattle.pg_call.specs.Requests.{Group, spelled, kind_of, after_kind, goal_kind, main_kind, messages_of, name_of, rest_of, is_flush, is_close, CanBeSaid, IsRefusal}
+use Rattle.pg_call.specs.Hearing.{framed, fails_of, fresh_reply, awaits, waits, waiting_for, sent_answer, sent_rest, IsReplied}
+use Rattle.pg_call.specs.declared.statement.Rest.{Rest}
+use Rattle.pg_call.specs.declared.statement.Rest.TheVariants as rests
 use Rattle.pg_call.specs.Calls.{owes_own, CallIs, IsAwaiting, CallEnds, CallTakes, EndsByReady, StaysIn, TakesMessage, RefusesMessage}
 use Rattle.pg_call.proofs.CallLaws.{own_errs}
-use Rattle.pg_call.proofs.RefusalLaws.{refusal_is}
+use Rattle.pg_call.proofs.RefusalLaws.{refusal_is, memory_refuses}
 use Rattle.pg_call.proofs.LeaveLaws.{leaves_call, call_well, closing_fine, flush_fine, draining_none, replying_from, closing_from}
 use Rattle.pg_rule.specs.declared.rule.Rule.{Rule}
-use Rattle.pg_conn.specs.Connections.{ConnOf, ConnSeen, seen_by, idle, with_spare, queued_call, awaiting, closing, frames_in, opens, cleaned, may_open, has_room_for, rollback, with_group, ended}
-use Rattle.pg_conn.specs.Turns.{HearsBy, HearsFront, running_of, ends_request, IsMissed, FailsBy, EndsBy, Tells, SendCause, BeatCause, Turns, TakesBeat, IsAsked, cleanup_of, IsSayable, Prepares, Refuses, Refused, Polled, broken_by, only_sends, flushes, is_flushed, EndsFlush, IsAhead, Readies, Accepts, queued_copy_fail, level_of, HasRoomBeside, behind}
+use Rattle.pg_conn.specs.Connections.{ConnOf, ConnSeen, Standing, standing, seen_by, idle, with_spare, queued_call, awaiting, closing, frames_in, opens, cleaned, resolved, resolved_by, restated, unasked, IsUnresolved, may_open, has_room_for, rollback, queued_group, with_group, ended}
+use Rattle.pg_conn.specs.Statements.{asked_by, moved, unmoved, step_of}
+use Rattle.pg_conn.proofs.StatementLaws.{asked_main}
+use Rattle.pg_exchanges.specs.Answering.{closing as closing_group}
+use Rattle.pg_conn.specs.Turns.{HearsBy, HearsFront, running_of, ends_request, IsMissed, FailsBy, EndsBy, Tells, SendCause, BeatCause, Turns, TakesBeat, IsAsked, cleanup_of, IsSayable, GoesOn, Prepares, Refuses, Refused, Polled, beat_of, broken_by, only_sends, flushes, only_flushes, is_flushed, EndsFlush, IsAhead, Readies, Accepts, queued_copy_fail, level_of, HasRoomBeside, behind}
 use Rattle.pg_startup.proofs.GreetLaws.{heard_none, heard_one}
 
 -- the bytes of messages, one after another
@@ -123,7 +137,7 @@ same_level : (c d : Change) (m n : ℕ) → d ≡ c → n ≡ m → level_of d n
 same_level c d m n e f = rw (e, f) refl
 
 -- the stream has moved by nothing, and nothing was heard
-stays : (a b : ConnSeen) (beat : Beat) → Moves a.stream b.stream [] [] → BeatCause a b beat → Keeps a.call b.call → b.broken ≡ a.broken → b.heard ≡ a.heard → b.groups ≡ a.groups → b.sent ≡ a.sent → b.read ≡ a.read → b.rule ≡ a.rule → b.change ≡ a.change
+stays : (a b : ConnSeen) (beat : Beat) → Moves a.stream b.stream [] [] → BeatCause a b beat → Keeps a.call b.call → b.broken ≡ a.broken → b.heard ≡ a.heard → b.groups ≡ a.groups → b.sent ≡ a.sent → b.read ≡ a.read → b.rule ≡ a.rule → standing b ≡ standing a
     → ((start : Ledger) (r : Request) (said : List FrontendMessage) (hs : List Frame) (items : List CallItem) → CallIs start r said hs items a.ledger a.call → Tells a b start r said hs items beat)
     → TakesBeat a b beat
 stays a b beat m c keep k h g s t d e tells = (
@@ -138,7 +152,7 @@ stays a b beat m c keep k h g s t d e tells = (
     counted = rw h (grew-none a.heard);
     started = (s, t, d, e);
     asked = keep.0;
-    room = λ n l r. omega (arith, r, keep.1, m.spare, same_level a.change b.change a.groups b.groups e g);
+    room = λ n l r. omega (arith, r, keep.1, m.spare, same_level a.change b.change a.groups b.groups (ap (λ (x : Standing). x.change) e) g);
     tells = λ start r said hs items i. ([], refl, rw g (grew-none a.groups), rw (append-nil said, append-nil hs) (tells start r said hs items i));
   },
 )
@@ -199,6 +213,10 @@ refused_now a e h = (h, refl)
 
 -- ---- what waited is queued
 
+pub closes_said : (names : List (List ℕ)) → count_by ends_request (closing_group names) ≡ 1
+closes_said [] = refl
+closes_said (name ∷ names) = omega (arith, closes_said names)
+
 groups_said : (r : Request) → is_flush (kind_of r) ≡ false → is_close (kind_of r) ≡ false → count_by ends_request (messages_of r) ≡ 1
 groups_said (requests.Execute query) f c = refl
 groups_said (requests.ExecuteMany query) f c = refl
@@ -213,6 +231,9 @@ groups_said (requests.Commit left) f c = refl
 groups_said (requests.Rollback left) f c = refl
 groups_said (requests.Describe extended) f c = refl
 groups_said (requests.Run bound) f c = refl
+groups_said (requests.Evict eviction) f c = refl
+groups_said (requests.Clear statements) f c = rw (append-nil (closing_group (map name_of statements)), append-nil (closing_group (map name_of statements))) (closes_said (map name_of statements))
+groups_said (requests.Prepare prepared) f c = absurd cc
 groups_said requests.Ping f c = refl
 groups_said requests.Flush f c = absurd cc
 groups_said requests.Close f c = absurd cc
@@ -220,6 +241,9 @@ groups_said requests.Close f c = absurd cc
 groups_farewell : (r : Request) → is_close (kind_of r) ≡ true → count_by ends_request (messages_of r) ≡ 0
 groups_farewell requests.Close c = refl
 groups_farewell requests.Flush c = absurd cc
+groups_farewell (requests.Evict eviction) c = absurd cc
+groups_farewell (requests.Clear statements) c = absurd cc
+groups_farewell (requests.Prepare prepared) c = absurd cc
 groups_farewell requests.Ping c = absurd cc
 groups_farewell (requests.Describe extended) c = absurd cc
 groups_farewell (requests.Run bound) c = absurd cc
@@ -240,7 +264,7 @@ flush_false true n z e = let w : true && 0 == 0 ≡ false = rw z at e in absurd 
 flush_false false n z e = refl
 
 -- the state b stands where what waited was queued
-queues_waiting : (a b : ConnSeen) (w : Waiting) → a.call ≡ calls.Waiting w → Moves a.stream b.stream w.frames [] → AllMoved a.stream b.stream → (IsAsked b.call → ⊥) → ((n : ℕ) → n ≤ 64 * a.rule.depth → HasRoomBeside n b) → b.broken ≡ a.broken → b.heard ≡ a.heard → b.sent ≡ a.sent → b.read ≡ a.read → b.rule ≡ a.rule → b.change ≡ a.change
+queues_waiting : (a b : ConnSeen) (w : Waiting) → a.call ≡ calls.Waiting w → Moves a.stream b.stream w.frames [] → AllMoved a.stream b.stream → (IsAsked b.call → ⊥) → ((n : ℕ) → n ≤ 64 * a.rule.depth → HasRoomBeside n b) → b.broken ≡ a.broken → b.heard ≡ a.heard → b.sent ≡ a.sent → b.read ≡ a.read → b.rule ≡ a.rule → standing b ≡ standing a
     → ((start : Ledger) (r : Request) (said : List FrontendMessage) (hs : List Frame) (items : List CallItem) → CallIs start r said hs items a.ledger (calls.Waiting w) → GrewBy (count_by ends_request (messages_of r)) a.groups b.groups × CallIs start r (said ++ messages_of r) hs items b.ledger b.call)
     → TakesBeat a b beats.More
 queues_waiting a b w k m moved asked room broken h s t d e tells = (
@@ -311,6 +335,9 @@ flush_said : (r : Request) → is_flush (kind_of r) ≡ true → CanBeSaid r
 flush_said requests.Flush e = (tt, tt)
 flush_said (requests.Describe extended) e = absurd cc
 flush_said (requests.Run bound) e = absurd cc
+flush_said (requests.Prepare prepared) e = (tt, tt)
+flush_said (requests.Evict eviction) e = absurd cc
+flush_said (requests.Clear statements) e = absurd cc
 flush_said requests.Ping e = absurd cc
 flush_said requests.Close e = absurd cc
 flush_said (requests.Execute query) e = absurd cc
@@ -325,12 +352,17 @@ flush_said (requests.BeginWith query) e = absurd cc
 flush_said (requests.Commit left) e = absurd cc
 flush_said (requests.Rollback left) e = absurd cc
 
+flush_alone : (kind : Kind) → only_flushes kind ≡ true → is_flush kind ≡ true
+flush_alone kinds.Flush f = refl
+flush_alone _ f = absurd cc
+
 -- a flush that is owed nothing ends, whether its frames are written or not
-flush_ends : (start : Ledger) (r : Request) (said : List FrontendMessage) (hs : List Frame) (items : List CallItem) (ledger : Ledger) (call : Call) → flushes call ≡ true → ledger.owed ≡ 0 → CallIs start r said hs items ledger call → CallEnds start r said hs items ledger (Ok answers.Unit)
+flush_ends : (start : Ledger) (r : Request) (said : List FrontendMessage) (hs : List Frame) (items : List CallItem) (ledger : Ledger) (call : Call) → flushes call ≡ true → ledger.owed ≡ 0 → CallIs start r said hs items ledger call → CallEnds start r said hs items ledger (Ok (sent_answer call))
 flush_ends start r said hs items ledger (calls.Asked asked) f z i =
     let frames = spelled (messages_of asked) in
-    flush_fine start r said hs items ledger (waiting_for asked frames ledger.is_copy_failed) f z (asked_waits start r asked said hs items ledger frames refl (flush_said asked f) i)
-flush_ends start r said hs items ledger (calls.Waiting w) f z i = flush_fine start r said hs items ledger w f z i
+    let flush = flush_alone (kind_of asked) f in
+    flush_fine start r said hs items ledger (waiting_for asked frames ledger.is_copy_failed) flush z (asked_waits start r asked said hs items ledger frames refl (flush_said asked flush) i)
+flush_ends start r said hs items ledger (calls.Waiting w) f z i = flush_fine start r said hs items ledger w (flush_alone w.kind f) z i
 flush_ends start r said hs items ledger (calls.Own reply) f z i = absurd cc
 flush_ends start r said hs items ledger calls.Closing f z i = absurd cc
 flush_ends start r said hs items ledger calls.Idle f z i = absurd i
@@ -339,21 +371,35 @@ all_sent : (bytes : List ℕ) → nat_eq (length bytes) 0 ≡ true → bytes ≡
 all_sent [] e = refl
 all_sent (b ∷ bytes) e = let z = eqb-true _ _ e in absurd (omega (arith, z))
 
-pub flushed : (a : ConnSeen) → is_flushed a ≡ true → TakesBeat a (idle a) (beats.Ends (Ok answers.Unit))
+pub flushed : (a : ConnSeen) → is_flushed a ≡ true → TakesBeat a (idle a) (beats.Ends (Ok (sent_answer a.call)))
 flushed a f =
     let sent = both_true (flushes a.call && a.ledger.owed == 0) (nat_eq (length a.stream.unsent) 0) f in
     let owed = both_true (flushes a.call) (a.ledger.owed == 0) sent.0 in
-    stays a (idle a) (beats.Ends (Ok answers.Unit)) (Moves-none a.stream) (AllMoved-none a.stream) (keeps_idle a.call) refl refl refl refl refl refl refl (λ start r said hs items i.
+    stays a (idle a) (beats.Ends (Ok (sent_answer a.call))) (Moves-none a.stream) (AllMoved-none a.stream) (keeps_idle a.call) refl refl refl refl refl refl refl (λ start r said hs items i.
     (refl, flush_ends start r said hs items a.ledger a.call owed.0 (eqb-true _ _ owed.1) i, all_sent a.stream.unsent sent.1))
 
-pub flush_done : (a : ConnSeen) → EndsFlush a (idle a) (beats.Ends (Ok answers.Unit))
+pub flush_done : (a : ConnSeen) → EndsFlush a (idle a) (beats.Ends (Ok (sent_answer a.call)))
 flush_done a f = (refl, refl)
+
+-- and nothing comes behind it
+sent_goes_none : (rest : Rest) → GoesOn (beats.Ends (Ok (sent_rest rest))) → ⊥
+sent_goes_none (rests.Tell prepared) g = g
+sent_goes_none rests.Nothing g = g
+sent_goes_none (rests.Describe extended) g = g
+sent_goes_none (rests.After after) g = g
+
+pub answers_last : (call : Call) → GoesOn (beats.Ends (Ok (sent_answer call))) → ⊥
+answers_last (calls.Asked request) g = sent_goes_none (rest_of request) g
+answers_last (calls.Waiting w) g = sent_goes_none w.rest g
+answers_last calls.Idle g = g
+answers_last (calls.Own reply) g = g
+answers_last calls.Closing g = g
 
 pub flush_sayable : (a : ConnSeen) → is_flushed a ≡ true → IsSayable a.call
 flush_sayable a f = by a.call (both_true (flushes a.call) (a.ledger.owed == 0) (both_true (flushes a.call && a.ledger.owed == 0) (nat_eq (length a.stream.unsent) 0) f).0).0
   where
     by : (call : Call) → flushes call ≡ true → IsSayable call
-    by (calls.Asked asked) e = flush_said asked e
+    by (calls.Asked asked) e = flush_said asked (flush_alone (kind_of asked) e)
     by calls.Idle e = tt
     by (calls.Waiting w) e = tt
     by (calls.Own reply) e = tt
@@ -362,13 +408,24 @@ flush_sayable a f = by a.call (both_true (flushes a.call) (a.ledger.owed == 0) (
 -- ---- a poll
 
 -- what is made of a connection by the end of a call is seen alike
-seen_cleaned : {A : Type 0} (seen : A → LinkSeen) (c : ConnOf A) → seen_by seen (cleaned c) ≡ cleaned (seen_by seen c)
-seen_cleaned {A} seen c = by (may_open c.change c.groups c.rule.depth) (has_room_for (spelled (rollback 0)) c)
+abbrev pub kept : {B : Type 0} → Bool → ConnOf B → ConnOf B
+kept n d = cond n (record d { rule = unmoved d.keeping d.rule }) (record d { rule = moved d.keeping d.rule; cache = step_of d.keeping d.cache })
+
+pub seen_cleaned : {A : Type 0} (seen : A → LinkSeen) (c : ConnOf A) → seen_by seen (cleaned c) ≡ cleaned (seen_by seen c)
+seen_cleaned {A} seen c = by (nat_eq c.groups 0) (may_open c.change c.groups c.rule.depth)
   where
-    by : (b r : Bool) → seen_by seen (ended (cond b (cond r (with_group (spelled (rollback 0)) c) c) c)) ≡ ended (cond b (cond r (with_group (spelled (rollback 0)) (seen_by seen c)) (seen_by seen c)) (seen_by seen c))
-    by true true = refl
+    queued : (d : ConnOf A) → seen_by seen (ended (queued_group (spelled (rollback 0)) d)) ≡ ended (queued_group (spelled (rollback 0)) (seen_by seen d))
+    queued d = by (has_room_for (spelled (rollback 0)) d)
+      where
+        by : (r : Bool) → seen_by seen (ended (cond r (with_group (spelled (rollback 0)) d) d)) ≡ ended (cond r (with_group (spelled (rollback 0)) (seen_by seen d)) (seen_by seen d))
+        by true = refl
+        by false = refl
+
+    by : (n b : Bool) → seen_by seen (ended (cond b (queued_group (spelled (rollback 0)) (kept n c)) (kept n c))) ≡ ended (cond b (queued_group (spelled (rollback 0)) (kept n (seen_by seen c))) (kept n (seen_by seen c)))
+    by true true = queued (kept true c)
+    by false true = queued (kept false c)
     by true false = refl
-    by false r = refl
+    by false false = refl
 
 pub seen_behind : {A : Type 0} (seen : A → LinkSeen) (beat : Beat) (c : ConnOf A) → seen_by seen (behind beat c) ≡ behind beat (seen_by seen c)
 seen_behind seen (beats.Ends (Ok answer)) c = refl
@@ -378,10 +435,17 @@ seen_behind seen beats.Waits c = refl
 seen_behind seen (beats.Yields item) c = refl
 
 -- it has the same call
-cleaned_call : {A : Type 0} (c : ConnOf A) → (cleaned c).call ≡ c.call
-cleaned_call {A} c = by (may_open c.change c.groups c.rule.depth) (has_room_for (spelled (rollback 0)) c)
+restated_call : {A : Type 0} (c : ConnOf A) → (restated c).call ≡ c.call
+restated_call {A} c = by (nat_eq c.groups 0)
   where
-    by : (b r : Bool) → (ended (cond b (cond r (with_group (spelled (rollback 0)) c) c) c)).call ≡ c.call
+    by : (n : Bool) → (cond n (record c { rule = unmoved c.keeping c.rule }) (record c { rule = moved c.keeping c.rule; cache = step_of c.keeping c.cache })).call ≡ c.call
+    by true = refl
+    by false = refl
+
+pub cleaned_call : {A : Type 0} (c : ConnOf A) → (cleaned c).call ≡ c.call
+cleaned_call {A} c = by (may_open c.change c.groups c.rule.depth) (has_room_for (spelled (rollback 0)) (restated c)) ∙ restated_call c
+  where
+    by : (b r : Bool) → (ended (cond b (cond r (with_group (spelled (rollback 0)) (restated c)) (restated c)) (restated c))).call ≡ (restated c).call
     by true true = refl
     by true false = refl
     by false r = refl
@@ -406,6 +470,45 @@ polled {A} seen a m b beat whole takes says flush asked is = record {
   asked = λ i. asked (subst IsAsked (ap (λ (x : ConnOf A). x.call) is ∙ behind_call beat m) i);
 }
 
+-- an exchange that was not asked for want of memory has done nothing, and is over
+flush_main : (r : Request) → only_flushes (kind_of r) ≡ true → main_kind r ≡ kinds.Flush
+flush_main requests.Flush f = refl
+flush_main _ f = absurd cc
+
+asks_flush : (r : Request) → main_kind r ≡ kinds.Flush → r ≡ requests.Flush
+asks_flush requests.Flush k = refl
+asks_flush (requests.Describe x) k = absurd (goal_no_flush x.goal k)
+  where
+    goal_no_flush : (goal : Goal) → goal_kind goal ≡ kinds.Flush → ⊥
+    goal_no_flush (goals.Run how) k = cc
+    goal_no_flush goals.Prepare k = cc
+asks_flush (requests.Evict eviction) k = absurd (after_no_flush eviction.after k)
+  where
+    after_no_flush : (after : After) → after_kind after ≡ kinds.Flush → ⊥
+    after_no_flush (afters.Run bound) k = cc
+    after_no_flush (afters.Prepare prepared) k = cc
+asks_flush _ k = absurd cc
+
+refuses_flush : (rule : Rule) (r : Request) (c : ConnSeen) → (r ≡ requests.Flush → ⊥) → c.call ≡ calls.Asked (asked_by rule r) → is_flushed c ≡ true → ⊥
+refuses_flush rule r c n e f =
+    let flushing = (both_true (flushes c.call) (c.ledger.owed == 0) (both_true (flushes c.call && c.ledger.owed == 0) (nat_eq (length c.stream.unsent) 0) f).0).0 in
+    n (asks_flush r (sym (asked_main rule r) ∙ flush_main (asked_by rule r) (subst (λ (x : Call). flushes x ≡ true) e flushing)))
+
+pub unresolved : {A : Type 0} (seen : A → LinkSeen) (a b : ConnOf A) (answer : Poll Turn) (e : Error) → a.broken ≡ None → IsUnresolved a b → e ≡ errors.OutOfMemory → answer ≡ Ready (turns.Err e) → Polled (resolved (seen_by seen a)) (seen_by seen b) (beat_of answer)
+unresolved {A} seen a b answer e whole (r, asked, is, wants) memory answers =
+    let begun : ConnSeen = resolved_by (calls.Asked r) (seen_by seen a) in
+    let x : Request = asked_by a.rule r in
+    let same : seen_by seen b ≡ cleaned (record (idle begun) { broken = None }) = ap (λ (c : ConnOf A). seen_by seen c) is ∙ ap (λ (o : Option ServerFault). seen_by seen (unasked r (record a { broken = o }))) whole in
+    rw (answers, memory, asked) (record {
+      stopped = idle begun;
+      turns = refused begun errors.OutOfMemory (memory_refuses x);
+      whole = whole;
+      behind_is = same;
+      says = inr (refused_now begun errors.OutOfMemory (memory_refuses x));
+      flush = λ f. absurd (refuses_flush a.rule r begun wants refl f);
+      asked = λ i. subst IsAsked (ap (λ (c : ConnOf A). c.call) is) i;
+    })
+
 -- ---- messages
 
 -- a call that hears is owed a reply
@@ -417,7 +520,7 @@ awaiting_owed start r said hs items ledger calls.Closing h i = absurd h
 awaiting_owed start r said hs items ledger calls.Idle h i = absurd i
 
 -- asynchronous messages alone were taken
-asides : (a b : ConnSeen) (beat : Beat) (aside : List Frame) → AreAsynchronous aside → Moves a.stream b.stream [] aside → BeatCause a b beat → Keeps a.call b.call → b.broken ≡ a.broken → b.heard ≡ a.heard → b.groups ≡ a.groups → b.sent ≡ a.sent → b.read ≡ a.read → b.rule ≡ a.rule → b.change ≡ a.change
+asides : (a b : ConnSeen) (beat : Beat) (aside : List Frame) → AreAsynchronous aside → Moves a.stream b.stream [] aside → BeatCause a b beat → Keeps a.call b.call → b.broken ≡ a.broken → b.heard ≡ a.heard → b.groups ≡ a.groups → b.sent ≡ a.sent → b.read ≡ a.read → b.rule ≡ a.rule → standing b ≡ standing a
     → ((start : Ledger) (r : Request) (said : List FrontendMessage) (hs : List Frame) (items : List CallItem) → CallIs start r said hs items a.ledger a.call → Tells a b start r said hs items beat)
     → TakesBeat a b beat
 asides a b beat aside n m c keep k h g s t d e tells = (
@@ -432,7 +535,7 @@ asides a b beat aside n m c keep k h g s t d e tells = (
     counted = rw h (grew-none a.heard);
     started = (s, t, d, e);
     asked = keep.0;
-    room = λ n l r. omega (arith, r, keep.1, m.spare, same_level a.change b.change a.groups b.groups e g);
+    room = λ n l r. omega (arith, r, keep.1, m.spare, same_level a.change b.change a.groups b.groups (ap (λ (x : Standing). x.change) e) g);
     tells = λ start r said hs items i. ([], refl, rw g (grew-none a.groups), rw (append-nil said, append-nil hs) (tells start r said hs items i));
   },
 )
@@ -696,7 +799,7 @@ refused_front {A} seen a m b front e beat f now h stops ends =
 
 -- ---- the rest is sent
 
-sends_fine : (start : Ledger) (r : Request) (said : List FrontendMessage) (hs : List Frame) (items : List CallItem) (ledger : Ledger) (call : Call) → only_sends ledger call ≡ true → CallIs start r said hs items ledger call → CallEnds start r said hs items ledger (Ok answers.Unit)
+sends_fine : (start : Ledger) (r : Request) (said : List FrontendMessage) (hs : List Frame) (items : List CallItem) (ledger : Ledger) (call : Call) → only_sends ledger call ≡ true → CallIs start r said hs items ledger call → CallEnds start r said hs items ledger (Ok (sent_answer call))
 sends_fine start r said hs items ledger (calls.Waiting w) s i = let b = both_true (is_flush w.kind) (ledger.owed == 0) s in flush_fine start r said hs items ledger w b.0 (eqb-true _ _ b.1) i
 sends_fine start r said hs items ledger calls.Closing s i = closing_fine start r said hs items ledger i
 sends_fine start r said hs items ledger (calls.Asked asked) s i = absurd cc
@@ -714,8 +817,8 @@ pub rest_fails : (a : ConnSeen) (t : StreamSeen) (e : Error) → PollsSend a.str
 rest_fails a t e p = rw p.gives.0 (stays a (idle (over_stream a t)) (beats.Ends (Err (errors.Io io.Fault))) p.moves p.gives.2 (keeps_idle a.call) refl refl refl refl refl refl refl (λ start r said hs items i.
     (refl, inr (leaves_call start r said hs items a.ledger a.call i, call_well start r said hs items a.ledger a.call i, inl (p.gives.1, tt)))))
 
-pub rest_sent : (a : ConnSeen) (t : StreamSeen) (u : Unit {0}) → only_sends a.ledger a.call ≡ true → PollsSend a.stream t (Ready (Ok u)) → TakesBeat a (idle (over_stream a t)) (beats.Ends (Ok answers.Unit))
-rest_sent a t u k p = stays a (idle (over_stream a t)) (beats.Ends (Ok answers.Unit)) p.moves p.gives.1 (keeps_idle a.call) refl refl refl refl refl refl refl (λ start r said hs items i.
+pub rest_sent : (a : ConnSeen) (t : StreamSeen) (u : Unit {0}) → only_sends a.ledger a.call ≡ true → PollsSend a.stream t (Ready (Ok u)) → TakesBeat a (idle (over_stream a t)) (beats.Ends (Ok (sent_answer a.call)))
+rest_sent a t u k p = stays a (idle (over_stream a t)) (beats.Ends (Ok (sent_answer a.call))) p.moves p.gives.1 (keeps_idle a.call) refl refl refl refl refl refl refl (λ start r said hs items i.
     (refl, sends_fine start r said hs items a.ledger a.call k i, p.gives.0))
 
 -- ---- a front is accepted, step by step

@@ -8,11 +8,11 @@ use Rattle.pg_startup.specs.Handshake.{ReadyOf}
 use Rattle.pg_startup.specs.Establishing.{EstablishOf, establish_by, ready_seen, PollsStart}
 use Rattle.pg_conn.specs.Connections.{ConnOf, fresh_connection}
 
--- the connection over what a session begins with
+-- the connection over what a session begins with: it keeps no statements yet
 abbrev pub connected : {A : Type 0} → Poll (Result (ReadyOf A) Error) → Poll (Result (ConnOf A) Error)
 connected Pending = Pending
 connected (Ready (Err e)) = Ready (Err e)
-connected (Ready (Ok ready)) = Ready (Ok (fresh_connection ready.stream ready.sent ready.read))
+connected (Ready (Ok ready)) = Ready (Ok (fresh_connection 0 ready.stream ready.sent ready.read))
 
 -- a poll of the start-up, and the connection that it answers
 abbrev pub PollsConnect : {A : Type 0} → (A → LinkSeen) → ℕ → ℕ → EstablishOf A → EstablishOf A → Poll (Result (ConnOf A) Error) → Type 0

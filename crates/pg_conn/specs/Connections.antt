@@ -1,9 +1,14 @@
 -- What is seen of a connection, and what its calls that ask nothing of the link make of it.
-use Rattle.std.specs.Prelude.{ℕ, Bool, true, false, not, List, [], ◌++◌, Option, Some, None, ◌+◌, ◌-◌, ◌^◌, ◌∷◌, ◌&&◌, nat_eq, leb, ltb, min, length, if◌then◌else◌}
+use Rattle.std.specs.Prelude.{◌≡◌, ℕ, Bool, true, false, not, List, [], ◌++◌, Option, Some, None, ◌+◌, ◌-◌, ◌^◌, ◌∷◌, ◌&&◌, nat_eq, leb, ltb, min, length, if◌then◌else◌}
 use Rattle.pg_call.specs.declared.kind.Change.TheVariants as changes
 use Rattle.pg_call.specs.declared.kind.Change.{Change}
 use Rattle.pg_call.specs.declared.request.Request.TheVariants as requests
-use Rattle.pg_call.specs.Requests.{spelled, kind_of, change_of, first_of}
+use Rattle.pg_call.specs.declared.kind.Keeping.TheVariants as keepings
+use Rattle.pg_call.specs.declared.kind.Keeping.{Keeping}
+use Rattle.pg_call.specs.Requests.{spelled, kind_of, change_of, keeping_of}
+use Rattle.pg_request.specs.declared.progress.CacheStep.{CacheStep}
+use Rattle.pg_request.specs.declared.progress.CacheStep.TheVariants as steps
+use Rattle.pg_conn.specs.Statements.{asked_by, begun_as, held_by, moved, unmoved, step_of}
 use Rattle.pg_request.specs.Queries.{plain_text}
 use Rattle.pg_request.specs.Texts.{rollback_text}
 use Rattle.pg_rule.specs.declared.rule.Rule.{Rule}
@@ -29,24 +34,39 @@ pub record ConnOf (A : Type 0) : Type 0 where
   pub rule : Rule
   -- what the end of the last call makes of them where it is Ok; nothing, once it has come
   pub change : Change
+  -- what the end of the exchange that runs makes of the statements that are kept
+  pub keeping : Keeping
+  -- what the call has made of them so far
+  pub cache : CacheStep
   -- the fault by which the server broke the connection
   pub broken : Option ServerFault
-  -- groups queued and frames heard since the last call began, up to u64's greatest value
+  -- groups queued in the exchange that runs and in those before it, and frames heard, since the last call began, each up to u64's greatest value
   pub groups : ℕ
+  pub earlier : ℕ
   pub heard : ℕ
   -- bytes up to the end of start-up
   pub sent : ℕ
   pub read : ℕ
 
+-- what no beat of an exchange changes of what its end is to make of the session, and of what the call has made of it
+pub record Standing : Type 0 where
+  pub change : Change
+  pub keeping : Keeping
+  pub cache : CacheStep
+  pub earlier : ℕ
+
+abbrev pub standing : {A : Type 0} → ConnOf A → Standing
+standing c = record { change = c.change; keeping = c.keeping; cache = c.cache; earlier = c.earlier }
+
 abbrev pub ConnSeen : Type 0
 ConnSeen = ConnOf LinkSeen
 
 abbrev pub seen_by : {A : Type 0} → (A → LinkSeen) → ConnOf A → ConnSeen
-seen_by f c = record { stream = stream_by f c.stream; ledger = c.ledger; call = c.call; rule = c.rule; change = c.change; broken = c.broken; groups = c.groups; heard = c.heard; sent = c.sent; read = c.read }
+seen_by f c = record { stream = stream_by f c.stream; ledger = c.ledger; call = c.call; rule = c.rule; change = c.change; keeping = c.keeping; cache = c.cache; broken = c.broken; groups = c.groups; earlier = c.earlier; heard = c.heard; sent = c.sent; read = c.read }
 
--- behind start-up, before any call
-abbrev pub fresh_connection : {A : Type 0} → StreamOf A → ℕ → ℕ → ConnOf A
-fresh_connection stream sent read = record { stream = stream; ledger = owes_none; call = calls.Idle; rule = new_rule 0; change = changes.Stays; broken = None; groups = 0; heard = 0; sent = sent; read = read }
+-- behind start-up, before any call, where so many statements may be kept
+abbrev pub fresh_connection : {A : Type 0} → ℕ → StreamOf A → ℕ → ℕ → ConnOf A
+fresh_connection capacity stream sent read = record { stream = stream; ledger = owes_none; call = calls.Idle; rule = new_rule capacity; change = changes.Stays; keeping = keepings.Stays; cache = steps.Same; broken = None; groups = 0; earlier = 0; heard = 0; sent = sent; read = read }
 
 abbrev pub runs : Call → Bool
 runs calls.Idle = false
@@ -73,7 +93,11 @@ with_depth depth rule = record rule { depth = depth }
 
 -- behind an Ok
 abbrev pub settled : {A : Type 0} → ConnOf A → ConnOf A
-settled c = record c { rule = with_depth (depth_behind c.change c.groups c.rule.depth) c.rule; change = changes.Stays }
+settled c = record c { rule = moved c.keeping (with_depth (depth_behind c.change c.groups c.rule.depth) c.rule); cache = step_of c.keeping c.cache; change = changes.Stays; keeping = keepings.Stays }
+
+-- behind another end the statements are as after an Ok where the group was queued, and else as if nothing was asked
+abbrev pub restated : {A : Type 0} → ConnOf A → ConnOf A
+restated c = if nat_eq c.groups 0 then record c { rule = unmoved c.keeping c.rule } else record c { rule = moved c.keeping c.rule; cache = step_of c.keeping c.cache }
 
 -- a begin that has queued its group, outside of any transaction: it may open one
 abbrev pub may_open : Change → ℕ → ℕ → Bool
@@ -99,11 +123,11 @@ abbrev pub queued_group : {A : Type 0} → List ℕ → ConnOf A → ConnOf A
 queued_group frame c = if has_room_for frame c then with_group frame c else c
 
 abbrev pub ended : {A : Type 0} → ConnOf A → ConnOf A
-ended c = record c { change = changes.Stays }
+ended c = record c { change = changes.Stays; keeping = keepings.Stays }
 
 -- behind an end that is no Ok: the transaction that a begin may have opened is rolled back
 abbrev pub cleaned : {A : Type 0} → ConnOf A → ConnOf A
-cleaned c = ended (if may_open c.change c.groups c.rule.depth then queued_group (spelled (rollback 0)) c else c)
+cleaned c = ended (if may_open c.change c.groups c.rule.depth then queued_group (spelled (rollback 0)) (restated c) else restated c)
 
 -- a call that runs is given up
 abbrev pub left : {A : Type 0} → ConnOf A → ConnOf A
@@ -111,13 +135,41 @@ left c = if runs c.call then idle (cleaned c) else c
 
 -- the numbers of a call are counted from zero
 abbrev pub counted_anew : {A : Type 0} → ConnOf A → ConnOf A
-counted_anew c = record c { stream = record c.stream { waits = 0; moves = 0 }; groups = 0; heard = 0 }
+counted_anew c = record c { stream = record c.stream { waits = 0; moves = 0 }; groups = 0; earlier = 0; cache = steps.Same; heard = 0 }
 
 -- a call has begun, in place of one that ran
 abbrev pub started_call : {A : Type 0} → Request → ConnOf A → ConnOf A
-started_call request c = counted_anew (record (left c) { call = calls.Asked (first_of request); change = change_of (kind_of request) })
+started_call request c = counted_anew (record (left c) { call = calls.Asked (begun_as (left c).rule request); change = change_of (kind_of request); keeping = keepings.Stays })
 
--- the next exchange of a call begins where the one before it has ended: its numbers go on
+-- as a poll goes on, what is asked stands as an exchange, by the statements that are kept
+abbrev pub resolved_by : {A : Type 0} → Call → ConnOf A → ConnOf A
+resolved_by (calls.Asked r) c = record c {
+  call = calls.Asked (asked_by c.rule r);
+  rule = held_by c.rule r;
+  keeping = keeping_of (asked_by c.rule r);
+  groups = 0;
+  earlier = min (c.earlier + c.groups) (2 ^ 64 - 1);
+}
+resolved_by call c = c
+
+abbrev pub resolved : {A : Type 0} → ConnOf A → ConnOf A
+resolved c = resolved_by c.call c
+
+-- where there was no memory for that, it is as behind an exchange that has done nothing
+abbrev pub unasked : {A : Type 0} → Request → ConnOf A → ConnOf A
+unasked r c = record c {
+  call = calls.Idle;
+  rule = unmoved (keeping_of (asked_by c.rule r)) (held_by c.rule r);
+  change = changes.Stays;
+  keeping = keepings.Stays;
+  groups = 0;
+  earlier = min (c.earlier + c.groups) (2 ^ 64 - 1);
+}
+
+abbrev pub IsUnresolved : {A : Type 0} → ConnOf A → ConnOf A → Type 0
+IsUnresolved a b = (r : Request) × (a.call ≡ calls.Asked r) × (b ≡ unasked r a) × (r ≡ requests.Flush → ⊥)
+
+-- what is asked next stands where the exchange before it has ended: its numbers go on
 abbrev pub handed : {A : Type 0} → Request → ConnOf A → ConnOf A
 handed request c = record c { call = calls.Asked request }
 

@@ -1,3 +1,4 @@
+pub mod Statements
 pub mod Connections
 pub mod Turns
 pub mod States

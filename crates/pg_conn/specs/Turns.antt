@@ -1,6 +1,8 @@
 -- How one poll of a call moves the connection on, whatever the call had done before.
 use Rattle.std.specs.Prelude.{◌≡◌, ◌≢◌, Result, ℕ, ◌-◌, ◌<◌, ◌≤◌, ◌⊎◌, ◌==◌, ◌&&◌, Bool, true, false, count_by, List, [], ◌∷◌, ◌++◌, length, nat_eq, Ok, Err, Option, Some, None, ◌+◌, ◌*◌, if◌then◌else◌}
 use Rattle.pg_call.specs.declared.kind.Change.{Change}
+use Rattle.pg_call.specs.declared.kind.Kind.{Kind}
+use Rattle.pg_call.specs.declared.kind.Kind.TheVariants as kinds
 use Rattle.futures.specs.declared.task.Poll.{Poll}
 use Rattle.futures.specs.declared.task.Poll.TheVariants.{Ready, Pending}
 use Rattle.pg_wire.specs.declared.error.Error.{Error}
@@ -25,13 +27,14 @@ use Rattle.pg_call.specs.declared.calling.Call.{Call}
 use Rattle.pg_call.specs.declared.calling.Call.TheVariants as calls
 use Rattle.pg_call.specs.declared.calling.Beat.{Beat}
 use Rattle.pg_call.specs.declared.calling.Beat.TheVariants as beats
-use Rattle.pg_call.specs.Requests.{Group, spelled, kind_of, is_flush, first_of, CanBeSaid, IsRefusal}
+use Rattle.pg_call.specs.Requests.{Group, spelled, kind_of, is_flush, CanBeSaid, IsRefusal}
 use Rattle.pg_call.specs.Drains.{is_error}
-use Rattle.pg_call.specs.Hearing.{fails_of}
+use Rattle.pg_call.specs.Hearing.{fails_of, sent_answer}
 use Rattle.pg_call.specs.declared.calling.Taken.{Taken}
 use Rattle.pg_call.specs.declared.running.Running.{Running}
 use Rattle.pg_call.specs.Calls.{CallIs, IsAwaiting, Leaves, CallEnds, IsFrontFault, TakesMessage, RefusesMessage, StaysIn}
-use Rattle.pg_conn.specs.Connections.{ConnOf, ConnSeen, idle, started_call, begun, begun_with, handed, opens, settled, cleaned, ended}
+use Rattle.pg_conn.specs.Connections.{ConnOf, ConnSeen, idle, left, standing, started_call, begun, begun_with, handed, opens, resolved, settled, cleaned, ended}
+use Rattle.pg_conn.specs.Statements.{asked_by, begun_as}
 
 -- Query and Sync end a group ("Simple Query", "Extended Query")
 abbrev pub ends_request : FrontendMessage → Bool
@@ -127,7 +130,7 @@ pub record Turns (a b : ConnSeen) (beat : Beat) (q : List ℕ) (fs hs : List Fra
   pub cause : BeatCause a b beat
   pub broken : b.broken ≡ a.broken
   pub counted : GrewBy (length hs) a.heard b.heard
-  pub started : (b.sent ≡ a.sent) × (b.read ≡ a.read) × (b.rule ≡ a.rule) × (b.change ≡ a.change)
+  pub started : (b.sent ≡ a.sent) × (b.read ≡ a.read) × (b.rule ≡ a.rule) × (standing b ≡ standing a)
   pub asked : IsAsked b.call → IsAsked a.call
   pub room : (n : ℕ) → n ≤ 64 * a.rule.depth → HasRoomBeside n a → HasRoomBeside n b
   pub tells : (start : Ledger) (r : Request) (said : List FrontendMessage) (hs' : List Frame) (items : List CallItem) → CallIs start r said hs' items a.ledger a.call
@@ -163,9 +166,13 @@ abbrev pub Refuses : Call → Error → Type 0
 Refuses (calls.Asked request) e = IsRefusal request e
 Refuses _ e = ⊥
 
+abbrev pub only_flushes : Kind → Bool
+only_flushes kinds.Flush = true
+only_flushes _ = false
+
 abbrev pub flushes : Call → Bool
-flushes (calls.Asked request) = is_flush (kind_of request)
-flushes (calls.Waiting waiting) = is_flush waiting.kind
+flushes (calls.Asked request) = only_flushes (kind_of request)
+flushes (calls.Waiting waiting) = only_flushes waiting.kind
 flushes _ = false
 
 -- a flush with nothing to do: no reply is owed, and all is sent
@@ -223,7 +230,7 @@ Refused a b _ = ⊥
 
 -- a flush with nothing to do ends, and does nothing
 abbrev pub EndsFlush : ConnSeen → ConnSeen → Beat → Type 0
-EndsFlush a b beat = is_flushed a ≡ true → (beat ≡ beats.Ends (Ok answers.Unit)) × (b ≡ idle a)
+EndsFlush a b beat = is_flushed a ≡ true → (beat ≡ beats.Ends (Ok (sent_answer a.call))) × (b ≡ idle a)
 
 -- what the end of a call makes of the connection: an Ok counts what it opened or closed, and any other end breaks it where the server is at
 -- fault, and is cleaned up behind
@@ -255,7 +262,7 @@ HandsOnNone answer = (next : Request) → answer ≡ hands_on next → ⊥
 -- Exchanges ended in a poll one after another, and each handed on the next of these; the last of them begins on this connection.
 abbrev pub HandsOver : ConnSeen → List Request → ConnSeen → Type 0
 HandsOver begun [] last = last ≡ begun
-HandsOver begun (next ∷ later) last = (between : ConnSeen) × Polled begun between (beat_of (hands_on next)) × HandsOver (handed next between) later last
+HandsOver begun (next ∷ later) last = (between : ConnSeen) × Polled (resolved begun) between (beat_of (hands_on next)) × HandsOver (handed next between) later last
 
 -- One poll of a call: of the exchange that runs, and of those that are handed on in it, each of which goes on with the calls of the link that
 -- were left.
@@ -263,7 +270,7 @@ pub record PollsThrough (begun b : ConnSeen) (answer : Poll Turn) : Type 0 where
   pub later : List Request
   pub last : ConnSeen
   pub hands : HandsOver begun later last
-  pub polled : Polled last b (beat_of answer)
+  pub polled : Polled (resolved last) b (beat_of answer)
   pub none : HandsOnNone answer
 
 -- one poll of a call, which begins with this connection, or answers at once where the connection is broken
@@ -282,10 +289,14 @@ PollsCall a b answer = PollsWithin 256 a b answer
 abbrev pub PollsMore : ConnSeen → ConnSeen → Poll Turn → Type 0
 PollsMore a b answer = PollsBy a.broken a a b answer
 
+-- what the first exchange of a call asks
+abbrev pub first_exchange : Request → ConnSeen → Request
+first_exchange request a = asked_by (left a).rule (begun_as (left a).rule request)
+
 -- the first poll of a request that refuses it, and does nothing else
 abbrev pub RefusesAtOnce : Request → ConnSeen → ConnSeen → Poll Turn → Type 0
-RefusesAtOnce request a b answer = (e : Error) × (answer ≡ Ready (turns.Err e)) × IsRefusal (first_of request) e × (b ≡ ended (idle (begun (started_call request a))))
+RefusesAtOnce request a b answer = (e : Error) × (answer ≡ Ready (turns.Err e)) × IsRefusal (first_exchange request a) e × (b ≡ cleaned (idle (resolved (begun (started_call request a)))))
 
 -- the first poll of a flush that has nothing to do, which ends it
 abbrev pub FlushesAtOnce : ConnSeen → ConnSeen → Poll Turn → Type 0
-FlushesAtOnce a b answer = (answer ≡ Ready (turns.Ok answers.Unit)) × (b ≡ idle (begun (started_call requests.Flush a)))
+FlushesAtOnce a b answer = (answer ≡ Ready (turns.Ok answers.Unit)) × (b ≡ ended (idle (begun (started_call requests.Flush a))))

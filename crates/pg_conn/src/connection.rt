@@ -1,10 +1,11 @@
-ghost use Rattle.std.specs.Prelude.{◌≡◌, ◌≤◌, not, nat_eq, length, option_map, OnErr, Err};
+ghost use Rattle.std.specs.Prelude.{◌≡◌, ◌≤◌, ◌+◌, ◌-◌, ◌^◌, min, not, nat_eq, length, option_map, OnErr, Err};
 ghost use Rattle.pg_stream.specs.Parameters.{value_of};
-ghost use Rattle.pg_conn.specs.Connections.{cleaned, counted_anew, ended, idle, fresh_connection, handed, left, left_by, may_open, queued_group, rolled_back, runs, settled, started_call, with_room};
+ghost use Rattle.pg_conn.specs.Connections.{cleaned, counted_anew, ended, idle, fresh_connection, handed, left, left_by, may_open, queued_group, restated, rolled_back, runs, settled, started_call, with_room};
 ghost use Rattle.pg_conn.specs.Turns.{level_of};
 
+use crate::keeping::{begun_as, keep, let_go, step_of};
 use crate::{CacheStep, Progress, Request};
-use pg_call::{Call, Change, Running, rollback_frame};
+use pg_call::{Call, Change, Keeping, Running, rollback_frame};
 use pg_rule::Rule;
 use pg_startup::Ready;
 use pg_stream::PgStream;
@@ -17,10 +18,13 @@ pub struct PgConnection<L> {
     pub(crate) alloc: Global,
     pub(crate) stream: PgStream<L>,
     pub(crate) running: Running,
-    rule: Rule,
+    pub(crate) rule: Rule,
     change: Change,
+    pub(crate) keeping: Keeping,
+    cache: CacheStep,
     pub(crate) broken: Option<ServerFault>,
     pub(crate) groups: u64,
+    pub(crate) earlier: u64,
     pub(crate) heard: u64,
     sent: u64,
     read: u64,
@@ -35,8 +39,11 @@ impl<L: Drop> Drop for PgConnection<L> {
             running: _,
             rule: _,
             change: _,
+            keeping: _,
+            cache: _,
             broken: _,
             groups: _,
+            earlier: _,
             heard: _,
             sent: _,
             read: _,
@@ -49,13 +56,13 @@ impl<L> Model for PgConnection<L> {
 
     ghost Value = { ConnOf L };
 
-    ghost view = { λ c. record { stream = c.stream; ledger = c.running.ledger; call = c.running.call; rule = c.rule; change = c.change; broken = c.broken; groups = c.groups; heard = c.heard; sent = c.sent; read = c.read } };
+    ghost view = { λ c. record { stream = c.stream; ledger = c.running.ledger; call = c.running.call; rule = c.rule; change = c.change; keeping = c.keeping; cache = c.cache; broken = c.broken; groups = c.groups; earlier = c.earlier; heard = c.heard; sent = c.sent; read = c.read } };
 }
 
 impl<L> PgConnection<L> {
-    /// The connection that a start-up has come to.
-    pub(crate) fn over(alloc: Global, ready: Ready<L>) -> Self
-        ensures { result ≡ fresh_connection ready.stream ready.sent ready.read }
+    /// The connection that a start-up has come to, which keeps so many statements at most.
+    pub(crate) fn over(alloc: Global, capacity: usize, ready: Ready<L>) -> Self
+        ensures { result ≡ fresh_connection capacity ready.stream ready.sent ready.read }
     {
         let Ready {
             stream,
@@ -67,10 +74,13 @@ impl<L> PgConnection<L> {
             alloc,
             stream,
             running: Running::new(),
-            rule: Rule::new(alloc, 0),
+            rule: Rule::new(alloc, capacity),
             change: Change::Stays,
+            keeping: Keeping::Stays,
+            cache: CacheStep::Same,
             broken: None,
             groups: 0,
+            earlier: 0,
             heard: 0,
             sent,
             read,
@@ -119,8 +129,11 @@ impl<L> PgConnection<L> {
             running: _,
             rule: _,
             change: _,
+            keeping: _,
+            cache: _,
             broken: _,
             groups: _,
+            earlier: _,
             heard: _,
             sent: _,
             read: _,
@@ -137,13 +150,13 @@ impl<L> PgConnection<L> {
 
     /// How far the last call has come.
     pub fn progress(&self) -> Progress
-        ensures { result ≡ record { groups = self.now.groups; heard = self.now.heard; cache = CacheStep.Same; waits = self.now.stream.waits; moved = self.now.stream.moves } }
+        ensures { result ≡ record { groups = min (self.now.earlier + self.now.groups) (2 ^ 64 - 1); heard = self.now.heard; cache = self.now.cache; waits = self.now.stream.waits; moved = self.now.stream.moves } }
     {
         let calls = self.stream.calls();
         Progress {
-            groups: self.groups,
+            groups: self.earlier.saturating_add(self.groups),
             heard: self.heard,
-            cache: CacheStep::Same,
+            cache: self.cache,
             waits: calls.waits,
             moved: calls.moved,
         }
@@ -168,6 +181,13 @@ impl<L> PgConnection<L> {
         ensures { result ≡ self.now.rule.depth }
     {
         self.rule.depth
+    }
+
+    /// How many statements are kept.
+    pub fn cached_statements_size(&self) -> usize
+        ensures { result ≡ length self.now.rule.cache.entries }
+    {
+        self.rule.cache.len()
     }
 
     // Whether the call is a begin that may have opened a transaction.
@@ -209,17 +229,41 @@ impl<L> PgConnection<L> {
             Change::Closes => self.rule.depth.saturating_sub(1),
             Change::Opens | Change::Stays => self.rule.depth,
         };
+        keep(&mut self.rule, self.keeping);
+        self.cache = step_of(self.keeping, self.cache);
+        self.end_change();
+    }
+
+    // Nothing more comes of the call's end.
+    fn end_change(&mut self)
+        ensures { self.new ≡ ended self.old }
+    {
         self.change = Change::Stays;
+        self.keeping = Keeping::Stays;
+    }
+
+    // What an end that is no Ok makes of the statements that are kept.
+    fn restate(&mut self)
+        ensures { self.new ≡ restated self.old }
+    {
+        if self.groups == 0 {
+            let_go(&mut self.rule, self.keeping);
+        } else {
+            keep(&mut self.rule, self.keeping);
+            self.cache = step_of(self.keeping, self.cache);
+        }
     }
 
     /// The call has come to another end: the transaction that a begin may have opened is rolled back.
     pub(crate) fn clean(&mut self)
         ensures { self.new ≡ cleaned self.old }
     {
-        if self.may_open() {
+        let may_open = self.may_open();
+        self.restate();
+        if may_open {
             self.queue_group(&rollback_frame(0));
         }
-        self.change = Change::Stays;
+        self.end_change();
     }
 
     /// Gives the running call up. Replies to what it queued stay owed. Where it is a begin that may have opened a transaction, a rollback is
@@ -238,7 +282,7 @@ impl<L> PgConnection<L> {
         ensures { self.new ≡ ended (idle self.old) }
     {
         self.turn_to(Call::Idle);
-        self.change = Change::Stays;
+        self.end_change();
     }
 
     // The numbers of a call are counted from zero.
@@ -246,6 +290,8 @@ impl<L> PgConnection<L> {
         ensures { self.new ≡ counted_anew self.old }
     {
         self.groups = 0;
+        self.earlier = 0;
+        self.cache = CacheStep::Same;
         self.heard = 0;
         self.stream.begin_call();
     }
@@ -256,7 +302,7 @@ impl<L> PgConnection<L> {
         ensures { self.new ≡ rolled_back self.old }
     {
         self.abandon();
-        self.change = Change::Stays;
+        self.end_change();
         self.count_anew();
         if self.rule.depth > 0 {
             self.rule.depth -= 1;
@@ -277,7 +323,9 @@ impl<L> PgConnection<L> {
     {
         self.abandon();
         self.change = request.kind().change();
-        self.turn_to(Call::Asked(request.first()));
+        self.keeping = Keeping::Stays;
+        let request = begun_as(&self.rule, request);
+        self.turn_to(Call::Asked(request));
         self.count_anew();
     }
 

@@ -5,12 +5,12 @@ ghost use Rattle.pg_call.specs.declared.answer.Turn.{Turn};
 ghost use Rattle.pg_call.specs.declared.kind.Kind.{Kind};
 ghost use Rattle.pg_call.specs.declared.request.Request.{Request};
 ghost use Rattle.pg_call.specs.declared.request.Request.TheVariants as requests;
-ghost use Rattle.pg_call.specs.Requests.{CanBeSaid, first_of, spelled};
-ghost use Rattle.pg_conn.specs.Connections.{ConnSeen, ended, fresh_connection, idle, left, left_by, may_open, rollback, rolled_back, runs, started_call, with_group};
+ghost use Rattle.pg_call.specs.Requests.{CanBeSaid, spelled};
+ghost use Rattle.pg_conn.specs.Connections.{ConnSeen, ended, fresh_connection, idle, left, left_by, may_open, restated, rollback, rolled_back, runs, started_call, with_group};
 ghost use Rattle.pg_stream.specs.Streams.{StreamSeen};
 ghost use Rattle.pg_conn.specs.Ledgers.{Owes, OwesSome};
 ghost use Rattle.pg_conn.specs.States.{IsCalling};
-ghost use Rattle.pg_conn.specs.Turns.{FlushesAtOnce, HasAllRoom, HasRoom, PollsCall, PollsMore, PollsWithin, RefusesAtOnce};
+ghost use Rattle.pg_conn.specs.Turns.{first_exchange, FlushesAtOnce, HasAllRoom, HasRoom, PollsCall, PollsMore, PollsWithin, RefusesAtOnce};
 
 /// The state of a call that is dropped before its first poll leaves the connection as it was: it has queued and taken nothing.
 pub fn an_unpolled_call_does_nothing()
@@ -26,13 +26,13 @@ pub fn a_dropped_call_stays_owed()
 /// A begin that is given up once its group is queued, outside of any transaction, is followed by a rollback: one reply more is owed. There is
 /// room for it, which takes no memory.
 pub fn a_dropped_begin_is_rolled_back()
-    ensures { (c : ConnSeen) → runs c.call ≡ true → may_open c.change c.groups c.rule.depth ≡ true → HasRoom c → c.ledger.owed < 2 ^ 64 - 1 → left c ≡ idle (ended (with_group (spelled (rollback 0)) c)) }
+    ensures { (c : ConnSeen) → runs c.call ≡ true → may_open c.change c.groups c.rule.depth ≡ true → HasRoom c → c.ledger.owed < 2 ^ 64 - 1 → left c ≡ idle (ended (with_group (spelled (rollback 0)) (restated c))) }
 {}
 
 /// A request that no frame can say, for a zero byte in its text or for its length, is refused by its first poll, which does nothing
 /// else. Only the fault of a broken connection comes before that refusal, and want of memory in its place.
 pub fn what_no_frame_says_is_refused_at_once()
-    ensures { (a b : ConnSeen) (request : Request) (answer : Poll Turn) → a.broken ≡ None → PollsCall (started_call request a) b answer → (CanBeSaid (first_of request) → ⊥) → RefusesAtOnce request a b answer }
+    ensures { (a b : ConnSeen) (request : Request) (answer : Poll Turn) → a.broken ≡ None → PollsCall (started_call request a) b answer → (CanBeSaid (first_exchange request a) → ⊥) → RefusesAtOnce request a b answer }
 {}
 
 /// A flush on a connection on which nothing is unsent and no reply is owed is done at its first poll, which calls no link and takes no
@@ -67,5 +67,5 @@ pub fn a_connection_has_room_for_its_rollbacks()
     ensures starts { (a : ConnSeen) (request : Request) → HasAllRoom a → HasAllRoom (started_call request a) }
     ensures leaves { (a : ConnSeen) → HasAllRoom a → HasAllRoom (left a) }
     ensures rolls_back { (a : ConnSeen) → a.rule.depth < 2 ^ 64 → HasAllRoom a → HasAllRoom (rolled_back a) }
-    ensures fresh { (stream : StreamSeen) (sent read : ℕ) → HasAllRoom (fresh_connection stream sent read) }
+    ensures fresh { (capacity : ℕ) (stream : StreamSeen) (sent read : ℕ) → HasAllRoom (fresh_connection capacity stream sent read) }
 {}

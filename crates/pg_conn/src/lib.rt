@@ -4,11 +4,13 @@
 //! Begin with `establish`, which gives a `PgConnection`, and with its call `execute`.
 #![tactic(auto)]
 
+mod asking;
 mod connection;
 mod dial;
 mod dial_counts;
 pub mod drops;
 mod establishing;
+mod keeping;
 pub mod laws;
 mod polling;
 mod postgres;

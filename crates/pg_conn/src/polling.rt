@@ -1,16 +1,16 @@
 ghost use Rattle.std.specs.Prelude.{◌≡◌, ◌≢◌, ◌+◌, ◌*◌, ◌-◌, ◌<◌, ◌≤◌, ◌⊎◌, ◌==◌, ◌&&◌, true, false, [], None, IsSome, OnOk, OnErr, IfOk, IfErr};
 ghost use Rattle.pg_stream.specs.Links.{GrewBy};
 ghost use Rattle.pg_stream.specs.Streams.{IsHeardFront, Passes};
-ghost use Rattle.pg_conn.specs.Connections.{seen_by, ended, idle, begun_with, begun_by, is_over, runs, with_spare, queued_call, awaiting, closing};
+ghost use Rattle.pg_conn.specs.Connections.{seen_by, ended, idle, begun_with, begun_by, is_over, runs, with_spare, queued_call, awaiting, closing, resolved};
 ghost use Rattle.pg_call.specs.Calls.{IsAwaiting};
-ghost use Rattle.pg_call.specs.Hearing.{IsReplied, keeps_now, waits};
+ghost use Rattle.pg_call.specs.Hearing.{IsReplied, keeps_now, sent_answer, waits};
 ghost use Rattle.pg_call.specs.declared.kind.Kind as declared_kind;
 ghost use Rattle.pg_call.specs.declared.request.Request as declared_request;
 ghost use Rattle.pg_conn.specs.States.{IsCalling, PollFits};
 ghost use Rattle.pg_conn.specs.Turns.{level_of, TakesBeat, Falls, GoesOn, HearsFront, Prepares, Readies, Refuses, Accepts, IsAsked, IsSayable, Refused, IsAhead, only_sends, flushes, is_flushed, EndsFlush, queued_copy_fail, Polled, PollsThrough, PollsWithin, PollsCall, PollsMore, beat_of, broken_by, hands_on, HandsOnNone};
 
 use crate::{PgConnection, Request, Turn};
-use pg_call::{Beat, Call, CallAnswer, Taken};
+use pg_call::{Beat, Call, CallAnswer, Kind, Taken};
 use pg_stream::{Front, Link};
 use pg_wire::{Blob, Error, Poll, ProtocolFault, ServerFault};
 
@@ -49,6 +49,14 @@ impl<L> PgConnection<L> {
     {
         self.turn_to(Call::Idle);
         Beat::Ends(answer)
+    }
+
+    // All is sent, and the call ends with its answer.
+    fn end_sent(&mut self) -> Beat
+        ensures beat { result ≡ Beat.Ends (Ok (sent_answer self.old.call)) }
+        ensures now { self.new ≡ idle self.old }
+    {
+        Beat::Ends(Ok(self.running.end_sent()))
     }
 
     // The frames of the call are written, and wait.
@@ -90,8 +98,8 @@ impl<L> PgConnection<L> {
         ensures { result ≡ flushes self.now.call }
     {
         match &self.running.call {
-            Call::Asked(request) => request.kind().is_flush(),
-            Call::Waiting(waiting) => waiting.kind.is_flush(),
+            Call::Asked(request) => matches!(request.kind(), Kind::Flush),
+            Call::Waiting(waiting) => matches!(waiting.kind, Kind::Flush),
             Call::Idle | Call::Own(_) | Call::Closing => false,
         }
     }
@@ -328,7 +336,7 @@ impl<L: Link> PgConnection<L> {
         match self.stream.poll_send() {
             Poll::Pending => Beat::Waits,
             Poll::Ready(Err(e)) => self.stop(Err(e)),
-            Poll::Ready(Ok(())) => self.stop(Ok(CallAnswer::Unit)),
+            Poll::Ready(Ok(())) => self.end_sent(),
         }
     }
 
@@ -385,7 +393,7 @@ impl<L: Link> PgConnection<L> {
         ensures falls { Falls (seen_by L.seen self.old) (seen_by L.seen self.new) result }
     {
         if self.is_flushed() {
-            return self.stop(Ok(CallAnswer::Unit));
+            return self.end_sent();
         }
         match self.prepare() {
             Ok(()) => self.run(),
@@ -395,8 +403,8 @@ impl<L: Link> PgConnection<L> {
 }
 
 impl<L: Link> PgConnection<L> {
-    // One poll, which begins with what the connection allows of link calls.
-    fn poll_on(&mut self) -> Poll<Turn>
+    // One poll of an exchange.
+    fn poll_exchange(&mut self) -> Poll<Turn>
         requires { self.old.broken ≡ None }
         ensures polled { Polled (seen_by L.seen self.old) (seen_by L.seen self.new) (beat_of result) }
         ensures whole { (next : declared_request.Request) → result ≡ hands_on next → self.new.broken ≡ None }
@@ -414,6 +422,19 @@ impl<L: Link> PgConnection<L> {
                 self.clean();
                 Poll::Ready(Turn::Err(e))
             }
+        }
+    }
+
+    // One poll, which begins with what the connection allows of link calls. What is asked stands as an exchange first.
+    fn poll_on(&mut self) -> Poll<Turn>
+        requires { self.old.broken ≡ None }
+        ensures polled { Polled (resolved (seen_by L.seen self.old)) (seen_by L.seen self.new) (beat_of result) }
+        ensures whole { (next : declared_request.Request) → result ≡ hands_on next → self.new.broken ≡ None }
+        ensures falls { Falls (seen_by L.seen self.old) (seen_by L.seen self.new) (beat_of result) }
+    {
+        match self.resolve() {
+            Ok(()) => self.poll_exchange(),
+            Err(e) => Poll::Ready(Turn::Err(e)),
         }
     }
 

@@ -66,7 +66,7 @@ impl<L: Link> Establish<L> {
         match self.startup.poll() {
             Poll::Pending => Poll::Pending,
             Poll::Ready(Err(e)) => Poll::Ready(Err(e)),
-            Poll::Ready(Ok(ready)) => Poll::Ready(Ok(PgConnection::over(self.alloc, ready))),
+            Poll::Ready(Ok(ready)) => Poll::Ready(Ok(PgConnection::over(self.alloc, 0, ready))),
         }
     }
 
@@ -80,7 +80,7 @@ impl<L: Link> Establish<L> {
         match self.startup.poll_within(left) {
             Poll::Pending => Poll::Pending,
             Poll::Ready(Err(e)) => Poll::Ready(Err(e)),
-            Poll::Ready(Ok(ready)) => Poll::Ready(Ok(PgConnection::over(self.alloc, ready))),
+            Poll::Ready(Ok(ready)) => Poll::Ready(Ok(PgConnection::over(self.alloc, 0, ready))),
         }
     }
 }

@@ -1,5 +1,22 @@
 -- One more poll of an exchange of a call that is played.
-use Rattle.std.proofs.Common.{◌≡◌, ◌≢◌, ◌⊎◌, ℕ, ◌+◌, ◌*◌, ◌<◌, ◌≤◌, inl, inr, cond, Bool, true, false, List, [], ◌∷◌, ◌++◌, length, map, refl, sym, ap, ◌∙◌, subst, arith, append_assoc, Option, Some, None, Ok, Err, not, ◌&&◌, nat_eq, Result, ◌-◌}
+use Rattle.std.proofs.Common.{◌≡◌, ◌≢◌, ◌⊎◌, ℕ, ◌+◌, ◌*◌, ◌<◌, ◌≤◌, inl, inr, cond, Bool, true, false, List, [], ◌∷◌, ◌++◌, length, map, refl, sym, ap, ◌∙◌, subst, arith, append_assoc, Option, Some, None, Ok, Err, not, ◌&&◌, nat_eq, Result, ◌-◌, ap₂, ◌==◌}
+use Rattle.pg_rule.specs.Caches.{entry_at}
+use Rattle.pg_rule.specs.declared.cache.Entry.{Entry}
+use Rattle.pg_request.specs.Queries.{QueryText, ArgumentsSeen}
+use Rattle.pg_call.specs.declared.kind.How.TheVariants as hows
+use Rattle.pg_call.specs.declared.kind.How.{How}
+use Rattle.pg_call.specs.declared.statement.After.TheVariants as afters
+use Rattle.pg_call.specs.declared.statement.After.{After}
+use Rattle.pg_call.specs.declared.statement.Goal.TheVariants as goals
+use Rattle.pg_call.specs.declared.statement.Goal.{Goal}
+use Rattle.pg_call.specs.declared.kind.Keeping.TheVariants as keepings
+use Rattle.pg_call.specs.declared.kind.Keeping.{Keeping}
+use Rattle.pg_conn.proofs.StatementLaws.{asked_main}
+use Rattle.pg_conn.specs.Statements.{asked_by, begun_as, held_by, moved, number_for, query_by, run_or_describe, step_of, unmoved}
+use Rattle.pg_call.specs.Drains.{drain_fails, before_readys}
+use Rattle.pg_call.specs.Hearing.{sent_answer}
+use Rattle.pg_wire.proofs.Tests.{both_true}
+use Rattle.std.proofs.lemmas.Bool.{eqb-true}
 use Rattle.pg_call.specs.declared.kind.Change.{Change}
 use Rattle.pg_rule.specs.declared.rule.Rule.{Rule}
 use Rattle.pg_wire.specs.declared.status.TransactionStatus.TheVariants as statuses
@@ -33,11 +50,11 @@ use Rattle.pg_call.specs.declared.calling.Call.TheVariants as calls
 use Rattle.pg_call.specs.declared.calling.Beat.{Beat}
 use Rattle.pg_call.specs.declared.calling.Beat.TheVariants as beats
 use Rattle.pg_call.specs.declared.ledger.Ledger.{Ledger}
-use Rattle.pg_call.specs.Requests.{spelled, CanBeSaid, IsRefusal, kind_of, change_of}
+use Rattle.pg_call.specs.Requests.{spelled, CanBeSaid, IsRefusal, kind_of, change_of, messages_of, keeping_of, main_kind, goal_kind, after_kind, raw}
 use Rattle.pg_call.specs.Calls.{CallIs, Leaves, answer_by}
 use Rattle.pg_call.proofs.LeaveLaws.{leaves_call, call_well}
-use Rattle.pg_conn.specs.Connections.{ConnSeen, idle, begun_with, runs, ended, settled, cleaned, left, may_open, has_room_for, with_group, queued_group, rollback, ConnOf, seen_by, depth_behind, rolled, rolled_back, counted_anew, with_depth}
-use Rattle.pg_conn.specs.Turns.{ends_request, Tells, IsWaited, BeatCause, IsSayable, Refuses, Refused, broken_by, is_flushed, behind, TakesBeat, EndsFlush, HasAllRoom, HasRoomBeside}
+use Rattle.pg_conn.specs.Connections.{ConnSeen, idle, begun_with, runs, ended, settled, cleaned, left, may_open, has_room_for, with_group, queued_group, rollback, ConnOf, seen_by, depth_behind, rolled, rolled_back, counted_anew, with_depth, Standing, standing, restated, resolved, resolved_by, started_call}
+use Rattle.pg_conn.specs.Turns.{ends_request, Tells, IsWaited, BeatCause, IsSayable, Refuses, Refused, broken_by, is_flushed, behind, TakesBeat, EndsFlush, HasAllRoom, HasRoomBeside, IsAsked, flushes}
 use Rattle.pg_report.specs.declared.outcome.Item.{Item}
 use Rattle.pg_report.specs.declared.outcome.Answer.{Answer}
 use Rattle.pg_report.specs.declared.outcome.End.{End}
@@ -45,12 +62,12 @@ use Rattle.pg_report.specs.declared.outcome.End.TheVariants as ends
 use Rattle.pg_report.specs.declared.outcome.Outcome.{Outcome}
 use Rattle.pg_call.proofs.FitLaws.{the_ok}
 use Rattle.pg_play.specs.declared.tally.Limits.{Limits}
-use Rattle.pg_play.specs.Shown.{item_of, items_with, has_rows, answer_of}
+use Rattle.pg_play.specs.Shown.{item_of, items_with, has_rows, answer_of, IsWanted}
 use Rattle.pg_startup.specs.Flows.{Flows}
 use Rattle.pg_startup.proofs.FlowLaws.{Flows-then, Flows-none, flows_begun}
 use Rattle.pg_play.proofs.WaitLaws.{still_grown, waits_none, waits_on}
 use Rattle.pg_play.specs.Calls.{Waited, Went, InPlay, IsPlayingOn, IsPlaying, EndsStarved, IsDropped, broken_after, HasWaitedFew, IsFresh, EndsAtOnce, EndsOn, HasEnded, IsLast, EndsCall, PlaysOne, outcome_of, Ended, StopsBy, behind_end}
-use Rattle.pg_conn.proofs.TurnLaws.{tells_from, spelled-append}
+use Rattle.pg_conn.proofs.TurnLaws.{tells_from, spelled-append, counts-append, seen_cleaned, cleaned_call, kept}
 
 -- ---- the stream, over any number of polls
 
@@ -205,7 +222,7 @@ waits_freely left b c (inr (inr (inl x))) = inr (inr (inl x))
 waits_freely left b c (inr (inr (inr x))) = inl x.1.2
 
 went_on : (left : ℕ) (a b c : ConnSeen) (said more : List FrontendMessage) (q : List ℕ) (fs gs : List Frame) → Went a b said fs → Moves (record b.stream { left = left }) c.stream q gs → spelled more ≡ q → GrewBy (count_by ends_request more) b.groups c.groups
-    → GrewBy (length (heard gs)) b.heard c.heard → (c.sent ≡ b.sent) × (c.read ≡ b.read) × (c.rule ≡ b.rule) × (c.change ≡ b.change) → NoneWaited b.stream c.stream ⊎ PendingCause (record b.stream { left = left }) c.stream → Went a c (said ++ more) (fs ++ gs)
+    → GrewBy (length (heard gs)) b.heard c.heard → (c.sent ≡ b.sent) × (c.read ≡ b.read) × (c.rule ≡ b.rule) × (standing c ≡ standing b) → NoneWaited b.stream c.stream ⊎ PendingCause (record b.stream { left = left }) c.stream → Went a c (said ++ more) (fs ++ gs)
 went_on left a b c said more q fs gs w m e g h s waited = record {
   flows = subst (λ (t : List ℕ). Flows a.stream c.stream t (fs ++ gs)) (ap (λ (t : List ℕ). spelled said ++ t) (sym e) ∙ sym (spelled-append said more)) (Flows-then a.stream b.stream c.stream (spelled said) q fs gs w.flows (flows_begun b.stream c.stream left q gs m));
   tallies = Tallies-then a.stream b.stream c.stream w.tallies (tallies_begun left b.stream c.stream m.tallies);
@@ -245,11 +262,19 @@ refuses_beat left first a b c r waits items beat said fs gs q i says m u = elim 
     by beats.More h = absurd h
     by beats.Waits h = absurd h
 
+-- what is flushed so answers nothing of its own
+flush_answers : (r : Request) → flushes (calls.Asked r) ≡ true → sent_answer (calls.Asked r) ≡ answers.Unit
+flush_answers requests.Flush e = refl
+flush_answers _ e = absurd cc
+
 flushes_beat : (left : ℕ) (first : StreamSeen) (a b c : ConnSeen) (r : Request) (waits : ℕ) (items : List CallItem) (beat : Beat) (said : List FrontendMessage) (fs gs : List Frame) (q : List ℕ) → InPlay first a b r waits items said fs → EndsFlush (begun_with left b) c beat → Moves (record b.stream { left = left }) c.stream q gs
     → is_flushed a ≡ true → BeatFlushes a c items (fs ++ gs) beat
 flushes_beat left first a b c r waits items beat said fs gs q i flush m f =
     let done = flush (ap is_flushed (i.unflushed f).0 ∙ f) in
-    subst (BeatFlushes a c items (fs ++ gs)) (sym done.0) (refl, first_stays left first a b c r waits items said fs gs q i (i.unflushed f) m done.1)
+    let called : b.call ≡ calls.Asked r = ap (λ (x : ConnSeen). x.call) (i.unflushed f).0 ∙ (i.unflushed f).1 in
+    let flushing : flushes b.call ≡ true = (both_true (flushes b.call) (b.ledger.owed == 0) (both_true (flushes b.call && b.ledger.owed == 0) (nat_eq (length b.stream.unsent) 0) (ap is_flushed (i.unflushed f).0 ∙ f)).0).0 in
+    let answers_unit : sent_answer b.call ≡ answers.Unit = ap sent_answer called ∙ flush_answers r (subst (λ (k : Call). flushes k ≡ true) called flushing) in
+    subst (BeatFlushes a c items (fs ++ gs)) (sym (done.0 ∙ ap (λ (x : CallAnswer). beats.Ends (Ok x)) answers_unit)) (refl, first_stays left first a b c r waits items said fs gs q i (i.unflushed f) m done.1)
 
 -- what holds of the whole call behind a poll, whose last beat is this one
 pub over_poll : (first : StreamSeen) (a b c : ConnSeen) (waits items : ℕ) (beat : Beat) (q : List ℕ) (fs : List Frame) → a.stream.link.write_waits ≤ b.stream.link.write_waits → Waited waits first b.stream → b.stream.link.calls ≤ first.link.calls + 256 * (waits + items)
@@ -286,19 +311,30 @@ after_beat left old first a b m r before waits items beat said fs i t whole says
 
 -- behind a poll, whether or not the connection was broken
 abbrev pub PlayBeat : Option ServerFault → ℕ → StreamSeen → ConnSeen → ConnSeen → Request → ℕ → List Item → Beat → Type 0
-PlayBeat None most first a c r waits shown beat = (items : List CallItem) × (shown ≡ map item_of items) × (length shown < most) × (m : ConnSeen) × (c ≡ behind beat m) × AfterSome first a m r waits items beat
-PlayBeat (Some fault) most first a c r waits shown beat = (c ≡ ended (idle a)) × (beat ≡ beats.Ends (Err (errors.Protocol (protocol.Server fault)))) × (shown ≡ []) × (a.groups ≡ 0) × (first ≡ a.stream)
+PlayBeat None most first a c r waits shown beat = (items : List CallItem) × (shown ≡ map item_of items) × (length shown < most) × (m : ConnSeen) × (c ≡ behind beat m) × AfterSome first a m r waits items beat × (IsAsked c.call → ⊥)
+PlayBeat (Some fault) most first a c r waits shown beat = (c ≡ cleaned (idle a)) × (beat ≡ beats.Ends (Err (errors.Protocol (protocol.Server fault)))) × (shown ≡ []) × (a.groups ≡ 0) × (first ≡ a.stream)
 
 -- ---- what each beat makes of the call
 
 more_shown : (shown : List Item) (items : List CallItem) (item : CallItem) → shown ≡ map item_of items → shown ++ item_of item ∷ [] ≡ map item_of (items ++ item ∷ [])
 more_shown shown items item e = ap (λ (x : List Item). x ++ item_of item ∷ []) e ∙ sym (map-append item_of items (item ∷ []))
 
+-- a call that was polled stands as an exchange
+pub unasked_stays : (c : ConnSeen) → (IsAsked c.call → ⊥) → resolved c ≡ c
+unasked_stays c n = by c.call refl
+  where
+    by : (call : Call) → c.call ≡ call → resolved_by call c ≡ c
+    by (calls.Asked r) e = absurd (n (subst IsAsked (sym e) tt))
+    by calls.Idle e = refl
+    by (calls.Waiting w) e = refl
+    by (calls.Own reply) e = refl
+    by calls.Closing e = refl
+
 pub goes_waits : (o : Option ServerFault) (most : ℕ) (first : StreamSeen) (a c : ConnSeen) (r : Request) (waits : ℕ) (shown : List Item) → PlayBeat o most first a c r waits shown beats.Waits → IsPlayingOn o most first a c r (waits + 1) shown
 goes_waits None most first a c r waits shown h =
     let after = h.5.2 in
     let on : InPlay first a h.3 r (waits + 1) h.0 h.5.0 h.5.1 = record { went = after.went; broken = after.broken; asked = after.asked; room = after.room; call = after.tells.0; waited = after.over.waits_more refl; calls = omega (arith, after.over.calls); unsaid = λ u. absurd (after.unsaid u); unflushed = λ f. absurd (after.unflushed f) } in
-    (h.0, h.5.0, h.5.1, h.1, h.2, subst (λ (x : ConnSeen). InPlay first a x r (waits + 1) h.0 h.5.0 h.5.1) (sym h.4) on)
+    (h.0, h.5.0, h.5.1, h.1, h.2, subst (λ (x : ConnSeen). InPlay first a x r (waits + 1) h.0 h.5.0 h.5.1) (sym (unasked_stays c h.6 ∙ h.4)) on)
 goes_waits (Some fault) most first a c r waits shown h = let e = h.1 in absurd cc
 
 -- fewer items than so many, and one more
@@ -311,7 +347,7 @@ pub goes_yields : (o : Option ServerFault) (most : ℕ) (first : StreamSeen) (a 
 goes_yields None most first a c r waits shown item n h =
     let after = h.5.2 in
     let on : InPlay first a h.3 r waits (h.0 ++ item ∷ []) h.5.0 h.5.1 = record { went = after.went; broken = after.broken; asked = after.asked; room = after.room; call = after.tells; waited = after.over.waited (λ e. absurd cc); calls = omega (arith, after.over.calls, length-append h.0 (item ∷ [])); unsaid = λ u. absurd (after.unsaid u); unflushed = λ f. absurd (after.unflushed f) } in
-    (h.0 ++ item ∷ [], h.5.0, h.5.1, more_shown shown h.0 item h.1, below_more shown (item_of item) most h.2 n, subst (λ (x : ConnSeen). InPlay first a x r waits (h.0 ++ item ∷ []) h.5.0 h.5.1) (sym h.4) on)
+    (h.0 ++ item ∷ [], h.5.0, h.5.1, more_shown shown h.0 item h.1, below_more shown (item_of item) most h.2 n, subst (λ (x : ConnSeen). InPlay first a x r waits (h.0 ++ item ∷ []) h.5.0 h.5.1) (sym (unasked_stays c h.6 ∙ h.4)) on)
 goes_yields (Some fault) most first a c r waits shown item n h = let e = h.1 in absurd cc
 
 -- an end that the first poll doesn't make
@@ -348,11 +384,8 @@ went_none a c k = rw k (record {
 })
 
 -- an end on one that was broken, where nothing was queued
-nothing_opens : (a : ConnSeen) → a.groups ≡ 0 → cleaned (idle a) ≡ ended (idle a)
-nothing_opens a e = rw e refl
-
-ended_broken : (limits : Limits) (first : StreamSeen) (a c : ConnSeen) (r : Request) (fault : ServerFault) → 0 < limits.polls → a.broken ≡ Some fault → c ≡ ended (idle a) → a.groups ≡ 0 → first ≡ a.stream → StopsBy limits first a c r [] (ends.Err (errors.Protocol (protocol.Server fault)))
-ended_broken limits first a c r fault l e k g same = (idle a, ([], [], stays, tt), inl (refl, k ∙ sym (nothing_opens a g)))
+ended_broken : (limits : Limits) (first : StreamSeen) (a c : ConnSeen) (r : Request) (fault : ServerFault) → 0 < limits.polls → a.broken ≡ Some fault → c ≡ cleaned (idle a) → a.groups ≡ 0 → first ≡ a.stream → StopsBy limits first a c r [] (ends.Err (errors.Protocol (protocol.Server fault)))
+ended_broken limits first a c r fault l e k g same = (idle a, ([], [], stays, tt), inl (refl, k))
   where
     stays : Ended limits first a (idle a) r [] (ends.Err (errors.Protocol (protocol.Server fault))) [] []
     stays = record {
@@ -393,6 +426,7 @@ unleft a m e = ap (λ (o : Option ServerFault). record m { broken = o; stream = 
 -- what hands on nothing ends the call
 ends_last : (r : Request) (reply : List BackendMessage) (status : TransactionStatus) (answer : CallAnswer) → answer_by r reply status ≡ Ok answer → ((next : Request) → answer ≡ answers.Next next → ⊥) → IsLast r
 ends_last (requests.Describe x) reply status answer e n d = n _ (sym (the_ok _ _ e))
+ends_last (requests.Evict eviction) reply status answer e n d = n _ (sym (the_ok _ _ e))
 ends_last (requests.Run bound) reply status answer e n d = cc
 ends_last _ reply status answer e n d = cc
 
@@ -413,6 +447,7 @@ units_none answers.Unit e h = cc
 units_none (answers.Total n) e h = cc
 units_none (answers.Rows rows) e h = cc
 units_none (answers.OneRow row) e h = cc
+units_none (answers.Statement prepared) e h = cc
 units_none (answers.Next next) e h = cc
 
 begins_none : (status : TransactionStatus) (answer : CallAnswer) → begun_by_status status ≡ Ok answer → has_rows answer ≡ true → ⊥
@@ -420,6 +455,7 @@ begins_none statuses.Transaction (answers.Rows rows) e h = absurd cc
 begins_none statuses.Transaction (answers.OneRow row) e h = absurd cc
 begins_none statuses.Transaction answers.Unit e h = cc
 begins_none statuses.Transaction (answers.Total n) e h = cc
+begins_none statuses.Transaction (answers.Statement prepared) e h = cc
 begins_none statuses.Transaction (answers.Next next) e h = cc
 begins_none statuses.Idle answer e h = cc
 begins_none statuses.Error answer e h = cc
@@ -432,25 +468,85 @@ rows_stay (requests.Commit left) reply status answer e h = absurd (units_none an
 rows_stay (requests.Rollback left) reply status answer e h = absurd (units_none answer e h)
 rows_stay _ reply status answer e h = refl
 
--- nothing is made of the connection by the end of such a call
-settled_stays : (m : ConnSeen) → m.change ≡ changes.Stays → settled m ≡ ended m
-settled_stays m e = ap (λ (c : Change). record m { rule = with_depth (depth_behind c m.groups m.rule.depth) m.rule; change = changes.Stays }) e
-
-cleaned_stays : (m : ConnSeen) → m.change ≡ changes.Stays → cleaned m ≡ ended m
-cleaned_stays m e = ap (λ (c : Change). ended (cond (may_open c m.groups m.rule.depth) (queued_group (spelled (rollback 0)) m) m)) e ∙ by (nat_eq m.groups 0) (nat_eq m.rule.depth 0)
+-- such a call has asked for a reply
+rows_asked : (r : Request) (reply : List BackendMessage) (status : TransactionStatus) (answer : CallAnswer) → answer_by r reply status ≡ Ok answer → has_rows answer ≡ true → count_by ends_request (messages_of r) ≡ 1
+rows_asked (requests.Begin depth) reply status answer e h = refl
+rows_asked (requests.BeginWith query) reply status answer e h = refl
+rows_asked (requests.Commit left) reply status answer e h = refl
+rows_asked (requests.Rollback left) reply status answer e h = refl
+rows_asked (requests.Execute query) reply status answer e h = refl
+rows_asked (requests.ExecuteMany query) reply status answer e h = refl
+rows_asked (requests.Fetch query) reply status answer e h = refl
+rows_asked (requests.FetchMany query) reply status answer e h = refl
+rows_asked (requests.FetchAll query) reply status answer e h = refl
+rows_asked (requests.FetchOptional query) reply status answer e h = refl
+rows_asked (requests.FetchOne query) reply status answer e h = refl
+rows_asked (requests.Describe x) reply status answer e h = refl
+rows_asked (requests.Run bound) reply status answer e h = refl
+rows_asked (requests.Evict eviction) reply status answer e h = refl
+rows_asked requests.Ping reply status answer e h = refl
+rows_asked (requests.Clear statements) reply status answer e h = absurd (units_none answer e h)
+rows_asked (requests.Prepare prepared) reply status answer e h = absurd (tells_none answer (the_ok _ _ e) h)
   where
-    by : (g d : Bool) → ended (cond (not g && (d && false)) (queued_group (spelled (rollback 0)) m) m) ≡ ended m
+    tells_none : (answer : CallAnswer) → answers.Statement prepared ≡ answer → has_rows answer ≡ true → ⊥
+    tells_none answer k h = let x = ap has_rows k ∙ h in cc
+rows_asked requests.Flush reply status answer e h = absurd (units_none answer e h)
+rows_asked requests.Close reply status answer e h = absurd (units_none answer e h)
+
+-- once a group was queued, an Ok and another end make the same of a connection on which nothing was opened or closed
+settled_is_cleaned : (m : ConnSeen) → m.change ≡ changes.Stays → nat_eq m.groups 0 ≡ false → settled m ≡ cleaned m
+settled_is_cleaned m e g = ap (λ (c : Change). record m { rule = moved m.keeping (with_depth (depth_behind c m.groups m.rule.depth) m.rule); cache = step_of m.keeping m.cache; change = changes.Stays; keeping = keepings.Stays }) e ∙ sym (cleaned_so (restated m) refl)
+  where
+    restated_so : restated m ≡ record m { rule = moved m.keeping m.rule; cache = step_of m.keeping m.cache }
+    restated_so = ap (λ (b : Bool). cond b (record m { rule = unmoved m.keeping m.rule }) (record m { rule = moved m.keeping m.rule; cache = step_of m.keeping m.cache })) g
+
+    opens_none : may_open m.change m.groups m.rule.depth ≡ false
+    opens_none = ap (λ (c : Change). may_open c m.groups m.rule.depth) e ∙ none (not (nat_eq m.groups 0)) (nat_eq m.rule.depth 0)
+      where
+        none : (a b : Bool) → a && (b && false) ≡ false
+        none true true = refl
+        none true false = refl
+        none false b = refl
+
+    cleaned_so : (d : ConnSeen) → restated m ≡ d → cleaned m ≡ record m { rule = moved m.keeping m.rule; cache = step_of m.keeping m.cache; change = changes.Stays; keeping = keepings.Stays }
+    cleaned_so d k = ap (λ (b : Bool). ended (cond b (queued_group (spelled (rollback 0)) (restated m)) (restated m))) opens_none ∙ ap (λ (x : ConnSeen). ended x) restated_so
+
+-- nothing is made of it where nothing is kept either
+settled_stays : (m : ConnSeen) → m.change ≡ changes.Stays → m.keeping ≡ keepings.Stays → settled m ≡ ended m
+settled_stays m e k =
+    ap (λ (c : Change). record m { rule = moved m.keeping (with_depth (depth_behind c m.groups m.rule.depth) m.rule); cache = step_of m.keeping m.cache; change = changes.Stays; keeping = keepings.Stays }) e
+    ∙ ap (λ (x : Keeping). record m { rule = moved x m.rule; cache = step_of x m.cache; change = changes.Stays; keeping = keepings.Stays }) k
+
+pub restated_stays : (m : ConnSeen) → m.keeping ≡ keepings.Stays → restated m ≡ m
+restated_stays m k = by (nat_eq m.groups 0)
+  where
+    by : (b : Bool) → cond b (record m { rule = unmoved m.keeping m.rule }) (record m { rule = moved m.keeping m.rule; cache = step_of m.keeping m.cache }) ≡ m
+    by true = ap (λ (x : Keeping). record m { rule = unmoved x m.rule }) k
+    by false = ap (λ (x : Keeping). record m { rule = moved x m.rule; cache = step_of x m.cache }) k
+
+cleaned_stays : (m : ConnSeen) → m.change ≡ changes.Stays → m.keeping ≡ keepings.Stays → cleaned m ≡ ended m
+cleaned_stays m e k =
+    ap (λ (c : Change). ended (cond (may_open c m.groups m.rule.depth) (queued_group (spelled (rollback 0)) (restated m)) (restated m))) e ∙ by (nat_eq m.groups 0) (nat_eq m.rule.depth 0) ∙ ap (λ (x : ConnSeen). ended x) (restated_stays m k)
+  where
+    by : (g d : Bool) → ended (cond (not g && (d && false)) (queued_group (spelled (rollback 0)) (restated m)) (restated m)) ≡ ended (restated m)
     by true d = refl
     by false true = refl
     by false false = refl
 
-pub stays_behind : (end : End) (m : ConnSeen) → m.change ≡ changes.Stays → behind_end end m ≡ m
-stays_behind end m e = by end ∙ ap (λ (c : Change). record m { change = c }) (sym e)
+pub stays_behind : (end : End) (m : ConnSeen) → m.change ≡ changes.Stays → m.keeping ≡ keepings.Stays → behind_end end m ≡ m
+stays_behind end m e k = by end ∙ ap₂ (λ (c : Change) (x : Keeping). record m { change = c; keeping = x }) (sym e) (sym k)
   where
     by : (end : End) → behind_end end m ≡ ended m
-    by (ends.Ok answer) = settled_stays m e
-    by (ends.Err x) = cleaned_stays m e
-    by ends.Dropped = cleaned_stays m e
+    by (ends.Ok answer) = settled_stays m e k
+    by (ends.Err x) = cleaned_stays m e k
+    by ends.Dropped = cleaned_stays m e k
+
+not_none : (n : ℕ) → 0 < n → nat_eq n 0 ≡ false
+not_none n l = by (nat_eq n 0) refl
+  where
+    by : (b : Bool) → nat_eq n 0 ≡ b → b ≡ false
+    by false e = refl
+    by true e = let z = eqb-true n 0 e in absurd (omega (arith, z, l))
 
 -- without memory for the items of the answer
 pub goes_unshown : (limits : Limits) (o : Option ServerFault) (first : StreamSeen) (a c : ConnSeen) (r : Request) (waits : ℕ) (old new : List Item) (answer : CallAnswer) (f : Error) → waits < limits.polls → a.broken ≡ o → new ≡ [] → f ≡ errors.OutOfMemory → has_rows answer ≡ true
@@ -459,10 +555,12 @@ goes_unshown limits None first a c r waits old new answer f l e n t b h =
     let m = h.3 in
     let after = h.5.2 in
     let fine = after.tells.1 in
-    let stays = after.went.started.3 ∙ after.asked ∙ rows_stay r fine.0.reply fine.0.status answer fine.1 b in
+    let stays = ap (λ (x : Standing). x.change) after.went.started.3 ∙ after.asked ∙ rows_stay r fine.0.reply fine.0.status answer fine.1 b in
+    let asked = ap (count_by ends_request) fine.0.said_is ∙ counts-append (drain_fails a.ledger.is_copy_failed (before_readys a.ledger.owed (heard h.5.1))) (messages_of r) in
+    let some : nat_eq m.groups 0 ≡ false = not_none m.groups (omega (arith, after.went.groups, asked, rows_asked r fine.0.reply fine.0.status answer fine.1 b)) in
     let ended = ended_whole limits first a m r new (ends.Err errors.OutOfMemory) h.5.0 h.5.1 e after.went after.broken (ends_few limits first m.stream waits (ends.Err errors.OutOfMemory) l (after.over.waited (λ d. absurd cc))) after.room (few_calls first m waits (length h.0) limits l (below_items old h.0 limits.most h.1 h.2) after.over.calls)
     (not_at_once a m r new (ends.Err errors.OutOfMemory) h.5.1 after.unsaid (λ k. let x = sym (ap has_rows (after.unflushed k).0) ∙ b in absurd cc)) (inr (h.0, n, refl, fine.0)) tt in
-    rw t (m, ended, inl (after.tells.0, h.4 ∙ settled_stays m stays ∙ sym (cleaned_stays m stays)))
+    rw t (m, ended, inl (after.tells.0, h.4 ∙ settled_is_cleaned m stays some))
 goes_unshown limits (Some fault) first a c r waits old new answer f l e n t b h = let x = h.1 in absurd cc
 
 broken_same : (e : Error) → broken_by (beats.Ends (Err e)) ≡ broken_after None (ends.Err e)
@@ -551,12 +649,23 @@ goes_unkept limits (Some fault) first a c r waits old new item f l k t e h = let
 
 -- ---- the first poll
 
-pub playing_one : (most : ℕ) (first : StreamSeen) (a b : ConnSeen) (r : Request) (waits : ℕ) (shown : List Item) → runs a.call ≡ true → IsPlaying most first a b r waits shown → runs b.call ≡ true
-playing_one most first a b r waits shown k i = by a.broken i
+-- what stands as an exchange runs where it did
+resolved_runs : (b : ConnSeen) → runs (resolved b).call ≡ true → runs b.call ≡ true
+resolved_runs b h = by b.call refl h
+  where
+    by : (call : Call) → b.call ≡ call → runs (resolved_by call b).call ≡ true → runs call ≡ true
+    by (calls.Asked r) e h = refl
+    by calls.Idle e h = ap runs (sym e) ∙ h
+    by (calls.Waiting w) e h = refl
+    by (calls.Own reply) e h = refl
+    by calls.Closing e h = refl
+
+pub playing_one : (most : ℕ) (first : StreamSeen) (a b : ConnSeen) (r : Request) (waits : ℕ) (shown : List Item) → IsPlaying most first a b r waits shown → runs b.call ≡ true
+playing_one most first a b r waits shown i = by a.broken i
   where
     by : (o : Option ServerFault) → IsPlayingOn o most first a b r waits shown → runs b.call ≡ true
-    by None i = call_runs a.ledger r i.1 (heard i.2) i.0 b.ledger b.call i.5.call
-    by (Some fault) i = ap (λ (s : ConnSeen). runs s.call) i.0 ∙ k
+    by None i = resolved_runs b (call_runs a.ledger r i.1 (heard i.2) i.0 (resolved b).ledger (resolved b).call i.5.call)
+    by (Some fault) i = i.5
 
 -- an exchange that was not polled yet
 pub fresh_play : (a : ConnSeen) (r : Request) → a.broken ≡ None → a.call ≡ calls.Asked r → a.change ≡ change_of (kind_of r) → InPlay a.stream a a r 0 [] [] []
@@ -579,12 +688,73 @@ fresh_play a r e k c = record {
   unflushed = λ f. (refl, k, refl);
 }
 
-pub play_starts : (most : ℕ) (a : ConnSeen) (r : Request) → 0 < most → a.call ≡ calls.Asked r → a.change ≡ change_of (kind_of r) → a.groups ≡ 0 → IsPlaying most a.stream a a r 0 []
-play_starts most a r m k c g = starts_on a.broken refl
+named_stays : (rule : Rule) (b : Bool) → unmoved (cond b keepings.Stays keepings.Draws) rule ≡ rule
+named_stays rule true = refl
+named_stays rule false = refl
+
+query_stays : (rule : Rule) (how : How) (query : QueryText) (o : Option ArgumentsSeen) → unmoved (keeping_of (query_by rule how query o (raw how query))) rule ≡ rule
+query_stays rule hows.Execute query None = refl
+query_stays rule hows.ExecuteMany query None = refl
+query_stays rule hows.Fetch query None = refl
+query_stays rule hows.FetchMany query None = refl
+query_stays rule hows.FetchAll query None = refl
+query_stays rule hows.FetchOptional query None = refl
+query_stays rule hows.FetchOne query None = refl
+query_stays rule how query (Some arguments) = by (entry_at query.sql rule.cache.entries)
   where
-    starts_on : (o : Option ServerFault) → a.broken ≡ o → IsPlayingOn o most a.stream a a r 0 []
-    starts_on None e = ([], [], [], refl, m, fresh_play a r e k c)
-    starts_on (Some fault) e = (refl, refl, g, refl)
+    by : (o : Option Entry) → unmoved (keeping_of (run_or_describe rule how query.sql arguments query.persistent o)) rule ≡ rule
+    by (Some e) = refl
+    by None = named_stays rule (nat_eq (number_for query.persistent rule) 0)
+
+-- what a call asks first opens and closes what the call does
+main_changes : (r : Request) → change_of (kind_of r) ≡ change_of (main_kind r)
+main_changes (requests.Describe x) = by x.goal
+  where
+    by : (goal : Goal) → changes.Stays ≡ change_of (goal_kind goal)
+    by (goals.Run how) = refl
+    by goals.Prepare = refl
+main_changes (requests.Evict eviction) = by eviction.after
+  where
+    by : (after : After) → changes.Stays ≡ change_of (after_kind after)
+    by (afters.Run bound) = refl
+    by (afters.Prepare prepared) = refl
+main_changes _ = refl
+
+pub asked_changes : (rule : Rule) (r : Request) → change_of (kind_of (asked_by rule r)) ≡ change_of (main_kind r)
+asked_changes rule r = main_changes (asked_by rule r) ∙ ap change_of (asked_main rule r)
+
+pub begun_changes : (rule : Rule) (r : Request) → IsWanted r → change_of (main_kind (begun_as rule r)) ≡ change_of (kind_of r)
+begun_changes rule (requests.Describe x) w = absurd w
+begun_changes rule (requests.Run bound) w = absurd w
+begun_changes rule (requests.Evict eviction) w = absurd w
+begun_changes rule (requests.Prepare prepared) w = absurd w
+begun_changes rule (requests.Clear statements) w = absurd w
+begun_changes rule _ w = refl
+
+-- nothing that a step asks is held
+pub wanted_held : (rule : Rule) (r : Request) → IsWanted r → held_by rule (begun_as rule r) ≡ rule
+wanted_held rule (requests.Describe x) w = absurd w
+wanted_held rule (requests.Run bound) w = absurd w
+wanted_held rule (requests.Evict eviction) w = absurd w
+wanted_held rule (requests.Prepare prepared) w = absurd w
+wanted_held rule (requests.Clear statements) w = absurd w
+wanted_held rule _ w = refl
+
+-- nor anything of it, and what was not asked has used nothing
+pub wanted_stays : (rule : Rule) (r : Request) → IsWanted r → unmoved (keeping_of (asked_by rule (begun_as rule r))) (held_by rule (begun_as rule r)) ≡ rule
+wanted_stays rule (requests.Describe x) w = absurd w
+wanted_stays rule (requests.Run bound) w = absurd w
+wanted_stays rule (requests.Evict eviction) w = absurd w
+wanted_stays rule (requests.Prepare prepared) w = absurd w
+wanted_stays rule (requests.Clear statements) w = absurd w
+wanted_stays rule (requests.Execute query) w = query_stays rule hows.Execute query query.arguments
+wanted_stays rule (requests.ExecuteMany query) w = query_stays rule hows.ExecuteMany query query.arguments
+wanted_stays rule (requests.Fetch query) w = query_stays rule hows.Fetch query query.arguments
+wanted_stays rule (requests.FetchMany query) w = query_stays rule hows.FetchMany query query.arguments
+wanted_stays rule (requests.FetchAll query) w = query_stays rule hows.FetchAll query query.arguments
+wanted_stays rule (requests.FetchOptional query) w = query_stays rule hows.FetchOptional query query.arguments
+wanted_stays rule (requests.FetchOne query) w = query_stays rule hows.FetchOne query query.arguments
+wanted_stays rule _ w = refl
 
 -- ---- the end
 
@@ -607,40 +777,38 @@ given_up limits first a c r shown end h =
     (h.0, h.1, record { went = record { flows = w.flows; tallies = w.tallies; waits = w.waits; groups = w.groups; heard = w.heard; started = w.started }; broken = h.2.broken; kept = h.2.kept; few = h.2.few; room = λ x. let y = h.2.room x in omega (arith, y); calls = h.2.calls; at_once = λ o. once_idle a c r shown end h.1 (h.2.at_once o); ends = ends_idle a.broken limits first a c r h.0 (heard h.1) shown end h.2.ends }, h.3)
 
 -- a call that has ended is not given up once more
-left_idle : (c : ConnSeen) → c.call ≡ calls.Idle → left c ≡ c
+pub left_idle : (c : ConnSeen) → c.call ≡ calls.Idle → left c ≡ c
 left_idle c e = rw e refl
-
-cleaned_idle : (c : ConnSeen) → (cleaned c).call ≡ c.call
-cleaned_idle c = by (may_open c.change c.groups c.rule.depth) (has_room_for (spelled (rollback 0)) c)
-  where
-    by : (b h : Bool) → (ended (cond b (cond h (with_group (spelled (rollback 0)) c) c) c)).call ≡ c.call
-    by true true = refl
-    by true false = refl
-    by false h = refl
 
 behind_idle : (end : End) (c : ConnSeen) → (behind_end end c).call ≡ c.call
 behind_idle (ends.Ok answer) c = refl
-behind_idle (ends.Err e) c = cleaned_idle c
-behind_idle ends.Dropped c = cleaned_idle c
+behind_idle (ends.Err e) c = cleaned_call c
+behind_idle ends.Dropped c = cleaned_call c
 
 -- and one that runs is cleaned up behind
-left_running : (c : ConnSeen) → runs c.call ≡ true → left c ≡ cleaned (idle c)
-left_running c e = rw e (by (may_open c.change c.groups c.rule.depth) (has_room_for (spelled (rollback 0)) c))
+idle_cleaned : (c : ConnSeen) → idle (cleaned c) ≡ cleaned (idle c)
+idle_cleaned c = by (nat_eq c.groups 0) (may_open c.change c.groups c.rule.depth)
   where
-    by : (b h : Bool) → idle (ended (cond b (cond h (with_group (spelled (rollback 0)) c) c) c)) ≡ ended (cond b (cond h (with_group (spelled (rollback 0)) (idle c)) (idle c)) (idle c))
-    by true true = refl
+    queued : (d : ConnSeen) → idle (ended (queued_group (spelled (rollback 0)) d)) ≡ ended (queued_group (spelled (rollback 0)) (idle d))
+    queued d = by (has_room_for (spelled (rollback 0)) d)
+      where
+        by : (h : Bool) → idle (ended (cond h (with_group (spelled (rollback 0)) d) d)) ≡ ended (cond h (with_group (spelled (rollback 0)) (idle d)) (idle d))
+        by true = refl
+        by false = refl
+
+    by : (n b : Bool) → idle (ended (cond b (queued_group (spelled (rollback 0)) (kept n c)) (kept n c))) ≡ ended (cond b (queued_group (spelled (rollback 0)) (kept n (idle c))) (kept n (idle c)))
+    by true true = queued (kept true c)
+    by false true = queued (kept false c)
     by true false = refl
-    by false h = refl
+    by false false = refl
+
+left_running : (c : ConnSeen) → runs c.call ≡ true → left c ≡ cleaned (idle c)
+left_running c e = rw e (idle_cleaned c)
 
 behind_other : (end : End) (c : ConnSeen) → behind_end end c ≡ cleaned c → behind_end end (idle c) ≡ cleaned (idle c)
 behind_other (ends.Err e) c h = refl
 behind_other ends.Dropped c h = refl
-behind_other (ends.Ok answer) c h = ap idle h ∙ idled (may_open c.change c.groups c.rule.depth) (has_room_for (spelled (rollback 0)) c)
-  where
-    idled : (b h : Bool) → idle (ended (cond b (cond h (with_group (spelled (rollback 0)) c) c) c)) ≡ ended (cond b (cond h (with_group (spelled (rollback 0)) (idle c)) (idle c)) (idle c))
-    idled true true = refl
-    idled true false = refl
-    idled false h = refl
+behind_other (ends.Ok answer) c h = ap idle h ∙ idle_cleaned c
 
 pub plays_one : (limits : Limits) (first : StreamSeen) (a c d : ConnSeen) (r : Request) (shown : List Item) (end : End) (out : Outcome) → StopsBy limits first a c r shown end → d ≡ left c → out ≡ outcome_of d shown end → PlaysOne limits first a d r out
 plays_one limits first a c d r shown end out g k e = rw e (by g.2)
@@ -655,14 +823,14 @@ plays_one limits first a c d r shown end out g k e = rw e (by g.2)
 -- ---- over a link
 
 pub seen_left : {A : Type 0} (seen : A → LinkSeen) (c : ConnOf A) → seen_by seen (left c) ≡ left (seen_by seen c)
-seen_left {A} seen c = by (runs c.call) (may_open c.change c.groups c.rule.depth) (has_room_for (spelled (rollback 0)) c)
+seen_left {A} seen c = by (runs c.call)
   where
-    by : (r b h : Bool) → seen_by seen (cond r (idle (ended (cond b (cond h (with_group (spelled (rollback 0)) c) c) c))) c)
-        ≡ cond r (idle (ended (cond b (cond h (with_group (spelled (rollback 0)) (seen_by seen c)) (seen_by seen c)) (seen_by seen c)))) (seen_by seen c)
-    by false b h = refl
-    by true false h = refl
-    by true true true = refl
-    by true true false = refl
+    by : (r : Bool) → seen_by seen (cond r (idle (cleaned c)) c) ≡ cond r (idle (cleaned (seen_by seen c))) (seen_by seen c)
+    by false = refl
+    by true = ap (λ (x : ConnSeen). idle x) (seen_cleaned seen c)
+
+pub seen_started : {A : Type 0} (seen : A → LinkSeen) (r : Request) (c : ConnOf A) → seen_by seen (started_call r c) ≡ started_call r (seen_by seen c)
+seen_started seen r c = ap (λ (x : ConnSeen). counted_anew (record x { call = calls.Asked (begun_as x.rule r); change = change_of (kind_of r); keeping = keepings.Stays })) (seen_left seen c)
 
 seen_rolled_one : {A : Type 0} (seen : A → LinkSeen) (c : ConnOf A) → seen_by seen (rolled (ended (counted_anew c))) ≡ rolled (ended (counted_anew (seen_by seen c)))
 seen_rolled_one {A} seen c = by (nat_eq c.rule.depth 0) (has_room_for (spelled (rollback (c.rule.depth - 1))) (record (ended (counted_anew c)) { rule = with_depth (c.rule.depth - 1) c.rule }))

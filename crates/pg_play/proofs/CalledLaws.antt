@@ -1,5 +1,5 @@
 -- One exchange of a play: its call, and what the connection makes of its end.
-use Rattle.std.proofs.Common.{◌≡◌, ℕ, ◌+◌, ◌^◌, ◌≤◌, ◌<◌, Bool, false, inl, inr, List, [], ◌∷◌, ◌++◌, length, refl, sym, ap, ◌∙◌, subst, arith, Option, Some, None}
+use Rattle.std.proofs.Common.{◌≡◌, ℕ, ◌+◌, ◌-◌, ◌^◌, ◌≤◌, ◌<◌, Bool, false, inl, inr, List, [], ◌∷◌, ◌++◌, length, refl, sym, ap, ◌∙◌, subst, arith, Option, Some, None}
 use Rattle.pg_call.specs.declared.calling.Call.TheVariants as states
 use Rattle.pg_play.proofs.SettleLaws.{settled_waits, settled_counts}
 use Rattle.std.specs.List.{count_by, AllByRecursion}
@@ -125,10 +125,10 @@ pub record Called (start : StreamSeen) (at : Place) (old : Counted) (m : ConnSee
   pub counts : NoneFalls at.seen.link mid.seen.link
   pub grew : CountsOn old m (told_of shown end groups heard waits moved)
 
-unfoldable pub called_exchange : (start first : StreamSeen) (old : Counted) (at : Place) (a b : ConnSeen) (step : Step) (shown : List Item) (end : End) (said : List FrontendMessage) (fs : List Frame) → StandsAt start at a → acts_at_once step.call ≡ false → step.polls < 2 ^ 32 → first.waits ≡ 0
+unfoldable pub called_exchange : (start first : StreamSeen) (old : Counted) (at : Place) (a b : ConnSeen) (step : Step) (shown : List Item) (end : End) (said : List FrontendMessage) (fs : List Frame) → StandsAt start at a → acts_at_once step.call ≡ false → old.groups ≤ 2 ^ 64 - 1 → step.polls < 2 ^ 32 → first.waits ≡ 0
     → Ended (limits_of step) first (asking (request_of at.rule.depth step.call) old a) b (request_of at.rule.depth step.call) shown end said fs → b.call ≡ states.Idle → HasAllRoom (asking (request_of at.rule.depth step.call) old a) → (found : HasSummary a.ledger (request_of at.rule.depth step.call) said (heard fs) b.ledger end shown)
     → KnownAt (widths_of (request_of at.rule.depth step.call)) at → Called start at old b step shown end (next_place at b said found.1.own fs end)
-called_exchange start first old at a b step shown end said fs st later p z e idles space found known =
+called_exchange start first old at a b step shown end said fs st later fits p z e idles space found known =
     let r = request_of at.rule.depth step.call in
     let begun = asking r old a in
     let s = found.1 in
@@ -136,7 +136,7 @@ called_exchange start first old at a b step shown end said fs st later p z e idl
     let told : Outcome = told_of shown end (length s.own) (length (heard fs)) (went.tallies.write_waits + went.tallies.read_waits) went.tallies.moved in
     let at_place = subst (λ (o : Option ServerFault). EndsOn o (limits_of step) first begun b r said (heard fs) shown end) st.broken e.ends in
     let cause = cause_step at.broken (limits_of step) start first old at a b step said fs shown end found.0 st refl at_place s in
-    let grew = counts_on start old at a b at.rule.depth step.call said fs shown end found.0 st went s in
+    let grew = counts_on start old at a b at.rule.depth step.call said fs shown end found.0 st fits went s in
     let stands = stands_next start at a b at.rule.depth step.call said fs found.0 end st s (record { counts = went.flows.counts; secured = went.flows.secured; sent = went.flows.sent; read = went.flows.read }) e.broken idles went.started.2 (e.room space)
     (never_copies a.broken (limits_of step) first begun b r said (heard fs) shown end e.ends) in
     record {

@@ -10,6 +10,7 @@ use Rattle.pg_wire.specs.Frame.{Frame}
 use Rattle.pg_wire.specs.Parts.{heard, is_ready}
 use Rattle.pg_wire.specs.Frontend.{FrontendMessage}
 use Rattle.pg_stream.specs.Streams.{StreamSeen}
+use Rattle.pg_request.specs.declared.progress.CacheStep.{CacheStep}
 use Rattle.pg_request.specs.declared.progress.CacheStep.TheVariants as cache
 use Rattle.pg_call.specs.declared.request.Request.{Request}
 use Rattle.pg_call.specs.declared.request.Request.TheVariants as requests
@@ -28,7 +29,7 @@ use Rattle.pg_script.specs.declared.step.Call.TheVariants as calls
 use Rattle.pg_script.specs.declared.step.Step.{Step}
 use Rattle.pg_play.specs.declared.tally.Limits.{Limits}
 use Rattle.pg_play.specs.Shown.{request_of, waits_to_show, item_of}
-use Rattle.pg_play.specs.Calls.{WaitsFew, HasWaitedFew, StaysIdle, EndsOn, Ended, IsUnpolled, limits_of, HandedOn, untouched, outcome_of, broken_after, begun_call}
+use Rattle.pg_play.specs.Calls.{WaitsFew, HasWaitedFew, StaysIdle, EndsOn, Ended, IsUnpolled, limits_of, HandedOn, untouched, outcome_of, broken_after, begun_call, all_groups}
 use Rattle.pg_play.specs.Places.{Place, ended, owed, refuses_copy}
 use Rattle.pg_play.specs.Causes.{AnsweredPending, IsDropped, StaysAt, EndsDuly, OpensSavepoint}
 use Rattle.pg_play.specs.Plays.{StandsAt}
@@ -76,8 +77,8 @@ pub same_outcome : (items : List Item) (end end' : End) (groups heard waits move
 same_outcome items end end' groups heard waits moved a b c d e f = rw (a, b, c, d, e, f) refl
 
 -- the numbers of a call that did nothing
-untouched_by : (b : ConnSeen) (out : Outcome) (end : End) → out ≡ outcome_of b out.items out.end → out.items ≡ [] → out.end ≡ end → (b.groups ≡ 0) × (b.heard ≡ 0) × (b.stream.waits ≡ 0) × (b.stream.moves ≡ 0) → out ≡ untouched end
-untouched_by b out end k i e n = k ∙ same_outcome out.items out.end end b.groups b.heard b.stream.waits b.stream.moves i e n.0 n.1 n.2 n.3
+untouched_by : (b : ConnSeen) (out : Outcome) (end : End) → out ≡ outcome_of b out.items out.end → out.items ≡ [] → out.end ≡ end → (all_groups b ≡ 0) × (b.heard ≡ 0) × (b.stream.waits ≡ 0) × (b.stream.moves ≡ 0) × (b.cache ≡ cache.Same) → out ≡ untouched end
+untouched_by b out end k i e n = k ∙ ap (λ (s : CacheStep). record (outcome_of b out.items out.end) { cache = s }) n.4 ∙ same_outcome out.items out.end end (all_groups b) b.heard b.stream.waits b.stream.moves i e n.0 n.1 n.2 n.3
 
 -- what a step on a broken connection leaves
 kept_place : (start : StreamSeen) (at : Place) (a b : ConnSeen) (r : Request) (said : List FrontendMessage) (own : List Group) (fs : List Frame) (end : End) (fault : ServerFault) → StandsAt start at a → at.broken ≡ Some fault → said ≡ [] → own ≡ [] → fs ≡ [] → idle b ≡ idle (begun_call r a)
@@ -126,8 +127,12 @@ idle_seen : (start : StreamSeen) (r : Request) (at : Place) (a b : ConnSeen) (fs
 idle_seen start r at a b fs shown st (none, taken, same) =
     ap (λ (c : ConnSeen). record c.stream { left = b.stream.left; waits = b.stream.waits; moves = b.stream.moves }) same ∙ ap (λ (x : StreamSeen). record x { left = b.stream.left; waits = b.stream.waits; moves = b.stream.moves }) st.seen
 
+-- where a call did nothing, nothing was counted of it
+did_nothing : (r : Request) (a x : ConnSeen) → x ≡ idle (begun_call r a) → (all_groups x ≡ 0) × (x.heard ≡ 0) × (x.stream.waits ≡ 0) × (x.stream.moves ≡ 0) × (x.cache ≡ cache.Same)
+did_nothing r a x same = (ap (λ (c : ConnSeen). all_groups c) same, ap (λ (c : ConnSeen). c.heard) same, ap (λ (c : ConnSeen). c.stream.waits) same, ap (λ (c : ConnSeen). c.stream.moves) same, ap (λ (c : ConnSeen). c.cache) same)
+
 idle_outcome : (r : Request) (a b : ConnSeen) (out : Outcome) (end : End) (fs : List Frame) → out ≡ outcome_of b out.items out.end → out.end ≡ end → StaysIdle (begun_call r a) b fs out.items → out ≡ untouched end
-idle_outcome r a b out end fs k e (none, taken, same) = untouched_by b out end k none e (ap (λ (c : ConnSeen). c.groups) same, ap (λ (c : ConnSeen). c.heard) same, ap (λ (c : ConnSeen). c.stream.waits) same, ap (λ (c : ConnSeen). c.stream.moves) same)
+idle_outcome r a b out end fs k e (none, taken, same) = untouched_by b out end k none e (did_nothing r a _ same)
 
 refused_step : (start : StreamSeen) (at : Place) (a b : ConnSeen) (r : Request) (out : Outcome) (said : List FrontendMessage) (fs : List Frame) (items : List CallItem) → StandsAt start at a → at.broken ≡ None → (CanBeSaid r → ⊥) → out ≡ outcome_of b out.items out.end
     → ((e : Error) × IsRefusal r e × (out.end ≡ ends.Err e) × StaysIdle (begun_call r a) b fs out.items) → (s : Summary a.ledger r said (heard fs) items b.ledger (refuses_copy out.end))
@@ -188,7 +193,7 @@ duly_step start at a b step r out said fs items st n o p e s k flush most = reco
       let broken : a.broken ≡ Some fault = st.broken ∙ w in
       let h = subst (λ (o : Option ServerFault). EndsOn o (limits_of step) (begun_call r a).stream (begun_call r a) b r said (heard fs) out.items out.end) broken e.ends in
       let own = kept_own a b r said (heard fs) items (refuses_copy out.end) s h.2 (ap (λ (c : ConnSeen). c.ledger.owed) h.4) in (
-        inl (untouched_by b out (ends.Err (errors.Protocol (protocol.Server fault))) k h.3 h.0 (ap (λ (c : ConnSeen). c.groups) h.4, ap (λ (c : ConnSeen). c.heard) h.4, ap (λ (c : ConnSeen). c.stream.waits) h.4, ap (λ (c : ConnSeen). c.stream.moves) h.4)),
+        inl (untouched_by b out (ends.Err (errors.Protocol (protocol.Server fault))) k h.3 h.0 (did_nothing r a _ h.4)),
         kept_place start at a b r said s.own fs out.end fault st w h.1 own (e.kept fault broken) h.4,
       );
   refused = λ w m x u. refused_step start at a b r out said fs items st w u k ((e.at_once (st.broken ∙ w)).refused u) s;

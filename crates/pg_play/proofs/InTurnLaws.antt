@@ -1,5 +1,5 @@
 -- The exchanges of a step, one behind another: an induction over those that were handed on.
-use Rattle.std.proofs.Common.{◌≡◌, ◌⊎◌, ℕ, ◌+◌, ◌*◌, ◌^◌, ◌≤◌, ◌<◌, Bool, true, false, cond, nat_eq, inl, inr, List, [], ◌∷◌, ◌++◌, length, refl, sym, ap, ◌∙◌, subst, arith, append-nil, Some, None, sum_by}
+use Rattle.std.proofs.Common.{◌≡◌, ◌⊎◌, ℕ, ◌+◌, ◌-◌, ◌*◌, ◌^◌, ◌≤◌, ◌<◌, Bool, true, false, cond, nat_eq, inl, inr, List, [], ◌∷◌, ◌++◌, length, refl, sym, ap, ap₂, ◌∙◌, subst, arith, append-nil, Some, None, sum_by}
 use Rattle.std.specs.List.{AllByRecursion}
 use Rattle.pg_wire.specs.Frame.{Frame}
 use Rattle.pg_wire.specs.Parts.{heard}
@@ -11,12 +11,13 @@ use Rattle.pg_stream.specs.Streams.{StreamSeen}
 use Rattle.pg_stream.proofs.StreamLemmas.{GrewBy-then}
 use Rattle.pg_request.specs.declared.progress.CacheStep.TheVariants as cache
 use Rattle.pg_call.specs.declared.kind.Change.{Change}
-use Rattle.pg_call.specs.declared.kind.Change.TheVariants as changes
+use Rattle.pg_call.specs.declared.kind.Keeping.TheVariants as keepings
 use Rattle.pg_call.specs.declared.request.Request.{Request}
 use Rattle.pg_call.specs.declared.calling.Call.TheVariants as states
 use Rattle.pg_call.specs.Requests.{Group, groups_of, kind_of, change_of, widths_of}
-use Rattle.pg_conn.specs.Connections.{ConnSeen, settled}
-use Rattle.pg_conn.specs.Turns.{HasAllRoom, level_of}
+use Rattle.pg_conn.specs.Connections.{ConnSeen, settled, Standing, standing}
+use Rattle.pg_conn.specs.Statements.{held_by, step_of}
+use Rattle.pg_conn.specs.Turns.{HasAllRoom}
 use Rattle.pg_report.specs.declared.outcome.Item.{Item}
 use Rattle.pg_report.specs.declared.outcome.Answer.TheVariants.{Unit as AnswersUnit}
 use Rattle.pg_report.specs.declared.outcome.End.{End}
@@ -25,7 +26,7 @@ use Rattle.pg_report.specs.declared.outcome.Outcome.{Outcome}
 use Rattle.pg_script.specs.declared.step.Call.{Call}
 use Rattle.pg_script.specs.declared.step.Step.{Step}
 use Rattle.pg_play.specs.Shown.{request_of, next_call, waits_how, acts_at_once}
-use Rattle.pg_play.specs.Calls.{WaitsFew, HasWaitedFew, Ended, EndsCall, PlaysOne, HandedOn, OfLastIn, Counted, none_counted, asking, behind_end, limits_of, outcome_of}
+use Rattle.pg_play.specs.Calls.{WaitsFew, HasWaitedFew, Ended, EndsCall, PlaysOne, HandedOn, OfLastIn, Counted, none_counted, asking, behind_end, limits_of, outcome_of, all_groups, asked_from}
 use Rattle.pg_play.specs.Places.{Place, owed, is_fine}
 use Rattle.pg_play.specs.Causes.{AnsweredPending, IsDropped}
 use Rattle.pg_play.specs.Settling.{Settles}
@@ -33,13 +34,13 @@ use Rattle.pg_play.specs.WaitPlaces.{WaitPlaces}
 use Rattle.pg_play.specs.Plays.{IsNeverUnlawful, Plays_call, Plays_exchanges, HandsOn, stopped_at, last_of, StandsAt}
 use Rattle.pg_play.specs.declared.tally.Limits.{Limits}
 use Rattle.pg_play.proofs.PlaceLaws.{HasSummary, ends_summary, next_place}
-use Rattle.pg_play.proofs.ToldLaws.{main_after, queued_one, fine_own, told_of, CountsOn}
+use Rattle.pg_play.proofs.ToldLaws.{main_after, queued_one, fine_own, told_of, CountsOn, all_counted}
 use Rattle.pg_play.proofs.CauseLaws.{dropped_step}
 use Rattle.pg_play.proofs.LinkLaws.{sum_more}
-use Rattle.pg_play.proofs.SettledLaws.{SettlesTo, settles_call, settles_stays, cleanup_polled, ok_cleans_none}
+use Rattle.pg_play.proofs.SettledLaws.{SettlesTo, settles_call, cleanup_polled, ok_cleans_none}
 use Rattle.pg_play.proofs.CalledLaws.{KnownAt, Called, called_exchange, exchanged}
-use Rattle.pg_play.proofs.ThroughLaws.{counted_by, handed_stays, handed_asking, handed_ended}
-use Rattle.pg_play.proofs.ExchangeLaws.{runs_how, shows_how, next_how, last_next, NextIs, what_is_next}
+use Rattle.pg_play.proofs.ThroughLaws.{counted_by, handed_asking, handed_ended}
+use Rattle.pg_play.proofs.ExchangeLaws.{runs_how, shows_how, next_how, last_next, NextIs, what_is_next, IsPlain, plain_stays}
 use Rattle.pg_play.proofs.NextLaws.{known_behind, replies_same}
 use Rattle.pg_play.proofs.DueLaws.{WithinMost, most_by, few_of, dropped_out, dropped_from}
 
@@ -60,7 +61,7 @@ grew_none x = (omega arith, omega arith, omega arith)
 
 pub add_none : (d : ConnSeen) (items : List Item) (end : End) → AddUp (counted_by d) [] (outcome_of d items end)
 add_none d items end = record {
-  groups = grew_none d.groups;
+  groups = grew_none (all_groups d);
   heard = grew_none d.heard;
   waits = grew_none d.stream.waits;
   moved = grew_none d.stream.moves;
@@ -71,7 +72,7 @@ grew_more f told outs x y z g more = GrewBy-then (f told) (sum_by f outs) (sum_b
 
 pub add_one : (old : Counted) (c : ConnSeen) (told : Outcome) (outs : List Outcome) (out : Outcome) → CountsOn old c told → AddUp (counted_by c) outs out → AddUp old (told ∷ outs) out
 add_one old c told outs out grew more = record {
-  groups = grew_more (λ (x : Outcome). x.groups) told outs old.groups c.groups out.groups grew.groups more.groups;
+  groups = grew_more (λ (x : Outcome). x.groups) told outs old.groups (all_groups c) out.groups (all_counted old c told grew) more.groups;
   heard = grew_more (λ (x : Outcome). x.heard) told outs old.heard c.heard out.heard grew.heard more.heard;
   waits = grew_more (λ (x : Outcome). x.waits) told outs old.waits c.stream.waits out.waits grew.waits more.waits;
   moved = grew_more (λ (x : Outcome). x.moved) told outs old.moves c.stream.moves out.moved grew.moved more.moved;
@@ -97,7 +98,9 @@ pub counts_settled : (start : StreamSeen) (old : Counted) (at mid : Place) (m d 
 counts_settled start old at mid m d step told one s grew =
     let e = s.settles.outcome in
     record {
-      groups = GrewBy-then told.groups (length s.settles.cleanup) s.out.groups old.groups m.groups d.groups grew.groups s.groups (s.settles.counted ∙ ap (λ (n : ℕ). n + length s.settles.cleanup) (sym one.numbers.groups));
+      groups = GrewBy-then told.groups (length s.settles.cleanup) s.out.groups 0 m.groups d.groups grew.groups s.groups (s.settles.counted ∙ ap (λ (n : ℕ). n + length s.settles.cleanup) (sym one.numbers.groups));
+      behind = s.others.3 ∙ grew.behind;
+      fits = grew.fits;
       heard = grew_still told.heard s.out.heard old.heard m.heard d.heard (ap (λ (x : Outcome). x.heard) e) s.others.0 grew.heard;
       waits = grew_still told.waits s.out.waits old.waits m.stream.waits d.stream.waits (ap (λ (x : Outcome). x.waits) e) s.others.1 grew.waits;
       moved = grew_still told.moved s.out.moved old.moves m.stream.moves d.stream.moves (ap (λ (x : Outcome). x.moved) e) s.others.2 grew.moved;
@@ -168,12 +171,13 @@ more_turns start at mid stop m c d step call part old out one s comes t = record
 
 -- ---- exchanges of a call that was polled
 
--- An exchange begins at this place, behind what was counted: what its request knows is known there, and it is its call's first group, or opens and closes nothing.
+-- An exchange begins at this place, behind what was counted: what its request knows is known there, and it makes nothing of the statements.
 pub record BeginsAt (start : StreamSeen) (at : Place) (a : ConnSeen) (old : Counted) (call : Call) : Type 0 where
   pub stands : StandsAt start at a
   pub polled : acts_at_once call ≡ false
   pub known : KnownAt (widths_of (request_of at.rule.depth call)) at
-  pub level : (old.groups ≡ 0) ⊎ (change_of (kind_of (request_of at.rule.depth call)) ≡ changes.Stays)
+  pub fits : old.groups ≤ 2 ^ 64 - 1
+  pub plain : IsPlain call
 
 -- and all of them were polled to the step's end
 pub record PlaysInTurn (start first : StreamSeen) (at : Place) (step : Step) (call : Call) (old : Counted) (out : Outcome) (stop : Place) (d : ConnSeen) : Type 0 where
@@ -184,31 +188,23 @@ pub record PlaysInTurn (start first : StreamSeen) (at : Place) (step : Step) (ca
   pub waits : out.waits ≤ step.polls
   pub calls : d.stream.link.calls ≤ first.link.calls + 256 * (step.polls + step.most)
 
--- what is no first group of a begin takes no room
-level_none : (change : Change) (groups : ℕ) → (groups ≡ 0) ⊎ (change ≡ changes.Stays) → level_of change groups ≡ 0
-level_none change groups (inl e) = ap (λ (n : ℕ). level_of change n) e
-level_none change groups (inr e) = ap (λ (c : Change). level_of c groups) e ∙ either (nat_eq groups 0)
-  where
-    either : (b : Bool) → ◌≡◌ {A = ℕ} (cond b 0 0) 0
-    either true = refl
-    either false = refl
-
 has_room_at : (start : StreamSeen) (at : Place) (a : ConnSeen) (old : Counted) (call : Call) → BeginsAt start at a old call → HasAllRoom (asking (request_of at.rule.depth call) old a)
 has_room_at start at a old call b =
     let room = b.stands.room in
-    let none = level_none (change_of (kind_of (request_of at.rule.depth call))) old.groups b.level in
-    omega (arith, room, none)
+    omega (arith, room)
 
-settles_level : (start : StreamSeen) (at mid : Place) (a m : ConnSeen) (old : Counted) (step : Step) (call : Call) (shown : List Item) (end : End) → BeginsAt start at a old call → (c : Called start at old m (exchange_of step call) shown end mid) → m.change ≡ change_of (kind_of (request_of at.rule.depth call))
+-- nothing is made of the statements, none of which is kept
+keeps_none : (start : StreamSeen) (at : Place) (a m : ConnSeen) (old : Counted) (call : Call) → BeginsAt start at a old call → standing m ≡ standing (asking (request_of at.rule.depth call) old a) → m.keeping ≡ keepings.Stays
+keeps_none start at a m old call b same = ap (λ (x : Standing). x.keeping) same ∙ plain_stays at.rule.depth call b.plain
+
+settles_so : (start : StreamSeen) (at mid : Place) (a m : ConnSeen) (old : Counted) (step : Step) (call : Call) (shown : List Item) (end : End) → BeginsAt start at a old call → (c : Called start at old m (exchange_of step call) shown end mid) → standing m ≡ standing (asking (request_of at.rule.depth call) old a)
     → SettlesTo start at (exchange_of step call) (told_in c) c.one.own mid m (behind_end end m)
-settles_level start at mid a m old step call shown end b c change = elim b.level [
-  | inl none ↦ settles_call start at mid m (exchange_of step call) (told_in c) c.one b.polled c.stands c.small (omega (arith, c.grew.groups, c.one.numbers.groups, c.small, none)) change
-  | inr stays ↦ settles_stays start at mid m (exchange_of step call) (told_in c) c.one b.polled stays c.stands (change ∙ stays)
-]
+settles_so start at mid a m old step call shown end b c same =
+    settles_call start at mid m (exchange_of step call) (told_in c) c.one b.polled c.stands c.small (omega (arith, c.grew.groups, c.one.numbers.groups, c.small)) (ap (λ (x : Standing). x.change) same) (keeps_none start at a m old call b same)
 
 -- only the groups that an end makes are counted behind it
-pub same_but_groups : (m d : ConnSeen) (items : List Item) (end : End) → (d.heard ≡ m.heard) × (d.stream.waits ≡ m.stream.waits) × (d.stream.moves ≡ m.stream.moves) → outcome_of d items end ≡ record (outcome_of m items end) { groups = d.groups }
-same_but_groups m d items end o = rw (o.0, o.1, o.2) refl
+pub same_but_groups : (m d : ConnSeen) (items : List Item) (end : End) → (d.heard ≡ m.heard) × (d.stream.waits ≡ m.stream.waits) × (d.stream.moves ≡ m.stream.moves) × (d.earlier ≡ m.earlier) × (d.cache ≡ m.cache) → outcome_of d items end ≡ record (outcome_of m items end) { groups = all_groups d }
+same_but_groups m d items end o = rw (o.0, o.1, o.2, o.4) refl
 
 waited_most : (limits : Limits) (first : StreamSeen) (b : ConnSeen) (end : End) → first.waits ≡ 0 → HasWaitedFew limits.polls first b.stream end → b.stream.waits ≤ limits.polls
 waited_most limits first b end z few = omega (arith, z, few.1.all, few.1.waits.1, few.2.1)
@@ -222,22 +218,22 @@ last_by d call response ends.Dropped l f = absurd cc
 -- the exchange that ended its call, behind which the groups alone are counted on
 pub last_turn : (start first : StreamSeen) (old : Counted) (at : Place) (a m : ConnSeen) (step : Step) (call : Call) (items : List Item) (end : End) (said : List FrontendMessage) (fs : List Frame) → BeginsAt start at a old call → step.polls < 2 ^ 32 → first.waits ≡ 0 → first.moves ≡ 0 → 0 < step.most
     → Ended (limits_of step) first (asking (request_of at.rule.depth call) old a) m (request_of at.rule.depth call) items end said fs → EndsCall (request_of at.rule.depth call) end → m.call ≡ states.Idle → (found : HasSummary a.ledger (request_of at.rule.depth call) said (heard fs) m.ledger end items)
-    → PlaysInTurn start first at step call old (outcome_of (behind_end end m) items end) (next_place at m said found.1.own fs end) (behind_end end m) × (outcome_of (behind_end end m) items end ≡ record (outcome_of m items end) { groups = (behind_end end m).groups })
+    → PlaysInTurn start first at step call old (outcome_of (behind_end end m) items end) (next_place at m said found.1.own fs end) (behind_end end m) × (outcome_of (behind_end end m) items end ≡ record (outcome_of m items end) { groups = all_groups (behind_end end m) })
 last_turn start first old at a m step call items end said fs h p z v l e last over found =
     let exchange = exchange_of step call in
     let s = found.1 in
     let mid : Place = next_place at m said s.own fs end in
-    let c : Called start at old m exchange items end mid = called_exchange start first old at a m exchange items end said fs h.stands h.polled p z e over (has_room_at start at a old call h) found h.known in
+    let c : Called start at old m exchange items end mid = called_exchange start first old at a m exchange items end said fs h.stands h.polled h.fits p z e over (has_room_at start at a old call h) found h.known in
     let d : ConnSeen = behind_end end m in
-    let t : SettlesTo start at exchange (told_in c) c.one.own mid m d = settles_level start at mid a m old step call items end h c e.went.started.3 in
+    let t : SettlesTo start at exchange (told_in c) c.one.own mid m d = settles_so start at mid a m old step call items end h c e.went.started.3 in
     let k = t.settles.outcome in
     let raw : Outcome = outcome_of m items end in
     let real : Outcome = outcome_of d items end in
-    let same : real ≡ record raw { groups = d.groups } = same_but_groups m d items end t.others in
+    let same : real ≡ record raw { groups = all_groups d } = same_but_groups m d items end t.others in
     let few : m.stream.waits ≤ step.polls = waited_most (limits_of step) first m end z e.few in
     let plays : PlaysInTurn start first at step call old real mid d = record {
       turns = one_turn start at mid t.next d step call old (told_in c) t.out real c.one c.lawful c.places c.counts t.settles t.stands (sym (ap (λ (x : Outcome). x.items) k)) (sym (ap (λ (x : Outcome). x.end) k))
-          (add_one old d t.out [] real (counts_settled start old at mid m d exchange (told_in c) c.one t c.grew) (add_none d items end)) refl (λ f. last_by at.rule.depth call c.one.told.response end last (sym (ap (λ (x : Outcome). is_fine x.end) k) ∙ f));
+          (add_one old d t.out [] real (counts_settled start old at mid m d exchange (told_in c) c.one t c.grew) (add_none d items end)) (t.others.4 ∙ ap (λ (x : Standing). x.cache) e.went.started.3) (λ f. last_by at.rule.depth call c.one.told.response end last (sym (ap (λ (x : Outcome). is_fine x.end) k) ∙ f));
       dropped = λ y. dropped_out at step raw real mid same (dropped_step a.broken start first old at a m exchange said fs items end found.0 h.stands z v p y e.ends s);
       few = subst (λ (x : Outcome). (pending : ℕ) × AnsweredPending x pending × WaitsFew step.polls pending x.end) (sym same) (few_of first m step raw z v refl p e.few);
       most = λ w. most_by at.rule.depth a.broken (limits_of step) first (asking (request_of at.rule.depth call) old a) m exchange said (heard fs) items end (shows_how call w) l e.ends;
@@ -253,7 +249,8 @@ record TurnsOn (start : StreamSeen) (at : Place) (m : ConnSeen) (old : Counted) 
   settles : SettlesTo start at (exchange_of step call) (told_in one) one.one.own mid m (settled m)
   part : Call
   comes : next_call call one.one.told.response ≡ Some part
-  asks : request_of settles.next.rule.depth part ≡ next
+  asks : request_of settles.next.rule.depth part ≡ asked_from m next
+  holds : held_by (settled m).rule next ≡ (settled m).rule
   begins : BeginsAt start settles.next (settled m) (counted_by m) part
 
 turns_on : (start first : StreamSeen) (old : Counted) (at : Place) (a m : ConnSeen) (step : Step) (call : Call) (next : Request) → BeginsAt start at a old call → step.polls < 2 ^ 32 → first.waits ≡ 0 → 0 < step.most
@@ -268,17 +265,17 @@ turns_on start first old at a m step call next b p z l h =
     let s = found.1 in
     let st = b.stands in
     let mid : Place = next_place at m h.said s.own h.fs (ends.Ok AnswersUnit) in
-    let c : Called start at old m exchange [] (ends.Ok AnswersUnit) mid = called_exchange start first old at a m exchange [] (ends.Ok AnswersUnit) h.said h.fs st b.polled p z e h.over (has_room_at start at a old call b) found b.known in
-    let t : SettlesTo start at exchange (told_in c) c.one.own mid m (settled m) = settles_level start at mid a m old step call [] (ends.Ok AnswersUnit) b c e.went.started.3 in
+    let c : Called start at old m exchange [] (ends.Ok AnswersUnit) mid = called_exchange start first old at a m exchange [] (ends.Ok AnswersUnit) h.said h.fs st b.polled b.fits p z e h.over (has_room_at start at a old call b) found b.known in
+    let t : SettlesTo start at exchange (told_in c) c.one.own mid m (settled m) = settles_so start at mid a m old step call [] (ends.Ok AnswersUnit) b c e.went.started.3 in
     let f = h.ends.0.0 in
-    let n : NextIs at.rule.depth call f.reply next = what_is_next at.rule.depth call f.reply f.status next h.ends.0.1 in
+    let n : NextIs (settled m).rule at.rule.depth call f.reply next = what_is_next (settled m).rule at.rule.depth call f.reply f.status next b.plain h.ends.0.1 in
     let whole : s.own ≡ groups_of r = fine_own a.ledger r h.said (heard h.fs) [] found.0 m.ledger false s f in
     let q = queued_one a.ledger.owed r s.own (heard h.fs) s.queued (ap (λ (g : List Group). length g) whole ∙ n.one) in
     let same : c.one.told.response ≡ f.reply = replies_same c.one.told.response f.reply (sym c.one.told.says.0 ∙ main_after start at a r s.own (heard h.fs) st q ∙ f.replied) c.one.told.says.1 f.reply_has_frames in
     let none : t.settles.cleanup ≡ [] = t.settles.cleans ∙ cleanup_polled at.rule.depth call (ends.Ok AnswersUnit) c.one.own (owed mid) b.polled ∙ sym (ok_cleans_none at.rule.depth call c.one.own) in
     let groups : t.next.groups ≡ at.groups ++ groups_of r = t.settles.groups ∙ ap (λ (g : List Group). (at.groups ++ s.own) ++ g) none ∙ append-nil (at.groups ++ s.own) ∙ ap (λ (g : List Group). at.groups ++ g) whole in
     let frames : heard t.next.frames ≡ heard at.frames ++ heard h.fs = ap heard t.settles.frames ∙ heard-append at.frames h.fs in
-    let known : KnownAt (widths_of next) t.next = known_behind start at t.next a (settled m) at.rule.depth call next h.said (heard h.fs) [] st t.stands groups frames h.ends.0 in
+    let known : KnownAt (widths_of (asked_from m next)) t.next = known_behind (settled m).rule start at t.next a (settled m) at.rule.depth call next h.said (heard h.fs) [] b.plain st t.stands groups frames h.ends.0 in
     let asks = n.asks t.next.rule.depth in
     record {
       mid = mid;
@@ -287,11 +284,13 @@ turns_on start first old at a m step call next b p z l h =
       part = n.part;
       comes = ap (λ (ms : List BackendMessage). next_call call ms) same ∙ n.comes;
       asks = asks;
+      holds = n.holds;
       begins = record {
         stands = t.stands;
         polled = n.polled;
         known = subst (λ (q : Request). KnownAt (widths_of q) t.next) (sym asks) known;
-        level = inr (ap (λ (q : Request). change_of (kind_of q)) asks ∙ handed_stays step.polls first begun m r next h);
+        fits = omega arith;
+        plain = n.plain;
       };
     }
 
@@ -309,8 +308,10 @@ turns_through [] start first old at a b step call out h p z v l (m, (said, fs, e
 turns_through (next ∷ later) start first old at a b step call out h p z v l (m, handed, behind) =
     let r = request_of at.rule.depth call in
     let t = turns_on start first old at a m step call next h p z l handed in
+    let stood = handed.went.started.3 in
+    let same : (settled m).cache ≡ cache.Same = ap₂ step_of (keeps_none start at a m old call h stood) (ap (λ (x : Standing). x.cache) stood) in
     let further = subst (λ (q : Request). OfLastIn later step.polls first (λ x asked. PlaysOne (limits_of step) first x b asked out) (asking q (counted_by m) (settled m)) q) (sym t.asks)
-    (subst (λ (x : ConnSeen). OfLastIn later step.polls first (λ x asked. PlaysOne (limits_of step) first x b asked out) x next) (handed_asking step.polls first (asking r old a) m r next handed) behind) in
+    (subst (λ (x : ConnSeen). OfLastIn later step.polls first (λ x asked. PlaysOne (limits_of step) first x b asked out) x (asked_from m next)) (handed_asking step.polls first (asking r old a) m r next handed t.holds same) behind) in
     let others = turns_through later start first (counted_by m) t.settles.next (settled m) b step t.part out t.begins p z v l further in
     let o = others.1 in (
       others.0,

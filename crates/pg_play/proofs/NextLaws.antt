@@ -11,7 +11,7 @@ use Rattle.pg_wire.specs.Frontend.{FrontendMessage}
 use Rattle.pg_stream.specs.Streams.{StreamSeen}
 use Rattle.pg_exchanges.specs.Expecting.{Widths, BeginsKnowing}
 use Rattle.pg_exchanges.specs.Answering.{described, IsNoError, describing}
-use Rattle.pg_call.specs.declared.request.Extended.{Extended}
+use Rattle.pg_call.specs.declared.statement.Extended.{Extended}
 use Rattle.pg_call.specs.declared.request.Request.{Request}
 use Rattle.pg_call.specs.declared.request.Request.TheVariants as requests
 use Rattle.pg_call.specs.declared.answer.CallItem.{CallItem}
@@ -30,7 +30,10 @@ use Rattle.pg_play.specs.Plays.{StandsAt}
 use Rattle.pg_play.proofs.PartLaws.{count_after, after_more, after_end, no_error}
 use Rattle.pg_play.proofs.PlaceLaws.{owed_is}
 use Rattle.pg_play.proofs.CalledLaws.{KnownAt}
-use Rattle.pg_play.proofs.ExchangeLaws.{describes, next_bound}
+use Rattle.pg_play.proofs.ExchangeLaws.{describes, next_bound, IsPlain}
+use Rattle.pg_rule.specs.declared.rule.Rule.{Rule}
+use Rattle.pg_conn.specs.Statements.{asked_by}
+use Rattle.pg_script.specs.declared.step.Call.TheVariants as calls
 use Rattle.pg_play.proofs.LawfulLaws.{parted}
 use Rattle.pg_play.proofs.KnownLaws.{lawful_knows}
 
@@ -130,11 +133,11 @@ described_known start at next a c x said slice items st st' groups frames f grou
     (knows_next at.groups (name_of x.statement) x.sql x.arguments.types group a.ledger.owed (heard at.frames) slice more front f.reply st.are_groups g may st.ledger st.between f.counted answered (no_error slice f.well) f.ends f.replied f.reply_has_frames)
 
 -- what an exchange that hands on has told is known where the next one begins
-pub known_behind : (start : StreamSeen) (at next : Place) (a c : ConnSeen) (d : ℕ) (call : Call) (after : Request) (said : List FrontendMessage) (slice : List Frame) (items : List CallItem) → StandsAt start at a → StandsAt start next c → next.groups ≡ at.groups ++ groups_of (request_of d call) → heard next.frames ≡ heard at.frames ++ slice
-    → EndsFine a.ledger (request_of d call) said slice items c.ledger (Ok (answers.Next after)) → KnownAt (widths_of after) next
-known_behind start at next a c d call after said slice items st st' groups frames e =
+pub known_behind : (rule : Rule) (start : StreamSeen) (at next : Place) (a c : ConnSeen) (d : ℕ) (call : Call) (after : Request) (said : List FrontendMessage) (slice : List Frame) (items : List CallItem) → IsPlain call → StandsAt start at a → StandsAt start next c → next.groups ≡ at.groups ++ groups_of (request_of d call) → heard next.frames ≡ heard at.frames ++ slice
+    → EndsFine a.ledger (request_of d call) said slice items c.ledger (Ok (answers.Next after)) → KnownAt (widths_of (asked_by rule after)) next
+known_behind rule start at next a c d call after said slice items p st st' groups frames e =
     let is = describes d call (hands_on_described (request_of d call) e.0.reply e.0.status after e.1) in
-    behind is.0 (groups ∙ ap (λ (y : Call). at.groups ++ groups_of (request_of d y)) is.1) (subst (λ (y : Call). EndsFine a.ledger (request_of d y) said slice items c.ledger (Ok (answers.Next after))) is.1 e)
+    behind is.0 (subst IsPlain is.1 p) (groups ∙ ap (λ (y : Call). at.groups ++ groups_of (request_of d y)) is.1) (subst (λ (y : Call). EndsFine a.ledger (request_of d y) said slice items c.ledger (Ok (answers.Next after))) is.1 e)
   where
-    behind : (x : Extended) → next.groups ≡ at.groups ++ describing (name_of x.statement) x.sql x.arguments.types ∷ [] → EndsFine a.ledger (requests.Describe x) said slice items c.ledger (Ok (answers.Next after)) → KnownAt (widths_of after) next
-    behind x g f = subst (λ (r : Request). KnownAt (widths_of r) next) (sym (next_bound x f.0.reply f.0.status after f.1)) (described_known start at next a c x said slice items st st' g frames f.0)
+    behind : (x : Extended) → IsPlain (calls.Describe x) → next.groups ≡ at.groups ++ describing (name_of x.statement) x.sql x.arguments.types ∷ [] → EndsFine a.ledger (requests.Describe x) said slice items c.ledger (Ok (answers.Next after)) → KnownAt (widths_of (asked_by rule after)) next
+    behind x p g f = subst (λ (r : Request). KnownAt (widths_of r) next) (sym (next_bound rule x p.0 f.0.reply f.0.status after p.1 p.2 f.1)) (described_known start at next a c x said slice items st st' g frames f.0)

@@ -276,6 +276,7 @@ stands_next start at a b d call said fs items end st s flows broken idle rule ro
   broken = broken ∙ ap (λ (o : Option ServerFault). broken_after o end) st.broken;
   seen = refl;
   rule = rule ∙ st.rule;
+  kept = st.kept;
   room = room;
   idle = idle;
   sayable = each_join HasFrontendFrame at.said said st.sayable (subst (AllByRecursion HasFrontendFrame) (sym (said_is_queued start at a (request_of d call) said (heard fs) items b.ledger end st s))

@@ -1,5 +1,5 @@
 -- A step, steps one after another, and the bytes of a link that tells them.
-use Rattle.std.proofs.Common.{◌≡◌, ◌≢◌, ℕ, ◌+◌, ◌*◌, ◌^◌, ◌≤◌, ◌<◌, Bool, true, false, cond, ◌⊎◌, inl, inr, List, [], ◌∷◌, ◌++◌, length, replicate, refl, sym, ap, ◌∙◌, subst, arith, append_assoc, append-nil, Option, Some, None, sum_by}
+use Rattle.std.proofs.Common.{◌≡◌, ◌≢◌, ℕ, ◌+◌, ◌*◌, ◌^◌, ◌≤◌, ◌<◌, Bool, true, false, cond, ◌⊎◌, inl, inr, List, [], ◌∷◌, ◌++◌, length, replicate, refl, sym, ap, ap₂, ◌∙◌, subst, arith, append_assoc, append-nil, Option, Some, None, sum_by}
 use Rattle.pg_play.proofs.IdleLaws.{idles_all}
 use Rattle.pg_play.specs.Idles.{SaysIdle, statuses}
 use Rattle.pg_play.proofs.SettledLaws.{settles_rollback, cleanup_polled, depth_other, depth_stands}
@@ -20,7 +20,13 @@ use Rattle.pg_startup.specs.Exchange.{proofs_text}
 use Rattle.pg_startup.specs.Establishing.{EstablishSeen}
 use Rattle.pg_call.specs.declared.request.Request.{Request}
 use Rattle.pg_call.specs.Requests.{Group, spelled, groups_of, copy_fail}
-use Rattle.pg_conn.specs.Connections.{ConnSeen, cleaned, counted_anew, rolled_back, ended as ended_conn, with_depth}
+use Rattle.pg_call.specs.Requests.{kind_of, change_of}
+use Rattle.pg_call.specs.declared.kind.Change.{Change}
+use Rattle.pg_call.specs.declared.calling.Call.TheVariants as states
+use Rattle.pg_rule.specs.declared.rule.Rule.{Rule}
+use Rattle.pg_conn.specs.Statements.{asked_by, begun_as, held_by, unmoved}
+use Rattle.pg_conn.specs.Turns.{first_exchange}
+use Rattle.pg_conn.specs.Connections.{ConnSeen, cleaned, counted_anew, rolled_back, ended as ended_conn, with_depth, left}
 use Rattle.pg_report.specs.declared.outcome.Item.{Item}
 use Rattle.pg_report.specs.declared.outcome.Answer.TheVariants.{Unit as AnswersUnit}
 use Rattle.pg_report.specs.declared.outcome.End.{End}
@@ -31,7 +37,7 @@ use Rattle.pg_script.specs.declared.step.Call.{Call}
 use Rattle.pg_script.specs.declared.step.Call.TheVariants as calls
 use Rattle.pg_script.specs.declared.step.Step.{Step}
 use Rattle.pg_play.specs.Shown.{request_of, has_query, shown_by, acts_at_once, begins_with}
-use Rattle.pg_play.specs.Calls.{WaitsFew, PlaysCall, PlaysStep, IsUnpolled, limits_of, untouched, outcome_of, rolled_outcome, broken_after, behind_end, none_counted, begun_call}
+use Rattle.pg_play.specs.Calls.{WaitsFew, PlaysCall, PlaysStep, IsUnpolled, limits_of, untouched, outcome_of, rolled_outcome, broken_after, behind_end, none_counted, begun_call, all_groups, first_conn}
 use Rattle.pg_play.specs.Places.{Place, owed, drained, unfed, queued_by, refuses_copy, Queues, first_place, is_fine}
 use Rattle.pg_play.specs.Told.{Numbers, CountsTo, WellAtOk}
 use Rattle.pg_play.specs.Causes.{AnsweredPending, IsDropped, HasCause, KeepsFault, EndsDuly, OpensSavepoint}
@@ -43,9 +49,9 @@ use Rattle.pg_startup.proofs.FlowLaws.{Flows-none}
 use Rattle.pg_play.proofs.PartLaws.{take_none}
 use Rattle.pg_call.proofs.RefusalLaws.{memory_refuses}
 use Rattle.pg_exchanges.specs.Expecting.{Widths}
-use Rattle.pg_call.specs.Requests.{first_of}
-use Rattle.pg_play.specs.Shown.{asked_of, first_call, next_call}
-use Rattle.pg_play.proofs.ExchangeLaws.{first_request, first_acts, first_begins_with, first_waits, first_widths}
+use Rattle.pg_play.specs.Shown.{asked_of, first_call, next_call, IsWanted}
+use Rattle.pg_play.proofs.CallLaws.{left_idle, asked_changes, begun_changes, wanted_held}
+use Rattle.pg_play.proofs.ExchangeLaws.{first_request, first_acts, first_begins_with, first_waits, first_widths, first_plain, asked_wanted}
 use Rattle.pg_play.proofs.DueLaws.{WithinMost, some_of, polled_most, and_true, duly_step, duly_handed, duly_out}
 use Rattle.pg_play.proofs.PlaceLaws.{ends_summary, next_place}
 use Rattle.pg_play.proofs.ToldLaws.{CountsOn}
@@ -69,7 +75,7 @@ counts_to n m k g e = (omega (arith, g.1, e), omega (arith, g.2, e))
 
 -- its exchanges come in turn, and their numbers are told in sum
 steps_to : (start : StreamSeen) (at : Place) (step : Step) (out : Outcome) (stop : Place) (d : ConnSeen) → InTurn start at step (first_call step.call) none_counted out stop d → out.waits < 2 ^ 32 → d.stream.link.calls ≤ at.seen.link.calls + 256 * (step.polls + step.most) → (out.end ≡ ends.Dropped → IsDropped at step out stop)
-    → (acts_at_once step.call ≡ true → ActsAtOnce at out stop) → (acts_at_once step.call ≡ false → EndsDuly at step (first_of (asked_of at.rule.depth step.call)) out stop) → StepsTo start at step out d
+    → (acts_at_once step.call ≡ true → ActsAtOnce at out stop) → (acts_at_once step.call ≡ false → EndsDuly at step (request_of at.rule.depth (first_call step.call)) out stop) → StepsTo start at step out d
 steps_to start at step out stop d t few calls dropped now duly = (
   t.next,
   record {
@@ -101,13 +107,13 @@ steps_to start at step out stop d t few calls dropped now duly = (
     exactly : (n m : ℕ) → GrewBy n 0 m → m < 2 ^ 32 → m ≡ n
     exactly n m g l = omega (arith, g, l)
 
-none_opens : (m : ConnSeen) → m.groups ≡ 0 → cleaned m ≡ ended_conn m
+none_opens : (m : ConnSeen) → m.groups ≡ 0 → cleaned m ≡ ended_conn (record m { rule = unmoved m.keeping m.rule })
 none_opens m e = rw e refl
 
-behind_none : (end : End) (m : ConnSeen) → m.groups ≡ 0 → (behind_end end m).groups ≡ 0
+behind_none : (end : End) (m : ConnSeen) → all_groups m ≡ 0 → all_groups (behind_end end m) ≡ 0
 behind_none (ends.Ok answer) m e = e
-behind_none (ends.Err x) m e = ap (λ (c : ConnSeen). c.groups) (none_opens m e) ∙ e
-behind_none ends.Dropped m e = ap (λ (c : ConnSeen). c.groups) (none_opens m e) ∙ e
+behind_none (ends.Err x) m e = ap (λ (c : ConnSeen). all_groups c) (none_opens m (omega (arith, e))) ∙ e
+behind_none ends.Dropped m e = ap (λ (c : ConnSeen). all_groups c) (none_opens m (omega (arith, e))) ∙ e
 
 -- the first exchange of a call begins as any other
 begins_first : (start : StreamSeen) (at : Place) (a : ConnSeen) (step : Step) → StandsAt start at a → acts_at_once step.call ≡ false → BeginsAt start at a none_counted (first_call step.call)
@@ -115,7 +121,8 @@ begins_first start at a step st later = record {
   stands = st;
   polled = first_acts step.call ∙ later;
   known = subst (λ (w : Widths). KnownAt w at) (sym (first_widths at.rule.depth step.call)) (known_none start at a st);
-  level = inl refl;
+  fits = omega arith;
+  plain = first_plain step.call;
 }
 
 -- what its exchanges came to is the step's
@@ -123,7 +130,7 @@ polled_turns : (start : StreamSeen) (at : Place) (a b : ConnSeen) (step : Step) 
     → EndsDuly at step (request_of at.rule.depth (first_call step.call)) out stop → StepsTo start at step out b
 polled_turns start at a b step out stop st later p o duly =
     steps_to start at step out stop b o.turns (omega (arith, o.waits, p)) (omega (arith, o.calls, ap (λ (x : StreamSeen). x.link.calls) st.seen)) o.dropped (λ now. let x = sym later ∙ now in absurd cc)
-    (λ x. subst (λ (q : Request). EndsDuly at step q out stop) (first_request at.rule.depth step.call) duly)
+    (λ x. duly)
 
 polled_step : (start : StreamSeen) (at : Place) (a b : ConnSeen) (step : Step) (out : Outcome) → StandsAt start at a → (IsUnpolled step → ⊥) → (OpensSavepoint at step → ⊥) → acts_at_once step.call ≡ false → step.polls < 2 ^ 32
     → PlaysCall (limits_of step) (begun_call (request_of at.rule.depth (first_call step.call)) a) b (request_of at.rule.depth (first_call step.call)) out → StepsTo start at step out b
@@ -254,7 +261,7 @@ quiet_call at step out end k q f c now =
 
 -- and the connection makes nothing of it
 quiet_step : (start : StreamSeen) (at : Place) (a : ConnSeen) (step : Step) (out : Outcome) (end : End) → StandsAt start at a → acts_at_once step.call ≡ false → is_fine end ≡ false → out ≡ untouched end → IsQuiet end → (one : Plays_call at (first_step step) out at) → one.own ≡ [] → (out.end ≡ ends.Dropped → IsDropped at step out at)
-    → EndsDuly at step (first_of (asked_of at.rule.depth step.call)) out at → StepsTo start at step out a
+    → EndsDuly at step (request_of at.rule.depth (first_call step.call)) out at → StepsTo start at step out a
 quiet_step start at a step out end st later f k q one none dropped duly =
     let ends_so : out.end ≡ end = ap (λ (x : Outcome). x.end) k in
     let groups : out.groups ≡ 0 = ap (λ (x : Outcome). x.groups) k in
@@ -337,13 +344,31 @@ rolled_step start at a b step st l c is =
     let rolls : first.call ≡ calls.StartRollback = ap first_call c in
     let one : Plays_call at first told at = rolled_call at first rolls in
     let settled = settles_rollback start at a b first st l rolls is in
-    let grew : CountsOn none_counted (ended_conn (counted_anew a)) told = record { groups = omega arith; heard = omega arith; waits = omega arith; moved = omega arith } in
-    let same : rolled_outcome b ≡ record told { groups = b.groups } = same_but_groups (ended_conn (counted_anew a)) b [] (ends.Ok AnswersUnit) settled.others in
+    let grew : CountsOn none_counted (ended_conn (counted_anew a)) told = record { groups = omega arith; behind = refl; fits = omega arith; heard = omega arith; waits = omega arith; moved = omega arith } in
+    let same : rolled_outcome b ≡ record told { groups = all_groups b } = same_but_groups (ended_conn (counted_anew a)) b [] (ends.Ok AnswersUnit) settled.others in
     let adds : AddUp none_counted (settled.out ∷ []) (rolled_outcome b) = add_one none_counted b settled.out [] (rolled_outcome b) (counts_settled start none_counted at at (ended_conn (counted_anew a)) b first told one settled grew) (add_none b [] (ends.Ok AnswersUnit)) in
     let k = settled.settles.outcome in
     let turns = one_turn start at at settled.next b step (first_call step.call) none_counted told settled.out (rolled_outcome b) one (quiet_lawful at told (inr (inr (inr refl)))) (places_quiet at told refl) (NoneFalls-refl at.seen.link) settled.settles settled.stands
-    (sym (ap (λ (x : Outcome). x.items) k)) (sym (ap (λ (x : Outcome). x.end) k)) adds refl (λ f. ap (λ (x : Call). next_call x []) rolls) in
+    (sym (ap (λ (x : Outcome). x.items) k)) (sym (ap (λ (x : Outcome). x.end) k)) adds settled.others.4 (λ f. ap (λ (x : Call). next_call x []) rolls) in
     steps_to start at step (rolled_outcome b) at b turns (omega (arith, settled.others.1)) (omega (arith, ap (λ (x : StreamSeen). x.link.calls) settled.stands.seen, ap (λ (x : StreamSeen). x.link.calls) settled.settles.seen)) (λ x. absurd cc) (λ now. (same, refl)) (λ later. let x = sym later ∙ ap acts_at_once c in absurd cc)
+
+-- a call on a connection on which none ran begins with the exchange that the place tells
+first_begun : (a : ConnSeen) (request : Request) → a.call ≡ states.Idle → IsWanted request → first_conn request a ≡ begun_call (first_exchange request a) a
+first_begun a request over w =
+    let idles : left a ≡ a = left_idle a over in
+    let change : change_of (kind_of request) ≡ change_of (kind_of (first_exchange request a)) = sym (asked_changes (left a).rule (begun_as (left a).rule request) ∙ begun_changes (left a).rule request w) in
+    let held : held_by (left a).rule (begun_as (left a).rule request) ≡ (left a).rule = wanted_held (left a).rule request w in
+    ap₂ (λ (c : Change) (k : Rule). record (first_conn request a) { change = c; rule = k }) change held
+    ∙ ap (λ (x : ConnSeen). begun_call (first_exchange request a) x) idles
+
+begins_played : (start : StreamSeen) (at : Place) (a b : ConnSeen) (step : Step) (out : Outcome) → StandsAt start at a → PlaysCall (limits_of step) (first_conn (asked_of at.rule.depth step.call) a) b (first_exchange (asked_of at.rule.depth step.call) a) out
+    → PlaysCall (limits_of step) (begun_call (request_of at.rule.depth (first_call step.call)) a) b (request_of at.rule.depth (first_call step.call)) out
+begins_played start at a b step out st played =
+    let request = asked_of at.rule.depth step.call in
+    let rule : (left a).rule ≡ at.rule = ap (λ (c : ConnSeen). c.rule) (left_idle a st.idle) ∙ st.rule in
+    let same : first_exchange request a ≡ request_of at.rule.depth (first_call step.call) = ap (λ (k : Rule). asked_by k (begun_as k request)) rule ∙ sym (first_request at.rule st.kept at.rule.depth step.call) in
+    subst (λ (q : Request). PlaysCall (limits_of step) (begun_call q a) b q out) same
+    (subst (λ (x : ConnSeen). PlaysCall (limits_of step) x b (first_exchange request a) out) (first_begun a request st.idle (asked_wanted at.rule.depth step.call)) played)
 
 -- an error is no drop
 undropped : {P : Type 0} (out : Outcome) (e : Error) → out ≡ untouched (ends.Err e) → out.end ≡ ends.Dropped → P
@@ -353,19 +378,19 @@ pub plays_step : (start : StreamSeen) (at : Place) (a b : ConnSeen) (step : Step
 unfolding quiet_call unpolled_call unmade_call refused_call
 plays_step start at a b step out st l (inl (c, is, k)) = subst (λ (x : Outcome). StepsTo start at step x b) (sym k) (rolled_step start at a b step st l c is)
 plays_step start at a b step out st l (inr (later, inl (u, is, k))) =
-    subst (λ (x : ConnSeen). StepsTo start at step out x) (sym is) (quiet_step start at a step out ends.Dropped st later refl k (inl refl) (unpolled_call at (first_step step) out (first_acts step.call ∙ later) k) refl (λ x. inl u) (unpolled_duly at step (first_of (asked_of at.rule.depth step.call)) out u k))
+    subst (λ (x : ConnSeen). StepsTo start at step out x) (sym is) (quiet_step start at a step out ends.Dropped st later refl k (inl refl) (unpolled_call at (first_step step) out (first_acts step.call ∙ later) k) refl (λ x. inl u) (unpolled_duly at step (request_of at.rule.depth (first_call step.call)) out u k))
 plays_step start at a b step out st l (inr (later, inr (n, p, inl (opens, is, k)))) =
     let asked : OpensSavepoint at step = (opens.0, omega (arith, opens.1, depth_stands start at a st)) in
     subst (λ (x : ConnSeen). StepsTo start at step out x) (sym is) (quiet_step start at a step out (ends.Err errors.InvalidSavePointStatement) st later refl k (inr (inr (inl refl))) (refused_call at (first_step step) out (first_acts step.call ∙ later) (first_begins_with step.call ∙ asked.0, asked.1) k) refl (undropped out errors.InvalidSavePointStatement k)
-    (refused_duly at step (first_of (asked_of at.rule.depth step.call)) out n asked k))
+    (refused_duly at step (request_of at.rule.depth (first_call step.call)) out n asked k))
 plays_step start at a b step out st l (inr (later, inr (n, p, inr (opens, inl (is, k, h))))) =
-    subst (λ (x : ConnSeen). StepsTo start at step out x) (sym is) (quiet_step start at a step out (ends.Err errors.OutOfMemory) st later refl k (inr (inl refl)) (unmade_call at (first_step step) out (first_acts step.call ∙ later) k) refl (undropped out errors.OutOfMemory k) (unmade_duly at step (first_of (asked_of at.rule.depth step.call)) out n (opens_not at a step st opens) h k))
+    subst (λ (x : ConnSeen). StepsTo start at step out x) (sym is) (quiet_step start at a step out (ends.Err errors.OutOfMemory) st later refl k (inr (inl refl)) (unmade_call at (first_step step) out (first_acts step.call ∙ later) k) refl (undropped out errors.OutOfMemory k) (unmade_duly at step (request_of at.rule.depth (first_call step.call)) out n (opens_not at a step st opens) h k))
   where
     opens_not : (at : Place) (a : ConnSeen) (step : Step) → StandsAt start at a → ((begins_with step.call ≡ true) × (0 < a.rule.depth) → ⊥) → OpensSavepoint at step → ⊥
     opens_not at a step st f o = f (o.0, omega (arith, o.1, depth_stands start at a st))
 plays_step start at a b step out st l (inr (later, inr (n, p, inr (opens, inr played)))) =
     polled_step start at a b step out st n (λ o. opens (o.0, omega (arith, o.1, depth_stands start at a st))) later p
-    (subst (λ (q : Request). PlaysCall (limits_of step) (begun_call q a) b q out) (sym (first_request at.rule.depth step.call)) (subst (λ (d : ℕ). PlaysCall (limits_of step) (begun_call (first_of (asked_of d step.call)) a) b (first_of (asked_of d step.call)) out) (depth_stands start at a st) (played st.idle)))
+    (begins_played start at a b step out st (subst (λ (d : ℕ). PlaysCall (limits_of step) (first_conn (asked_of d step.call) a) b (first_exchange (asked_of d step.call) a) out) (depth_stands start at a st) played))
 
 -- ---- steps one after another
 
@@ -394,6 +419,7 @@ stands_first opening polls link a g = rw g.fresh (record {
   broken = refl;
   seen = refl;
   rule = refl;
+  kept = (refl, refl);
   room = omega arith;
   idle = refl;
   sayable = tt;

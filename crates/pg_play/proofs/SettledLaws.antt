@@ -28,7 +28,10 @@ use Rattle.pg_script.specs.declared.step.Call.TheVariants as calls
 use Rattle.pg_script.specs.declared.step.Step.{Step}
 use Rattle.pg_play.specs.Shown.{request_of, begins, acts_at_once}
 use Rattle.pg_play.specs.Places.{Place, owed, is_fine, Queues}
-use Rattle.pg_play.proofs.CallLaws.{stays_behind}
+use Rattle.pg_play.proofs.CallLaws.{restated_stays}
+use Rattle.pg_call.specs.declared.kind.Keeping.{Keeping}
+use Rattle.pg_call.specs.declared.kind.Keeping.TheVariants as keepings
+use Rattle.pg_conn.specs.Statements.{moved, step_of}
 use Rattle.pg_play.proofs.StepLaws.{begins_one}
 use Rattle.pg_play.proofs.PlaceLaws.{owed_is}
 use Rattle.pg_report.specs.declared.outcome.Answer.TheVariants.{Unit as AnswersUnit}
@@ -47,11 +50,11 @@ abbrev rolled_place : Place → ConnSeen → ℕ → ℕ → Place
 rolled_place mid d left depth = record mid { seen = d.stream; said = mid.said ++ rollback left; groups = mid.groups ++ rollback left ∷ []; is_copy_failed = not (nat_eq (owed mid) 0) && mid.is_copy_failed; rule = with_depth depth mid.rule }
 
 abbrev rolled_conn : ConnSeen → ℕ → ℕ → ConnSeen
-rolled_conn m left depth = record (with_group (spelled (rollback left)) m) { rule = with_depth depth m.rule; change = changes.Stays }
+rolled_conn m left depth = record (with_group (spelled (rollback left)) m) { rule = with_depth depth m.rule; change = changes.Stays; keeping = keepings.Stays }
 
 -- the connection where so many are open, and no end of a call is awaited
 abbrev with_open : ℕ → ConnSeen → ConnSeen
-with_open depth m = record m { rule = with_depth depth m.rule; change = changes.Stays }
+with_open depth m = record m { rule = with_depth depth m.rule; change = changes.Stays; keeping = keepings.Stays }
 
 said_rollback : (left : ℕ) → left < 2 ^ 64 → AllByRecursion HasFrontendFrame (rollback left)
 said_rollback left l = (rollback_said left l, tt)
@@ -88,6 +91,7 @@ stands_group start mid m left depth st l r room =
       broken = st.broken;
       seen = refl;
       rule = ap (with_depth depth) st.rule;
+      kept = st.kept;
       room = room;
       idle = st.idle;
       sayable = each_join HasFrontendFrame mid.said (rollback left) st.sayable (said_rollback left l);
@@ -108,6 +112,7 @@ stands_depth start mid m depth st room = record {
   broken = st.broken;
   seen = st.seen;
   rule = ap (with_depth depth) st.rule;
+  kept = st.kept;
   room = room;
   idle = st.idle;
   sayable = st.sayable;
@@ -224,7 +229,7 @@ pub record SettlesTo (start : StreamSeen) (at : Place) (step : Step) (told : Out
   pub settles : Settles at step told out own mid next
   pub stands : StandsAt start next d
   pub groups : GrewBy (length settles.cleanup) m.groups d.groups
-  pub others : (d.heard ≡ m.heard) × (d.stream.waits ≡ m.stream.waits) × (d.stream.moves ≡ m.stream.moves)
+  pub others : (d.heard ≡ m.heard) × (d.stream.waits ≡ m.stream.waits) × (d.stream.moves ≡ m.stream.moves) × (d.earlier ≡ m.earlier) × (d.cache ≡ m.cache)
 
 -- nothing is queued
 settles_plain : (start : StreamSeen) (at mid : Place) (m : ConnSeen) (step : Step) (told : Outcome) (own : List Group) (depth : ℕ) → StandsAt start mid m → mid.rule ≡ at.rule → HasAllRoom (with_open depth m) → told.groups ≡ length own
@@ -247,7 +252,7 @@ settles_plain start at mid m step told own depth st stays room counts none after
   };
   stands = stands_depth start mid m depth st room;
   groups = omega arith;
-  others = (refl, refl, refl);
+  others = (refl, refl, refl, refl, refl);
 }
 
 -- a rollback is
@@ -273,7 +278,7 @@ settles_rolled start at mid m step told own st stays room r few cleanup after =
       };
       stands = stands_group start mid m 0 m.rule.depth st (omega arith) r room;
       groups = omega (arith, few);
-      others = (refl, refl, refl);
+      others = (refl, refl, refl, refl, refl);
     }
 
 pub ok_cleans_none : (d : ℕ) (call : Call) (own : List Group) → [] ≡ cleanup_by d call true own
@@ -337,9 +342,16 @@ behind_unfine (ends.Ok answer) m f = absurd cc
 behind_unfine (ends.Err e) m f = refl
 behind_unfine ends.Dropped m f = refl
 
-pub settles_call : (start : StreamSeen) (at mid : Place) (m : ConnSeen) (step : Step) (told : Outcome) (one : Plays_call at step told mid) → acts_at_once step.call ≡ false → StandsAt start mid m → length one.own ≤ 1 → m.groups ≡ length one.own → m.change ≡ change_of (kind_of (request_of at.rule.depth step.call))
+-- where nothing is kept, nothing is made of that
+settled_plain : (m : ConnSeen) → m.keeping ≡ keepings.Stays → settled m ≡ with_open (depth_behind m.change m.groups m.rule.depth) m
+settled_plain m e = ap (λ (k : Keeping). record m { rule = moved k (with_depth (depth_behind m.change m.groups m.rule.depth) m.rule); cache = step_of k m.cache; change = changes.Stays; keeping = keepings.Stays }) e
+
+cleaned_plain : (m : ConnSeen) → m.keeping ≡ keepings.Stays → cleaned m ≡ ended (cond (may_open m.change m.groups m.rule.depth) (queued_group (spelled (rollback 0)) m) m)
+cleaned_plain m e = ap (λ (x : ConnSeen). ended (cond (may_open m.change m.groups m.rule.depth) (queued_group (spelled (rollback 0)) x) x)) (restated_stays m e)
+
+pub settles_call : (start : StreamSeen) (at mid : Place) (m : ConnSeen) (step : Step) (told : Outcome) (one : Plays_call at step told mid) → acts_at_once step.call ≡ false → StandsAt start mid m → length one.own ≤ 1 → m.groups ≡ length one.own → m.change ≡ change_of (kind_of (request_of at.rule.depth step.call)) → m.keeping ≡ keepings.Stays
     → SettlesTo start at step told one.own mid m (behind_end told.end m)
-settles_call start at mid m step told one a st small groups change = by (is_fine told.end) refl
+settles_call start at mid m step told one a st small groups change keeping = by (is_fine told.end) refl
   where
     depth_is : m.rule.depth ≡ at.rule.depth
     depth_is = ap (λ (r : Rule). r.depth) (st.rule ∙ one.queued.rule)
@@ -355,17 +367,19 @@ settles_call start at mid m step told one a st small groups change = by (is_fine
 
     fine : is_fine told.end ≡ true → SettlesTo start at step told one.own mid m (settled m)
     fine f =
-        settles_plain start at mid m step told one.own (depth_behind m.change m.groups m.rule.depth) st one.queued.rule (all_settled m st.room) counts
+        let same : settled m ≡ with_open (depth_behind m.change m.groups m.rule.depth) m = settled_plain m keeping in
+        subst (λ (x : ConnSeen). SettlesTo start at step told one.own mid m x) (sym same)
+        (settles_plain start at mid m step told one.own (depth_behind m.change m.groups m.rule.depth) st one.queued.rule (subst (λ (x : ConnSeen). HasAllRoom x) same (all_settled m st.room)) counts
         (ok_cleans_none at.rule.depth step.call one.own ∙ ap (λ (b : Bool). cleanup_by at.rule.depth step.call b one.own) (sym f) ∙ sym (cleanup_polled at.rule.depth step.call told.end one.own (owed mid) a))
         (
         ap (λ (c : Change). depth_behind c m.groups m.rule.depth) change
         ∙ ap (λ (n : ℕ). depth_behind (change_of (kind_of (request_of at.rule.depth step.call))) m.groups n) depth_is
         ∙ depth_ok at.rule.depth step.call m.groups told.end f a (λ b. some_groups (length one.own) m.groups (length_some one.own (λ n. begins_one at.rule.depth step.call b (sym (fine_has told.end _ one.own f one.queued.asks) ∙ n))) groups)
-        )
+        ))
 
     other : is_fine told.end ≡ false → (b : Bool) → may_open m.change m.groups m.rule.depth ≡ b → SettlesTo start at step told one.own mid m (cleaned m)
     other f false e =
-        let same : cleaned m ≡ with_open m.rule.depth m = rw e refl in
+        let same : cleaned m ≡ with_open m.rule.depth m = cleaned_plain m keeping ∙ rw e refl in
         let none = other_cleans_none at.rule.depth step.call one.own m.groups (λ n. some_groups (length one.own) m.groups (length_some one.own n) groups) (opening_is false e) in
         subst (λ (x : ConnSeen). SettlesTo start at step told one.own mid m x) (sym same)
         (settles_plain start at mid m step told one.own m.rule.depth st one.queued.rule (subst (λ (x : ConnSeen). HasAllRoom x) same (all_cleaned m st.room)) counts
@@ -378,7 +392,7 @@ settles_call start at mid m step told one a st small groups change = by (is_fine
         let level = opening m.change m.groups m.rule.depth e in
         let room = st.room in
         let r = has_room (spelled (rollback 0)) m (omega (arith, short, level, room)) (omega (arith, few)) in
-        let same : cleaned m ≡ rolled_conn m 0 m.rule.depth = rw (e, r) refl in
+        let same : cleaned m ≡ rolled_conn m 0 m.rule.depth = cleaned_plain m keeping ∙ rw (e, r) refl in
         subst (λ (x : ConnSeen). SettlesTo start at step told one.own mid m x) (sym same)
         (settles_rolled start at mid m step told one.own st one.queued.rule (subst (λ (x : ConnSeen). HasAllRoom x) same (all_cleaned m st.room)) r (omega (arith, groups, small))
         (cleans.0 ∙ ap (λ (b : Bool). cleanup_by at.rule.depth step.call b one.own) (sym f) ∙ sym (cleanup_polled at.rule.depth step.call told.end one.own (owed mid) a))
@@ -387,26 +401,6 @@ settles_call start at mid m step told one a st small groups change = by (is_fine
     by : (b : Bool) → is_fine told.end ≡ b → SettlesTo start at step told one.own mid m (behind_end told.end m)
     by true f = subst (λ (x : ConnSeen). SettlesTo start at step told one.own mid m x) (sym (behind_fine told.end m f)) (fine f)
     by false f = subst (λ (x : ConnSeen). SettlesTo start at step told one.own mid m x) (sym (behind_unfine told.end m f)) (other f (may_open m.change m.groups m.rule.depth) refl)
-
--- what neither opens nor closes leaves the depth as it was
-depth_same : (d : ℕ) (call : Call) (end : End) → acts_at_once call ≡ false → change_of (kind_of (request_of d call)) ≡ changes.Stays → (b : Bool) → is_fine end ≡ b → d ≡ depth_after d call end
-depth_same d call end a stays true f = sym (ap (λ (c : Change). depth_behind c 1 d) stays) ∙ depth_ok d call 1 end f a (λ b. refl)
-depth_same d call end a stays false f = sym (depth_other d call end f a)
-
--- and no begin is cleaned up
-stays_cleans_none : (d : ℕ) (call : Call) (fine : Bool) (own : List Group) → change_of (kind_of (request_of d call)) ≡ changes.Stays → [] ≡ cleanup_by d call fine own
-stays_cleans_none d call fine [] stays = refl
-stays_cleans_none d call fine (g ∷ gs) stays = ap (λ (b : Bool). cond (b && (nat_eq d 0 && not fine)) (rollback 0 ∷ []) []) (ap opens (sym stays) ∙ opens_begins d call)
-
--- the end of an exchange that opens and closes nothing makes nothing of the connection, whatever its call has queued before
-pub settles_stays : (start : StreamSeen) (at mid : Place) (m : ConnSeen) (step : Step) (told : Outcome) (one : Plays_call at step told mid) → acts_at_once step.call ≡ false → change_of (kind_of (request_of at.rule.depth step.call)) ≡ changes.Stays → StandsAt start mid m → m.change ≡ changes.Stays
-    → SettlesTo start at step told one.own mid m (behind_end told.end m)
-settles_stays start at mid m step told one a is st stays =
-    let same : record m { change = changes.Stays } ≡ m = ap (λ (x : Change). record m { change = x }) (sym stays) in
-    let plain = settles_plain start at mid m step told one.own m.rule.depth st one.queued.rule (subst (λ (x : ConnSeen). HasAllRoom x) (sym same) st.room) one.numbers.groups
-    (stays_cleans_none at.rule.depth step.call (is_fine told.end) one.own is ∙ sym (cleanup_polled at.rule.depth step.call told.end one.own (owed mid) a))
-    (ap (λ (r : Rule). r.depth) (st.rule ∙ one.queued.rule) ∙ depth_same at.rule.depth step.call told.end a is (is_fine told.end) refl) in
-    subst (λ (x : ConnSeen). SettlesTo start at step told one.own mid m x) (same ∙ sym (stays_behind told.end m stays)) plain
 
 -- ---- a rollback without waiting
 
@@ -421,6 +415,7 @@ stands_anew start at a st =
       broken = st.broken;
       seen = ap (λ (x : StreamSeen). record x { waits = 0; moves = 0 }) st.seen;
       rule = st.rule;
+      kept = st.kept;
       room = omega (arith, room);
       idle = st.idle;
       sayable = st.sayable;
@@ -451,7 +446,7 @@ rolls_none start at a step depth st room c none after = record {
   };
   stands = stands_depth start (record at { seen = record at.seen { waits = 0; moves = 0 } }) (ended (counted_anew a)) depth (stands_anew start at a st) room;
   groups = omega arith;
-  others = (refl, refl, refl);
+  others = (refl, refl, refl, refl, refl);
 }
 
 rolls_one : (start : StreamSeen) (at : Place) (a : ConnSeen) (step : Step) (left : ℕ) → StandsAt start at a → left < 2 ^ 64 → has_room_for (spelled (rollback left)) (ended (counted_anew a)) ≡ true → HasAllRoom (rolled_conn (ended (counted_anew a)) left left) → step.call ≡ calls.StartRollback
@@ -479,7 +474,7 @@ rolls_one start at a step left st l r room c some after =
       };
       stands = stands_group start mid m left left (stands_anew start at a st) l r room;
       groups = omega arith;
-      others = (refl, refl, refl);
+      others = (refl, refl, refl, refl, refl);
     }
 
 and_false : (b : Bool) → b && false ≡ false

@@ -1,5 +1,14 @@
 -- One more poll of a call that is played: of one exchange, or through its end into the next ones.
-use Rattle.std.proofs.Common.{◌≡◌, ℕ, ◌+◌, ◌*◌, ◌<◌, ◌≤◌, inl, inr, Bool, true, false, List, [], ◌∷◌, ◌++◌, length, map, refl, sym, ap, ◌∙◌, subst, arith, Option, Some, None, Ok, Err}
+use Rattle.std.proofs.Common.{◌≡◌, ℕ, ◌+◌, ◌*◌, ◌<◌, ◌≤◌, inl, inr, Bool, true, false, List, [], ◌∷◌, ◌++◌, length, map, refl, sym, ap, ◌∙◌, subst, arith, Option, Some, None, Ok, Err, ap₂, min, ◌-◌, ◌^◌}
+use Rattle.pg_request.specs.declared.progress.CacheStep.TheVariants as cache
+use Rattle.pg_request.specs.declared.progress.CacheStep.{CacheStep}
+use Rattle.pg_rule.specs.declared.rule.Rule.{Rule}
+use Rattle.pg_call.specs.declared.statement.After.TheVariants as afters
+use Rattle.pg_call.specs.declared.statement.After.{After}
+use Rattle.pg_call.specs.declared.statement.Goal.TheVariants as goals
+use Rattle.pg_call.specs.declared.statement.Goal.{Goal}
+use Rattle.pg_call.specs.declared.calling.Call.{Call}
+use Rattle.pg_conn.specs.Statements.{begun_as, held_by}
 use Rattle.futures.specs.declared.task.Poll.{Poll}
 use Rattle.futures.specs.declared.task.Poll.TheVariants.{Ready, Pending}
 use Rattle.pg_wire.specs.declared.error.Error.{Error}
@@ -30,12 +39,12 @@ use Rattle.pg_call.specs.declared.answer.Turn.TheVariants as turns
 use Rattle.pg_call.specs.declared.calling.Call.TheVariants as calls
 use Rattle.pg_call.specs.declared.calling.Beat.{Beat}
 use Rattle.pg_call.specs.declared.calling.Beat.TheVariants as beats
-use Rattle.pg_call.specs.Requests.{kind_of, main_kind, change_of, first_of, first_by}
+use Rattle.pg_call.specs.Requests.{kind_of, main_kind, change_of, goal_kind, after_kind}
 use Rattle.pg_call.specs.Items.{own_items, shown}
 use Rattle.pg_call.specs.Calls.{EndsFine}
 use Rattle.pg_call.proofs.FitLaws.{hands_on_described, next_is}
-use Rattle.pg_conn.specs.Connections.{ConnOf, ConnSeen, seen_by, begun_with, handed, settled, runs, left, started_call}
-use Rattle.pg_conn.specs.Turns.{Polled, PollsThrough, HandsOver, hands_on, PollsBy, HandsOnNone, beat_of, BeatCause, SendCause, TakesBeat, is_flushed}
+use Rattle.pg_conn.specs.Connections.{ConnOf, ConnSeen, seen_by, begun_with, handed, settled, runs, left, started_call, cleaned, ended, idle, resolved, resolved_by}
+use Rattle.pg_conn.specs.Turns.{Polled, PollsThrough, HandsOver, hands_on, PollsBy, HandsOnNone, beat_of, BeatCause, SendCause, TakesBeat, is_flushed, first_exchange}
 use Rattle.pg_report.specs.declared.outcome.Item.{Item}
 use Rattle.pg_report.specs.declared.outcome.Answer.TheVariants.{Unit as AnswersUnit}
 use Rattle.pg_report.specs.declared.outcome.End.{End}
@@ -43,14 +52,14 @@ use Rattle.pg_report.specs.declared.outcome.End.TheVariants as ends
 use Rattle.pg_report.specs.declared.outcome.Outcome.{Outcome}
 use Rattle.pg_play.specs.declared.tally.Limits.{Limits}
 use Rattle.pg_play.specs.declared.tally.Tally.{Tally}
-use Rattle.pg_play.specs.Shown.{item_of}
-use Rattle.pg_play.specs.Calls.{Adds, Finishes, Waited, IsPlayingOn, IsPlaying, Ended, EndsOn, broken_after, Counted, asking, HandedOn, handed_from, OfLastIn, OfLast, IsCallPlaying, StopsBy, PollGives, PlaysOne, PlaysCall, outcome_of, begun_call}
-use Rattle.pg_play.proofs.CallLaws.{AfterSome, PlayBeat, OverPoll, over_poll, after_beat, fresh_play, play_starts, playing_one, plays_one, goes_waits, goes_yields, goes_ok, goes_unshown, goes_err, drops_waiting, drops_shown, goes_unkept}
+use Rattle.pg_play.specs.Shown.{item_of, IsWanted}
+use Rattle.pg_play.specs.Calls.{Adds, Finishes, Waited, IsPlayingOn, IsPlaying, Ended, EndsOn, broken_after, Counted, asking, HandedOn, handed_from, OfLastIn, OfLast, IsCallPlaying, StopsBy, PollGives, PlaysOne, PlaysCall, outcome_of, begun_call, all_groups, asked_from, first_conn}
+use Rattle.pg_play.proofs.CallLaws.{AfterSome, PlayBeat, OverPoll, over_poll, after_beat, fresh_play, playing_one, plays_one, goes_waits, goes_yields, goes_ok, goes_unshown, goes_err, drops_waiting, drops_shown, goes_unkept, asked_changes, begun_changes, wanted_stays}
 
 -- what holds of the exchange that came last
 on_last_in : (later : List Request) (polls : ℕ) (first : StreamSeen) (P Q : ConnSeen → Request → Type 0) (a : ConnSeen) (r : Request) → ((at : ConnSeen) (asked : Request) → P at asked → Q at asked) → OfLastIn later polls first P a r → OfLastIn later polls first Q a r
 on_last_in [] polls first P Q a r f p = f a r p
-on_last_in (next ∷ later) polls first P Q a r f h = (h.0, h.1, on_last_in later polls first P Q (handed_from h.0 next) next f h.2)
+on_last_in (next ∷ later) polls first P Q a r f h = (h.0, h.1, on_last_in later polls first P Q (handed_from h.0 next) (asked_from h.0 next) f h.2)
 
 pub on_last : (polls : ℕ) (first : StreamSeen) (P Q : ConnSeen → Request → Type 0) (a : ConnSeen) (r : Request) → ((at : ConnSeen) (asked : Request) → P at asked → Q at asked) → OfLast polls first P a r → OfLast polls first Q a r
 on_last polls first P Q a r f h = (h.0, on_last_in h.0 polls first P Q a r f h.1)
@@ -59,7 +68,7 @@ on_last polls first P Q a r f h = (h.0, on_last_in h.0 polls first P Q a r f h.1
 last_behind : (later : List Request) (polls : ℕ) (first : StreamSeen) (P : ConnSeen → Request → Type 0) (a : ConnSeen) (r : Request) → OfLastIn later polls first (λ at asked. OfLast polls first P at asked) a r → OfLast polls first P a r
 last_behind [] polls first P a r h = h
 last_behind (next ∷ later) polls first P a r h =
-    let behind = last_behind later polls first P (handed_from h.0 next) next h.2 in
+    let behind = last_behind later polls first P (handed_from h.0 next) (asked_from h.0 next) h.2 in
     (next ∷ behind.0, (h.0, h.1, behind.1))
 
 -- ---- an exchange that hands on the next one
@@ -105,21 +114,33 @@ handed_described : (polls : ℕ) (first : StreamSeen) (a m : ConnSeen) (r next :
 handed_described polls first a m r next h = hands_on_described r h.ends.0.0.reply h.ends.0.0.status next h.ends.0.1
 
 described_stays : (r : Request) → kind_of r ≡ kinds.Describe → change_of (main_kind r) ≡ changes.Stays
-described_stays (requests.Describe x) k = refl
+described_stays (requests.Describe x) k = by x.goal
+  where
+    by : (goal : Goal) → change_of (goal_kind goal) ≡ changes.Stays
+    by (goals.Run how) = refl
+    by goals.Prepare = refl
+described_stays (requests.Evict eviction) k = by eviction.after
+  where
+    by : (after : After) → change_of (after_kind after) ≡ changes.Stays
+    by (afters.Run bound) = refl
+    by (afters.Prepare prepared) = refl
 described_stays (requests.Run bound) k = refl
 described_stays _ k = absurd cc
 
 -- what was handed on opens and closes nothing
-pub handed_stays : (polls : ℕ) (first : StreamSeen) (a m : ConnSeen) (r next : Request) → HandedOn polls first a m r next → change_of (kind_of next) ≡ changes.Stays
-handed_stays polls first a m r next h = ap change_of (next_is r h.ends.0.0.reply h.ends.0.0.status next h.ends.0.1).0 ∙ described_stays r (handed_described polls first a m r next h)
+pub handed_stays : (polls : ℕ) (first : StreamSeen) (a m : ConnSeen) (r next : Request) → HandedOn polls first a m r next → change_of (kind_of (asked_from m next)) ≡ changes.Stays
+handed_stays polls first a m r next h = asked_changes (settled m).rule next ∙ ap change_of (next_is r h.ends.0.0.reply h.ends.0.0.status next h.ends.0.1).0 ∙ described_stays r (handed_described polls first a m r next h)
 
 -- what a connection has counted
 abbrev pub counted_by : ConnSeen → Counted
-counted_by c = record { groups = c.groups; heard = c.heard; waits = c.stream.waits; moves = c.stream.moves }
+counted_by c = record { groups = all_groups c; heard = c.heard; waits = c.stream.waits; moves = c.stream.moves }
 
--- the next exchange begins as any other, behind what was counted
-pub handed_asking : (polls : ℕ) (first : StreamSeen) (a m : ConnSeen) (r next : Request) → HandedOn polls first a m r next → handed_from m next ≡ asking next (counted_by m) (settled m)
-handed_asking polls first a m r next h = ap (λ (x : Change). record (handed_from m next) { change = x }) (sym (handed_stays polls first a m r next h))
+-- the next exchange begins as any other, behind what was counted, where nothing is held for it
+pub handed_asking : (polls : ℕ) (first : StreamSeen) (a m : ConnSeen) (r next : Request) → HandedOn polls first a m r next → held_by (settled m).rule next ≡ (settled m).rule → (settled m).cache ≡ cache.Same → handed_from m next ≡ asking (asked_from m next) (counted_by m) (settled m)
+handed_asking polls first a m r next h held same =
+    ap (λ (x : Change). record (handed_from m next) { change = x }) (sym (handed_stays polls first a m r next h))
+    ∙ ap (λ (x : Rule). record (handed_from m next) { change = change_of (kind_of (asked_from m next)); rule = x }) held
+    ∙ ap (λ (x : CacheStep). record (handed_from m next) { change = change_of (kind_of (asked_from m next)); rule = (settled m).rule; cache = x }) same
 
 -- The exchange that handed on is told of as any that ended. It ends no call.
 pub handed_ended : (limits : Limits) (first : StreamSeen) (a m : ConnSeen) (r next : Request) → 0 < limits.most → (h : HandedOn limits.polls first a m r next) → Ended limits first a m r [] (ends.Ok AnswersUnit) h.said h.fs
@@ -169,7 +190,7 @@ later_beat first b at c r waits beat s p =
     after_beat at.stream.left at.stream first at at p.stopped r 0 waits [] beat [] [] (fresh_play at r s.whole s.asks s.change) p.turns p.whole p.says p.flush over
 
 -- the next one begins where it stopped
-begins_next : (polls : ℕ) (first : StreamSeen) (b at m : ConnSeen) (r next : Request) (waits : ℕ) → Begins first b at r waits → TakesBeat at m (beats.Ends (Ok (answers.Next next))) → HandedOn polls first at m r next → Begins first b (handed_from m next) next waits
+begins_next : (polls : ℕ) (first : StreamSeen) (b at m : ConnSeen) (r next : Request) (waits : ℕ) → Begins first b at r waits → TakesBeat at m (beats.Ends (Ok (answers.Next next))) → HandedOn polls first at m r next → Begins first b (handed_from m next) (asked_from m next) waits
 begins_next polls first b at m r next waits s t h = record {
   queued = s.queued ++ t.0;
   frames = s.frames ++ t.1;
@@ -195,37 +216,54 @@ turned_whole : (most : ℕ) (first : StreamSeen) (a c : ConnSeen) (r : Request) 
 turned_whole most first a c r waits shown answer o e h n = (subst (λ (x : Option ServerFault). PlayBeat x most first a c r waits shown (beat_of answer)) (sym e) h, n)
 
 -- exchanges that begin in the midst of a poll, the last of which goes on behind it
-later_turns : (later : List Request) (polls most : ℕ) (first : StreamSeen) (b at last c : ConnSeen) (r : Request) (waits : ℕ) (shown : List Item) (answer : Poll Turn) → waits < polls → shown ≡ [] → length shown < most → Begins first b at r waits → HandsOver at later last → Polled last c (beat_of answer) → HandsOnNone answer
-    → OfLastIn later polls first (Turned most first c waits shown answer) at r
+later_turns : (later : List Request) (polls most : ℕ) (first : StreamSeen) (b at last c : ConnSeen) (r : Request) (waits : ℕ) (shown : List Item) (answer : Poll Turn) → waits < polls → shown ≡ [] → length shown < most → Begins first b (resolved at) r waits → HandsOver at later last → Polled (resolved last) c (beat_of answer) → HandsOnNone answer
+    → OfLastIn later polls first (Turned most first c waits shown answer) (resolved at) r
 later_turns [] polls most first b at last c r waits shown answer l n few s h p none =
-    let p' = subst (λ (x : ConnSeen). Polled x c (beat_of answer)) h p in
-    turned_whole most first at c r waits shown answer None s.whole ([], n, few, p'.stopped, p'.behind_is, later_beat first b at c r waits (beat_of answer) s p') none
+    let p' = subst (λ (x : ConnSeen). Polled (resolved x) c (beat_of answer)) h p in
+    turned_whole most first (resolved at) c r waits shown answer None s.whole ([], n, few, p'.stopped, p'.behind_is, later_beat first b (resolved at) c r waits (beat_of answer) s p', p'.asked) none
 later_turns (next ∷ later) polls most first b at last c r waits shown answer l n few s h p none =
     let one = h.1 in
     let m = one.stopped in
-    let over = hands_over polls first at m r next waits [] l s.whole (later_beat first b at h.0 r waits (beat_of (hands_on next)) s one) in
+    let over = hands_over polls first (resolved at) m r next waits [] l s.whole (later_beat first b (resolved at) h.0 r waits (beat_of (hands_on next)) s one) in
     let further = subst (λ (x : ConnSeen). HandsOver (handed next x) later last) one.behind_is h.2 in
-    (m, over.0, later_turns later polls most first b (handed_from m next) last c next waits shown answer l n few (begins_next polls first b at m r next waits s one.turns over.0) further p none)
+    (m, over.0, later_turns later polls most first b (handed next (settled m)) last c (asked_from m next) waits shown answer l n few (begins_next polls first b (resolved at) m r next waits s one.turns over.0) further p none)
+
+-- a poll that may make so many calls of the link begins so, whether or not what is asked stands as an exchange
+begun_resolved : (c : ConnSeen) → resolved (begun_with 256 c) ≡ begun_with 256 (resolved c)
+begun_resolved c = by c.call
+  where
+    by : (call : Call) → resolved_by call (begun_with 256 c) ≡ begun_with 256 (resolved_by call c)
+    by (calls.Asked r) = refl
+    by calls.Idle = refl
+    by (calls.Waiting w) = refl
+    by (calls.Own reply) = refl
+    by calls.Closing = refl
 
 -- one exchange went on, or the next ones began
 turns_through : (polls most : ℕ) (first : StreamSeen) (a b c : ConnSeen) (r : Request) (waits : ℕ) (shown : List Item) (answer : Poll Turn) → waits < polls → a.broken ≡ None → IsPlayingOn None most first a b r waits shown → PollsThrough (begun_with 256 b) c answer → OfLast polls first (Turned most first c waits shown answer) a r
 turns_through polls most first a b c r waits shown answer l e i t = by t.later t.hands
   where
-    goes_on : (c : ConnSeen) (beat : Beat) → (p : Polled (begun_with 256 b) c beat) → AfterSome first a p.stopped r waits i.0 beat
+    from : ConnSeen
+    from = resolved b
+
+    goes_on : (c : ConnSeen) (beat : Beat) → (p : Polled (begun_with 256 from) c beat) → AfterSome first a p.stopped r waits i.0 beat
     goes_on c beat p =
-        let over = over_poll first a b p.stopped waits (length i.0) beat p.turns.0 p.turns.1 i.5.went.flows.counts.write_waits i.5.waited i.5.calls p.turns.3.moves p.turns.3.cause in
-        after_beat 256 first first a b p.stopped r waits waits i.0 beat i.1 i.2 i.5 p.turns p.whole p.says p.flush over
+        let over = over_poll first a from p.stopped waits (length i.0) beat p.turns.0 p.turns.1 i.5.went.flows.counts.write_waits i.5.waited i.5.calls p.turns.3.moves p.turns.3.cause in
+        after_beat 256 first first a from p.stopped r waits waits i.0 beat i.1 i.2 i.5 p.turns p.whole p.says p.flush over
+
+    polled_from : (c : ConnSeen) (beat : Beat) → Polled (resolved (begun_with 256 b)) c beat → Polled (begun_with 256 from) c beat
+    polled_from c beat p = subst (λ (x : ConnSeen). Polled x c beat) (begun_resolved b) p
 
     by : (later : List Request) → HandsOver (begun_with 256 b) later t.last → OfLast polls first (Turned most first c waits shown answer) a r
     by [] h =
-        let p = subst (λ (x : ConnSeen). Polled x c (beat_of answer)) h t.polled in
-        ([], turned_whole most first a c r waits shown answer None e (i.0, i.3, i.4, p.stopped, p.behind_is, goes_on c (beat_of answer) p) t.none)
+        let p = polled_from c (beat_of answer) (subst (λ (x : ConnSeen). Polled (resolved x) c (beat_of answer)) h t.polled) in
+        ([], turned_whole most first a c r waits shown answer None e (i.0, i.3, i.4, p.stopped, p.behind_is, goes_on c (beat_of answer) p, p.asked) t.none)
     by (next ∷ later) h =
-        let one = h.1 in
+        let one = polled_from h.0 (beat_of (hands_on next)) h.1 in
         let m = one.stopped in
         let over = hands_over polls first a m r next waits i.0 l e (goes_on h.0 (beat_of (hands_on next)) one) in
-        let few : b.stream.link.calls ≤ first.link.calls + 256 * waits = omega (arith, i.5.calls, ap (λ (x : List CallItem). length x) over.1) in
-        let begins : Begins first b (handed_from m next) next waits = record {
+        let few : from.stream.link.calls ≤ first.link.calls + 256 * waits = omega (arith, i.5.calls, ap (λ (x : List CallItem). length x) over.1) in
+        let begins : Begins first from (handed_from m next) (asked_from m next) waits = record {
           queued = one.turns.0;
           frames = one.turns.1;
           moves = one.turns.3.moves;
@@ -237,17 +275,26 @@ turns_through polls most first a b c r waits shown answer l e i t = by t.later t
           change = sym (handed_stays polls first a m r next over.0);
         } in
         let further = subst (λ (x : ConnSeen). HandsOver (handed next x) later t.last) one.behind_is h.2 in
-        (next ∷ later, (m, over.0, later_turns later polls most first b (handed_from m next) t.last c next waits shown answer l (i.3 ∙ ap (map item_of) over.1) i.4 begins further t.polled t.none))
+        (next ∷ later, (m, over.0, later_turns later polls most first from (handed next (settled m)) t.last c (asked_from m next) waits shown answer l (i.3 ∙ ap (map item_of) over.1) i.4 begins further t.polled t.none))
+
+resolved_broken : (c : ConnSeen) → (resolved c).broken ≡ c.broken
+resolved_broken c = by c.call
+  where
+    by : (call : Call) → (resolved_by call c).broken ≡ c.broken
+    by (calls.Asked r) = refl
+    by calls.Idle = refl
+    by (calls.Waiting w) = refl
+    by (calls.Own reply) = refl
+    by calls.Closing = refl
 
 turns_one : (polls most : ℕ) (first : StreamSeen) (a b c : ConnSeen) (r : Request) (waits : ℕ) (shown : List Item) (answer : Poll Turn) → waits < polls → IsPlaying most first a b r waits shown → PollsBy b.broken (begun_with 256 b) b c answer → OfLast polls first (Turned most first c waits shown answer) a r
 turns_one polls most first a b c r waits shown answer l i p = by a.broken refl i
   where
     by : (o : Option ServerFault) → a.broken ≡ o → IsPlayingOn o most first a b r waits shown → OfLast polls first (Turned most first c waits shown answer) a r
-    by None e i = turns_through polls most first a b c r waits shown answer l e i (subst (λ (k : Option ServerFault). PollsBy k (begun_with 256 b) b c answer) i.5.broken p)
+    by None e i = turns_through polls most first a b c r waits shown answer l e i (subst (λ (k : Option ServerFault). PollsBy k (begun_with 256 b) b c answer) (sym (resolved_broken b) ∙ i.5.broken) p)
     by (Some fault) e i =
-        let at_a = subst (λ (d : ConnSeen). PollsBy d.broken (begun_with 256 d) d c answer) i.0 p in
-        let broke = subst (λ (k : Option ServerFault). PollsBy k (begun_with 256 a) a c answer) e at_a in
-        ([], turned_whole most first a c r waits shown answer (Some fault) e (broke.0, broke.1, i.1, i.2, i.3) (fault_hands_none fault answer broke.1))
+        let broke = subst (λ (k : Option ServerFault). PollsBy k (begun_with 256 b) b c answer) i.0 p in
+        ([], turned_whole most first a c r waits shown answer (Some fault) e (broke.0 ∙ sym i.1, broke.1, i.2, i.3, i.4) (fault_hands_none fault answer broke.1))
 
 call_turns : (limits : Limits) (a b c : ConnSeen) (r : Request) (waits : ℕ) (shown : List Item) (answer : Poll Turn) → waits < limits.polls → IsCallPlaying limits a b r waits shown → PollsBy b.broken (begun_with 256 b) b c answer → OfLast limits.polls a.stream (Turned limits.most a.stream c waits shown answer) a r
 call_turns limits a b c r waits shown answer l i p =
@@ -308,40 +355,38 @@ poll_item limits a b c r old new item (Some end) l g i p =
 
 -- ---- the first poll
 
-pub playing_runs : (limits : Limits) (a b : ConnSeen) (r : Request) (waits : ℕ) (shown : List Item) → runs a.call ≡ true → IsCallPlaying limits a b r waits shown → runs b.call ≡ true
-playing_runs limits a b r waits shown k i = by i.0 a r k i.1
+pub playing_runs : (limits : Limits) (a b : ConnSeen) (r : Request) (waits : ℕ) (shown : List Item) → IsCallPlaying limits a b r waits shown → runs b.call ≡ true
+playing_runs limits a b r waits shown i = by i.0 a r i.1
   where
-    by : (later : List Request) (at : ConnSeen) (asked : Request) → runs at.call ≡ true → OfLastIn later limits.polls a.stream (λ at asked. IsPlaying limits.most a.stream at b asked waits shown) at asked → runs b.call ≡ true
-    by [] at asked k i = playing_one limits.most a.stream at b asked waits shown k i
-    by (next ∷ later) at asked k h = by later (handed_from h.0 next) next refl h.2
+    by : (later : List Request) (at : ConnSeen) (asked : Request) → OfLastIn later limits.polls a.stream (λ at asked. IsPlaying limits.most a.stream at b asked waits shown) at asked → runs b.call ≡ true
+    by [] at asked i = playing_one limits.most a.stream at b asked waits shown i
+    by (next ∷ later) at asked h = by later (handed_from h.0 next) (asked_from h.0 next) h.2
 
-pub call_starts : (limits : Limits) (a : ConnSeen) (r : Request) → 0 < limits.most → a.call ≡ calls.Asked r → a.change ≡ change_of (kind_of r) → a.groups ≡ 0 → IsCallPlaying limits a a r 0 []
-call_starts limits a r m k c g = ([], play_starts limits.most a r m k c g)
+-- a call has begun, and was not polled yet
+pub call_starts : (limits : Limits) (c : ConnSeen) (request : Request) → 0 < limits.most → IsWanted request → IsCallPlaying limits (first_conn request c) (started_call request c) (first_exchange request c) 0 []
+call_starts limits c request m w = ([], starts_on a.broken refl)
+  where
+    a : ConnSeen
+    a = first_conn request c
+
+    rule : Rule
+    rule = (left c).rule
+
+    changes_first : change_of (kind_of request) ≡ change_of (kind_of (first_exchange request c))
+    changes_first = sym (asked_changes rule (begun_as rule request) ∙ begun_changes rule request w)
+
+    none : min (0 + 0) (2 ^ 64 - 1) ≡ 0
+    none = omega arith
+
+    same : cleaned (idle a) ≡ ended (idle (started_call request c))
+    same = ap₂ (λ (k : Rule) (n : ℕ). record (ended (idle (started_call request c))) { rule = k; earlier = n }) (wanted_stays rule request w) none
+
+    starts_on : (o : Option ServerFault) → a.broken ≡ o → IsPlayingOn o limits.most a.stream a (started_call request c) (first_exchange request c) 0 []
+    starts_on None e = ([], [], [], refl, m, fresh_play a (first_exchange request c) e refl changes_first)
+    starts_on (Some fault) e = (e, same, refl, refl, refl, refl)
 
 -- ---- the end
 
 pub plays_call : (limits : Limits) (a c d : ConnSeen) (r : Request) (waits : ℕ) (shown : List Item) (end : End) (out : Outcome) → PollGives limits a c r waits shown (Some end) → d ≡ left c → out ≡ outcome_of d shown end → PlaysCall limits a d r out
 plays_call limits a c d r waits shown end out g k e =
     on_last limits.polls a.stream (λ at asked. StopsBy limits a.stream at c asked shown end) (λ at asked. PlaysOne limits a.stream at d asked out) a r (λ at asked h. plays_one limits a.stream at c d asked shown end out h k e) g
-
-by_changes : (how : How) (query : QueryText) (o : Option ArgumentsSeen) (r : Request) → change_of (kind_of r) ≡ changes.Stays → change_of (kind_of (first_by how query o r)) ≡ change_of (kind_of r)
-by_changes how query None r e = refl
-by_changes how query (Some arguments) r e = sym e
-
--- what an Ok makes of the transactions that are open is told by the first exchange too
-pub first_changes : (r : Request) → change_of (kind_of (first_of r)) ≡ change_of (kind_of r)
-first_changes (requests.Execute query) = by_changes hows.Execute query query.arguments (requests.Execute query) refl
-first_changes (requests.ExecuteMany query) = by_changes hows.ExecuteMany query query.arguments (requests.ExecuteMany query) refl
-first_changes (requests.Fetch query) = by_changes hows.Fetch query query.arguments (requests.Fetch query) refl
-first_changes (requests.FetchMany query) = by_changes hows.FetchMany query query.arguments (requests.FetchMany query) refl
-first_changes (requests.FetchAll query) = by_changes hows.FetchAll query query.arguments (requests.FetchAll query) refl
-first_changes (requests.FetchOptional query) = by_changes hows.FetchOptional query query.arguments (requests.FetchOptional query) refl
-first_changes (requests.FetchOne query) = by_changes hows.FetchOne query query.arguments (requests.FetchOne query) refl
-first_changes _ = refl
-
--- where none ran, a call has begun with its first exchange, and nothing else was done
-pub began : {A : Type 0} (limits : Limits) (seen : A → LinkSeen) (c : ConnOf A) (d : ConnSeen) (r : Request) (out : Outcome) → c.call ≡ calls.Idle → PlaysCall limits (seen_by seen (started_call r c)) d (first_of r) out → PlaysCall limits (begun_call (first_of r) (seen_by seen c)) d (first_of r) out
-began {A} limits seen c d r out e p = subst (λ (x : ConnSeen). PlaysCall limits x d (first_of r) out) (alone seen r c e ∙ ap (λ (x : Change). record (begun_call (first_of r) (seen_by seen c)) { change = x }) (sym (first_changes r))) p
-  where
-    alone : (seen : A → LinkSeen) (r : Request) (c : ConnOf A) → c.call ≡ calls.Idle → seen_by seen (started_call r c) ≡ record (begun_call (first_of r) (seen_by seen c)) { change = change_of (kind_of r) }
-    alone seen r c e = rw e refl

@@ -1,5 +1,5 @@
 -- What an outcome tells, and the numbers in it.
-use Rattle.std.proofs.Common.{◌≡◌, ℕ, zero, suc, ◌+◌, ◌-◌, ◌≤◌, Bool, true, false, cond, nat_le, ◌⊎◌, inl, inr, List, [], ◌∷◌, ◌++◌, length, map, refl, sym, ap, ◌∙◌, subst, arith, append_assoc, append-nil, replicate, Option, Some, None, Ok, Err, MatchBool}
+use Rattle.std.proofs.Common.{◌≡◌, ℕ, zero, suc, ◌+◌, ◌-◌, ◌^◌, ◌≤◌, Bool, true, false, cond, nat_le, ◌⊎◌, inl, inr, List, [], ◌∷◌, ◌++◌, length, map, refl, sym, ap, ◌∙◌, subst, arith, append_assoc, append-nil, replicate, Option, Some, None, Ok, Err, MatchBool}
 use Rattle.std.specs.List.{count_by}
 use Rattle.std.proofs.lemmas.Bool.{le-leb}
 use Rattle.std.proofs.lemmas.List.{length-append, map-append, nil_from_length}
@@ -25,7 +25,7 @@ use Rattle.pg_call.specs.Items.{own_items, shown}
 use Rattle.pg_call.specs.Drains.{after_readys}
 use Rattle.pg_call.specs.Hearing.{fails_of}
 use Rattle.pg_call.specs.Calls.{IsFine, CallEnds, answer_by}
-use Rattle.pg_conn.specs.Connections.{ConnSeen}
+use Rattle.pg_conn.specs.Connections.{ConnSeen, Standing}
 use Rattle.pg_conn.specs.Turns.{ends_request}
 use Rattle.pg_report.specs.declared.outcome.Item.{Item}
 use Rattle.pg_report.specs.declared.outcome.Answer.{Answer}
@@ -37,7 +37,7 @@ use Rattle.pg_script.specs.declared.step.Call.TheVariants as calls
 use Rattle.pg_script.specs.declared.step.Step.{Step}
 use Rattle.pg_play.specs.declared.tally.Limits.{Limits}
 use Rattle.pg_play.specs.Shown.{request_of, items_in, shown_by, answered_by, waits_to_show, item_of, items_with, answer_of}
-use Rattle.pg_play.specs.Calls.{Went, EndsOn, Counted, asking}
+use Rattle.pg_play.specs.Calls.{Went, EndsOn, Counted, asking, all_groups}
 use Rattle.pg_request.specs.declared.progress.CacheStep.TheVariants as cache
 use Rattle.pg_play.specs.Places.{Place, ended, main_frames, response_within, drained, unfed, is_fine, refuses_copy, Queues, queued_by, Queued}
 use Rattle.pg_play.specs.Told.{Carry, HasNoError, IsWell, WellAtOk, AnswersError, Told, Numbers}
@@ -165,10 +165,17 @@ told_of shown end groups heard waits moved = record { items = shown; end = end; 
 
 -- the connection counts the numbers of an outcome on
 pub record CountsOn (old : Counted) (m : ConnSeen) (told : Outcome) : Type 0 where
-  pub groups : GrewBy told.groups old.groups m.groups
+  -- groups are counted anew in each exchange, behind those of the exchanges before it
+  pub groups : GrewBy told.groups 0 m.groups
+  pub behind : m.earlier ≡ old.groups
+  pub fits : old.groups ≤ 2 ^ 64 - 1
   pub heard : GrewBy told.heard old.heard m.heard
   pub waits : GrewBy told.waits old.waits m.stream.waits
   pub moved : GrewBy told.moved old.moves m.stream.moves
+
+-- and all of them behind these
+pub all_counted : (old : Counted) (m : ConnSeen) (told : Outcome) → CountsOn old m told → GrewBy told.groups old.groups (all_groups m)
+all_counted old m told c = let g = c.groups in let b = c.behind in let f = c.fits in omega (arith, g, b, f)
 
 pub numbers_step : (start : StreamSeen) (old : Counted) (at : Place) (a b : ConnSeen) (d : ℕ) (call : Call) (said : List FrontendMessage) (fs : List Frame) (shown : List Item) (end : End) (own : List Group) → StandsAt start at a → (w : Went (asking (request_of d call) old a) b said fs)
     → Numbers at (told_of shown end (length own) (length (heard fs)) (w.tallies.write_waits + w.tallies.read_waits) w.tallies.moved) own (heard fs) (next_place at b said own fs end)
@@ -188,12 +195,14 @@ numbers_step start old at a b d call said fs shown end own st w =
       moving = rw (← st.seen) t.moving;
     }
 
-pub counts_on : (start : StreamSeen) (old : Counted) (at : Place) (a b : ConnSeen) (d : ℕ) (call : Call) (said : List FrontendMessage) (fs : List Frame) (shown : List Item) (end : End) (items : List CallItem) → StandsAt start at a → (w : Went (asking (request_of d call) old a) b said fs)
+pub counts_on : (start : StreamSeen) (old : Counted) (at : Place) (a b : ConnSeen) (d : ℕ) (call : Call) (said : List FrontendMessage) (fs : List Frame) (shown : List Item) (end : End) (items : List CallItem) → StandsAt start at a → old.groups ≤ 2 ^ 64 - 1 → (w : Went (asking (request_of d call) old a) b said fs)
     → (s : Summary a.ledger (request_of d call) said (heard fs) items b.ledger (refuses_copy end)) → CountsOn old b (told_of shown end (length s.own) (length (heard fs)) (w.tallies.write_waits + w.tallies.read_waits) w.tallies.moved)
-counts_on start old at a b d call said fs shown end items st w s =
+counts_on start old at a b d call said fs shown end items st fits w s =
     let asked = all_ask at a.ledger.owed d call s.own (heard fs) end said s.queued (said_is_queued start at a (request_of d call) said (heard fs) items b.ledger end st s) in
     record {
-      groups = subst (λ (n : ℕ). GrewBy n old.groups b.groups) asked w.groups;
+      groups = subst (λ (n : ℕ). GrewBy n 0 b.groups) asked w.groups;
+      behind = ap (λ (x : Standing). x.earlier) w.started.3;
+      fits = fits;
       heard = w.heard;
       waits = w.tallies.waits;
       moved = w.tallies.moves;

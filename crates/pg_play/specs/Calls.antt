@@ -1,5 +1,5 @@
 -- Internal: what a play of one call says, in the words of the connection.
-use Rattle.std.specs.Prelude.{◌≡◌, ◌≢◌, ℕ, ◌+◌, ◌*◌, ◌^◌, ◌<◌, ◌≤◌, ◌⊎◌, true, false, count_by, List, [], ◌∷◌, ◌++◌, length, map, Option, Some, None, Ok}
+use Rattle.std.specs.Prelude.{◌≡◌, ◌≢◌, ℕ, min, ◌+◌, ◌-◌, ◌*◌, ◌^◌, ◌<◌, ◌≤◌, ◌⊎◌, true, false, count_by, List, [], ◌∷◌, ◌++◌, length, map, Option, Some, None, Ok}
 use Rattle.pg_script.specs.declared.step.Call.TheVariants as script_calls
 use Rattle.pg_wire.specs.declared.error.Error.{Error}
 use Rattle.pg_wire.specs.declared.error.Error.TheVariants as errors
@@ -17,11 +17,12 @@ use Rattle.pg_call.specs.declared.answer.CallAnswer.{CallAnswer}
 use Rattle.pg_call.specs.declared.answer.CallAnswer.TheVariants as answers
 use Rattle.pg_call.specs.declared.kind.Kind.TheVariants as kinds
 use Rattle.pg_call.specs.declared.calling.Call.TheVariants as calls
-use Rattle.pg_call.specs.Requests.{spelled, CanBeSaid, IsRefusal, change_of, kind_of, first_of}
+use Rattle.pg_call.specs.Requests.{spelled, CanBeSaid, IsRefusal, change_of, keeping_of, kind_of}
 use Rattle.pg_call.specs.Drains.{is_error}
 use Rattle.pg_call.specs.Calls.{CallIs, CallEnds, EndsFine, IsFine, Leaves}
-use Rattle.pg_conn.specs.Connections.{ConnSeen, idle, ConnOf, settled, cleaned, handed, runs, rolled_back}
-use Rattle.pg_conn.specs.Turns.{ends_request, EndsBy, is_flushed, HasAllRoom}
+use Rattle.pg_conn.specs.Connections.{ConnSeen, idle, ended as ended_conn, ConnOf, settled, cleaned, handed, resolved, runs, rolled_back, standing, started_call}
+use Rattle.pg_conn.specs.Statements.{asked_by}
+use Rattle.pg_conn.specs.Turns.{ends_request, first_exchange, EndsBy, is_flushed, HasAllRoom}
 use Rattle.pg_report.specs.declared.outcome.Item.{Item}
 use Rattle.pg_report.specs.declared.outcome.Answer.TheVariants.{Unit as AnswersUnit}
 use Rattle.pg_report.specs.declared.outcome.End.{End}
@@ -70,9 +71,9 @@ pub record Went (a b : ConnSeen) (said : List FrontendMessage) (fs : List Frame)
   pub waits : WaitsAt a.stream b.stream fs
   pub groups : GrewBy (count_by ends_request said) a.groups b.groups
   pub heard : GrewBy (length (heard fs)) a.heard b.heard
-  pub started : (b.sent ≡ a.sent) × (b.read ≡ a.read) × (b.rule ≡ a.rule) × (b.change ≡ a.change)
+  pub started : (b.sent ≡ a.sent) × (b.read ≡ a.read) × (b.rule ≡ a.rule) × (standing b ≡ standing a)
 
--- what the connection counts of a call so far
+-- what the connection counts of a call so far, all of its exchanges together
 pub record Counted : Type 0 where
   pub groups : ℕ
   pub heard : ℕ
@@ -81,7 +82,16 @@ pub record Counted : Type 0 where
 
 -- an exchange has begun on a connection on which none ran, and is counted behind these
 abbrev pub asking : Request → Counted → ConnSeen → ConnSeen
-asking request old c = record c { stream = record c.stream { waits = old.waits; moves = old.moves }; call = calls.Asked request; change = change_of (kind_of request); groups = old.groups; heard = old.heard }
+asking request old c = record c {
+  stream = record c.stream { waits = old.waits; moves = old.moves };
+  call = calls.Asked request;
+  change = change_of (kind_of request);
+  keeping = keeping_of request;
+  cache = cache.Same;
+  groups = 0;
+  earlier = old.groups;
+  heard = old.heard;
+}
 
 abbrev pub none_counted : Counted
 none_counted = record { groups = 0; heard = 0; waits = 0; moves = 0 }
@@ -89,6 +99,10 @@ none_counted = record { groups = 0; heard = 0; waits = 0; moves = 0 }
 -- a call has begun so with its first exchange
 abbrev pub begun_call : Request → ConnSeen → ConnSeen
 begun_call request c = asking request none_counted c
+
+-- all groups that are counted of a call, those of its exchanges that are over and those of the one that runs
+abbrev pub all_groups : {A : Type 0} → ConnOf A → ℕ
+all_groups c = min (c.earlier + c.groups) (2 ^ 64 - 1)
 
 -- it was not polled yet
 abbrev pub IsFresh : ConnSeen → ConnSeen → Request → List Frame → Type 0
@@ -110,8 +124,8 @@ pub record InPlay (first : StreamSeen) (a b : ConnSeen) (r : Request) (waits : �
 
 -- on a connection that is whole, or is broken, with fewer items than it may show
 abbrev pub IsPlayingOn : Option ServerFault → ℕ → StreamSeen → ConnSeen → ConnSeen → Request → ℕ → List Item → Type 0
-IsPlayingOn None most first a b r waits shown = (items : List CallItem) × (said : List FrontendMessage) × (fs : List Frame) × (shown ≡ map item_of items) × (length shown < most) × InPlay first a b r waits items said fs
-IsPlayingOn (Some fault) most first a b r waits shown = (b ≡ a) × (shown ≡ []) × (a.groups ≡ 0) × (first ≡ a.stream)
+IsPlayingOn None most first a b r waits shown = (items : List CallItem) × (said : List FrontendMessage) × (fs : List Frame) × (shown ≡ map item_of items) × (length shown < most) × InPlay first a (resolved b) r waits items said fs
+IsPlayingOn (Some fault) most first a b r waits shown = (b.broken ≡ Some fault) × (cleaned (idle a) ≡ ended_conn (idle b)) × (shown ≡ []) × (a.groups ≡ 0) × (first ≡ a.stream) × (runs b.call ≡ true)
 
 abbrev pub IsPlaying : ℕ → StreamSeen → ConnSeen → ConnSeen → Request → ℕ → List Item → Type 0
 IsPlaying most first a b r waits shown = IsPlayingOn a.broken most first a b r waits shown
@@ -222,13 +236,17 @@ pub record HandedOn (polls : ℕ) (first : StreamSeen) (a m : ConnSeen) (r next 
 
 -- the next exchange begins on this connection
 abbrev pub handed_from : ConnSeen → Request → ConnSeen
-handed_from m next = handed next (settled m)
+handed_from m next = resolved (handed next (settled m))
+
+-- by the statements that are kept, it asks this
+abbrev pub asked_from : ConnSeen → Request → Request
+asked_from m next = asked_by (settled m).rule next
 
 -- This holds of the exchange that came last, from the connection on which it began: of the one that begins here, or of the last of these, each
 -- handed on by the one before it.
 abbrev pub OfLastIn : List Request → ℕ → StreamSeen → (ConnSeen → Request → Type 0) → ConnSeen → Request → Type 0
 OfLastIn [] polls first P a r = P a r
-OfLastIn (next ∷ later) polls first P a r = (m : ConnSeen) × HandedOn polls first a m r next × OfLastIn later polls first P (handed_from m next) next
+OfLastIn (next ∷ later) polls first P a r = (m : ConnSeen) × HandedOn polls first a m r next × OfLastIn later polls first P (handed_from m next) (asked_from m next)
 
 abbrev pub OfLast : ℕ → StreamSeen → (ConnSeen → Request → Type 0) → ConnSeen → Request → Type 0
 OfLast polls first P a r = (later : List Request) × OfLastIn later polls first P a r
@@ -257,7 +275,11 @@ untouched end = record { items = []; end = end; groups = 0; heard = 0; cache = c
 
 -- the numbers of an outcome are the connection's
 abbrev pub outcome_of : ConnSeen → List Item → End → Outcome
-outcome_of b shown end = record { items = shown; end = end; groups = b.groups; heard = b.heard; cache = cache.Same; waits = b.stream.waits; moved = b.stream.moves }
+outcome_of b shown end = record { items = shown; end = end; groups = all_groups b; heard = b.heard; cache = b.cache; waits = b.stream.waits; moved = b.stream.moves }
+
+-- the connection as the first exchange of a call begins
+abbrev pub first_conn : Request → ConnSeen → ConnSeen
+first_conn request a = resolved (started_call request a)
 
 -- an exchange that ended the call, on the connection as it began
 abbrev pub PlaysOne : Limits → StreamSeen → ConnSeen → ConnSeen → Request → Outcome → Type 0
@@ -269,7 +291,7 @@ PlaysCall limits a b r out = OfLast limits.polls a.stream (λ at asked. PlaysOne
 
 -- the outcome of a rollback without waiting
 abbrev pub rolled_outcome : ConnSeen → Outcome
-rolled_outcome b = record { items = []; end = ends.Ok AnswersUnit; groups = b.groups; heard = b.heard; cache = cache.Same; waits = b.stream.waits; moved = b.stream.moves }
+rolled_outcome b = record { items = []; end = ends.Ok AnswersUnit; groups = all_groups b; heard = b.heard; cache = b.cache; waits = b.stream.waits; moved = b.stream.moves }
 
 -- a step whose call is polled: not polled; refused, since it would open a savepoint by its own text; without memory for its query; or played
 abbrev pub PlaysPolled : ConnSeen → ConnSeen → Step → Outcome → Type 0
@@ -279,7 +301,7 @@ PlaysPolled a b step out =
     × ((((begins_with step.call ≡ true) × (0 < a.rule.depth)) × (b ≡ a) × (out ≡ untouched (ends.Err errors.InvalidSavePointStatement)))
     ⊎ (((begins_with step.call ≡ true) × (0 < a.rule.depth) → ⊥)
     × (((b ≡ a) × (out ≡ untouched (ends.Err errors.OutOfMemory)) × (has_query step.call ≡ true))
-    ⊎ (a.call ≡ calls.Idle → PlaysCall (limits_of step) (begun_call (first_of (asked_of a.rule.depth step.call)) a) b (first_of (asked_of a.rule.depth step.call)) out)))))
+    ⊎ PlaysCall (limits_of step) (first_conn (asked_of a.rule.depth step.call) a) b (first_exchange (asked_of a.rule.depth step.call) a) out))))
 
 -- a step: a rollback without waiting, or one whose call is polled
 abbrev pub PlaysStep : ConnSeen → ConnSeen → Step → Outcome → Type 0

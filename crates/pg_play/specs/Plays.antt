@@ -3,7 +3,7 @@ use Rattle.std.specs.Prelude.{◌≡◌, ◌≢◌, ℕ, ◌+◌, ◌*◌, ◌<�
 use Rattle.pg_play.specs.Idles.{KeepsOrder, SaysIdle, statuses}
 use Rattle.pg_report.specs.declared.outcome.Answer.TheVariants.{Unit as AnswersUnit}
 use Rattle.pg_play.specs.Calls.{untouched, limits_of}
-use Rattle.pg_play.specs.Shown.{acts_at_once, asked_of, first_call, next_call}
+use Rattle.pg_play.specs.Shown.{acts_at_once, first_call, next_call, request_of}
 use Rattle.pg_play.specs.Settling.{Settles}
 use Rattle.std.specs.List.{AllByRecursion}
 use Rattle.pg_wire.specs.declared.error.Error.TheVariants as errors
@@ -22,8 +22,9 @@ use Rattle.pg_wire.specs.Groups.{IsGroup, AnswerGroups}
 use Rattle.pg_stream.specs.Links.{LinkSeen, NoneFalls, GrewBy}
 use Rattle.pg_stream.specs.Streams.{StreamSeen, Sends}
 use Rattle.pg_call.specs.declared.calling.Call.TheVariants as calls
-use Rattle.pg_call.specs.Requests.{Group, said_in, spelled, first_of}
+use Rattle.pg_call.specs.Requests.{Group, said_in, spelled}
 use Rattle.pg_call.specs.Drains.{is_copy_in, after_readys}
+use Rattle.pg_rule.specs.declared.rule.Rule.{Rule}
 use Rattle.pg_conn.specs.Connections.{ConnSeen}
 use Rattle.pg_conn.specs.Turns.{ends_request, HasAllRoom}
 use Rattle.pg_report.specs.declared.outcome.End.{End}
@@ -148,7 +149,7 @@ pub record Plays_step (at : Place) (step : Step) (out : Outcome) (next : Place) 
   pub calls : next.seen.link.calls ≤ at.seen.link.calls + 256 * (step.polls + step.most)
   pub dropped : out.end ≡ ends.Dropped → IsDropped at step out stop
   pub at_once : acts_at_once step.call ≡ true → ActsAtOnce at out stop
-  pub duly : acts_at_once step.call ≡ false → EndsDuly at step (first_of (asked_of at.rule.depth step.call)) out stop
+  pub duly : acts_at_once step.call ≡ false → EndsDuly at step (request_of at.rule.depth (first_call step.call)) out stop
 
 -- one outcome for each step, each from the place where the one before it ended
 abbrev pub Plays_from : Place → List Step → List Outcome → Place → Type 0
@@ -229,6 +230,10 @@ TakesInTime start given at (step ∷ steps) [] last run = ⊥
 abbrev pub AsksForNoCopy : List Frame → Type 0
 AsksForNoCopy frames = AllByRecursion (λ frame. is_copy_in frame ≡ false) frames
 
+-- Internal: no statement is kept, and none may be.
+abbrev pub KeepsNone : Rule → Type 0
+KeepsNone rule = (rule.capacity ≡ 0) × (rule.cache.entries ≡ [])
+
 -- Internal: the connection stands at this place.
 pub record StandsAt (start : StreamSeen) (at : Place) (c : ConnSeen) : Type 0 where
   pub flows : Flows start c.stream (spelled at.said) at.frames
@@ -238,6 +243,7 @@ pub record StandsAt (start : StreamSeen) (at : Place) (c : ConnSeen) : Type 0 wh
   pub broken : c.broken ≡ at.broken
   pub seen : c.stream ≡ at.seen
   pub rule : c.rule ≡ at.rule
+  pub kept : KeepsNone at.rule
   pub room : HasAllRoom c
   pub idle : c.call ≡ calls.Idle
   pub sayable : AllByRecursion HasFrontendFrame at.said

@@ -7,6 +7,10 @@ use Rattle.pg_request.specs.Queries.{QueryText, ArgumentsSeen}
 use Rattle.pg_exchanges.specs.Answering.{described}
 use Rattle.pg_call.specs.declared.kind.How.{How}
 use Rattle.pg_call.specs.declared.kind.How.TheVariants as hows
+use Rattle.pg_call.specs.declared.kind.Keeping.TheVariants as keepings
+use Rattle.pg_call.specs.declared.statement.Goal.{Goal}
+use Rattle.pg_call.specs.declared.statement.Goal.TheVariants as goals
+use Rattle.pg_call.specs.declared.statement.Extended.{Extended}
 use Rattle.pg_call.specs.declared.request.Request.{Request}
 use Rattle.pg_call.specs.declared.request.Request.TheVariants as requests
 use Rattle.pg_call.specs.declared.answer.CallItem.{CallItem}
@@ -51,12 +55,21 @@ asked_of depth (calls.Describe extended) = requests.Flush
 asked_of depth (calls.Run bound) = requests.Flush
 asked_of depth call = request_of depth call
 
+-- no step asks for what only an exchange is
+abbrev pub IsWanted : Request → Type 0
+IsWanted (requests.Describe extended) = ⊥
+IsWanted (requests.Run bound) = ⊥
+IsWanted (requests.Evict eviction) = ⊥
+IsWanted (requests.Prepare prepared) = ⊥
+IsWanted (requests.Clear statements) = ⊥
+IsWanted _ = Unit {0}
+
 -- ---- the exchanges of a call
 
 -- a query with arguments is described first (PostgreSQL manual, "Extended Query")
 abbrev pub first_as : How → QueryText → Option ArgumentsSeen → Call → Call
 first_as how query None call = call
-first_as how query (Some arguments) call = calls.Describe (record { how = how; statement = 0; sql = query.sql; arguments = arguments })
+first_as how query (Some arguments) call = calls.Describe (record { goal = goals.Run how; statement = 0; is_numbered = true; sql = query.sql; arguments = arguments; described = None })
 
 -- the first exchange of a call
 abbrev pub first_call : Call → Call
@@ -71,9 +84,14 @@ first_call (calls.Describe extended) = calls.Flush
 first_call (calls.Run bound) = calls.Flush
 first_call call = call
 
--- the one behind it: the statement is run, whose columns were described
+-- the statement is run, whose columns were described
+abbrev pub run_behind : Goal → Extended → List BackendMessage → Option Call
+run_behind (goals.Run how) extended response = Some (calls.Run (record { how = how; statement = extended.statement; arguments = extended.arguments; columns = Some (described response); keeping = keepings.Stays }))
+run_behind goals.Prepare extended response = None
+
+-- the one behind it
 abbrev pub next_call : Call → List BackendMessage → Option Call
-next_call (calls.Describe extended) response = Some (calls.Run (record { how = extended.how; statement = extended.statement; arguments = extended.arguments; columns = Some (described response) }))
+next_call (calls.Describe extended) response = run_behind extended.goal extended response
 next_call call response = None
 
 -- an exchange is one of this call

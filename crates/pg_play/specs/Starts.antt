@@ -79,7 +79,7 @@ pub record HasOpened (opening : Opening) (polls : ℕ) (first : LinkSeen) (a : C
   pub begun : HasBegun e.client e.plan e.message first ready
   pub counts : NoneFalls first a.stream.link
   pub waited : HasWaitedLess polls first a.stream.link
-  pub fresh : a ≡ fresh_connection ready.stream ready.sent ready.read
+  pub fresh : a ≡ fresh_connection 0 ready.stream ready.sent ready.read
 
 -- what a poll makes of a start-up of which so many have answered `Pending`
 abbrev pub StartsOn : {A : Type 0} → (A → LinkSeen) → Opening → LinkSeen → ℕ → EstablishOf A → Poll (Result (ConnOf A) Error) → Type 0

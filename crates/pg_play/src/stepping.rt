@@ -1,10 +1,10 @@
 ghost use Rattle.std.specs.Prelude.{◌≡◌, ◌<◌, ◌+◌, ◌-◌, ◌^◌, true, List, ℕ, None, length};
 ghost use Rattle.pg_request.specs.declared.progress.CacheStep.TheVariants as cache;
 ghost use Rattle.pg_conn.specs.Connections.{ConnSeen, seen_by, runs};
-ghost use Rattle.pg_call.specs.declared.calling.Call.TheVariants as states;
 ghost use Rattle.pg_call.specs.declared.request.Request.{Request};
-ghost use Rattle.pg_call.specs.Requests.{first_of};
-ghost use Rattle.pg_play.specs.Calls.{IsCallPlaying, PollGives, PlaysCall, PlaysPolled, PlaysStep, begun_call, untouched};
+ghost use Rattle.pg_conn.specs.Turns.{first_exchange};
+ghost use Rattle.pg_play.specs.Calls.{IsCallPlaying, PollGives, PlaysCall, PlaysPolled, PlaysStep, first_conn, untouched};
+ghost use Rattle.pg_play.specs.Shown.{IsWanted};
 
 use crate::asking::request_of;
 use crate::tally::{Limits, Tally};
@@ -80,9 +80,10 @@ fn play_call<L: Link>(
     request: Request,
     limits: Limits,
 ) -> Outcome
+    requires wanted { IsWanted request }
     requires polls { 0 < limits.polls }
     requires most { 0 < limits.most }
-    ensures { conn.old.call ≡ states.Idle → PlaysCall limits (begun_call (first_of request) (seen_by L.seen conn.old)) (seen_by L.seen conn.new) (first_of request) result }
+    ensures { PlaysCall limits (first_conn request (seen_by L.seen conn.old)) (seen_by L.seen conn.new) (first_exchange request (seen_by L.seen conn.old)) result }
 {
     conn.start(request);
     let mut tally = Tally::new(alloc);

@@ -72,7 +72,9 @@ impl Tally {
         ensures { Finishes answer self.old self.new result }
     {
         match answer {
-            CallAnswer::Unit | CallAnswer::Next(_) => End::Ok(Answer::Unit),
+            CallAnswer::Unit | CallAnswer::Next(_) | CallAnswer::Statement(_) => {
+                End::Ok(Answer::Unit)
+            }
             CallAnswer::Total(total) => End::Ok(Answer::Total(total.rows_affected())),
             CallAnswer::Rows(rows) => self.show(alloc, rows_of(alloc, rows.into_vec())),
             CallAnswer::OneRow(None) => self.show(alloc, Ok(Vec::new(alloc))),

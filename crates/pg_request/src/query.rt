@@ -115,6 +115,13 @@ impl Query {
         }
     }
 
+    /// Whether its statement may be kept for later queries.
+    pub fn is_persistent(&self) -> bool
+        ensures { result ≡ self.now.persistent }
+    {
+        self.is_persistent
+    }
+
     pub fn sql(&self) -> &str
         ensures { result.now ≡ self.now.sql }
     {

@@ -1,12 +1,12 @@
 use Rattle.std.proofs.Common.{◌≡◌, ◌<◌, ◌+◌, ◌-◌, ◌^◌, true, length}
-use Rattle.pg_call.specs.Requests.{first_of}
-use Rattle.pg_conn.specs.Connections.{seen_by, started_call, runs}
-use Rattle.pg_play.specs.Calls.{IsCallPlaying}
+use Rattle.pg_conn.specs.Connections.{seen_by, runs}
+use Rattle.pg_conn.specs.Turns.{first_exchange}
+use Rattle.pg_play.specs.Calls.{IsCallPlaying, first_conn}
 use Rattle.pg_play.proofs.stepping.play_call.Given as goal
 
 abbrev pub invariant-loop-end : goal.invariant-loop-end
 invariant-loop-end g l = record {
-  playing : IsCallPlaying l.fn.limits (seen_by g.L.Link.seen (started_call l.fn.request l.fn.conn)) (seen_by g.L.Link.seen l.conn) (first_of l.fn.request) l.tally.waits l.tally.items.items;
+  playing : IsCallPlaying l.fn.limits (first_conn l.fn.request (seen_by g.L.Link.seen l.fn.conn)) (seen_by g.L.Link.seen l.conn) (first_exchange l.fn.request (seen_by g.L.Link.seen l.fn.conn)) l.tally.waits l.tally.items.items;
   runs : runs l.conn.call ≡ true;
   some : l.tally.waits < l.fn.limits.polls;
 }

@@ -1,23 +1,6 @@
-use Rattle.std.proofs.Common.{ap, ◌∙◌, Ok, Err, Option}
-use Rattle.pg_wire.specs.declared.error.ServerFault.{ServerFault}
-use Rattle.pg_call.specs.declared.calling.Beat.TheVariants as beats
-use Rattle.pg_conn.specs.Connections.{ConnOf, cleaned}
-use Rattle.pg_conn.proofs.TurnLaws.{polled}
+use Rattle.std.proofs.Common.{refl}
+use Rattle.pg_conn.proofs.TurnLaws.{unresolved}
 use Rattle.pg_conn.proofs.connection.PgConnection.poll_on.Goals as goal
 
-pub returns-in-Ends-Ok-clause-polled : goal.returns-in-Ends-Ok-clause-polled
-returns-in-Ends-Ok-clause-polled g c =
-    let e = rw c.in-Ends-Ok.field-0-is at c.in-Ends-Ok.ensures in
-    polled g.L.Link.seen c.args.self.now c.beat.new.self _ (beats.Ends (Ok c.in-Ends-Ok.answer)) c.requires e.beat e.says e.flush e.asked c.settle.ensures
-
-pub returns-in-Ends-Err-clause-polled : goal.returns-in-Ends-Err-clause-polled
-returns-in-Ends-Err-clause-polled g c =
-    let e = rw c.in-Ends-Err.field-0-is at c.in-Ends-Err.ensures in
-    let seen_as = ap (λ (x : ConnOf g.row.L.Denot). cleaned (record x { broken = c.fault_in-self-inside.result })) c.self.view_is in
-    let by_fault = ap (λ (o : Option ServerFault). cleaned (record c.beat.new.self { broken = o })) c.fault_in-self-inside.ensures in
-    polled g.L.Link.seen c.args.self.now c.beat.new.self _ (beats.Ends (Err c.in-Ends-Err.e)) c.requires e.beat e.says e.flush e.asked (c.clean.ensures ∙ seen_as ∙ by_fault)
-
-pub returns-in-Ends-Ok-clause-falls : goal.returns-in-Ends-Ok-clause-falls
-returns-in-Ends-Ok-clause-falls g c =
-    let e = rw c.in-Ends-Ok.field-0-is at c.in-Ends-Ok.ensures in
-    rw c.settle.ensures e.falls
+pub returns-in-Err-clause-polled : goal.returns-in-Err-clause-polled
+returns-in-Err-clause-polled g c = unresolved g.L.Link.seen c.args.self.now c.resolve.new.self _ c.in-Err.e c.requires c.in-Err.ensures.err.1 c.in-Err.ensures.err.0 refl

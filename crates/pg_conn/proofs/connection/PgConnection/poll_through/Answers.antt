@@ -1,8 +1,8 @@
-use Rattle.std.proofs.Common.{refl, sym, ap, subst, ◌∙◌, [], ◌∷◌, ◌++◌}
+use Rattle.std.proofs.Common.{refl, subst, [], ◌∷◌, ◌++◌}
 use Rattle.futures.specs.declared.task.Poll.{Poll}
 use Rattle.pg_call.specs.declared.answer.Turn.{Turn}
-use Rattle.pg_conn.specs.Connections.{ConnOf, ConnSeen, seen_by}
-use Rattle.pg_conn.specs.Turns.{Polled, HandsOver, beat_of}
+use Rattle.pg_conn.specs.Connections.{resolved, seen_by}
+use Rattle.pg_conn.specs.Turns.{Polled, beat_of}
 use Rattle.pg_conn.proofs.StateLaws.{hands_more}
 use Rattle.pg_conn.proofs.connection.PgConnection.poll_through.Goals as goal
 
@@ -15,7 +15,7 @@ loop-next-preserved g c =
     let at = seen_by g.L.Link.seen c.loop-next.self in
     let between = seen_by g.L.Link.seen c.poll_on.new.self in
     let next = c.in-Ok.next in
-    let polled = subst (λ (p : Poll Turn). Polled at between (beat_of p)) c.in-Ok.ensures.next c.poll_on.ensures.polled in
+    let polled = subst (λ (p : Poll Turn). Polled (resolved at) between (beat_of p)) c.in-Ok.ensures.next c.poll_on.ensures.polled in
     rw c.hand_on.ensures (record {
       whole = c.poll_on.ensures.whole next c.in-Ok.ensures.next;
       later = c.loop-next.invariant.later ++ next ∷ [];

@@ -11,5 +11,5 @@ returns-in-Ready-Err-clause-beat g c =
 
 pub returns-in-Ready-Ok-clause-beat : goal.returns-in-Ready-Ok-clause-beat
 returns-in-Ready-Ok-clause-beat g c =
-    let s = c.stop-in-Ready-Ok.ensures in
+    let s = c.end_sent.ensures in
     rw (s.now, s.beat, ← c.self.view_is) (rest_sent _ _ c.in-Ready-Ok.field-0-0 (rw (← c.self.view_is) at c.requires) (rw c.in-Ready-Ok.field-0-is at c.in-Ready-Ok.ensures))

@@ -1,0 +1,399 @@
+ghost use Rattle.std.specs.Prelude.{◌≡◌, IfOk, IfErr, IsSome, Some};
+ghost use Rattle.pg_call.specs.declared.statement.Described.{Described as DescribedOf};
+ghost use Rattle.pg_call.specs.Requests.{after_kind, behind_goal, goal_kind, heading_of, named_keeping, request_behind, told, width_of};
+
+use crate::heading::heading;
+use crate::{How, Keeping, Kind, Request};
+use pg_columns::{PgColumns, share_known};
+use pg_request::Arguments;
+use pg_rows::Heading;
+use pg_values::PgValueFormat;
+use pg_wire::{Error, Oids, StatementId, Text};
+use std::alloc::Global;
+
+/// What a statement is described for: to be run, or to be told of.
+#[derive(Clone, Copy, Debug, PartialEq, Eq)]
+pub enum Goal {
+    Run(How),
+    Prepare,
+}
+
+impl Goal {
+    /// The kind of the call.
+    pub fn kind(self) -> Kind
+        ensures { result ≡ goal_kind self }
+    {
+        match self {
+            Goal::Run(how) => Kind::Run(how),
+            Goal::Prepare => Kind::Prepare,
+        }
+    }
+}
+
+/// What a description has told of a statement.
+#[derive(Debug)]
+pub struct Described {
+    /// The types of its parameters.
+    pub parameters: Oids,
+    /// The columns of its rows.
+    pub columns: Option<PgColumns>,
+}
+
+// By hand, so that whoever lets one go makes one call, and doesn't go through its parts.
+impl Drop for Described {
+    fn drop(self) {
+        let Described {
+            parameters: _,
+            columns: _,
+        } = self;
+    }
+}
+
+impl Described {
+    // The types and the columns.
+    fn into_parts(self) -> (Oids, Option<PgColumns>)
+        ensures { result ≡ (self.parameters, self.columns) }
+    {
+        let Described {
+            parameters,
+            columns,
+        } = self;
+        (parameters, columns)
+    }
+
+    /// The same again. Only want of memory refuses it.
+    pub fn to_copy(&self, alloc: Global) -> Result<Self, Error>
+        ensures copy { IfOk result (λ x. x ≡ self.now) }
+        ensures memory { IfErr result (λ e. e ≡ Error.OutOfMemory) }
+    {
+        let parameters = self.parameters.to_copy(alloc)?;
+        let columns = share_known(&self.columns)?;
+        Ok(Described {
+            parameters,
+            columns,
+        })
+    }
+}
+
+/// A text with arguments, to be prepared under a name, or without one, and described before it is run; or one that was so described.
+#[derive(Debug)]
+pub struct Extended {
+    pub goal: Goal,
+    pub statement: StatementId,
+    /// Whether there was a number left for its name.
+    pub is_numbered: bool,
+    pub sql: Text,
+    pub arguments: Arguments,
+    /// What was told of it.
+    pub described: Option<Described>,
+}
+
+// By hand, so that whoever lets one go makes one call, and doesn't go through its parts.
+impl Drop for Extended {
+    fn drop(self) {
+        let Extended {
+            goal: _,
+            statement: _,
+            is_numbered: _,
+            sql: _,
+            arguments: _,
+            described: _,
+        } = self;
+    }
+}
+
+// What was told, once more.
+fn copied(described: &Option<Described>, alloc: Global) -> Result<Option<Described>, Error>
+    ensures copy { IfOk result (λ x. x ≡ described.now) }
+    ensures memory { IfErr result (λ e. e ≡ Error.OutOfMemory) }
+{
+    match described {
+        Some(described) => Ok(Some(described.to_copy(alloc)?)),
+        None => Ok(None),
+    }
+}
+
+impl Extended {
+    /// The same again. Only want of memory refuses it.
+    pub fn to_copy(&self, alloc: Global) -> Result<Self, Error>
+        ensures copy { IfOk result (λ x. x ≡ self.now) }
+        ensures memory { IfErr result (λ e. e ≡ Error.OutOfMemory) }
+    {
+        let sql = self.sql.to_copy(alloc)?;
+        let arguments = self.arguments.to_copy(alloc)?;
+        let described = copied(&self.described, alloc)?;
+        Ok(Extended {
+            goal: self.goal,
+            statement: self.statement,
+            is_numbered: self.is_numbered,
+            sql,
+            arguments,
+            described,
+        })
+    }
+
+    // What describing it makes of the statements that are kept.
+    pub(crate) fn keeping(&self) -> Keeping
+        ensures { result ≡ named_keeping self.now.statement }
+    {
+        match self.statement.number() {
+            0 => Keeping::Stays,
+            _ => Keeping::Draws,
+        }
+    }
+
+    /// What it was described for, which makes this of the statements that are kept.
+    pub fn into_after(self, keeping: Keeping) -> After
+        requires { IsSome self.described }
+        ensures { (d : DescribedOf) → self.described ≡ Some d → result ≡ behind_goal self.goal self d keeping }
+    {
+        let Extended {
+            goal,
+            statement,
+            is_numbered: _,
+            sql,
+            arguments,
+            described,
+        } = self;
+        let Some(described) = described else {
+            unreachable!();
+        };
+        let (parameters, columns) = described.into_parts();
+        match goal {
+            Goal::Run(how) => After::Run(Bound {
+                how,
+                statement,
+                arguments,
+                columns,
+                keeping,
+            }),
+            Goal::Prepare => After::Prepare(Prepared {
+                sql,
+                parameters,
+                columns,
+                keeping,
+            }),
+        }
+    }
+
+    /// The same, once it was described.
+    pub(crate) fn told(self, parameters: Oids, columns: Option<PgColumns>) -> Self
+        ensures { result ≡ told parameters columns self }
+    {
+        let Extended {
+            goal,
+            statement,
+            is_numbered,
+            sql,
+            arguments,
+            described: _,
+        } = self;
+        Extended {
+            goal,
+            statement,
+            is_numbered,
+            sql,
+            arguments,
+            described: Some(Described {
+                parameters,
+                columns,
+            }),
+        }
+    }
+}
+
+/// A statement that is prepared, to be run with these arguments.
+#[derive(Debug)]
+pub struct Bound {
+    pub how: How,
+    pub statement: StatementId,
+    pub arguments: Arguments,
+    /// Its columns, where they are known.
+    pub columns: Option<PgColumns>,
+    /// What running it makes of the statements that are kept.
+    pub keeping: Keeping,
+}
+
+// By hand, so that whoever lets one go makes one call, and doesn't go through its parts.
+impl Drop for Bound {
+    fn drop(self) {
+        let Bound {
+            how: _,
+            statement: _,
+            arguments: _,
+            columns: _,
+            keeping: _,
+        } = self;
+    }
+}
+
+impl Bound {
+    /// The same again. Only want of memory refuses it.
+    pub fn to_copy(&self, alloc: Global) -> Result<Self, Error>
+        ensures copy { IfOk result (λ x. x ≡ self.now) }
+        ensures memory { IfErr result (λ e. e ≡ Error.OutOfMemory) }
+    {
+        let arguments = self.arguments.to_copy(alloc)?;
+        let columns = share_known(&self.columns)?;
+        Ok(Bound {
+            how: self.how,
+            statement: self.statement,
+            arguments,
+            columns,
+            keeping: self.keeping,
+        })
+    }
+
+    /// How many columns it has, where that is known.
+    pub fn width(&self) -> Option<usize>
+        ensures { result ≡ width_of self.now }
+    {
+        match &self.columns {
+            Some(columns) => Some(columns.len()),
+            None => None,
+        }
+    }
+
+    // The heading of its rows, as far as it is known.
+    pub(crate) fn into_heading(self) -> Heading
+        ensures { result ≡ heading_of (Request.Run self) }
+    {
+        let Bound {
+            how,
+            statement: _,
+            arguments: _,
+            columns,
+            keeping: _,
+        } = self;
+        let columns = columns.unwrap_or_else(PgColumns::none);
+        heading(Kind::Run(how), columns, PgValueFormat::Binary)
+    }
+}
+
+/// A text of SQL with the types of its parameters and its columns, as the server has described them; before that, with the types that the caller
+/// gives its first parameters.
+#[derive(Debug)]
+pub struct Prepared {
+    pub sql: Text,
+    pub parameters: Oids,
+    /// The columns, where they were described.
+    pub columns: Option<PgColumns>,
+    /// What telling of it makes of the statements that are kept.
+    pub keeping: Keeping,
+}
+
+// By hand, so that whoever lets one go makes one call, and doesn't go through its parts.
+impl Drop for Prepared {
+    fn drop(self) {
+        let Prepared {
+            sql: _,
+            parameters: _,
+            columns: _,
+            keeping: _,
+        } = self;
+    }
+}
+
+impl Prepared {
+    /// Its text and the types of its parameters.
+    pub fn into_parts(self) -> (Text, Oids)
+        ensures { result ≡ (self.sql, self.parameters) }
+    {
+        let Prepared {
+            sql,
+            parameters,
+            columns: _,
+            keeping: _,
+        } = self;
+        (sql, parameters)
+    }
+
+    /// The same again. Only want of memory refuses it.
+    pub fn to_copy(&self, alloc: Global) -> Result<Self, Error>
+        ensures copy { IfOk result (λ x. x ≡ self.now) }
+        ensures memory { IfErr result (λ e. e ≡ Error.OutOfMemory) }
+    {
+        let sql = self.sql.to_copy(alloc)?;
+        let parameters = self.parameters.to_copy(alloc)?;
+        let columns = share_known(&self.columns)?;
+        Ok(Prepared {
+            sql,
+            parameters,
+            columns,
+            keeping: self.keeping,
+        })
+    }
+}
+
+/// What comes behind the close of a statement.
+#[derive(Debug, Drop)]
+pub enum After {
+    Run(Bound),
+    Prepare(Prepared),
+}
+
+impl After {
+    /// The kind of the call.
+    pub fn kind(&self) -> Kind
+        ensures { result ≡ after_kind self.now }
+    {
+        match self {
+            After::Run(bound) => Kind::Run(bound.how),
+            After::Prepare(_) => Kind::Prepare,
+        }
+    }
+
+    /// What asks it.
+    pub fn request(self) -> Request
+        ensures { result ≡ request_behind self }
+    {
+        match self {
+            After::Run(bound) => Request::Run(bound),
+            After::Prepare(prepared) => Request::Prepare(prepared),
+        }
+    }
+
+    /// The same again. Only want of memory refuses it.
+    pub fn to_copy(&self, alloc: Global) -> Result<Self, Error>
+        ensures copy { IfOk result (λ x. x ≡ self.now) }
+        ensures memory { IfErr result (λ e. e ≡ Error.OutOfMemory) }
+    {
+        Ok(match self {
+            After::Run(bound) => After::Run(bound.to_copy(alloc)?),
+            After::Prepare(prepared) => After::Prepare(prepared.to_copy(alloc)?),
+        })
+    }
+}
+
+/// The close of the statement that was used longest ago, and what comes behind it.
+#[derive(Debug, Drop)]
+pub struct Eviction {
+    pub statement: StatementId,
+    pub after: After,
+}
+
+impl Eviction {
+    /// The same again. Only want of memory refuses it.
+    pub fn to_copy(&self, alloc: Global) -> Result<Self, Error>
+        ensures copy { IfOk result (λ x. x ≡ self.now) }
+        ensures memory { IfErr result (λ e. e ≡ Error.OutOfMemory) }
+    {
+        let after = self.after.to_copy(alloc)?;
+        Ok(Eviction {
+            statement: self.statement,
+            after,
+        })
+    }
+}
+
+/// What an exchange hands on, or answers, at its end.
+#[derive(Drop)]
+pub enum Rest {
+    Nothing,
+    /// The statement that it describes.
+    Describe(Extended),
+    /// What comes behind a close.
+    After(After),
+    /// What it tells.
+    Tell(Prepared),
+}
