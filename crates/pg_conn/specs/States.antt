@@ -1,23 +1,28 @@
 -- The states of calls: what is known of the call that runs, and what a poll of it answers.
-use Rattle.std.specs.Prelude.{◌≡◌, Bool, true, List, Option, Some, None, Result, Ok, Err}
+use Rattle.std.specs.Prelude.{◌≡◌, Bool, true, List, [], Option, Some, None, unwrap_or, Result, Ok, Err}
 use Rattle.futures.specs.declared.task.Poll.{Poll}
 use Rattle.futures.specs.declared.task.Poll.TheVariants.{Ready, Pending}
 use Rattle.pg_wire.specs.declared.error.Error.{Error}
 use Rattle.pg_stream.specs.Links.{LinkSeen}
 use Rattle.pg_wire.specs.Frame.{Frame}
 use Rattle.pg_wire.specs.Frontend.{FrontendMessage}
+use Rattle.pg_request.specs.declared.preparation.Preparation.{Preparation}
 use Rattle.pg_call.specs.declared.kind.Kind.{Kind}
 use Rattle.pg_call.specs.declared.kind.Kind.TheVariants as kinds
 use Rattle.pg_call.specs.declared.answer.CallAnswer.TheVariants as answers
 use Rattle.pg_call.specs.declared.ledger.Ledger.{Ledger}
 use Rattle.pg_call.specs.declared.request.Request.{Request}
+use Rattle.pg_call.specs.declared.request.Request.TheVariants as requests
+use Rattle.pg_call.specs.declared.kind.Keeping.TheVariants as keepings
+use Rattle.pg_call.specs.declared.statement.Prepared.{Prepared}
 use Rattle.pg_call.specs.declared.answer.CallItem.{CallItem}
 use Rattle.pg_call.specs.declared.answer.Turn.{Turn}
 use Rattle.pg_call.specs.declared.answer.Turn.TheVariants as turns
 use Rattle.pg_call.specs.Requests.{kind_of, main_kind}
-use Rattle.pg_call.specs.Answers.{TurnFits, TurnIsPlain}
+use Rattle.pg_call.specs.Answers.{TurnFits, TurnIsPlain, statement_turn}
 use Rattle.pg_call.specs.Calls.{CallIs}
-use Rattle.pg_conn.specs.Connections.{ConnOf, seen_by, begun_by, is_over}
+use Rattle.pg_conn.specs.declared.statement.PgStatement.{PgStatement}
+use Rattle.pg_conn.specs.Connections.{ConnOf, ConnSeen, seen_by, begun_by, is_over}
 use Rattle.pg_conn.specs.Turns.{HasRoom, PollsCall}
 
 -- an exchange of this kind runs, which has come where it is by messages queued, frames heard and items shown, and has room for its cleanup
@@ -50,6 +55,30 @@ IsCallingPlainly c = (kind : Kind) × TurnIsPlain kind × IsCalling kind c
 
 abbrev pub PollFitsPlainly : {A : Type 0} → ConnOf A → Poll Turn → Type 0
 PollFitsPlainly b answer = (kind : Kind) × TurnIsPlain kind × PollFits kind b answer
+
+-- ---- a statement that is prepared
+
+-- what is asked for one, of which nothing is described yet
+abbrev pub to_prepare : Preparation → Request
+to_prepare p = requests.Prepare (record { sql = p.sql; parameters = p.types; columns = None; keeping = keepings.Stays })
+
+-- what its caller is told of it: the text, the parameters and the columns that were described
+abbrev pub statement_of : Prepared → PgStatement
+statement_of p = record { sql = p.sql; parameters = p.parameters; columns = unwrap_or p.columns [] }
+
+abbrev pub statement_poll : Poll (Result Prepared Error) → Poll (Result PgStatement Error)
+statement_poll Pending = Pending
+statement_poll (Ready (Ok p)) = Ready (Ok (statement_of p))
+statement_poll (Ready (Err e)) = Ready (Err e)
+
+-- one poll of a prepare: its answer is what the core tells, without what that makes of the statements that are kept
+abbrev pub PollsPrepare : ConnSeen → ConnSeen → Poll (Result PgStatement Error) → Type 0
+PollsPrepare a b answer = (told : Poll (Result Prepared Error)) × (answer ≡ statement_poll told) × PollsCall a b (turn_of statement_turn told)
+
+-- its call still runs where it waits
+abbrev pub StaysPreparing : {A : Type 0} → ConnOf A → Poll (Result PgStatement Error) → Type 0
+StaysPreparing b Pending = IsCalling kinds.Prepare b
+StaysPreparing b (Ready answer) = Unit {0}
 
 -- ---- a close
 

@@ -2,10 +2,10 @@
 ghost use Rattle.std.specs.Prelude.{◌≡◌};
 ghost use Rattle.pg_call.specs.Answers.{total_turn};
 ghost use Rattle.pg_conn.specs.Connections.{ConnOf, seen_by, started_call, left};
-ghost use Rattle.pg_conn.specs.States.{turn_of};
+ghost use Rattle.pg_conn.specs.States.{PollsPrepare, to_prepare, turn_of};
 ghost use Rattle.pg_conn.specs.Turns.{PollsCall};
 
-use crate::{PgConnection, PgQueryResult, Query, Request};
+use crate::{PgConnection, PgQueryResult, PgStatement, Preparation, Query, Request};
 use pg_stream::Link;
 use pg_wire::{Error, Poll};
 
@@ -24,5 +24,16 @@ pub fn a_call_that_is_polled_once<L: Link>(
     ensures { (b : ConnOf L) × PollsCall (seen_by L.seen (started_call (Request.Execute query) conn.old)) (seen_by L.seen b) (turn_of total_turn result) × (conn.new ≡ left b) }
 {
     let mut call = conn.execute(query);
+    call.poll()
+}
+
+/// The same of a prepare: the connection is what its one poll has left of it, and no call runs on it.
+pub fn a_prepare_that_is_polled_once<L: Link>(
+    conn: &mut PgConnection<L>,
+    preparation: Preparation,
+) -> Poll<Result<PgStatement, Error>>
+    ensures { (b : ConnOf L) × PollsPrepare (seen_by L.seen (started_call (to_prepare preparation) conn.old)) (seen_by L.seen b) result × (conn.new ≡ left b) }
+{
+    let mut call = conn.prepare(preparation);
     call.poll()
 }

@@ -16,6 +16,7 @@ mod polling;
 mod postgres;
 mod socket_dial;
 mod starting;
+mod statement;
 mod states;
 
 pub use connection::PgConnection;
@@ -23,12 +24,13 @@ pub use dial::{Dial, DialFailed, MemoryDial};
 pub use establishing::establish;
 pub use pg_call::{CallAnswer, CallItem, PgQueryResult, Request, Turn};
 pub use pg_columns::{ColumnOrigin, PgColumn};
-pub use pg_request::{CacheStep, Progress, Query};
+pub use pg_request::{CacheStep, Preparation, Progress, Query};
 pub use pg_rows::PgRow;
 pub use postgres::Postgres;
 pub use socket_dial::SocketDial;
 pub use starting::Establish;
+pub use statement::PgStatement;
 pub use states::{
     Begin, Close, Commit, Execute, ExecuteMany, Fetch, FetchAll, FetchMany, FetchOne,
-    FetchOptional, Flush, Ping, Rollback, commit_request, rollback_request,
+    FetchOptional, Flush, Ping, Prepare, Rollback, commit_request, rollback_request,
 };

@@ -208,7 +208,7 @@ impl<L> PgConnection<L> {
 
 impl<L: Link> PgConnection<L> {
     // Writes the frames of what is asked.
-    fn prepare(&mut self) -> Result<(), Error>
+    fn write_frames(&mut self) -> Result<(), Error>
         ensures ok { OnOk result (Prepares (seen_by L.seen self.old) (seen_by L.seen self.new)) }
         ensures err { IfErr result (λ e. (self.new ≡ self.old) × Refuses self.old.call e) }
     {
@@ -395,7 +395,7 @@ impl<L: Link> PgConnection<L> {
         if self.is_flushed() {
             return self.end_sent();
         }
-        match self.prepare() {
+        match self.write_frames() {
             Ok(()) => self.run(),
             Err(e) => self.stop(Err(e)),
         }

@@ -14,6 +14,7 @@ mod fetch_one;
 mod fetch_optional;
 mod flush;
 mod ping;
+mod prepare;
 mod rollback;
 
 pub use begin::Begin;
@@ -28,4 +29,5 @@ pub use fetch_one::FetchOne;
 pub use fetch_optional::FetchOptional;
 pub use flush::Flush;
 pub use ping::Ping;
+pub use prepare::Prepare;
 pub use rollback::{Rollback, rollback_request};

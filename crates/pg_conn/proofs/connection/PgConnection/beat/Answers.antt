@@ -12,7 +12,7 @@ returns-then-is_flushed g c =
 
 pub returns-in-Ok : goal.returns-in-Ok
 returns-in-Ok g c = record {
-  beat = TakesBeat-then (seen_by g.L.Link.seen c.args.self.now) (seen_by g.L.Link.seen c.prepare.new.self) (seen_by g.L.Link.seen c.run.new.self) c.run.result c.in-Ok.ensures.ok.beat c.run.ensures.beat;
+  beat = TakesBeat-then (seen_by g.L.Link.seen c.args.self.now) (seen_by g.L.Link.seen c.write_frames.new.self) (seen_by g.L.Link.seen c.run.new.self) c.run.result c.in-Ok.ensures.ok.beat c.run.ensures.beat;
   says = inl c.in-Ok.ensures.ok.sayable;
   flush = λ e. let k = sym e ∙ sym c.if-is_flushed.ensures in absurd cc;
   asked = λ i. c.in-Ok.ensures.ok.asked (c.run.ensures.beat.3.asked i);

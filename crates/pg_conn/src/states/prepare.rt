@@ -1,0 +1,88 @@
+ghost use Rattle.std.specs.Prelude.{◌≡◌, false, None, Some};
+ghost use Rattle.pg_call.specs.declared.kind.Kind.TheVariants as kinds;
+ghost use Rattle.pg_conn.specs.Connections.{seen_by, begun_by, is_over, left_by};
+ghost use Rattle.pg_conn.specs.States.{IsCalling, PollsPrepare, StaysPreparing, to_prepare};
+
+use crate::{PgConnection, PgStatement, Preparation, Request};
+use pg_call::{Keeping, Prepared};
+use pg_stream::Link;
+use pg_wire::{Error, Oids, Poll, Text};
+use std::alloc::Global;
+use std::mem;
+
+/// The call `prepare`: it answers the statement as the server has described it. (PostgreSQL manual, "Message Flow", "Extended Query".)
+pub struct Prepare<'c, L, R = Request> {
+    conn: &'c mut PgConnection<L>,
+    request: Option<R>,
+}
+
+// What asks it, without taking memory.
+fn request_of(alloc: Global, preparation: Preparation) -> Request
+    ensures { result ≡ to_prepare preparation }
+{
+    let mut preparation = preparation;
+    let sql = mem::replace(&mut preparation.sql, Text::new(alloc));
+    let parameters = mem::replace(&mut preparation.types, Oids::new(alloc));
+    Request::Prepare(Prepared {
+        sql,
+        parameters,
+        columns: None,
+        keeping: Keeping::Stays,
+    })
+}
+
+impl<L> PgConnection<L> {
+    /// Prepares a statement, and asks what it takes and gives: the types of its parameters and the columns of its rows. The caller may say the types
+    /// of the first parameters; the server finds each that the caller doesn't say. Nothing of the statement is kept at the server's side under a
+    /// name, unless statements are kept. (PostgreSQL manual, "Message Flow", "Extended Query".)
+    pub fn prepare(&mut self, preparation: Preparation) -> Prepare<'_, L>
+        ensures same { result.conn.ghost_name ≡ self.entry.ghost_name }
+        ensures conn { result.conn.now ≡ self.old }
+        ensures request { result.request ≡ Some (to_prepare preparation) }
+        ensures calling { IsCalling kinds.Prepare (begun_by result.request result.conn.now) }
+    {
+        let request = request_of(self.alloc, preparation);
+        Prepare {
+            conn: self,
+            request: Some(request),
+        }
+    }
+}
+
+impl<L, R: Drop> Drop for Prepare<'_, L, R> {
+    fn drop(self)
+        ensures { self.exit.0.now ≡ left_by self.entry.request self.entry.conn.now }
+    {
+        let Prepare { conn, request } = self;
+        conn.leave(request);
+    }
+}
+
+impl<L> Prepare<'_, L> {
+    /// Whether a poll has ended the call.
+    pub fn is_finished(&self) -> bool
+        ensures { result ≡ is_over self.now.request self.now.conn.now.call }
+    {
+        self.request.is_none() && !self.conn.is_running()
+    }
+}
+
+impl<L: Link> Prepare<'_, L> {
+    /// Moves the call on.
+    pub fn poll(&mut self) -> Poll<Result<PgStatement, Error>>
+        requires over { is_over self.old.request self.old.conn.now.call ≡ false }
+        requires calling { IsCalling kinds.Prepare (begun_by self.old.request self.old.conn.now) }
+        ensures same { self.new.conn.ghost_name ≡ self.old.conn.ghost_name }
+        ensures asked { self.new.request ≡ None }
+        ensures polls { PollsPrepare (seen_by L.seen (begun_by self.old.request self.old.conn.now)) (seen_by L.seen self.new.conn.now) result }
+        ensures calling { StaysPreparing self.new.conn.now result }
+    {
+        match self.conn.poll_with(&mut self.request) {
+            Poll::Pending => Poll::Pending,
+            Poll::Ready(turn) => match turn.into_statement() {
+                Ok(prepared) => Poll::Ready(Ok(PgStatement::told(prepared))),
+                Err(e) => Poll::Ready(Err(e)),
+            },
+        }
+    }
+}
