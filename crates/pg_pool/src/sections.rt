@@ -159,6 +159,13 @@ impl<G: Ledger, C: Pooled> PoolCore<G, C> {
         Ok(Some(place))
     }
 
+    /// How many are idle.
+    pub fn idle_len(&self) -> usize
+        ensures { result ≡ length self.now.kept }
+    {
+        self.conns.len()
+    }
+
     pub fn is_closed(&self) -> bool
         ensures { result ≡ (state_of self.now.history).closed }
     {
