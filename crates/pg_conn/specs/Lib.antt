@@ -6,3 +6,4 @@ pub mod Connecting
 pub mod Dials
 pub mod SocketDials
 pub mod Ledgers
+pub mod Cleanliness

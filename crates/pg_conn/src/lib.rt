@@ -5,6 +5,7 @@
 #![tactic(auto)]
 
 mod asking;
+mod cleanliness;
 mod connection;
 mod dial;
 mod dial_counts;

@@ -1,0 +1,18 @@
+ghost use Rattle.std.specs.Prelude.{◌≡◌};
+ghost use Rattle.pg_conn.specs.Cleanliness.{is_clean};
+
+use crate::PgConnection;
+
+impl<L> PgConnection<L> {
+    /// Whether nothing of what was done on it is left, so that somebody else may have it: the server has not broken it, no reply is owed,
+    /// all bytes are sent, no call runs, and no transaction is open.
+    pub fn is_clean(&self) -> bool
+        ensures { result ≡ is_clean self.now }
+    {
+        self.broken.is_none()
+            && self.running.ledger.owed == 0
+            && !self.should_flush()
+            && !self.is_running()
+            && self.transaction_depth() == 0
+    }
+}
