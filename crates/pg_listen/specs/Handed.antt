@@ -1,0 +1,59 @@
+-- What threads see of a pool, and what it hands out.
+use Rattle.std.specs.Prelude.{ℕ, zero, suc, ◌≡◌, false, List, [], ◌∷◌, ◌++◌, Option, Some, None, Result, Ok, Err, IsSome}
+use Rattle.futures.specs.declared.task.Poll.{Poll}
+use Rattle.futures.specs.declared.task.Poll.TheVariants.{Ready, Pending}
+use Rattle.pg_wire.specs.declared.error.Error.{Error}
+use Rattle.pg_options.specs.Options.{ConnectOptions}
+use Rattle.pg_startup.specs.Establishing.{EstablishOf}
+use Rattle.pg_conn.specs.Connections.{ConnOf}
+use Rattle.pg_pool.specs.declared.handed.PoolConnection.{PoolConnection}
+use Rattle.pg_pool.specs.declared.handed.Ticket.{Ticket}
+use Rattle.pg_pool.specs.declared.seat.Receipt.{Receipt}
+use Rattle.pg_pool.specs.Seats.{SeatSeen}
+
+-- a pool's name, and how its connections are made
+pub record PoolSeen : Type 0 where
+  pub name : ℕ
+  pub options : ConnectOptions
+
+-- a connection that a pool handed out
+abbrev pub HeldOf : Type 0 → Type 0
+HeldOf A = PoolConnection (ConnOf A)
+
+-- leave to make one
+abbrev pub TicketSeen : Type 0
+TicketSeen = Ticket
+
+-- a start-up to a connection of a pool, and the leave to make it, until that is used
+pub record FillingOf (A : Type 0) : Type 0 where
+  pub startup : EstablishOf A
+  pub ticket : Option Ticket
+
+-- the leave is there until the start-up is over
+abbrev pub CanFill : {A : Type 0} → FillingOf A → Type 0
+CanFill f = f.startup.is_finished ≡ false → IsSome f.ticket
+
+-- the connection that was made with this leave
+abbrev pub filled : {A : Type 0} → Ticket → ConnOf A → HeldOf A
+filled t c = record { conn = c; id = t.id; name = t.name; close = false }
+
+-- what the start-up itself answers
+abbrev pub connection_of : {A : Type 0} → Poll (Result (HeldOf A) Error) → Poll (Result (ConnOf A) Error)
+connection_of Pending = Pending
+connection_of (Ready (Err e)) = Ready (Err e)
+connection_of (Ready (Ok held)) = Ready (Ok held.conn)
+
+-- the leave is used exactly where a connection is answered, which is of its id and its pool
+abbrev pub UsesLeave : {A : Type 0} → Option Ticket → Option Ticket → Poll (Result (HeldOf A) Error) → Type 0
+UsesLeave now new (Ready (Ok held)) = (now ≡ Some (record { id = held.id; name = held.name })) × (held.close ≡ false) × (new ≡ None)
+UsesLeave now new _ = new ≡ now
+
+-- a participant by its number, the name of its pool, its receipts and its ids
+abbrev pub told_seats : List SeatSeen → List (ℕ × ℕ × List Receipt × List ℕ)
+told_seats [] = []
+told_seats (s ∷ ss) = (s.number, s.name, s.receipts, s.ids) ∷ told_seats ss
+
+-- so many new ones, counted from 0
+abbrev pub new_seats : ℕ → ℕ → List (ℕ × ℕ × List Receipt × List ℕ)
+new_seats name zero = []
+new_seats name (suc n) = new_seats name n ++ (n, name, [], []) ∷ []

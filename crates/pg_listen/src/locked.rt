@@ -1,0 +1,158 @@
+ghost use Rattle.std.specs.Prelude.{◌≡◌, ◌<◌, ◌≤◌, [], ℕ, IfOk, IfErr, vec_len, vec_capacity};
+ghost use Rattle.pg_wire.specs.declared.error.Error.TheVariants.{OutOfMemory};
+ghost use Rattle.pg_wire.specs.declared.pool.PoolAct.TheVariants.{Close};
+ghost use Rattle.pg_conn.specs.Cleanliness.{is_clean};
+ghost use Rattle.pg_pool.specs.PoolHistory.{state_of};
+ghost use Rattle.pg_pool.specs.Sections.{Acquires, Releases, GivesBack, ClosedAt, IsAdded, IsLeft};
+ghost use Rattle.pg_pool.specs.Audits.{Audits};
+ghost use Rattle.pg_listen.specs.Pools.{IsPool, acquired_as, released_as};
+
+use crate::member::Member;
+use crate::{Acquired, PoolConnection, Released, Ticket};
+use pg_conn::PgConnection;
+use pg_pool::{PoolCore, PoolSeat};
+use pg_wire::Error;
+use std::alloc::Global;
+use std::marker::{Brand, Model};
+use std::sync::ledger::{Book, Ledger};
+
+/// A ledger of a pool: it counts the calls of the participants, and names the most connections that may be out or idle.
+pub trait PoolLedger: Ledger {
+    ghost most: { ℕ };
+}
+
+impl PoolLedger for Brand {
+    ghost most = { 0 };
+}
+
+// What lies under a pool's lock.
+pub(crate) struct Locked<G: PoolLedger, L> {
+    core: PoolCore<G, Member<L>>,
+}
+
+impl<G: PoolLedger, L: Drop> Drop for Locked<G, L> {
+    fn drop(self) {
+        let Locked { core: _ } = self;
+    }
+}
+
+impl<G: PoolLedger, L> Model for Locked<G, L> {
+    ghost use Rattle.std.specs.Prelude.{◌≡◌};
+    ghost use Rattle.pg_listen.specs.Pools.{CoreOf};
+
+    ghost Value = { CoreOf L };
+
+    ghost view = { λ p. p.core };
+
+    ghost invariant = { λ p. p.core.most ≡ G.most };
+}
+
+// The connections of these members, in room for them. It takes no memory.
+fn conns_of<L>(members: Vec<Member<L>>, room: Vec<PgConnection<L>>) -> Vec<PgConnection<L>>
+    requires none { room.items ≡ [] }
+    requires room { vec_len members ≤ vec_capacity room }
+    ensures { result.items ≡ members.items }
+{
+    let mut conns = room;
+    let mut rest = members.into_iter();
+    while let Some(member) = rest.next() {
+        conns.push_reserved(member.into_conn());
+    }
+    rest.destroy_empty();
+    conns
+}
+
+impl<G: PoolLedger, L> Locked<G, L> {
+    pub(crate) fn new(alloc: Global, most: u32, calls: Book<G>) -> Self
+        requires most { most ≡ G.most }
+        requires none { calls.total ≡ 0 }
+    {
+        Locked {
+            core: PoolCore::new(alloc, most, calls),
+        }
+    }
+
+    // What is known of it whenever the lock is taken.
+    pub(crate) fn promises(&self)
+        ensures { IsPool G.most self.now }
+    {
+        self.core.promises();
+    }
+
+    pub(crate) fn acquire(&mut self, seat: &mut PoolSeat<G>) -> Result<Acquired<L>, Error>
+        ensures { Acquires is_clean seat.old seat.new self.old self.new (acquired_as result) }
+    {
+        match self.core.acquire(seat) {
+            Ok(pg_pool::Acquired::Idle(held)) => Ok(Acquired::Idle(PoolConnection { held })),
+            Ok(pg_pool::Acquired::New(leave)) => Ok(Acquired::New(Ticket { leave })),
+            Err(e) => Err(e),
+        }
+    }
+
+    pub(crate) fn release(&mut self, held: PoolConnection<L>, seat: &mut PoolSeat<G>) -> Released<L>
+        ensures before { IsPool G.most self.old }
+        ensures after { IsPool G.most self.new }
+        ensures releases { Releases is_clean seat.old seat.new self.old self.new held (released_as result) }
+    {
+        self.promises();
+        let PoolConnection { held } = held;
+        let released = self.core.release(held, seat);
+        self.core.promises();
+        match released {
+            pg_pool::Released::Foreign(member) => Released::Foreign(member.into_conn()),
+            pg_pool::Released::Kept => Released::Kept,
+            pg_pool::Released::Closed(member) => Released::Closed(member.into_conn()),
+        }
+    }
+
+    pub(crate) fn give_back(&mut self, ticket: Ticket, seat: &mut PoolSeat<G>) -> bool
+        ensures { GivesBack seat.old seat.new self.old self.new ticket result }
+    {
+        let Ticket { leave } = ticket;
+        self.core.give_back(leave, seat)
+    }
+
+    pub(crate) fn close(
+        &mut self,
+        alloc: Global,
+        seat: &mut PoolSeat<G>,
+    ) -> Result<Vec<PgConnection<L>>, Error>
+        ensures before { IsPool G.most self.old }
+        ensures after { IsPool G.most self.new }
+        ensures ok { IfOk result (λ conns. (conns.items ≡ self.old.kept) × IsAdded seat.old seat.new self.old self.new Close seat.old.ids []) }
+        ensures err { IfErr result (λ e. (e ≡ OutOfMemory) × IsLeft seat.old seat.new self.old self.new) }
+    {
+        self.promises();
+        let room = Vec::with_capacity(alloc, self.core.idle_len())?;
+        let members = match self.core.close(alloc, seat) {
+            Ok(members) => members,
+            Err(e) => {
+                room.destroy_empty();
+                return Err(e);
+            }
+        };
+        self.core.promises();
+        Ok(conns_of(members, room))
+    }
+
+    pub(crate) fn closed_place(&mut self, seat: &mut PoolSeat<G>) -> Result<Option<u64>, Error>
+        ensures { ClosedAt seat.old seat.new self.old self.new result }
+    {
+        self.core.closed_place(seat)
+    }
+
+    pub(crate) fn is_closed(&self) -> bool
+        ensures { result ≡ (state_of self.now.history).closed }
+    {
+        self.core.is_closed()
+    }
+
+    pub(crate) fn audit(&mut self, seats: Vec<PoolSeat<G>>) -> Result<u64, Error>
+        requires all { vec_len seats ≡ G.parts }
+        requires some { 0 < vec_len seats }
+        ensures audits { Audits self.old.history seats.items result }
+        ensures same { self.new ≡ self.old }
+    {
+        self.core.audit(seats)
+    }
+}
