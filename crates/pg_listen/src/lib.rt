@@ -1,4 +1,4 @@
-//! Connections that threads share.
+//! A pool of connections under one lock.
 //!
 //! Begin with `PgPoolOptions`, which builds a `PgPool` and its participants, each a `PoolSeat`. What a pool hands out must be spent: a
 //! `PoolConnection` by `release`, and a `Ticket`, the leave to make a connection, by `establish` or `give_back`.

@@ -17,7 +17,7 @@ use std::alloc::Global;
 use std::marker::Model;
 use std::sync::{Mutex, Wait};
 
-/// Connections that threads share, up to a maximum, under one lock. Each thread has a `PoolSeat`, and shows it at each call.
+/// Connections up to a maximum, under one lock. Each participant has a `PoolSeat`, and shows it at each call.
 ///
 /// No call holds the lock while it waits for a server: the polls of a connection's calls take no runtime, so they can take no lock.
 pub struct PgPool<G: PoolLedger, L> {
