@@ -265,7 +265,7 @@ next_told x reply status next e = sym (same_Some (told_by x reply) next (next_is
 told_asks : (rule : Rule) (x : Extended) (how : How) (reply : List BackendMessage) → x.goal ≡ goals.Run how → x.statement ≡ 0 → asked_by rule (told_by x reply) ≡ requests.Run (bound_by how x reply)
 told_asks rule x how reply g n =
     ap (λ (m : ℕ). cond (nat_eq m 0) (request_behind (behind_goal x.goal (told (parameters_after [] reply) (Some (described reply)) x) (record { parameters = parameters_after [] reply; columns = Some (described reply) }) keepings.Stays))
-        (by_leaving (told (parameters_after [] reply) (Some (described reply)) x) (record { parameters = parameters_after [] reply; columns = Some (described reply) }) (option_map (λ (e : Entry). e.statement) (leaving rule)))) n
+    (by_leaving (told (parameters_after [] reply) (Some (described reply)) x) (record { parameters = parameters_after [] reply; columns = Some (described reply) }) (option_map (λ (e : Entry). e.statement) (leaving rule)))) n
     ∙ ap (λ (goal : Goal). request_behind (behind_goal goal (told (parameters_after [] reply) (Some (described reply)) x) (record { parameters = parameters_after [] reply; columns = Some (described reply) }) keepings.Stays)) g
 
 pub next_bound : (rule : Rule) (x : Extended) (how : How) (reply : List BackendMessage) (status : TransactionStatus) (next : Request) → x.goal ≡ goals.Run how → x.statement ≡ 0 → answer_by (requests.Describe x) reply status ≡ Ok (answers.Next next) → asked_by rule next ≡ requests.Run (bound_by how x reply)
