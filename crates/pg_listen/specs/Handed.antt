@@ -4,8 +4,8 @@ use Rattle.futures.specs.declared.task.Poll.{Poll}
 use Rattle.futures.specs.declared.task.Poll.TheVariants.{Ready, Pending}
 use Rattle.pg_wire.specs.declared.error.Error.{Error}
 use Rattle.pg_options.specs.Options.{ConnectOptions}
-use Rattle.pg_startup.specs.Establishing.{EstablishOf}
 use Rattle.pg_conn.specs.Connections.{ConnOf}
+use Rattle.pg_conn.specs.Connecting.{ConnectingOf}
 use Rattle.pg_pool.specs.declared.handed.PoolConnection.{PoolConnection}
 use Rattle.pg_pool.specs.declared.handed.Ticket.{Ticket}
 use Rattle.pg_pool.specs.declared.seat.Receipt.{Receipt}
@@ -26,12 +26,12 @@ TicketSeen = Ticket
 
 -- a start-up to a connection of a pool, and the leave to make it, until that is used
 pub record FillingOf (A : Type 0) : Type 0 where
-  pub startup : EstablishOf A
+  pub connecting : ConnectingOf A
   pub ticket : Option Ticket
 
 -- the leave is there until the start-up is over
 abbrev pub CanFill : {A : Type 0} → FillingOf A → Type 0
-CanFill f = f.startup.is_finished ≡ false → IsSome f.ticket
+CanFill f = f.connecting.startup.is_finished ≡ false → IsSome f.ticket
 
 -- the connection that was made with this leave
 abbrev pub filled : {A : Type 0} → Ticket → ConnOf A → HeldOf A

@@ -23,9 +23,9 @@ impl<L> Model for EstablishPooled<L> {
 
     ghost Value = { FillingOf L };
 
-    ghost view = { λ e. record { startup = e.startup; ticket = e.ticket } };
+    ghost view = { λ e. record { connecting = e.startup; ticket = e.ticket } };
 
-    ghost invariant = { λ e. CanFill (record { startup = e.startup; ticket = e.ticket }) };
+    ghost invariant = { λ e. CanFill (record { connecting = e.startup; ticket = e.ticket }) };
 }
 
 impl Ticket {
@@ -39,7 +39,8 @@ impl Ticket {
         link: L,
     ) -> Result<EstablishPooled<L>, (Error, Ticket, L)>
         requires { IsNonce nonce.now }
-        ensures ok { IfOk result (λ s. Begins options.now nonce.now (L.seen link).plan link s.startup × (s.ticket ≡ Some self)) }
+        ensures ok { IfOk result (λ s. Begins options.now nonce.now (L.seen link).plan link s.connecting.startup × (s.ticket ≡ Some self)) }
+        ensures capacity { IfOk result (λ s. s.connecting.capacity ≡ options.now.statement_cache_capacity) }
         ensures err { IfErr result (λ e. RefusesStart options.now (L.seen link).plan e.0 × (e.1 ≡ self) × (e.2 ≡ link)) }
     {
         match establish(alloc, options, nonce, link) {
@@ -55,7 +56,7 @@ impl Ticket {
 impl<L> EstablishPooled<L> {
     /// Whether a poll has answered.
     pub fn is_finished(&self) -> bool
-        ensures { result ≡ self.now.startup.is_finished }
+        ensures { result ≡ self.now.connecting.startup.is_finished }
     {
         self.startup.is_finished()
     }
@@ -76,10 +77,10 @@ impl<L: Link> EstablishPooled<L> {
     /// Moves the start-up on, within so many calls of the link, of which it takes off as many as it makes.
     pub fn poll_within(&mut self, left: &mut u16) -> Poll<Result<PoolConnection<L>, Error>>
         requires left { left.old ≤ 256 }
-        requires goes { self.old.startup.is_finished ≡ false }
+        requires goes { self.old.connecting.startup.is_finished ≡ false }
         ensures ticket { UsesLeave self.old.ticket self.new.ticket result }
-        ensures left { IsLeft self.new.startup result }
-        ensures polls { PollsConnect L.seen left.old left.new self.old.startup self.new.startup (connection_of result) }
+        ensures left { IsLeft self.new.connecting.startup result }
+        ensures polls { PollsConnect L.seen left.old left.new self.old.connecting self.new.connecting (connection_of result) }
     {
         match self.startup.poll_within(left) {
             Poll::Pending => Poll::Pending,
@@ -93,10 +94,10 @@ impl<L: Link> EstablishPooled<L> {
 
     /// Moves the start-up on, by at most 256 calls of the link.
     pub fn poll(&mut self) -> Poll<Result<PoolConnection<L>, Error>>
-        requires { self.old.startup.is_finished ≡ false }
+        requires { self.old.connecting.startup.is_finished ≡ false }
         ensures ticket { UsesLeave self.old.ticket self.new.ticket result }
-        ensures left { IsLeft self.new.startup result }
-        ensures polls { (left : ℕ) × PollsConnect L.seen 256 left self.old.startup self.new.startup (connection_of result) }
+        ensures left { IsLeft self.new.connecting.startup result }
+        ensures polls { (left : ℕ) × PollsConnect L.seen 256 left self.old.connecting self.new.connecting (connection_of result) }
     {
         let mut left = 256;
         self.poll_within(&mut left)

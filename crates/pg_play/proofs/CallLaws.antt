@@ -1,5 +1,5 @@
 -- One more poll of an exchange of a call that is played.
-use Rattle.std.proofs.Common.{◌≡◌, ◌≢◌, ◌⊎◌, ℕ, ◌+◌, ◌*◌, ◌<◌, ◌≤◌, inl, inr, cond, Bool, true, false, List, [], ◌∷◌, ◌++◌, length, map, refl, sym, ap, ◌∙◌, subst, arith, append_assoc, Option, Some, None, Ok, Err, not, ◌&&◌, nat_eq, Result, ◌-◌, ap₂, ◌==◌}
+use Rattle.std.proofs.Common.{◌≡◌, ◌≢◌, ◌⊎◌, ℕ, ◌+◌, ◌*◌, ◌<◌, ◌≤◌, inl, inr, cond, Bool, true, false, List, [], ◌∷◌, ◌++◌, length, map, refl, sym, ap, ◌∙◌, subst, arith, append_assoc, Option, Some, None, Ok, Err, not, ◌&&◌, nat_eq, Result, ◌-◌, ◌==◌}
 use Rattle.pg_rule.specs.Caches.{entry_at}
 use Rattle.pg_rule.specs.declared.cache.Entry.{Entry}
 use Rattle.pg_request.specs.Queries.{QueryText, ArgumentsSeen}
@@ -10,9 +10,8 @@ use Rattle.pg_call.specs.declared.statement.After.{After}
 use Rattle.pg_call.specs.declared.statement.Goal.TheVariants as goals
 use Rattle.pg_call.specs.declared.statement.Goal.{Goal}
 use Rattle.pg_call.specs.declared.kind.Keeping.TheVariants as keepings
-use Rattle.pg_call.specs.declared.kind.Keeping.{Keeping}
 use Rattle.pg_conn.proofs.StatementLaws.{asked_main}
-use Rattle.pg_conn.specs.Statements.{asked_by, begun_as, held_by, moved, number_for, query_by, run_or_describe, step_of, unmoved}
+use Rattle.pg_conn.specs.Statements.{asked_by, begun_as, held_by, moved, number_for, prepare_by, query_by, run_or_describe, step_of, tell_or_describe, unmoved}
 use Rattle.pg_call.specs.Drains.{drain_fails, before_readys}
 use Rattle.pg_call.specs.Hearing.{sent_answer}
 use Rattle.pg_wire.proofs.Tests.{both_true}
@@ -35,7 +34,7 @@ use Rattle.pg_wire.specs.declared.error.ServerFault.TheVariants as faults
 use Rattle.pg_wire.specs.Frame.{Frame}
 use Rattle.pg_wire.specs.Parts.{heard}
 use Rattle.pg_wire.specs.Frontend.{FrontendMessage}
-use Rattle.pg_wire.specs.Backend.{BackendMessage}
+use Rattle.pg_wire.specs.Backend.{BackendMessage, FieldDescription}
 use Rattle.pg_wire.proofs.PartLaws.{heard-append}
 use Rattle.pg_stream.specs.Links.{NoneFalls, GrewBy, LinkSeen}
 use Rattle.pg_stream.specs.Streams.{StreamSeen, Moves, Tallies, NoneWaited, PendingCause, HeardCause, fuel_of}
@@ -511,36 +510,6 @@ settled_is_cleaned m e g = ap (λ (c : Change). record m { rule = moved m.keepin
     cleaned_so : (d : ConnSeen) → restated m ≡ d → cleaned m ≡ record m { rule = moved m.keeping m.rule; cache = step_of m.keeping m.cache; change = changes.Stays; keeping = keepings.Stays }
     cleaned_so d k = ap (λ (b : Bool). ended (cond b (queued_group (spelled (rollback 0)) (restated m)) (restated m))) opens_none ∙ ap (λ (x : ConnSeen). ended x) restated_so
 
--- nothing is made of it where nothing is kept either
-settled_stays : (m : ConnSeen) → m.change ≡ changes.Stays → m.keeping ≡ keepings.Stays → settled m ≡ ended m
-settled_stays m e k =
-    ap (λ (c : Change). record m { rule = moved m.keeping (with_depth (depth_behind c m.groups m.rule.depth) m.rule); cache = step_of m.keeping m.cache; change = changes.Stays; keeping = keepings.Stays }) e
-    ∙ ap (λ (x : Keeping). record m { rule = moved x m.rule; cache = step_of x m.cache; change = changes.Stays; keeping = keepings.Stays }) k
-
-pub restated_stays : (m : ConnSeen) → m.keeping ≡ keepings.Stays → restated m ≡ m
-restated_stays m k = by (nat_eq m.groups 0)
-  where
-    by : (b : Bool) → cond b (record m { rule = unmoved m.keeping m.rule }) (record m { rule = moved m.keeping m.rule; cache = step_of m.keeping m.cache }) ≡ m
-    by true = ap (λ (x : Keeping). record m { rule = unmoved x m.rule }) k
-    by false = ap (λ (x : Keeping). record m { rule = moved x m.rule; cache = step_of x m.cache }) k
-
-cleaned_stays : (m : ConnSeen) → m.change ≡ changes.Stays → m.keeping ≡ keepings.Stays → cleaned m ≡ ended m
-cleaned_stays m e k =
-    ap (λ (c : Change). ended (cond (may_open c m.groups m.rule.depth) (queued_group (spelled (rollback 0)) (restated m)) (restated m))) e ∙ by (nat_eq m.groups 0) (nat_eq m.rule.depth 0) ∙ ap (λ (x : ConnSeen). ended x) (restated_stays m k)
-  where
-    by : (g d : Bool) → ended (cond (not g && (d && false)) (queued_group (spelled (rollback 0)) (restated m)) (restated m)) ≡ ended (restated m)
-    by true d = refl
-    by false true = refl
-    by false false = refl
-
-pub stays_behind : (end : End) (m : ConnSeen) → m.change ≡ changes.Stays → m.keeping ≡ keepings.Stays → behind_end end m ≡ m
-stays_behind end m e k = by end ∙ ap₂ (λ (c : Change) (x : Keeping). record m { change = c; keeping = x }) (sym e) (sym k)
-  where
-    by : (end : End) → behind_end end m ≡ ended m
-    by (ends.Ok answer) = settled_stays m e k
-    by (ends.Err x) = cleaned_stays m e k
-    by ends.Dropped = cleaned_stays m e k
-
 not_none : (n : ℕ) → 0 < n → nat_eq n 0 ≡ false
 not_none n l = by (nat_eq n 0) refl
   where
@@ -727,8 +696,11 @@ pub begun_changes : (rule : Rule) (r : Request) → IsWanted r → change_of (ma
 begun_changes rule (requests.Describe x) w = absurd w
 begun_changes rule (requests.Run bound) w = absurd w
 begun_changes rule (requests.Evict eviction) w = absurd w
-begun_changes rule (requests.Prepare prepared) w = absurd w
-begun_changes rule (requests.Clear statements) w = absurd w
+begun_changes rule (requests.Clear statements) w = by (nat_eq (length rule.cache.entries) 0)
+  where
+    by : (b : Bool) → change_of (main_kind (cond b requests.Flush (requests.Clear statements))) ≡ changes.Stays
+    by true = refl
+    by false = refl
 begun_changes rule _ w = refl
 
 -- nothing that a step asks is held
@@ -736,8 +708,11 @@ pub wanted_held : (rule : Rule) (r : Request) → IsWanted r → held_by rule (b
 wanted_held rule (requests.Describe x) w = absurd w
 wanted_held rule (requests.Run bound) w = absurd w
 wanted_held rule (requests.Evict eviction) w = absurd w
-wanted_held rule (requests.Prepare prepared) w = absurd w
-wanted_held rule (requests.Clear statements) w = absurd w
+wanted_held rule (requests.Clear statements) w = by (nat_eq (length rule.cache.entries) 0)
+  where
+    by : (b : Bool) → held_by rule (cond b requests.Flush (requests.Clear statements)) ≡ rule
+    by true = refl
+    by false = refl
 wanted_held rule _ w = refl
 
 -- nor anything of it, and what was not asked has used nothing
@@ -745,8 +720,16 @@ pub wanted_stays : (rule : Rule) (r : Request) → IsWanted r → unmoved (keepi
 wanted_stays rule (requests.Describe x) w = absurd w
 wanted_stays rule (requests.Run bound) w = absurd w
 wanted_stays rule (requests.Evict eviction) w = absurd w
-wanted_stays rule (requests.Prepare prepared) w = absurd w
-wanted_stays rule (requests.Clear statements) w = absurd w
+wanted_stays rule (requests.Prepare prepared) w = ap (λ (o : Option (List FieldDescription)). unmoved (keeping_of (prepare_by rule prepared o)) rule) w ∙ by (entry_at prepared.sql rule.cache.entries)
+  where
+    by : (o : Option Entry) → unmoved (keeping_of (tell_or_describe rule prepared o)) rule ≡ rule
+    by (Some e) = refl
+    by None = named_stays rule (nat_eq (number_for true rule) 0)
+wanted_stays rule (requests.Clear statements) w = by (nat_eq (length rule.cache.entries) 0)
+  where
+    by : (b : Bool) → unmoved (keeping_of (asked_by rule (cond b requests.Flush (requests.Clear statements)))) (held_by rule (cond b requests.Flush (requests.Clear statements))) ≡ rule
+    by true = refl
+    by false = refl
 wanted_stays rule (requests.Execute query) w = query_stays rule hows.Execute query query.arguments
 wanted_stays rule (requests.ExecuteMany query) w = query_stays rule hows.ExecuteMany query query.arguments
 wanted_stays rule (requests.Fetch query) w = query_stays rule hows.Fetch query query.arguments

@@ -168,7 +168,7 @@ called_exchange start first old at a b step shown end said fs st later fits p z 
     }
 
 -- an exchange whose call stands behind it, once the connection has settled its end
-unfoldable pub exchanged : (start : StreamSeen) (at mid next : Place) (d : ConnSeen) (step : Step) (told out : Outcome) (one : Plays_call at step told mid) → IsNeverUnlawful at told mid → WaitPlaces at told mid → NoneFalls at.seen.link mid.seen.link → Settles at step told out one.own mid next → StandsAt start next d → Plays_exchange at step out next
+unfoldable pub exchanged : (start : StreamSeen) (at mid next : Place) (d : ConnSeen) (step : Step) (told out : Outcome) (one : Plays_call at step told mid) → IsNeverUnlawful at told mid → WaitPlaces at told mid → NoneFalls at.seen.link mid.seen.link → Settles at step told out one.own one.told.response mid next → StandsAt start next d → Plays_exchange at step out next
 exchanged start at mid next d step told out one lawful waits counts s stands = record {
   told = told;
   ended_at = mid;

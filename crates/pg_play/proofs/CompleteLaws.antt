@@ -31,6 +31,7 @@ use Rattle.pg_play.specs.Places.{Place}
 use Rattle.pg_play.specs.Causes.{IsAskedToCopy, Causes, IsDropped, HasCause}
 use Rattle.pg_play.specs.Complete.{IsFaultless, IsFairError, WasCutShort, IsFairEnd, EndFairly, WhereFaultless}
 use Rattle.pg_script.specs.declared.step.Call.{Call}
+use Rattle.pg_rule.specs.declared.rule.Rule.{Rule}
 use Rattle.pg_play.proofs.ExchangeLaws.{IsOf, first_is_of, next_is_of, wants_so}
 use Rattle.pg_play.specs.Plays.{Plays_call, Plays_exchange, Plays_exchanges, last_of, FirstIs, Hands, HandsOn, Plays_step, Plays_from, AsksForNoCopy}
 use Rattle.pg_play.proofs.CauseLaws.{copies_begin}
@@ -177,19 +178,19 @@ exchange_fair first at whole step out next last part g a one l e k =
 abbrev AreOf : Call → List Step → Type 0
 AreOf call steps = AllByRecursion (λ step. IsOf call step.call) steps
 
-are_of : (call : Call) (at : Place) (steps : List Step) (outs : List Outcome) (last : Place) (run : Plays_exchanges at steps outs last) (first : Step) (response : List BackendMessage) (end : End) → IsOf call first.call → Hands first end response steps → HandsOn at steps outs last run → AreOf call steps
-are_of call at [] outs last run first response end of h k = tt
-are_of call at (s ∷ steps) [] last run first response end of h k = absurd run
-are_of call at (s ∷ steps) (o ∷ outs) last run first response end of h k =
-    let mine = next_is_of call first.call s.call response of h.1 in
-    (mine, are_of call run.0 steps outs last run.2 s run.1.call.told.response o.end mine k.0 k.1)
+are_of : (call : Call) (at : Place) (steps : List Step) (outs : List Outcome) (last : Place) (run : Plays_exchanges at steps outs last) (rule : Rule) (first : Step) (response : List BackendMessage) (end : End) → IsOf call first.call → Hands rule first end response steps → HandsOn at steps outs last run → AreOf call steps
+are_of call at [] outs last run rule first response end of h k = tt
+are_of call at (s ∷ steps) [] last run rule first response end of h k = absurd run
+are_of call at (s ∷ steps) (o ∷ outs) last run rule first response end of h k =
+    let mine = next_is_of rule call first.call s.call response of h.1 in
+    (mine, are_of call run.0 steps outs last run.2 run.0.rule s run.1.call.told.response o.end mine k.0 k.1)
 
-all_are_of : (step : Step) (at : Place) (steps : List Step) (outs : List Outcome) (last : Place) (run : Plays_exchanges at steps outs last) → FirstIs step steps → HandsOn at steps outs last run → AreOf step.call steps
+all_are_of : (step : Step) (at : Place) (steps : List Step) (outs : List Outcome) (last : Place) (run : Plays_exchanges at steps outs last) → FirstIs at.rule step steps → HandsOn at steps outs last run → AreOf step.call steps
 all_are_of step at [] outs last run f k = tt
 all_are_of step at (s ∷ steps) [] last run f k = absurd run
 all_are_of step at (s ∷ steps) (o ∷ outs) last run f k =
-    let mine = subst (IsOf step.call) (sym (ap (λ (x : Step). x.call) f)) (first_is_of step.call) in
-    (mine, are_of step.call run.0 steps outs last run.2 s run.1.call.told.response o.end mine k.0 k.1)
+    let mine = subst (IsOf step.call) (sym (ap (λ (x : Step). x.call) f)) (first_is_of at.rule step.call) in
+    (mine, are_of step.call run.0 steps outs last run.2 run.0.rule s run.1.call.told.response o.end mine k.0 k.1)
 
 fair_in : (first : LinkSeen) (call : Call) (before : Outcome) (at : Place) (steps : List Step) (outs : List Outcome) (next last : Place) → Holds first last → NoneFalls first at.seen.link → Plays_exchanges at steps outs next → LeadsTo next last → AreOf call steps
     → ((e : Error) → before.end ≡ ends.Err e → IsFairError call e) → (e : Error) → (last_of before outs).end ≡ ends.Err e → IsFairError call e
@@ -203,8 +204,8 @@ fair_in first call before at (s ∷ steps) (o ∷ outs) next last g a run l part
 step_fair : (first : LinkSeen) (at : Place) (step : Step) (out : Outcome) (next last : Place) → Holds first last → NoneFalls first at.seen.link → (one : Plays_step at step out next) → LeadsTo next last → IsFairEnd step out out.end
 step_fair first at step out next last g a one l = by out.end refl
   where
-    error_at : (xs : List Step) (ys : List Outcome) → Plays_exchanges at xs ys next → FirstIs step xs → AreOf step.call xs → (e : Error) → (last_of out ys).end ≡ ends.Err e → IsFairError step.call e
-    error_at [] ys run f parts e k = absurd (some_first step f)
+    error_at : (xs : List Step) (ys : List Outcome) → Plays_exchanges at xs ys next → FirstIs at.rule step xs → AreOf step.call xs → (e : Error) → (last_of out ys).end ≡ ends.Err e → IsFairError step.call e
+    error_at [] ys run f parts e k = absurd (some_first at.rule step f)
     error_at (x ∷ xs) [] run f parts e k = absurd run
     error_at (x ∷ xs) (y ∷ ys) run f parts e k = fair_in first step.call y run.0 xs ys next last g (NoneFalls-then first at.seen.link run.0.seen.link a run.1.counts) run.2 l parts.1 (λ z h. exchange_fair first at step.call x y run.0 last parts.0 g a run.1 (leads_in run.0 xs ys next last run.2 l) z h) e k
 

@@ -1,5 +1,5 @@
 -- Ends of a step that are due.
-use Rattle.std.proofs.Common.{◌≡◌, ◌≢◌, ℕ, zero, suc, ◌^◌, ◌≤◌, ◌<◌, Bool, true, false, ◌&&◌, ◌⊎◌, inl, inr, List, [], ◌++◌, length, map, refl, sym, ap, ◌∙◌, subst, arith, append-nil, Option, Some, None}
+use Rattle.std.proofs.Common.{◌≡◌, ◌≢◌, ℕ, zero, suc, ◌^◌, ◌≤◌, ◌<◌, Bool, true, false, ◌&&◌, ◌⊎◌, inl, inr, List, [], ◌++◌, length, map, refl, sym, ap, ap₂, ◌∙◌, subst, arith, append-nil, Option, Some, None}
 use Rattle.std.specs.List.{count_by}
 use Rattle.std.proofs.lemmas.List.{length-map, nil_from_length}
 use Rattle.pg_wire.specs.declared.error.Error.TheVariants as errors
@@ -30,7 +30,7 @@ use Rattle.pg_script.specs.declared.step.Step.{Step}
 use Rattle.pg_play.specs.declared.tally.Limits.{Limits}
 use Rattle.pg_play.specs.Shown.{request_of, waits_to_show, item_of}
 use Rattle.pg_play.specs.Calls.{WaitsFew, HasWaitedFew, StaysIdle, EndsOn, Ended, IsUnpolled, limits_of, HandedOn, untouched, outcome_of, broken_after, begun_call, all_groups}
-use Rattle.pg_play.specs.Places.{Place, ended, owed, refuses_copy}
+use Rattle.pg_play.specs.Places.{Place, ended, owed, is_fine, refuses_copy}
 use Rattle.pg_play.specs.Causes.{AnsweredPending, IsDropped, StaysAt, EndsDuly, OpensSavepoint}
 use Rattle.pg_play.specs.Plays.{StandsAt}
 use Rattle.pg_play.proofs.StepLaws.{Summary, QueuedOwn}
@@ -215,29 +215,37 @@ duly_handed start at stop a m step r next out st n o h flush few most = record {
   most = most;
 }
 
--- the groups that an end makes are counted, and nothing else is told otherwise
-untouched_out : (raw out : Outcome) (end : End) → out ≡ record raw { groups = out.groups } → (raw.groups ≡ 0 → out.groups ≡ 0) → raw ≡ untouched end → out ≡ untouched end
-untouched_out raw out end e g k = e ∙ ap (λ (n : ℕ). record raw { groups = n }) (g (ap (λ (x : Outcome). x.groups) k)) ∙ ap (λ (x : Outcome). record x { groups = 0 }) k
+-- what an end makes is told beside what its call did: the groups that it counts, and what became of the statements
+abbrev Adds : Outcome → Outcome → Type 0
+Adds raw out = (out.groups ≡ 0) × (out.cache ≡ raw.cache)
 
-pub duly_out : (at : Place) (step : Step) (r : Request) (raw out : Outcome) (stop : Place) → out ≡ record raw { groups = out.groups } → (raw.groups ≡ 0 → out.groups ≡ 0) → EndsDuly at step r raw stop → EndsDuly at step r out stop
-duly_out at step r raw out stop e g d = record {
-  savepoint = λ n o. let x = d.savepoint n o in (untouched_out raw out (ends.Err errors.InvalidSavePointStatement) e g x.0, x.1);
-  unpolled = λ u. let x = d.unpolled u in (untouched_out raw out ends.Dropped e g x.0, x.1);
+untouched_out : (raw out : Outcome) (end : End) → out ≡ record raw { groups = out.groups; cache = out.cache } → Adds raw out → raw ≡ untouched end → out ≡ untouched end
+untouched_out raw out end e g k =
+    e ∙ ap₂ (λ (n : ℕ) (s : CacheStep). record raw { groups = n; cache = s }) g.0 (g.1 ∙ ap (λ (x : Outcome). x.cache) k) ∙ ap (λ (x : Outcome). record x { groups = 0; cache = cache.Same }) k
+
+-- where a call did nothing, its end adds nothing, unless it is Ok; and a flush adds nothing
+pub duly_out : (at : Place) (step : Step) (r : Request) (raw out : Outcome) (stop : Place) → out ≡ record raw { groups = out.groups; cache = out.cache } → (raw.groups ≡ 0 → is_fine raw.end ≡ false → Adds raw out) → (raw.groups ≡ 0 → step.call ≡ calls.Flush → Adds raw out) → EndsDuly at step r raw stop → EndsDuly at step r out stop
+duly_out at step r raw out stop e g f d = record {
+  savepoint = λ n o. let x = d.savepoint n o in (other (ends.Err errors.InvalidSavePointStatement) refl x.0, x.1);
+  unpolled = λ u. let x = d.unpolled u in (other ends.Dropped refl x.0, x.1);
   kept = λ fault w n o.
       let x = d.kept fault w n o in (
         elim x.0 [
-          | inl k ↦ inl (untouched_out raw out (ends.Err (errors.Protocol (protocol.Server fault))) e g k)
-          | inr k ↦ inr (untouched_out raw out (ends.Err errors.OutOfMemory) e g k)
+          | inl k ↦ inl (other (ends.Err (errors.Protocol (protocol.Server fault))) refl k)
+          | inr k ↦ inr (other (ends.Err errors.OutOfMemory) refl k)
         ],
         x.1,
       );
-  refused = λ w n o u. let x = d.refused w n o u in (x.0, x.1, untouched_out raw out (ends.Err x.0) e g x.2, x.3);
-  flushed = λ w n c o u. let x = d.flushed w n c o u in (untouched_out raw out (ends.Ok AnswersUnit) e g x.0, x.1);
+  refused = λ w n o u. let x = d.refused w n o u in (x.0, x.1, other (ends.Err x.0) refl x.2, x.3);
+  flushed = λ w n c o u. let x = d.flushed w n c o u in (untouched_out raw out (ends.Ok AnswersUnit) e (f (ap (λ (y : Outcome). y.groups) x.0) c) x.0, x.1);
   few = subst (λ (x : Outcome). (pending : ℕ) × AnsweredPending x pending × WaitsFew step.polls pending x.end) (sym e) d.few;
   most = λ w. subst (λ (x : Outcome). WithinMost x.end x.items step.most) (sym e) (d.most w);
 }
+  where
+    other : (end : End) → is_fine end ≡ false → raw ≡ untouched end → out ≡ untouched end
+    other end n k = untouched_out raw out end e (g (ap (λ (y : Outcome). y.groups) k) (ap (λ (y : Outcome). is_fine y.end) k ∙ n)) k
 
-pub dropped_out : (at : Place) (step : Step) (raw out : Outcome) (stop : Place) → out ≡ record raw { groups = out.groups } → IsDropped at step raw stop → IsDropped at step out stop
+pub dropped_out : (at : Place) (step : Step) (raw out : Outcome) (stop : Place) → out ≡ record raw { groups = out.groups; cache = out.cache } → IsDropped at step raw stop → IsDropped at step out stop
 dropped_out at step raw out stop e d = subst (λ (x : Outcome). IsDropped at step x stop) (sym e) d
 
 -- where exchanges lie behind one another, what starved the last of them starved from the first on

@@ -1,103 +1,155 @@
 -- The exchanges of a call.
-use Rattle.std.proofs.Common.{◌≡◌, ◌⊎◌, ℕ, zero, suc, nat_eq, Bool, true, false, not, cond, ◌&&◌, ◌||◌, List, [], length, subst, refl, sym, ap, ◌∙◌, Option, Some, None, is_some, option_map, unwrap_or, Ok, inl, inr}
+use Rattle.std.proofs.Common.{◌≡◌, ◌⊎◌, ℕ, zero, suc, nat_eq, Bool, true, false, cond, List, [], length, subst, refl, sym, ap, ◌∙◌, Option, Some, None, option_map, Ok, inl, inr}
 use Rattle.std.proofs.lemmas.Option.{same_Some}
 use Rattle.pg_wire.specs.declared.status.TransactionStatus.{TransactionStatus}
-use Rattle.pg_wire.specs.Backend.{BackendMessage}
-use Rattle.pg_request.specs.Queries.{QueryText, ArgumentsSeen}
+use Rattle.pg_wire.specs.Backend.{BackendMessage, FieldDescription}
 use Rattle.pg_exchanges.specs.Answering.{described}
+use Rattle.pg_request.specs.Queries.{QueryText, ArgumentsSeen}
+use Rattle.pg_request.specs.declared.preparation.Preparation.{Preparation}
 use Rattle.pg_call.specs.declared.kind.How.{How}
 use Rattle.pg_call.specs.declared.kind.How.TheVariants as hows
 use Rattle.pg_call.specs.declared.kind.Kind.TheVariants as kinds
+use Rattle.pg_call.specs.declared.kind.Keeping.{Keeping}
+use Rattle.pg_call.specs.declared.kind.Keeping.TheVariants as keepings
 use Rattle.pg_call.specs.declared.statement.Extended.{Extended}
-use Rattle.pg_call.specs.declared.statement.Bound.{Bound}
+use Rattle.pg_call.specs.declared.statement.Described.{Described}
+use Rattle.pg_call.specs.declared.statement.Eviction.{Eviction}
+use Rattle.pg_call.specs.declared.statement.After.{After}
+use Rattle.pg_call.specs.declared.statement.After.TheVariants as afters
 use Rattle.pg_call.specs.declared.request.Request.{Request}
 use Rattle.pg_call.specs.declared.request.Request.TheVariants as requests
 use Rattle.pg_call.specs.declared.answer.CallAnswer.TheVariants as answers
-use Rattle.pg_call.specs.declared.kind.Keeping.TheVariants as keepings
 use Rattle.pg_call.specs.declared.statement.Goal.{Goal}
 use Rattle.pg_call.specs.declared.statement.Goal.TheVariants as goals
-use Rattle.pg_call.specs.Requests.{behind_goal, kind_of, keeping_of, named_keeping, request_behind, told, widths_of, groups_of}
+use Rattle.pg_call.specs.Requests.{kind_of, groups_of, request_behind, behind_goal}
 use Rattle.pg_call.specs.Items.{parameters_after}
 use Rattle.pg_rule.specs.declared.cache.Entry.{Entry}
 use Rattle.pg_rule.specs.declared.rule.Rule.{Rule}
 use Rattle.pg_rule.specs.Caches.{entry_at}
-use Rattle.pg_rule.specs.Rules.{holding, number_left}
-use Rattle.pg_conn.specs.Statements.{asked_by, begun_as, by_leaving, describe, entry_of, held_by, is_named, leaving, query_by, run_or_describe}
+use Rattle.pg_rule.specs.Rules.{holding}
+use Rattle.pg_conn.specs.Statements.{asked_by, begun_as, by_leaving, entry_of, held_by, leaving, prepare_by, query_by, run_or_describe, tell_or_describe}
+use Rattle.pg_conn.specs.States.{to_prepare}
 use Rattle.pg_call.specs.Calls.{answer_by}
 use Rattle.pg_script.specs.declared.step.Call.{Call}
 use Rattle.pg_script.specs.declared.step.Call.TheVariants as calls
 use Rattle.pg_call.proofs.FitLaws.{next_is, hands_on_described}
-use Rattle.pg_play.specs.Shown.{request_of, asked_of, first_as, first_call, next_call, run_behind, IsPartOf, how_of, IsWanted, waits_how, waits_to_show, wants_row, wants_how, acts_at_once, begins, begins_with}
+use Rattle.pg_play.specs.Shown.{request_of, asked_of, first_as, first_call, next_call, handed_by, exchange_for, IsPartOf, how_of, IsWanted, waits_how, waits_to_show, wants_row, wants_how, acts_at_once, begins, begins_with}
 use Rattle.pg_play.specs.Calls.{IsLast}
-use Rattle.pg_play.specs.Plays.{KeepsNone}
+
+-- ---- what an exchange stands for
+
+-- what is asked of the server, or tells of a statement, is an exchange that asks just that
+abbrev pub IsExchange : Request → Type 0
+IsExchange (requests.Describe x) = Unit {0}
+IsExchange (requests.Run bound) = Unit {0}
+IsExchange (requests.Evict eviction) = Unit {0}
+IsExchange (requests.Prepare prepared) = Unit {0}
+IsExchange (requests.Clear statements) = Unit {0}
+IsExchange requests.Flush = Unit {0}
+IsExchange _ = ⊥
+
+pub exchange_asks : (d : ℕ) (r : Request) → IsExchange r → request_of d (exchange_for r) ≡ r
+exchange_asks d (requests.Describe x) h = refl
+exchange_asks d (requests.Run bound) h = refl
+exchange_asks d (requests.Evict eviction) h = refl
+exchange_asks d (requests.Prepare prepared) h = refl
+exchange_asks d (requests.Clear statements) h = refl
+exchange_asks d requests.Flush h = refl
+exchange_asks d _ h = absurd h
+
+-- it is polled, and opens nothing
+pub exchange_polled : (r : Request) → (acts_at_once (exchange_for r) ≡ false) × (begins (exchange_for r) ≡ false) × (begins_with (exchange_for r) ≡ false)
+exchange_polled (requests.Describe x) = (refl, refl, refl)
+exchange_polled (requests.Run bound) = (refl, refl, refl)
+exchange_polled (requests.Evict eviction) = (refl, refl, refl)
+exchange_polled (requests.Prepare prepared) = (refl, refl, refl)
+exchange_polled (requests.Clear statements) = (refl, refl, refl)
+exchange_polled _ = (refl, refl, refl)
+
+run_exchange : (rule : Rule) (how : How) (sql : List ℕ) (arguments : ArgumentsSeen) (persistent : Bool) (o : Option Entry) → IsExchange (run_or_describe rule how sql arguments persistent o)
+run_exchange rule how sql arguments persistent (Some e) = tt
+run_exchange rule how sql arguments persistent None = tt
+
+prepared_exchange : (rule : Rule) (p : Preparation) → IsExchange (asked_by rule (to_prepare p))
+prepared_exchange rule p = by (entry_at p.sql rule.cache.entries)
+  where
+    by : (o : Option Entry) → IsExchange (tell_or_describe rule (record { sql = p.sql; parameters = p.types; columns = None; keeping = keepings.Stays }) o)
+    by (Some e) = tt
+    by None = tt
+
+cleared_exchange : (rule : Rule) → IsExchange (asked_by rule (begun_as rule (requests.Clear [])))
+cleared_exchange rule = by (nat_eq (length rule.cache.entries) 0)
+  where
+    by : (b : Bool) → IsExchange (asked_by rule (cond b requests.Flush (requests.Clear [])))
+    by true = tt
+    by false = tt
 
 -- ---- the first exchange
 
-and_false : (b : Bool) → b && false ≡ false
-and_false true = refl
-and_false false = refl
-
--- what is described where nothing may be kept has no name
-describes_unnamed : (rule : Rule) → KeepsNone rule → (goal : Goal) (sql : List ℕ) (arguments : ArgumentsSeen) (persistent : Bool) → describe goal sql arguments persistent rule ≡ requests.Describe (record { goal = goal; statement = 0; is_numbered = true; sql = sql; arguments = arguments; described = None })
-describes_unnamed rule k goal sql arguments persistent =
-    let unnamed : is_named persistent rule ≡ false = ap (λ (n : ℕ). persistent && not (nat_eq n 0)) k.0 ∙ and_false persistent in
-    ap (λ (b : Bool). requests.Describe (record { goal = goal; statement = cond b (unwrap_or (number_left rule) 4294967295) 0; is_numbered = not b || is_some (number_left rule); sql = sql; arguments = arguments; described = None })) unnamed
-
--- and nothing of a text is found there
-first_by_request : (rule : Rule) → KeepsNone rule → (d : ℕ) (how : How) (query : QueryText) (o : Option ArgumentsSeen) (call : Call) (r : Request) → request_of d call ≡ r → request_of d (first_as how query o call) ≡ query_by rule how query o r
-first_by_request rule k d how query None call r e = e
-first_by_request rule k d how query (Some arguments) call r e =
-    sym (ap (λ (es : List Entry). run_or_describe rule how query.sql arguments query.persistent (entry_at query.sql es)) k.1 ∙ describes_unnamed rule k (goals.Run how) query.sql arguments query.persistent)
+first_by_request : (rule : Rule) (d : ℕ) (how : How) (query : QueryText) (o : Option ArgumentsSeen) (call : Call) (r : Request) → request_of d call ≡ r → request_of d (first_as rule how query o call) ≡ query_by rule how query o r
+first_by_request rule d how query None call r e = e
+first_by_request rule d how query (Some arguments) call r e =
+    let o = entry_at query.sql rule.cache.entries in
+    exchange_asks d (run_or_describe rule how query.sql arguments query.persistent o) (run_exchange rule how query.sql arguments query.persistent o)
 
 -- it asks what the connection asks first
-pub first_request : (rule : Rule) → KeepsNone rule → (d : ℕ) (call : Call) → request_of d (first_call call) ≡ asked_by rule (begun_as rule (asked_of d call))
-first_request rule k d (calls.Execute query) = first_by_request rule k d hows.Execute query query.arguments (calls.Execute query) (requests.Execute query) refl
-first_request rule k d (calls.ExecuteMany query) = first_by_request rule k d hows.ExecuteMany query query.arguments (calls.ExecuteMany query) (requests.ExecuteMany query) refl
-first_request rule k d (calls.Fetch query) = first_by_request rule k d hows.Fetch query query.arguments (calls.Fetch query) (requests.Fetch query) refl
-first_request rule k d (calls.FetchMany query) = first_by_request rule k d hows.FetchMany query query.arguments (calls.FetchMany query) (requests.FetchMany query) refl
-first_request rule k d (calls.FetchAll query) = first_by_request rule k d hows.FetchAll query query.arguments (calls.FetchAll query) (requests.FetchAll query) refl
-first_request rule k d (calls.FetchOptional query) = first_by_request rule k d hows.FetchOptional query query.arguments (calls.FetchOptional query) (requests.FetchOptional query) refl
-first_request rule k d (calls.FetchOne query) = first_by_request rule k d hows.FetchOne query query.arguments (calls.FetchOne query) (requests.FetchOne query) refl
-first_request rule k d calls.Ping = refl
-first_request rule k d calls.Flush = refl
-first_request rule k d calls.Begin = refl
-first_request rule k d (calls.BeginWith query) = refl
-first_request rule k zero calls.Commit = refl
-first_request rule k (suc left) calls.Commit = refl
-first_request rule k zero calls.Rollback = refl
-first_request rule k (suc left) calls.Rollback = refl
-first_request rule k d calls.StartRollback = refl
-first_request rule k d (calls.Describe extended) = refl
-first_request rule k d (calls.Run bound) = refl
+pub first_request : (rule : Rule) (d : ℕ) (call : Call) → request_of d (first_call rule call) ≡ asked_by rule (begun_as rule (asked_of d call))
+first_request rule d (calls.Execute query) = first_by_request rule d hows.Execute query query.arguments (calls.Execute query) (requests.Execute query) refl
+first_request rule d (calls.ExecuteMany query) = first_by_request rule d hows.ExecuteMany query query.arguments (calls.ExecuteMany query) (requests.ExecuteMany query) refl
+first_request rule d (calls.Fetch query) = first_by_request rule d hows.Fetch query query.arguments (calls.Fetch query) (requests.Fetch query) refl
+first_request rule d (calls.FetchMany query) = first_by_request rule d hows.FetchMany query query.arguments (calls.FetchMany query) (requests.FetchMany query) refl
+first_request rule d (calls.FetchAll query) = first_by_request rule d hows.FetchAll query query.arguments (calls.FetchAll query) (requests.FetchAll query) refl
+first_request rule d (calls.FetchOptional query) = first_by_request rule d hows.FetchOptional query query.arguments (calls.FetchOptional query) (requests.FetchOptional query) refl
+first_request rule d (calls.FetchOne query) = first_by_request rule d hows.FetchOne query query.arguments (calls.FetchOne query) (requests.FetchOne query) refl
+first_request rule d calls.Ping = refl
+first_request rule d calls.Flush = refl
+first_request rule d calls.Begin = refl
+first_request rule d (calls.BeginWith query) = refl
+first_request rule zero calls.Commit = refl
+first_request rule (suc left) calls.Commit = refl
+first_request rule zero calls.Rollback = refl
+first_request rule (suc left) calls.Rollback = refl
+first_request rule d calls.StartRollback = refl
+first_request rule d (calls.Prepare p) = exchange_asks d (asked_by rule (to_prepare p)) (prepared_exchange rule p)
+first_request rule d calls.Clear = exchange_asks d (asked_by rule (begun_as rule (requests.Clear []))) (cleared_exchange rule)
+first_request rule d _ = refl
 
 pub asked_wanted : (d : ℕ) (call : Call) → IsWanted (asked_of d call)
 asked_wanted zero calls.Commit = tt
 asked_wanted (suc left) calls.Commit = tt
 asked_wanted zero calls.Rollback = tt
 asked_wanted (suc left) calls.Rollback = tt
+asked_wanted d (calls.Prepare p) = refl
 asked_wanted d _ = tt
 
 -- What is neither a query nor an exchange alone stays what it is. So what is false of these is true of the first exchange where it is of the call.
-kept_by : (f : Call → Bool) (how : How) (query : QueryText) (o : Option ArgumentsSeen) (call : Call) → ((x : Extended) → f (calls.Describe x) ≡ false) → f call ≡ false → f (first_as how query o call) ≡ f call
-kept_by f how query None call x e = refl
-kept_by f how query (Some arguments) call x e = x (record { goal = goals.Run how; statement = 0; is_numbered = true; sql = query.sql; arguments = arguments; described = None }) ∙ sym e
-
-record FalseOfQueries (f : Call → Bool) : Type 0 where
+record FalseOfExchanges (f : Call → Bool) : Type 0 where
   queries : (call : Call) (how : How) → how_of call ≡ Some how → f call ≡ false
-  described : (x : Extended) → f (calls.Describe x) ≡ false
-  flushed : f calls.Flush ≡ false
+  exchanges : (r : Request) → f (exchange_for r) ≡ false
+  prepares : (p : Preparation) → f (calls.Prepare p) ≡ false
+  clears : f calls.Clear ≡ false
+  evicts : (e : Eviction) → f (calls.Evict e) ≡ false
 
-kept_first : (f : Call → Bool) → FalseOfQueries f → (call : Call) → f (first_call call) ≡ f call
-kept_first f n (calls.Execute query) = kept_by f hows.Execute query query.arguments (calls.Execute query) n.described (n.queries (calls.Execute query) hows.Execute refl)
-kept_first f n (calls.ExecuteMany query) = kept_by f hows.ExecuteMany query query.arguments (calls.ExecuteMany query) n.described (n.queries (calls.ExecuteMany query) hows.ExecuteMany refl)
-kept_first f n (calls.Fetch query) = kept_by f hows.Fetch query query.arguments (calls.Fetch query) n.described (n.queries (calls.Fetch query) hows.Fetch refl)
-kept_first f n (calls.FetchMany query) = kept_by f hows.FetchMany query query.arguments (calls.FetchMany query) n.described (n.queries (calls.FetchMany query) hows.FetchMany refl)
-kept_first f n (calls.FetchAll query) = kept_by f hows.FetchAll query query.arguments (calls.FetchAll query) n.described (n.queries (calls.FetchAll query) hows.FetchAll refl)
-kept_first f n (calls.FetchOptional query) = kept_by f hows.FetchOptional query query.arguments (calls.FetchOptional query) n.described (n.queries (calls.FetchOptional query) hows.FetchOptional refl)
-kept_first f n (calls.FetchOne query) = kept_by f hows.FetchOne query query.arguments (calls.FetchOne query) n.described (n.queries (calls.FetchOne query) hows.FetchOne refl)
-kept_first f n (calls.Describe x) = n.flushed ∙ sym (n.described x)
-kept_first f n (calls.Run bound) = n.flushed ∙ sym (n.queries (calls.Run bound) bound.how refl)
-kept_first f n _ = refl
+kept_by : (f : Call → Bool) (rule : Rule) (how : How) (query : QueryText) (o : Option ArgumentsSeen) (call : Call) → FalseOfExchanges f → how_of call ≡ Some how → f (first_as rule how query o call) ≡ f call
+kept_by f rule how query None call n h = refl
+kept_by f rule how query (Some arguments) call n h = n.exchanges (run_or_describe rule how query.sql arguments query.persistent (entry_at query.sql rule.cache.entries)) ∙ sym (n.queries call how h)
+
+kept_first : (f : Call → Bool) → FalseOfExchanges f → (rule : Rule) (call : Call) → f (first_call rule call) ≡ f call
+kept_first f n rule (calls.Execute query) = kept_by f rule hows.Execute query query.arguments (calls.Execute query) n refl
+kept_first f n rule (calls.ExecuteMany query) = kept_by f rule hows.ExecuteMany query query.arguments (calls.ExecuteMany query) n refl
+kept_first f n rule (calls.Fetch query) = kept_by f rule hows.Fetch query query.arguments (calls.Fetch query) n refl
+kept_first f n rule (calls.FetchMany query) = kept_by f rule hows.FetchMany query query.arguments (calls.FetchMany query) n refl
+kept_first f n rule (calls.FetchAll query) = kept_by f rule hows.FetchAll query query.arguments (calls.FetchAll query) n refl
+kept_first f n rule (calls.FetchOptional query) = kept_by f rule hows.FetchOptional query query.arguments (calls.FetchOptional query) n refl
+kept_first f n rule (calls.FetchOne query) = kept_by f rule hows.FetchOne query query.arguments (calls.FetchOne query) n refl
+kept_first f n rule (calls.Prepare p) = n.exchanges (asked_by rule (to_prepare p)) ∙ sym (n.prepares p)
+kept_first f n rule calls.Clear = n.exchanges (asked_by rule (begun_as rule (requests.Clear []))) ∙ sym n.clears
+kept_first f n rule (calls.Describe x) = n.exchanges requests.Flush ∙ sym (n.exchanges (requests.Describe x))
+kept_first f n rule (calls.Run bound) = n.exchanges requests.Flush ∙ sym (n.exchanges (requests.Run bound))
+kept_first f n rule (calls.Evict eviction) = n.exchanges requests.Flush ∙ sym (n.exchanges (requests.Evict eviction))
+kept_first f n rule (calls.Tell prepared) = n.exchanges requests.Flush ∙ sym (n.exchanges (requests.Prepare prepared))
+kept_first f n rule (calls.CloseAll statements) = n.exchanges requests.Flush ∙ sym (n.exchanges (requests.Clear statements))
+kept_first f n rule _ = refl
 
 acts_none : (call : Call) (how : How) → how_of call ≡ Some how → acts_at_once call ≡ false
 acts_none calls.StartRollback how e = absurd cc
@@ -112,48 +164,73 @@ begins_with_none : (call : Call) (how : How) → how_of call ≡ Some how → be
 begins_with_none (calls.BeginWith query) how e = absurd cc
 begins_with_none _ how e = refl
 
-pub first_acts : (call : Call) → acts_at_once (first_call call) ≡ acts_at_once call
-first_acts call = kept_first acts_at_once (record { queries = acts_none; described = λ x. refl; flushed = refl }) call
+pub first_acts : (rule : Rule) (call : Call) → acts_at_once (first_call rule call) ≡ acts_at_once call
+first_acts rule call = kept_first acts_at_once (record { queries = acts_none; exchanges = λ r. (exchange_polled r).0; prepares = λ p. refl; clears = refl; evicts = λ e. refl }) rule call
 
-first_begins : (call : Call) → begins (first_call call) ≡ begins call
-first_begins call = kept_first begins (record { queries = begins_none; described = λ x. refl; flushed = refl }) call
+first_begins : (rule : Rule) (call : Call) → begins (first_call rule call) ≡ begins call
+first_begins rule call = kept_first begins (record { queries = begins_none; exchanges = λ r. (exchange_polled r).1; prepares = λ p. refl; clears = refl; evicts = λ e. refl }) rule call
 
-pub first_begins_with : (call : Call) → begins_with (first_call call) ≡ begins_with call
-first_begins_with call = kept_first begins_with (record { queries = begins_with_none; described = λ x. refl; flushed = refl }) call
+pub first_begins_with : (rule : Rule) (call : Call) → begins_with (first_call rule call) ≡ begins_with call
+first_begins_with rule call = kept_first begins_with (record { queries = begins_with_none; exchanges = λ r. (exchange_polled r).2; prepares = λ p. refl; clears = refl; evicts = λ e. refl }) rule call
 
 -- how the query is run that an exchange is of
 abbrev goal_how : Goal → Option How
 goal_how (goals.Run how) = Some how
 goal_how goals.Prepare = None
 
+abbrev after_how : After → Option How
+after_how (afters.Run bound) = Some bound.how
+after_how (afters.Prepare prepared) = None
+
 abbrev pub runs_how : Call → Option How
 runs_how (calls.Describe x) = goal_how x.goal
+runs_how (calls.Evict eviction) = after_how eviction.after
 runs_how call = how_of call
 
-how_by : (how : How) (query : QueryText) (o : Option ArgumentsSeen) (call : Call) → runs_how call ≡ Some how → runs_how (first_as how query o call) ≡ Some how
-how_by how query None call e = e
-how_by how query (Some arguments) call e = refl
+how_by : (rule : Rule) (how : How) (query : QueryText) (o : Option ArgumentsSeen) (call : Call) → runs_how call ≡ Some how → runs_how (first_as rule how query o call) ≡ Some how
+how_by rule how query None call e = e
+how_by rule how query (Some arguments) call e = by (entry_at query.sql rule.cache.entries)
+  where
+    by : (o : Option Entry) → runs_how (exchange_for (run_or_describe rule how query.sql arguments query.persistent o)) ≡ Some how
+    by (Some e) = refl
+    by None = refl
+
+tells_how : (rule : Rule) (p : Preparation) → runs_how (exchange_for (asked_by rule (to_prepare p))) ≡ None
+tells_how rule p = by (entry_at p.sql rule.cache.entries)
+  where
+    by : (o : Option Entry) → runs_how (exchange_for (tell_or_describe rule (record { sql = p.sql; parameters = p.types; columns = None; keeping = keepings.Stays }) o)) ≡ None
+    by (Some e) = refl
+    by None = refl
+
+clears_how : (rule : Rule) → runs_how (exchange_for (asked_by rule (begun_as rule (requests.Clear [])))) ≡ None
+clears_how rule = by (nat_eq (length rule.cache.entries) 0)
+  where
+    by : (b : Bool) → runs_how (exchange_for (asked_by rule (cond b requests.Flush (requests.Clear [])))) ≡ None
+    by true = refl
+    by false = refl
 
 -- its first exchange is of that query, or of none
-first_how : (call : Call) → (runs_how (first_call call) ≡ how_of call) ⊎ (runs_how (first_call call) ≡ None)
-first_how (calls.Execute query) = inl (how_by hows.Execute query query.arguments (calls.Execute query) refl)
-first_how (calls.ExecuteMany query) = inl (how_by hows.ExecuteMany query query.arguments (calls.ExecuteMany query) refl)
-first_how (calls.Fetch query) = inl (how_by hows.Fetch query query.arguments (calls.Fetch query) refl)
-first_how (calls.FetchMany query) = inl (how_by hows.FetchMany query query.arguments (calls.FetchMany query) refl)
-first_how (calls.FetchAll query) = inl (how_by hows.FetchAll query query.arguments (calls.FetchAll query) refl)
-first_how (calls.FetchOptional query) = inl (how_by hows.FetchOptional query query.arguments (calls.FetchOptional query) refl)
-first_how (calls.FetchOne query) = inl (how_by hows.FetchOne query query.arguments (calls.FetchOne query) refl)
-first_how _ = inr refl
+first_how : (rule : Rule) (call : Call) → (runs_how (first_call rule call) ≡ how_of call) ⊎ (runs_how (first_call rule call) ≡ None)
+first_how rule (calls.Execute query) = inl (how_by rule hows.Execute query query.arguments (calls.Execute query) refl)
+first_how rule (calls.ExecuteMany query) = inl (how_by rule hows.ExecuteMany query query.arguments (calls.ExecuteMany query) refl)
+first_how rule (calls.Fetch query) = inl (how_by rule hows.Fetch query query.arguments (calls.Fetch query) refl)
+first_how rule (calls.FetchMany query) = inl (how_by rule hows.FetchMany query query.arguments (calls.FetchMany query) refl)
+first_how rule (calls.FetchAll query) = inl (how_by rule hows.FetchAll query query.arguments (calls.FetchAll query) refl)
+first_how rule (calls.FetchOptional query) = inl (how_by rule hows.FetchOptional query query.arguments (calls.FetchOptional query) refl)
+first_how rule (calls.FetchOne query) = inl (how_by rule hows.FetchOne query query.arguments (calls.FetchOne query) refl)
+first_how rule (calls.Prepare p) = inr (tells_how rule p)
+first_how rule calls.Clear = inr (clears_how rule)
+first_how rule _ = inr refl
 
 -- so what shows its items as they come has a first exchange that does, and what wants no row one that wants none
-pub first_waits : (call : Call) → waits_to_show call ≡ false → waits_how (runs_how (first_call call)) ≡ false
-first_waits call w = elim (first_how call) [
+pub first_waits : (rule : Rule) (call : Call) → waits_to_show call ≡ false → waits_how (runs_how (first_call rule call)) ≡ false
+first_waits rule call w = elim (first_how rule call) [
   | inl e ↦ ap waits_how e ∙ w
   | inr e ↦ ap waits_how e
 ]
 
-first_wants : (call : Call) → wants_how (runs_how (first_call call)) ≡ true → wants_row call ≡ true
-first_wants call w = elim (first_how call) [
+first_wants : (rule : Rule) (call : Call) → wants_how (runs_how (first_call rule call)) ≡ true → wants_row call ≡ true
+first_wants rule call w = elim (first_how rule call) [
   | inl e ↦ ap wants_how (sym e) ∙ w
   | inr e ↦ let x = ap wants_how (sym e) ∙ w in absurd cc
 ]
@@ -161,163 +238,184 @@ first_wants call w = elim (first_how call) [
 -- an exchange that shows items, or wants a row, is of a query that does
 pub shows_how : (call : Call) → waits_how (runs_how call) ≡ false → waits_to_show call ≡ false
 shows_how (calls.Describe x) w = refl
+shows_how (calls.Evict eviction) w = refl
 shows_how _ w = w
 
 pub wants_so : (call : Call) → wants_row call ≡ true → wants_how (runs_how call) ≡ true
 wants_so (calls.Describe x) w = absurd cc
+wants_so (calls.Evict eviction) w = absurd cc
 wants_so _ w = w
-
-widths_by : (d : ℕ) (how : How) (query : QueryText) (o : Option ArgumentsSeen) (call : Call) → widths_of (request_of d call) ≡ [] → widths_of (request_of d (first_as how query o call)) ≡ []
-widths_by d how query None call w = w
-widths_by d how query (Some arguments) call w = refl
-
--- no columns are known before it
-pub first_widths : (d : ℕ) (call : Call) → widths_of (request_of d (first_call call)) ≡ []
-first_widths d (calls.Execute query) = widths_by d hows.Execute query query.arguments (calls.Execute query) refl
-first_widths d (calls.ExecuteMany query) = widths_by d hows.ExecuteMany query query.arguments (calls.ExecuteMany query) refl
-first_widths d (calls.Fetch query) = widths_by d hows.Fetch query query.arguments (calls.Fetch query) refl
-first_widths d (calls.FetchMany query) = widths_by d hows.FetchMany query query.arguments (calls.FetchMany query) refl
-first_widths d (calls.FetchAll query) = widths_by d hows.FetchAll query query.arguments (calls.FetchAll query) refl
-first_widths d (calls.FetchOptional query) = widths_by d hows.FetchOptional query query.arguments (calls.FetchOptional query) refl
-first_widths d (calls.FetchOne query) = widths_by d hows.FetchOne query query.arguments (calls.FetchOne query) refl
-first_widths d calls.Ping = refl
-first_widths d calls.Flush = refl
-first_widths d calls.Begin = refl
-first_widths d (calls.BeginWith query) = refl
-first_widths zero calls.Commit = refl
-first_widths (suc left) calls.Commit = refl
-first_widths zero calls.Rollback = refl
-first_widths (suc left) calls.Rollback = refl
-first_widths d calls.StartRollback = refl
-first_widths d (calls.Describe extended) = refl
-first_widths d (calls.Run bound) = refl
 
 -- ---- the one behind it
 
--- what is no description hands on nothing
-pub last_next : (d : ℕ) (call : Call) (response : List BackendMessage) → IsLast (request_of d call) → next_call call response ≡ None
-last_next d (calls.Describe extended) response l = absurd (l refl)
-last_next d _ response l = refl
+-- what describes and closes nothing hands on nothing
+pub last_next : (rule : Rule) (d : ℕ) (call : Call) (response : List BackendMessage) → IsLast (request_of d call) → next_call rule call response ≡ None
+last_next rule d (calls.Describe extended) response l = absurd (l refl)
+last_next rule d (calls.Evict eviction) response l = absurd (l refl)
+last_next rule d _ response l = refl
 
--- what is a description asks so
-pub describes : (d : ℕ) (call : Call) → kind_of (request_of d call) ≡ kinds.Describe → (x : Extended) × (call ≡ calls.Describe x)
-describes d (calls.Describe x) k = (x, refl)
-describes d (calls.Execute query) k = absurd cc
-describes d (calls.ExecuteMany query) k = absurd cc
-describes d (calls.Fetch query) k = absurd cc
-describes d (calls.FetchMany query) k = absurd cc
-describes d (calls.FetchAll query) k = absurd cc
-describes d (calls.FetchOptional query) k = absurd cc
-describes d (calls.FetchOne query) k = absurd cc
-describes d calls.Ping k = absurd cc
-describes d calls.Flush k = absurd cc
-describes d calls.Begin k = absurd cc
-describes d (calls.BeginWith query) k = absurd cc
-describes zero calls.Commit k = absurd cc
-describes (suc left) calls.Commit k = absurd cc
-describes zero calls.Rollback k = absurd cc
-describes (suc left) calls.Rollback k = absurd cc
-describes d calls.StartRollback k = absurd cc
-describes d (calls.Run bound) k = absurd cc
+-- what hands on describes a statement, or closes one
+pub hands_by : (d : ℕ) (call : Call) → kind_of (request_of d call) ≡ kinds.Describe → ((x : Extended) × (call ≡ calls.Describe x)) ⊎ ((e : Eviction) × (call ≡ calls.Evict e))
+hands_by d (calls.Describe x) k = inl (x, refl)
+hands_by d (calls.Evict e) k = inr (e, refl)
+hands_by zero calls.Commit k = absurd cc
+hands_by (suc left) calls.Commit k = absurd cc
+hands_by zero calls.Rollback k = absurd cc
+hands_by (suc left) calls.Rollback k = absurd cc
+hands_by d _ k = absurd cc
 
--- what runs behind a description whose columns were described
-abbrev pub bound_by : How → Extended → List BackendMessage → Bound
-bound_by how x reply = record { how = how; statement = x.statement; arguments = x.arguments; columns = Some (described reply); keeping = keepings.Stays }
+-- so what it hands on is what was to be asked next
+pub handed_so : (d : ℕ) (call : Call) (reply : List BackendMessage) (status : TransactionStatus) (next : Request) → answer_by (request_of d call) reply status ≡ Ok (answers.Next next) → handed_by call reply ≡ Some next
+handed_so d call reply status next e = by call (hands_by d call (hands_on_described (request_of d call) reply status next e)) e
+  where
+    by : (call : Call) → ((x : Extended) × (call ≡ calls.Describe x)) ⊎ ((v : Eviction) × (call ≡ calls.Evict v)) → answer_by (request_of d call) reply status ≡ Ok (answers.Next next) → handed_by call reply ≡ Some next
+    by call (inl (x, is)) e =
+        let k = subst (λ (c : Call). answer_by (request_of d c) reply status ≡ Ok (answers.Next next)) is e in
+        ap (λ (c : Call). handed_by c reply) is ∙ (next_is (requests.Describe x) reply status next k).1
+    by call (inr (v, is)) e =
+        let k = subst (λ (c : Call). answer_by (request_of d c) reply status ≡ Ok (answers.Next next)) is e in
+        ap (λ (c : Call). handed_by c reply) is ∙ (next_is (requests.Evict v) reply status next k).1
 
--- an exchange of a session that keeps nothing: what is described is run, and has no name
-abbrev pub IsPlain : Call → Type 0
-IsPlain (calls.Describe x) = (how : How) × (x.goal ≡ goals.Run how) × (x.statement ≡ 0)
-IsPlain (calls.Run bound) = bound.keeping ≡ keepings.Stays
-IsPlain _ = Unit {0}
+-- ---- what comes behind
 
-plain_by : (how : How) (query : QueryText) (o : Option ArgumentsSeen) (call : Call) → IsPlain call → IsPlain (first_as how query o call)
-plain_by how query None call p = p
-plain_by how query (Some arguments) call p = (how, refl, refl)
-
-pub first_plain : (call : Call) → IsPlain (first_call call)
-first_plain (calls.Execute query) = plain_by hows.Execute query query.arguments (calls.Execute query) tt
-first_plain (calls.ExecuteMany query) = plain_by hows.ExecuteMany query query.arguments (calls.ExecuteMany query) tt
-first_plain (calls.Fetch query) = plain_by hows.Fetch query query.arguments (calls.Fetch query) tt
-first_plain (calls.FetchMany query) = plain_by hows.FetchMany query query.arguments (calls.FetchMany query) tt
-first_plain (calls.FetchAll query) = plain_by hows.FetchAll query query.arguments (calls.FetchAll query) tt
-first_plain (calls.FetchOptional query) = plain_by hows.FetchOptional query query.arguments (calls.FetchOptional query) tt
-first_plain (calls.FetchOne query) = plain_by hows.FetchOne query query.arguments (calls.FetchOne query) tt
-first_plain _ = tt
-
--- it makes nothing of the statements
-pub plain_stays : (d : ℕ) (call : Call) → IsPlain call → keeping_of (request_of d call) ≡ keepings.Stays
-plain_stays d (calls.Describe x) p = ap (λ (n : ℕ). named_keeping n) p.2
-plain_stays d (calls.Run bound) p = p
-plain_stays zero calls.Commit p = refl
-plain_stays (suc left) calls.Commit p = refl
-plain_stays zero calls.Rollback p = refl
-plain_stays (suc left) calls.Rollback p = refl
-plain_stays d _ p = refl
+behind_exchange : (a : After) → IsExchange (request_behind a)
+behind_exchange (afters.Run bound) = tt
+behind_exchange (afters.Prepare prepared) = tt
 
 -- what a description hands on
 abbrev pub told_by : Extended → List BackendMessage → Request
-told_by x reply = requests.Describe (told (parameters_after [] reply) (Some (described reply)) x)
+told_by x reply = requests.Describe (record x { described = Some (record { parameters = parameters_after [] reply; columns = Some (described reply) }) })
 
-next_told : (x : Extended) (reply : List BackendMessage) (status : TransactionStatus) (next : Request) → answer_by (requests.Describe x) reply status ≡ Ok (answers.Next next) → next ≡ told_by x reply
-next_told x reply status next e = sym (same_Some (told_by x reply) next (next_is (requests.Describe x) reply status next e).1)
+told_exchange : (rule : Rule) (x : Extended) (d : Described) → IsExchange (asked_by rule (requests.Describe (record x { described = Some d })))
+told_exchange rule x d = by (nat_eq x.statement 0) (option_map (λ (e : Entry). e.statement) (leaving rule))
+  where
+    told : Extended
+    told = record x { described = Some d }
 
--- and what is asked then
-told_asks : (rule : Rule) (x : Extended) (how : How) (reply : List BackendMessage) → x.goal ≡ goals.Run how → x.statement ≡ 0 → asked_by rule (told_by x reply) ≡ requests.Run (bound_by how x reply)
-told_asks rule x how reply g n =
-    ap (λ (m : ℕ). cond (nat_eq m 0) (request_behind (behind_goal x.goal (told (parameters_after [] reply) (Some (described reply)) x) (record { parameters = parameters_after [] reply; columns = Some (described reply) }) keepings.Stays))
-    (by_leaving (told (parameters_after [] reply) (Some (described reply)) x) (record { parameters = parameters_after [] reply; columns = Some (described reply) }) (option_map (λ (e : Entry). e.statement) (leaving rule)))) n
-    ∙ ap (λ (goal : Goal). request_behind (behind_goal goal (told (parameters_after [] reply) (Some (described reply)) x) (record { parameters = parameters_after [] reply; columns = Some (described reply) }) keepings.Stays)) g
+    closes : (o : Option ℕ) → IsExchange (by_leaving told d o)
+    closes (Some statement) = tt
+    closes None = behind_exchange (behind_goal x.goal told d keepings.Puts)
 
-pub next_bound : (rule : Rule) (x : Extended) (how : How) (reply : List BackendMessage) (status : TransactionStatus) (next : Request) → x.goal ≡ goals.Run how → x.statement ≡ 0 → answer_by (requests.Describe x) reply status ≡ Ok (answers.Next next) → asked_by rule next ≡ requests.Run (bound_by how x reply)
-next_bound rule x how reply status next g n e = ap (asked_by rule) (next_told x reply status next e) ∙ told_asks rule x how reply g n
+    by : (b : Bool) (o : Option ℕ) → IsExchange (cond b (request_behind (behind_goal x.goal told d keepings.Stays)) (by_leaving told d o))
+    by true o = behind_exchange (behind_goal x.goal told d keepings.Stays)
+    by false o = closes o
 
--- What comes behind an exchange of one group asks what was handed on, wherever it begins, and is polled. Nothing is held for it.
+after_exchange : (rule : Rule) (a : After) → IsExchange (asked_by rule (request_behind a))
+after_exchange rule (afters.Run bound) = tt
+after_exchange rule (afters.Prepare prepared) = by prepared.columns
+  where
+    by : (o : Option (List FieldDescription)) → IsExchange (prepare_by rule prepared o)
+    by (Some columns) = tt
+    by None = tells (entry_at prepared.sql rule.cache.entries)
+      where
+        tells : (o : Option Entry) → IsExchange (tell_or_describe rule prepared o)
+        tells (Some e) = tt
+        tells None = tt
+
+-- what is held for it changes nothing of what is asked
+told_held : (rule : Rule) (x : Extended) (d : Described) → asked_by (held_by rule (requests.Describe (record x { described = Some d }))) (requests.Describe (record x { described = Some d })) ≡ asked_by rule (requests.Describe (record x { described = Some d }))
+told_held rule x d = by (nat_eq x.statement 0)
+  where
+    told : Extended
+    told = record x { described = Some d }
+
+    by : (b : Bool) → asked_by (cond b rule (holding (entry_of told d) rule)) (requests.Describe told) ≡ asked_by rule (requests.Describe told)
+    by true = refl
+    by false = refl
+
+after_held : (rule : Rule) (a : After) → asked_by (held_by rule (request_behind a)) (request_behind a) ≡ asked_by rule (request_behind a)
+after_held rule (afters.Run bound) = refl
+after_held rule (afters.Prepare prepared) = refl
+
+-- what was handed on is an exchange, by what is known before it and behind it
+record HandsSo (rule : Rule) (next : Request) : Type 0 where
+  stands : IsExchange (asked_by rule next)
+  same : asked_by (held_by rule next) next ≡ asked_by rule next
+
+hands_so : (rule : Rule) (call : Call) (reply : List BackendMessage) (next : Request) → handed_by call reply ≡ Some next → HandsSo rule next
+hands_so rule (calls.Describe x) reply next e =
+    let d : Described = record { parameters = parameters_after [] reply; columns = Some (described reply) } in
+    subst (HandsSo rule) (same_Some (requests.Describe (record x { described = Some d })) next e) (record { stands = told_exchange rule x d; same = told_held rule x d })
+hands_so rule (calls.Evict v) reply next e = subst (HandsSo rule) (same_Some (request_behind v.after) next e) (record { stands = after_exchange rule v.after; same = after_held rule v.after })
+hands_so rule _ reply next e = absurd cc
+
+-- What comes behind an exchange of one group asks what was handed on, wherever it begins, and is polled.
 pub record NextIs (rule : Rule) (d : ℕ) (call : Call) (reply : List BackendMessage) (next : Request) : Type 0 where
+  pub handed : handed_by call reply ≡ Some next
   pub part : Call
-  pub comes : next_call call reply ≡ Some part
+  pub is : part ≡ exchange_for (asked_by rule next)
+  pub comes : next_call (held_by rule next) call reply ≡ Some part
   pub asks : (depth : ℕ) → request_of depth part ≡ asked_by rule next
   pub polled : acts_at_once part ≡ false
-  pub plain : IsPlain part
-  pub holds : held_by rule next ≡ rule
   pub one : length (groups_of (request_of d call)) ≡ 1
 
-pub what_is_next : (rule : Rule) (d : ℕ) (call : Call) (reply : List BackendMessage) (status : TransactionStatus) (next : Request) → IsPlain call → answer_by (request_of d call) reply status ≡ Ok (answers.Next next) → NextIs rule d call reply next
-what_is_next rule d call reply status next p e =
-    let is = describes d call (hands_on_described (request_of d call) reply status next e) in
-    subst (λ (y : Call). NextIs rule d y reply next) (sym is.1) (described_next is.0 (subst IsPlain is.1 p) (subst (λ (y : Call). answer_by (request_of d y) reply status ≡ Ok (answers.Next next)) is.1 e))
-  where
-    described_next : (x : Extended) → IsPlain (calls.Describe x) → answer_by (requests.Describe x) reply status ≡ Ok (answers.Next next) → NextIs rule d (calls.Describe x) reply next
-    described_next x q k = record {
-      part = calls.Run (bound_by q.0 x reply);
-      comes = ap (λ (goal : Goal). run_behind goal x reply) q.1;
-      asks = λ depth. sym (next_bound rule x q.0 reply status next q.1 q.2 k);
-      polled = refl;
-      plain = refl;
-      holds = ap (held_by rule) (next_told x reply status next k) ∙ ap (λ (n : ℕ). cond (nat_eq n 0) rule (holding (entry_of (told (parameters_after [] reply) (Some (described reply)) x) (record { parameters = parameters_after [] reply; columns = Some (described reply) })) rule)) q.2;
-      one = refl;
+pub what_is_next : (rule : Rule) (d : ℕ) (call : Call) (reply : List BackendMessage) (status : TransactionStatus) (next : Request) → answer_by (request_of d call) reply status ≡ Ok (answers.Next next) → NextIs rule d call reply next
+what_is_next rule d call reply status next e =
+    let handed = handed_so d call reply status next e in
+    let so = hands_so rule call reply next handed in
+    record {
+      handed = handed;
+      part = exchange_for (asked_by rule next);
+      is = refl;
+      comes = ap (λ (o : Option Request). option_map (λ (r : Request). exchange_for (asked_by (held_by rule next) r)) o) handed ∙ ap (λ (r : Request). Some (exchange_for r)) so.same;
+      asks = λ depth. exchange_asks depth (asked_by rule next) so.stands;
+      polled = (exchange_polled (asked_by rule next)).0;
+      one = one_group call (hands_by d call (hands_on_described (request_of d call) reply status next e));
     }
+  where
+    one_group : (call : Call) → ((x : Extended) × (call ≡ calls.Describe x)) ⊎ ((v : Eviction) × (call ≡ calls.Evict v)) → length (groups_of (request_of d call)) ≡ 1
+    one_group call (inl (x, is)) = ap (λ (c : Call). length (groups_of (request_of d c))) is
+    one_group call (inr (v, is)) = ap (λ (c : Call). length (groups_of (request_of d c))) is
 
 -- it is of the same query, and opens nothing
-run_next : (goal : Goal) (x : Extended) (response : List BackendMessage) (part : Call) → run_behind goal x response ≡ Some part → (how : How) × (goal ≡ goals.Run how) × (calls.Run (bound_by how x response) ≡ part)
-run_next (goals.Run how) x response part e = (how, refl, same_Some _ part e)
-run_next goals.Prepare x response part e = absurd cc
+goal_behind : (goal : Goal) (x : Extended) (d : Described) (keeping : Keeping) → runs_how (exchange_for (request_behind (behind_goal goal x d keeping))) ≡ goal_how goal
+goal_behind (goals.Run how) x d keeping = refl
+goal_behind goals.Prepare x d keeping = refl
 
-pub next_how : (call : Call) (response : List BackendMessage) (part : Call) → next_call call response ≡ Some part → runs_how part ≡ runs_how call
-next_how (calls.Describe x) response part e =
-    let is = run_next x.goal x response part e in
-    ap runs_how (sym is.2) ∙ ap (λ (goal : Goal). goal_how goal) (sym is.1)
-next_how _ response part e = absurd cc
+after_goal : (goal : Goal) (x : Extended) (d : Described) (keeping : Keeping) → after_how (behind_goal goal x d keeping) ≡ goal_how goal
+after_goal (goals.Run how) x d keeping = refl
+after_goal goals.Prepare x d keeping = refl
 
-next_begins : (call : Call) (response : List BackendMessage) (part : Call) → next_call call response ≡ Some part → (begins part ≡ false) × (begins_with part ≡ false)
-next_begins (calls.Describe x) response part e =
-    let is = run_next x.goal x response part e in
-    (ap begins (sym is.2), ap begins_with (sym is.2))
-next_begins _ response part e = absurd cc
+told_how : (rule : Rule) (x : Extended) (d : Described) → runs_how (exchange_for (asked_by rule (requests.Describe (record x { described = Some d })))) ≡ goal_how x.goal
+told_how rule x d = by (nat_eq x.statement 0) (option_map (λ (e : Entry). e.statement) (leaving rule))
+  where
+    told : Extended
+    told = record x { described = Some d }
 
--- and the last one
-next_ends : (call : Call) (told response : List BackendMessage) (part : Call) → next_call call told ≡ Some part → next_call part response ≡ None
-next_ends (calls.Describe x) told response part e = ap (λ (y : Call). next_call y response) (sym (run_next x.goal x told part e).2)
-next_ends _ told response part e = absurd cc
+    closes : (o : Option ℕ) → runs_how (exchange_for (by_leaving told d o)) ≡ goal_how x.goal
+    closes (Some statement) = after_goal x.goal told d keepings.Stays
+    closes None = goal_behind x.goal told d keepings.Puts
+
+    by : (b : Bool) (o : Option ℕ) → runs_how (exchange_for (cond b (request_behind (behind_goal x.goal told d keepings.Stays)) (by_leaving told d o))) ≡ goal_how x.goal
+    by true o = goal_behind x.goal told d keepings.Stays
+    by false o = closes o
+
+evicted_how : (rule : Rule) (a : After) → runs_how (exchange_for (asked_by rule (request_behind a))) ≡ after_how a
+evicted_how rule (afters.Run bound) = refl
+evicted_how rule (afters.Prepare prepared) = by prepared.columns
+  where
+    by : (o : Option (List FieldDescription)) → runs_how (exchange_for (prepare_by rule prepared o)) ≡ None
+    by (Some columns) = refl
+    by None = tells (entry_at prepared.sql rule.cache.entries)
+      where
+        tells : (o : Option Entry) → runs_how (exchange_for (tell_or_describe rule prepared o)) ≡ None
+        tells (Some e) = refl
+        tells None = refl
+
+pub next_how : (rule : Rule) (call : Call) (response : List BackendMessage) (part : Call) → next_call rule call response ≡ Some part → runs_how part ≡ runs_how call
+next_how rule (calls.Describe x) response part e = ap runs_how (sym (same_Some _ part e)) ∙ told_how rule x (record { parameters = parameters_after [] response; columns = Some (described response) })
+next_how rule (calls.Evict v) response part e = ap runs_how (sym (same_Some _ part e)) ∙ evicted_how rule v.after
+next_how rule _ response part e = absurd cc
+
+some_next : (rule : Rule) (o : Option Request) (part : Call) → option_map (λ (r : Request). exchange_for (asked_by rule r)) o ≡ Some part → (r : Request) × (exchange_for r ≡ part)
+some_next rule None part e = absurd cc
+some_next rule (Some r) part e = (asked_by rule r, same_Some (exchange_for (asked_by rule r)) part e)
+
+next_begins : (rule : Rule) (call : Call) (response : List BackendMessage) (part : Call) → next_call rule call response ≡ Some part → (begins part ≡ false) × (begins_with part ≡ false)
+next_begins rule call response part e =
+    let is = some_next rule (handed_by call response) part e in
+    let so = exchange_polled is.0 in
+    (ap begins (sym is.1) ∙ so.1, ap begins_with (sym is.1) ∙ so.2)
 
 -- ---- what is so of an exchange is so of its call
 
@@ -327,24 +425,20 @@ pub record IsOf (call part : Call) : Type 0 where
   pub opens_with : begins_with part ≡ true → begins_with call ≡ true
   pub wants : wants_how (runs_how part) ≡ true → wants_row call ≡ true
 
-pub first_is_of : (call : Call) → IsOf call (first_call call)
-first_is_of call = record {
-  is_part = inl refl;
-  opens = λ b. sym (first_begins call) ∙ b;
-  opens_with = λ b. sym (first_begins_with call) ∙ b;
-  wants = first_wants call;
+pub first_is_of : (rule : Rule) (call : Call) → IsOf call (first_call rule call)
+first_is_of rule call = record {
+  is_part = (0, (rule, refl));
+  opens = λ b. sym (first_begins rule call) ∙ b;
+  opens_with = λ b. sym (first_begins_with rule call) ∙ b;
+  wants = first_wants rule call;
 }
 
-next_is_part : (call part next : Call) (response : List BackendMessage) → IsPartOf call part → next_call part response ≡ Some next → IsPartOf call next
-next_is_part call part next response (inl e) k = inr (response, ap (λ (y : Call). next_call y response) (sym e) ∙ k)
-next_is_part call part next response (inr (told, e)) k = let x = sym (next_ends (first_call call) told response part e) ∙ k in absurd cc
-
-pub next_is_of : (call part next : Call) (response : List BackendMessage) → IsOf call part → next_call part response ≡ Some next → IsOf call next
-next_is_of call part next response of k =
-    let none = next_begins part response next k in
+pub next_is_of : (rule : Rule) (call part next : Call) (response : List BackendMessage) → IsOf call part → next_call rule part response ≡ Some next → IsOf call next
+next_is_of rule call part next response of k =
+    let none = next_begins rule part response next k in
     record {
-      is_part = next_is_part call part next response of.is_part k;
+      is_part = (suc of.is_part.0, (rule, part, response, of.is_part.1, k));
       opens = λ b. let x = sym none.0 ∙ b in absurd cc;
       opens_with = λ b. let x = sym none.1 ∙ b in absurd cc;
-      wants = λ w. of.wants (ap wants_how (sym (next_how part response next k)) ∙ w);
+      wants = λ w. of.wants (ap wants_how (sym (next_how rule part response next k)) ∙ w);
     }

@@ -20,7 +20,7 @@ use Rattle.pg_play.specs.Settling.{cleanup_of, depth_after, rollback_at}
 use Rattle.pg_play.specs.Idles.{KeepsOrder}
 use Rattle.pg_play.specs.Plays.{Plays_exchange, Plays_exchanges, Plays_from, AreOrderlyIn, AreOrderly, AreIdleIn, AreIdle}
 use Rattle.pg_play.proofs.StepLaws.{at_most_group}
-use Rattle.pg_play.proofs.SettledLaws.{fine_has}
+use Rattle.pg_play.proofs.SettledLaws.{depth_rule, fine_has}
 
 well_error : (end : End) (step : Step) (out : Outcome) (response : List BackendMessage) (slice : List Frame) (next : Place) → is_fine end ≡ true → WellAtOk end step out response slice next → HasNoError slice
 well_error (ends.Ok answer) step out response slice next f w = w.no_error
@@ -81,6 +81,16 @@ no_cleanup d (calls.Describe extended) end [] o b a = refl
 no_cleanup d (calls.Describe extended) end (g ∷ gs) o b a = refl
 no_cleanup d (calls.Run bound) end [] o b a = refl
 no_cleanup d (calls.Run bound) end (g ∷ gs) o b a = refl
+no_cleanup d (calls.Prepare preparation) end [] o b a = refl
+no_cleanup d (calls.Prepare preparation) end (g ∷ gs) o b a = refl
+no_cleanup d calls.Clear end [] o b a = refl
+no_cleanup d calls.Clear end (g ∷ gs) o b a = refl
+no_cleanup d (calls.Evict eviction) end [] o b a = refl
+no_cleanup d (calls.Evict eviction) end (g ∷ gs) o b a = refl
+no_cleanup d (calls.Tell prepared) end [] o b a = refl
+no_cleanup d (calls.Tell prepared) end (g ∷ gs) o b a = refl
+no_cleanup d (calls.CloseAll statements) end [] o b a = refl
+no_cleanup d (calls.CloseAll statements) end (g ∷ gs) o b a = refl
 
 few_own : (d : ℕ) (call : Call) (end : End) (own : List Group) → Queues end (groups_of (request_of d call)) own → length own ≤ 1
 few_own d call end own q = omega (arith, queues_few end (groups_of (request_of d call)) own q, few_groups d call)
@@ -151,6 +161,11 @@ idle_by idle n d calls.Rollback end own cleanup owed others commits rolls cleans
 idle_by idle n d calls.StartRollback end own cleanup owed others commits rolls cleans c q l i z = rolled_idle idle n d own cleanup owed (none_own end own q) l z i cleans c
 idle_by idle n d (calls.Describe extended) end own cleanup owed others commits rolls cleans c q l i z = plain_idle idle n own cleanup (few_own d (calls.Describe extended) end own q) (c ∙ no_cleanup d (calls.Describe extended) end own owed refl refl) (i z) (others refl)
 idle_by idle n d (calls.Run bound) end own cleanup owed others commits rolls cleans c q l i z = plain_idle idle n own cleanup (few_own d (calls.Run bound) end own q) (c ∙ no_cleanup d (calls.Run bound) end own owed refl refl) (i z) (others refl)
+idle_by idle n d (calls.Prepare preparation) end own cleanup owed others commits rolls cleans c q l i z = plain_idle idle n own cleanup (few_own d (calls.Prepare preparation) end own q) (c ∙ no_cleanup d (calls.Prepare preparation) end own owed refl refl) (i z) (others refl)
+idle_by idle n d calls.Clear end own cleanup owed others commits rolls cleans c q l i z = plain_idle idle n own cleanup (few_own d calls.Clear end own q) (c ∙ no_cleanup d calls.Clear end own owed refl refl) (i z) (others refl)
+idle_by idle n d (calls.Evict eviction) end own cleanup owed others commits rolls cleans c q l i z = plain_idle idle n own cleanup (few_own d (calls.Evict eviction) end own q) (c ∙ no_cleanup d (calls.Evict eviction) end own owed refl refl) (i z) (others refl)
+idle_by idle n d (calls.Tell prepared) end own cleanup owed others commits rolls cleans c q l i z = plain_idle idle n own cleanup (few_own d (calls.Tell prepared) end own q) (c ∙ no_cleanup d (calls.Tell prepared) end own owed refl refl) (i z) (others refl)
+idle_by idle n d (calls.CloseAll statements) end own cleanup owed others commits rolls cleans c q l i z = plain_idle idle n own cleanup (few_own d (calls.CloseAll statements) end own q) (c ∙ no_cleanup d (calls.CloseAll statements) end own owed refl refl) (i z) (others refl)
 
 -- ---- the exchanges of a play
 
@@ -170,7 +185,7 @@ idle_exchange idle at step out next one l k i z =
     let all : length next.groups ≡ length one.ended_at.groups + length settles.cleanup = ap (λ (g : List Group). length g) settles.groups ∙ length-append one.ended_at.groups settles.cleanup in
     let few : owed one.ended_at < 2 ^ 64 - 1 = omega (arith, all, l) in
     subst idle (omega (arith, first, all))
-    (idle_by idle (length at.groups) at.rule.depth step.call one.told.end call.own settles.cleanup (owed one.ended_at) k.others (commits_at at step out next one k) k.rolls k.cleans settles.cleans call.queued.asks few i (sym (ap (λ (r : Rule). r.depth) settles.rule) ∙ z))
+    (idle_by idle (length at.groups) at.rule.depth step.call one.told.end call.own settles.cleanup (owed one.ended_at) k.others (commits_at at step out next one k) k.rolls k.cleans settles.cleans call.queued.asks few i (sym (ap (λ (r : Rule). r.depth) settles.rule ∙ depth_rule at.rule step.call call.own call.told.response one.told.end) ∙ z))
 
 more_in : (at : Place) (steps : List Step) (outs : List Outcome) (last : Place) → Plays_exchanges at steps outs last → length at.groups ≤ length last.groups
 more_in at [] [] last run = omega (arith, ap (λ (p : Place). length p.groups) run)

@@ -1,5 +1,5 @@
 -- The exchanges of a step, one behind another: an induction over those that were handed on.
-use Rattle.std.proofs.Common.{◌≡◌, ◌⊎◌, ℕ, ◌+◌, ◌-◌, ◌*◌, ◌^◌, ◌≤◌, ◌<◌, Bool, true, false, cond, nat_eq, inl, inr, List, [], ◌∷◌, ◌++◌, length, refl, sym, ap, ap₂, ◌∙◌, subst, arith, append-nil, Some, None, sum_by}
+use Rattle.std.proofs.Common.{◌≡◌, ℕ, ◌+◌, ◌-◌, ◌*◌, ◌^◌, ◌≤◌, ◌<◌, true, false, List, [], ◌∷◌, ◌++◌, length, refl, sym, ap, ◌∙◌, subst, arith, append-nil, Option, Some, None, sum_by}
 use Rattle.std.specs.List.{AllByRecursion}
 use Rattle.pg_wire.specs.Frame.{Frame}
 use Rattle.pg_wire.specs.Parts.{heard}
@@ -9,14 +9,11 @@ use Rattle.pg_wire.proofs.PartLaws.{heard-append}
 use Rattle.pg_stream.specs.Links.{NoneFalls, GrewBy}
 use Rattle.pg_stream.specs.Streams.{StreamSeen}
 use Rattle.pg_stream.proofs.StreamLemmas.{GrewBy-then}
-use Rattle.pg_request.specs.declared.progress.CacheStep.TheVariants as cache
-use Rattle.pg_call.specs.declared.kind.Change.{Change}
-use Rattle.pg_call.specs.declared.kind.Keeping.TheVariants as keepings
 use Rattle.pg_call.specs.declared.request.Request.{Request}
 use Rattle.pg_call.specs.declared.calling.Call.TheVariants as states
-use Rattle.pg_call.specs.Requests.{Group, groups_of, kind_of, change_of, widths_of}
+use Rattle.pg_call.specs.Requests.{Group, groups_of, kind_of, widths_of}
 use Rattle.pg_conn.specs.Connections.{ConnSeen, settled, Standing, standing}
-use Rattle.pg_conn.specs.Statements.{held_by, step_of}
+use Rattle.pg_conn.specs.Statements.{held_by}
 use Rattle.pg_conn.specs.Turns.{HasAllRoom}
 use Rattle.pg_report.specs.declared.outcome.Item.{Item}
 use Rattle.pg_report.specs.declared.outcome.Answer.TheVariants.{Unit as AnswersUnit}
@@ -25,23 +22,39 @@ use Rattle.pg_report.specs.declared.outcome.End.TheVariants as ends
 use Rattle.pg_report.specs.declared.outcome.Outcome.{Outcome}
 use Rattle.pg_script.specs.declared.step.Call.{Call}
 use Rattle.pg_script.specs.declared.step.Step.{Step}
-use Rattle.pg_play.specs.Shown.{request_of, next_call, waits_how, acts_at_once}
+use Rattle.pg_play.specs.Shown.{request_of, handed_by, next_call, waits_how, acts_at_once}
 use Rattle.pg_play.specs.Calls.{WaitsFew, HasWaitedFew, Ended, EndsCall, PlaysOne, HandedOn, OfLastIn, Counted, none_counted, asking, behind_end, limits_of, outcome_of, all_groups, asked_from}
 use Rattle.pg_play.specs.Places.{Place, owed, is_fine}
 use Rattle.pg_play.specs.Causes.{AnsweredPending, IsDropped}
-use Rattle.pg_play.specs.Settling.{Settles}
+use Rattle.pg_play.specs.Settling.{Settles, handed_at}
 use Rattle.pg_play.specs.WaitPlaces.{WaitPlaces}
-use Rattle.pg_play.specs.Plays.{IsNeverUnlawful, Plays_call, Plays_exchanges, HandsOn, stopped_at, last_of, StandsAt}
+use Rattle.pg_play.specs.Plays.{IsNeverUnlawful, Plays_call, Plays_exchanges, HandsOn, stopped_at, last_of, over, cache_behind, StandsAt}
 use Rattle.pg_play.specs.declared.tally.Limits.{Limits}
-use Rattle.pg_play.proofs.PlaceLaws.{HasSummary, ends_summary, next_place}
+use Rattle.pg_play.proofs.PlaceLaws.{HasSummary, ends_summary, next_place, readies-append}
 use Rattle.pg_play.proofs.ToldLaws.{main_after, queued_one, fine_own, told_of, CountsOn, all_counted}
 use Rattle.pg_play.proofs.CauseLaws.{dropped_step}
 use Rattle.pg_play.proofs.LinkLaws.{sum_more}
-use Rattle.pg_play.proofs.SettledLaws.{SettlesTo, settles_call, cleanup_polled, ok_cleans_none}
+use Rattle.pg_play.proofs.SettledLaws.{SettlesTo, conn_behind, settles_call, cleanup_polled, ok_cleans_none}
 use Rattle.pg_play.proofs.CalledLaws.{KnownAt, Called, called_exchange, exchanged}
-use Rattle.pg_play.proofs.ThroughLaws.{counted_by, handed_asking, handed_ended}
-use Rattle.pg_play.proofs.ExchangeLaws.{runs_how, shows_how, next_how, last_next, NextIs, what_is_next, IsPlain, plain_stays}
-use Rattle.pg_play.proofs.NextLaws.{known_behind, replies_same}
+use Rattle.pg_play.proofs.ThroughLaws.{counted_by, held_conn, handed_asking, handed_ended}
+use Rattle.pg_play.proofs.ExchangeLaws.{runs_how, shows_how, next_how, last_next, NextIs, what_is_next}
+use Rattle.pg_play.proofs.NextLaws.{good_after, good_messages, replies_same, whole_behind}
+use Rattle.pg_play.proofs.KeptLaws.{DescribedAt, IsSound, closes_known, keeps_next, known_next, next_sound}
+use Rattle.pg_play.proofs.PartLaws.{after_more, no_error}
+use Rattle.pg_play.specs.Kept.{Keeps}
+use Rattle.pg_play.specs.Told.{HasNoError}
+use Rattle.pg_rule.specs.declared.rule.Rule.{Rule}
+use Rattle.pg_rule.specs.Rules.{IsOrderly}
+use Rattle.pg_call.specs.declared.statement.Extended.{Extended}
+use Rattle.pg_call.specs.declared.statement.Eviction.{Eviction}
+use Rattle.pg_script.specs.declared.step.Call.TheVariants as calls
+use Rattle.pg_request.specs.declared.progress.CacheStep.{CacheStep}
+use Rattle.pg_wire.specs.Parts.{is_ready}
+use Rattle.std.specs.List.{count_by}
+use Rattle.pg_call.specs.Drains.{after_readys}
+use Rattle.pg_call.specs.Calls.{IsFine}
+use Rattle.pg_play.specs.Calls.{IsLast}
+use Rattle.pg_call.specs.Requests.{CanBeSaid}
 use Rattle.pg_play.proofs.DueLaws.{WithinMost, most_by, few_of, dropped_out, dropped_from}
 
 -- ---- what exchanges tell together
@@ -94,7 +107,7 @@ add_alone out = record {
 grew_still : (n k x y z : ℕ) → k ≡ n → z ≡ y → GrewBy n x y → GrewBy k x z
 grew_still n k x y z e f g = (omega (arith, f, g), omega (arith, e, f, g), omega (arith, e, f, g))
 
-pub counts_settled : (start : StreamSeen) (old : Counted) (at mid : Place) (m d : ConnSeen) (step : Step) (told : Outcome) (one : Plays_call at step told mid) (s : SettlesTo start at step told one.own mid m d) → CountsOn old m told → CountsOn old d s.out
+pub counts_settled : (start : StreamSeen) (old : Counted) (at mid : Place) (m d : ConnSeen) (step : Step) (told : Outcome) (one : Plays_call at step told mid) (s : SettlesTo start at step told one.own one.told.response mid m d) → CountsOn old m told → CountsOn old d s.out
 counts_settled start old at mid m d step told one s grew =
     let e = s.settles.outcome in
     record {
@@ -121,15 +134,16 @@ pub record InTurn (start : StreamSeen) (at : Place) (step : Step) (call : Call) 
   pub items : out.items ≡ (last_of told outs).items
   pub ends : out.end ≡ (last_of told outs).end
   pub adds : AddUp old (told ∷ outs) out
-  pub same : out.cache ≡ cache.Same
+  pub caches : out.cache ≡ cache_behind old.cache (told ∷ outs)
   pub stops : stop ≡ stopped_at at at (exchange_of step call ∷ later) (told ∷ outs) next run
   pub stands : StandsAt start next d
+  pub keeps : Keeps next
 
 -- there is one alone
-pub one_turn : (start : StreamSeen) (at mid next : Place) (d : ConnSeen) (step : Step) (call : Call) (old : Counted) (raw told out : Outcome) (one : Plays_call at (exchange_of step call) raw mid) → IsNeverUnlawful at raw mid → WaitPlaces at raw mid → NoneFalls at.seen.link mid.seen.link → Settles at (exchange_of step call) raw told one.own mid next
-    → StandsAt start next d → out.items ≡ told.items → out.end ≡ told.end → AddUp old (told ∷ []) out → out.cache ≡ cache.Same → (is_fine told.end ≡ true → next_call call one.told.response ≡ None) → InTurn start at step call old out mid d
+pub one_turn : (start : StreamSeen) (at mid next : Place) (d : ConnSeen) (step : Step) (call : Call) (old : Counted) (raw told out : Outcome) (one : Plays_call at (exchange_of step call) raw mid) → IsNeverUnlawful at raw mid → WaitPlaces at raw mid → NoneFalls at.seen.link mid.seen.link → Settles at (exchange_of step call) raw told one.own one.told.response mid next
+    → StandsAt start next d → Keeps next → out.items ≡ told.items → out.end ≡ told.end → AddUp old (told ∷ []) out → out.cache ≡ over old.cache told.cache → (is_fine told.end ≡ true → next_call next.rule call one.told.response ≡ None) → InTurn start at step call old out mid d
 unfolding exchanged
-one_turn start at mid next d step call old raw told out one lawful waits counts s stands items ends adds same last = record {
+one_turn start at mid next d step call old raw told out one lawful waits counts s stands keeps items ends adds caches last = record {
   later = [];
   told = told;
   outs = [];
@@ -140,9 +154,10 @@ one_turn start at mid next d step call old raw told out one lawful waits counts 
   items = items;
   ends = ends;
   adds = adds;
-  same = same;
+  caches = caches;
   stops = refl;
   stands = stands;
+  keeps = keeps;
 }
 
 -- what is told of an exchange's call
@@ -150,10 +165,10 @@ abbrev told_in : {start : StreamSeen} {at : Place} {old : Counted} {m : ConnSeen
 told_in {start} {at} {old} {m} {step} {shown} {end} {mid} c = told_of shown end c.groups c.heard c.waits c.moved
 
 -- one stands before the others
-more_turns : (start : StreamSeen) (at mid stop : Place) (m c d : ConnSeen) (step : Step) (call part : Call) (old : Counted) (out : Outcome) (one : Called start at old m (exchange_of step call) [] (ends.Ok AnswersUnit) mid) (s : SettlesTo start at (exchange_of step call) (told_in one) one.one.own mid m c) → next_call call one.one.told.response ≡ Some part
+more_turns : (start : StreamSeen) (at mid stop : Place) (m c d : ConnSeen) (step : Step) (call part : Call) (old : Counted) (out : Outcome) (one : Called start at old m (exchange_of step call) [] (ends.Ok AnswersUnit) mid) (s : SettlesTo start at (exchange_of step call) (told_in one) one.one.own one.one.told.response mid m c) → next_call s.next.rule call one.one.told.response ≡ Some part → c.cache ≡ over old.cache s.out.cache
     → InTurn start s.next step part (counted_by c) out stop d → InTurn start at step call old out stop d
 unfolding exchanged
-more_turns start at mid stop m c d step call part old out one s comes t = record {
+more_turns start at mid stop m c d step call part old out one s comes made t = record {
   later = exchange_of step part ∷ t.later;
   told = s.out;
   outs = t.told ∷ t.outs;
@@ -164,20 +179,22 @@ more_turns start at mid stop m c d step call part old out one s comes t = record
   items = t.items;
   ends = t.ends;
   adds = add_one old c s.out (t.told ∷ t.outs) out (counts_settled start old at mid m c (exchange_of step call) (told_in one) one.one s one.grew) t.adds;
-  same = t.same;
+  caches = t.caches ∙ ap (λ (x : CacheStep). cache_behind x (t.told ∷ t.outs)) made;
   stops = t.stops;
   stands = t.stands;
+  keeps = t.keeps;
 }
 
 -- ---- exchanges of a call that was polled
 
--- An exchange begins at this place, behind what was counted: what its request knows is known there, and it makes nothing of the statements.
+-- An exchange begins at this place, behind what was counted: what its request knows is known there, as are the statements that are kept.
 pub record BeginsAt (start : StreamSeen) (at : Place) (a : ConnSeen) (old : Counted) (call : Call) : Type 0 where
   pub stands : StandsAt start at a
   pub polled : acts_at_once call ≡ false
   pub known : KnownAt (widths_of (request_of at.rule.depth call)) at
   pub fits : old.groups ≤ 2 ^ 64 - 1
-  pub plain : IsPlain call
+  pub keeps : Keeps at
+  pub sound : IsSound at.rule call
 
 -- and all of them were polled to the step's end
 pub record PlaysInTurn (start first : StreamSeen) (at : Place) (step : Step) (call : Call) (old : Counted) (out : Outcome) (stop : Place) (d : ConnSeen) : Type 0 where
@@ -193,47 +210,60 @@ has_room_at start at a old call b =
     let room = b.stands.room in
     omega (arith, room)
 
--- nothing is made of the statements, none of which is kept
-keeps_none : (start : StreamSeen) (at : Place) (a m : ConnSeen) (old : Counted) (call : Call) → BeginsAt start at a old call → standing m ≡ standing (asking (request_of at.rule.depth call) old a) → m.keeping ≡ keepings.Stays
-keeps_none start at a m old call b same = ap (λ (x : Standing). x.keeping) same ∙ plain_stays at.rule.depth call b.plain
-
 settles_so : (start : StreamSeen) (at mid : Place) (a m : ConnSeen) (old : Counted) (step : Step) (call : Call) (shown : List Item) (end : End) → BeginsAt start at a old call → (c : Called start at old m (exchange_of step call) shown end mid) → standing m ≡ standing (asking (request_of at.rule.depth call) old a)
-    → SettlesTo start at (exchange_of step call) (told_in c) c.one.own mid m (behind_end end m)
+    → SettlesTo start at (exchange_of step call) (told_in c) c.one.own c.one.told.response mid m (conn_behind (handed_at end call c.one.told.response) end m)
 settles_so start at mid a m old step call shown end b c same =
-    settles_call start at mid m (exchange_of step call) (told_in c) c.one b.polled c.stands c.small (omega (arith, c.grew.groups, c.one.numbers.groups, c.small)) (ap (λ (x : Standing). x.change) same) (keeps_none start at a m old call b same)
+    settles_call start at mid m (exchange_of step call) (told_in c) c.one b.polled c.stands c.small (omega (arith, c.grew.groups, c.one.numbers.groups, c.small)) (ap (λ (x : Standing). x.change) same) (ap (λ (x : Standing). x.keeping) same)
 
--- only the groups that an end makes are counted behind it
-pub same_but_groups : (m d : ConnSeen) (items : List Item) (end : End) → (d.heard ≡ m.heard) × (d.stream.waits ≡ m.stream.waits) × (d.stream.moves ≡ m.stream.moves) × (d.earlier ≡ m.earlier) × (d.cache ≡ m.cache) → outcome_of d items end ≡ record (outcome_of m items end) { groups = all_groups d }
-same_but_groups m d items end o = rw (o.0, o.1, o.2, o.4) refl
+-- only the groups that an end makes are counted behind it, and what it makes of the statements is told
+pub same_but_groups : (m d : ConnSeen) (items : List Item) (end : End) → (d.heard ≡ m.heard) × (d.stream.waits ≡ m.stream.waits) × (d.stream.moves ≡ m.stream.moves) → outcome_of d items end ≡ record (outcome_of m items end) { groups = all_groups d; cache = d.cache }
+same_but_groups m d items end o = rw (o.0, o.1, o.2) refl
 
 waited_most : (limits : Limits) (first : StreamSeen) (b : ConnSeen) (end : End) → first.waits ≡ 0 → HasWaitedFew limits.polls first b.stream end → b.stream.waits ≤ limits.polls
 waited_most limits first b end z few = omega (arith, z, few.1.all, few.1.waits.1, few.2.1)
 
--- what ended hands on nothing where no description ended it
-last_by : (d : ℕ) (call : Call) (response : List BackendMessage) (end : End) → EndsCall (request_of d call) end → is_fine end ≡ true → next_call call response ≡ None
-last_by d call response (ends.Ok told) l f = last_next d call response l
-last_by d call response (ends.Err e) l f = absurd cc
-last_by d call response ends.Dropped l f = absurd cc
+-- what ended hands on nothing where neither a description nor a close ended it
+last_by : (rule : Rule) (d : ℕ) (call : Call) (response : List BackendMessage) (end : End) → EndsCall (request_of d call) end → is_fine end ≡ true → next_call rule call response ≡ None
+last_by rule d call response (ends.Ok told) l f = last_next rule d call response l
+last_by rule d call response (ends.Err e) l f = absurd cc
+last_by rule d call response ends.Dropped l f = absurd cc
+
+none_left : (d : ℕ) (call : Call) (response : List BackendMessage) (end : End) → EndsCall (request_of d call) end → handed_at end call response ≡ None
+none_left d call response (ends.Ok told) l = by call l
+  where
+    by : (call : Call) → IsLast (request_of d call) → handed_by call response ≡ None
+    by (calls.Describe x) l = absurd (l refl)
+    by (calls.Evict v) l = absurd (l refl)
+    by _ l = refl
+none_left d call response (ends.Err e) l = refl
+none_left d call response ends.Dropped l = refl
+
+describes_none : (d : ℕ) (call : Call) (end : End) (x : Extended) → EndsCall (request_of d call) end → call ≡ calls.Describe x → is_fine end ≡ true → ⊥
+describes_none d call (ends.Ok told) x l c f = l (ap (λ (y : Call). kind_of (request_of d y)) c)
+describes_none d call (ends.Err e) x l c f = cc
+describes_none d call ends.Dropped x l c f = cc
 
 -- the exchange that ended its call, behind which the groups alone are counted on
 pub last_turn : (start first : StreamSeen) (old : Counted) (at : Place) (a m : ConnSeen) (step : Step) (call : Call) (items : List Item) (end : End) (said : List FrontendMessage) (fs : List Frame) → BeginsAt start at a old call → step.polls < 2 ^ 32 → first.waits ≡ 0 → first.moves ≡ 0 → 0 < step.most
     → Ended (limits_of step) first (asking (request_of at.rule.depth call) old a) m (request_of at.rule.depth call) items end said fs → EndsCall (request_of at.rule.depth call) end → m.call ≡ states.Idle → (found : HasSummary a.ledger (request_of at.rule.depth call) said (heard fs) m.ledger end items)
-    → PlaysInTurn start first at step call old (outcome_of (behind_end end m) items end) (next_place at m said found.1.own fs end) (behind_end end m) × (outcome_of (behind_end end m) items end ≡ record (outcome_of m items end) { groups = all_groups (behind_end end m) })
-last_turn start first old at a m step call items end said fs h p z v l e last over found =
+    → PlaysInTurn start first at step call old (outcome_of (behind_end end m) items end) (next_place at m said found.1.own fs end) (behind_end end m) × (outcome_of (behind_end end m) items end ≡ record (outcome_of m items end) { groups = all_groups (behind_end end m); cache = (behind_end end m).cache })
+last_turn start first old at a m step call items end said fs h p z v l e last idles found =
     let exchange = exchange_of step call in
     let s = found.1 in
     let mid : Place = next_place at m said s.own fs end in
-    let c : Called start at old m exchange items end mid = called_exchange start first old at a m exchange items end said fs h.stands h.polled h.fits p z e over (has_room_at start at a old call h) found h.known in
+    let c : Called start at old m exchange items end mid = called_exchange start first old at a m exchange items end said fs h.stands h.polled h.fits p z e idles (has_room_at start at a old call h) found h.known in
     let d : ConnSeen = behind_end end m in
-    let t : SettlesTo start at exchange (told_in c) c.one.own mid m d = settles_so start at mid a m old step call items end h c e.went.started.3 in
+    let response : List BackendMessage = c.one.told.response in
+    let t : SettlesTo start at exchange (told_in c) c.one.own response mid m d = subst (λ (o : Option Request). SettlesTo start at exchange (told_in c) c.one.own response mid m (conn_behind o end m)) (none_left at.rule.depth call response end last) (settles_so start at mid a m old step call items end h c e.went.started.3) in
     let k = t.settles.outcome in
     let raw : Outcome = outcome_of m items end in
     let real : Outcome = outcome_of d items end in
-    let same : real ≡ record raw { groups = all_groups d } = same_but_groups m d items end t.others in
+    let same : real ≡ record raw { groups = all_groups d; cache = d.cache } = same_but_groups m d items end (t.others.0, t.others.1, t.others.2) in
+    let keeps : Keeps t.next = keeps_next at mid t.next exchange (told_in c) t.out c.one t.settles h.keeps h.sound (λ x is f. absurd (describes_none at.rule.depth call end x last is f)) in
     let few : m.stream.waits ≤ step.polls = waited_most (limits_of step) first m end z e.few in
     let plays : PlaysInTurn start first at step call old real mid d = record {
-      turns = one_turn start at mid t.next d step call old (told_in c) t.out real c.one c.lawful c.places c.counts t.settles t.stands (sym (ap (λ (x : Outcome). x.items) k)) (sym (ap (λ (x : Outcome). x.end) k))
-          (add_one old d t.out [] real (counts_settled start old at mid m d exchange (told_in c) c.one t c.grew) (add_none d items end)) (t.others.4 ∙ ap (λ (x : Standing). x.cache) e.went.started.3) (λ f. last_by at.rule.depth call c.one.told.response end last (sym (ap (λ (x : Outcome). is_fine x.end) k) ∙ f));
+      turns = one_turn start at mid t.next d step call old (told_in c) t.out real c.one c.lawful c.places c.counts t.settles t.stands keeps (sym (ap (λ (x : Outcome). x.items) k)) (sym (ap (λ (x : Outcome). x.end) k))
+          (add_one old d t.out [] real (counts_settled start old at mid m d exchange (told_in c) c.one t c.grew) (add_none d items end)) (t.others.4 ∙ ap (λ (x : Standing). over x.cache t.out.cache) e.went.started.3) (λ f. last_by t.next.rule at.rule.depth call response end last (sym (ap (λ (x : Outcome). is_fine x.end) k) ∙ f));
       dropped = λ y. dropped_out at step raw real mid same (dropped_step a.broken start first old at a m exchange said fs items end found.0 h.stands z v p y e.ends s);
       few = subst (λ (x : Outcome). (pending : ℕ) × AnsweredPending x pending × WaitsFew step.polls pending x.end) (sym same) (few_of first m step raw z v refl p e.few);
       most = λ w. most_by at.rule.depth a.broken (limits_of step) first (asking (request_of at.rule.depth call) old a) m exchange said (heard fs) items end (shows_how call w) l e.ends;
@@ -246,12 +276,27 @@ last_turn start first old at a m step call items end said fs h p z v l e last ov
 record TurnsOn (start : StreamSeen) (at : Place) (m : ConnSeen) (old : Counted) (step : Step) (call : Call) (next : Request) : Type 0 where
   mid : Place
   one : Called start at old m (exchange_of step call) [] (ends.Ok AnswersUnit) mid
-  settles : SettlesTo start at (exchange_of step call) (told_in one) one.one.own mid m (settled m)
+  settles : SettlesTo start at (exchange_of step call) (told_in one) one.one.own one.one.told.response mid m (held_conn m next)
   part : Call
-  comes : next_call call one.one.told.response ≡ Some part
+  comes : next_call settles.next.rule call one.one.told.response ≡ Some part
   asks : request_of settles.next.rule.depth part ≡ asked_from m next
-  holds : held_by (settled m).rule next ≡ (settled m).rule
-  begins : BeginsAt start settles.next (settled m) (counted_by m) part
+  begins : BeginsAt start settles.next (held_conn m next) (counted_by (held_conn m next)) part
+
+-- the response to a description that was heard whole
+described_so : (start : StreamSeen) (at next : Place) (a m : ConnSeen) (d : ℕ) (call : Call) (x : Extended) (own cleanup : List Group) (said : List FrontendMessage) (slice : List Frame) (response : List BackendMessage) → StandsAt start at a → call ≡ calls.Describe x → own ≡ groups_of (request_of d call) → length (groups_of (request_of d call)) ≡ 1 → heard next.frames ≡ heard at.frames ++ slice
+    → (f : IsFine a.ledger (request_of d call) said slice [] m.ledger) → f.reply ≡ response → CanBeSaid (request_of d call) → DescribedAt at next x own cleanup slice response
+described_so start at next a m d call x own cleanup said slice response st is whole one frames f same can =
+    let counted : count_by is_ready slice ≡ a.ledger.owed + 1 = omega (arith, f.counted, one) in
+    let told = subst (λ (r : List BackendMessage). DescribedAt at next x own cleanup slice r) same (record {
+      queued = whole ∙ ap (λ (y : Call). groups_of (request_of d y)) is;
+      answered = ap (after_readys (length at.groups)) frames ∙ after_more (heard at.frames) slice (length at.groups) a.ledger.owed st.ledger st.between ∙ f.replied;
+      read = omega (arith, st.ledger, counted, ap (λ (t : List Frame). count_by is_ready t) frames, readies-append (heard at.frames) slice);
+      ends = whole_behind a.ledger.owed slice f.reply counted f.ends f.replied;
+      has_frames = f.reply_has_frames;
+      well = good_messages f.reply (subst HasNoError f.replied (good_after slice a.ledger.owed (no_error slice f.well)));
+      can = subst (λ (y : Call). CanBeSaid (request_of d y)) is can;
+    }) in
+    told
 
 turns_on : (start first : StreamSeen) (old : Counted) (at : Place) (a m : ConnSeen) (step : Step) (call : Call) (next : Request) → BeginsAt start at a old call → step.polls < 2 ^ 32 → first.waits ≡ 0 → 0 < step.most
     → HandedOn step.polls first (asking (request_of at.rule.depth call) old a) m (request_of at.rule.depth call) next → TurnsOn start at m old step call next
@@ -266,31 +311,38 @@ turns_on start first old at a m step call next b p z l h =
     let st = b.stands in
     let mid : Place = next_place at m h.said s.own h.fs (ends.Ok AnswersUnit) in
     let c : Called start at old m exchange [] (ends.Ok AnswersUnit) mid = called_exchange start first old at a m exchange [] (ends.Ok AnswersUnit) h.said h.fs st b.polled b.fits p z e h.over (has_room_at start at a old call b) found b.known in
-    let t : SettlesTo start at exchange (told_in c) c.one.own mid m (settled m) = settles_so start at mid a m old step call [] (ends.Ok AnswersUnit) b c e.went.started.3 in
+    let response : List BackendMessage = c.one.told.response in
     let f = h.ends.0.0 in
-    let n : NextIs (settled m).rule at.rule.depth call f.reply next = what_is_next (settled m).rule at.rule.depth call f.reply f.status next b.plain h.ends.0.1 in
+    let rule : Rule = (settled m).rule in
+    let n : NextIs rule at.rule.depth call f.reply next = what_is_next rule at.rule.depth call f.reply f.status next h.ends.0.1 in
     let whole : s.own ≡ groups_of r = fine_own a.ledger r h.said (heard h.fs) [] found.0 m.ledger false s f in
     let q = queued_one a.ledger.owed r s.own (heard h.fs) s.queued (ap (λ (g : List Group). length g) whole ∙ n.one) in
-    let same : c.one.told.response ≡ f.reply = replies_same c.one.told.response f.reply (sym c.one.told.says.0 ∙ main_after start at a r s.own (heard h.fs) st q ∙ f.replied) c.one.told.says.1 f.reply_has_frames in
+    let same : response ≡ f.reply = replies_same response f.reply (sym c.one.told.says.0 ∙ main_after start at a r s.own (heard h.fs) st q ∙ f.replied) c.one.told.says.1 f.reply_has_frames in
+    let handed : handed_by call response ≡ Some next = ap (λ (ms : List BackendMessage). handed_by call ms) same ∙ n.handed in
+    let t : SettlesTo start at exchange (told_in c) c.one.own response mid m (held_conn m next) = subst (λ (o : Option Request). SettlesTo start at exchange (told_in c) c.one.own response mid m (conn_behind o (ends.Ok AnswersUnit) m)) handed (settles_so start at mid a m old step call [] (ends.Ok AnswersUnit) b c e.went.started.3) in
     let none : t.settles.cleanup ≡ [] = t.settles.cleans ∙ cleanup_polled at.rule.depth call (ends.Ok AnswersUnit) c.one.own (owed mid) b.polled ∙ sym (ok_cleans_none at.rule.depth call c.one.own) in
     let groups : t.next.groups ≡ at.groups ++ groups_of r = t.settles.groups ∙ ap (λ (g : List Group). (at.groups ++ s.own) ++ g) none ∙ append-nil (at.groups ++ s.own) ∙ ap (λ (g : List Group). at.groups ++ g) whole in
     let frames : heard t.next.frames ≡ heard at.frames ++ heard h.fs = ap heard t.settles.frames ∙ heard-append at.frames h.fs in
-    let known : KnownAt (widths_of (asked_from m next)) t.next = known_behind (settled m).rule start at t.next a (settled m) at.rule.depth call next h.said (heard h.fs) [] b.plain st t.stands groups frames h.ends.0 in
+    let knows : t.next.rule ≡ held_by rule next = sym t.stands.rule in
+    let keeps : Keeps t.next = keeps_next at mid t.next exchange (told_in c) t.out c.one t.settles b.keeps b.sound
+        (λ x is y. described_so start at t.next a m at.rule.depth call x s.own t.settles.cleanup h.said (heard h.fs) response st is whole n.one frames f (sym same) h.can) in
     let asks = n.asks t.next.rule.depth in
+    let closed = λ (v : Eviction) (is : call ≡ calls.Evict v). closes_known at t.next call v s.own response is (subst (λ (y : Call). IsSound at.rule y) is b.sound) t.settles.rule in
+    let known : KnownAt (widths_of (asked_from m next)) t.next = known_next rule start at t.next a (held_conn m next) at.rule.depth call next h.said (heard h.fs) [] st t.stands keeps groups frames closed h.ends.0 in
     record {
       mid = mid;
       one = c;
       settles = t;
       part = n.part;
-      comes = ap (λ (ms : List BackendMessage). next_call call ms) same ∙ n.comes;
+      comes = ap (λ (k : Rule). next_call k call response) knows ∙ ap (λ (ms : List BackendMessage). next_call (held_by rule next) call ms) same ∙ n.comes;
       asks = asks;
-      holds = n.holds;
       begins = record {
         stands = t.stands;
         polled = n.polled;
         known = subst (λ (q : Request). KnownAt (widths_of q) t.next) (sym asks) known;
         fits = omega arith;
-        plain = n.plain;
+        keeps = keeps;
+        sound = subst (λ (k : Rule). IsSound k n.part) (sym knows) (subst (λ (y : Call). IsSound (held_by rule next) y) (sym n.is) (next_sound rule call f.reply next n.handed (subst (λ (k : Rule). IsOrderly k) knows keeps.orderly)));
       };
     }
 
@@ -309,17 +361,17 @@ turns_through (next ∷ later) start first old at a b step call out h p z v l (m
     let r = request_of at.rule.depth call in
     let t = turns_on start first old at a m step call next h p z l handed in
     let stood = handed.went.started.3 in
-    let same : (settled m).cache ≡ cache.Same = ap₂ step_of (keeps_none start at a m old call h stood) (ap (λ (x : Standing). x.cache) stood) in
-    let further = subst (λ (q : Request). OfLastIn later step.polls first (λ x asked. PlaysOne (limits_of step) first x b asked out) (asking q (counted_by m) (settled m)) q) (sym t.asks)
-    (subst (λ (x : ConnSeen). OfLastIn later step.polls first (λ x asked. PlaysOne (limits_of step) first x b asked out) x (asked_from m next)) (handed_asking step.polls first (asking r old a) m r next handed t.holds same) behind) in
-    let others = turns_through later start first (counted_by m) t.settles.next (settled m) b step t.part out t.begins p z v l further in
+    let made : (held_conn m next).cache ≡ over old.cache t.settles.out.cache = t.settles.others.4 ∙ ap (λ (x : Standing). over x.cache t.settles.out.cache) stood in
+    let further = subst (λ (q : Request). OfLastIn later step.polls first (λ x asked. PlaysOne (limits_of step) first x b asked out) (asking q (counted_by (held_conn m next)) (held_conn m next)) q) (sym t.asks)
+    (subst (λ (x : ConnSeen). OfLastIn later step.polls first (λ x asked. PlaysOne (limits_of step) first x b asked out) x (asked_from m next)) (handed_asking step.polls first (asking r old a) m r next handed) behind) in
+    let others = turns_through later start first (counted_by (held_conn m next)) t.settles.next (held_conn m next) b step t.part out t.begins p z v l further in
     let o = others.1 in (
       others.0,
       record {
-        turns = more_turns start at t.mid others.0 m (settled m) b step call t.part old out t.one t.settles t.comes o.turns;
+        turns = more_turns start at t.mid others.0 m (held_conn m next) b step call t.part old out t.one t.settles t.comes made o.turns;
         dropped = λ k. dropped_from at t.settles.next others.0 step out (omega (arith, t.one.counts.write_waits, ap (λ (y : StreamSeen). y.link.write_waits) t.settles.settles.seen)) (o.dropped k);
         few = o.few;
-        most = λ w. o.most (ap waits_how (next_how call t.one.one.told.response t.part t.comes) ∙ w);
+        most = λ w. o.most (ap waits_how (next_how t.settles.next.rule call t.one.one.told.response t.part t.comes) ∙ w);
         waits = o.waits;
         calls = o.calls;
       },

@@ -1,5 +1,5 @@
 -- What a lawful server may begin in response to a group that runs the statement which the group before has described.
-use Rattle.std.proofs.Common.{◌≡◌, ℕ, zero, suc, ◌+◌, Bool, false, cond, List, [], ◌∷◌, ◌++◌, length, map, refl, sym, ap, ap₂, ◌∙◌, subst, append_assoc, append-nil, arith, flat_map, inr}
+use Rattle.std.proofs.Common.{◌≡◌, ◌≢◌, ◌<◌, length-append, ℕ, zero, suc, ◌+◌, Bool, false, cond, List, [], ◌∷◌, ◌++◌, length, map, refl, sym, ap, ap₂, ◌∙◌, subst, append_assoc, append-nil, arith, flat_map, inr}
 use Rattle.std.specs.List.{AllByRecursion, count_by}
 use Rattle.std.proofs.lemmas.List.Concat.{flat_map-append}
 use Rattle.std.proofs.lemmas.List.{map-append}
@@ -11,8 +11,8 @@ use Rattle.pg_wire.specs.Backend.{BackendMessage, backend_frame, HasBackendFrame
 use Rattle.pg_wire.specs.Server.{Server, ServerRun, IsPrefixOf, MayHear, fresh_server}
 use Rattle.pg_wire.specs.Groups.{IsUnready, AreUnready, EndsReady, IsBetween, IsGroup}
 use Rattle.pg_wire.specs.Refusals.{BeginsCopyResponse}
-use Rattle.pg_exchanges.specs.Expecting.{HasWidth, BeginsKnowing}
-use Rattle.pg_exchanges.specs.Answering.{described, IsNoError, describing}
+use Rattle.pg_exchanges.specs.Expecting.{HasWidth, HasWidths, BeginsKnowing}
+use Rattle.pg_exchanges.specs.Answering.{described, IsNoError, IsClosedBy, describing}
 use Rattle.pg_call.specs.Requests.{Group, said_in}
 use Rattle.pg_call.specs.Drains.{after_readys}
 use Rattle.pg_wire.proofs.RunLaws.{run_split}
@@ -20,7 +20,7 @@ use Rattle.pg_wire.proofs.GroupLaws.{group_answers}
 use Rattle.pg_wire.proofs.CopyLaws.{plain, run_copies}
 use Rattle.pg_wire.proofs.OwnLaws.{split_answers}
 use Rattle.pg_wire.proofs.Unique.{backend_frame_unique}
-use Rattle.pg_exchanges.proofs.WidthLaws.{description_adds}
+use Rattle.pg_exchanges.proofs.WidthLaws.{description_adds, widths_stay}
 use Rattle.pg_play.proofs.PlaceLaws.{all_split}
 use Rattle.pg_play.proofs.LawfulLaws.{split_front, parted, open_front_one, prefix_map}
 
@@ -55,9 +55,9 @@ same_whole (a ∷ as') (b ∷ bs) s s' x y u v p =
     onto_whole a b (as' ++ ReadyForQuery s ∷ []) (bs ++ ReadyForQuery s' ∷ []) x y head (same_whole as' bs s s' x y u.1 v.1 (p.0, tails))
 
 -- the same, where the one is known by its frames
-record SameFrames (q r : List BackendMessage) (own part : List Frame) : Type 0 where
-  same : q ≡ r
-  rest : own ≡ part
+pub record SameFrames (q r : List BackendMessage) (own part : List Frame) : Type 0 where
+  pub same : q ≡ r
+  pub rest : own ≡ part
 
 onto_frames : (a b : BackendMessage) (q r : List BackendMessage) (own part : List Frame) → a ≡ b → SameFrames q r own part → SameFrames (a ∷ q) (b ∷ r) own part
 onto_frames a b q r own part e s = record { same = ap₂ (λ (c : BackendMessage) (cs : List BackendMessage). c ∷ cs) e s.same; rest = s.rest }
@@ -85,7 +85,7 @@ framed q r more =
     ap (λ (t : List BackendMessage). map backend_frame t ++ more) r.are ∙ ap (λ (t : List Frame). t ++ more) (map-append backend_frame r.front (ReadyForQuery r.status ∷ []))
     ∙ append_assoc (map backend_frame r.front) (backend_frame (ReadyForQuery r.status) ∷ []) more
 
-whole_frames : (q told : List BackendMessage) (own part : List Frame) → EndsReady q → EndsReady told → AllByRecursion HasBackendFrame q → AllByRecursion HasBackendFrame told → map backend_frame q ++ own ≡ map backend_frame told ++ part → SameFrames q told own part
+pub whole_frames : (q told : List BackendMessage) (own part : List Frame) → EndsReady q → EndsReady told → AllByRecursion HasBackendFrame q → AllByRecursion HasBackendFrame told → map backend_frame q ++ own ≡ map backend_frame told ++ part → SameFrames q told own part
 whole_frames q told own part r r' h k e =
     let f = (all_split HasBackendFrame r.front (ReadyForQuery r.status ∷ []) (subst (AllByRecursion HasBackendFrame) r.are h)).0 in
     let f' = (all_split HasBackendFrame r'.front (ReadyForQuery r'.status ∷ []) (subst (AllByRecursion HasBackendFrame) r'.are k)).0 in
@@ -93,7 +93,7 @@ whole_frames q told own part r r' h k e =
     record { same = r.are ∙ s.same ∙ sym r'.are; rest = s.rest }
 
 -- behind as many ReadyForQuery as whole responses stands what follows them
-unready_frame : (a : BackendMessage) → IsUnready a → is_ready (backend_frame a) ≡ false
+pub unready_frame : (a : BackendMessage) → IsUnready a → is_ready (backend_frame a) ≡ false
 unready_frame (ReadyForQuery s) h = absurd h
 unready_frame _ h = refl
 
@@ -299,3 +299,107 @@ lawful_knows groups name sql types group heards part front told gs g l c after e
   where
     joined : (a b c : List BackendMessage) (m : BackendMessage) (d : List BackendMessage) → (a ++ (b ++ (c ++ m ∷ []))) ++ d ≡ (a ++ (b ++ c)) ++ m ∷ d
     joined a b c m d = simp append_assoc
+
+-- ---- a statement that was described, with other groups behind it
+
+-- the same, where a server that has a statement goes on with groups that don't close it
+record StillHas (name : List ℕ) (width : ℕ) (rest : List FrontendMessage) (part : List BackendMessage) (after : Server) : Type 0 where
+  on : Stands rest part after
+  has : HasWidth on.old (name, width)
+
+still_has : (name : List ℕ) (width : ℕ) (gs : List (List FrontendMessage)) (ps : List (List BackendMessage)) (rest : List FrontendMessage) (part : List BackendMessage) (after : Server) → name ≢ [] → AllByRecursion IsGroup gs → AllByRecursion (λ g. IsClosedBy g name → ⊥) gs → AllByRecursion EndsReady ps → length ps ≡ length gs
+    → (s : Stands (flat_map (λ g. g) gs ++ rest) (flat_map (λ p. p) ps ++ part) after) → HasWidth s.old (name, width) → StillHas name width rest part after
+still_has name width [] [] rest part after n hs spared ends len s w = record { on = s; has = w }
+still_has name width [] (q ∷ ps) rest part after n hs spared ends len s w = absurd (omega (arith, len))
+still_has name width (g ∷ gs) [] rest part after n hs spared ends len s w = absurd (omega (arith, len))
+still_has name width (g ∷ gs) (q ∷ ps) rest part after n hs spared ends len s w =
+    let more : List FrontendMessage = flat_map (λ y. y) gs ++ rest in
+    let heard : List BackendMessage = flat_map (λ y. y) ps ++ part in
+    let here : Stands (g ++ more) (q ++ heard) after = record {
+      old = s.old;
+      answers = s.answers;
+      between = s.between;
+      run = subst (λ (m : List FrontendMessage). ServerRun s.old m s.answers after) (append_assoc g (flat_map (λ y. y) gs) rest) s.run;
+      answered = s.answered;
+      begins = subst (λ (x : List BackendMessage). IsPrefixOf x (flat_map (λ rs. rs) s.answers)) (append_assoc q (flat_map (λ y. y) ps) part) s.begins;
+    } in
+    let one = one_on g more q heard after hs.0 ends.0 here in
+    let kept : HasWidths (plain one.on.old).server ((name, width) ∷ []) = widths_stay ((name, width) ∷ []) g (plain s.old) (plain one.on.old) one.answers (run_copies s.old one.on.old g one.answers one.run) ((n, spared.0), tt) (w, tt) in
+    still_has name width gs ps rest part after n hs.1 spared.1 ends.1 (omega (arith, len)) one.on kept.0
+
+-- so many first items, one, and those behind it
+record Around {X : Type 0} (n : ℕ) (xs : List X) : Type 0 where
+  before : List X
+  item : X
+  behind : List X
+  are : xs ≡ before ++ item ∷ behind
+  count : length before ≡ n
+
+around : {X : Type 0} (n : ℕ) (xs : List X) → n < length xs → Around n xs
+around n [] l = absurd (omega (arith, l))
+around zero (x ∷ xs) l = record { before = []; item = x; behind = xs; are = refl; count = refl }
+around {X} (suc n) (x ∷ xs) l =
+    let f = around n xs (omega (arith, l)) in
+    record { before = x ∷ f.before; item = f.item; behind = f.behind; are = ap (λ (t : List X). x ∷ t) f.are; count = omega (arith, f.count) }
+
+-- Some group described a statement without an error, and none behind it closes it: what is heard behind all of their responses begins one to the next group, of a server that
+-- has the statement.
+pub lawful_keeps : (before : List Group) (name sql types : List ℕ) (later : List Group) (group : Group) (heards part more : List Frame) (front : Frame) (told : List BackendMessage) → AllByRecursion IsGroup (before ++ describing name sql types ∷ later) → IsGroup group → name ≢ [] → AllByRecursion (λ g. IsClosedBy g name → ⊥) later
+    → MayHear (said_in ((before ++ describing name sql types ∷ later) ++ group ∷ [])) (heards ++ front ∷ []) → count_by is_ready heards ≡ length (before ++ describing name sql types ∷ later)
+    → after_readys (length before) heards ≡ map backend_frame told ++ more → after_readys (length (before ++ describing name sql types ∷ later)) heards ≡ part → EndsReady told → AllByRecursion HasBackendFrame told → AllByRecursion IsNoError told
+    → BeginsKnowing ((name, length (described told)) ∷ []) group (part ++ front ∷ [])
+lawful_keeps before name sql types later group heards part more front told gs g n spared l c begun after ends frames good =
+    let N : ℕ = length (before ++ describing name sql types ∷ later) in
+    let many : N ≡ length before + suc (length later) = length-append before (describing name sql types ∷ later) in
+    let s = split_front heards front l.heard_is.0 (flat_map (λ rs. rs) l.replies) l.heard_is.1 in
+    let ok = (all_split HasBackendFrame s.before (s.message ∷ s.behind) (subst (AllByRecursion HasBackendFrame) s.whole l.replies_have_frames)).0 in
+    let p = parted s.before N (ap (λ (x : List Frame). count_by is_ready x) (sym s.heards_are) ∙ c) in
+    let r = around (length before) p.ps (omega (arith, many, p.count)) in
+    let ended = all_split EndsReady r.before (r.item ∷ r.behind) (subst (AllByRecursion EndsReady) r.are p.ended) in
+    let rest : List BackendMessage = flat_map (λ q. q) r.behind ++ p.own in
+    let whole : s.before ≡ flat_map (λ q. q) r.before ++ (r.item ++ rest) =
+    p.whole ∙ ap (λ (t : List (List BackendMessage)). flat_map (λ q. q) t ++ p.own) r.are ∙ ap (λ (t : List BackendMessage). t ++ p.own) (flat_map-append (λ q. q) r.before (r.item ∷ r.behind))
+    ∙ three (flat_map (λ q. q) r.before) r.item (flat_map (λ q. q) r.behind) p.own in
+    let framed = all_split HasBackendFrame (flat_map (λ q. q) r.before) (r.item ++ rest) (subst (AllByRecursion HasBackendFrame) whole ok) in
+    let item_frames = (all_split HasBackendFrame r.item rest framed.1).0 in
+    let behind : map backend_frame r.item ++ map backend_frame rest ≡ map backend_frame told ++ more =
+    sym (map-append backend_frame r.item rest) ∙ sym (after_whole (length before) r.before (r.item ++ rest) ended.0 r.count) ∙ ap (λ (t : List BackendMessage). after_readys (length before) (map backend_frame t)) (sym whole)
+    ∙ ap (after_readys (length before)) (sym s.heards_are) ∙ begun in
+    let same = whole_frames r.item told (map backend_frame rest) more ended.1.0 ends item_frames frames behind in
+    let groups = all_split IsGroup before (describing name sql types ∷ later) gs in
+    let last : List BackendMessage = p.own ++ s.message ∷ [] in
+    let after_all : List FrontendMessage = flat_map (λ y. y) later ++ (group ++ l.more) in
+    let heard : List BackendMessage = flat_map (λ y. y) r.behind ++ last in
+    let all : (flat_map (λ q. q) r.before ++ (told ++ heard)) ++ s.behind ≡ flat_map (λ rs. rs) l.replies =
+    five (flat_map (λ q. q) r.before) told (flat_map (λ q. q) r.behind) p.own s.message s.behind ∙ ap (λ (t : List BackendMessage). (flat_map (λ q. q) r.before ++ (t ++ rest)) ++ s.message ∷ s.behind) (sym same.same) ∙ ap (λ (t : List BackendMessage). t ++ s.message ∷ s.behind) (sym whole) ∙ sym s.whole in
+    let start : Stands (flat_map (λ q. q) before ++ (describing name sql types ++ after_all)) (flat_map (λ q. q) r.before ++ (told ++ heard)) l.after = record {
+      old = fresh_server;
+      answers = l.replies;
+      between = (refl, refl);
+      run = subst (λ (t : List FrontendMessage). ServerRun fresh_server t l.replies l.after) (said_all before (describing name sql types) later group l.more) l.run;
+      answered = l.replies_have_frames;
+      begins = (s.behind, all);
+    } in
+    let there = all_on before r.before (describing name sql types ++ after_all) (told ++ heard) l.after groups.0 ended.0 r.count start in
+    let one = one_on (describing name sql types) after_all told heard l.after (describing_group name sql types) ends there in
+    let later_count : length r.behind ≡ length later = omega (arith, p.count, many, ap (λ (t : List (List BackendMessage)). length t) r.are, length-append r.before (r.item ∷ r.behind), r.count) in
+    let here = still_has name (length (described told)) later r.behind (group ++ l.more) last l.after n groups.1.1 spared ended.1.1 later_count one.on (width_behind name sql types after_all told heard l.after there one good) in
+    let own_part : map backend_frame p.own ≡ part =
+    sym (after_whole N p.ps p.own p.ended p.count) ∙ ap (λ (t : List BackendMessage). after_readys N (map backend_frame t)) (sym p.whole) ∙ ap (after_readys N) (sym s.heards_are) ∙ after in
+    let said : map backend_frame last ≡ part ++ front ∷ [] =
+    map-append backend_frame p.own (s.message ∷ []) ∙ ap (λ (t : List Frame). t ++ backend_frame s.message ∷ []) own_part ∙ ap (λ (m : Frame). part ++ m ∷ []) (sym s.front_is) in
+    begins_known name (length (described told)) group l.more p.own s.message l.after (part ++ front ∷ []) here.on g p.unready here.has said
+  where
+    three : (a b c d : List BackendMessage) → (a ++ (b ++ c)) ++ d ≡ a ++ (b ++ (c ++ d))
+    three a b c d = simp append_assoc
+
+    five : (a b c d : List BackendMessage) (m : BackendMessage) (e : List BackendMessage) → (a ++ (b ++ (c ++ (d ++ m ∷ [])))) ++ e ≡ (a ++ (b ++ (c ++ d))) ++ m ∷ e
+    five a b c d m e = simp append_assoc
+
+    said_all : (before : List Group) (g : Group) (later : List Group) (group : Group) (more : List FrontendMessage) → said_in ((before ++ g ∷ later) ++ group ∷ []) ++ more ≡ flat_map (λ q. q) before ++ (g ++ (flat_map (λ y. y) later ++ (group ++ more)))
+    said_all before g later group more =
+        ap (λ (s : List FrontendMessage). s ++ more) (flat_map-append (λ q. q) (before ++ g ∷ later) (group ∷ []) ∙ ap₂ (λ (s t : List FrontendMessage). s ++ t) (flat_map-append (λ q. q) before (g ∷ later)) (append-nil group))
+        ∙ four (flat_map (λ q. q) before) g (flat_map (λ y. y) later) group more
+      where
+        four : (a b c d e : List FrontendMessage) → ((a ++ (b ++ c)) ++ d) ++ e ≡ a ++ (b ++ (c ++ (d ++ e)))
+        four a b c d e = simp append_assoc

@@ -25,3 +25,5 @@ pub mod PlayLaws
 pub mod StartLaws
 pub mod TopLaws
 pub mod RefutedLaws
+mod KeptLaws
+mod NameLaws

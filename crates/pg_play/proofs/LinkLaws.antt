@@ -14,6 +14,7 @@ use Rattle.pg_wire.specs.declared.error.ServerFault.TheVariants as faults
 use Rattle.pg_wire.specs.Frame.{Frame, bytes_of, text_of, backend_tags, IsWhole}
 use Rattle.pg_wire.specs.Cut.{Cuts}
 use Rattle.pg_wire.specs.Parts.{heard}
+use Rattle.pg_wire.specs.Backend.{BackendMessage}
 use Rattle.pg_wire.specs.Frontend.{FrontendMessage, frontend_frame, HasFrontendFrame}
 use Rattle.pg_wire.specs.Server.{IsPrefixOf, AreReplies, MayHear}
 use Rattle.pg_wire.specs.Groups.{IsGroup}
@@ -28,6 +29,9 @@ use Rattle.pg_report.specs.declared.outcome.End.{End}
 use Rattle.pg_report.specs.declared.outcome.End.TheVariants as ends
 use Rattle.pg_report.specs.declared.outcome.Outcome.{Outcome}
 use Rattle.pg_script.specs.declared.step.Step.{Step}
+use Rattle.pg_rule.specs.declared.rule.Rule.{Rule}
+use Rattle.pg_play.specs.Kept.{Keeps}
+use Rattle.pg_play.proofs.NameLaws.{names_kept}
 use Rattle.pg_play.specs.Calls.{broken_after}
 use Rattle.pg_play.specs.Places.{Place}
 use Rattle.pg_play.specs.Told.{CountsTo}
@@ -63,7 +67,7 @@ ends_refute at step out next one fault n w e = elim (subst (λ (z : End). HasCau
 ]
 
 -- what stands in front after the call stands there behind its end
-settled_refutes : (fault : ServerFault) (at : Place) (step : Step) (told out : Outcome) (own : List Group) (mid next : Place) → Settles at step told out own mid next → Refutes fault mid → Refutes fault next
+settled_refutes : {response : List BackendMessage} (fault : ServerFault) (at : Place) (step : Step) (told out : Outcome) (own : List Group) (mid next : Place) → Settles at step told out own response mid next → Refutes fault mid → Refutes fault next
 settled_refutes (faults.Unlawful tag) at step told out own mid next s r = (r.0, front_behind mid next r.0 (held_same at step told out own mid next s) r.1, λ l. r.2 (heard_before at step told out own mid next r.0 s l))
 settled_refutes (faults.Malformed tag) at step told out own mid next s (inl m) = inl (subst (λ (held : List ℕ). IsMalformedFront held tag) (sym (held_same at step told out own mid next s)) m)
 settled_refutes (faults.Malformed tag) at step told out own mid next s (inr r) = inr (r.0, front_behind mid next r.0 (held_same at step told out own mid next s) r.1, r.2)
@@ -155,14 +159,14 @@ ends_break fault before at (s ∷ steps) [] last run b e = absurd run
 ends_break fault before at (s ∷ steps) (o ∷ outs) last run b e = ends_break fault o run.0 steps outs last run.2 (fault_breaks at s o run.0 run.1 fault) e
 
 -- a step has an exchange
-pub some_first : (step : Step) → FirstIs step [] → ⊥
-some_first step e = e
+pub some_first : (rule : Rule) (step : Step) → FirstIs rule step [] → ⊥
+some_first rule step e = e
 
 step_breaks : (at : Place) (step : Step) (out : Outcome) (next : Place) → Plays_step at step out next → (fault : ServerFault) → out.end ≡ ends.Err (errors.Protocol (protocol.Server fault)) → next.broken ≡ Some fault
 step_breaks at step out next one fault e = by one.exchanges one.outs one.run one.first (sym one.tells.ends ∙ e)
   where
-    by : (xs : List Step) (ys : List Outcome) → Plays_exchanges at xs ys next → FirstIs step xs → (last_of out ys).end ≡ ends.Err (errors.Protocol (protocol.Server fault)) → next.broken ≡ Some fault
-    by [] ys run first e = absurd (some_first step first)
+    by : (xs : List Step) (ys : List Outcome) → Plays_exchanges at xs ys next → FirstIs at.rule step xs → (last_of out ys).end ≡ ends.Err (errors.Protocol (protocol.Server fault)) → next.broken ≡ Some fault
+    by [] ys run first e = absurd (some_first at.rule step first)
     by (x ∷ xs) [] run first e = absurd run
     by (x ∷ xs) (y ∷ ys) run first e = ends_break fault y run.0 xs ys next run.2 (fault_breaks at x y run.0 run.1 fault) e
 
@@ -216,8 +220,8 @@ pub unlawful_refuted : (last : Place) (read : List Frame) (rest : List ℕ) (tag
 unlawful_refuted last read rest tag whole c may r = r.2 (hear_fewer (said_in last.groups) _ (heard read) (front_heard last read rest r.0 whole c r.1) may)
 
 pub where_lawful : (first last : Place) (steps : List Step) (outs : List Outcome) → Plays_from first steps outs last → first.broken ≡ None → AllByRecursion HasFrontendFrame last.said → AllByRecursion IsGroup last.groups → AllByRecursion (IsWhole backend_tags) last.frames
-    → (AsksForNoCopy (heard last.frames) → last.said ≡ said_in last.groups) → WhereLawful last outs
-where_lawful first last steps outs run w can groups whole plain sent read rest p c r =
+    → (AsksForNoCopy (heard last.frames) → last.said ≡ said_in last.groups) → Keeps last → WhereLawful last outs
+where_lawful first last steps outs run w can groups whole plain kept sent read rest p c r =
     let hears = hears_groups last sent read rest can whole plain p c r in
     let alone = hears.0 in
     let taken = taken_heard last read rest whole c in
@@ -227,6 +231,7 @@ where_lawful first last steps outs run w can groups whole plain sent read rest p
     record {
       plain = alone;
       answers = record { responses = answered.0; after = answered.1; answers = answered.2; have_frames = answered.3; pieces = answered.4 };
+      keeps = names_kept last answered.0 answered.1 groups kept answered.2 answered.3 answered.4;
       none_unlawful = none_by first steps outs last run (λ tag e. unlawful_refuted last read rest tag whole c hears.1 (breaks_first first steps outs last run w (faults.Unlawful tag) e));
     }
 
@@ -264,7 +269,7 @@ record SumsTo (a b : LinkSeen) (waits moved : ℕ) : Type 0 where
 sums_none : (a : LinkSeen) → SumsTo a a 0 0
 sums_none a = record { write_waits = 0; read_waits = 0; all = omega arith; writes = omega arith; reads = omega arith; moving = omega arith }
 
-sums_more : (at next mid : Place) (step : Step) (told out : Outcome) (outs : List Outcome) → Plays_call at step told mid → out ≡ record told { groups = out.groups } → SumsTo mid.seen.link next.seen.link (sum_by (λ o. o.waits) outs) (sum_by (λ o. o.moved) outs)
+sums_more : (at next mid : Place) (step : Step) (told out : Outcome) (outs : List Outcome) → Plays_call at step told mid → out ≡ record told { groups = out.groups; cache = out.cache } → SumsTo mid.seen.link next.seen.link (sum_by (λ o. o.waits) outs) (sum_by (λ o. o.moved) outs)
     → SumsTo at.seen.link next.seen.link (sum_by (λ o. o.waits) (out ∷ outs)) (sum_by (λ o. o.moved) (out ∷ outs))
 sums_more at next mid step told out outs one e t =
     let n = one.numbers in

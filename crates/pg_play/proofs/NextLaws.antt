@@ -1,5 +1,5 @@
 -- What a lawful server may begin in response to the group behind a description that an earlier exchange heard whole.
-use Rattle.std.proofs.Common.{◌≡◌, ◌∙◌, ℕ, zero, suc, ◌+◌, ◌≤◌, true, false, cond, List, [], ◌∷◌, ◌++◌, length, map, flat_map, inl, inr, refl, sym, ap, ap₂, subst, append_assoc, append-nil, length-append, arith, Ok}
+use Rattle.std.proofs.Common.{◌≡◌, ◌∙◌, ℕ, zero, suc, ◌+◌, ◌≤◌, true, false, cond, List, [], ◌∷◌, ◌++◌, length, map, flat_map, inl, inr, refl, sym, ap, ap₂, subst, append_assoc, append-nil, length-append, arith}
 use Rattle.std.specs.List.{AllByRecursion, count_by}
 use Rattle.pg_wire.specs.Frame.{Frame}
 use Rattle.pg_wire.specs.Parts.{heard, is_ready}
@@ -12,28 +12,19 @@ use Rattle.pg_stream.specs.Streams.{StreamSeen}
 use Rattle.pg_exchanges.specs.Expecting.{Widths, BeginsKnowing}
 use Rattle.pg_exchanges.specs.Answering.{described, IsNoError, describing}
 use Rattle.pg_call.specs.declared.statement.Extended.{Extended}
-use Rattle.pg_call.specs.declared.request.Request.{Request}
 use Rattle.pg_call.specs.declared.request.Request.TheVariants as requests
 use Rattle.pg_call.specs.declared.answer.CallItem.{CallItem}
-use Rattle.pg_call.specs.declared.answer.CallAnswer.TheVariants as answers
-use Rattle.pg_call.specs.Requests.{Group, said_in, groups_of, name_of, widths_of}
+use Rattle.pg_call.specs.Requests.{Group, said_in, name_of}
 use Rattle.pg_call.specs.Drains.{is_error, after_readys}
-use Rattle.pg_call.specs.Calls.{EndsByReady, IsFine, EndsFine}
-use Rattle.pg_call.proofs.FitLaws.{hands_on_described}
+use Rattle.pg_call.specs.Calls.{EndsByReady, IsFine}
 use Rattle.pg_conn.specs.Connections.{ConnSeen}
-use Rattle.pg_script.specs.declared.step.Call.{Call}
 use Rattle.pg_call.proofs.DrainLaws.{count-cons, count-push, after_from}
-use Rattle.pg_play.specs.Shown.{request_of}
 use Rattle.pg_play.specs.Places.{Place, owed}
 use Rattle.pg_play.specs.Told.{HasNoError}
 use Rattle.pg_play.specs.Plays.{StandsAt}
 use Rattle.pg_play.proofs.PartLaws.{count_after, after_more, after_end, no_error}
 use Rattle.pg_play.proofs.PlaceLaws.{owed_is}
 use Rattle.pg_play.proofs.CalledLaws.{KnownAt}
-use Rattle.pg_play.proofs.ExchangeLaws.{describes, next_bound, IsPlain}
-use Rattle.pg_rule.specs.declared.rule.Rule.{Rule}
-use Rattle.pg_conn.specs.Statements.{asked_by}
-use Rattle.pg_script.specs.declared.step.Call.TheVariants as calls
 use Rattle.pg_play.proofs.LawfulLaws.{parted}
 use Rattle.pg_play.proofs.KnownLaws.{lawful_knows}
 
@@ -50,7 +41,7 @@ replies_same (x ∷ xs) (y ∷ ys) e h k =
 -- ---- the frames behind so many ReadyForQuery
 
 -- once they are read, more frames stand behind what follows them
-after_further : (fs more : List Frame) (p : ℕ) → p ≤ count_by is_ready fs → after_readys p (fs ++ more) ≡ after_readys p fs ++ more
+pub after_further : (fs more : List Frame) (p : ℕ) → p ≤ count_by is_ready fs → after_readys p (fs ++ more) ≡ after_readys p fs ++ more
 after_further fs more zero h = refl
 after_further [] more (suc n) h = absurd (omega arith)
 after_further (g ∷ fs) more (suc n) h =
@@ -61,7 +52,7 @@ after_further (g ∷ fs) more (suc n) h =
     ]) k
 
 -- what is no error stays so
-good_after : (fs : List Frame) (p : ℕ) → HasNoError fs → HasNoError (after_readys p fs)
+pub good_after : (fs : List Frame) (p : ℕ) → HasNoError fs → HasNoError (after_readys p fs)
 good_after fs zero h = h
 good_after [] (suc n) h = tt
 good_after (g ∷ fs) (suc n) h = good_after fs (cond (is_ready g) n (suc n)) h.1
@@ -72,7 +63,7 @@ good_message : (m : BackendMessage) → is_error (backend_frame m) ≡ false →
 good_message (ErrorResponse details) e = absurd cc
 good_message _ e = tt
 
-good_messages : (ms : List BackendMessage) → HasNoError (map backend_frame ms) → AllByRecursion IsNoError ms
+pub good_messages : (ms : List BackendMessage) → HasNoError (map backend_frame ms) → AllByRecursion IsNoError ms
 good_messages [] h = tt
 good_messages (m ∷ ms) h = (good_message m h.0, good_messages ms h.1)
 
@@ -96,7 +87,7 @@ whole_so front z ms e c r =
     only_one p.ps p.own ms p.whole (no_message p.own none) p.count p.ended
 
 -- behind as many ReadyForQuery as are owed, one whole response is left
-whole_behind : (owed : ℕ) (slice : List Frame) (told : List BackendMessage) → count_by is_ready slice ≡ owed + 1 → EndsByReady slice → after_readys owed slice ≡ map backend_frame told → EndsReady told
+pub whole_behind : (owed : ℕ) (slice : List Frame) (told : List BackendMessage) → count_by is_ready slice ≡ owed + 1 → EndsByReady slice → after_readys owed slice ≡ map backend_frame told → EndsReady told
 whole_behind owed slice told c (inl e) a =
     let none : count_by is_ready slice ≡ 0 = ap (λ (t : List Frame). count_by is_ready t) e in
     absurd (omega (arith, c, none))
@@ -122,7 +113,7 @@ knows_next groups name sql types group owed before slice1 slice2 front told gs g
     lawful_knows groups name sql types group heards slice2 front told gs g l all behind (whole_behind owed slice1 told own ends after) frames (good_messages told (subst HasNoError after (good_after slice1 owed good)))
 
 -- behind a description that was answered, the columns of the statement are known
-described_known : (start : StreamSeen) (at next : Place) (a c : ConnSeen) (x : Extended) (said : List FrontendMessage) (slice : List Frame) (items : List CallItem) → StandsAt start at a → StandsAt start next c → next.groups ≡ at.groups ++ describing (name_of x.statement) x.sql x.arguments.types ∷ [] → heard next.frames ≡ heard at.frames ++ slice
+pub described_known : (start : StreamSeen) (at next : Place) (a c : ConnSeen) (x : Extended) (said : List FrontendMessage) (slice : List Frame) (items : List CallItem) → StandsAt start at a → StandsAt start next c → next.groups ≡ at.groups ++ describing (name_of x.statement) x.sql x.arguments.types ∷ [] → heard next.frames ≡ heard at.frames ++ slice
     → (f : IsFine a.ledger (requests.Describe x) said slice items c.ledger) → KnownAt ((name_of x.statement, length (described f.reply)) ∷ []) next
 described_known start at next a c x said slice items st st' groups frames f group more front g l count =
     let widths : Widths = (name_of x.statement, length (described f.reply)) ∷ [] in
@@ -131,13 +122,3 @@ described_known start at next a c x said slice items st st' groups frames f grou
     let none_owed : owed next ≡ 0 = owed_is start next c st' ∙ f.owes in
     subst (λ (n : ℕ). BeginsKnowing widths group (after_readys n more ++ front ∷ [])) (sym none_owed)
     (knows_next at.groups (name_of x.statement) x.sql x.arguments.types group a.ledger.owed (heard at.frames) slice more front f.reply st.are_groups g may st.ledger st.between f.counted answered (no_error slice f.well) f.ends f.replied f.reply_has_frames)
-
--- what an exchange that hands on has told is known where the next one begins
-pub known_behind : (rule : Rule) (start : StreamSeen) (at next : Place) (a c : ConnSeen) (d : ℕ) (call : Call) (after : Request) (said : List FrontendMessage) (slice : List Frame) (items : List CallItem) → IsPlain call → StandsAt start at a → StandsAt start next c → next.groups ≡ at.groups ++ groups_of (request_of d call) → heard next.frames ≡ heard at.frames ++ slice
-    → EndsFine a.ledger (request_of d call) said slice items c.ledger (Ok (answers.Next after)) → KnownAt (widths_of (asked_by rule after)) next
-known_behind rule start at next a c d call after said slice items p st st' groups frames e =
-    let is = describes d call (hands_on_described (request_of d call) e.0.reply e.0.status after e.1) in
-    behind is.0 (subst IsPlain is.1 p) (groups ∙ ap (λ (y : Call). at.groups ++ groups_of (request_of d y)) is.1) (subst (λ (y : Call). EndsFine a.ledger (request_of d y) said slice items c.ledger (Ok (answers.Next after))) is.1 e)
-  where
-    behind : (x : Extended) → IsPlain (calls.Describe x) → next.groups ≡ at.groups ++ describing (name_of x.statement) x.sql x.arguments.types ∷ [] → EndsFine a.ledger (requests.Describe x) said slice items c.ledger (Ok (answers.Next after)) → KnownAt (widths_of (asked_by rule after)) next
-    behind x p g f = subst (λ (r : Request). KnownAt (widths_of r) next) (sym (next_bound rule x p.0 f.0.reply f.0.status after p.1 p.2 f.1)) (described_known start at next a c x said slice items st st' g frames f.0)

@@ -11,9 +11,10 @@ use Rattle.pg_wire.specs.declared.error.ProtocolFault.TheVariants as protocol
 use Rattle.pg_wire.specs.declared.error.ServerFault.{ServerFault}
 use Rattle.pg_wire.specs.Frame.{Frame}
 use Rattle.pg_wire.specs.Parts.{heard, is_ready, parts}
-use Rattle.pg_wire.specs.Frontend.{FrontendMessage, HasFrontendFrame, Parse, DescribeStatement, Bind, Execute, ClosePortal}
+use Rattle.pg_wire.specs.Frontend.{FrontendMessage, HasFrontendFrame, Parse, DescribeStatement, Bind, Execute, ClosePortal, CloseStatement}
 use Rattle.pg_wire.specs.Backend.{BackendMessage, backend_frame}
-use Rattle.pg_wire.specs.Groups.{IsGroup}
+use Rattle.pg_wire.specs.Groups.{IsGroup, IsInner}
+use Rattle.pg_exchanges.specs.Answering.{closing}
 use Rattle.pg_wire.proofs.PartLaws.{heard-append}
 use Rattle.pg_stream.specs.Streams.{StreamSeen}
 use Rattle.pg_call.specs.declared.request.Request.{Request}
@@ -158,6 +159,14 @@ own_said p d call own hs (inr q) =
     let all : messages_of (request_of d call) ≡ said_in (groups_of (request_of d call)) = ap (λ (b : List FrontendMessage). said_in (groups_of (request_of d call)) ++ b) (no_close d call) ∙ append-nil _ in
     rw q.own_is (subst (AllByRecursion HasFrontendFrame) all q.can.0)
 
+-- a group that closes statements
+closing_group : (names : List (List ℕ)) → IsGroup (closing names)
+closing_group names = inr (map CloseStatement names, inner names, refl)
+  where
+    inner : (names : List (List ℕ)) → AllByRecursion IsInner (map CloseStatement names)
+    inner [] = tt
+    inner (name ∷ names) = (tt, inner names)
+
 groups_asked : (d : ℕ) (call : Call) → AllByRecursion IsGroup (groups_of (request_of d call))
 groups_asked d (calls.Execute query) = (inl (query.sql, refl), tt)
 groups_asked d (calls.ExecuteMany query) = (inl (query.sql, refl), tt)
@@ -177,6 +186,11 @@ groups_asked (suc left) calls.Rollback = (inl (rollback_text left, refl), tt)
 groups_asked d calls.StartRollback = tt
 groups_asked d (calls.Describe extended) = (inr (Parse (name_of extended.statement) extended.sql extended.arguments.types ∷ DescribeStatement (name_of extended.statement) ∷ [], (tt, (tt, tt)), refl), tt)
 groups_asked d (calls.Run bound) = (inr (Bind (name_of bound.statement) bound.arguments.values ∷ Execute [] 0 ∷ ClosePortal [] ∷ [], (tt, (tt, (tt, tt))), refl), tt)
+groups_asked d (calls.Prepare preparation) = tt
+groups_asked d calls.Clear = tt
+groups_asked d (calls.Evict eviction) = (closing_group (name_of eviction.statement ∷ []), tt)
+groups_asked d (calls.Tell prepared) = tt
+groups_asked d (calls.CloseAll statements) = (closing_group (map name_of statements), tt)
 
 pub own_groups : (p : ℕ) (d : ℕ) (call : Call) (own : List Group) (hs : List Frame) → (own ≡ []) ⊎ QueuedOwn p (request_of d call) own hs → AllByRecursion IsGroup own
 own_groups p d call own hs (inl e) = rw e tt
@@ -226,9 +240,16 @@ between_next start at a own fs st =
 
 -- ---- Query and Sync messages, one in each group
 
-requests_failed : (n : ℕ) → count_by ends_request (replicate n copy_fail) ≡ 0
+pub requests_failed : (n : ℕ) → count_by ends_request (replicate n copy_fail) ≡ 0
 requests_failed zero = refl
 requests_failed (suc n) = omega (arith, counts-append (copy_fail ∷ []) (replicate n copy_fail), no_groups true, requests_failed n)
+
+requests_closing : (names : List (List ℕ)) → count_by ends_request (said_in (closing names ∷ [])) ≡ 1
+requests_closing names = ap (λ (m : List FrontendMessage). count_by ends_request m) (append-nil (closing names)) ∙ one names
+  where
+    one : (names : List (List ℕ)) → count_by ends_request (closing names) ≡ 1
+    one [] = refl
+    one (name ∷ names) = omega (arith, counts-append (CloseStatement name ∷ []) (closing names), one names)
 
 requests_asked : (d : ℕ) (call : Call) → count_by ends_request (said_in (groups_of (request_of d call))) ≡ length (groups_of (request_of d call))
 requests_asked d (calls.Execute query) = refl
@@ -249,8 +270,13 @@ requests_asked (suc left) calls.Rollback = refl
 requests_asked d calls.StartRollback = refl
 requests_asked d (calls.Describe extended) = refl
 requests_asked d (calls.Run bound) = refl
+requests_asked d (calls.Prepare preparation) = refl
+requests_asked d calls.Clear = refl
+requests_asked d (calls.Evict eviction) = requests_closing (name_of eviction.statement ∷ [])
+requests_asked d (calls.Tell prepared) = refl
+requests_asked d (calls.CloseAll statements) = requests_closing (map name_of statements)
 
-requests_own : (p : ℕ) (d : ℕ) (call : Call) (own : List Group) (hs : List Frame) → (own ≡ []) ⊎ QueuedOwn p (request_of d call) own hs → count_by ends_request (said_in own) ≡ length own
+pub requests_own : (p : ℕ) (d : ℕ) (call : Call) (own : List Group) (hs : List Frame) → (own ≡ []) ⊎ QueuedOwn p (request_of d call) own hs → count_by ends_request (said_in own) ≡ length own
 requests_own p d call own hs (inl e) = rw e refl
 requests_own p d call own hs (inr q) = rw q.own_is (requests_asked d call)
 
@@ -276,7 +302,6 @@ stands_next start at a b d call said fs items end st s flows broken idle rule ro
   broken = broken ∙ ap (λ (o : Option ServerFault). broken_after o end) st.broken;
   seen = refl;
   rule = rule ∙ st.rule;
-  kept = st.kept;
   room = room;
   idle = idle;
   sayable = each_join HasFrontendFrame at.said said st.sayable (subst (AllByRecursion HasFrontendFrame) (sym (said_is_queued start at a (request_of d call) said (heard fs) items b.ledger end st s))

@@ -2,7 +2,7 @@
 use Rattle.std.proofs.Common.{◌≡◌, ◌≢◌, ℕ, ◌+◌, ◌*◌, ◌^◌, ◌≤◌, ◌<◌, Bool, true, false, cond, ◌⊎◌, inl, inr, List, [], ◌∷◌, ◌++◌, length, replicate, refl, sym, ap, ap₂, ◌∙◌, subst, arith, append_assoc, append-nil, Option, Some, None, sum_by}
 use Rattle.pg_play.proofs.IdleLaws.{idles_all}
 use Rattle.pg_play.specs.Idles.{SaysIdle, statuses}
-use Rattle.pg_play.proofs.SettledLaws.{settles_rollback, cleanup_polled, depth_other, depth_stands}
+use Rattle.pg_play.proofs.SettledLaws.{settles_rollback, cleanup_polled, depth_other, depth_stands, moved_other, none_handed, rolls_tells}
 use Rattle.std.specs.Io.KnownBytes.{Appends}
 use Rattle.pg_wire.specs.declared.error.Error.TheVariants as errors
 use Rattle.pg_wire.specs.declared.error.Error.{Error}
@@ -41,45 +41,53 @@ use Rattle.pg_play.specs.Calls.{WaitsFew, PlaysCall, PlaysStep, IsUnpolled, limi
 use Rattle.pg_play.specs.Places.{Place, owed, drained, unfed, queued_by, refuses_copy, Queues, first_place, is_fine}
 use Rattle.pg_play.specs.Told.{Numbers, CountsTo, WellAtOk}
 use Rattle.pg_play.specs.Causes.{AnsweredPending, IsDropped, HasCause, KeepsFault, EndsDuly, OpensSavepoint}
-use Rattle.pg_play.specs.Settling.{Settles}
+use Rattle.pg_play.specs.Settling.{Settles, depth_after, has_moved, held_after, statements_after, step_after}
 use Rattle.pg_play.specs.WaitPlaces.{LastPlaces}
-use Rattle.pg_play.specs.Plays.{IsNeverUnlawful, Plays_call, ActsAtOnce, Plays_step, Plays_from, places_in, TakesInTime, StandsAt, PlaysOn, TellsBytes, Plays, Totals}
+use Rattle.pg_play.specs.Plays.{IsNeverUnlawful, Plays_call, ActsAtOnce, Plays_step, Plays_from, places_in, TakesInTime, StandsAt, PlaysOn, TellsBytes, Plays, Totals, over}
 use Rattle.pg_play.specs.Starts.{Opening, IsOf, HasOpened}
 use Rattle.pg_startup.proofs.FlowLaws.{Flows-none}
 use Rattle.pg_play.proofs.PartLaws.{take_none}
 use Rattle.pg_call.proofs.RefusalLaws.{memory_refuses}
-use Rattle.pg_exchanges.specs.Expecting.{Widths}
 use Rattle.pg_play.specs.Shown.{asked_of, first_call, next_call, IsWanted}
-use Rattle.pg_play.proofs.CallLaws.{left_idle, asked_changes, begun_changes, wanted_held}
-use Rattle.pg_play.proofs.ExchangeLaws.{first_request, first_acts, first_begins_with, first_waits, first_widths, first_plain, asked_wanted}
+use Rattle.pg_play.proofs.CallLaws.{left_idle, asked_changes, begun_changes, wanted_held, wanted_stays}
+use Rattle.pg_play.proofs.ExchangeLaws.{first_request, first_acts, first_begins_with, first_waits, asked_wanted}
+use Rattle.pg_play.proofs.KeptLaws.{first_known, first_sound, keeps_first, keeps_next}
+use Rattle.pg_play.specs.Kept.{Keeps}
+use Rattle.pg_call.specs.declared.kind.Keeping.{Keeping}
+use Rattle.pg_call.specs.declared.kind.Keeping.TheVariants as keepings
+use Rattle.pg_call.specs.declared.statement.Extended.{Extended}
+use Rattle.pg_request.specs.declared.progress.CacheStep.{CacheStep}
+use Rattle.pg_request.specs.declared.progress.CacheStep.TheVariants as cache
+use Rattle.pg_conn.specs.Statements.{step_of}
+use Rattle.pg_conn.specs.Connections.{Standing}
+use Rattle.pg_call.specs.Requests.{keeping_of}
 use Rattle.pg_play.proofs.DueLaws.{WithinMost, some_of, polled_most, and_true, duly_step, duly_handed, duly_out}
 use Rattle.pg_play.proofs.PlaceLaws.{ends_summary, next_place}
 use Rattle.pg_play.proofs.ToldLaws.{CountsOn}
 use Rattle.pg_play.proofs.LinkLaws.{where_lawful, totals_all}
 use Rattle.pg_play.proofs.CompleteLaws.{where_faultless}
-use Rattle.pg_play.proofs.CalledLaws.{KnownAt, known_none}
 use Rattle.pg_play.proofs.InTurnLaws.{AddUp, add_none, add_one, add_alone, counts_settled, InTurn, one_turn, BeginsAt, PlaysInTurn, same_but_groups, last_turn, turns_through}
 use Rattle.pg_play.proofs.WaitPlaceLaws.{places_quiet, places_last, given_next, takes_all}
 
 -- ---- one step
 
 abbrev StepsTo : StreamSeen → Place → Step → Outcome → ConnSeen → Type 0
-StepsTo start at step out d = (next : Place) × Plays_step at step out next × StandsAt start next d
+StepsTo start at step out d = (next : Place) × Plays_step at step out next × StandsAt start next d × Keeps next
 
 -- a step begins with the first exchange of its call
-abbrev first_step : Step → Step
-first_step step = record step { call = first_call step.call }
+abbrev first_step : Rule → Step → Step
+first_step rule step = record step { call = first_call rule step.call }
 
 counts_to : (n m k : ℕ) → GrewBy n 0 m → k ≡ m → CountsTo n k
 counts_to n m k g e = (omega (arith, g.1, e), omega (arith, g.2, e))
 
 -- its exchanges come in turn, and their numbers are told in sum
-steps_to : (start : StreamSeen) (at : Place) (step : Step) (out : Outcome) (stop : Place) (d : ConnSeen) → InTurn start at step (first_call step.call) none_counted out stop d → out.waits < 2 ^ 32 → d.stream.link.calls ≤ at.seen.link.calls + 256 * (step.polls + step.most) → (out.end ≡ ends.Dropped → IsDropped at step out stop)
-    → (acts_at_once step.call ≡ true → ActsAtOnce at out stop) → (acts_at_once step.call ≡ false → EndsDuly at step (request_of at.rule.depth (first_call step.call)) out stop) → StepsTo start at step out d
+steps_to : (start : StreamSeen) (at : Place) (step : Step) (out : Outcome) (stop : Place) (d : ConnSeen) → InTurn start at step (first_call at.rule step.call) none_counted out stop d → out.waits < 2 ^ 32 → d.stream.link.calls ≤ at.seen.link.calls + 256 * (step.polls + step.most) → (out.end ≡ ends.Dropped → IsDropped at step out stop)
+    → (acts_at_once step.call ≡ true → ActsAtOnce at out stop) → (acts_at_once step.call ≡ false → EndsDuly at step (request_of at.rule.depth (first_call at.rule step.call)) out stop) → StepsTo start at step out d
 steps_to start at step out stop d t few calls dropped now duly = (
   t.next,
   record {
-    exchanges = first_step step ∷ t.later;
+    exchanges = first_step at.rule step ∷ t.later;
     outs = t.told ∷ t.outs;
     run = t.run;
     first = refl;
@@ -92,7 +100,7 @@ steps_to start at step out stop d t few calls dropped now duly = (
       heard = counts_to (sum_by (λ (x : Outcome). x.heard) (t.told ∷ t.outs)) out.heard out.heard t.adds.heard refl;
       waits = exactly (sum_by (λ (x : Outcome). x.waits) (t.told ∷ t.outs)) out.waits t.adds.waits few;
       moved = counts_to (sum_by (λ (x : Outcome). x.moved) (t.told ∷ t.outs)) out.moved out.moved t.adds.moved refl;
-      cache = t.same;
+      cache = t.caches;
     };
     stop = stop;
     stops = t.stops;
@@ -102,6 +110,7 @@ steps_to start at step out stop d t few calls dropped now duly = (
     duly = duly;
   },
   t.stands,
+  t.keeps,
 )
   where
     exactly : (n m : ℕ) → GrewBy n 0 m → m < 2 ^ 32 → m ≡ n
@@ -110,32 +119,40 @@ steps_to start at step out stop d t few calls dropped now duly = (
 none_opens : (m : ConnSeen) → m.groups ≡ 0 → cleaned m ≡ ended_conn (record m { rule = unmoved m.keeping m.rule })
 none_opens m e = rw e refl
 
-behind_none : (end : End) (m : ConnSeen) → all_groups m ≡ 0 → all_groups (behind_end end m) ≡ 0
-behind_none (ends.Ok answer) m e = e
-behind_none (ends.Err x) m e = ap (λ (c : ConnSeen). all_groups c) (none_opens m (omega (arith, e))) ∙ e
-behind_none ends.Dropped m e = ap (λ (c : ConnSeen). all_groups c) (none_opens m (omega (arith, e))) ∙ e
+-- where no group was queued, an end that isn't Ok tells nothing of the statements
+still_made : (end : End) (m : ConnSeen) → all_groups m ≡ 0 → is_fine end ≡ false → (all_groups (behind_end end m) ≡ 0) × ((behind_end end m).cache ≡ m.cache)
+still_made (ends.Ok answer) m e f = absurd cc
+still_made (ends.Err x) m e f = let is = none_opens m (omega (arith, e)) in (ap (λ (c : ConnSeen). all_groups c) is ∙ e, ap (λ (c : ConnSeen). c.cache) is)
+still_made ends.Dropped m e f = let is = none_opens m (omega (arith, e)) in (ap (λ (c : ConnSeen). all_groups c) is ∙ e, ap (λ (c : ConnSeen). c.cache) is)
+
+-- nor does a call that makes nothing of them
+plainly_made : (end : End) (m : ConnSeen) → all_groups m ≡ 0 → m.keeping ≡ keepings.Stays → (all_groups (behind_end end m) ≡ 0) × ((behind_end end m).cache ≡ m.cache)
+plainly_made (ends.Ok answer) m e k = (e, ap (λ (x : Keeping). step_of x m.cache) k)
+plainly_made (ends.Err x) m e k = still_made (ends.Err x) m e refl
+plainly_made ends.Dropped m e k = still_made ends.Dropped m e refl
 
 -- the first exchange of a call begins as any other
-begins_first : (start : StreamSeen) (at : Place) (a : ConnSeen) (step : Step) → StandsAt start at a → acts_at_once step.call ≡ false → BeginsAt start at a none_counted (first_call step.call)
-begins_first start at a step st later = record {
+begins_first : (start : StreamSeen) (at : Place) (a : ConnSeen) (step : Step) → StandsAt start at a → Keeps at → acts_at_once step.call ≡ false → BeginsAt start at a none_counted (first_call at.rule step.call)
+begins_first start at a step st k later = record {
   stands = st;
-  polled = first_acts step.call ∙ later;
-  known = subst (λ (w : Widths). KnownAt w at) (sym (first_widths at.rule.depth step.call)) (known_none start at a st);
+  polled = first_acts at.rule step.call ∙ later;
+  known = first_known start at a at.rule.depth step.call st k;
   fits = omega arith;
-  plain = first_plain step.call;
+  keeps = k;
+  sound = first_sound at.rule step.call;
 }
 
 -- what its exchanges came to is the step's
-polled_turns : (start : StreamSeen) (at : Place) (a b : ConnSeen) (step : Step) (out : Outcome) (stop : Place) → StandsAt start at a → acts_at_once step.call ≡ false → step.polls < 2 ^ 32 → PlaysInTurn start (begun_call (request_of at.rule.depth (first_call step.call)) a).stream at step (first_call step.call) none_counted out stop b
-    → EndsDuly at step (request_of at.rule.depth (first_call step.call)) out stop → StepsTo start at step out b
+polled_turns : (start : StreamSeen) (at : Place) (a b : ConnSeen) (step : Step) (out : Outcome) (stop : Place) → StandsAt start at a → acts_at_once step.call ≡ false → step.polls < 2 ^ 32 → PlaysInTurn start (begun_call (request_of at.rule.depth (first_call at.rule step.call)) a).stream at step (first_call at.rule step.call) none_counted out stop b
+    → EndsDuly at step (request_of at.rule.depth (first_call at.rule step.call)) out stop → StepsTo start at step out b
 polled_turns start at a b step out stop st later p o duly =
     steps_to start at step out stop b o.turns (omega (arith, o.waits, p)) (omega (arith, o.calls, ap (λ (x : StreamSeen). x.link.calls) st.seen)) o.dropped (λ now. let x = sym later ∙ now in absurd cc)
     (λ x. duly)
 
-polled_step : (start : StreamSeen) (at : Place) (a b : ConnSeen) (step : Step) (out : Outcome) → StandsAt start at a → (IsUnpolled step → ⊥) → (OpensSavepoint at step → ⊥) → acts_at_once step.call ≡ false → step.polls < 2 ^ 32
-    → PlaysCall (limits_of step) (begun_call (request_of at.rule.depth (first_call step.call)) a) b (request_of at.rule.depth (first_call step.call)) out → StepsTo start at step out b
-polled_step start at a b step out st n opens later p ([], (m, (said, fs, e, last), over, is, outcome)) =
-    let call = first_call step.call in
+polled_step : (start : StreamSeen) (at : Place) (a b : ConnSeen) (step : Step) (out : Outcome) → StandsAt start at a → Keeps at → (IsUnpolled step → ⊥) → (OpensSavepoint at step → ⊥) → acts_at_once step.call ≡ false → step.polls < 2 ^ 32
+    → PlaysCall (limits_of step) (begun_call (request_of at.rule.depth (first_call at.rule step.call)) a) b (request_of at.rule.depth (first_call at.rule step.call)) out → StepsTo start at step out b
+polled_step start at a b step out st k n opens later p ([], (m, (said, fs, e, last), over, is, outcome)) =
+    let call = first_call at.rule step.call in
     let r = request_of at.rule.depth call in
     let begun = begun_call r a in
     let d : ConnSeen = behind_end out.end m in
@@ -143,15 +160,16 @@ polled_step start at a b step out st n opens later p ([], (m, (said, fs, e, last
     let real : Outcome = outcome_of d out.items out.end in
     let found = ends_summary a.broken (limits_of step) begun.stream begun m at.rule.depth call said (heard fs) out.items out.end e.ends in
     let stop : Place = next_place at m said found.1.own fs out.end in
-    let turn = last_turn start begun.stream none_counted at a m step call out.items out.end said fs (begins_first start at a step st later) p refl refl (polled_most step n) e last over found in
-    let dues : EndsDuly at step r raw stop = duly_step start at a m step r raw said fs found.0 st n opens p e found.1 refl (λ x. ap (λ (y : Call). request_of at.rule.depth (first_call y)) x) (λ w. turn.0.most (first_waits step.call w)) in
-    let steps : StepsTo start at step real d = polled_turns start at a d step real stop st later p turn.0 (duly_out at step r raw real stop turn.1 (behind_none out.end m) dues) in
+    let turn = last_turn start begun.stream none_counted at a m step call out.items out.end said fs (begins_first start at a step st k later) p refl refl (polled_most step n) e last over found in
+    let dues : EndsDuly at step r raw stop = duly_step start at a m step r raw said fs found.0 st n opens p e found.1 refl (λ x. ap (λ (y : Call). request_of at.rule.depth (first_call at.rule y)) x) (λ w. turn.0.most (first_waits at.rule step.call w)) in
+    let steps : StepsTo start at step real d = polled_turns start at a d step real stop st later p turn.0 (duly_out at step r raw real stop turn.1 (λ z f. still_made out.end m z f)
+    (λ z c. plainly_made out.end m z (ap (λ (x : Standing). x.keeping) e.went.started.3 ∙ ap (λ (y : Call). keeping_of (request_of at.rule.depth (first_call at.rule y))) c)) dues) in
     subst (λ (x : Outcome). StepsTo start at step x b) (sym (outcome ∙ ap (λ (x : ConnSeen). outcome_of x out.items out.end) is)) (subst (λ (x : ConnSeen). StepsTo start at step real x) (sym is) steps)
-polled_step start at a b step out st n opens later p (next ∷ more, played) =
-    let r = request_of at.rule.depth (first_call step.call) in
-    let t = turns_through (next ∷ more) start (begun_call r a).stream none_counted at a b step (first_call step.call) out (begins_first start at a step st later) p refl refl (polled_most step n) played in
+polled_step start at a b step out st k n opens later p (next ∷ more, played) =
+    let r = request_of at.rule.depth (first_call at.rule step.call) in
+    let t = turns_through (next ∷ more) start (begun_call r a).stream none_counted at a b step (first_call at.rule step.call) out (begins_first start at a step st k later) p refl refl (polled_most step n) played in
     polled_turns start at a b step out t.0 st later p t.1
-    (duly_handed start at t.0 a played.0 step r next out st n opens played.1 (λ x. ap (λ (y : Call). request_of at.rule.depth (first_call y)) x) t.1.few (λ w. t.1.most (first_waits step.call w)))
+    (duly_handed start at t.0 a played.0 step r next out st n opens played.1 (λ x. ap (λ (y : Call). request_of at.rule.depth (first_call at.rule y)) x) t.1.few (λ w. t.1.most (first_waits at.rule step.call w)))
 
 -- a step that does nothing, and is no failure of the server
 abbrev IsQuiet : End → Type 0
@@ -259,17 +277,37 @@ quiet_call at step out end k q f c now =
     at_once_asks d calls.StartRollback e = refl
     at_once_asks d _ e = absurd cc
 
+-- what a step asks first makes nothing of the statements, where it isn't asked
+first_unmoved : (rule : Rule) (d : ℕ) (call : Call) → unmoved (keeping_of (request_of d (first_call rule call))) rule ≡ rule
+first_unmoved rule d call =
+    let wanted = asked_wanted d call in
+    ap (λ (r : Request). unmoved (keeping_of r) rule) (first_request rule d call)
+    ∙ ap (λ (k : Rule). unmoved (keeping_of (asked_by rule (begun_as rule (asked_of d call)))) k) (sym (wanted_held rule (asked_of d call) wanted))
+    ∙ wanted_stays rule (asked_of d call) wanted
+
+over_same : (step : CacheStep) → step ≡ over cache.Same step
+over_same cache.Same = refl
+over_same cache.Hit = refl
+over_same cache.Put = refl
+over_same cache.PutEvicting = refl
+
 -- and the connection makes nothing of it
-quiet_step : (start : StreamSeen) (at : Place) (a : ConnSeen) (step : Step) (out : Outcome) (end : End) → StandsAt start at a → acts_at_once step.call ≡ false → is_fine end ≡ false → out ≡ untouched end → IsQuiet end → (one : Plays_call at (first_step step) out at) → one.own ≡ [] → (out.end ≡ ends.Dropped → IsDropped at step out at)
-    → EndsDuly at step (request_of at.rule.depth (first_call step.call)) out at → StepsTo start at step out a
-quiet_step start at a step out end st later f k q one none dropped duly =
+quiet_step : (start : StreamSeen) (at : Place) (a : ConnSeen) (step : Step) (out : Outcome) (end : End) → StandsAt start at a → Keeps at → acts_at_once step.call ≡ false → is_fine end ≡ false → out ≡ untouched end → IsQuiet end → (one : Plays_call at (first_step at.rule step) out at) → one.own ≡ [] → (out.end ≡ ends.Dropped → IsDropped at step out at)
+    → EndsDuly at step (request_of at.rule.depth (first_call at.rule step.call)) out at → StepsTo start at step out a
+quiet_step start at a step out end st kept later f k q one none dropped duly =
     let ends_so : out.end ≡ end = ap (λ (x : Outcome). x.end) k in
     let groups : out.groups ≡ 0 = ap (λ (x : Outcome). x.groups) k in
-    let waits : acts_at_once (first_call step.call) ≡ false = first_acts step.call ∙ later in
-    let settles : Settles at (first_step step) out out one.own at at = record {
+    let waits : acts_at_once (first_call at.rule step.call) ≡ false = first_acts at.rule step.call ∙ later in
+    let made : has_moved one.own out.end ≡ false = ap (λ (o : List Group). has_moved o out.end) none ∙ moved_other [] out.end (ap is_fine ends_so ∙ f) in
+    let call : Call = first_call at.rule step.call in
+    let settles : Settles at (first_step at.rule step) out out one.own one.told.response at at = record {
       cleanup = [];
-      cleans = rw none (sym (cleanup_polled at.rule.depth (first_call step.call) out.end [] (owed at) waits));
-      rule = ap (λ (n : ℕ). with_depth n at.rule) (sym (depth_other at.rule.depth (first_call step.call) out.end (ap is_fine ends_so ∙ f) waits));
+      cleans = rw none (sym (cleanup_polled at.rule.depth (first_call at.rule step.call) out.end [] (owed at) waits));
+      rule = sym (
+        ap (λ (o : Option Request). held_after o (statements_after (keeping_of (request_of at.rule.depth call)) (has_moved one.own out.end) (with_depth (depth_after at.rule.depth call out.end) at.rule))) (none_handed out.end call one.told.response (ap is_fine ends_so ∙ f))
+        ∙ ap₂ (λ (b : Bool) (n : ℕ). statements_after (keeping_of (request_of at.rule.depth call)) b (with_depth n at.rule)) made (depth_other at.rule.depth call out.end (ap is_fine ends_so ∙ f) waits)
+        ∙ first_unmoved at.rule at.rule.depth step.call
+      );
       said = sym (append-nil at.said);
       groups = sym (append-nil at.groups);
       seen = ap (λ (u : List ℕ). record at.seen { unsent = u }) (sym (append-nil at.seen.unsent));
@@ -277,10 +315,11 @@ quiet_step start at a step out end st later f k q one none dropped duly =
       failed = refl;
       broken = refl;
       outcome = refl;
+      cache = ap (λ (x : Outcome). x.cache) k ∙ ap (λ (b : Bool). step_after (keeping_of (request_of at.rule.depth call)) b) (sym made);
       counted = rw (none, groups) (omega arith);
     } in
     let none_waits : out.waits ≡ 0 = ap (λ (x : Outcome). x.waits) k in
-    let turns = one_turn start at at at a step (first_call step.call) none_counted out out out one (quiet_lawful at out (subst IsQuiet (sym ends_so) q)) (places_quiet at out (ap (λ (x : Outcome). x.waits) k)) (NoneFalls-refl at.seen.link) settles st refl refl (add_alone out) (ap (λ (x : Outcome). x.cache) k)
+    let turns = one_turn start at at at a step (first_call at.rule step.call) none_counted out out out one (quiet_lawful at out (subst IsQuiet (sym ends_so) q)) (places_quiet at out (ap (λ (x : Outcome). x.waits) k)) (NoneFalls-refl at.seen.link) settles st kept refl refl (add_alone out) (over_same out.cache)
     (λ z. let x = sym (ap is_fine ends_so ∙ f) ∙ z in absurd cc) in
     steps_to start at step out at a turns (omega (arith, none_waits)) (omega (arith, ap (λ (x : StreamSeen). x.link.calls) st.seen)) dropped (λ now. let x = sym later ∙ now in absurd cc) (λ x. duly)
 
@@ -336,21 +375,26 @@ refused_duly at step r out n opens k = record {
 rolled_call : (at : Place) (step : Step) → step.call ≡ calls.StartRollback → Plays_call at step (untouched (ends.Ok AnswersUnit)) at
 rolled_call at step c = quiet_call at step (untouched (ends.Ok AnswersUnit)) (ends.Ok AnswersUnit) refl (inr (inr (inr refl))) (λ f. ap acts_at_once c) tt (λ now. (refl, refl))
 
-rolled_step : (start : StreamSeen) (at : Place) (a b : ConnSeen) (step : Step) → StandsAt start at a → a.rule.depth < 2 ^ 64 → step.call ≡ calls.StartRollback → b ≡ rolled_back a → StepsTo start at step (rolled_outcome b) b
+rolls_none : {call : Call} (x : Extended) → call ≡ calls.StartRollback → call ≡ calls.Describe x → ⊥
+rolls_none {call} x c d = let y : calls.StartRollback ≡ calls.Describe x = sym c ∙ d in cc
+
+rolled_step : (start : StreamSeen) (at : Place) (a b : ConnSeen) (step : Step) → StandsAt start at a → Keeps at → a.rule.depth < 2 ^ 64 → step.call ≡ calls.StartRollback → b ≡ rolled_back a → StepsTo start at step (rolled_outcome b) b
 unfolding quiet_call rolled_call
-rolled_step start at a b step st l c is =
+rolled_step start at a b step st kept l c is =
     let told : Outcome = untouched (ends.Ok AnswersUnit) in
-    let first : Step = first_step step in
-    let rolls : first.call ≡ calls.StartRollback = ap first_call c in
+    let first : Step = first_step at.rule step in
+    let rolls : first.call ≡ calls.StartRollback = ap (first_call at.rule) c in
     let one : Plays_call at first told at = rolled_call at first rolls in
     let settled = settles_rollback start at a b first st l rolls is in
     let grew : CountsOn none_counted (ended_conn (counted_anew a)) told = record { groups = omega arith; behind = refl; fits = omega arith; heard = omega arith; waits = omega arith; moved = omega arith } in
-    let same : rolled_outcome b ≡ record told { groups = all_groups b } = same_but_groups (ended_conn (counted_anew a)) b [] (ends.Ok AnswersUnit) settled.others in
+    let same : rolled_outcome b ≡ record told { groups = all_groups b; cache = b.cache } = same_but_groups (ended_conn (counted_anew a)) b [] (ends.Ok AnswersUnit) (settled.others.0, settled.others.1, settled.others.2) in
+    let rolled_so : rolled_outcome b ≡ record told { groups = all_groups b } = same ∙ ap (λ (x : CacheStep). record told { groups = all_groups b; cache = x }) (settled.others.4 ∙ ap (λ (x : CacheStep). over cache.Same x) (settled.settles.cache ∙ sym (rolls_tells at first rolls))) in
     let adds : AddUp none_counted (settled.out ∷ []) (rolled_outcome b) = add_one none_counted b settled.out [] (rolled_outcome b) (counts_settled start none_counted at at (ended_conn (counted_anew a)) b first told one settled grew) (add_none b [] (ends.Ok AnswersUnit)) in
     let k = settled.settles.outcome in
-    let turns = one_turn start at at settled.next b step (first_call step.call) none_counted told settled.out (rolled_outcome b) one (quiet_lawful at told (inr (inr (inr refl)))) (places_quiet at told refl) (NoneFalls-refl at.seen.link) settled.settles settled.stands
-    (sym (ap (λ (x : Outcome). x.items) k)) (sym (ap (λ (x : Outcome). x.end) k)) adds settled.others.4 (λ f. ap (λ (x : Call). next_call x []) rolls) in
-    steps_to start at step (rolled_outcome b) at b turns (omega (arith, settled.others.1)) (omega (arith, ap (λ (x : StreamSeen). x.link.calls) settled.stands.seen, ap (λ (x : StreamSeen). x.link.calls) settled.settles.seen)) (λ x. absurd cc) (λ now. (same, refl)) (λ later. let x = sym later ∙ ap acts_at_once c in absurd cc)
+    let turns = one_turn start at at settled.next b step (first_call at.rule step.call) none_counted told settled.out (rolled_outcome b) one (quiet_lawful at told (inr (inr (inr refl)))) (places_quiet at told refl) (NoneFalls-refl at.seen.link) settled.settles settled.stands
+    (keeps_next at at settled.next first told settled.out one settled.settles kept (first_sound at.rule step.call) (λ x d f. absurd (rolls_none x rolls d)))
+    (sym (ap (λ (x : Outcome). x.items) k)) (sym (ap (λ (x : Outcome). x.end) k)) adds settled.others.4 (λ f. ap (λ (x : Call). next_call settled.next.rule x []) rolls) in
+    steps_to start at step (rolled_outcome b) at b turns (omega (arith, settled.others.1)) (omega (arith, ap (λ (x : StreamSeen). x.link.calls) settled.stands.seen, ap (λ (x : StreamSeen). x.link.calls) settled.settles.seen)) (λ x. absurd cc) (λ now. (rolled_so, refl)) (λ later. let x = sym later ∙ ap acts_at_once c in absurd cc)
 
 -- a call on a connection on which none ran begins with the exchange that the place tells
 first_begun : (a : ConnSeen) (request : Request) → a.call ≡ states.Idle → IsWanted request → first_conn request a ≡ begun_call (first_exchange request a) a
@@ -362,11 +406,11 @@ first_begun a request over w =
     ∙ ap (λ (x : ConnSeen). begun_call (first_exchange request a) x) idles
 
 begins_played : (start : StreamSeen) (at : Place) (a b : ConnSeen) (step : Step) (out : Outcome) → StandsAt start at a → PlaysCall (limits_of step) (first_conn (asked_of at.rule.depth step.call) a) b (first_exchange (asked_of at.rule.depth step.call) a) out
-    → PlaysCall (limits_of step) (begun_call (request_of at.rule.depth (first_call step.call)) a) b (request_of at.rule.depth (first_call step.call)) out
+    → PlaysCall (limits_of step) (begun_call (request_of at.rule.depth (first_call at.rule step.call)) a) b (request_of at.rule.depth (first_call at.rule step.call)) out
 begins_played start at a b step out st played =
     let request = asked_of at.rule.depth step.call in
     let rule : (left a).rule ≡ at.rule = ap (λ (c : ConnSeen). c.rule) (left_idle a st.idle) ∙ st.rule in
-    let same : first_exchange request a ≡ request_of at.rule.depth (first_call step.call) = ap (λ (k : Rule). asked_by k (begun_as k request)) rule ∙ sym (first_request at.rule st.kept at.rule.depth step.call) in
+    let same : first_exchange request a ≡ request_of at.rule.depth (first_call at.rule step.call) = ap (λ (k : Rule). asked_by k (begun_as k request)) rule ∙ sym (first_request at.rule at.rule.depth step.call) in
     subst (λ (q : Request). PlaysCall (limits_of step) (begun_call q a) b q out) same
     (subst (λ (x : ConnSeen). PlaysCall (limits_of step) x b (first_exchange request a) out) (first_begun a request st.idle (asked_wanted at.rule.depth step.call)) played)
 
@@ -374,22 +418,22 @@ begins_played start at a b step out st played =
 undropped : {P : Type 0} (out : Outcome) (e : Error) → out ≡ untouched (ends.Err e) → out.end ≡ ends.Dropped → P
 undropped {P} out e k d = let x : ends.Err e ≡ ends.Dropped = sym (ap (λ (z : Outcome). z.end) k) ∙ d in absurd cc
 
-pub plays_step : (start : StreamSeen) (at : Place) (a b : ConnSeen) (step : Step) (out : Outcome) → StandsAt start at a → a.rule.depth < 2 ^ 64 → PlaysStep a b step out → StepsTo start at step out b
+pub plays_step : (start : StreamSeen) (at : Place) (a b : ConnSeen) (step : Step) (out : Outcome) → StandsAt start at a → Keeps at → a.rule.depth < 2 ^ 64 → PlaysStep a b step out → StepsTo start at step out b
 unfolding quiet_call unpolled_call unmade_call refused_call
-plays_step start at a b step out st l (inl (c, is, k)) = subst (λ (x : Outcome). StepsTo start at step x b) (sym k) (rolled_step start at a b step st l c is)
-plays_step start at a b step out st l (inr (later, inl (u, is, k))) =
-    subst (λ (x : ConnSeen). StepsTo start at step out x) (sym is) (quiet_step start at a step out ends.Dropped st later refl k (inl refl) (unpolled_call at (first_step step) out (first_acts step.call ∙ later) k) refl (λ x. inl u) (unpolled_duly at step (request_of at.rule.depth (first_call step.call)) out u k))
-plays_step start at a b step out st l (inr (later, inr (n, p, inl (opens, is, k)))) =
+plays_step start at a b step out st kept l (inl (c, is, k)) = subst (λ (x : Outcome). StepsTo start at step x b) (sym k) (rolled_step start at a b step st kept l c is)
+plays_step start at a b step out st kept l (inr (later, inl (u, is, k))) =
+    subst (λ (x : ConnSeen). StepsTo start at step out x) (sym is) (quiet_step start at a step out ends.Dropped st kept later refl k (inl refl) (unpolled_call at (first_step at.rule step) out (first_acts at.rule step.call ∙ later) k) refl (λ x. inl u) (unpolled_duly at step (request_of at.rule.depth (first_call at.rule step.call)) out u k))
+plays_step start at a b step out st kept l (inr (later, inr (n, p, inl (opens, is, k)))) =
     let asked : OpensSavepoint at step = (opens.0, omega (arith, opens.1, depth_stands start at a st)) in
-    subst (λ (x : ConnSeen). StepsTo start at step out x) (sym is) (quiet_step start at a step out (ends.Err errors.InvalidSavePointStatement) st later refl k (inr (inr (inl refl))) (refused_call at (first_step step) out (first_acts step.call ∙ later) (first_begins_with step.call ∙ asked.0, asked.1) k) refl (undropped out errors.InvalidSavePointStatement k)
-    (refused_duly at step (request_of at.rule.depth (first_call step.call)) out n asked k))
-plays_step start at a b step out st l (inr (later, inr (n, p, inr (opens, inl (is, k, h))))) =
-    subst (λ (x : ConnSeen). StepsTo start at step out x) (sym is) (quiet_step start at a step out (ends.Err errors.OutOfMemory) st later refl k (inr (inl refl)) (unmade_call at (first_step step) out (first_acts step.call ∙ later) k) refl (undropped out errors.OutOfMemory k) (unmade_duly at step (request_of at.rule.depth (first_call step.call)) out n (opens_not at a step st opens) h k))
+    subst (λ (x : ConnSeen). StepsTo start at step out x) (sym is) (quiet_step start at a step out (ends.Err errors.InvalidSavePointStatement) st kept later refl k (inr (inr (inl refl))) (refused_call at (first_step at.rule step) out (first_acts at.rule step.call ∙ later) (first_begins_with at.rule step.call ∙ asked.0, asked.1) k) refl (undropped out errors.InvalidSavePointStatement k)
+    (refused_duly at step (request_of at.rule.depth (first_call at.rule step.call)) out n asked k))
+plays_step start at a b step out st kept l (inr (later, inr (n, p, inr (opens, inl (is, k, h))))) =
+    subst (λ (x : ConnSeen). StepsTo start at step out x) (sym is) (quiet_step start at a step out (ends.Err errors.OutOfMemory) st kept later refl k (inr (inl refl)) (unmade_call at (first_step at.rule step) out (first_acts at.rule step.call ∙ later) k) refl (undropped out errors.OutOfMemory k) (unmade_duly at step (request_of at.rule.depth (first_call at.rule step.call)) out n (opens_not at a step st opens) h k))
   where
     opens_not : (at : Place) (a : ConnSeen) (step : Step) → StandsAt start at a → ((begins_with step.call ≡ true) × (0 < a.rule.depth) → ⊥) → OpensSavepoint at step → ⊥
     opens_not at a step st f o = f (o.0, omega (arith, o.1, depth_stands start at a st))
-plays_step start at a b step out st l (inr (later, inr (n, p, inr (opens, inr played)))) =
-    polled_step start at a b step out st n (λ o. opens (o.0, omega (arith, o.1, depth_stands start at a st))) later p
+plays_step start at a b step out st kept l (inr (later, inr (n, p, inr (opens, inr played)))) =
+    polled_step start at a b step out st kept n (λ o. opens (o.0, omega (arith, o.1, depth_stands start at a st))) later p
     (begins_played start at a b step out st (subst (λ (d : ℕ). PlaysCall (limits_of step) (first_conn (asked_of d step.call) a) b (first_exchange (asked_of d step.call) a) out) (depth_stands start at a st) played))
 
 -- ---- steps one after another
@@ -401,17 +445,17 @@ plays_more at mid next (s ∷ steps) [] step out run one = absurd run
 plays_more at mid next (s ∷ steps) (o ∷ outs) step out run one = (run.0, run.1, plays_more run.0 mid next steps outs step out run.2 one)
 
 pub plays_on : (a b c : ConnSeen) (steps : List Step) (outs : List Outcome) (step : Step) (out : Outcome) → PlaysOn a b steps outs → b.rule.depth < 2 ^ 64 → PlaysStep b c step out → PlaysOn a c (steps ++ step ∷ []) (outs ++ out ∷ [])
-plays_on a b c steps outs step out run d call start at st =
-    let so_far = run start at st in
-    let one = plays_step start so_far.0 b c step out so_far.2 d call in
-    (one.0, plays_more at so_far.0 one.0 steps outs step out so_far.1 one.1, one.2)
+plays_on a b c steps outs step out run d call start at st kept =
+    let so_far = run start at st kept in
+    let one = plays_step start so_far.0 b c step out so_far.2 so_far.3 d call in
+    (one.0, plays_more at so_far.0 one.0 steps outs step out so_far.1 one.1, one.2, one.3)
 
 pub plays_none : (a : ConnSeen) → PlaysOn a a [] []
-plays_none a start at st = (at, refl, st)
+plays_none a start at st kept = (at, refl, st, kept)
 
 -- ---- from the end of start-up on
 
-stands_first : (opening : Opening) (polls : ℕ) (link : LinkSeen) (a : ConnSeen) → HasOpened opening polls link a → StandsAt a.stream (first_place a.stream) a
+stands_first : (opening : Opening) (polls : ℕ) (link : LinkSeen) (a : ConnSeen) → HasOpened opening polls link a → StandsAt a.stream (first_place opening.options.statement_cache_capacity a.stream) a
 stands_first opening polls link a g = rw g.fresh (record {
   flows = Flows-none g.ready.stream g.ready.stream refl refl refl refl;
   ledger = refl;
@@ -419,7 +463,6 @@ stands_first opening polls link a g = rw g.fresh (record {
   broken = refl;
   seen = refl;
   rule = refl;
-  kept = (refl, refl);
   room = omega arith;
   idle = refl;
   sayable = tt;
@@ -481,18 +524,18 @@ tells_bytes opening polls link a b started at g st s r =
     tells_over opening link g.e g.ready b started at g.of g.begun (subst (λ (x : StreamSeen). StandsAt x at b) (ap (λ (c : ConnSeen). c.stream) g.fresh) st) (s ∙ ap (λ (c : ConnSeen). c.sent) g.fresh) (r ∙ ap (λ (c : ConnSeen). c.read) g.fresh)
 
 -- what was given behind the handshake and before a wait
-in_time : (opening : Opening) (polls : ℕ) (link : LinkSeen) (a : ConnSeen) (steps : List Step) (outs : List Outcome) (last : Place) (g : HasOpened opening polls link a) (run : Plays_from (first_place a.stream) steps outs last) (old new : List ℕ) → link.given ≡ Some old → last.seen.link.given ≡ Some new
-    → TakesInTime (old ++ g.begun.read) new (first_place a.stream) steps outs last run
+in_time : (opening : Opening) (polls : ℕ) (link : LinkSeen) (a : ConnSeen) (steps : List Step) (outs : List Outcome) (last : Place) (g : HasOpened opening polls link a) (run : Plays_from (first_place opening.options.statement_cache_capacity a.stream) steps outs last) (old new : List ℕ) → link.given ≡ Some old → last.seen.link.given ≡ Some new
+    → TakesInTime (old ++ g.begun.read) new (first_place opening.options.statement_cache_capacity a.stream) steps outs last run
 in_time opening polls link a steps outs last g run old new x y =
     let gave : Appends link.given a.stream.link.given g.begun.given = subst (λ (c : ConnSeen). Appends link.given c.stream.link.given g.begun.given) (sym g.fresh) g.begun.gave in
     let held : g.begun.given ≡ g.begun.read ++ a.stream.held = subst (λ (c : ConnSeen). g.begun.given ≡ g.begun.read ++ c.stream.held) (sym g.fresh) g.begun.held in
     let behind : old ++ g.begun.given ≡ (old ++ g.begun.read) ++ a.stream.held = ap (λ (z : List ℕ). old ++ z) held ∙ sym (append_assoc old g.begun.read a.stream.held) in
-    takes_all (old ++ g.begun.read) (old ++ g.begun.given) new (first_place a.stream) steps outs last run (given_next link.given a.stream.link.given old g.begun.given x gave) behind y
+    takes_all (old ++ g.begun.read) (old ++ g.begun.given) new (first_place opening.options.statement_cache_capacity a.stream) steps outs last run (given_next link.given a.stream.link.given old g.begun.given x gave) behind y
 
 pub plays_begun : (opening : Opening) (polls : ℕ) (link last : LinkSeen) (a b : ConnSeen) (started : Started) (steps : List Step) (outs : List Outcome) → HasOpened opening polls link a → PlaysOn a b steps outs → started.sent ≡ a.sent → started.read ≡ a.read → last ≡ b.stream.link → Plays opening polls link last started steps outs
 unfolding tells_bytes tells_over
 plays_begun opening polls link last a b started steps outs g run s r l =
-    let p = run a.stream (first_place a.stream) (stands_first opening polls link a g) in
+    let p = run a.stream (first_place opening.options.statement_cache_capacity a.stream) (stands_first opening polls link a g) (keeps_first opening.options.statement_cache_capacity a.stream) in
     let st = p.2 in
     let bytes : TellsBytes opening link b.stream.link started p.0 = tells_bytes opening polls link a b started p.0 g st s r in
     rw l (record {
@@ -502,16 +545,17 @@ plays_begun opening polls link last a b started steps outs g run s r l =
       counts = NoneFalls-then link a.stream.link b.stream.link g.counts st.flows.counts;
       place = p.0;
       plays = p.1;
+      kept = p.3.orderly;
       bytes = bytes;
       can = st.sayable;
       groups = st.are_groups;
       at_link = sym (ap (λ (x : StreamSeen). x.link) st.seen);
-      totals = subst (λ (x : LinkSeen). Totals a.stream.link x outs) (sym (ap (λ (x : StreamSeen). x.link) st.seen)) (totals_all (first_place a.stream) steps outs p.0 p.1);
-      waits = subst (λ (x : LinkSeen). LastPlaces link x outs (places_in (first_place a.stream) steps outs p.0 p.1)) (sym (ap (λ (x : StreamSeen). x.link) st.seen))
-          (places_last link (first_place a.stream) steps outs p.0 p.1 g.begun.given g.counts (subst (λ (c : ConnSeen). Appends link.given c.stream.link.given g.begun.given) (sym g.fresh) g.begun.gave));
+      totals = subst (λ (x : LinkSeen). Totals a.stream.link x outs) (sym (ap (λ (x : StreamSeen). x.link) st.seen)) (totals_all (first_place opening.options.statement_cache_capacity a.stream) steps outs p.0 p.1);
+      waits = subst (λ (x : LinkSeen). LastPlaces link x outs (places_in (first_place opening.options.statement_cache_capacity a.stream) steps outs p.0 p.1)) (sym (ap (λ (x : StreamSeen). x.link) st.seen))
+          (places_last link (first_place opening.options.statement_cache_capacity a.stream) steps outs p.0 p.1 g.begun.given g.counts (subst (λ (c : ConnSeen). Appends link.given c.stream.link.given g.begun.given) (sym g.fresh) g.begun.gave));
       in_time = λ old new x y. in_time opening polls link a steps outs p.0 g p.1 old new x (sym (ap (λ (s : StreamSeen). s.link.given) st.seen) ∙ y);
-      idle = λ few first orderly. idles_all (SaysIdle (statuses bytes.session.status (heard p.0.frames))) (first_place a.stream) steps outs p.0 p.1 few (λ z. first) orderly;
-      lawful = where_lawful (first_place a.stream) p.0 steps outs p.1 refl st.sayable st.are_groups st.flows.read.3 st.plain;
-      complete = where_faultless link (first_place a.stream) p.0 steps outs p.1 g.counts refl st.sayable st.flows.read.3 st.plain;
+      idle = λ few first orderly. idles_all (SaysIdle (statuses bytes.session.status (heard p.0.frames))) (first_place opening.options.statement_cache_capacity a.stream) steps outs p.0 p.1 few (λ z. first) orderly;
+      lawful = where_lawful (first_place opening.options.statement_cache_capacity a.stream) p.0 steps outs p.1 refl st.sayable st.are_groups st.flows.read.3 st.plain p.3;
+      complete = where_faultless link (first_place opening.options.statement_cache_capacity a.stream) p.0 steps outs p.1 g.counts refl st.sayable st.flows.read.3 st.plain;
       plain = st.plain;
     })

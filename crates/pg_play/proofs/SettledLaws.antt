@@ -1,9 +1,13 @@
 -- Where the connection stands once it has settled the end of a step's call.
-use Rattle.std.proofs.Common.{◌≡◌, ◌≢◌, ℕ, zero, suc, ◌+◌, ◌-◌, ◌^◌, ◌<◌, ◌≤◌, Bool, true, false, not, ◌&&◌, cond, nat_eq, ltb, List, [], ◌∷◌, ◌++◌, length, refl, sym, ap, ◌∙◌, subst, arith, append-nil, length-append, inl, ne_eqb, ap₂}
+use Rattle.std.proofs.Common.{◌≡◌, ◌≢◌, ℕ, zero, suc, ◌+◌, ◌-◌, ◌^◌, ◌<◌, ◌≤◌, Bool, true, false, not, ◌&&◌, ◌||◌, cond, Option, Some, None, nat_eq, ltb, List, [], ◌∷◌, ◌++◌, length, refl, sym, ap, ◌∙◌, subst, arith, append-nil, length-append, inl, ne_eqb, ap₂}
 use Rattle.std.specs.List.{AllByRecursion, count_by}
 use Rattle.std.proofs.lemmas.Bool.{ltb-true}
 use Rattle.std.proofs.lemmas.List.Concat.{flat_map-append}
 use Rattle.pg_rule.specs.declared.rule.Rule.{Rule}
+use Rattle.pg_request.specs.declared.progress.CacheStep.{CacheStep}
+use Rattle.pg_request.specs.declared.progress.CacheStep.TheVariants as cache
+use Rattle.pg_wire.specs.Backend.{BackendMessage}
+use Rattle.pg_call.specs.declared.request.Request.{Request}
 use Rattle.pg_wire.proofs.Each.{each_join}
 use Rattle.pg_wire.specs.Frame.{Frame}
 use Rattle.pg_wire.specs.Frontend.{FrontendMessage, HasFrontendFrame}
@@ -15,8 +19,8 @@ use Rattle.pg_request.specs.Texts.{rollback_text}
 use Rattle.pg_request.proofs.TextLaws.{rollback_said}
 use Rattle.pg_call.specs.declared.kind.Change.{Change}
 use Rattle.pg_call.specs.declared.kind.Change.TheVariants as changes
-use Rattle.pg_call.specs.Requests.{Group, said_in, spelled, kind_of, change_of}
-use Rattle.pg_conn.specs.Connections.{ConnSeen, opens, depth_behind, settled, cleaned, ended, may_open, has_room_for, with_group, queued_group, rollback, counted_anew, rolled, rolled_back, left, with_depth}
+use Rattle.pg_call.specs.Requests.{Group, said_in, spelled, kind_of, change_of, keeping_of}
+use Rattle.pg_conn.specs.Connections.{ConnSeen, opens, depth_behind, settled, cleaned, ended, may_open, has_room_for, with_group, queued_group, restated, rollback, counted_anew, rolled, rolled_back, left, with_depth}
 use Rattle.pg_conn.specs.Turns.{HasAllRoom, ends_request}
 use Rattle.pg_conn.proofs.TurnLaws.{spelled-append, counts-append}
 use Rattle.pg_conn.proofs.CleanupLaws.{fits_room, has_room, group_moves, rollback_short, opening, all_settled, all_cleaned, all_rolled}
@@ -26,19 +30,19 @@ use Rattle.pg_report.specs.declared.outcome.Outcome.{Outcome}
 use Rattle.pg_script.specs.declared.step.Call.{Call}
 use Rattle.pg_script.specs.declared.step.Call.TheVariants as calls
 use Rattle.pg_script.specs.declared.step.Step.{Step}
-use Rattle.pg_play.specs.Shown.{request_of, begins, acts_at_once}
+use Rattle.pg_play.specs.Shown.{request_of, begins, acts_at_once, handed_by}
 use Rattle.pg_play.specs.Places.{Place, owed, is_fine, Queues}
-use Rattle.pg_play.proofs.CallLaws.{restated_stays}
 use Rattle.pg_call.specs.declared.kind.Keeping.{Keeping}
 use Rattle.pg_call.specs.declared.kind.Keeping.TheVariants as keepings
-use Rattle.pg_conn.specs.Statements.{moved, step_of}
+use Rattle.pg_conn.specs.Statements.{moved, unmoved, step_of}
+use Rattle.pg_conn.proofs.StatementLaws.{depth_held, depth_moved, depth_unmoved}
 use Rattle.pg_play.proofs.StepLaws.{begins_one}
 use Rattle.pg_play.proofs.PlaceLaws.{owed_is}
 use Rattle.pg_report.specs.declared.outcome.Answer.TheVariants.{Unit as AnswersUnit}
 use Rattle.pg_stream.specs.Links.{GrewBy}
-use Rattle.pg_play.specs.Settling.{Settles, cleanup_of, depth_after, rollback_at}
+use Rattle.pg_play.specs.Settling.{Settles, cleanup_of, depth_after, rollback_at, has_group, has_moved, statements_after, step_after, handed_at, held_after, rule_after}
 use Rattle.pg_play.specs.Calls.{behind_end, untouched}
-use Rattle.pg_play.specs.Plays.{StandsAt, Plays_call}
+use Rattle.pg_play.specs.Plays.{StandsAt, Plays_call, over}
 
 -- as many are open there as on the connection
 pub depth_stands : (start : StreamSeen) (at : Place) (a : ConnSeen) → StandsAt start at a → a.rule.depth ≡ at.rule.depth
@@ -46,27 +50,31 @@ depth_stands start at a st = ap (λ (r : Rule). r.depth) st.rule
 
 -- ---- places behind it
 
-abbrev rolled_place : Place → ConnSeen → ℕ → ℕ → Place
-rolled_place mid d left depth = record mid { seen = d.stream; said = mid.said ++ rollback left; groups = mid.groups ++ rollback left ∷ []; is_copy_failed = not (nat_eq (owed mid) 0) && mid.is_copy_failed; rule = with_depth depth mid.rule }
+abbrev rolled_place : Place → ConnSeen → ℕ → Rule → Place
+rolled_place mid d left rule = record mid { seen = d.stream; said = mid.said ++ rollback left; groups = mid.groups ++ rollback left ∷ []; is_copy_failed = not (nat_eq (owed mid) 0) && mid.is_copy_failed; rule = rule }
 
-abbrev rolled_conn : ConnSeen → ℕ → ℕ → ConnSeen
-rolled_conn m left depth = record (with_group (spelled (rollback left)) m) { rule = with_depth depth m.rule; change = changes.Stays; keeping = keepings.Stays }
+abbrev rolled_conn : ConnSeen → ℕ → Rule → CacheStep → ConnSeen
+rolled_conn m left rule now = record (with_group (spelled (rollback left)) m) { rule = rule; cache = now; change = changes.Stays; keeping = keepings.Stays }
 
--- the connection where so many are open, and no end of a call is awaited
-abbrev with_open : ℕ → ConnSeen → ConnSeen
-with_open depth m = record m { rule = with_depth depth m.rule; change = changes.Stays; keeping = keepings.Stays }
+-- the connection where this is known of the session
+abbrev with_rule_only : Rule → CacheStep → ConnSeen → ConnSeen
+with_rule_only rule now m = record m { rule = rule; cache = now }
+
+-- and no end of a call is awaited
+abbrev with_rule : Rule → CacheStep → ConnSeen → ConnSeen
+with_rule rule now m = record m { rule = rule; cache = now; change = changes.Stays; keeping = keepings.Stays }
 
 said_rollback : (left : ℕ) → left < 2 ^ 64 → AllByRecursion HasFrontendFrame (rollback left)
 said_rollback left l = (rollback_said left l, tt)
 
-flows_group : (start : StreamSeen) (mid : Place) (m : ConnSeen) (left depth : ℕ) → StandsAt start mid m → has_room_for (spelled (rollback left)) m ≡ true
-    → Flows start (rolled_conn m left depth).stream (spelled (mid.said ++ rollback left)) mid.frames
-flows_group start mid m left depth st r =
+flows_group : (start : StreamSeen) (mid : Place) (m : ConnSeen) (left : ℕ) (rule : Rule) (now : CacheStep) → StandsAt start mid m → has_room_for (spelled (rollback left)) m ≡ true
+    → Flows start (rolled_conn m left rule now).stream (spelled (mid.said ++ rollback left)) mid.frames
+flows_group start mid m left rule now st r =
     let moves = group_moves (spelled (rollback left)) m (fits_room (spelled (rollback left)) m r).0 in
-    let one : Flows m.stream (rolled_conn m left depth).stream (spelled (rollback left)) [] = record { counts = moves.counts; secured = moves.secured; sent = moves.sent; read = moves.read } in
-    let all = Flows-then start m.stream (rolled_conn m left depth).stream (spelled mid.said) (spelled (rollback left)) mid.frames [] st.flows one in
-    subst (λ (q : List ℕ). Flows start (rolled_conn m left depth).stream q mid.frames) (sym (spelled-append mid.said (rollback left)))
-    (subst (λ (f : List Frame). Flows start (rolled_conn m left depth).stream (spelled mid.said ++ spelled (rollback left)) f) (append-nil mid.frames) all)
+    let one : Flows m.stream (rolled_conn m left rule now).stream (spelled (rollback left)) [] = record { counts = moves.counts; secured = moves.secured; sent = moves.sent; read = moves.read } in
+    let all = Flows-then start m.stream (rolled_conn m left rule now).stream (spelled mid.said) (spelled (rollback left)) mid.frames [] st.flows one in
+    subst (λ (q : List ℕ). Flows start (rolled_conn m left rule now).stream q mid.frames) (sym (spelled-append mid.said (rollback left)))
+    (subst (λ (f : List Frame). Flows start (rolled_conn m left rule now).stream (spelled mid.said ++ spelled (rollback left)) f) (append-nil mid.frames) all)
 
 failed_group : (n : ℕ) (x y : Bool) → (0 < n → x ≡ y) → not (nat_eq n 0) && x ≡ not (nat_eq n 0) && y
 failed_group n x y f = by (nat_eq n 0) refl
@@ -79,19 +87,18 @@ failed_group n x y f = by (nat_eq n 0) refl
     by true e = refl
     by false e = f (some n e)
 
-stands_group : (start : StreamSeen) (mid : Place) (m : ConnSeen) (left depth : ℕ) → StandsAt start mid m → left < 2 ^ 64 → has_room_for (spelled (rollback left)) m ≡ true → HasAllRoom (rolled_conn m left depth)
-    → StandsAt start (rolled_place mid (rolled_conn m left depth) left depth) (rolled_conn m left depth)
-stands_group start mid m left depth st l r room =
+stands_group : (start : StreamSeen) (mid : Place) (m : ConnSeen) (left : ℕ) (rule : Rule) (now : CacheStep) → StandsAt start mid m → left < 2 ^ 64 → has_room_for (spelled (rollback left)) m ≡ true → HasAllRoom (rolled_conn m left rule now)
+    → StandsAt start (rolled_place mid (rolled_conn m left rule now) left rule) (rolled_conn m left rule now)
+stands_group start mid m left rule now st l r room =
     let owes = owed_is start mid m st in
     let one : count_by ends_request (rollback left) ≡ 1 = refl in
     record {
-      flows = flows_group start mid m left depth st r;
+      flows = flows_group start mid m left rule now st r;
       ledger = omega (arith, st.ledger, length-append mid.groups (rollback left ∷ []));
       failed = λ o. failed_group m.ledger.owed m.ledger.is_copy_failed mid.is_copy_failed st.failed ∙ ap (λ (n : ℕ). not (nat_eq n 0) && mid.is_copy_failed) (sym owes);
       broken = st.broken;
       seen = refl;
-      rule = ap (with_depth depth) st.rule;
-      kept = st.kept;
+      rule = refl;
       room = room;
       idle = st.idle;
       sayable = each_join HasFrontendFrame mid.said (rollback left) st.sayable (said_rollback left l);
@@ -104,15 +111,14 @@ stands_group start mid m left depth st l r room =
     plain_group : (mid : Place) (left : ℕ) → mid.said ≡ said_in mid.groups → mid.said ++ rollback left ≡ said_in (mid.groups ++ rollback left ∷ [])
     plain_group mid left e = ap (λ (x : List FrontendMessage). x ++ rollback left) e ∙ sym (flat_map-append (λ g. g) mid.groups (rollback left ∷ []))
 
-stands_depth : (start : StreamSeen) (mid : Place) (m : ConnSeen) (depth : ℕ) → StandsAt start mid m → HasAllRoom (with_open depth m) → StandsAt start (record mid { rule = with_depth depth mid.rule }) (with_open depth m)
-stands_depth start mid m depth st room = record {
+stands_rule : (start : StreamSeen) (mid : Place) (m : ConnSeen) (rule : Rule) (now : CacheStep) → StandsAt start mid m → HasAllRoom (with_rule rule now m) → StandsAt start (record mid { rule = rule }) (with_rule rule now m)
+stands_rule start mid m rule now st room = record {
   flows = st.flows;
   ledger = st.ledger;
   failed = st.failed;
   broken = st.broken;
   seen = st.seen;
-  rule = ap (with_depth depth) st.rule;
-  kept = st.kept;
+  rule = refl;
   room = room;
   idle = st.idle;
   sayable = st.sayable;
@@ -143,6 +149,11 @@ opens_begins (suc left) calls.Rollback = refl
 opens_begins d calls.StartRollback = refl
 opens_begins d (calls.Describe extended) = refl
 opens_begins d (calls.Run bound) = refl
+opens_begins d (calls.Prepare preparation) = refl
+opens_begins d calls.Clear = refl
+opens_begins d (calls.Evict eviction) = refl
+opens_begins d (calls.Tell prepared) = refl
+opens_begins d (calls.CloseAll statements) = refl
 
 depth_ok : (d : ℕ) (call : Call) (groups : ℕ) (end : End) → is_fine end ≡ true → acts_at_once call ≡ false → (begins call ≡ true → nat_eq groups 0 ≡ false) → depth_behind (change_of (kind_of (request_of d call))) groups d ≡ depth_after d call end
 depth_ok d (calls.Execute query) groups end f a b = refl
@@ -163,6 +174,11 @@ depth_ok (suc left) calls.Rollback groups end f a b = rw f refl
 depth_ok d calls.StartRollback groups end f a b = absurd cc
 depth_ok d (calls.Describe extended) groups end f a b = refl
 depth_ok d (calls.Run bound) groups end f a b = refl
+depth_ok d (calls.Prepare preparation) groups end f a b = refl
+depth_ok d calls.Clear groups end f a b = refl
+depth_ok d (calls.Evict eviction) groups end f a b = refl
+depth_ok d (calls.Tell prepared) groups end f a b = refl
+depth_ok d (calls.CloseAll statements) groups end f a b = refl
 
 pub depth_other : (d : ℕ) (call : Call) (end : End) → is_fine end ≡ false → acts_at_once call ≡ false → depth_after d call end ≡ d
 depth_other d (calls.Execute query) end f a = refl
@@ -181,6 +197,11 @@ depth_other d calls.Rollback end f a = rw f refl
 depth_other d calls.StartRollback end f a = absurd cc
 depth_other d (calls.Describe extended) end f a = refl
 depth_other d (calls.Run bound) end f a = refl
+depth_other d (calls.Prepare preparation) end f a = refl
+depth_other d calls.Clear end f a = refl
+depth_other d (calls.Evict eviction) end f a = refl
+depth_other d (calls.Tell prepared) end f a = refl
+depth_other d (calls.CloseAll statements) end f a = refl
 
 -- the cleanup of a call that is polled, by whether its group was queued
 abbrev pub cleanup_by : ℕ → Call → Bool → List Group → List Group
@@ -219,54 +240,112 @@ cleanup_polled d (calls.Describe extended) end [] n a = refl
 cleanup_polled d (calls.Describe extended) end (g ∷ gs) n a = refl
 cleanup_polled d (calls.Run bound) end [] n a = refl
 cleanup_polled d (calls.Run bound) end (g ∷ gs) n a = refl
+cleanup_polled d (calls.Prepare preparation) end [] n a = refl
+cleanup_polled d (calls.Prepare preparation) end (g ∷ gs) n a = refl
+cleanup_polled d calls.Clear end [] n a = refl
+cleanup_polled d calls.Clear end (g ∷ gs) n a = refl
+cleanup_polled d (calls.Evict eviction) end [] n a = refl
+cleanup_polled d (calls.Evict eviction) end (g ∷ gs) n a = refl
+cleanup_polled d (calls.Tell prepared) end [] n a = refl
+cleanup_polled d (calls.Tell prepared) end (g ∷ gs) n a = refl
+cleanup_polled d (calls.CloseAll statements) end [] n a = refl
+cleanup_polled d (calls.CloseAll statements) end (g ∷ gs) n a = refl
+
+-- ---- what it makes of the statements
+
+-- what is told of one exchange, behind what was told before
+pub step_over : (keeping : Keeping) (step : CacheStep) → step_of keeping step ≡ over step (step_of keeping cache.Same)
+step_over keepings.Stays step = refl
+step_over (keepings.Hits n) step = refl
+step_over keepings.Draws step = refl
+step_over keepings.Puts step = refl
+step_over keepings.Evicts step = refl
+step_over keepings.Clears step = refl
+
+moved_fine : (own : List Group) (end : End) → is_fine end ≡ true → has_moved own end ≡ true
+moved_fine own end f = ap (λ (b : Bool). b || has_group own) f
+
+pub moved_other : (own : List Group) (end : End) → is_fine end ≡ false → has_moved own end ≡ has_group own
+moved_other own end f = ap (λ (b : Bool). b || has_group own) f
+
+pub none_handed : (end : End) (call : Call) (response : List BackendMessage) → is_fine end ≡ false → handed_at end call response ≡ None
+none_handed end call response f = ap (λ (b : Bool). cond b (handed_by call response) None) f
+
+depth_held_after : (o : Option Request) (rule : Rule) → (held_after o rule).depth ≡ rule.depth
+depth_held_after None rule = refl
+depth_held_after (Some next) rule = depth_held rule next
+
+depth_statements : (keeping : Keeping) (b : Bool) (rule : Rule) → (statements_after keeping b rule).depth ≡ rule.depth
+depth_statements keeping true rule = depth_moved keeping rule
+depth_statements keeping false rule = depth_unmoved keeping rule
+
+-- what becomes of the statements leaves the depth
+pub depth_rule : (rule : Rule) (call : Call) (own : List Group) (response : List BackendMessage) (end : End) → (rule_after rule call own response end).depth ≡ depth_after rule.depth call end
+depth_rule rule call own response end =
+    let open_rule : Rule = with_depth (depth_after rule.depth call end) rule in
+    let kept : Keeping = keeping_of (request_of rule.depth call) in
+    depth_held_after (handed_at end call response) (statements_after kept (has_moved own end) open_rule) ∙ depth_statements kept (has_moved own end) open_rule
+
+-- the connection behind an end, where this was handed on
+abbrev pub conn_behind : Option Request → End → ConnSeen → ConnSeen
+conn_behind o end m = record (behind_end end m) { rule = held_after o (behind_end end m).rule }
 
 -- ---- the end of a call that was polled
 
 -- The connection stands at the next place, and counts the groups of the cleanup on.
-pub record SettlesTo (start : StreamSeen) (at : Place) (step : Step) (told : Outcome) (own : List Group) (mid : Place) (m d : ConnSeen) : Type 0 where
+pub record SettlesTo (start : StreamSeen) (at : Place) (step : Step) (told : Outcome) (own : List Group) (response : List BackendMessage) (mid : Place) (m d : ConnSeen) : Type 0 where
   pub next : Place
   pub out : Outcome
-  pub settles : Settles at step told out own mid next
+  pub settles : Settles at step told out own response mid next
   pub stands : StandsAt start next d
   pub groups : GrewBy (length settles.cleanup) m.groups d.groups
-  pub others : (d.heard ≡ m.heard) × (d.stream.waits ≡ m.stream.waits) × (d.stream.moves ≡ m.stream.moves) × (d.earlier ≡ m.earlier) × (d.cache ≡ m.cache)
+  pub others : (d.heard ≡ m.heard) × (d.stream.waits ≡ m.stream.waits) × (d.stream.moves ≡ m.stream.moves) × (d.earlier ≡ m.earlier) × (d.cache ≡ over m.cache out.cache)
+
+-- what is made of it: what is known of the session, and what is told
+record Makes (at : Place) (step : Step) (told : Outcome) (own : List Group) (response : List BackendMessage) (m : ConnSeen) (rule : Rule) (now : CacheStep) : Type 0 where
+  knows : rule ≡ rule_after at.rule step.call own response told.end
+  tells : now ≡ over m.cache (step_after (keeping_of (request_of at.rule.depth step.call)) (has_moved own told.end))
 
 -- nothing is queued
-settles_plain : (start : StreamSeen) (at mid : Place) (m : ConnSeen) (step : Step) (told : Outcome) (own : List Group) (depth : ℕ) → StandsAt start mid m → mid.rule ≡ at.rule → HasAllRoom (with_open depth m) → told.groups ≡ length own
-    → [] ≡ cleanup_of at.rule.depth step.call told.end own (owed mid) → depth ≡ depth_after at.rule.depth step.call told.end → SettlesTo start at step told own mid m (with_open depth m)
-settles_plain start at mid m step told own depth st stays room counts none after = record {
-  next = record mid { rule = with_depth depth mid.rule };
-  out = told;
-  settles = record {
-    cleanup = [];
-    cleans = none;
-    rule = ap₂ with_depth after stays;
-    said = sym (append-nil mid.said);
-    groups = sym (append-nil mid.groups);
-    seen = ap (λ (u : List ℕ). record mid.seen { unsent = u }) (sym (append-nil mid.seen.unsent));
-    frames = refl;
-    failed = refl;
-    broken = refl;
-    outcome = refl;
-    counted = omega (arith, counts);
-  };
-  stands = stands_depth start mid m depth st room;
-  groups = omega arith;
-  others = (refl, refl, refl, refl, refl);
-}
+settles_plain : (start : StreamSeen) (at mid : Place) (m : ConnSeen) (step : Step) (told : Outcome) (own : List Group) (response : List BackendMessage) (rule : Rule) (now : CacheStep) → StandsAt start mid m → HasAllRoom (with_rule rule now m) → told.groups ≡ length own
+    → [] ≡ cleanup_of at.rule.depth step.call told.end own (owed mid) → Makes at step told own response m rule now → SettlesTo start at step told own response mid m (with_rule rule now m)
+settles_plain start at mid m step told own response rule now st room counts none makes =
+    let said : CacheStep = step_after (keeping_of (request_of at.rule.depth step.call)) (has_moved own told.end) in
+    record {
+      next = record mid { rule = rule };
+      out = record told { cache = said };
+      settles = record {
+        cleanup = [];
+        cleans = none;
+        rule = makes.knows;
+        said = sym (append-nil mid.said);
+        groups = sym (append-nil mid.groups);
+        seen = ap (λ (u : List ℕ). record mid.seen { unsent = u }) (sym (append-nil mid.seen.unsent));
+        frames = refl;
+        failed = refl;
+        broken = refl;
+        outcome = refl;
+        cache = refl;
+        counted = omega (arith, counts);
+      };
+      stands = stands_rule start mid m rule now st room;
+      groups = omega arith;
+      others = (refl, refl, refl, refl, makes.tells);
+    }
 
 -- a rollback is
-settles_rolled : (start : StreamSeen) (at mid : Place) (m : ConnSeen) (step : Step) (told : Outcome) (own : List Group) → StandsAt start mid m → mid.rule ≡ at.rule → HasAllRoom (rolled_conn m 0 m.rule.depth) → has_room_for (spelled (rollback 0)) m ≡ true → m.groups ≤ 1
-    → rollback 0 ∷ [] ≡ cleanup_of at.rule.depth step.call told.end own (owed mid) → m.rule.depth ≡ depth_after at.rule.depth step.call told.end → SettlesTo start at step told own mid m (rolled_conn m 0 m.rule.depth)
-settles_rolled start at mid m step told own st stays room r few cleanup after =
-    let d = rolled_conn m 0 m.rule.depth in
+settles_rolled : (start : StreamSeen) (at mid : Place) (m : ConnSeen) (step : Step) (told : Outcome) (own : List Group) (response : List BackendMessage) (rule : Rule) (now : CacheStep) → StandsAt start mid m → HasAllRoom (rolled_conn m 0 rule now) → has_room_for (spelled (rollback 0)) m ≡ true → m.groups ≤ 1
+    → rollback 0 ∷ [] ≡ cleanup_of at.rule.depth step.call told.end own (owed mid) → Makes at step told own response m rule now → SettlesTo start at step told own response mid m (rolled_conn m 0 rule now)
+settles_rolled start at mid m step told own response rule now st room r few cleanup makes =
+    let d = rolled_conn m 0 rule now in
+    let said : CacheStep = step_after (keeping_of (request_of at.rule.depth step.call)) (has_moved own told.end) in
     record {
-      next = rolled_place mid d 0 m.rule.depth;
-      out = record told { groups = length own + 1 };
+      next = rolled_place mid d 0 rule;
+      out = record told { groups = length own + 1; cache = said };
       settles = record {
         cleanup = rollback 0 ∷ [];
         cleans = cleanup;
-        rule = ap₂ with_depth after stays;
+        rule = makes.knows;
         said = refl;
         groups = refl;
         seen = ap (λ (x : StreamSeen). record x { unsent = x.unsent ++ spelled (rollback 0); spare = d.stream.spare; waits = m.stream.waits; moves = m.stream.moves }) st.seen;
@@ -274,11 +353,12 @@ settles_rolled start at mid m step told own st stays room r few cleanup after =
         failed = refl;
         broken = refl;
         outcome = refl;
+        cache = refl;
         counted = omega arith;
       };
-      stands = stands_group start mid m 0 m.rule.depth st (omega arith) r room;
+      stands = stands_group start mid m 0 rule now st (omega arith) r room;
       groups = omega (arith, few);
-      others = (refl, refl, refl, refl, refl);
+      others = (refl, refl, refl, refl, makes.tells);
     }
 
 pub ok_cleans_none : (d : ℕ) (call : Call) (own : List Group) → [] ≡ cleanup_by d call true own
@@ -342,19 +422,79 @@ behind_unfine (ends.Ok answer) m f = absurd cc
 behind_unfine (ends.Err e) m f = refl
 behind_unfine ends.Dropped m f = refl
 
--- where nothing is kept, nothing is made of that
-settled_plain : (m : ConnSeen) → m.keeping ≡ keepings.Stays → settled m ≡ with_open (depth_behind m.change m.groups m.rule.depth) m
-settled_plain m e = ap (λ (k : Keeping). record m { rule = moved k (with_depth (depth_behind m.change m.groups m.rule.depth) m.rule); cache = step_of k m.cache; change = changes.Stays; keeping = keepings.Stays }) e
+-- behind an Ok
+fine_makes : (at : Place) (m : ConnSeen) (step : Step) (told : Outcome) (own : List Group) (response : List BackendMessage) → m.rule ≡ at.rule → m.keeping ≡ keeping_of (request_of at.rule.depth step.call) → is_fine told.end ≡ true → depth_behind m.change m.groups m.rule.depth ≡ depth_after at.rule.depth step.call told.end
+    → Makes at step told own response m (held_after (handed_at told.end step.call response) (moved m.keeping (with_depth (depth_behind m.change m.groups m.rule.depth) m.rule))) (step_of m.keeping m.cache)
+fine_makes at m step told own response same keeping f depth = record {
+  knows = ap₂ (λ (k : Keeping) (r : Rule). held_after (handed_at told.end step.call response) (moved k r)) keeping (ap₂ with_depth depth same)
+      ∙ ap (λ (b : Bool). held_after (handed_at told.end step.call response) (statements_after kept b (with_depth (depth_after at.rule.depth step.call told.end) at.rule))) (sym (moved_fine own told.end f));
+  tells = step_over m.keeping m.cache ∙ ap (λ (k : Keeping). over m.cache (step_of k cache.Same)) keeping ∙ ap (λ (b : Bool). over m.cache (step_after kept b)) (sym (moved_fine own told.end f));
+}
+  where
+    kept : Keeping
+    kept = keeping_of (request_of at.rule.depth step.call)
 
-cleaned_plain : (m : ConnSeen) → m.keeping ≡ keepings.Stays → cleaned m ≡ ended (cond (may_open m.change m.groups m.rule.depth) (queued_group (spelled (rollback 0)) m) m)
-cleaned_plain m e = ap (λ (x : ConnSeen). ended (cond (may_open m.change m.groups m.rule.depth) (queued_group (spelled (rollback 0)) x) x)) (restated_stays m e)
+-- behind another end, by whether a group was queued
+other_makes : (at : Place) (m : ConnSeen) (step : Step) (told : Outcome) (own : List Group) (response : List BackendMessage) → m.rule ≡ at.rule → m.keeping ≡ keeping_of (request_of at.rule.depth step.call) → is_fine told.end ≡ false → depth_after at.rule.depth step.call told.end ≡ at.rule.depth
+    → has_group own ≡ not (nat_eq m.groups 0) → Makes at step told own response m (held_after (handed_at told.end step.call response) (restated m).rule) (restated m).cache
+other_makes at m step told own response same keeping f depth asked = by (nat_eq m.groups 0) refl
+  where
+    kept : Keeping
+    kept = keeping_of (request_of at.rule.depth step.call)
 
-pub settles_call : (start : StreamSeen) (at mid : Place) (m : ConnSeen) (step : Step) (told : Outcome) (one : Plays_call at step told mid) → acts_at_once step.call ≡ false → StandsAt start mid m → length one.own ≤ 1 → m.groups ≡ length one.own → m.change ≡ change_of (kind_of (request_of at.rule.depth step.call)) → m.keeping ≡ keepings.Stays
-    → SettlesTo start at step told one.own mid m (behind_end told.end m)
+    o : Option Request
+    o = handed_at told.end step.call response
+
+    old : with_depth (depth_after at.rule.depth step.call told.end) at.rule ≡ m.rule
+    old = ap (λ (n : ℕ). with_depth n at.rule) depth ∙ sym same
+
+    is : (b : Bool) → nat_eq m.groups 0 ≡ b → has_moved own told.end ≡ not b
+    is b e = moved_other own told.end f ∙ asked ∙ ap not e
+
+    by : (b : Bool) → nat_eq m.groups 0 ≡ b → Makes at step told own response m (held_after o (cond b (record m { rule = unmoved m.keeping m.rule }) (record m { rule = moved m.keeping m.rule; cache = step_of m.keeping m.cache })).rule) (cond b (record m { rule = unmoved m.keeping m.rule }) (record m { rule = moved m.keeping m.rule; cache = step_of m.keeping m.cache })).cache
+    by true e = record {
+      knows = ap₂ (λ (k : Keeping) (r : Rule). held_after o (unmoved k r)) keeping (sym old)
+          ∙ ap (λ (b : Bool). held_after o (statements_after kept b (with_depth (depth_after at.rule.depth step.call told.end) at.rule))) (sym (is true e));
+      tells = ap (λ (b : Bool). over m.cache (step_after kept b)) (sym (is true e));
+    }
+    by false e = record {
+      knows = ap₂ (λ (k : Keeping) (r : Rule). held_after o (moved k r)) keeping (sym old)
+          ∙ ap (λ (b : Bool). held_after o (statements_after kept b (with_depth (depth_after at.rule.depth step.call told.end) at.rule))) (sym (is false e));
+      tells = step_over m.keeping m.cache ∙ ap (λ (k : Keeping). over m.cache (step_of k cache.Same)) keeping ∙ ap (λ (b : Bool). over m.cache (step_after kept b)) (sym (is false e));
+    }
+
+has_some : (own : List Group) (groups : ℕ) → groups ≡ length own → has_group own ≡ not (nat_eq groups 0)
+has_some [] groups e = ap (λ (n : ℕ). not (nat_eq n 0)) (sym e)
+has_some (g ∷ gs) groups e = ap not (sym (some_groups (length (g ∷ gs)) groups (λ z. absurd (omega (arith, z))) e))
+
+-- what is held takes no room
+room_held : (o : Option Request) (c : ConnSeen) → HasAllRoom c → HasAllRoom (record c { rule = held_after o c.rule })
+room_held o c room = omega (arith, room, depth_held_after o c.rule)
+
+-- the statements don't matter to what is queued
+restated_stream : (m : ConnSeen) → (restated m ≡ with_rule_only (restated m).rule (restated m).cache m)
+restated_stream m = by (nat_eq m.groups 0)
+  where
+    by : (b : Bool) → cond b (record m { rule = unmoved m.keeping m.rule }) (record m { rule = moved m.keeping m.rule; cache = step_of m.keeping m.cache })
+        ≡ with_rule_only (cond b (record m { rule = unmoved m.keeping m.rule }) (record m { rule = moved m.keeping m.rule; cache = step_of m.keeping m.cache })).rule (cond b (record m { rule = unmoved m.keeping m.rule }) (record m { rule = moved m.keeping m.rule; cache = step_of m.keeping m.cache })).cache m
+    by true = refl
+    by false = refl
+
+pub settles_call : (start : StreamSeen) (at mid : Place) (m : ConnSeen) (step : Step) (told : Outcome) (one : Plays_call at step told mid) → acts_at_once step.call ≡ false → StandsAt start mid m → length one.own ≤ 1 → m.groups ≡ length one.own → m.change ≡ change_of (kind_of (request_of at.rule.depth step.call)) → m.keeping ≡ keeping_of (request_of at.rule.depth step.call)
+    → SettlesTo start at step told one.own one.told.response mid m (conn_behind (handed_at told.end step.call one.told.response) told.end m)
 settles_call start at mid m step told one a st small groups change keeping = by (is_fine told.end) refl
   where
+    response : List BackendMessage
+    response = one.told.response
+
+    o : Option Request
+    o = handed_at told.end step.call response
+
+    same : m.rule ≡ at.rule
+    same = st.rule ∙ one.queued.rule
+
     depth_is : m.rule.depth ≡ at.rule.depth
-    depth_is = ap (λ (r : Rule). r.depth) (st.rule ∙ one.queued.rule)
+    depth_is = ap (λ (r : Rule). r.depth) same
 
     counts : told.groups ≡ length one.own
     counts = one.numbers.groups
@@ -365,42 +505,50 @@ settles_call start at mid m step told one a st small groups change keeping = by 
         ∙ ap (λ (n : ℕ). not (nat_eq m.groups 0) && (nat_eq n 0 && opens (change_of (kind_of (request_of at.rule.depth step.call))))) (sym depth_is)
         ∙ ap (λ (c : Change). not (nat_eq m.groups 0) && (nat_eq m.rule.depth 0 && opens c)) (sym change) ∙ e
 
-    fine : is_fine told.end ≡ true → SettlesTo start at step told one.own mid m (settled m)
+    fine : is_fine told.end ≡ true → SettlesTo start at step told one.own response mid m (record (settled m) { rule = held_after o (settled m).rule })
     fine f =
-        let same : settled m ≡ with_open (depth_behind m.change m.groups m.rule.depth) m = settled_plain m keeping in
-        subst (λ (x : ConnSeen). SettlesTo start at step told one.own mid m x) (sym same)
-        (settles_plain start at mid m step told one.own (depth_behind m.change m.groups m.rule.depth) st one.queued.rule (subst (λ (x : ConnSeen). HasAllRoom x) same (all_settled m st.room)) counts
+        settles_plain start at mid m step told one.own response (held_after o (settled m).rule) (settled m).cache st (room_held o (settled m) (all_settled m st.room)) counts
         (ok_cleans_none at.rule.depth step.call one.own ∙ ap (λ (b : Bool). cleanup_by at.rule.depth step.call b one.own) (sym f) ∙ sym (cleanup_polled at.rule.depth step.call told.end one.own (owed mid) a))
-        (
-        ap (λ (c : Change). depth_behind c m.groups m.rule.depth) change
-        ∙ ap (λ (n : ℕ). depth_behind (change_of (kind_of (request_of at.rule.depth step.call))) m.groups n) depth_is
-        ∙ depth_ok at.rule.depth step.call m.groups told.end f a (λ b. some_groups (length one.own) m.groups (length_some one.own (λ n. begins_one at.rule.depth step.call b (sym (fine_has told.end _ one.own f one.queued.asks) ∙ n))) groups)
+        (fine_makes at m step told one.own response same keeping f (
+          ap (λ (c : Change). depth_behind c m.groups m.rule.depth) change
+          ∙ ap (λ (n : ℕ). depth_behind (change_of (kind_of (request_of at.rule.depth step.call))) m.groups n) depth_is
+          ∙ depth_ok at.rule.depth step.call m.groups told.end f a (λ b. some_groups (length one.own) m.groups (length_some one.own (λ n. begins_one at.rule.depth step.call b (sym (fine_has told.end _ one.own f one.queued.asks) ∙ n))) groups)
         ))
 
-    other : is_fine told.end ≡ false → (b : Bool) → may_open m.change m.groups m.rule.depth ≡ b → SettlesTo start at step told one.own mid m (cleaned m)
+    other : is_fine told.end ≡ false → (b : Bool) → may_open m.change m.groups m.rule.depth ≡ b → SettlesTo start at step told one.own response mid m (record (cleaned m) { rule = held_after o (cleaned m).rule })
     other f false e =
-        let same : cleaned m ≡ with_open m.rule.depth m = cleaned_plain m keeping ∙ rw e refl in
+        let rule : Rule = held_after o (restated m).rule in
+        let now : CacheStep = (restated m).cache in
         let none = other_cleans_none at.rule.depth step.call one.own m.groups (λ n. some_groups (length one.own) m.groups (length_some one.own n) groups) (opening_is false e) in
-        subst (λ (x : ConnSeen). SettlesTo start at step told one.own mid m x) (sym same)
-        (settles_plain start at mid m step told one.own m.rule.depth st one.queued.rule (subst (λ (x : ConnSeen). HasAllRoom x) same (all_cleaned m st.room)) counts
+        let is : cleaned m ≡ ended (restated m) = rw e refl in
+        let so : record (cleaned m) { rule = held_after o (cleaned m).rule } ≡ with_rule rule now m =
+        ap (λ (x : ConnSeen). record x { rule = held_after o x.rule }) (is ∙ ap (λ (x : ConnSeen). ended x) (restated_stream m)) in
+        subst (λ (x : ConnSeen). SettlesTo start at step told one.own response mid m x) (sym so)
+        (settles_plain start at mid m step told one.own response rule now st (subst (λ (x : ConnSeen). HasAllRoom x) so (room_held o (cleaned m) (all_cleaned m st.room))) counts
         (none ∙ ap (λ (b : Bool). cleanup_by at.rule.depth step.call b one.own) (sym f) ∙ sym (cleanup_polled at.rule.depth step.call told.end one.own (owed mid) a))
-        (depth_is ∙ sym (depth_other at.rule.depth step.call told.end f a)))
+        (other_makes at m step told one.own response same keeping f (depth_other at.rule.depth step.call told.end f a) (has_some one.own m.groups groups)))
     other f true e =
+        let rule : Rule = held_after o (restated m).rule in
+        let now : CacheStep = (restated m).cache in
         let cleans = other_cleans at.rule.depth step.call one.own m.groups (λ n. groups ∙ ap (λ (g : List Group). length g) n) (opening_is true e) in
         let few : m.ledger.owed ≤ 1 = omega (arith, st.ledger, one.queued.in_turn cleans.1) in
         let short = rollback_short 0 (omega arith) in
         let level = opening m.change m.groups m.rule.depth e in
         let room = st.room in
         let r = has_room (spelled (rollback 0)) m (omega (arith, short, level, room)) (omega (arith, few)) in
-        let same : cleaned m ≡ rolled_conn m 0 m.rule.depth = cleaned_plain m keeping ∙ rw (e, r) refl in
-        subst (λ (x : ConnSeen). SettlesTo start at step told one.own mid m x) (sym same)
-        (settles_rolled start at mid m step told one.own st one.queued.rule (subst (λ (x : ConnSeen). HasAllRoom x) same (all_cleaned m st.room)) r (omega (arith, groups, small))
+        let queued : queued_group (spelled (rollback 0)) (restated m) ≡ with_rule_only (restated m).rule (restated m).cache (with_group (spelled (rollback 0)) m) =
+        ap (queued_group (spelled (rollback 0))) (restated_stream m) ∙ rw r refl in
+        let is : cleaned m ≡ ended (queued_group (spelled (rollback 0)) (restated m)) = rw e refl in
+        let so : record (cleaned m) { rule = held_after o (cleaned m).rule } ≡ rolled_conn m 0 rule now =
+        ap (λ (x : ConnSeen). record x { rule = held_after o x.rule }) (is ∙ ap (λ (x : ConnSeen). ended x) queued) in
+        subst (λ (x : ConnSeen). SettlesTo start at step told one.own response mid m x) (sym so)
+        (settles_rolled start at mid m step told one.own response rule now st (subst (λ (x : ConnSeen). HasAllRoom x) so (room_held o (cleaned m) (all_cleaned m st.room))) r (omega (arith, groups, small))
         (cleans.0 ∙ ap (λ (b : Bool). cleanup_by at.rule.depth step.call b one.own) (sym f) ∙ sym (cleanup_polled at.rule.depth step.call told.end one.own (owed mid) a))
-        (depth_is ∙ sym (depth_other at.rule.depth step.call told.end f a)))
+        (other_makes at m step told one.own response same keeping f (depth_other at.rule.depth step.call told.end f a) (has_some one.own m.groups groups)))
 
-    by : (b : Bool) → is_fine told.end ≡ b → SettlesTo start at step told one.own mid m (behind_end told.end m)
-    by true f = subst (λ (x : ConnSeen). SettlesTo start at step told one.own mid m x) (sym (behind_fine told.end m f)) (fine f)
-    by false f = subst (λ (x : ConnSeen). SettlesTo start at step told one.own mid m x) (sym (behind_unfine told.end m f)) (other f (may_open m.change m.groups m.rule.depth) refl)
+    by : (b : Bool) → is_fine told.end ≡ b → SettlesTo start at step told one.own response mid m (conn_behind o told.end m)
+    by true f = subst (λ (x : ConnSeen). SettlesTo start at step told one.own response mid m (record x { rule = held_after o x.rule })) (sym (behind_fine told.end m f)) (fine f)
+    by false f = subst (λ (x : ConnSeen). SettlesTo start at step told one.own response mid m (record x { rule = held_after o x.rule })) (sym (behind_unfine told.end m f)) (other f (may_open m.change m.groups m.rule.depth) refl)
 
 -- ---- a rollback without waiting
 
@@ -415,7 +563,6 @@ stands_anew start at a st =
       broken = st.broken;
       seen = ap (λ (x : StreamSeen). record x { waits = 0; moves = 0 }) st.seen;
       rule = st.rule;
-      kept = st.kept;
       room = omega (arith, room);
       idle = st.idle;
       sayable = st.sayable;
@@ -425,16 +572,23 @@ stands_anew start at a st =
       requests = st.requests;
     }
 
+-- what a rollback makes of the session, and what is told of it
+rolls_knows : (start : StreamSeen) (at : Place) (a : ConnSeen) (step : Step) (depth : ℕ) → StandsAt start at a → step.call ≡ calls.StartRollback → depth ≡ at.rule.depth - 1 → with_depth depth a.rule ≡ rule_after at.rule step.call [] [] (ends.Ok AnswersUnit)
+rolls_knows start at a step depth st c after = ap₂ with_depth after st.rule ∙ ap (λ (call : Call). rule_after at.rule call [] [] (ends.Ok AnswersUnit)) (sym c)
+
+pub rolls_tells : (at : Place) (step : Step) → step.call ≡ calls.StartRollback → cache.Same ≡ step_after (keeping_of (request_of at.rule.depth step.call)) (has_moved [] (ends.Ok AnswersUnit))
+rolls_tells at step c = ap (λ (call : Call). step_after (keeping_of (request_of at.rule.depth call)) (has_moved [] (ends.Ok AnswersUnit))) (sym c)
+
 -- nothing is open, or no reply more can be counted
-rolls_none : (start : StreamSeen) (at : Place) (a : ConnSeen) (step : Step) (depth : ℕ) → StandsAt start at a → HasAllRoom (with_open depth (ended (counted_anew a))) → step.call ≡ calls.StartRollback → [] ≡ rollback_at at.rule.depth (owed at) → depth ≡ at.rule.depth - 1
-    → SettlesTo start at step (untouched (ends.Ok AnswersUnit)) [] at (ended (counted_anew a)) (with_open depth (ended (counted_anew a)))
+rolls_none : (start : StreamSeen) (at : Place) (a : ConnSeen) (step : Step) (depth : ℕ) → StandsAt start at a → HasAllRoom (with_rule (with_depth depth a.rule) cache.Same (ended (counted_anew a))) → step.call ≡ calls.StartRollback → [] ≡ rollback_at at.rule.depth (owed at) → depth ≡ at.rule.depth - 1
+    → SettlesTo start at step (untouched (ends.Ok AnswersUnit)) [] [] at (ended (counted_anew a)) (with_rule (with_depth depth a.rule) cache.Same (ended (counted_anew a)))
 rolls_none start at a step depth st room c none after = record {
-  next = record at { seen = record at.seen { waits = 0; moves = 0 }; rule = with_depth depth at.rule };
+  next = record at { seen = record at.seen { waits = 0; moves = 0 }; rule = with_depth depth a.rule };
   out = untouched (ends.Ok AnswersUnit);
   settles = record {
     cleanup = [];
     cleans = rw c none;
-    rule = ap (λ (n : ℕ). with_depth n at.rule) (rw c after);
+    rule = rolls_knows start at a step depth st c after;
     said = sym (append-nil at.said);
     groups = sym (append-nil at.groups);
     seen = ap (λ (u : List ℕ). record at.seen { unsent = u; waits = 0; moves = 0 }) (sym (append-nil at.seen.unsent));
@@ -442,27 +596,29 @@ rolls_none start at a step depth st room c none after = record {
     failed = refl;
     broken = refl;
     outcome = refl;
+    cache = rolls_tells at step c;
     counted = omega arith;
   };
-  stands = stands_depth start (record at { seen = record at.seen { waits = 0; moves = 0 } }) (ended (counted_anew a)) depth (stands_anew start at a st) room;
+  stands = stands_rule start (record at { seen = record at.seen { waits = 0; moves = 0 } }) (ended (counted_anew a)) (with_depth depth a.rule) cache.Same (stands_anew start at a st) room;
   groups = omega arith;
   others = (refl, refl, refl, refl, refl);
 }
 
-rolls_one : (start : StreamSeen) (at : Place) (a : ConnSeen) (step : Step) (left : ℕ) → StandsAt start at a → left < 2 ^ 64 → has_room_for (spelled (rollback left)) (ended (counted_anew a)) ≡ true → HasAllRoom (rolled_conn (ended (counted_anew a)) left left) → step.call ≡ calls.StartRollback
+rolls_one : (start : StreamSeen) (at : Place) (a : ConnSeen) (step : Step) (left : ℕ) → StandsAt start at a → left < 2 ^ 64 → has_room_for (spelled (rollback left)) (ended (counted_anew a)) ≡ true → HasAllRoom (rolled_conn (ended (counted_anew a)) left (with_depth left a.rule) cache.Same) → step.call ≡ calls.StartRollback
     → rollback left ∷ [] ≡ rollback_at at.rule.depth (owed at) → left ≡ at.rule.depth - 1
-    → SettlesTo start at step (untouched (ends.Ok AnswersUnit)) [] at (ended (counted_anew a)) (rolled_conn (ended (counted_anew a)) left left)
+    → SettlesTo start at step (untouched (ends.Ok AnswersUnit)) [] [] at (ended (counted_anew a)) (rolled_conn (ended (counted_anew a)) left (with_depth left a.rule) cache.Same)
 rolls_one start at a step left st l r room c some after =
     let m : ConnSeen = ended (counted_anew a) in
-    let d = rolled_conn m left left in
+    let rule : Rule = with_depth left a.rule in
+    let d = rolled_conn m left rule cache.Same in
     let mid : Place = record at { seen = record at.seen { waits = 0; moves = 0 } } in
     record {
-      next = rolled_place mid d left left;
+      next = rolled_place mid d left rule;
       out = record (untouched (ends.Ok AnswersUnit)) { groups = 1 };
       settles = record {
         cleanup = rollback left ∷ [];
         cleans = rw c some;
-        rule = ap (λ (n : ℕ). with_depth n at.rule) (rw c after);
+        rule = rolls_knows start at a step left st c after;
         said = refl;
         groups = refl;
         seen = ap (λ (x : StreamSeen). record x { unsent = x.unsent ++ spelled (rollback left); spare = d.stream.spare; waits = 0; moves = 0 }) st.seen;
@@ -470,9 +626,10 @@ rolls_one start at a step left st l r room c some after =
         failed = refl;
         broken = refl;
         outcome = refl;
+        cache = rolls_tells at step c;
         counted = omega arith;
       };
-      stands = stands_group start mid m left left (stands_anew start at a st) l r room;
+      stands = stands_group start mid m left rule cache.Same (stands_anew start at a st) l r room;
       groups = omega arith;
       others = (refl, refl, refl, refl, refl);
     }
@@ -500,9 +657,9 @@ rolls_at depth n owed e q = subst (λ (d : ℕ). rollback n ∷ [] ≡ rollback_
 rolls_not_at : (depth n owed : ℕ) → depth ≡ suc n → ltb owed (2 ^ 64 - 1) ≡ false → [] ≡ rollback_at depth owed
 rolls_not_at depth n owed e q = subst (λ (d : ℕ). [] ≡ rollback_at d owed) (sym e) (rw q refl)
 
-pub settles_rollback : (start : StreamSeen) (at : Place) (a b : ConnSeen) (step : Step) → StandsAt start at a → a.rule.depth < 2 ^ 64 → step.call ≡ calls.StartRollback → b ≡ rolled_back a → SettlesTo start at step (untouched (ends.Ok AnswersUnit)) [] at (ended (counted_anew a)) b
+pub settles_rollback : (start : StreamSeen) (at : Place) (a b : ConnSeen) (step : Step) → StandsAt start at a → a.rule.depth < 2 ^ 64 → step.call ≡ calls.StartRollback → b ≡ rolled_back a → SettlesTo start at step (untouched (ends.Ok AnswersUnit)) [] [] at (ended (counted_anew a)) b
 settles_rollback start at a b step st l c is =
-    subst (λ (x : ConnSeen). SettlesTo start at step (untouched (ends.Ok AnswersUnit)) [] at (ended (counted_anew a)) x) (sym (is ∙ ap (λ (x : ConnSeen). rolled (ended (counted_anew x))) idles)) (by a.rule.depth refl)
+    subst (λ (x : ConnSeen). SettlesTo start at step (untouched (ends.Ok AnswersUnit)) [] [] at (ended (counted_anew a)) x) (sym (is ∙ ap (λ (x : ConnSeen). rolled (ended (counted_anew x))) idles)) (by a.rule.depth refl)
   where
     idles : left a ≡ a
     idles = rw st.idle refl
@@ -510,26 +667,26 @@ settles_rollback start at a b step st l c is =
     room : HasAllRoom (rolled (ended (counted_anew a)))
     room = let k = st.room in all_rolled (ended (counted_anew a)) l refl (omega (arith, k))
 
-    by : (d : ℕ) → a.rule.depth ≡ d → SettlesTo start at step (untouched (ends.Ok AnswersUnit)) [] at (ended (counted_anew a)) (rolled (ended (counted_anew a)))
+    by : (d : ℕ) → a.rule.depth ≡ d → SettlesTo start at step (untouched (ends.Ok AnswersUnit)) [] [] at (ended (counted_anew a)) (rolled (ended (counted_anew a)))
     by zero e =
-        let same : rolled (ended (counted_anew a)) ≡ with_open 0 (ended (counted_anew a)) = rw e refl in
-        subst (λ (x : ConnSeen). SettlesTo start at step (untouched (ends.Ok AnswersUnit)) [] at (ended (counted_anew a)) x) (sym same)
+        let same : rolled (ended (counted_anew a)) ≡ with_rule (with_depth 0 a.rule) cache.Same (ended (counted_anew a)) = rw e refl in
+        subst (λ (x : ConnSeen). SettlesTo start at step (untouched (ends.Ok AnswersUnit)) [] [] at (ended (counted_anew a)) x) (sym same)
         (rolls_none start at a step 0 st (subst (λ (x : ConnSeen). HasAllRoom x) same room) c (rw (sym (depth_stands start at a st) ∙ e) refl) (omega (arith, depth_stands start at a st, e)))
     by (suc n) e = one (ltb a.ledger.owed (2 ^ 64 - 1)) refl
       where
         owes : ltb (owed at) (2 ^ 64 - 1) ≡ ltb a.ledger.owed (2 ^ 64 - 1)
         owes = ap (λ (o : ℕ). ltb o (2 ^ 64 - 1)) (owed_is start at a st)
 
-        one : (b : Bool) → ltb a.ledger.owed (2 ^ 64 - 1) ≡ b → SettlesTo start at step (untouched (ends.Ok AnswersUnit)) [] at (ended (counted_anew a)) (rolled (ended (counted_anew a)))
+        one : (b : Bool) → ltb a.ledger.owed (2 ^ 64 - 1) ≡ b → SettlesTo start at step (untouched (ends.Ok AnswersUnit)) [] [] at (ended (counted_anew a)) (rolled (ended (counted_anew a)))
         one true q =
             let short = rollback_short n (omega (arith, l, e)) in
             let space = st.room in
             let r = has_room (spelled (rollback n)) (ended (counted_anew a)) (omega (arith, short, space, e)) (ltb-true _ _ q) in
-            let same : rolled (ended (counted_anew a)) ≡ rolled_conn (ended (counted_anew a)) n n = rolled_open (ended (counted_anew a)) n (omega (arith, e)) ∙ one_group (spelled (rollback n)) (with_open n (ended (counted_anew a))) r in
-            subst (λ (x : ConnSeen). SettlesTo start at step (untouched (ends.Ok AnswersUnit)) [] at (ended (counted_anew a)) x) (sym same)
+            let same : rolled (ended (counted_anew a)) ≡ rolled_conn (ended (counted_anew a)) n (with_depth n a.rule) cache.Same = rolled_open (ended (counted_anew a)) n (omega (arith, e)) ∙ one_group (spelled (rollback n)) (with_rule (with_depth n a.rule) cache.Same (ended (counted_anew a))) r in
+            subst (λ (x : ConnSeen). SettlesTo start at step (untouched (ends.Ok AnswersUnit)) [] [] at (ended (counted_anew a)) x) (sym same)
             (rolls_one start at a step n st (omega (arith, l, e)) r (subst (λ (x : ConnSeen). HasAllRoom x) same room) c (rolls_at at.rule.depth n (owed at) (sym (depth_stands start at a st) ∙ e) (owes ∙ q)) (omega (arith, depth_stands start at a st, e)))
         one false q =
             let none : has_room_for (spelled (rollback n)) (ended (counted_anew a)) ≡ false = rw q (and_false _) in
-            let same : rolled (ended (counted_anew a)) ≡ with_open n (ended (counted_anew a)) = rolled_open (ended (counted_anew a)) n (omega (arith, e)) ∙ no_group (spelled (rollback n)) (with_open n (ended (counted_anew a))) none in
-            subst (λ (x : ConnSeen). SettlesTo start at step (untouched (ends.Ok AnswersUnit)) [] at (ended (counted_anew a)) x) (sym same)
+            let same : rolled (ended (counted_anew a)) ≡ with_rule (with_depth n a.rule) cache.Same (ended (counted_anew a)) = rolled_open (ended (counted_anew a)) n (omega (arith, e)) ∙ no_group (spelled (rollback n)) (with_rule (with_depth n a.rule) cache.Same (ended (counted_anew a))) none in
+            subst (λ (x : ConnSeen). SettlesTo start at step (untouched (ends.Ok AnswersUnit)) [] [] at (ended (counted_anew a)) x) (sym same)
             (rolls_none start at a step n st (subst (λ (x : ConnSeen). HasAllRoom x) same room) c (rolls_not_at at.rule.depth n (owed at) (sym (depth_stands start at a st) ∙ e) (owes ∙ q)) (omega (arith, depth_stands start at a st, e)))

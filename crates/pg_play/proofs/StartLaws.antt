@@ -20,8 +20,8 @@ use Rattle.pg_startup.proofs.EstablishLaws.{begins_under_way}
 use Rattle.pg_startup.specs.Lawful.{HearsLawful, Works}
 use Rattle.pg_startup.proofs.LawfulLaws.{lawful_start}
 use Rattle.pg_conn.specs.Connections.{ConnOf, ConnSeen, seen_by}
-use Rattle.pg_conn.specs.Connecting.{PollsConnect, connected}
-use Rattle.pg_play.specs.Starts.{Opening, IsOf, IsPending, HasWaited, HasWaitedLess, HasFailed, HasOpened, Hands, StartEnds, StartsOn, StartsAs}
+use Rattle.pg_conn.specs.Connecting.{ConnectingOf, PollsConnect, connected}
+use Rattle.pg_play.specs.Starts.{Opening, IsOf, IsPending, HasWaited, HasWaitedLess, HasFailed, HasOpened, Hands, KeepsAsMany, StartEnds, StartsOn, StartsAs}
 use Rattle.pg_play.proofs.WaitLaws.{still_grown}
 use Rattle.pg_stream.proofs.StreamLemmas.{HeardCause-after, GrewBy-then}
 
@@ -75,7 +75,7 @@ works_later first a b m w = record { faults = omega (arith, m.faults, w.faults);
 hears_before : (a b : EstablishSeen) (first last : LinkSeen) → b.client ≡ a.client → b.plan ≡ a.plan → b.message ≡ a.message → HearsLawful b first last → HearsLawful a first last
 hears_before a b first last client plan message h = record { given = h.given; gave = h.gave; read = h.read; lawful = rw (← client, ← plan, ← message) h.lawful; further = h.further; front = h.front }
 
-starts_by : {A : Type 0} (seen : A → LinkSeen) (opening : Opening) (first last : LinkSeen) (n now : ℕ) (a b : EstablishOf A) (ready : Poll (Result (ReadyOf A) Error)) → IsPending opening first last n (establish_by seen a) → PollsStart 256 now (establish_by seen a) (establish_by seen b) (ready_seen seen ready) → StartsOn seen opening first n b (connected ready)
+starts_by : {A : Type 0} (seen : A → LinkSeen) (opening : Opening) (first last : LinkSeen) (n now : ℕ) (a b : EstablishOf A) (ready : Poll (Result (ReadyOf A) Error)) → IsPending opening first last n (establish_by seen a) → PollsStart 256 now (establish_by seen a) (establish_by seen b) (ready_seen seen ready) → StartsOn seen opening first n b (connected opening.options.statement_cache_capacity ready)
 starts_by seen opening first last n now a b Pending i p =
     let on = p.on first last i.starting i.kept in
     let waits = on.1.1 in (
@@ -115,8 +115,9 @@ starts_by seen opening first last n now a b (Ready (Err error)) i p =
       },
     )
 
-pub starts_on : {A : Type 0} (seen : A → LinkSeen) (a b : EstablishOf A) (answer : Poll (Result (ConnOf A) Error)) → (now : ℕ) × PollsConnect seen 256 now a b answer → (opening : Opening) (first last : LinkSeen) (n : ℕ) → IsPending opening first last n (establish_by seen a) → StartsOn seen opening first n b answer
-starts_on seen a b answer (now, (ready, polls, is)) opening first last n i = rw is (starts_by seen opening first last n now a b ready i polls)
+pub starts_on : {A : Type 0} (seen : A → LinkSeen) (a b : ConnectingOf A) (answer : Poll (Result (ConnOf A) Error)) → (now : ℕ) × PollsConnect seen 256 now a b answer → (opening : Opening) (first last : LinkSeen) (n : ℕ) → KeepsAsMany opening a → IsPending opening first last n (establish_by seen a.startup) → StartsOn seen opening first n b.startup answer
+starts_on {A} seen a b answer (now, (ready, polls, is, same)) opening first last n k i =
+    subst (λ (x : Poll (Result (ConnOf A) Error)). StartsOn seen opening first n b.startup x) (sym (is ∙ ap (λ (c : ℕ). connected c ready) k)) (starts_by seen opening first last n now a.startup b.startup ready i polls)
 
 -- ---- its beginning
 

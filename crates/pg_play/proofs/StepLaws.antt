@@ -74,6 +74,11 @@ no_close (suc left) calls.Rollback = refl
 no_close d calls.StartRollback = refl
 no_close d (calls.Describe extended) = refl
 no_close d (calls.Run bound) = refl
+no_close d (calls.Prepare preparation) = refl
+no_close d calls.Clear = refl
+no_close d (calls.Evict eviction) = refl
+no_close d (calls.Tell prepared) = refl
+no_close d (calls.CloseAll statements) = refl
 
 pub closes_none : (d : ℕ) (call : Call) → kind_of (request_of d call) ≡ kinds.Close → ⊥
 closes_none d (calls.Execute query) e = cc
@@ -94,6 +99,11 @@ closes_none (suc left) calls.Rollback e = cc
 closes_none d calls.StartRollback e = cc
 closes_none d (calls.Describe extended) e = cc
 closes_none d (calls.Run bound) e = cc
+closes_none d (calls.Prepare preparation) e = cc
+closes_none d calls.Clear e = cc
+closes_none d (calls.Evict eviction) e = cc
+closes_none d (calls.Tell prepared) e = cc
+closes_none d (calls.CloseAll statements) e = cc
 
 pub at_most_group : (d : ℕ) (call : Call) → (groups_of (request_of d call) ≡ []) ⊎ (length (groups_of (request_of d call)) ≡ 1)
 at_most_group d (calls.Execute query) = inr refl
@@ -114,6 +124,11 @@ at_most_group (suc left) calls.Rollback = inr refl
 at_most_group d calls.StartRollback = inl refl
 at_most_group d (calls.Describe extended) = inr refl
 at_most_group d (calls.Run bound) = inr refl
+at_most_group d (calls.Prepare preparation) = inl refl
+at_most_group d calls.Clear = inl refl
+at_most_group d (calls.Evict eviction) = inr refl
+at_most_group d (calls.Tell prepared) = inl refl
+at_most_group d (calls.CloseAll statements) = inr refl
 
 -- what opens a transaction asks something
 pub begins_one : (d : ℕ) (call : Call) → begins call ≡ true → groups_of (request_of d call) ≡ [] → ⊥
@@ -133,6 +148,11 @@ begins_one d calls.Rollback b e = cc
 begins_one d calls.StartRollback b e = cc
 begins_one d (calls.Describe extended) b e = cc
 begins_one d (calls.Run bound) b e = cc
+begins_one d (calls.Prepare preparation) b e = cc
+begins_one d calls.Clear b e = cc
+begins_one d (calls.Evict eviction) b e = cc
+begins_one d (calls.Tell prepared) b e = cc
+begins_one d (calls.CloseAll statements) b e = cc
 
 -- a call without groups shows nothing
 flush_shows : (d : ℕ) (call : Call) (items : List CallItem) → groups_of (request_of d call) ≡ [] → shown (kind_of (request_of d call)) items ≡ []
@@ -147,6 +167,11 @@ flush_shows (suc left) calls.Rollback items e = absurd cc
 flush_shows d calls.StartRollback items e = none_shown kinds.Flush items (λ x. refl)
 flush_shows d (calls.Describe extended) items e = absurd cc
 flush_shows d (calls.Run bound) items e = absurd cc
+flush_shows d (calls.Prepare preparation) items e = none_shown kinds.Flush items (λ x. refl)
+flush_shows d calls.Clear items e = none_shown kinds.Flush items (λ x. refl)
+flush_shows d (calls.Evict eviction) items e = absurd cc
+flush_shows d (calls.Tell prepared) items e = none_shown kinds.Prepare items (λ x. refl)
+flush_shows d (calls.CloseAll statements) items e = absurd cc
 flush_shows d calls.Ping items e = absurd cc
 flush_shows d (calls.Execute query) items e = absurd cc
 flush_shows d (calls.ExecuteMany query) items e = absurd cc

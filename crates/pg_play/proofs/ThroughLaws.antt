@@ -1,7 +1,5 @@
 -- One more poll of a call that is played: of one exchange, or through its end into the next ones.
 use Rattle.std.proofs.Common.{◌≡◌, ℕ, ◌+◌, ◌*◌, ◌<◌, ◌≤◌, inl, inr, Bool, true, false, List, [], ◌∷◌, ◌++◌, length, map, refl, sym, ap, ◌∙◌, subst, arith, Option, Some, None, Ok, Err, ap₂, min, ◌-◌, ◌^◌}
-use Rattle.pg_request.specs.declared.progress.CacheStep.TheVariants as cache
-use Rattle.pg_request.specs.declared.progress.CacheStep.{CacheStep}
 use Rattle.pg_rule.specs.declared.rule.Rule.{Rule}
 use Rattle.pg_call.specs.declared.statement.After.TheVariants as afters
 use Rattle.pg_call.specs.declared.statement.After.{After}
@@ -18,14 +16,10 @@ use Rattle.pg_wire.specs.declared.error.ServerFault.{ServerFault}
 use Rattle.pg_wire.specs.Frame.{Frame}
 use Rattle.pg_wire.specs.Parts.{heard}
 use Rattle.pg_wire.specs.Frontend.{FrontendMessage}
-use Rattle.pg_stream.specs.Links.{LinkSeen}
 use Rattle.pg_stream.specs.Streams.{StreamSeen, AllMoved, Moves}
 use Rattle.pg_stream.proofs.StreamLemmas.{Moves-then, AllMoved-then, NoneWaited-then, WriteWaited-after, PendingCause-after}
 use Rattle.pg_call.specs.declared.kind.Change.{Change}
 use Rattle.pg_call.specs.declared.kind.Change.TheVariants as changes
-use Rattle.pg_call.specs.declared.kind.How.{How}
-use Rattle.pg_call.specs.declared.kind.How.TheVariants as hows
-use Rattle.pg_request.specs.Queries.{QueryText, ArgumentsSeen}
 use Rattle.pg_call.specs.declared.kind.Kind.{Kind}
 use Rattle.pg_call.specs.declared.kind.Kind.TheVariants as kinds
 use Rattle.pg_call.specs.declared.ledger.Ledger.{Ledger}
@@ -43,7 +37,7 @@ use Rattle.pg_call.specs.Requests.{kind_of, main_kind, change_of, goal_kind, aft
 use Rattle.pg_call.specs.Items.{own_items, shown}
 use Rattle.pg_call.specs.Calls.{EndsFine}
 use Rattle.pg_call.proofs.FitLaws.{hands_on_described, next_is}
-use Rattle.pg_conn.specs.Connections.{ConnOf, ConnSeen, seen_by, begun_with, handed, settled, runs, left, started_call, cleaned, ended, idle, resolved, resolved_by}
+use Rattle.pg_conn.specs.Connections.{ConnSeen, begun_with, handed, settled, runs, left, started_call, cleaned, ended, idle, resolved, resolved_by}
 use Rattle.pg_conn.specs.Turns.{Polled, PollsThrough, HandsOver, hands_on, PollsBy, HandsOnNone, beat_of, BeatCause, SendCause, TakesBeat, is_flushed, first_exchange}
 use Rattle.pg_report.specs.declared.outcome.Item.{Item}
 use Rattle.pg_report.specs.declared.outcome.Answer.TheVariants.{Unit as AnswersUnit}
@@ -53,7 +47,7 @@ use Rattle.pg_report.specs.declared.outcome.Outcome.{Outcome}
 use Rattle.pg_play.specs.declared.tally.Limits.{Limits}
 use Rattle.pg_play.specs.declared.tally.Tally.{Tally}
 use Rattle.pg_play.specs.Shown.{item_of, IsWanted}
-use Rattle.pg_play.specs.Calls.{Adds, Finishes, Waited, IsPlayingOn, IsPlaying, Ended, EndsOn, broken_after, Counted, asking, HandedOn, handed_from, OfLastIn, OfLast, IsCallPlaying, StopsBy, PollGives, PlaysOne, PlaysCall, outcome_of, begun_call, all_groups, asked_from, first_conn}
+use Rattle.pg_play.specs.Calls.{Adds, Finishes, Waited, IsPlayingOn, IsPlaying, Ended, EndsOn, broken_after, Counted, asking, HandedOn, handed_from, OfLastIn, OfLast, IsCallPlaying, StopsBy, PollGives, PlaysOne, PlaysCall, outcome_of, all_groups, asked_from, first_conn}
 use Rattle.pg_play.proofs.CallLaws.{AfterSome, PlayBeat, OverPoll, over_poll, after_beat, fresh_play, playing_one, plays_one, goes_waits, goes_yields, goes_ok, goes_unshown, goes_err, drops_waiting, drops_shown, goes_unkept, asked_changes, begun_changes, wanted_stays}
 
 -- what holds of the exchange that came last
@@ -133,14 +127,15 @@ handed_stays polls first a m r next h = asked_changes (settled m).rule next ∙ 
 
 -- what a connection has counted
 abbrev pub counted_by : ConnSeen → Counted
-counted_by c = record { groups = all_groups c; heard = c.heard; waits = c.stream.waits; moves = c.stream.moves }
+counted_by c = record { groups = all_groups c; heard = c.heard; waits = c.stream.waits; moves = c.stream.moves; cache = c.cache }
 
--- the next exchange begins as any other, behind what was counted, where nothing is held for it
-pub handed_asking : (polls : ℕ) (first : StreamSeen) (a m : ConnSeen) (r next : Request) → HandedOn polls first a m r next → held_by (settled m).rule next ≡ (settled m).rule → (settled m).cache ≡ cache.Same → handed_from m next ≡ asking (asked_from m next) (counted_by m) (settled m)
-handed_asking polls first a m r next h held same =
-    ap (λ (x : Change). record (handed_from m next) { change = x }) (sym (handed_stays polls first a m r next h))
-    ∙ ap (λ (x : Rule). record (handed_from m next) { change = change_of (kind_of (asked_from m next)); rule = x }) held
-    ∙ ap (λ (x : CacheStep). record (handed_from m next) { change = change_of (kind_of (asked_from m next)); rule = (settled m).rule; cache = x }) same
+-- the connection behind an exchange that handed this on, where a statement may be held for it
+abbrev pub held_conn : ConnSeen → Request → ConnSeen
+held_conn m next = record (settled m) { rule = held_by (settled m).rule next }
+
+-- the next exchange begins as any other, behind what was counted
+pub handed_asking : (polls : ℕ) (first : StreamSeen) (a m : ConnSeen) (r next : Request) → HandedOn polls first a m r next → handed_from m next ≡ asking (asked_from m next) (counted_by (held_conn m next)) (held_conn m next)
+handed_asking polls first a m r next h = ap (λ (x : Change). record (handed_from m next) { change = x }) (sym (handed_stays polls first a m r next h))
 
 -- The exchange that handed on is told of as any that ended. It ends no call.
 pub handed_ended : (limits : Limits) (first : StreamSeen) (a m : ConnSeen) (r next : Request) → 0 < limits.most → (h : HandedOn limits.polls first a m r next) → Ended limits first a m r [] (ends.Ok AnswersUnit) h.said h.fs

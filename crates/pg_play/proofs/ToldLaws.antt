@@ -1,9 +1,8 @@
 -- What an outcome tells, and the numbers in it.
-use Rattle.std.proofs.Common.{◌≡◌, ℕ, zero, suc, ◌+◌, ◌-◌, ◌^◌, ◌≤◌, Bool, true, false, cond, nat_le, ◌⊎◌, inl, inr, List, [], ◌∷◌, ◌++◌, length, map, refl, sym, ap, ◌∙◌, subst, arith, append_assoc, append-nil, replicate, Option, Some, None, Ok, Err, MatchBool}
+use Rattle.std.proofs.Common.{◌≡◌, ℕ, ◌+◌, ◌-◌, ◌^◌, ◌≤◌, Bool, true, false, nat_le, ◌⊎◌, inl, inr, List, [], ◌∷◌, ◌++◌, length, map, refl, sym, ap, ◌∙◌, subst, arith, append_assoc, append-nil, replicate, Option, Some, None, Ok, Err, MatchBool}
 use Rattle.std.specs.List.{count_by}
 use Rattle.std.proofs.lemmas.Bool.{le-leb}
 use Rattle.std.proofs.lemmas.List.{length-append, map-append, nil_from_length}
-use Rattle.std.proofs.lemmas.List.Sums.{sum_by-append}
 use Rattle.pg_wire.specs.declared.error.Error.{Error}
 use Rattle.pg_wire.specs.declared.error.Error.TheVariants as errors
 use Rattle.pg_wire.specs.declared.error.ProtocolFault.TheVariants as protocol
@@ -33,7 +32,6 @@ use Rattle.pg_report.specs.declared.outcome.End.{End}
 use Rattle.pg_report.specs.declared.outcome.End.TheVariants as ends
 use Rattle.pg_report.specs.declared.outcome.Outcome.{Outcome}
 use Rattle.pg_script.specs.declared.step.Call.{Call}
-use Rattle.pg_script.specs.declared.step.Call.TheVariants as calls
 use Rattle.pg_script.specs.declared.step.Step.{Step}
 use Rattle.pg_play.specs.declared.tally.Limits.{Limits}
 use Rattle.pg_play.specs.Shown.{request_of, items_in, shown_by, answered_by, waits_to_show, item_of, items_with, answer_of}
@@ -44,7 +42,8 @@ use Rattle.pg_play.specs.Told.{Carry, HasNoError, IsWell, WellAtOk, AnswersError
 use Rattle.pg_play.specs.Plays.{StandsAt}
 use Rattle.pg_play.proofs.PartLaws.{nth_part, no_error}
 use Rattle.pg_play.proofs.StepLaws.{Summary, QueuedOwn, own_part, own_is_part, fine_summary}
-use Rattle.pg_play.proofs.PlaceLaws.{ShowsItems, next_place, ended_next, said_is_queued}
+use Rattle.pg_conn.proofs.TurnLaws.{counts-append, no_groups}
+use Rattle.pg_play.proofs.PlaceLaws.{ShowsItems, next_place, ended_next, said_is_queued, requests_failed, requests_own}
 use Rattle.pg_play.proofs.ShownLaws.{items_told, waits_none, shown_front, all_told, answer_told, has_row}
 
 -- ---- the own response
@@ -115,49 +114,11 @@ queued_step o limits start first old at a b step out said fs shown items st h s 
 
 -- ---- the numbers
 
-abbrev asks_of : List FrontendMessage → ℕ
-asks_of said = count_by ends_request said
-
-asks-append : (xs ys : List FrontendMessage) → asks_of (xs ++ ys) ≡ asks_of xs + asks_of ys
-asks-append xs ys = sum_by-append (λ (y : FrontendMessage). cond (ends_request y) 1 0) xs ys
-
-fails_ask : (n : ℕ) → asks_of (replicate n copy_fail) ≡ 0
-fails_ask zero = refl
-fails_ask (suc n) = asks-append (copy_fail ∷ []) (replicate n copy_fail) ∙ omega (arith, fails_ask n)
-
-last_asks : (b : Bool) → asks_of (fails_of b) ≡ 0
-last_asks true = refl
-last_asks false = refl
-
-groups_ask : (d : ℕ) (call : Call) → asks_of (said_in (groups_of (request_of d call))) ≡ length (groups_of (request_of d call))
-groups_ask d (calls.Execute query) = refl
-groups_ask d (calls.ExecuteMany query) = refl
-groups_ask d (calls.Fetch query) = refl
-groups_ask d (calls.FetchMany query) = refl
-groups_ask d (calls.FetchAll query) = refl
-groups_ask d (calls.FetchOptional query) = refl
-groups_ask d (calls.FetchOne query) = refl
-groups_ask d calls.Ping = refl
-groups_ask d calls.Flush = refl
-groups_ask d calls.Begin = refl
-groups_ask d (calls.BeginWith query) = refl
-groups_ask zero calls.Commit = refl
-groups_ask (suc left) calls.Commit = refl
-groups_ask zero calls.Rollback = refl
-groups_ask (suc left) calls.Rollback = refl
-groups_ask d calls.StartRollback = refl
-groups_ask d (calls.Describe extended) = refl
-groups_ask d (calls.Run bound) = refl
-
-own_asks : (p : ℕ) (d : ℕ) (call : Call) (own : List Group) (hs : List Frame) → (own ≡ []) ⊎ QueuedOwn p (request_of d call) own hs → asks_of (said_in own) ≡ length own
-own_asks p d call own hs (inl e) = rw e refl
-own_asks p d call own hs (inr q) = rw q.own_is (groups_ask d call)
-
-all_ask : (at : Place) (p : ℕ) (d : ℕ) (call : Call) (own : List Group) (hs : List Frame) (end : End) (said : List FrontendMessage) → (own ≡ []) ⊎ QueuedOwn p (request_of d call) own hs → said ≡ queued_by at own hs end → asks_of said ≡ length own
+all_ask : (at : Place) (p : ℕ) (d : ℕ) (call : Call) (own : List Group) (hs : List Frame) (end : End) (said : List FrontendMessage) → (own ≡ []) ⊎ QueuedOwn p (request_of d call) own hs → said ≡ queued_by at own hs end → count_by ends_request said ≡ length own
 all_ask at p d call own hs end said q e =
     let n = unfed at.is_copy_failed (drained at hs) in
-    ap asks_of e ∙ asks-append (replicate n copy_fail ++ said_in own) (fails_of (refuses_copy end))
-    ∙ omega (arith, asks-append (replicate n copy_fail) (said_in own), fails_ask n, last_asks (refuses_copy end), own_asks p d call own hs q)
+    ap (λ (m : List FrontendMessage). count_by ends_request m) e ∙ counts-append (replicate n copy_fail ++ said_in own) (fails_of (refuses_copy end))
+    ∙ omega (arith, counts-append (replicate n copy_fail) (said_in own), requests_failed n, no_groups (refuses_copy end), requests_own p d call own hs q)
 
 -- what is told of an exchange
 abbrev pub told_of : List Item → End → (groups heard waits moved : ℕ) → Outcome

@@ -8,6 +8,7 @@ use Rattle.pg_wire.specs.declared.error.ServerFault.{ServerFault}
 use Rattle.pg_wire.specs.Frame.{Frame}
 use Rattle.pg_wire.specs.Parts.{heard}
 use Rattle.pg_wire.specs.Frontend.{FrontendMessage}
+use Rattle.pg_request.specs.declared.progress.CacheStep.{CacheStep}
 use Rattle.pg_request.specs.declared.progress.CacheStep.TheVariants as cache
 use Rattle.pg_stream.specs.Links.{RoseBy, Rose, GrewBy}
 use Rattle.pg_stream.specs.Streams.{StreamSeen, Tallies, HasNone}
@@ -79,6 +80,8 @@ pub record Counted : Type 0 where
   pub heard : ℕ
   pub waits : ℕ
   pub moves : ℕ
+  -- what they made of the statements that are kept
+  pub cache : CacheStep
 
 -- an exchange has begun on a connection on which none ran, and is counted behind these
 abbrev pub asking : Request → Counted → ConnSeen → ConnSeen
@@ -87,14 +90,14 @@ asking request old c = record c {
   call = calls.Asked request;
   change = change_of (kind_of request);
   keeping = keeping_of request;
-  cache = cache.Same;
+  cache = old.cache;
   groups = 0;
   earlier = old.groups;
   heard = old.heard;
 }
 
 abbrev pub none_counted : Counted
-none_counted = record { groups = 0; heard = 0; waits = 0; moves = 0 }
+none_counted = record { groups = 0; heard = 0; waits = 0; moves = 0; cache = cache.Same }
 
 -- a call has begun so with its first exchange
 abbrev pub begun_call : Request → ConnSeen → ConnSeen

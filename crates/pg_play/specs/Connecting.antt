@@ -18,6 +18,7 @@ options_of script = record defaults {
   database = option_or script.database defaults.database;
   application_name = option_or script.application defaults.application_name;
   ssl_mode = unwrap_or script.ssl_mode defaults.ssl_mode;
+  statement_cache_capacity = unwrap_or script.cache defaults.statement_cache_capacity;
   extra_float_digits = unwrap_or script.digits defaults.extra_float_digits;
   options = switches_said script.options defaults.options;
 }

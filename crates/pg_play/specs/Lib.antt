@@ -15,3 +15,4 @@ pub mod Refuted
 pub mod Noticed
 pub mod Commands
 pub mod Connecting
+pub mod Kept

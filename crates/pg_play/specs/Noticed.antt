@@ -14,7 +14,7 @@ noticed = RowDescription (one_column ∷ []) ∷ row ∷ CommandComplete (codes 
 
 -- where this was read, and nothing else
 abbrev pub noticed_place : LinkSeen → Place
-noticed_place link = record (first_place (fresh_stream link)) { said = Query (codes "SELECT 1") ∷ []; groups = (Query (codes "SELECT 1") ∷ []) ∷ []; frames = map backend_frame noticed }
+noticed_place link = record (first_place 0 (fresh_stream link)) { said = Query (codes "SELECT 1") ∷ []; groups = (Query (codes "SELECT 1") ∷ []) ∷ []; frames = map backend_frame noticed }
 
 -- there nobody failed, if the link's counts stand below their type's end
 abbrev pub NoticesAreFaultless : Type 0

@@ -36,8 +36,9 @@ pub record Place : Type 0 where
   -- what is known of the session: how many transactions and savepoints are open, and which statements are kept
   pub rule : Rule
 
-abbrev pub first_place : StreamSeen → Place
-first_place s = record { seen = s; said = []; groups = []; frames = []; is_copy_failed = false; broken = None; rule = new_rule 0 }
+-- behind start-up, where so many statements may be kept
+abbrev pub first_place : ℕ → StreamSeen → Place
+first_place capacity s = record { seen = s; said = []; groups = []; frames = []; is_copy_failed = false; broken = None; rule = new_rule capacity }
 
 -- how many ReadyForQuery are among frames
 abbrev pub readies : List Frame → ℕ

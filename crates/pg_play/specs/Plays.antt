@@ -10,6 +10,7 @@ use Rattle.pg_wire.specs.declared.error.Error.TheVariants as errors
 use Rattle.pg_wire.specs.declared.error.ProtocolFault.TheVariants as protocol
 use Rattle.pg_wire.specs.declared.error.ServerFault.{ServerFault}
 use Rattle.pg_wire.specs.declared.error.ServerFault.TheVariants as faults
+use Rattle.pg_request.specs.declared.progress.CacheStep.{CacheStep}
 use Rattle.pg_request.specs.declared.progress.CacheStep.TheVariants as cache
 use Rattle.pg_wire.specs.Frame.{Frame, backend_tags, text_of}
 use Rattle.pg_wire.specs.Cut.{Cuts}
@@ -44,6 +45,9 @@ use Rattle.pg_play.specs.Places.{Place, Queued, queued_by, ended, owed, first_pl
 use Rattle.pg_play.specs.Told.{Told, Numbers, CountsTo}
 use Rattle.pg_play.specs.Causes.{HasCause, IsDropped, EndsDuly, KeepsFault, IsFront}
 use Rattle.pg_play.specs.Complete.{WhereFaultless}
+use Rattle.pg_play.specs.Kept.{Keeps, named_of}
+use Rattle.pg_rule.specs.Rules.{IsOrderly}
+use Rattle.pg_exchanges.specs.Keeping.{Keeps as ServerKeeps}
 use Rattle.pg_play.specs.WaitPlaces.{WaitPlaces, LastPlaces}
 
 -- where all that was heard, the frame in front too, are replies of a server to the groups, no exchange is told that they are unlawful
@@ -74,7 +78,7 @@ pub record Plays_exchange (at : Place) (step : Step) (out : Outcome) (next : Pla
   pub told : Outcome
   pub ended_at : Place
   pub call : Plays_call at step told ended_at
-  pub settles : Settles at step told out call.own ended_at next
+  pub settles : Settles at step told out call.own call.told.response ended_at next
   pub lawful : IsNeverUnlawful at told ended_at
   pub waits : WaitPlaces at out next
   pub counts : NoneFalls at.seen.link next.seen.link
@@ -89,14 +93,14 @@ Plays_exchanges at [] (out ∷ outs) last = ⊥
 Plays_exchanges at (step ∷ steps) [] last = ⊥
 
 -- What comes behind an exchange that ended so: the next one, where there is one to ask; and it ended Ok, where one comes.
-abbrev pub Hands : Step → End → List BackendMessage → List Step → Type 0
-Hands step end response [] = is_fine end ≡ true → next_call step.call response ≡ None
-Hands step end response (next ∷ later) = (end ≡ ends.Ok AnswersUnit) × (next_call step.call response ≡ Some next.call)
+abbrev pub Hands : Rule → Step → End → List BackendMessage → List Step → Type 0
+Hands rule step end response [] = is_fine end ≡ true → next_call rule step.call response ≡ None
+Hands rule step end response (next ∷ later) = (end ≡ ends.Ok AnswersUnit) × (next_call rule step.call response ≡ Some next.call)
 
 -- so it is with each exchange
 abbrev pub HandsOn : (at : Place) (steps : List Step) (outs : List Outcome) (last : Place) → Plays_exchanges at steps outs last → Type 0
 HandsOn at [] [] last run = Unit {0}
-HandsOn at (step ∷ steps) (out ∷ outs) last run = Hands step out.end run.1.call.told.response steps × HandsOn run.0 steps outs last run.2
+HandsOn at (step ∷ steps) (out ∷ outs) last run = Hands run.0.rule step out.end run.1.call.told.response steps × HandsOn run.0 steps outs last run.2
 HandsOn at [] (out ∷ outs) last run = ⊥
 HandsOn at (step ∷ steps) [] last run = ⊥
 
@@ -114,10 +118,19 @@ last_of before (out ∷ outs) = last_of out outs
 
 -- ---- a step: exchanges one after another
 
--- the first exchange of a step is that of its call
-abbrev pub FirstIs : Step → List Step → Type 0
-FirstIs step [] = ⊥
-FirstIs step (first ∷ later) = first ≡ record step { call = first_call step.call }
+-- the first exchange of a step is that of its call, by what is known of the session
+abbrev pub FirstIs : Rule → Step → List Step → Type 0
+FirstIs rule step [] = ⊥
+FirstIs rule step (first ∷ later) = first ≡ record step { call = first_call rule step.call }
+
+-- what exchanges made of the statements that are kept: what the last of them did that made something
+abbrev pub over : CacheStep → CacheStep → CacheStep
+over old cache.Same = old
+over old new = new
+
+abbrev pub cache_behind : CacheStep → List Outcome → CacheStep
+cache_behind step [] = step
+cache_behind step (out ∷ outs) = cache_behind (over step out.cache) outs
 
 -- What a step tells of the outcomes of its exchanges: the items and the end of the last, and their numbers in sum.
 pub record TellsAll (outs : List Outcome) (out : Outcome) : Type 0 where
@@ -127,7 +140,7 @@ pub record TellsAll (outs : List Outcome) (out : Outcome) : Type 0 where
   pub heard : CountsTo (sum_by (λ one. one.heard) outs) out.heard
   pub waits : out.waits ≡ sum_by (λ one. one.waits) outs
   pub moved : CountsTo (sum_by (λ one. one.moved) outs) out.moved
-  pub cache : out.cache ≡ cache.Same
+  pub cache : out.cache ≡ cache_behind cache.Same outs
 
 -- a rollback without waiting counts its group, and no call was made for it
 abbrev pub ActsAtOnce : Place → Outcome → Place → Type 0
@@ -138,7 +151,7 @@ pub record Plays_step (at : Place) (step : Step) (out : Outcome) (next : Place) 
   pub exchanges : List Step
   pub outs : List Outcome
   pub run : Plays_exchanges at exchanges outs next
-  pub first : FirstIs step exchanges
+  pub first : FirstIs at.rule step exchanges
   pub limits : AllByRecursion (λ exchange. limits_of exchange ≡ limits_of step) exchanges
   pub hands : HandsOn at exchanges outs next run
   pub tells : TellsAll outs out
@@ -149,7 +162,7 @@ pub record Plays_step (at : Place) (step : Step) (out : Outcome) (next : Place) 
   pub calls : next.seen.link.calls ≤ at.seen.link.calls + 256 * (step.polls + step.most)
   pub dropped : out.end ≡ ends.Dropped → IsDropped at step out stop
   pub at_once : acts_at_once step.call ≡ true → ActsAtOnce at out stop
-  pub duly : acts_at_once step.call ≡ false → EndsDuly at step (request_of at.rule.depth (first_call step.call)) out stop
+  pub duly : acts_at_once step.call ≡ false → EndsDuly at step (request_of at.rule.depth (first_call at.rule step.call)) out stop
 
 -- one outcome for each step, each from the place where the one before it ended
 abbrev pub Plays_from : Place → List Step → List Outcome → Place → Type 0
@@ -230,10 +243,6 @@ TakesInTime start given at (step ∷ steps) [] last run = ⊥
 abbrev pub AsksForNoCopy : List Frame → Type 0
 AsksForNoCopy frames = AllByRecursion (λ frame. is_copy_in frame ≡ false) frames
 
--- Internal: no statement is kept, and none may be.
-abbrev pub KeepsNone : Rule → Type 0
-KeepsNone rule = (rule.capacity ≡ 0) × (rule.cache.entries ≡ [])
-
 -- Internal: the connection stands at this place.
 pub record StandsAt (start : StreamSeen) (at : Place) (c : ConnSeen) : Type 0 where
   pub flows : Flows start c.stream (spelled at.said) at.frames
@@ -243,7 +252,6 @@ pub record StandsAt (start : StreamSeen) (at : Place) (c : ConnSeen) : Type 0 wh
   pub broken : c.broken ≡ at.broken
   pub seen : c.stream ≡ at.seen
   pub rule : c.rule ≡ at.rule
-  pub kept : KeepsNone at.rule
   pub room : HasAllRoom c
   pub idle : c.call ≡ calls.Idle
   pub sayable : AllByRecursion HasFrontendFrame at.said
@@ -255,7 +263,7 @@ pub record StandsAt (start : StreamSeen) (at : Place) (c : ConnSeen) : Type 0 wh
 
 -- Internal: whatever place it began at, the play stands at a later one.
 abbrev pub PlaysOn : ConnSeen → ConnSeen → List Step → List Outcome → Type 0
-PlaysOn a b steps outs = (start : StreamSeen) (at : Place) → StandsAt start at a → (last : Place) × Plays_from at steps outs last × StandsAt start last b
+PlaysOn a b steps outs = (start : StreamSeen) (at : Place) → StandsAt start at a → Keeps at → (last : Place) × Plays_from at steps outs last × StandsAt start last b × Keeps last
 
 -- ---- the headline
 
@@ -311,6 +319,8 @@ pub record AnswersGroups (groups : List Group) (frames : List Frame) : Type 0 wh
 pub record IsLawful (at : Place) (outs : List Outcome) : Type 0 where
   pub plain : at.said ≡ said_in at.groups
   pub answers : AnswersGroups at.groups (heard at.frames)
+  -- each statement that is kept stands there at the server, under its name, with its text and as many columns
+  pub keeps : AllByRecursion (λ e. ServerKeeps answers.after (named_of e)) at.rule.cache.entries
   pub none_unlawful : NoneUnlawful outs
 
 abbrev pub WhereLawful : Place → List Outcome → Type 0
@@ -324,19 +334,21 @@ pub record Plays (opening : Opening) (polls : ℕ) (first last : LinkSeen) (star
   pub startup : HasWaitedLess polls first begins.link
   pub counts : NoneFalls first last
   pub place : Place
-  pub plays : Plays_from (first_place begins) steps outs place
+  pub plays : Plays_from (first_place opening.options.statement_cache_capacity begins) steps outs place
+  -- the statements that are kept have names of their own, and are as many as may be at most
+  pub kept : IsOrderly place.rule
   pub bytes : TellsBytes opening first last started place
   -- each message queued has a frame, and the groups are closed request groups
   pub can : AllByRecursion HasFrontendFrame place.said
   pub groups : AllByRecursion IsGroup place.groups
   pub at_link : place.seen.link ≡ last
   pub totals : Totals begins.link last outs
-  pub waits : LastPlaces first last outs (places_in (first_place begins) steps outs place plays)
+  pub waits : LastPlaces first last outs (places_in (first_place opening.options.statement_cache_capacity begins) steps outs place plays)
   -- the whole frames that the link gave behind the handshake and before a wait are taken by the end of the wait's exchange
-  pub in_time : (old new : List ℕ) → first.given ≡ Some old → last.given ≡ Some new → TakesInTime (old ++ bytes.read) new (first_place begins) steps outs place plays
+  pub in_time : (old new : List ℕ) → first.given ≡ Some old → last.given ≡ Some new → TakesInTime (old ++ bytes.read) new (first_place opening.options.statement_cache_capacity begins) steps outs place plays
   -- Where start-up's session is idle, and the server opens transactions for what is to begin one alone, it is idle again wherever none is open and all is answered, as long
   -- as the replies owed can be counted.
-  pub idle : length place.groups < 2 ^ 64 - 1 → IdlesWhereOrderly (statuses bytes.session.status (heard place.frames)) (first_place begins) steps outs place plays
+  pub idle : length place.groups < 2 ^ 64 - 1 → IdlesWhereOrderly (statuses bytes.session.status (heard place.frames)) (first_place opening.options.statement_cache_capacity begins) steps outs place plays
   pub lawful : WhereLawful place outs
   -- where neither the link nor the server failed, no step ends by a fault of theirs
   pub complete : WhereFaultless first place steps outs

@@ -1,14 +1,20 @@
 -- What a connection makes of an exchange's end, once its call has ended or was dropped.
-use Rattle.std.specs.Prelude.{◌≡◌, ℕ, zero, suc, ◌+◌, ◌-◌, ◌^◌, min, Bool, not, ◌&&◌, List, [], ◌∷◌, ◌++◌, length, nat_eq, ltb, if◌then◌else◌}
-use Rattle.pg_call.specs.Requests.{Group, said_in, spelled}
+use Rattle.std.specs.Prelude.{◌≡◌, ℕ, zero, suc, ◌+◌, ◌-◌, ◌^◌, min, Bool, true, false, not, ◌&&◌, ◌||◌, List, [], ◌∷◌, ◌++◌, length, nat_eq, ltb, Option, None, Some, if◌then◌else◌}
+use Rattle.pg_wire.specs.Backend.{BackendMessage}
+use Rattle.pg_request.specs.declared.progress.CacheStep.{CacheStep}
+use Rattle.pg_request.specs.declared.progress.CacheStep.TheVariants as cache
+use Rattle.pg_call.specs.declared.kind.Keeping.{Keeping}
+use Rattle.pg_call.specs.declared.request.Request.{Request}
+use Rattle.pg_call.specs.Requests.{Group, said_in, spelled, keeping_of}
 use Rattle.pg_rule.specs.declared.rule.Rule.{Rule}
 use Rattle.pg_conn.specs.Connections.{rollback, with_depth}
+use Rattle.pg_conn.specs.Statements.{moved, unmoved, held_by, step_of}
 use Rattle.pg_report.specs.declared.outcome.End.{End}
 use Rattle.pg_report.specs.declared.outcome.Outcome.{Outcome}
 use Rattle.pg_script.specs.declared.step.Call.{Call}
 use Rattle.pg_script.specs.declared.step.Call.TheVariants as calls
 use Rattle.pg_script.specs.declared.step.Step.{Step}
-use Rattle.pg_play.specs.Shown.{begins}
+use Rattle.pg_play.specs.Shown.{request_of, begins, handed_by}
 use Rattle.pg_play.specs.Places.{Place, owed, is_fine}
 
 -- how many transactions and savepoints are open behind it: a begin that is Ok opens one, and a commit and a rollback that are close one
@@ -20,9 +26,40 @@ depth_after depth calls.Rollback end = if is_fine end then depth - 1 else depth
 depth_after depth calls.StartRollback end = depth - 1
 depth_after depth _ end = depth
 
+-- ---- the statements that are kept (PostgreSQL manual, "Message Flow", "Extended Query")
+
+abbrev pub has_group : List Group → Bool
+has_group [] = false
+has_group (group ∷ groups) = true
+
+-- an exchange makes something of them where its group was queued, or it ends Ok
+abbrev pub has_moved : List Group → End → Bool
+has_moved own end = is_fine end || has_group own
+
+abbrev pub statements_after : Keeping → Bool → Rule → Rule
+statements_after keeping true rule = moved keeping rule
+statements_after keeping false rule = unmoved keeping rule
+
+-- what is told of that
+abbrev pub step_after : Keeping → Bool → CacheStep
+step_after keeping true = step_of keeping cache.Same
+step_after keeping false = cache.Same
+
+-- what it hands on: nothing, where it doesn't end Ok
+abbrev pub handed_at : End → Call → List BackendMessage → Option Request
+handed_at end call response = if is_fine end then handed_by call response else None
+
+-- behind a description the statement is held that is to be kept
+abbrev pub held_after : Option Request → Rule → Rule
+held_after None rule = rule
+held_after (Some next) rule = held_by rule next
+
 -- what is known of the session behind it
-abbrev pub rule_after : Rule → Call → End → Rule
-rule_after rule call end = with_depth (depth_after rule.depth call end) rule
+abbrev pub rule_after : Rule → Call → List Group → List BackendMessage → End → Rule
+rule_after rule call own response end =
+    held_after (handed_at end call response) (statements_after (keeping_of (request_of rule.depth call)) (has_moved own end) (with_depth (depth_after rule.depth call end) rule))
+
+-- ---- the cleanup
 
 -- the group of a rollback without waiting, where something is open and one reply more can be counted
 abbrev pub rollback_at : ℕ → ℕ → List Group
@@ -41,10 +78,10 @@ failed_behind [] at = at.is_copy_failed
 failed_behind (group ∷ groups) at = not (nat_eq (owed at) 0) && at.is_copy_failed
 
 -- From the place where the exchange's call ended, of which this was told, the connection comes to the next one, which no exchange waits for.
-pub record Settles (at : Place) (step : Step) (told out : Outcome) (own : List Group) (ended_at next : Place) : Type 0 where
+pub record Settles (at : Place) (step : Step) (told out : Outcome) (own : List Group) (response : List BackendMessage) (ended_at next : Place) : Type 0 where
   pub cleanup : List Group
   pub cleans : cleanup ≡ cleanup_of at.rule.depth step.call told.end own (owed ended_at)
-  pub rule : next.rule ≡ rule_after at.rule step.call told.end
+  pub rule : next.rule ≡ rule_after at.rule step.call own response told.end
   pub said : next.said ≡ ended_at.said ++ said_in cleanup
   pub groups : next.groups ≡ ended_at.groups ++ cleanup
   -- nothing else is different: the cleanup is unsent, and takes of the room that was kept for it
@@ -52,6 +89,7 @@ pub record Settles (at : Place) (step : Step) (told out : Outcome) (own : List G
   pub frames : next.frames ≡ ended_at.frames
   pub failed : next.is_copy_failed ≡ failed_behind cleanup ended_at
   pub broken : next.broken ≡ ended_at.broken
-  -- the outcome counts the groups of the cleanup too
-  pub outcome : out ≡ record told { groups = out.groups }
+  -- the outcome counts the groups of the cleanup too, and says what was made of the statements
+  pub outcome : out ≡ record told { groups = out.groups; cache = out.cache }
+  pub cache : out.cache ≡ step_after (keeping_of (request_of at.rule.depth step.call)) (has_moved own told.end)
   pub counted : out.groups ≡ length own + length cleanup

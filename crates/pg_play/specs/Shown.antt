@@ -1,16 +1,17 @@
 -- What the call of a step asks, what it shows of the response to it, and what it answers.
-use Rattle.std.specs.Prelude.{◌≡◌, ◌⊎◌, ℕ, ◌-◌, ◌^◌, min, Bool, true, false, List, [], ◌∷◌, filter, flat_map, map, take, sum_by, Option, Some, None, zero, suc}
+use Rattle.std.specs.Prelude.{◌≡◌, ℕ, ◌-◌, ◌^◌, min, Bool, true, false, List, [], ◌∷◌, filter, flat_map, map, take, sum_by, Option, Some, None, option_map, unwrap_or, zero, suc}
 use Rattle.pg_rows.specs.Rows.{RowSeen}
 use Rattle.pg_wire.specs.Backend.{BackendMessage, DataRow, CommandComplete}
 use Rattle.pg_wire.specs.Completion.{rows_affected}
 use Rattle.pg_request.specs.Queries.{QueryText, ArgumentsSeen}
-use Rattle.pg_exchanges.specs.Answering.{described}
+use Rattle.pg_rule.specs.declared.rule.Rule.{Rule}
+use Rattle.pg_rule.specs.Caches.{entry_at}
+use Rattle.pg_conn.specs.States.{to_prepare}
+use Rattle.pg_conn.specs.Statements.{run_or_describe, asked_by, begun_as}
+use Rattle.pg_call.specs.Calls.{next_of}
 use Rattle.pg_call.specs.declared.kind.How.{How}
 use Rattle.pg_call.specs.declared.kind.How.TheVariants as hows
-use Rattle.pg_call.specs.declared.kind.Keeping.TheVariants as keepings
-use Rattle.pg_call.specs.declared.statement.Goal.{Goal}
-use Rattle.pg_call.specs.declared.statement.Goal.TheVariants as goals
-use Rattle.pg_call.specs.declared.statement.Extended.{Extended}
+use Rattle.pg_call.specs.declared.statement.Prepared.{Prepared}
 use Rattle.pg_call.specs.declared.request.Request.{Request}
 use Rattle.pg_call.specs.declared.request.Request.TheVariants as requests
 use Rattle.pg_call.specs.declared.answer.CallItem.{CallItem}
@@ -20,7 +21,7 @@ use Rattle.pg_call.specs.declared.answer.CallAnswer.TheVariants as call_answers
 use Rattle.pg_report.specs.declared.outcome.Item.{Item}
 use Rattle.pg_report.specs.declared.outcome.Item.TheVariants.{Row, Count}
 use Rattle.pg_report.specs.declared.outcome.Answer.{Answer}
-use Rattle.pg_report.specs.declared.outcome.Answer.TheVariants.{Unit as AnswersUnit, Total}
+use Rattle.pg_report.specs.declared.outcome.Answer.TheVariants.{Unit as AnswersUnit, Total, Described}
 use Rattle.pg_script.specs.declared.step.Call.{Call}
 use Rattle.pg_script.specs.declared.step.Call.TheVariants as calls
 
@@ -29,8 +30,8 @@ abbrev pub ending : (ℕ → Request) → ℕ → Request
 ending ends zero = requests.Flush
 ending ends (suc left) = ends left
 
--- What a call asks of a connection on which so many transactions and savepoints are open. A rollback without waiting is no call of the connection,
--- and asks nothing.
+-- What an exchange asks of a connection on which so many transactions and savepoints are open. A rollback without waiting is no call of the connection,
+-- and what to prepare and to clear is no exchange yet: they ask nothing.
 abbrev pub request_of : ℕ → Call → Request
 request_of depth (calls.Execute query) = requests.Execute query
 request_of depth (calls.ExecuteMany query) = requests.ExecuteMany query
@@ -46,59 +47,86 @@ request_of depth (calls.BeginWith query) = requests.BeginWith query
 request_of depth calls.Commit = ending requests.Commit depth
 request_of depth calls.Rollback = ending requests.Rollback depth
 request_of depth calls.StartRollback = requests.Flush
+request_of depth (calls.Prepare preparation) = requests.Flush
+request_of depth calls.Clear = requests.Flush
 request_of depth (calls.Describe extended) = requests.Describe extended
 request_of depth (calls.Run bound) = requests.Run bound
+request_of depth (calls.Evict eviction) = requests.Evict eviction
+request_of depth (calls.Tell prepared) = requests.Prepare prepared
+request_of depth (calls.CloseAll statements) = requests.Clear statements
 
 -- what a step asks: what is but an exchange of a call asks nothing
 abbrev pub asked_of : ℕ → Call → Request
+asked_of depth (calls.Prepare preparation) = to_prepare preparation
+asked_of depth calls.Clear = requests.Clear []
 asked_of depth (calls.Describe extended) = requests.Flush
 asked_of depth (calls.Run bound) = requests.Flush
+asked_of depth (calls.Evict eviction) = requests.Flush
+asked_of depth (calls.Tell prepared) = requests.Flush
+asked_of depth (calls.CloseAll statements) = requests.Flush
 asked_of depth call = request_of depth call
 
--- no step asks for what only an exchange is
+-- no step asks for what only an exchange is, or tells of a statement that wasn't described
 abbrev pub IsWanted : Request → Type 0
 IsWanted (requests.Describe extended) = ⊥
 IsWanted (requests.Run bound) = ⊥
 IsWanted (requests.Evict eviction) = ⊥
-IsWanted (requests.Prepare prepared) = ⊥
-IsWanted (requests.Clear statements) = ⊥
+IsWanted (requests.Prepare prepared) = prepared.columns ≡ None
 IsWanted _ = Unit {0}
 
 -- ---- the exchanges of a call
 
--- a query with arguments is described first (PostgreSQL manual, "Extended Query")
-abbrev pub first_as : How → QueryText → Option ArgumentsSeen → Call → Call
-first_as how query None call = call
-first_as how query (Some arguments) call = calls.Describe (record { goal = goals.Run how; statement = 0; is_numbered = true; sql = query.sql; arguments = arguments; described = None })
+-- an exchange that asks this; what isn't asked of the server is a flush
+abbrev pub exchange_for : Request → Call
+exchange_for (requests.Describe extended) = calls.Describe extended
+exchange_for (requests.Run bound) = calls.Run bound
+exchange_for (requests.Evict eviction) = calls.Evict eviction
+exchange_for (requests.Prepare prepared) = calls.Tell prepared
+exchange_for (requests.Clear statements) = calls.CloseAll statements
+exchange_for _ = calls.Flush
 
--- the first exchange of a call
-abbrev pub first_call : Call → Call
-first_call (calls.Execute query) = first_as hows.Execute query query.arguments (calls.Execute query)
-first_call (calls.ExecuteMany query) = first_as hows.ExecuteMany query query.arguments (calls.ExecuteMany query)
-first_call (calls.Fetch query) = first_as hows.Fetch query query.arguments (calls.Fetch query)
-first_call (calls.FetchMany query) = first_as hows.FetchMany query query.arguments (calls.FetchMany query)
-first_call (calls.FetchAll query) = first_as hows.FetchAll query query.arguments (calls.FetchAll query)
-first_call (calls.FetchOptional query) = first_as hows.FetchOptional query query.arguments (calls.FetchOptional query)
-first_call (calls.FetchOne query) = first_as hows.FetchOne query query.arguments (calls.FetchOne query)
-first_call (calls.Describe extended) = calls.Flush
-first_call (calls.Run bound) = calls.Flush
-first_call call = call
+-- a query with arguments runs the statement of its text that is kept, and else has one described first (PostgreSQL manual, "Extended Query")
+abbrev pub first_as : Rule → How → QueryText → Option ArgumentsSeen → Call → Call
+first_as rule how query None call = call
+first_as rule how query (Some arguments) call = exchange_for (run_or_describe rule how query.sql arguments query.persistent (entry_at query.sql rule.cache.entries))
 
--- the statement is run, whose columns were described
-abbrev pub run_behind : Goal → Extended → List BackendMessage → Option Call
-run_behind (goals.Run how) extended response = Some (calls.Run (record { how = how; statement = extended.statement; arguments = extended.arguments; columns = Some (described response); keeping = keepings.Stays }))
-run_behind goals.Prepare extended response = None
+-- the first exchange of a call, by what is known of the session
+abbrev pub first_call : Rule → Call → Call
+first_call rule (calls.Execute query) = first_as rule hows.Execute query query.arguments (calls.Execute query)
+first_call rule (calls.ExecuteMany query) = first_as rule hows.ExecuteMany query query.arguments (calls.ExecuteMany query)
+first_call rule (calls.Fetch query) = first_as rule hows.Fetch query query.arguments (calls.Fetch query)
+first_call rule (calls.FetchMany query) = first_as rule hows.FetchMany query query.arguments (calls.FetchMany query)
+first_call rule (calls.FetchAll query) = first_as rule hows.FetchAll query query.arguments (calls.FetchAll query)
+first_call rule (calls.FetchOptional query) = first_as rule hows.FetchOptional query query.arguments (calls.FetchOptional query)
+first_call rule (calls.FetchOne query) = first_as rule hows.FetchOne query query.arguments (calls.FetchOne query)
+first_call rule (calls.Prepare preparation) = exchange_for (asked_by rule (to_prepare preparation))
+first_call rule calls.Clear = exchange_for (asked_by rule (begun_as rule (requests.Clear [])))
+first_call rule (calls.Describe extended) = calls.Flush
+first_call rule (calls.Run bound) = calls.Flush
+first_call rule (calls.Evict eviction) = calls.Flush
+first_call rule (calls.Tell prepared) = calls.Flush
+first_call rule (calls.CloseAll statements) = calls.Flush
+first_call rule call = call
 
--- the one behind it
-abbrev pub next_call : Call → List BackendMessage → Option Call
-next_call (calls.Describe extended) response = run_behind extended.goal extended response
-next_call call response = None
+-- what is asked behind the response to an exchange
+abbrev pub handed_by : Call → List BackendMessage → Option Request
+handed_by (calls.Describe extended) response = next_of (requests.Describe extended) response
+handed_by (calls.Evict eviction) response = next_of (requests.Evict eviction) response
+handed_by call response = None
 
--- an exchange is one of this call
+-- the exchange behind it, by what is known then
+abbrev pub next_call : Rule → Call → List BackendMessage → Option Call
+next_call rule call response = option_map (λ next. exchange_for (asked_by rule next)) (handed_by call response)
+
+-- an exchange is one of this call, with so many before it, whatever may be known of the session
+abbrev pub IsPartBehind : ℕ → Call → Call → Type 0
+IsPartBehind zero call part = (rule : Rule) × (part ≡ first_call rule call)
+IsPartBehind (suc n) call part = (rule : Rule) × (before : Call) × (response : List BackendMessage) × IsPartBehind n call before × (next_call rule before response ≡ Some part)
+
 abbrev pub IsPartOf : Call → Call → Type 0
-IsPartOf call part = (part ≡ first_call call) ⊎ ((response : List BackendMessage) × (next_call (first_call call) response ≡ Some part))
+IsPartOf call part = (n : ℕ) × IsPartBehind n call part
 
--- whether it has a query, which a connection gets a copy of
+-- whether it has a text, which a connection gets a copy of
 abbrev pub has_query : Call → Bool
 has_query calls.Ping = false
 has_query calls.Flush = false
@@ -106,6 +134,7 @@ has_query calls.Begin = false
 has_query calls.Commit = false
 has_query calls.Rollback = false
 has_query calls.StartRollback = false
+has_query calls.Clear = false
 has_query _ = true
 
 -- whether it opens a transaction or a savepoint
@@ -191,7 +220,12 @@ abbrev pub answered_how : Option How → List Item → Answer
 answered_how (Some hows.Execute) items = Total (min (sum_by count_of items) (2 ^ 64 - 1))
 answered_how how items = AnswersUnit
 
+-- a statement as it was described
+abbrev pub described_as : Prepared → Answer
+described_as prepared = Described prepared.parameters (unwrap_or prepared.columns [])
+
 abbrev pub answered_by : Call → List Item → Answer
+answered_by (calls.Tell prepared) items = described_as prepared
 answered_by call items = answered_how (how_of call) items
 
 -- whether it must have a row
@@ -226,4 +260,5 @@ has_rows _ = false
 
 abbrev pub answer_of : CallAnswer → Answer
 answer_of (call_answers.Total n) = Total n.rows
+answer_of (call_answers.Statement prepared) = described_as prepared
 answer_of _ = AnswersUnit

@@ -14,6 +14,7 @@ use Rattle.pg_startup.specs.Handshake.{ReadyOf, HasBegun}
 use Rattle.pg_startup.specs.Establishing.{EstablishOf, EstablishSeen, establish_by, HasLink, IsServersTurn, IsStarting, kept_link, StartFails, RefusesStart}
 use Rattle.pg_startup.specs.Lawful.{HearsLawful, Works}
 use Rattle.pg_conn.specs.Connections.{ConnOf, ConnSeen, seen_by, fresh_connection}
+use Rattle.pg_conn.specs.Connecting.{ConnectingOf}
 
 -- What a start-up is to do: the options and the nonce of the client, and what its link is made of.
 pub record Opening : Type 0 where
@@ -79,7 +80,11 @@ pub record HasOpened (opening : Opening) (polls : ℕ) (first : LinkSeen) (a : C
   pub begun : HasBegun e.client e.plan e.message first ready
   pub counts : NoneFalls first a.stream.link
   pub waited : HasWaitedLess polls first a.stream.link
-  pub fresh : a ≡ fresh_connection 0 ready.stream ready.sent ready.read
+  pub fresh : a ≡ fresh_connection opening.options.statement_cache_capacity ready.stream ready.sent ready.read
+
+-- its connection is to keep as many statements as the options say
+abbrev pub KeepsAsMany : {A : Type 0} → Opening → ConnectingOf A → Type 0
+KeepsAsMany opening c = c.capacity ≡ opening.options.statement_cache_capacity
 
 -- what a poll makes of a start-up of which so many have answered `Pending`
 abbrev pub StartsOn : {A : Type 0} → (A → LinkSeen) → Opening → LinkSeen → ℕ → EstablishOf A → Poll (Result (ConnOf A) Error) → Type 0

@@ -1,10 +1,26 @@
 ghost use Rattle.std.specs.Prelude.{◌≡◌, true, IfOk, OnErr};
+ghost use Rattle.pg_conn.specs.States.{to_prepare};
 ghost use Rattle.pg_play.specs.Shown.{asked_of, has_query};
 
-use pg_conn::Request;
+use pg_call::{Keeping, Prepared};
+use pg_conn::{Preparation, Request};
 use pg_script::Call;
-use pg_wire::Error;
+use pg_wire::{Error, Sequence};
 use std::alloc::Global;
+
+// What is to be prepared, in a copy of its own.
+fn preparing(alloc: Global, preparation: &Preparation) -> Result<Request, Error>
+    ensures ok { IfOk result (λ r. r ≡ to_prepare preparation.now) }
+{
+    let sql = preparation.sql.to_copy(alloc)?;
+    let parameters = preparation.types.to_copy(alloc)?;
+    Ok(Request::Prepare(Prepared {
+        sql,
+        parameters,
+        columns: None,
+        keeping: Keeping::Stays,
+    }))
+}
 
 /// What the call of a step asks of a connection on which so many transactions and savepoints are open, in a copy of its own.
 pub(crate) fn request_of(alloc: Global, depth: u64, call: &Call) -> Result<Request, Error>
@@ -24,11 +40,16 @@ pub(crate) fn request_of(alloc: Global, depth: u64, call: &Call) -> Result<Reque
         Call::BeginWith(query) => Request::BeginWith(query.to_copy(alloc)?),
         Call::Commit if depth > 0 => Request::Commit(depth - 1),
         Call::Rollback if depth > 0 => Request::Rollback(depth - 1),
+        Call::Prepare(preparation) => preparing(alloc, preparation)?,
+        Call::Clear => Request::Clear(Sequence::new(alloc)),
         Call::Commit
         | Call::Rollback
         | Call::Flush
         | Call::StartRollback
         | Call::Describe(_)
-        | Call::Run(_) => Request::Flush,
+        | Call::Run(_)
+        | Call::Evict(_)
+        | Call::Tell(_)
+        | Call::CloseAll(_) => Request::Flush,
     })
 }

@@ -83,6 +83,15 @@ fn with_ssl_mode(options: PgConnectOptions, mode: Option<PgSslMode>) -> PgConnec
     }
 }
 
+fn with_capacity(options: PgConnectOptions, capacity: Option<u32>) -> PgConnectOptions
+    ensures { result ≡ record options { statement_cache_capacity = unwrap_or capacity options.statement_cache_capacity } }
+{
+    match capacity {
+        Some(capacity) => options.statement_cache_capacity(capacity as usize),
+        None => options,
+    }
+}
+
 /// The connect options that a script says.
 pub(crate) fn options_of(alloc: Global, script: &Script) -> Result<PgConnectOptions, Error>
     ensures { Makes result (options_of script.now) }
@@ -93,6 +102,7 @@ pub(crate) fn options_of(alloc: Global, script: &Script) -> Result<PgConnectOpti
     let with_database = with_database(with_password, &script.database)?;
     let with_name = with_application(with_database, &script.application)?;
     let with_mode = with_ssl_mode(with_name, script.ssl_mode);
-    let with_digits = with_digits(with_mode, script.digits);
+    let with_capacity = with_capacity(with_mode, script.cache);
+    let with_digits = with_digits(with_capacity, script.digits);
     with_switches(with_digits, script.options.as_slice())
 }

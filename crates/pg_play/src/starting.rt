@@ -3,7 +3,7 @@ ghost use Rattle.pg_auth.specs.Nonce.{IsNonce};
 ghost use Rattle.pg_startup.specs.Establishing.{IsKept, IsLeft, kept_link, establish_by};
 ghost use Rattle.pg_startup.specs.declared.starting.Phase.TheVariants as phases;
 ghost use Rattle.pg_stream.specs.Links.{LinkSeen};
-ghost use Rattle.pg_play.specs.Starts.{Opening, opening_of, IsPending, Hands, StartsAs, StartsOn};
+ghost use Rattle.pg_play.specs.Starts.{Opening, opening_of, IsPending, Hands, KeepsAsMany, StartsAs, StartsOn};
 
 use pg_conn::{Establish, PgConnection, establish};
 use pg_options::PgConnectOptions;
@@ -13,8 +13,8 @@ use std::alloc::Global;
 
 // The link of a start-up that has handed out no connection.
 fn link_of<L>(establish: Establish<L>) -> L
-    requires { IsKept establish.phase }
-    ensures { kept_link establish.phase ≡ Some result }
+    requires { IsKept establish.startup.phase }
+    ensures { kept_link establish.startup.phase ≡ Some result }
 {
     match establish.into_link() {
         Some(link) => link,
@@ -24,7 +24,7 @@ fn link_of<L>(establish: Establish<L>) -> L
 
 // Lets go of a start-up that has handed out its connection.
 fn end<L>(establish: Establish<L>)
-    requires { establish.phase ≡ phases.Gone }
+    requires { establish.startup.phase ≡ phases.Gone }
 {
     match establish.into_link() {
         Some(_) => unreachable!(),
@@ -34,9 +34,11 @@ fn end<L>(establish: Establish<L>)
 
 // One poll, behind which what is left of the start-up is known.
 fn poll_once<L: Link>(establish: &mut Establish<L>) -> Poll<Result<PgConnection<L>, Error>>
-    requires { establish.old.is_finished ≡ false }
-    ensures left { IsLeft establish.new result }
-    ensures starts { (opening : Opening) (first last : LinkSeen) (n : ℕ) → IsPending opening first last n (establish_by L.seen establish.old) → StartsOn L.seen opening first n establish.new result }
+    requires { establish.old.startup.is_finished ≡ false }
+    ensures left { IsLeft establish.new.startup result }
+    ensures capacity { establish.new.capacity ≡ establish.old.capacity }
+    ensures starts { (opening : Opening) (first last : LinkSeen) (n : ℕ) → KeepsAsMany opening establish.old → IsPending opening first last n (establish_by L.seen establish.old.startup)
+        → StartsOn L.seen opening first n establish.new.startup result }
 {
     establish.poll()
 }
@@ -46,8 +48,8 @@ fn hand_over<L>(
     establish: Establish<L>,
     answer: Result<PgConnection<L>, Error>,
 ) -> Result<PgConnection<L>, (Error, L)>
-    requires { IsLeft establish (Poll.Ready answer) }
-    ensures { Hands establish answer result }
+    requires { IsLeft establish.startup (Poll.Ready answer) }
+    ensures { Hands establish.startup answer result }
 {
     match answer {
         Ok(conn) => {
@@ -63,9 +65,9 @@ fn poll_start<L: Link>(
     mut establish: Establish<L>,
     polls: u32,
 ) -> Result<PgConnection<L>, (Error, L)>
-    requires goes { establish.is_finished ≡ false }
-    requires kept { IsKept establish.phase }
-    ensures { (opening : Opening) (first last : LinkSeen) → IsPending opening first last 0 (establish_by L.seen establish) → StartsAs L.seen opening polls first result }
+    requires goes { establish.startup.is_finished ≡ false }
+    requires kept { IsKept establish.startup.phase }
+    ensures { (opening : Opening) (first last : LinkSeen) → KeepsAsMany opening establish → IsPending opening first last 0 (establish_by L.seen establish.startup) → StartsAs L.seen opening polls first result }
 {
     for _ in 0..polls {
         match poll_once(&mut establish) {

@@ -1,7 +1,10 @@
 ghost use Rattle.std.specs.Prelude.{◌≡◌, ◌<◌, ◌-◌, ◌^◌, [], None, IfOk, OnErr, length};
 ghost use Rattle.pg_play.specs.Calls.{Adds, Finishes};
+ghost use Rattle.pg_play.specs.Shown.{described_as};
 
 use crate::showing::{item_of, one_row, rows_of};
+use pg_call::Prepared;
+use pg_columns::PgColumns;
 use pg_conn::{CallAnswer, CallItem};
 use pg_report::{Answer, End, Item};
 use pg_wire::Error;
@@ -19,6 +22,16 @@ pub(crate) struct Limits {
 pub(crate) struct Tally {
     pub(crate) items: Vec<Item>,
     pub(crate) waits: u32,
+}
+
+// A statement as it was described.
+fn described(prepared: Prepared) -> Answer
+    ensures { result ≡ described_as prepared }
+{
+    let mut prepared = prepared;
+    let fields = prepared.columns.take().unwrap_or_else(PgColumns::none);
+    let (_, parameters) = prepared.into_parts();
+    Answer::Described { parameters, fields }
 }
 
 impl Tally {
@@ -72,9 +85,8 @@ impl Tally {
         ensures { Finishes answer self.old self.new result }
     {
         match answer {
-            CallAnswer::Unit | CallAnswer::Next(_) | CallAnswer::Statement(_) => {
-                End::Ok(Answer::Unit)
-            }
+            CallAnswer::Unit | CallAnswer::Next(_) => End::Ok(Answer::Unit),
+            CallAnswer::Statement(prepared) => End::Ok(described(prepared)),
             CallAnswer::Total(total) => End::Ok(Answer::Total(total.rows_affected())),
             CallAnswer::Rows(rows) => self.show(alloc, rows_of(alloc, rows.into_vec())),
             CallAnswer::OneRow(None) => self.show(alloc, Ok(Vec::new(alloc))),

@@ -1,5 +1,6 @@
+use pg_columns::PgColumns;
 use pg_request::CacheStep;
-use pg_wire::{Blob, DataRow, Error, Field, Oids, Sequence};
+use pg_wire::{Blob, DataRow, Error, Oids, Sequence};
 
 /// One thing that a call showed.
 #[derive(Debug, Drop)]
@@ -16,9 +17,10 @@ pub enum Item {
 pub enum Answer {
     Unit,
     Total(u64),
+    /// The types of a statement's parameters, and what was told of its columns.
     Described {
         parameters: Oids,
-        fields: Sequence<Field>,
+        fields: PgColumns,
     },
     Held(bool),
 }

@@ -28,7 +28,7 @@ number_of m n l k e = sym (decimal_is_IsNumeral m l).1 ∙ ap (digits_value 10) 
 name_number : (m n : ℕ) → statement_name m ≡ statement_name n → decimal m ≡ decimal n
 name_number m n e = cc
 
-names_apart : (m n : ℕ) → m < n → n < 2 ^ 64 → bytes_eq (statement_name m) (statement_name n) ≡ false
+pub names_apart : (m n : ℕ) → m < n → n < 2 ^ 64 → bytes_eq (statement_name m) (statement_name n) ≡ false
 names_apart m n lt fits = by (bytes_eq (statement_name m) (statement_name n)) refl
   where
     by : (b : Bool) → bytes_eq (statement_name m) (statement_name n) ≡ b → b ≡ false
@@ -37,12 +37,12 @@ names_apart m n lt fits = by (bytes_eq (statement_name m) (statement_name n)) re
 
 -- ---- lists
 
-first_of : {X : Type 0} (P : X → Type 0) (n : ℕ) (xs : List X) → AllByRecursion P xs → AllByRecursion P (take n xs)
+pub first_of : {X : Type 0} (P : X → Type 0) (n : ℕ) (xs : List X) → AllByRecursion P xs → AllByRecursion P (take n xs)
 first_of P zero xs h = tt
 first_of P (suc n) [] h = tt
 first_of P (suc n) (x ∷ xs) h = (h.0, first_of P n xs h.1)
 
-each_by : (P Q : Entry → Type 0) → ((e : Entry) → P e → Q e) → (es : List Entry) → AllByRecursion P es → AllByRecursion Q es
+pub each_by : (P Q : Entry → Type 0) → ((e : Entry) → P e → Q e) → (es : List Entry) → AllByRecursion P es → AllByRecursion Q es
 each_by P Q f [] h = tt
 each_by P Q f (e ∷ es) h = (f e h.0, each_by P Q f es h.1)
 
@@ -70,7 +70,7 @@ distinct_first (suc n) [] d = tt
 distinct_first (suc n) (e ∷ es) d = (width_first n es (statement_name e.statement) d.0, distinct_first n es d.1)
 
 -- a number above all others has a name that none of them has
-newest_apart : (es : List Entry) (number : ℕ) → AllByRecursion (λ f. f.statement < number) es → number < 2 ^ 64 → width_at (widths_in es) (statement_name number) ≡ None
+pub newest_apart : (es : List Entry) (number : ℕ) → AllByRecursion (λ f. f.statement < number) es → number < 2 ^ 64 → width_at (widths_in es) (statement_name number) ≡ None
 newest_apart [] number h lt = refl
 newest_apart (e ∷ es) number h lt = rw (names_apart e.statement number h.0 lt) (newest_apart es number h.1 lt)
 
@@ -100,7 +100,7 @@ kept_without P p (e ∷ es) h = by (p e) (kept_without P p es h.1)
     by true k = h.1
     by false k = (h.0, k)
 
-found_has : (P : Entry → Type 0) (p : Entry → Bool) (es : List Entry) (e : Entry) → AllByRecursion P es → find p es ≡ Some e → P e
+pub found_has : (P : Entry → Type 0) (p : Entry → Bool) (es : List Entry) (e : Entry) → AllByRecursion P es → find p es ≡ Some e → P e
 found_has P p [] e h k = absurd cc
 found_has P p (x ∷ es) e h k = by (p x) k (λ l. found_has P p es e h.1 l)
   where
@@ -165,10 +165,10 @@ all_without p (e ∷ es) h = by (p e) h (λ k. all_without p es k)
 
 -- ---- in front
 
-used_is : (number : ℕ) (es : List Entry) → used number es ≡ option_to_list (find (has_number number) es) ++ without (has_number number) es
+pub used_is : (number : ℕ) (es : List Entry) → used number es ≡ option_to_list (find (has_number number) es) ++ without (has_number number) es
 used_is number es = ap (λ (xs : List Entry). option_to_list (find (has_number number) es) ++ xs) (rest_is (has_number number) es)
 
-front_each : (P : Entry → Type 0) (p : Entry → Bool) (es : List Entry) (found : Option Entry) → find p es ≡ found → AllByRecursion P es → AllByRecursion P (option_to_list found ++ without p es)
+pub front_each : (P : Entry → Type 0) (p : Entry → Bool) (es : List Entry) (found : Option Entry) → find p es ≡ found → AllByRecursion P es → AllByRecursion P (option_to_list found ++ without p es)
 front_each P p es None k h = kept_without P p es h
 front_each P p es (Some e) k h = (found_has P p es e h k, kept_without P p es h)
 
@@ -300,7 +300,7 @@ ends_by : (e last : Entry) (es : List Entry) → last_or (Some e) es ≡ Some la
 ends_by e last [] h = ([], ap (λ (x : Entry). x ∷ []) (same_Some e last h))
 ends_by e last (f ∷ es) h = let r = ends_by f last es h in (e ∷ r.0, ap (λ (xs : List Entry). e ∷ xs) r.1)
 
-ends_in : (last : Entry) (es : List Entry) → last_or None es ≡ Some last → (others : List Entry) × (es ≡ others ++ last ∷ [])
+pub ends_in : (last : Entry) (es : List Entry) → last_or None es ≡ Some last → (others : List Entry) × (es ≡ others ++ last ∷ [])
 ends_in last [] h = absurd cc
 ends_in last (e ∷ es) h = ends_by e last es h
 

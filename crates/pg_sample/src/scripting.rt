@@ -43,6 +43,7 @@ fn script(alloc: Global, user: Text, events: Vec<ReadEvent>, steps: Vec<Step>) -
         application: None,
         options: Sequence::new(alloc),
         ssl_mode: None,
+        cache: None,
         digits: None,
         can_upgrade: false,
         is_local: false,

@@ -15,8 +15,8 @@ use Rattle.pg_script.specs.declared.error.LineError.{LineError}
 use Rattle.pg_script.specs.declared.error.LineError.TheVariants as errors
 use Rattle.pg_script.specs.Reading.{◌>>=◌, Fails}
 use Rattle.pg_script.specs.Arguments.{text_in}
-use Rattle.pg_script.specs.Given.{once_query}
-use Rattle.pg_script.specs.Asking.{in_front, comma_text, more_texts, texts_at, argument_at, arguments_up_to, arguments_in, once_arg}
+use Rattle.pg_script.specs.Given.{given_query}
+use Rattle.pg_script.specs.Asking.{in_front, comma_text, more_texts, texts_at, argument_at, arguments_up_to, arguments_in, given_arg}
 use Rattle.pg_script.specs.Grammar.{comma_tokens, text_tokens, argument_tokens, arguments_tokens, IsUnicode, ArgumentFits}
 use Rattle.pg_script.proofs.Found.{bind_some, utf8_takes}
 use Rattle.pg_script.proofs.Apart.{is_word, apart}
@@ -79,22 +79,22 @@ arguments_take (suc n) (t ∷ ts) all e =
     (one.0 ∙ ap (λ (us : List Token). Space ∷ argument_tokens first.0.0 ++ us) more.0, (one.1, more.1))
 
 -- a query with arguments has its tokens
-pub record IsOnce (ts : List Token) (q : QueryText) : Type 0 where
+pub record IsGiven (persistent : Bool) (ts : List Token) (q : QueryText) : Type 0 where
   pub sql : List ℕ
   pub arguments : List Argument
   pub is : ts ≡ Space ∷ Text sql ∷ arguments_tokens arguments
   pub unicode : IsUnicode sql
   pub fit : AllByRecursion ArgumentFits arguments
-  pub query : once_query sql arguments ≡ Some q
+  pub query : given_query persistent sql arguments ≡ Some q
 
-pub once_takes : (ts : List Token) (q : QueryText) → once_arg ts ≡ Some q → IsOnce ts q
-once_takes (Space ∷ Text s ∷ rest) q e =
-    let sql = bind_some (text_in s) (λ (sql : List ℕ). arguments_in rest >>= λ all. once_query sql all) q e in
-    let all = bind_some (arguments_in rest) (λ (all : List Argument). once_query sql.0 all) q sql.2 in
+pub given_takes : (persistent : Bool) (ts : List Token) (q : QueryText) → given_arg persistent ts ≡ Some q → IsGiven persistent ts q
+given_takes persistent (Space ∷ Text s ∷ rest) q e =
+    let sql = bind_some (text_in s) (λ (sql : List ℕ). arguments_in rest >>= λ all. given_query persistent sql all) q e in
+    let all = bind_some (arguments_in rest) (λ (all : List Argument). given_query persistent sql.0 all) q sql.2 in
     let u = unicode s sql.0 sql.1 in
     let t = arguments_take (length rest) rest all.0 all.1 in
     record { sql = sql.0; arguments = all.0; is = ap (λ (v : List ℕ). Space ∷ Text v ∷ rest) u.1 ∙ ap (λ (us : List Token). Space ∷ Text sql.0 ∷ us) t.0; unicode = u.0; fit = t.1; query = all.2 }
-once_takes _ q e = absurd cc
+given_takes persistent _ q e = absurd cc
 
 -- ---- the turns of a loop
 
@@ -173,12 +173,12 @@ as_many : (all : List Argument) → length all ≤ length (arguments_tokens all)
 as_many [] = omega arith
 as_many (a ∷ more) = omega (arith, as_many more, length-append (argument_tokens a) (arguments_tokens more))
 
-pub once_again : (sql : List ℕ) (all : List Argument) → IsUnicode sql → AllByRecursion ArgumentFits all → once_arg (Space ∷ Text sql ∷ arguments_tokens all) ≡ once_query sql all
-once_again sql all u f = rw (u, up_to_again (length (arguments_tokens all)) all f (as_many all)) refl
+pub given_again : (persistent : Bool) (sql : List ℕ) (all : List Argument) → IsUnicode sql → AllByRecursion ArgumentFits all → given_arg persistent (Space ∷ Text sql ∷ arguments_tokens all) ≡ given_query persistent sql all
+given_again persistent sql all u f = rw (u, up_to_again (length (arguments_tokens all)) all f (as_many all)) refl
 
 -- ---- no two words stand side by side
 
-spaced : (b : Bool) (x : Bool) → (not (b && false) && x) ≡ x
+pub spaced : (b : Bool) (x : Bool) → (not (b && false) && x) ≡ x
 spaced true x = refl
 spaced false x = refl
 

@@ -21,7 +21,7 @@ use Rattle.pg_script.specs.declared.argument.Argument.TheVariants as given
 use Rattle.pg_script.specs.declared.error.LineError.{LineError}
 use Rattle.pg_script.specs.declared.error.LineError.TheVariants as errors
 use Rattle.pg_script.specs.Reading.{Fails}
-use Rattle.pg_script.specs.Given.{bare_encoding, argument_oid, argument_type, argument_encoding, once_query, AreEncoded}
+use Rattle.pg_script.specs.Given.{bare_encoding, argument_oid, argument_type, argument_encoding, given_query, AreEncoded}
 use Rattle.pg_script.proofs.SpellingLaws.{none_some, unless}
 use Rattle.pg_wire.proofs.Tests.{chosen, guarded}
 
@@ -151,8 +151,8 @@ none_missing given a h =
 pub never_missing : (given : List Argument) (a : Arguments) (name : List ℕ) → AreEncoded given a → missing_type a ≡ Some name → ⊥
 never_missing given a name h e = none_some name (sym (none_missing given a h) ∙ e)
 
-pub once_is : (sql : List ℕ) (given : List Argument) (a : Arguments) (q : QueryText) → AreEncoded given a → AsksWith a q.arguments → q ≡ kept_query sql (sent_as a) → once_query sql given ≡ Some (record q { persistent = false })
-once_is sql given a q h v e =
+pub given_is : (persistent : Bool) (sql : List ℕ) (given : List Argument) (a : Arguments) (q : QueryText) → AreEncoded given a → AsksWith a q.arguments → q ≡ kept_query sql (sent_as a) → given_query persistent sql given ≡ Some (record q { persistent = persistent })
+given_is persistent sql given a q h v e =
     let types : oids_in a.types ≡ map argument_oid given = ap oids_in h.types ∙ all_oids given in
     let values : HasBytesOf a (sent_as a) = subst (λ (x : QueryText). AsksWith a x.arguments) e v in
     rw (e, types, values h.values h.made, h.encoded) refl

@@ -4,6 +4,7 @@ use Rattle.std.specs.Prelude.{◌||◌, ℤ, pos, negsuc}
 use Rattle.std.specs.Str.{is_utf8}
 use Rattle.std.proofs.lemmas.Bool.Decides.{nat_tests}
 use Rattle.pg_request.specs.Queries.{QueryText, plain_text}
+use Rattle.pg_request.specs.declared.preparation.Preparation.{Preparation}
 use Rattle.pg_script.specs.declared.token.Token.{Token}
 use Rattle.pg_script.specs.declared.token.Token.TheVariants.{Space, Word, Number, SslMode, Text}
 use Rattle.pg_script.specs.declared.token.Keyword.{Keyword}
@@ -16,14 +17,15 @@ use Rattle.pg_script.specs.declared.line.Line.{Line}
 use Rattle.pg_script.specs.declared.line.Line.TheVariants as lines
 use Rattle.pg_script.specs.Reading.{◌>>=◌}
 use Rattle.pg_script.specs.Arguments.{alone, bytes_arg, text_in, text_arg, nonce_arg, mode_arg, pair_arg, number_arg, last_number, digits_arg}
-use Rattle.pg_script.specs.Asking.{query_arg, asked_arg}
+use Rattle.pg_script.specs.Asking.{query_arg, asked_arg, prepare_arg}
 use Rattle.pg_script.specs.Lines.{call_with, call_arg, take_of, take_line, most_arg, step_line, link_line, line_with, line_from}
-use Rattle.pg_script.specs.Grammar.{Asked, Raw, Once, query_tokens, asked_tokens, tokens_of, call_tokens, IsUnicode, QueryFits, AskedFits, LineFits, CallFits}
+use Rattle.pg_script.specs.Grammar.{Asked, Raw, Kept, Once, query_tokens, asked_tokens, preparation_tokens, tokens_of, call_tokens, IsUnicode, QueryFits, AskedFits, LineFits, CallFits}
 use Rattle.pg_options.specs.declared.ssl_mode.PgSslMode.{PgSslMode}
 use Rattle.pg_script.specs.Nonces.{IsNonce, is_nonce, nonce_in}
 use Rattle.pg_script.proofs.Found.{bind_some, utf8_takes}
 use Rattle.pg_script.proofs.Apart.{apart}
-use Rattle.pg_script.proofs.AskedLaws.{once_takes, once_again, arguments_apart}
+use Rattle.pg_script.proofs.AskedLaws.{given_takes, given_again, arguments_apart}
+use Rattle.pg_script.proofs.PrepareLaws.{number_takes, prepare_takes, prepare_again, oids_apart}
 use Rattle.pg_script.proofs.NonceLaws.{nonce_lawful, nonce_passes}
 use Rattle.std.proofs.lemmas.Option.{same_Some}
 
@@ -95,12 +97,6 @@ pair_takes (Space ∷ Text s ∷ Space ∷ Text t ∷ []) p e =
     subst (λ (q : List ℕ × List ℕ). (Space ∷ Text s ∷ Space ∷ Text t ∷ [] ≡ pair_tokens q) × ArePair q) (same_pair s t b.0 d.0 p u.1 v.1 (same_Some _ p d.2)) (refl, (u.0, v.0))
 pair_takes _ p e = absurd cc
 
-number_takes : (ts : List Token) (x : ℕ × List Token) → number_arg ts ≡ Some x → ts ≡ Space ∷ Number x.0 ∷ x.1
-number_takes (Space ∷ Number n ∷ rest) x e =
-    let p : (n, rest) ≡ x = cc in
-    ap (λ (y : ℕ × List Token). Space ∷ Number y.0 ∷ y.1) p
-number_takes _ x e = absurd cc
-
 last_takes : Takes last_number number_tokens anything
 last_takes (Space ∷ Number n ∷ []) m e = (cc, tt)
 last_takes _ m e = absurd cc
@@ -139,17 +135,22 @@ asked_takes : (ts : List Token) (q : QueryText) → asked_arg ts ≡ Some q → 
 asked_takes (Space ∷ Word words.Raw ∷ rest) q e =
     let t = query_takes rest q e in
     (Raw q.sql, ap (λ (ts : List Token). Space ∷ Word words.Raw ∷ ts) t.0, t.1)
+asked_takes (Space ∷ Word words.Query ∷ rest) q e =
+    let t = given_takes true rest q e in
+    (Kept t.sql t.arguments, ap (λ (ts : List Token). Space ∷ Word words.Query ∷ ts) t.is, (t.unicode, t.fit, t.query))
 asked_takes (Space ∷ Word words.Once ∷ rest) q e =
-    let t = once_takes rest q e in
+    let t = given_takes false rest q e in
     (Once t.sql t.arguments, ap (λ (ts : List Token). Space ∷ Word words.Once ∷ ts) t.is, (t.unicode, t.fit, t.query))
 asked_takes _ q e = absurd cc
 
 asked_again : (asked : Asked) (q : QueryText) → AskedFits asked q → asked_arg (asked_tokens asked) ≡ Some q
 asked_again (Raw sql) q f = rw f.0 (ap Some (sym f.1))
-asked_again (Once sql arguments) q f = once_again sql arguments f.0 f.1 ∙ f.2
+asked_again (Kept sql arguments) q f = given_again true sql arguments f.0 f.1 ∙ f.2
+asked_again (Once sql arguments) q f = given_again false sql arguments f.0 f.1 ∙ f.2
 
 asked_apart : (k : Keyword) (asked : Asked) → apart (Word k ∷ asked_tokens asked) ≡ true
 asked_apart k (Raw sql) = refl
+asked_apart k (Kept sql arguments) = arguments_apart (Text sql) arguments
 asked_apart k (Once sql arguments) = arguments_apart (Text sql) arguments
 
 alone_takes : {A : Type 0} (x y : A) (ts : List Token) → alone x ts ≡ Some y → (ts ≡ []) × (x ≡ y)
@@ -172,6 +173,9 @@ bare Is x k is rest y e =
     subst (Is (Word k ∷ rest)) t.1 (subst (λ (ts : List Token). Is (Word k ∷ ts) x) (sym t.0) is)
 
 -- ---- calls
+
+abbrev PreparationFits : Preparation → Type 0
+PreparationFits p = IsUnicode p.sql
 
 -- the tokens are those of the call, which may have its values
 abbrev pub IsCall : List Token → Call → Type 0
@@ -199,6 +203,8 @@ call_takes call_words.BeginWith rest c e = made IsCall query_arg (λ q. query_to
 call_takes call_words.Commit rest c e = bare IsCall calls.Commit (words.Call call_words.Commit) (nothing, refl, tt) rest c e
 call_takes call_words.Rollback rest c e = bare IsCall calls.Rollback (words.Call call_words.Rollback) (nothing, refl, tt) rest c e
 call_takes call_words.StartRollback rest c e = bare IsCall calls.StartRollback (words.Call call_words.StartRollback) (nothing, refl, tt) rest c e
+call_takes call_words.Prepare rest c e = made IsCall prepare_arg preparation_tokens PreparationFits (λ p. calls.Prepare p) (words.Call call_words.Prepare) prepare_takes (λ p f. (nothing, refl, f)) rest c e
+call_takes call_words.Clear rest c e = bare IsCall calls.Clear (words.Call call_words.Clear) (nothing, refl, tt) rest c e
 
 behind_takes : (ts : List Token) (c : Call) → call_arg ts ≡ Some c → (asked : Asked) × (ts ≡ Space ∷ call_tokens asked c) × CallFits asked c
 behind_takes (Space ∷ Word (words.Call k) ∷ rest) c e = let t = call_takes k rest c e in (t.0, ap (λ (ts : List Token). Space ∷ ts) t.1, t.2)
@@ -225,8 +231,13 @@ call_again asked (calls.BeginWith q) f = record { read = rw f.0 (ap (λ (r : Que
 call_again asked calls.Commit f = record { read = refl; plain = refl; parts = refl }
 call_again asked calls.Rollback f = record { read = refl; plain = refl; parts = refl }
 call_again asked calls.StartRollback f = record { read = refl; plain = refl; parts = refl }
+call_again asked (calls.Prepare p) f = record { read = rw (prepare_again p f) refl; plain = refl; parts = oids_apart (Text p.sql) p.types }
+call_again asked calls.Clear f = record { read = refl; plain = refl; parts = refl }
 call_again asked (calls.Describe x) f = absurd f
 call_again asked (calls.Run b) f = absurd f
+call_again asked (calls.Evict x) f = absurd f
+call_again asked (calls.Tell x) f = absurd f
+call_again asked (calls.CloseAll ns) f = absurd f
 
 -- ---- lines
 
@@ -298,6 +309,7 @@ with_takes words.Database rest l e = made IsLine text_arg text_tokens IsUnicode 
 with_takes words.Application rest l e = made IsLine text_arg text_tokens IsUnicode (λ s. lines.Application s) words.Application text_takes (λ s f. (nothing, refl, f)) rest l e
 with_takes words.Option rest l e = made IsLine pair_arg pair_tokens ArePair (λ p. lines.Option p.0 p.1) words.Option pair_takes (λ p f. (nothing, refl, f)) rest l e
 with_takes words.SslMode rest l e = made IsLine mode_arg mode_tokens anything (λ m. lines.SslMode m) words.SslMode mode_takes (λ m f. (nothing, refl, tt)) rest l e
+with_takes words.Cache rest l e = made IsLine last_number number_tokens anything (λ n. lines.Cache n) words.Cache last_takes (λ n f. (nothing, refl, tt)) rest l e
 with_takes words.Digits rest l e = made IsLine digits_arg digits_tokens AreDigits (λ d. lines.Digits d) words.Digits digits_take digits_line rest l e
 with_takes words.Link rest l e = link_takes rest l e
 with_takes words.Nonce rest l e = made IsLine nonce_arg text_tokens IsNonce (λ s. lines.Nonce s) words.Nonce nonce_takes (λ s f. (nothing, refl, f)) rest l e
@@ -326,6 +338,7 @@ from_again asked (lines.Database name) f = rw f refl
 from_again asked (lines.Application name) f = rw f refl
 from_again asked (lines.Option name value) f = rw (f.0, f.1) refl
 from_again asked (lines.SslMode mode) f = refl
+from_again asked (lines.Cache capacity) f = refl
 from_again asked (lines.Digits None) f = refl
 from_again asked (lines.Digits (Some (pos n))) f = let small : nat_le n 3 ≡ true = grind (arith, nat_tests, f) in rw small refl
 from_again asked (lines.Digits (Some (negsuc n))) f = absurd f

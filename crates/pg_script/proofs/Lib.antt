@@ -1,6 +1,7 @@
 pub mod Found
 pub mod BareLaws
 pub mod AskedLaws
+pub mod PrepareLaws
 pub mod GivenLaws
 pub mod TextLaws
 pub mod LineLaws

@@ -31,6 +31,7 @@ word_law words.Database = record { shape = refl; read = refl; no_mode = refl; no
 word_law words.Application = record { shape = refl; read = refl; no_mode = refl; no_bare = refl }
 word_law words.Option = record { shape = refl; read = refl; no_mode = refl; no_bare = refl }
 word_law words.SslMode = record { shape = refl; read = refl; no_mode = refl; no_bare = refl }
+word_law words.Cache = record { shape = refl; read = refl; no_mode = refl; no_bare = refl }
 word_law words.Digits = record { shape = refl; read = refl; no_mode = refl; no_bare = refl }
 word_law words.None = record { shape = refl; read = refl; no_mode = refl; no_bare = refl }
 word_law words.Link = record { shape = refl; read = refl; no_mode = refl; no_bare = refl }
@@ -48,6 +49,7 @@ word_law words.Start = record { shape = refl; read = refl; no_mode = refl; no_ba
 word_law words.Step = record { shape = refl; read = refl; no_mode = refl; no_bare = refl }
 word_law words.Most = record { shape = refl; read = refl; no_mode = refl; no_bare = refl }
 word_law words.Raw = record { shape = refl; read = refl; no_mode = refl; no_bare = refl }
+word_law words.Query = record { shape = refl; read = refl; no_mode = refl; no_bare = refl }
 word_law words.Once = record { shape = refl; read = refl; no_mode = refl; no_bare = refl }
 word_law words.Text = record { shape = refl; read = refl; no_mode = refl; no_bare = refl }
 word_law words.Bytea = record { shape = refl; read = refl; no_mode = refl; no_bare = refl }
@@ -67,3 +69,5 @@ word_law (words.Call call_words.BeginWith) = record { shape = refl; read = refl;
 word_law (words.Call call_words.Commit) = record { shape = refl; read = refl; no_mode = refl; no_bare = refl }
 word_law (words.Call call_words.Rollback) = record { shape = refl; read = refl; no_mode = refl; no_bare = refl }
 word_law (words.Call call_words.StartRollback) = record { shape = refl; read = refl; no_mode = refl; no_bare = refl }
+word_law (words.Call call_words.Prepare) = record { shape = refl; read = refl; no_mode = refl; no_bare = refl }
+word_law (words.Call call_words.Clear) = record { shape = refl; read = refl; no_mode = refl; no_bare = refl }

@@ -1,14 +1,15 @@
 -- What the calls with a query run, read from its tokens.
-use Rattle.std.specs.Prelude.{◌∷◌, ◌++◌, [], List, ℕ, zero, suc, length, Option, Some, None}
+use Rattle.std.specs.Prelude.{◌∷◌, ◌++◌, [], List, ℕ, zero, suc, Bool, true, false, length, Option, Some, None}
 use Rattle.pg_request.specs.Queries.{QueryText, plain_text}
+use Rattle.pg_request.specs.declared.preparation.Preparation.{Preparation}
 use Rattle.pg_script.specs.declared.argument.Argument.{Argument}
 use Rattle.pg_script.specs.declared.argument.Argument.TheVariants as given
 use Rattle.pg_script.specs.declared.token.Token.{Token}
-use Rattle.pg_script.specs.declared.token.Token.TheVariants.{Space, Word, Bare, Text}
+use Rattle.pg_script.specs.declared.token.Token.TheVariants.{Space, Word, Number, Bare, Text}
 use Rattle.pg_script.specs.declared.token.Keyword.TheVariants as words
 use Rattle.pg_script.specs.Reading.{◌>>=◌}
 use Rattle.pg_script.specs.Arguments.{text_in, text_arg}
-use Rattle.pg_script.specs.Given.{once_query}
+use Rattle.pg_script.specs.Given.{given_query}
 
 -- more items behind those that are there
 abbrev pub in_front : {A B : Type 0} → List A → Option (List A × B) → Option (List A × B)
@@ -59,15 +60,30 @@ abbrev pub query_arg : List Token → Option QueryText
 query_arg ts = text_arg ts >>= λ sql. Some (plain_text sql)
 
 -- a text of SQL, and arguments
-abbrev pub once_arg : List Token → Option QueryText
-once_arg (Space ∷ Text s ∷ rest) = do
+abbrev pub given_arg : Bool → List Token → Option QueryText
+given_arg persistent (Space ∷ Text s ∷ rest) = do
   sql ← text_in s
   arguments ← arguments_in rest
-  once_query sql arguments
-once_arg _ = None
+  given_query persistent sql arguments
+given_arg persistent _ = None
 
 -- the one or the other behind its word
 abbrev pub asked_arg : List Token → Option QueryText
 asked_arg (Space ∷ Word words.Raw ∷ rest) = query_arg rest
-asked_arg (Space ∷ Word words.Once ∷ rest) = once_arg rest
+asked_arg (Space ∷ Word words.Query ∷ rest) = given_arg true rest
+asked_arg (Space ∷ Word words.Once ∷ rest) = given_arg false rest
 asked_arg _ = None
+
+-- OIDs up to the end
+abbrev pub oids_in : List Token → Option (List ℕ)
+oids_in [] = Some []
+oids_in (Space ∷ Number oid ∷ rest) = oids_in rest >>= λ others. Some (oid ∷ others)
+oids_in _ = None
+
+-- a text of SQL, and the types of its first parameters
+abbrev pub prepare_arg : List Token → Option Preparation
+prepare_arg (Space ∷ Text s ∷ rest) = do
+  sql ← text_in s
+  oids ← oids_in rest
+  Some (record { sql = sql; types = oids })
+prepare_arg _ = None

@@ -1,5 +1,5 @@
 -- What the arguments that a script gives are as arguments of a call (PostgreSQL manual, "pg_type", and the send functions of the types).
-use Rattle.std.specs.Prelude.{◌≡◌, ℕ, List, map, Option, Some, false}
+use Rattle.std.specs.Prelude.{◌≡◌, ℕ, Bool, List, map, Option, Some}
 use Rattle.pg_request.specs.Queries.{QueryText}
 use Rattle.pg_request.specs.Asked.{bytes_of}
 use Rattle.pg_arguments.specs.Types.{TypeParts}
@@ -50,13 +50,13 @@ argument_encoding (given.Text s) = Image (plain s)
 argument_encoding (given.Bytea s) = Image (plain s)
 argument_encoding (given.Texts ss) = array_encoding (type_under 25) (elements (λ s. Image (plain s)) ss)
 
--- a query with these arguments, which have these values, and whose statement isn't kept
-abbrev pub once_with : List ℕ → List Argument → List (Option Encoded) → QueryText
-once_with sql arguments values = record { sql = sql; arguments = Some (record { types = map argument_oid arguments; values = bytes_of values }); persistent = false }
+-- a query with these arguments, which have these values, and whose statement is to be kept or not
+abbrev pub given_with : Bool → List ℕ → List Argument → List (Option Encoded) → QueryText
+given_with persistent sql arguments values = record { sql = sql; arguments = Some (record { types = map argument_oid arguments; values = bytes_of values }); persistent = persistent }
 
 -- the same, where each argument has an encoding, which may have 2147483647 bytes
-abbrev pub once_query : List ℕ → List Argument → Option QueryText
-once_query sql arguments = elements argument_encoding arguments >>= λ values. Some (once_with sql arguments values)
+abbrev pub given_query : Bool → List ℕ → List Argument → Option QueryText
+given_query persistent sql arguments = elements argument_encoding arguments >>= λ values. Some (given_with persistent sql arguments values)
 
 -- the arguments of a call are those that are given
 pub record AreEncoded (arguments : List Argument) (a : Arguments) : Type 0 where

@@ -5,6 +5,7 @@ use Rattle.std.specs.List.{AllByRecursion, list_any}
 use Rattle.std.specs.Str.{is_utf8}
 use Rattle.std.specs.Str.Parse.{IsNumeral, digits_value}
 use Rattle.pg_request.specs.Queries.{QueryText, plain_text}
+use Rattle.pg_request.specs.declared.preparation.Preparation.{Preparation}
 use Rattle.pg_script.specs.declared.argument.Bare.{Bare}
 use Rattle.pg_script.specs.declared.argument.Bare.TheVariants as bare
 use Rattle.pg_script.specs.declared.argument.Argument.{Argument}
@@ -23,16 +24,18 @@ use Rattle.pg_script.specs.declared.script.Script.{Script}
 use Rattle.pg_script.specs.declared.live.LiveScript.{LiveScript}
 use Rattle.pg_options.specs.SslModes.{ssl_mode_from}
 use Rattle.pg_script.specs.Words.{spelling_of}
-use Rattle.pg_script.specs.Given.{once_query}
+use Rattle.pg_script.specs.Given.{given_query}
 use Rattle.pg_script.specs.Nonces.{IsNonce}
 use Rattle.pg_script.specs.Scripts.{add_allowed, as_script, empty_script}
 use Rattle.pg_script.specs.declared.error.ReadError.{ReadError}
 use Rattle.pg_script.specs.declared.error.ReadError.TheVariants as errors
 
--- ---- what the calls with a query run: a text alone behind the word `raw`, or one with arguments behind the word `once`
+-- ---- what the calls with a query run: a text alone behind the word `raw`, or one with arguments behind the word `query`, or behind `once` where
+-- its statement isn't kept
 
 pub data Asked : Type 0 where
   Raw : List ℕ → Asked
+  Kept : List ℕ → List Argument → Asked
   Once : List ℕ → List Argument → Asked
 
 -- texts between commas
@@ -59,7 +62,16 @@ query_tokens sql = Space ∷ Text sql ∷ []
 
 abbrev pub asked_tokens : Asked → List Token
 asked_tokens (Raw sql) = Space ∷ Word words.Raw ∷ query_tokens sql
+asked_tokens (Kept sql arguments) = Space ∷ Word words.Query ∷ Space ∷ Text sql ∷ arguments_tokens arguments
 asked_tokens (Once sql arguments) = Space ∷ Word words.Once ∷ Space ∷ Text sql ∷ arguments_tokens arguments
+
+-- the types of the first parameters of a text, by their OIDs
+abbrev pub oid_tokens : List ℕ → List Token
+oid_tokens [] = []
+oid_tokens (oid ∷ more) = Space ∷ Number oid ∷ oid_tokens more
+
+abbrev pub preparation_tokens : Preparation → List Token
+preparation_tokens p = Space ∷ Text p.sql ∷ oid_tokens p.types
 
 -- ---- lines as tokens: one row a line
 
@@ -78,6 +90,8 @@ call_tokens asked (calls.BeginWith query) = Word (words.Call call_words.BeginWit
 call_tokens asked calls.Commit = Word (words.Call call_words.Commit) ∷ []
 call_tokens asked calls.Rollback = Word (words.Call call_words.Rollback) ∷ []
 call_tokens asked calls.StartRollback = Word (words.Call call_words.StartRollback) ∷ []
+call_tokens asked (calls.Prepare preparation) = Word (words.Call call_words.Prepare) ∷ preparation_tokens preparation
+call_tokens asked calls.Clear = Word (words.Call call_words.Clear) ∷ []
 call_tokens asked _ = []
 
 -- digits below 0 have no spelling (`LineFits` has none of them)
@@ -89,6 +103,7 @@ tokens_of asked (lines.Database name) = Word words.Database ∷ Space ∷ Text n
 tokens_of asked (lines.Application name) = Word words.Application ∷ Space ∷ Text name ∷ []
 tokens_of asked (lines.Option name value) = Word words.Option ∷ Space ∷ Text name ∷ Space ∷ Text value ∷ []
 tokens_of asked (lines.SslMode mode) = Word words.SslMode ∷ Space ∷ SslMode mode ∷ []
+tokens_of asked (lines.Cache capacity) = Word words.Cache ∷ Space ∷ Number capacity ∷ []
 tokens_of asked (lines.Digits None) = Word words.Digits ∷ Space ∷ Word words.None ∷ []
 tokens_of asked (lines.Digits (Some (pos n))) = Word words.Digits ∷ Space ∷ Number n ∷ []
 tokens_of asked (lines.Digits (Some (negsuc n))) = []
@@ -124,7 +139,8 @@ QueryFits query = IsUnicode query.sql × (query ≡ plain_text query.sql)
 -- the query is what is asked; an argument whose encoding has more than 2147483647 bytes makes none
 abbrev pub AskedFits : Asked → QueryText → Type 0
 AskedFits (Raw sql) query = IsUnicode sql × (query ≡ plain_text sql)
-AskedFits (Once sql arguments) query = IsUnicode sql × AllByRecursion ArgumentFits arguments × (once_query sql arguments ≡ Some query)
+AskedFits (Kept sql arguments) query = IsUnicode sql × AllByRecursion ArgumentFits arguments × (given_query true sql arguments ≡ Some query)
+AskedFits (Once sql arguments) query = IsUnicode sql × AllByRecursion ArgumentFits arguments × (given_query false sql arguments ≡ Some query)
 
 abbrev pub CallFits : Asked → Call → Type 0
 CallFits asked (calls.Execute query) = AskedFits asked query
@@ -141,6 +157,8 @@ CallFits asked (calls.BeginWith query) = QueryFits query
 CallFits asked calls.Commit = Unit {0}
 CallFits asked calls.Rollback = Unit {0}
 CallFits asked calls.StartRollback = Unit {0}
+CallFits asked (calls.Prepare preparation) = IsUnicode preparation.sql
+CallFits asked calls.Clear = Unit {0}
 CallFits asked _ = ⊥
 
 abbrev pub LineFits : Asked → Line → Type 0

@@ -14,7 +14,7 @@ use Rattle.pg_script.specs.declared.line.Line.TheVariants as lines
 use Rattle.pg_script.specs.Lexing.{tokens_in}
 use Rattle.pg_script.specs.Reading.{◌>>=◌}
 use Rattle.pg_script.specs.Arguments.{alone, bytes_arg, text_arg, nonce_arg, mode_arg, pair_arg, number_arg, last_number, digits_arg}
-use Rattle.pg_script.specs.Asking.{query_arg, asked_arg}
+use Rattle.pg_script.specs.Asking.{query_arg, asked_arg, prepare_arg}
 
 -- ---- calls
 
@@ -33,6 +33,8 @@ call_with call_words.BeginWith rest = query_arg rest >>= λ query. Some (calls.B
 call_with call_words.Commit rest = alone calls.Commit rest
 call_with call_words.Rollback rest = alone calls.Rollback rest
 call_with call_words.StartRollback rest = alone calls.StartRollback rest
+call_with call_words.Prepare rest = prepare_arg rest >>= λ preparation. Some (calls.Prepare preparation)
+call_with call_words.Clear rest = alone calls.Clear rest
 
 abbrev pub call_arg : List Token → Option Call
 call_arg (Space ∷ Word (words.Call word) ∷ rest) = call_with word rest
@@ -75,6 +77,7 @@ line_with words.Database rest = text_arg rest >>= λ name. Some (lines.Database 
 line_with words.Application rest = text_arg rest >>= λ name. Some (lines.Application name)
 line_with words.Option rest = pair_arg rest >>= λ pair. Some (lines.Option pair.0 pair.1)
 line_with words.SslMode rest = mode_arg rest >>= λ mode. Some (lines.SslMode mode)
+line_with words.Cache rest = last_number rest >>= λ capacity. Some (lines.Cache capacity)
 line_with words.Digits rest = digits_arg rest >>= λ digits. Some (lines.Digits digits)
 line_with words.Link rest = link_line rest
 line_with words.Nonce rest = nonce_arg rest >>= λ nonce. Some (lines.Nonce nonce)

@@ -24,6 +24,7 @@ empty_script = record {
   application = None;
   options = [];
   ssl_mode = None;
+  cache = None;
   digits = None;
   can_upgrade = false;
   is_local = false;
@@ -60,6 +61,7 @@ add s (lines.Database name) = set_once s.database name >>= λ database. Some (re
 add s (lines.Application name) = set_once s.application name >>= λ application. Some (record s { application = application })
 add s (lines.Option name value) = with_option s name value
 add s (lines.SslMode mode) = set_once s.ssl_mode mode >>= λ ssl_mode. Some (record s { ssl_mode = ssl_mode })
+add s (lines.Cache capacity) = set_once s.cache capacity >>= λ cache. Some (record s { cache = cache })
 add s (lines.Digits digits) = set_once s.digits digits >>= λ digits. Some (record s { digits = digits })
 add s lines.LinkUpgrade = Some (record s { can_upgrade = true })
 add s lines.LinkLocal = Some (record s { is_local = true })

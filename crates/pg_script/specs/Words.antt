@@ -32,6 +32,8 @@ call_spelling call_words.BeginWith = codes "begin_with"
 call_spelling call_words.Commit = codes "commit"
 call_spelling call_words.Rollback = codes "rollback"
 call_spelling call_words.StartRollback = codes "start_rollback"
+call_spelling call_words.Prepare = codes "prepare"
+call_spelling call_words.Clear = codes "clear"
 
 -- how a word is spelled
 abbrev pub spelling_of : Keyword → List ℕ
@@ -41,6 +43,7 @@ spelling_of words.Database = codes "database"
 spelling_of words.Application = codes "application"
 spelling_of words.Option = codes "option"
 spelling_of words.SslMode = codes "sslmode"
+spelling_of words.Cache = codes "cache"
 spelling_of words.Digits = codes "digits"
 spelling_of words.None = codes "none"
 spelling_of words.Link = codes "link"
@@ -58,6 +61,7 @@ spelling_of words.Start = codes "start"
 spelling_of words.Step = codes "step"
 spelling_of words.Most = codes "most"
 spelling_of words.Raw = codes "raw"
+spelling_of words.Query = codes "query"
 spelling_of words.Once = codes "once"
 spelling_of words.Text = codes "text:"
 spelling_of words.Bytea = codes "bytea:"
@@ -66,10 +70,10 @@ spelling_of words.Comma = codes ","
 spelling_of (words.Call word) = call_spelling word
 
 abbrev pub all_words : List Keyword
-all_words = words.Step ∷ words.Server ∷ words.Raw ∷ words.Once ∷ words.Text ∷ words.Bytea ∷ words.Texts ∷ words.Comma ∷ words.Wait ∷ words.Call call_words.Execute ∷ words.Call call_words.Fetch ∷ words.Call call_words.FetchAll ∷ words.Call call_words.FetchOne
+all_words = words.Step ∷ words.Server ∷ words.Raw ∷ words.Query ∷ words.Once ∷ words.Text ∷ words.Bytea ∷ words.Texts ∷ words.Comma ∷ words.Wait ∷ words.Call call_words.Execute ∷ words.Call call_words.Fetch ∷ words.Call call_words.FetchAll ∷ words.Call call_words.FetchOne
     ∷ words.Call call_words.FetchOptional ∷ words.Call call_words.FetchMany ∷ words.Call call_words.ExecuteMany ∷ words.Call call_words.Ping ∷ words.Call call_words.Flush ∷ words.Call call_words.Begin
-    ∷ words.Call call_words.BeginWith ∷ words.Call call_words.Commit ∷ words.Call call_words.Rollback ∷ words.Call call_words.StartRollback ∷ words.Most ∷ words.Take ∷ words.Hold ∷ words.End
-    ∷ words.Fail ∷ words.Break ∷ words.Start ∷ words.User ∷ words.Password ∷ words.Database ∷ words.Application ∷ words.Option ∷ words.SslMode ∷ words.Digits ∷ words.None ∷ words.Link ∷ words.Upgrade
+    ∷ words.Call call_words.BeginWith ∷ words.Call call_words.Commit ∷ words.Call call_words.Rollback ∷ words.Call call_words.StartRollback ∷ words.Call call_words.Prepare ∷ words.Call call_words.Clear ∷ words.Most ∷ words.Take ∷ words.Hold ∷ words.End
+    ∷ words.Fail ∷ words.Break ∷ words.Start ∷ words.User ∷ words.Password ∷ words.Database ∷ words.Application ∷ words.Option ∷ words.SslMode ∷ words.Cache ∷ words.Digits ∷ words.None ∷ words.Link ∷ words.Upgrade
     ∷ words.Local ∷ words.Nonce ∷ []
 
 abbrev pub is_digit : ℕ → Bool

@@ -1,14 +1,14 @@
 ghost use Rattle.std.specs.Prelude.{◌≡◌, ◌∷◌, [], option_map};
 ghost use Rattle.pg_script.specs.Reading.{Gives};
-ghost use Rattle.pg_script.specs.Asking.{in_front, comma_text, more_texts, texts_at, argument_at, arguments_in, query_arg, once_arg, asked_arg};
+ghost use Rattle.pg_script.specs.Asking.{in_front, comma_text, more_texts, texts_at, argument_at, arguments_in, query_arg, given_arg, asked_arg, oids_in, prepare_arg};
 
 use crate::argument::Argument;
-use crate::arguments::{text_arg, text_of};
-use crate::encoding::once_query;
+use crate::arguments::{number_arg, text_arg, text_of};
+use crate::encoding::given_query;
 use crate::error::LineError;
 use crate::token::{Keyword, Token};
-use pg_request::Query;
-use pg_wire::{Sequence, Text};
+use pg_request::{Preparation, Query};
+use pg_wire::{Oid, Oids, Sequence, Text};
 use std::alloc::Global;
 
 // A text behind a comma, and the tokens behind it.
@@ -120,26 +120,56 @@ pub(crate) fn query_arg(alloc: Global, tokens: &[Token]) -> Result<Query, LineEr
 }
 
 // One text of SQL, and arguments.
-fn once_arg(alloc: Global, tokens: &[Token]) -> Result<Query, LineError>
-    ensures { Gives (λ q. q) result (once_arg tokens.now) }
+fn given_arg(alloc: Global, tokens: &[Token], is_kept: bool) -> Result<Query, LineError>
+    ensures { Gives (λ q. q) result (given_arg is_kept tokens.now) }
 {
     match tokens {
         [Token::Space, Token::Text(sql), rest @ ..] => {
             let sql = text_of(alloc, sql.as_bytes())?;
             let arguments = arguments_in(alloc, rest)?;
-            once_query(alloc, sql, arguments)
+            given_query(alloc, sql, arguments, is_kept)
         }
         _ => Err(LineError::Bad),
     }
 }
 
-/// What the calls with a query run: a text of SQL behind the word `raw`, or one with arguments behind the word `once`.
+/// What the calls with a query run: a text of SQL behind the word `raw`, or one with arguments behind the word `query`, or behind `once`
+/// where its statement isn't kept.
 pub(crate) fn asked_arg(alloc: Global, tokens: &[Token]) -> Result<Query, LineError>
     ensures { Gives (λ q. q) result (asked_arg tokens.now) }
 {
     match tokens {
         [Token::Space, Token::Word(Keyword::Raw), rest @ ..] => query_arg(alloc, rest),
-        [Token::Space, Token::Word(Keyword::Once), rest @ ..] => once_arg(alloc, rest),
+        [Token::Space, Token::Word(Keyword::Query), rest @ ..] => given_arg(alloc, rest, true),
+        [Token::Space, Token::Word(Keyword::Once), rest @ ..] => given_arg(alloc, rest, false),
+        _ => Err(LineError::Bad),
+    }
+}
+
+// OIDs, and nothing more.
+fn oids_in(alloc: Global, tokens: &[Token]) -> Result<Oids, LineError>
+    ensures { Gives (λ o. o) result (oids_in tokens.now) }
+{
+    let mut oids = Oids::new(alloc);
+    let mut rest = tokens;
+    while !rest.is_empty() {
+        let (number, behind) = number_arg(rest)?;
+        oids.push(Oid(number))?;
+        rest = behind;
+    }
+    Ok(oids)
+}
+
+/// One text of SQL, and the types of its first parameters.
+pub(crate) fn prepare_arg(alloc: Global, tokens: &[Token]) -> Result<Preparation, LineError>
+    ensures { Gives (λ p. p) result (prepare_arg tokens.now) }
+{
+    match tokens {
+        [Token::Space, Token::Text(sql), rest @ ..] => {
+            let sql = text_of(alloc, sql.as_bytes())?;
+            let types = oids_in(alloc, rest)?;
+            Ok(Preparation { sql, types })
+        }
         _ => Err(LineError::Bad),
     }
 }

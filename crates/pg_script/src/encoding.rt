@@ -4,7 +4,7 @@ ghost use Rattle.pg_arguments.specs.Encoding.{value_of, RefusesArgument};
 ghost use Rattle.pg_arguments.specs.Arrays.{elements};
 ghost use Rattle.pg_arguments.specs.Arguments.{AddsArgument, AddsToValues};
 ghost use Rattle.pg_script.specs.Reading.{Gives, Fails};
-ghost use Rattle.pg_script.specs.Given.{bare_oid, bare_encoding, argument_type, argument_encoding, AreEncoded, once_query};
+ghost use Rattle.pg_script.specs.Given.{bare_oid, bare_encoding, argument_type, argument_encoding, AreEncoded, given_query};
 
 use crate::argument::{Argument, Bare};
 use crate::error::LineError;
@@ -83,13 +83,18 @@ fn encoded(alloc: Global, given: Vec<Argument>) -> Result<PgArguments, LineError
     Ok(arguments)
 }
 
-/// The query with these arguments, whose statement isn't kept.
-pub(crate) fn once_query(alloc: Global, sql: Text, given: Vec<Argument>) -> Result<Query, LineError>
-    ensures { Gives (λ q. q) result (once_query sql given.items) }
+/// The query with these arguments, whose statement is to be kept or not.
+pub(crate) fn given_query(
+    alloc: Global,
+    sql: Text,
+    given: Vec<Argument>,
+    is_kept: bool,
+) -> Result<Query, LineError>
+    ensures { Gives (λ q. q) result (given_query is_kept sql given.items) }
 {
     let arguments = encoded(alloc, given)?;
     match Query::with(alloc, sql.as_str(), &arguments) {
-        Ok(query) => Ok(query.persistent(false)),
+        Ok(query) => Ok(query.persistent(is_kept)),
         Err(Error::TypeNotFound { type_name: _ }) => Err(LineError::Bad),
         Err(_) => Err(LineError::OutOfMemory),
     }

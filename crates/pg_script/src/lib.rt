@@ -8,6 +8,7 @@
 //! | `user TEXT`, `password TEXT`, `database TEXT`, `application TEXT` | the texts of start-up; each at most once |
 //! | `option TEXT TEXT` | an option of the server and its value |
 //! | `sslmode MODE` | `disable`, `allow`, `prefer`, `require`, `verify-ca` or `verify-full`, in any ASCII case; at most once |
+//! | `cache N` | how many statements a connection keeps; at most once |
 //! | `digits none`, `digits N` | `extra_float_digits`, left out or from 0 to 3; at most once |
 //! | `start N` | the polls that start-up has at most; at most once |
 //! | `nonce TEXT` | the client's nonce of SCRAM: 64 to 127 printable ASCII characters without a space and a comma; at most once |
@@ -18,8 +19,10 @@
 //!
 //! The options, the events of reads, those of writes and the steps each keep their order, and else the lines may stand in any.
 //! A CALL is `execute`, `execute_many`, `fetch`, `fetch_many`, `fetch_all`, `fetch_optional` or `fetch_one`, each with `raw TEXT`
-//! behind it, a text of SQL, or with `once TEXT` and any number of ARG, each behind a space: one statement with arguments, which isn't
-//! kept; `begin_with TEXT`, where the text is one of SQL as well; or `ping`, `flush`, `begin`, `commit`, `rollback` or `start_rollback`.
+//! behind it, a text of SQL, or with `query TEXT` and any number of ARG, each behind a space: one statement with arguments, which is kept,
+//! or with `once` in place of `query`, whose statement isn't kept; `begin_with TEXT`, where the text is one of SQL as well;
+//! `prepare TEXT` and any number of N, each behind a space: the OIDs of the types of its first parameters; or `ping`, `flush`, `begin`,
+//! `commit`, `rollback`, `start_rollback` or `clear`, which closes all statements that are kept.
 //!
 //! | ARG | Its type and value |
 //! |---|---|

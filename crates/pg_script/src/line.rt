@@ -6,7 +6,7 @@ use crate::arguments::{
     alone, bytes_arg, digits_arg, is_utf8, last_number, mode_arg, nonce_arg, number_arg, pair_arg,
     text_arg,
 };
-use crate::asking::{asked_arg, query_arg};
+use crate::asking::{asked_arg, prepare_arg, query_arg};
 use crate::error::LineError;
 use crate::lexer::Lexer;
 use crate::nonce::Nonce;
@@ -30,6 +30,7 @@ pub(crate) enum Line {
     Application(Text),
     Option(Text, Text),
     SslMode(PgSslMode),
+    Cache(u32),
     Digits(Option<i8>),
     LinkUpgrade,
     LinkLocal,
@@ -71,6 +72,8 @@ fn call_with(alloc: Global, word: CallWord, rest: &[Token]) -> Result<Call, Line
         CallWord::Commit => alone(Call::Commit, rest),
         CallWord::Rollback => alone(Call::Rollback, rest),
         CallWord::StartRollback => alone(Call::StartRollback, rest),
+        CallWord::Prepare => Ok(Call::Prepare(prepare_arg(alloc, rest)?)),
+        CallWord::Clear => alone(Call::Clear, rest),
     }
 }
 
@@ -141,6 +144,7 @@ fn line_with(alloc: Global, word: Keyword, rest: &[Token]) -> Result<Line, LineE
             Ok(Line::Option(name, value))
         }
         Keyword::SslMode => Ok(Line::SslMode(mode_arg(rest)?)),
+        Keyword::Cache => Ok(Line::Cache(last_number(rest)?)),
         Keyword::Digits => Ok(Line::Digits(digits_arg(rest)?)),
         Keyword::Link => link_line(rest),
         Keyword::Nonce => Ok(Line::Nonce(nonce_arg(alloc, rest)?)),

@@ -23,6 +23,8 @@ pub struct Script {
     /// Names of options of the server and their values, in order.
     pub options: Sequence<(Text, Text)>,
     pub ssl_mode: Option<PgSslMode>,
+    /// How many statements a connection keeps, where the script says it.
+    pub cache: Option<u32>,
     /// `extra_float_digits`, where the script says it.
     pub digits: Option<Option<i8>>,
     /// Whether the link can be made a TLS one.
@@ -64,6 +66,7 @@ impl Script {
             application: None,
             options: Sequence::new(alloc),
             ssl_mode: None,
+            cache: None,
             digits: None,
             can_upgrade: false,
             is_local: false,
@@ -114,6 +117,7 @@ impl Script {
             Line::Application(name) => set_once(&mut self.application, name),
             Line::Option(name, value) => self.push_option(name, value),
             Line::SslMode(mode) => set_once(&mut self.ssl_mode, mode),
+            Line::Cache(capacity) => set_once(&mut self.cache, capacity),
             Line::Digits(digits) => set_once(&mut self.digits, digits),
             Line::LinkUpgrade => {
                 self.can_upgrade = true;

@@ -1,8 +1,8 @@
 ghost use Rattle.std.specs.Prelude.{◌≡◌, IfOk, IfErr};
 
-use pg_call::{Bound, Extended};
-use pg_request::Query;
-use pg_wire::Error;
+use pg_call::{Bound, Eviction, Extended, Prepared};
+use pg_request::{Preparation, Query};
+use pg_wire::{Error, Sequence, StatementId};
 use std::alloc::Global;
 
 /// A call of a script.
@@ -27,8 +27,31 @@ pub enum Call {
     StartRollback,
     /// The first exchange of a query with arguments, which describes it. No script says it alone.
     Describe(Extended),
-    /// Its second one, which runs what was described.
+    /// The one that runs what was described, or what is kept.
     Run(Bound),
+    /// Prepares a text, and tells its parameters and columns.
+    Prepare(Preparation),
+    /// Closes all statements that are kept.
+    Clear,
+    /// The exchange that closes a statement for another one. No script says it alone.
+    Evict(Eviction),
+    /// The one that tells what a statement was described to be, which asks nothing of the server.
+    Tell(Prepared),
+    /// The one that closes these statements.
+    CloseAll(Sequence<StatementId>),
+}
+
+// The same numbers again.
+fn copied(
+    alloc: Global,
+    statements: &Sequence<StatementId>,
+) -> Result<Sequence<StatementId>, Error>
+    ensures copy { IfOk result (λ s. s ≡ statements.now) }
+    ensures memory { IfErr result (λ e. e ≡ Error.OutOfMemory) }
+{
+    let mut copies = Vec::new(alloc);
+    copies.extend_from_slice(statements.as_slice())?;
+    Ok(Sequence::from_vec(copies))
 }
 
 impl Call {
@@ -54,6 +77,11 @@ impl Call {
             Call::StartRollback => Call::StartRollback,
             Call::Describe(extended) => Call::Describe(extended.to_copy(alloc)?),
             Call::Run(bound) => Call::Run(bound.to_copy(alloc)?),
+            Call::Prepare(preparation) => Call::Prepare(preparation.to_copy(alloc)?),
+            Call::Clear => Call::Clear,
+            Call::Evict(eviction) => Call::Evict(eviction.to_copy(alloc)?),
+            Call::Tell(prepared) => Call::Tell(prepared.to_copy(alloc)?),
+            Call::CloseAll(statements) => Call::CloseAll(copied(alloc, statements)?),
         })
     }
 }

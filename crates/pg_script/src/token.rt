@@ -19,6 +19,8 @@ pub(crate) enum CallWord {
     Commit,
     Rollback,
     StartRollback,
+    Prepare,
+    Clear,
 }
 
 /// The words of a script.
@@ -30,6 +32,7 @@ pub(crate) enum Keyword {
     Application,
     Option,
     SslMode,
+    Cache,
     Digits,
     None,
     Link,
@@ -47,6 +50,7 @@ pub(crate) enum Keyword {
     Step,
     Most,
     Raw,
+    Query,
     Once,
     /// In front of a text, of bytes and of texts that are arguments.
     Text,

@@ -10,10 +10,11 @@ use pg_options::PgSslMode;
 use std::alloc::Global;
 
 /// All words of a script, the most usual first.
-const WORDS: [Keyword; 42] = [
+const WORDS: [Keyword; 46] = [
     Keyword::Step,
     Keyword::Server,
     Keyword::Raw,
+    Keyword::Query,
     Keyword::Once,
     Keyword::Text,
     Keyword::Bytea,
@@ -34,6 +35,8 @@ const WORDS: [Keyword; 42] = [
     Keyword::Call(CallWord::Commit),
     Keyword::Call(CallWord::Rollback),
     Keyword::Call(CallWord::StartRollback),
+    Keyword::Call(CallWord::Prepare),
+    Keyword::Call(CallWord::Clear),
     Keyword::Most,
     Keyword::Take,
     Keyword::Hold,
@@ -47,6 +50,7 @@ const WORDS: [Keyword; 42] = [
     Keyword::Application,
     Keyword::Option,
     Keyword::SslMode,
+    Keyword::Cache,
     Keyword::Digits,
     Keyword::None,
     Keyword::Link,
@@ -74,6 +78,8 @@ fn call_spelling(word: CallWord) -> &'static [u8]
         CallWord::Commit => b"commit",
         CallWord::Rollback => b"rollback",
         CallWord::StartRollback => b"start_rollback",
+        CallWord::Prepare => b"prepare",
+        CallWord::Clear => b"clear",
     }
 }
 
@@ -88,6 +94,7 @@ fn spelling_of(word: Keyword) -> &'static [u8]
         Keyword::Application => b"application",
         Keyword::Option => b"option",
         Keyword::SslMode => b"sslmode",
+        Keyword::Cache => b"cache",
         Keyword::Digits => b"digits",
         Keyword::None => b"none",
         Keyword::Link => b"link",
@@ -105,6 +112,7 @@ fn spelling_of(word: Keyword) -> &'static [u8]
         Keyword::Step => b"step",
         Keyword::Most => b"most",
         Keyword::Raw => b"raw",
+        Keyword::Query => b"query",
         Keyword::Once => b"once",
         Keyword::Text => b"text:",
         Keyword::Bytea => b"bytea:",

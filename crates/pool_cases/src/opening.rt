@@ -66,7 +66,7 @@ fn settle<G: PoolLedger, L: Link + Drop, R: Wait>(
 ) -> Result<PoolConnection<L>, Error>
     requires theirs { seat.old.name ≡ pool.now.name }
     requires mine { IsOfPool pool.now.name state.ticket }
-    requires goes { state.startup.is_finished ≡ false }
+    requires goes { state.connecting.startup.is_finished ≡ false }
     ensures named { IfOk result (λ held. held.name ≡ pool.now.name) }
     ensures seat { seat.new.name ≡ seat.old.name }
 {

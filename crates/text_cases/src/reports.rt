@@ -1,7 +1,9 @@
+use pg_columns::PgColumns;
 use pg_report::{Answer, End, Item, Outcome, Started, report};
 use pg_request::CacheStep;
 use pg_wire::{
     Blob, Error, IoCause, Oid, Oids, ProtocolFault, Sequence, ServerFault, decode_data_row,
+    decode_row_description,
 };
 use std::alloc::{AllocError, Global};
 
@@ -21,10 +23,19 @@ fn bare(alloc: Global, cache: CacheStep, end: End) -> Outcome {
     outcome(Sequence::new(alloc), cache, end)
 }
 
-fn described(alloc: Global, parameters: Vec<Oid>) -> End {
+// Two columns, as a RowDescription tells them.
+const TWO_COLUMNS: [u8; 42] =
+    *b"\x00\x02a\x00\x00\x00\x00\x00\x00\x00\x00\x00\x00\x17\x00\x04\xff\xff\xff\xff\x00\x00b\x00\x00\x00\x00\x00\x00\x00\x00\x00\x00\x19\xff\xff\xff\xff\xff\xff\x00\x00";
+
+fn two_columns(alloc: Global) -> Result<PgColumns, Error> {
+    let description = decode_row_description(alloc, &TWO_COLUMNS)?;
+    Ok(PgColumns::described(alloc, &description)?)
+}
+
+fn described(parameters: Vec<Oid>, fields: PgColumns) -> End {
     End::Ok(Answer::Described {
         parameters: Oids::from_vec(parameters),
-        fields: Sequence::new(alloc),
+        fields,
     })
 }
 
@@ -49,16 +60,16 @@ fn items(alloc: Global) -> Result<Sequence<Item>, Error> {
     Ok(Sequence::from_vec(Vec::from_array(alloc, items)?))
 }
 
-fn all_played(alloc: Global, items: Sequence<Item>, two: Vec<Oid>) -> Result<String, AllocError> {
+fn all_played(alloc: Global, items: Sequence<Item>, two: End) -> Result<String, AllocError> {
     let same = CacheStep::Same;
     let outcomes = [
         outcome(items, same, End::Ok(Answer::Total(1))),
         bare(alloc, CacheStep::Hit, End::Ok(Answer::Unit)),
-        bare(alloc, CacheStep::Put, described(alloc, two)),
+        bare(alloc, CacheStep::Put, two),
         bare(
             alloc,
             CacheStep::PutEvicting,
-            described(alloc, Vec::new(alloc)),
+            described(Vec::new(alloc), PgColumns::none()),
         ),
         bare(alloc, same, End::Ok(Answer::Held(true))),
         bare(alloc, same, End::Ok(Answer::Held(false))),
@@ -72,7 +83,8 @@ fn all_played(alloc: Global, items: Sequence<Item>, two: Vec<Oid>) -> Result<Str
 // A report of all that can be played.
 pub(crate) fn reported(alloc: Global) -> Result<String, Error> {
     let items = items(alloc)?;
-    let two = Vec::from_array(alloc, [Oid(23), Oid(25)])?;
+    let parameters = Vec::from_array(alloc, [Oid(23), Oid(25)])?;
+    let two = described(parameters, two_columns(alloc)?);
     Ok(all_played(alloc, items, two)?)
 }
 

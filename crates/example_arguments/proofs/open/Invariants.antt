@@ -2,4 +2,4 @@ use Rattle.std.proofs.Common.{◌≡◌, false}
 use Rattle.example_arguments.proofs.open.Given as goal
 
 abbrev pub invariant-loop : goal.invariant-loop
-invariant-loop l = l.start.is_finished ≡ false
+invariant-loop l = l.start.startup.is_finished ≡ false

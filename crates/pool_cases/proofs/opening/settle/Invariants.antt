@@ -4,7 +4,7 @@ use Rattle.pool_cases.proofs.opening.settle.Given as goal
 
 abbrev pub invariant-loop : goal.invariant-loop
 invariant-loop g l = record {
-  goes : l.state.startup.is_finished ≡ false;
+  goes : l.state.connecting.startup.is_finished ≡ false;
   mine : IsOfPool l.pool.name l.state.ticket;
   theirs : l.seat.name ≡ l.pool.name;
   same : l.seat.name ≡ l.initial.seat.name;

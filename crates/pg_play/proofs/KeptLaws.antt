@@ -1,0 +1,780 @@
+-- Which statements the server keeps, from one exchange of a play to the next.
+use Rattle.std.proofs.Common.{◌≡◌, ◌≢◌, ◌⊎◌, ◌-◌, Ok, ℕ, zero, suc, ◌+◌, ◌<◌, ◌≤◌, ◌^◌, nat_eq, ltb, leb, Bool, true, false, not, cond, ◌&&◌, ◌||◌, List, [], ◌∷◌, ◌++◌, length, map, option_to_list, find, subst, refl, sym, ap, ◌∙◌, arith, append_assoc, append-nil, Option, Some, None, is_some, option_map, unwrap_or, inl, inr, IfSome, bytes_eq}
+use Rattle.std.specs.List.{AllByRecursion, count_by, last_or}
+use Rattle.std.proofs.lemmas.Bool.{leb-true, lt-ltb, ltb-true}
+use Rattle.std.proofs.lemmas.Slice.Eq.{bytes_eq-Decides}
+use Rattle.std.proofs.lemmas.Option.{same_Some}
+use Rattle.pg_wire.specs.Frame.{Frame}
+use Rattle.pg_wire.specs.Parts.{heard, is_ready}
+use Rattle.pg_wire.specs.Frontend.{FrontendMessage, Bind, ClosePortal, CloseStatement, DescribeStatement, Execute, Parse, Query, Sync, statement_name}
+use Rattle.pg_wire.specs.Backend.{BackendMessage, backend_frame, HasBackendFrame, FieldDescription}
+use Rattle.pg_wire.specs.Groups.{EndsReady, IsGroup}
+use Rattle.pg_wire.specs.Server.{MayHear}
+use Rattle.pg_wire.proofs.Each.{each_join}
+use Rattle.pg_stream.specs.Streams.{StreamSeen}
+use Rattle.pg_exchanges.specs.Expecting.{AreDistinct, BeginsKnowing, Widths, width_at}
+use Rattle.pg_exchanges.specs.Answering.{described, describing, closing, IsClosedBy, IsNoError}
+use Rattle.pg_exchanges.specs.Keeping.{Named, Spares}
+use Rattle.pg_rule.specs.declared.cache.Entry.{Entry}
+use Rattle.pg_rule.specs.declared.rule.Rule.{Rule}
+use Rattle.pg_rule.specs.Caches.{Statements, entry_at, has_number, used, widths_in}
+use Rattle.pg_rule.specs.Rules.{IsOrderly, IsNewest, IsFull, drawn, number_left, holding, kept, forgotten}
+use Rattle.pg_rule.proofs.OrderLaws.{first_of, each_by, front_each, used_is, found_has, draw_orderly, touch_orderly, hold_orderly, put_orderly, forget_orderly, clear_orderly, drawn_newest, names_apart, put_full, new_orderly}
+use Rattle.pg_request.specs.Queries.{QueryText, ArgumentsSeen}
+use Rattle.pg_request.specs.declared.preparation.Preparation.{Preparation}
+use Rattle.pg_call.specs.declared.kind.How.{How}
+use Rattle.pg_call.specs.declared.kind.How.TheVariants as hows
+use Rattle.pg_call.specs.declared.kind.Keeping.{Keeping}
+use Rattle.pg_call.specs.declared.kind.Keeping.TheVariants as keepings
+use Rattle.pg_call.specs.declared.statement.Extended.{Extended}
+use Rattle.pg_call.specs.declared.statement.Described.{Described}
+use Rattle.pg_call.specs.declared.statement.Eviction.{Eviction}
+use Rattle.pg_call.specs.declared.statement.After.{After}
+use Rattle.pg_call.specs.declared.statement.After.TheVariants as afters
+use Rattle.pg_call.specs.declared.statement.Goal.{Goal}
+use Rattle.pg_call.specs.declared.statement.Goal.TheVariants as goals
+use Rattle.pg_call.specs.declared.request.Request.{Request}
+use Rattle.pg_call.specs.declared.request.Request.TheVariants as requests
+use Rattle.pg_call.specs.declared.answer.CallItem.{CallItem}
+use Rattle.pg_call.specs.declared.answer.CallAnswer.TheVariants as answers
+use Rattle.pg_call.specs.Calls.{EndsFine}
+use Rattle.pg_call.proofs.FitLaws.{hands_on_described, next_is}
+use Rattle.pg_request.specs.Texts.{begin_text, commit_text, rollback_text}
+use Rattle.pg_call.specs.Requests.{known as known_under, named_keeping, said_in, widths_of, Group, name_of, groups_of, keeping_of, behind_goal, request_behind, CanBeSaid}
+use Rattle.pg_call.specs.Items.{parameters_after}
+use Rattle.pg_call.specs.Drains.{after_readys}
+use Rattle.pg_conn.specs.Connections.{ConnSeen, rollback, with_depth}
+use Rattle.pg_conn.specs.Statements.{asked_by, begun_as, by_leaving, entry_of, held_by, is_named, is_numbered, number_for, leaving, moved, unmoved, prepare_by, run_or_describe, tell_or_describe}
+use Rattle.pg_conn.specs.States.{to_prepare}
+use Rattle.pg_report.specs.declared.outcome.Answer.TheVariants.{Unit as AnswersUnit}
+use Rattle.pg_report.specs.declared.outcome.End.{End}
+use Rattle.pg_report.specs.declared.outcome.End.TheVariants as ends
+use Rattle.pg_report.specs.declared.outcome.Outcome.{Outcome}
+use Rattle.pg_script.specs.declared.step.Call.{Call}
+use Rattle.pg_script.specs.declared.step.Call.TheVariants as calls
+use Rattle.pg_script.specs.declared.step.Step.{Step}
+use Rattle.pg_play.specs.Shown.{begins, request_of, first_as, first_call, handed_by, exchange_for, acts_at_once}
+use Rattle.pg_play.specs.Places.{Place, first_place, is_fine, owed, Queues}
+use Rattle.pg_play.specs.Settling.{Settles, cleanup_of, has_group, has_moved, statements_after, handed_at, held_after, rule_after, depth_after, rollback_at}
+use Rattle.pg_play.specs.Kept.{IsKeptAt, Keeps, named_of}
+use Rattle.pg_play.specs.Plays.{Plays_call, StandsAt}
+use Rattle.pg_play.proofs.PlaceLaws.{all_split, owed_is, readies-append}
+use Rattle.pg_play.proofs.PartLaws.{after_more}
+use Rattle.pg_play.proofs.KnownLaws.{lawful_keeps}
+use Rattle.pg_play.proofs.CalledLaws.{KnownAt, known_none}
+use Rattle.pg_play.proofs.SettledLaws.{cleanup_by, cleanup_polled, none_handed}
+use Rattle.pg_play.proofs.ExchangeLaws.{hands_by, told_by}
+use Rattle.pg_play.proofs.NameLaws.{each_known, each_two, named_nothing, named_some}
+use Rattle.pg_play.proofs.NextLaws.{after_further, described_known}
+
+-- ---- what becomes of the statements
+
+-- the one that is held, and those that are kept
+abbrev pub all_kept : Rule → List Entry
+all_kept rule = option_to_list rule.cache.held ++ rule.cache.entries
+
+used_each : (P : Entry → Type 0) (number : ℕ) (es : List Entry) → AllByRecursion P es → AllByRecursion P (used number es)
+used_each P number es h = subst (AllByRecursion P) (sym (used_is number es)) (front_each P (has_number number) es (find (has_number number) es) refl h)
+
+-- what holds of all of them holds of all that an exchange makes of them
+moved_each : (P : Entry → Type 0) (keeping : Keeping) (rule : Rule) → AllByRecursion P (all_kept rule) → AllByRecursion P (all_kept (moved keeping rule))
+moved_each P keepings.Stays rule h = h
+moved_each P (keepings.Hits n) rule h =
+    let s = all_split P (option_to_list rule.cache.held) rule.cache.entries h in
+    each_join P (option_to_list rule.cache.held) (used n rule.cache.entries) s.0 (used_each P n rule.cache.entries s.1)
+moved_each P keepings.Draws rule h = by (is_some (number_left rule))
+  where
+    by : (b : Bool) → AllByRecursion P (all_kept (cond b (drawn rule) rule))
+    by true = h
+    by false = h
+moved_each P keepings.Puts rule h = first_of P rule.capacity (all_kept rule) h
+moved_each P keepings.Evicts rule h = first_of P rule.capacity (all_kept rule) h
+moved_each P keepings.Clears rule h = tt
+
+unmoved_each : (P : Entry → Type 0) (keeping : Keeping) (rule : Rule) → AllByRecursion P (all_kept rule) → AllByRecursion P (all_kept (unmoved keeping rule))
+unmoved_each P keepings.Stays rule h = h
+unmoved_each P (keepings.Hits n) rule h = h
+unmoved_each P keepings.Draws rule h = h
+unmoved_each P keepings.Puts rule h = (all_split P (option_to_list rule.cache.held) rule.cache.entries h).1
+unmoved_each P keepings.Evicts rule h = (all_split P (option_to_list rule.cache.held) rule.cache.entries h).1
+unmoved_each P keepings.Clears rule h = h
+
+statements_each : (P : Entry → Type 0) (keeping : Keeping) (b : Bool) (rule : Rule) → AllByRecursion P (all_kept rule) → AllByRecursion P (all_kept (statements_after keeping b rule))
+statements_each P keeping true rule h = moved_each P keeping rule h
+statements_each P keeping false rule h = unmoved_each P keeping rule h
+
+-- ---- and of their order
+
+drawn_orderly : (rule : Rule) → IsOrderly rule → IsOrderly (cond (is_some (number_left rule)) (drawn rule) rule)
+drawn_orderly rule o = by (ltb rule.next 4294967296) refl
+  where
+    by : (b : Bool) → ltb rule.next 4294967296 ≡ b → IsOrderly (cond (is_some (cond b (Some rule.next) None)) (drawn rule) rule)
+    by true e = draw_orderly rule (ltb-true rule.next 4294967296 e) o
+    by false e = o
+
+moved_orderly : (keeping : Keeping) (rule : Rule) → IsOrderly rule → IsOrderly (moved keeping rule)
+moved_orderly keepings.Stays rule o = o
+moved_orderly (keepings.Hits n) rule o = touch_orderly rule n o
+moved_orderly keepings.Draws rule o = drawn_orderly rule o
+moved_orderly keepings.Puts rule o = put_orderly rule o
+moved_orderly keepings.Evicts rule o = put_orderly rule o
+moved_orderly keepings.Clears rule o = clear_orderly rule o
+
+unmoved_orderly : (keeping : Keeping) (rule : Rule) → IsOrderly rule → IsOrderly (unmoved keeping rule)
+unmoved_orderly keepings.Stays rule o = o
+unmoved_orderly (keepings.Hits n) rule o = o
+unmoved_orderly keepings.Draws rule o = o
+unmoved_orderly keepings.Puts rule o = forget_orderly rule o
+unmoved_orderly keepings.Evicts rule o = forget_orderly rule o
+unmoved_orderly keepings.Clears rule o = o
+
+statements_orderly : (keeping : Keeping) (b : Bool) (rule : Rule) → IsOrderly rule → IsOrderly (statements_after keeping b rule)
+statements_orderly keeping true rule o = moved_orderly keeping rule o
+statements_orderly keeping false rule o = unmoved_orderly keeping rule o
+
+open_orderly : (depth : ℕ) (rule : Rule) → IsOrderly rule → IsOrderly (with_depth depth rule)
+open_orderly depth rule o = record { starts = o.starts; ends = o.ends; bounded = o.bounded; fits = o.fits; numbered = o.numbered; distinct = o.distinct; newest = o.newest }
+
+-- ---- what is so of an exchange by what is known of the session
+
+-- a statement that is to be kept has the next number
+abbrev pub IsNumbered : Rule → Extended → Type 0
+IsNumbered rule x = x.is_numbered ≡ true → (x.statement ≡ 0) ⊎ ((x.statement ≡ rule.next) × (rule.next < 2 ^ 32))
+
+-- what comes behind a close is of a statement that is kept then
+abbrev pub IsAfter : Rule → After → Type 0
+IsAfter rule (afters.Run bound) = (e : Entry) × (others : List Entry) × (rule.cache.entries ≡ e ∷ others) × (bound.statement ≡ e.statement) × (bound.columns ≡ Some e.columns)
+IsAfter rule (afters.Prepare prepared) = Unit {0}
+
+-- a close is of none that is kept behind it
+pub record ClosesNone (rule : Rule) (v : Eviction) : Type 0 where
+  pub gone : AllByRecursion (λ e. name_of e.statement ≢ name_of v.statement) (kept rule).cache.entries
+  pub after : IsAfter (kept rule) v.after
+
+abbrev pub IsSound : Rule → Call → Type 0
+IsSound rule (calls.Describe x) = IsNumbered rule x
+IsSound rule (calls.Evict v) = ClosesNone rule v
+IsSound rule call = Unit {0}
+
+numbered_by : (persistent : Bool) (rule : Rule) → is_numbered persistent rule ≡ true → (number_for persistent rule ≡ 0) ⊎ ((number_for persistent rule ≡ rule.next) × (rule.next < 2 ^ 32))
+numbered_by persistent rule e = by (is_named persistent rule) (ltb rule.next 4294967296) refl e
+  where
+    by : (b c : Bool) → ltb rule.next 4294967296 ≡ c → not b || is_some (cond c (Some rule.next) None) ≡ true
+        → (cond b (unwrap_or (cond c (Some rule.next) None) 4294967295) 0 ≡ 0) ⊎ ((cond b (unwrap_or (cond c (Some rule.next) None) 4294967295) 0 ≡ rule.next) × (rule.next < 2 ^ 32))
+    by false c k h = inl refl
+    by true true k h = inr (refl, ltb-true rule.next 4294967296 k)
+    by true false k h = absurd cc
+
+run_sound : (rule : Rule) (how : How) (sql : List ℕ) (arguments : ArgumentsSeen) (persistent : Bool) (o : Option Entry) → IsSound rule (exchange_for (run_or_describe rule how sql arguments persistent o))
+run_sound rule how sql arguments persistent (Some e) = tt
+run_sound rule how sql arguments persistent None = λ h. numbered_by persistent rule h
+
+as_sound : (rule : Rule) (how : How) (query : QueryText) (o : Option ArgumentsSeen) (call : Call) → IsSound rule call → IsSound rule (first_as rule how query o call)
+as_sound rule how query None call s = s
+as_sound rule how query (Some arguments) call s = run_sound rule how query.sql arguments query.persistent (entry_at query.sql rule.cache.entries)
+
+prepare_sound : (rule : Rule) (p : Preparation) → IsSound rule (exchange_for (asked_by rule (to_prepare p)))
+prepare_sound rule p = by (entry_at p.sql rule.cache.entries)
+  where
+    by : (o : Option Entry) → IsSound rule (exchange_for (tell_or_describe rule (record { sql = p.sql; parameters = p.types; columns = None; keeping = keepings.Stays }) o))
+    by (Some e) = tt
+    by None = λ h. numbered_by true rule h
+
+clear_sound : (rule : Rule) → IsSound rule (exchange_for (asked_by rule (begun_as rule (requests.Clear []))))
+clear_sound rule = by (nat_eq (length rule.cache.entries) 0)
+  where
+    by : (b : Bool) → IsSound rule (exchange_for (asked_by rule (cond b requests.Flush (requests.Clear []))))
+    by true = tt
+    by false = tt
+
+pub first_sound : (rule : Rule) (call : Call) → IsSound rule (first_call rule call)
+first_sound rule (calls.Execute query) = as_sound rule hows.Execute query query.arguments (calls.Execute query) tt
+first_sound rule (calls.ExecuteMany query) = as_sound rule hows.ExecuteMany query query.arguments (calls.ExecuteMany query) tt
+first_sound rule (calls.Fetch query) = as_sound rule hows.Fetch query query.arguments (calls.Fetch query) tt
+first_sound rule (calls.FetchMany query) = as_sound rule hows.FetchMany query query.arguments (calls.FetchMany query) tt
+first_sound rule (calls.FetchAll query) = as_sound rule hows.FetchAll query query.arguments (calls.FetchAll query) tt
+first_sound rule (calls.FetchOptional query) = as_sound rule hows.FetchOptional query query.arguments (calls.FetchOptional query) tt
+first_sound rule (calls.FetchOne query) = as_sound rule hows.FetchOne query query.arguments (calls.FetchOne query) tt
+first_sound rule (calls.Prepare p) = prepare_sound rule p
+first_sound rule calls.Clear = clear_sound rule
+first_sound rule _ = tt
+
+-- ---- names
+
+present_name : (xs : List ℕ) → bytes_eq xs xs ≡ true
+present_name xs = (bytes_eq-Decides xs xs).1 refl
+
+-- of distinct names none before one is its
+apart_last : (others : List Entry) (last : Entry) → AreDistinct (widths_in (others ++ last ∷ [])) → AllByRecursion (λ e. statement_name e.statement ≢ statement_name last.statement) others
+apart_last [] last d = tt
+apart_last (e ∷ es) last d = (λ same. absurd (named_in es last (subst (λ (n : List ℕ). width_at (widths_in (es ++ last ∷ [])) n ≡ None) same d.0)), apart_last es last d.1)
+  where
+    named_in : (es : List Entry) (last : Entry) → width_at (widths_in (es ++ last ∷ [])) (statement_name last.statement) ≡ None → ⊥
+    named_in [] last h = let yes = present_name (statement_name last.statement) in let none = rw yes at h in absurd cc
+    named_in (f ∷ fs) last h = by (bytes_eq (statement_name f.statement) (statement_name last.statement)) h (λ k. named_in fs last k)
+      where
+        by : (b : Bool) → cond b (Some (length f.columns)) (width_at (widths_in (fs ++ last ∷ [])) (statement_name last.statement)) ≡ None → (width_at (widths_in (fs ++ last ∷ [])) (statement_name last.statement) ≡ None → ⊥) → ⊥
+        by true k g = absurd cc
+        by false k g = g k
+
+-- ---- the exchange behind a description
+
+-- where as many are kept as may be, the last of them is closed for the one that is held
+closes_last : (rule : Rule) (new last : Entry) (a : After) → IsOrderly rule → IsFull rule → rule.cache.held ≡ Some new → last_or None rule.cache.entries ≡ Some last
+    → ((others : List Entry) → IsAfter (record rule { cache = record { entries = new ∷ others; held = None } }) a) → ClosesNone rule (record { statement = last.statement; after = a })
+closes_last rule new last a o full held is after =
+    let p = put_full rule new last o full held is in
+    let ends : IsOrderly (kept rule) = put_orderly rule o in
+    let apart = apart_last p.0 last (subst (λ (es : List Entry). AreDistinct (widths_in es)) p.1 o.distinct) in
+    let newest = subst (λ (h : Option Entry). IfSome h (λ e. IsNewest e rule)) held o.newest in
+    let numbers = all_split (λ e. (0 < e.statement) × (e.statement < rule.next)) p.0 (last ∷ []) (subst (AllByRecursion (λ e. (0 < e.statement) × (e.statement < rule.next))) p.1 o.numbered) in
+    let below = all_split (λ f. f.statement < new.statement) p.0 (last ∷ []) (subst (AllByRecursion (λ f. f.statement < new.statement)) p.1 newest.2) in
+    let kept_are : (kept rule).cache ≡ record { entries = new ∷ p.0; held = None } = ap (λ (es : List Entry). record { entries = es; held = None }) p.2 in
+    record {
+      gone = subst (AllByRecursion (λ e. name_of e.statement ≢ name_of last.statement)) (sym p.2) (
+        new_name newest.0 numbers.1.0 below.1.0,
+        each_by (λ e. ((0 < e.statement) × (e.statement < rule.next)) × (statement_name e.statement ≢ statement_name last.statement)) (λ e. name_of e.statement ≢ name_of last.statement)
+            (λ e h same. h.1 (sym (named_some e.statement h.0.0) ∙ same ∙ named_some last.statement numbers.1.0.0)) p.0
+            (each_two (λ e. (0 < e.statement) × (e.statement < rule.next)) (λ e. statement_name e.statement ≢ statement_name last.statement) p.0 numbers.0 apart)
+      );
+      after = subst (λ (c : Statements). IsAfter (record rule { cache = c }) a) (sym kept_are) (after p.0);
+    }
+  where
+    new_name : 0 < new.statement → (0 < last.statement) × (last.statement < rule.next) → last.statement < new.statement → name_of new.statement ≢ name_of last.statement
+    new_name n l b same =
+        let x : statement_name new.statement ≡ statement_name last.statement = sym (named_some new.statement n) ∙ same ∙ named_some last.statement l.0 in
+        let apart : bytes_eq (statement_name last.statement) (statement_name new.statement) ≡ false = names_apart last.statement new.statement b (omega (arith, o.ends, newest_below)) in
+        let yes : bytes_eq (statement_name last.statement) (statement_name new.statement) ≡ true = (bytes_eq-Decides (statement_name last.statement) (statement_name new.statement)).1 (sym x) in
+        absurd cc
+      where
+        newest_below : new.statement < rule.next
+        newest_below = (subst (λ (h : Option Entry). IfSome h (λ e. IsNewest e rule)) held o.newest).1
+
+-- what is asked behind a description
+told_sound : (rule : Rule) (x : Extended) (reply : List BackendMessage) → IsOrderly (held_by rule (told_by x reply)) → IsSound (held_by rule (told_by x reply)) (exchange_for (asked_by rule (told_by x reply)))
+told_sound rule x reply o = by (nat_eq x.statement 0) o
+  where
+    d : Described
+    d = record { parameters = parameters_after [] reply; columns = Some (described reply) }
+
+    x' : Extended
+    x' = record x { described = Some d }
+
+    new : Entry
+    new = entry_of x' d
+
+    runs : (goal : Goal) (keeping : Keeping) (r : Rule) → IsSound r (exchange_for (request_behind (behind_goal goal x' d keeping)))
+    runs (goals.Run how) keeping r = tt
+    runs goals.Prepare keeping r = tt
+
+    after : (goal : Goal) (others : List Entry) → IsAfter (record (holding new rule) { cache = record { entries = new ∷ others; held = None } }) (behind_goal goal x' d keepings.Stays)
+    after (goals.Run how) others = (new, others, refl, refl, refl)
+    after goals.Prepare others = tt
+
+    closes : (full : Bool) → leb rule.capacity (length rule.cache.entries) ≡ full → (last : Option Entry) → last_or None rule.cache.entries ≡ last → IsOrderly (holding new rule)
+        → IsSound (holding new rule) (exchange_for (by_leaving x' d (option_map (λ (e : Entry). e.statement) (cond full last None))))
+    closes false f last l o = runs x.goal keepings.Puts (holding new rule)
+    closes true f None l o = runs x.goal keepings.Puts (holding new rule)
+    closes true f (Some last) l o = closes_last (holding new rule) new last (behind_goal x.goal x' d keepings.Stays) o (leb-true rule.capacity (length rule.cache.entries) f) refl l (after x.goal)
+
+    by : (b : Bool) → IsOrderly (cond b rule (holding new rule)) → IsSound (cond b rule (holding new rule)) (exchange_for (cond b (request_behind (behind_goal x.goal x' d keepings.Stays)) (by_leaving x' d (option_map (λ (e : Entry). e.statement) (leaving rule)))))
+    by true o = runs x.goal keepings.Stays rule
+    by false o = closes (leb rule.capacity (length rule.cache.entries)) refl (last_or None rule.cache.entries) refl o
+
+-- and behind a close
+after_sound : (rule : Rule) (a : After) → IsSound (held_by rule (request_behind a)) (exchange_for (asked_by rule (request_behind a)))
+after_sound rule (afters.Run bound) = tt
+after_sound rule (afters.Prepare prepared) = by prepared.columns
+  where
+    by : (o : Option (List FieldDescription)) → IsSound rule (exchange_for (prepare_by rule prepared o))
+    by (Some columns) = tt
+    by None = tells (entry_at prepared.sql rule.cache.entries)
+      where
+        tells : (o : Option Entry) → IsSound rule (exchange_for (tell_or_describe rule prepared o))
+        tells (Some e) = tt
+        tells None = λ h. numbered_by true rule h
+
+pub next_sound : (rule : Rule) (call : Call) (reply : List BackendMessage) (next : Request) → handed_by call reply ≡ Some next → IsOrderly (held_by rule next) → IsSound (held_by rule next) (exchange_for (asked_by rule next))
+next_sound rule (calls.Describe x) reply next e o =
+    let is = same_Some (told_by x reply) next e in
+    subst (λ (r : Request). IsSound (held_by rule r) (exchange_for (asked_by rule r))) is (told_sound rule x reply (subst (λ (r : Request). IsOrderly (held_by rule r)) (sym is) o))
+next_sound rule (calls.Evict v) reply next e o = subst (λ (r : Request). IsSound (held_by rule r) (exchange_for (asked_by rule r))) (same_Some (request_behind v.after) next e) (after_sound rule v.after)
+next_sound rule _ reply next e o = absurd cc
+
+-- ---- groups that close no statement
+
+none_closes : (m : FrontendMessage) (ms : List FrontendMessage) (name : List ℕ) → (m ≡ CloseStatement name → ⊥) → (IsClosedBy ms name → ⊥) → IsClosedBy (m ∷ ms) name → ⊥
+none_closes m ms name f g (inl e) = f e
+none_closes m ms name f g (inr h) = g h
+
+-- a group that closes statements closes those alone
+closing_others : (names : List (List ℕ)) (name : List ℕ) → AllByRecursion (λ other. name ≢ other) names → IsClosedBy (closing names) name → ⊥
+closing_others [] name h c = none_closes Sync [] name (λ e. cc) (λ z. z) c
+closing_others (other ∷ names) name h c = none_closes (CloseStatement other) (closing names) name (λ e. h.0 (let same : other ≡ name = cc in sym same)) (λ z. closing_others names name h.1 z) c
+
+-- no other exchange closes one
+abbrev ClosesSome : Call → Type 0
+ClosesSome (calls.Evict v) = Unit {0}
+ClosesSome (calls.CloseAll statements) = Unit {0}
+ClosesSome _ = ⊥
+
+query_spares : (n : Named) (sql : List ℕ) → Spares n (Query sql ∷ [])
+query_spares n sql c = none_closes (Query sql) [] n.name (λ e. cc) (λ z. z) c
+
+spares_asked : (n : Named) (d : ℕ) (call : Call) → (ClosesSome call → ⊥) → AllByRecursion (Spares n) (groups_of (request_of d call))
+spares_asked n d (calls.Execute query) h = (query_spares n query.sql, tt)
+spares_asked n d (calls.ExecuteMany query) h = (query_spares n query.sql, tt)
+spares_asked n d (calls.Fetch query) h = (query_spares n query.sql, tt)
+spares_asked n d (calls.FetchMany query) h = (query_spares n query.sql, tt)
+spares_asked n d (calls.FetchAll query) h = (query_spares n query.sql, tt)
+spares_asked n d (calls.FetchOptional query) h = (query_spares n query.sql, tt)
+spares_asked n d (calls.FetchOne query) h = (query_spares n query.sql, tt)
+spares_asked n d calls.Ping h = (λ c. none_closes Sync [] n.name (λ e. cc) (λ z. z) c, tt)
+spares_asked n d calls.Flush h = tt
+spares_asked n d calls.Begin h = (query_spares n (begin_text None d), tt)
+spares_asked n d (calls.BeginWith query) h = (query_spares n query.sql, tt)
+spares_asked n zero calls.Commit h = tt
+spares_asked n (suc left) calls.Commit h = (query_spares n (commit_text left), tt)
+spares_asked n zero calls.Rollback h = tt
+spares_asked n (suc left) calls.Rollback h = (query_spares n (rollback_text left), tt)
+spares_asked n d calls.StartRollback h = tt
+spares_asked n d (calls.Describe x) h =
+    (λ c. none_closes (Parse (name_of x.statement) x.sql x.arguments.types) (DescribeStatement (name_of x.statement) ∷ Sync ∷ []) n.name (λ e. cc) (λ z. none_closes (DescribeStatement (name_of x.statement)) (Sync ∷ []) n.name (λ e. cc) (λ y. none_closes Sync [] n.name (λ e. cc) (λ w. w) y) z) c, tt)
+spares_asked n d (calls.Run bound) h =
+    (λ c. none_closes (Bind (name_of bound.statement) bound.arguments.values) (Execute [] 0 ∷ ClosePortal [] ∷ Sync ∷ []) n.name (λ e. cc) (λ z. none_closes (Execute [] 0) (ClosePortal [] ∷ Sync ∷ []) n.name (λ e. cc) (λ y. none_closes (ClosePortal []) (Sync ∷ []) n.name (λ e. cc) (λ w. none_closes Sync [] n.name (λ e. cc) (λ v. v) w) y) z) c, tt)
+spares_asked n d (calls.Prepare p) h = tt
+spares_asked n d calls.Clear h = tt
+spares_asked n d (calls.Evict v) h = absurd (h tt)
+spares_asked n d (calls.Tell prepared) h = tt
+spares_asked n d (calls.CloseAll statements) h = absurd (h tt)
+
+-- what is queued of them is a front of them
+front_each_group : (P : Group → Type 0) (end : End) (whole own : List Group) → Queues end whole own → AllByRecursion P whole → AllByRecursion P own
+front_each_group P (ends.Ok answer) whole own q h = subst (AllByRecursion P) (sym q) h
+front_each_group P (ends.Err e) whole own q h = (all_split P own q.0 (subst (AllByRecursion P) (sym q.1) h)).0
+front_each_group P ends.Dropped whole own q h = (all_split P own q.0 (subst (AllByRecursion P) (sym q.1) h)).0
+
+rolls_spare : (n : Named) (left : ℕ) → AllByRecursion (Spares n) (rollback left ∷ [])
+rolls_spare n left = (query_spares n (rollback_text left), tt)
+
+acts_alone : (call : Call) → acts_at_once call ≡ true → call ≡ calls.StartRollback
+acts_alone calls.StartRollback e = refl
+acts_alone _ e = absurd cc
+
+-- no cleanup closes one
+cleanup_spares : (n : Named) (d : ℕ) (call : Call) (end : End) (own : List Group) (owed : ℕ) → AllByRecursion (Spares n) (cleanup_of d call end own owed)
+cleanup_spares n d call end own owed = by (acts_at_once call) refl
+  where
+    polled : (own : List Group) → AllByRecursion (Spares n) (cleanup_by d call (is_fine end) own)
+    polled [] = tt
+    polled (g ∷ gs) = rolls (begins call && (nat_eq d 0 && not (is_fine end)))
+      where
+        rolls : (b : Bool) → AllByRecursion (Spares n) (cond b (rollback 0 ∷ []) [])
+        rolls true = rolls_spare n 0
+        rolls false = tt
+
+    rolled : (d : ℕ) → AllByRecursion (Spares n) (rollback_at d owed)
+    rolled zero = tt
+    rolled (suc left) = one (ltb owed (2 ^ 64 - 1))
+      where
+        one : (b : Bool) → AllByRecursion (Spares n) (cond b (rollback left ∷ []) [])
+        one true = rolls_spare n left
+        one false = tt
+
+    by : (b : Bool) → acts_at_once call ≡ b → AllByRecursion (Spares n) (cleanup_of d call end own owed)
+    by false e = subst (AllByRecursion (Spares n)) (sym (cleanup_polled d call end own owed e)) (polled own)
+    by true e = subst (λ (c : Call). AllByRecursion (Spares n) (cleanup_of d c end own owed)) (sym (acts_alone call e)) (rolled d)
+
+-- ---- from one place to the next
+
+-- more is queued that doesn't close it, and more is heard
+kept_further : (at next : Place) (e : Entry) (own : List Group) (slice : List Frame) → IsKeptAt at e → AllByRecursion (Spares (named_of e)) own → next.groups ≡ at.groups ++ own → heard next.frames ≡ heard at.frames ++ slice → IsKeptAt next e
+kept_further at next e own slice k spared groups frames =
+    let more = after_further (heard at.frames) slice (length k.before) (omega (arith, k.read)) in
+    record {
+      before = k.before;
+      later = k.later ++ own;
+      types = k.types;
+      groups = groups ∙ ap (λ (g : List Group). g ++ own) k.groups ∙ append_assoc k.before (describing (name_of e.statement) e.sql k.types ∷ k.later) own;
+      spared = each_join (Spares (named_of e)) k.later own k.spared spared;
+      told = k.told;
+      more = k.more ++ slice;
+      answered = ap (after_readys (length k.before)) frames ∙ more ∙ ap (λ (f : List Frame). f ++ slice) k.answered ∙ append_assoc (map backend_frame k.told) k.more slice;
+      read = omega (arith, k.read, ap (λ (f : List Frame). count_by is_ready f) frames, readies-append (heard at.frames) slice);
+      ends = k.ends;
+      has_frames = k.has_frames;
+      well = k.well;
+      columns = k.columns;
+    }
+
+-- each of them is kept on
+all_further : (at next : Place) (own : List Group) (slice : List Frame) (es : List Entry) → ((e : Entry) → AllByRecursion (Spares (named_of e)) own) → next.groups ≡ at.groups ++ own → heard next.frames ≡ heard at.frames ++ slice → AllByRecursion (IsKeptAt at) es → AllByRecursion (IsKeptAt next) es
+all_further at next own slice es spared groups frames h = each_by (IsKeptAt at) (IsKeptAt next) (λ e k. kept_further at next e own slice k (spared e) groups frames) es h
+
+-- Those that an exchange leaves are kept at the place behind it: it closes none of them.
+record LeavesKept (at next : Place) (rule : Rule) : Type 0 where
+  orderly : IsOrderly rule
+  kept : AllByRecursion (IsKeptAt next) (all_kept rule)
+
+has_none : (own : List Group) → has_group own ≡ false → own ≡ []
+has_none [] e = refl
+has_none (g ∷ gs) e = absurd cc
+
+-- an end that isn't Ok, and queued nothing, moved nothing
+unmoved_none : (own : List Group) (end : End) → has_moved own end ≡ false → own ≡ []
+unmoved_none own end e = by (is_fine end) e
+  where
+    by : (b : Bool) → b || has_group own ≡ false → own ≡ []
+    by true h = absurd cc
+    by false h = has_none own h
+
+-- what is queued of a group that closes statements, where those stay that it doesn't close
+closes_further : (at next : Place) (names : List (List ℕ)) (own cleanup : List Group) (slice : List Frame) (es : List Entry) → (own ≡ []) ⊎ (own ≡ closing names ∷ []) → ((n : Named) → AllByRecursion (Spares n) cleanup)
+    → AllByRecursion (λ e. AllByRecursion (λ other. name_of e.statement ≢ other) names) es → next.groups ≡ at.groups ++ (own ++ cleanup) → heard next.frames ≡ heard at.frames ++ slice → AllByRecursion (IsKeptAt at) es → AllByRecursion (IsKeptAt next) es
+closes_further at next names own cleanup slice es is cleans apart groups frames h =
+    each_by (λ e. IsKeptAt at e × AllByRecursion (λ other. name_of e.statement ≢ other) names) (IsKeptAt next)
+    (λ e k. kept_further at next e (own ++ cleanup) slice k.0 (each_join (Spares (named_of e)) own cleanup (own_spares e k.1 is) (cleans (named_of e))) groups frames) es
+    (each_two (IsKeptAt at) (λ e. AllByRecursion (λ other. name_of e.statement ≢ other) names) es h apart)
+  where
+    own_spares : (e : Entry) → AllByRecursion (λ other. name_of e.statement ≢ other) names → (own ≡ []) ⊎ (own ≡ closing names ∷ []) → AllByRecursion (Spares (named_of e)) own
+    own_spares e a (inl none) = subst (AllByRecursion (Spares (named_of e))) (sym none) tt
+    own_spares e a (inr one) = subst (AllByRecursion (Spares (named_of e))) (sym one) ((λ c. closing_others names (name_of e.statement) a c), tt)
+
+-- at most one group is asked, and it is queued or not
+one_or_none : (end : End) (group : Group) (own : List Group) → Queues end (group ∷ []) own → (own ≡ []) ⊎ (own ≡ group ∷ [])
+one_or_none (ends.Ok answer) group own q = inr q
+one_or_none (ends.Err e) group own q = prefix own q.0 q.1
+  where
+    prefix : (own more : List Group) → own ++ more ≡ group ∷ [] → (own ≡ []) ⊎ (own ≡ group ∷ [])
+    prefix [] more h = inl refl
+    prefix (g ∷ []) more h = let same : g ≡ group = cc in inr (ap (λ (x : Group). x ∷ []) same)
+    prefix (g ∷ k ∷ gs) more h = absurd cc
+one_or_none ends.Dropped group own q = prefix own q.0 q.1
+  where
+    prefix : (own more : List Group) → own ++ more ≡ group ∷ [] → (own ≡ []) ⊎ (own ≡ group ∷ [])
+    prefix [] more h = inl refl
+    prefix (g ∷ []) more h = let same : g ≡ group = cc in inr (ap (λ (x : Group). x ∷ []) same)
+    prefix (g ∷ k ∷ gs) more h = absurd cc
+
+-- what becomes of the statements, before one is held
+leaves_statements : (at next : Place) (call : Call) (end : End) (own cleanup : List Group) (slice : List Frame) (rule : Rule) → Queues end (groups_of (request_of at.rule.depth call)) own → ((n : Named) → AllByRecursion (Spares n) cleanup) → IsSound rule call
+    → next.groups ≡ at.groups ++ (own ++ cleanup) → heard next.frames ≡ heard at.frames ++ slice → IsOrderly rule → AllByRecursion (IsKeptAt at) (all_kept rule) → LeavesKept at next (statements_after (keeping_of (request_of at.rule.depth call)) (has_moved own end) rule)
+leaves_statements at next call end own cleanup slice rule q cleans sound groups frames o h = record {
+  orderly = statements_orderly (keeping_of (request_of at.rule.depth call)) (has_moved own end) rule o;
+  kept = kept_by call sound q;
+}
+  where
+    same : (call : Call) → AllByRecursion (IsKeptAt at) (all_kept (statements_after (keeping_of (request_of at.rule.depth call)) (has_moved own end) rule))
+    same call = statements_each (IsKeptAt at) (keeping_of (request_of at.rule.depth call)) (has_moved own end) rule h
+
+    others : (call : Call) → (ClosesSome call → ⊥) → Queues end (groups_of (request_of at.rule.depth call)) own → AllByRecursion (IsKeptAt next) (all_kept (statements_after (keeping_of (request_of at.rule.depth call)) (has_moved own end) rule))
+    others call n q =
+        all_further at next (own ++ cleanup) slice (all_kept (statements_after (keeping_of (request_of at.rule.depth call)) (has_moved own end) rule))
+        (λ e. each_join (Spares (named_of e)) own cleanup (front_each_group (Spares (named_of e)) end (groups_of (request_of at.rule.depth call)) own q (spares_asked (named_of e) at.rule.depth call n)) (cleans (named_of e))) groups frames (same call)
+
+    -- nothing was queued, and nothing became of them
+    idle : (es : List Entry) → own ≡ [] → AllByRecursion (IsKeptAt at) es → AllByRecursion (IsKeptAt next) es
+    idle es none k = all_further at next (own ++ cleanup) slice es (λ e. each_join (Spares (named_of e)) own cleanup (subst (AllByRecursion (Spares (named_of e))) (sym none) tt) (cleans (named_of e))) groups frames k
+
+    evicts : (v : Eviction) → ClosesNone rule v → Queues end (groups_of (requests.Evict v)) own → (b : Bool) → has_moved own end ≡ b → AllByRecursion (IsKeptAt next) (all_kept (statements_after keepings.Evicts b rule))
+    evicts v s q true m = closes_further at next (name_of v.statement ∷ []) own cleanup slice (kept rule).cache.entries (one_or_none end (closing (name_of v.statement ∷ [])) own q) cleans
+        (each_by (λ e. name_of e.statement ≢ name_of v.statement) (λ e. AllByRecursion (λ other. name_of e.statement ≢ other) (name_of v.statement ∷ [])) (λ e k. (k, tt)) (kept rule).cache.entries s.gone) groups frames (moved_each (IsKeptAt at) keepings.Evicts rule h)
+    evicts v s q false m = idle (all_kept (forgotten rule)) (unmoved_none own end m) (unmoved_each (IsKeptAt at) keepings.Evicts rule h)
+
+    clears : (b : Bool) → has_moved own end ≡ b → AllByRecursion (IsKeptAt next) (all_kept (statements_after keepings.Clears b rule))
+    clears true m = tt
+    clears false m = idle (all_kept rule) (unmoved_none own end m) h
+
+    kept_by : (call : Call) → IsSound rule call → Queues end (groups_of (request_of at.rule.depth call)) own → AllByRecursion (IsKeptAt next) (all_kept (statements_after (keeping_of (request_of at.rule.depth call)) (has_moved own end) rule))
+    kept_by (calls.Evict v) s q = evicts v s q (has_moved own end) refl
+    kept_by (calls.CloseAll statements) s q = clears (has_moved own end) refl
+    kept_by (calls.Execute query) s q = others (calls.Execute query) (λ z. z) q
+    kept_by (calls.ExecuteMany query) s q = others (calls.ExecuteMany query) (λ z. z) q
+    kept_by (calls.Fetch query) s q = others (calls.Fetch query) (λ z. z) q
+    kept_by (calls.FetchMany query) s q = others (calls.FetchMany query) (λ z. z) q
+    kept_by (calls.FetchAll query) s q = others (calls.FetchAll query) (λ z. z) q
+    kept_by (calls.FetchOptional query) s q = others (calls.FetchOptional query) (λ z. z) q
+    kept_by (calls.FetchOne query) s q = others (calls.FetchOne query) (λ z. z) q
+    kept_by calls.Ping s q = others calls.Ping (λ z. z) q
+    kept_by calls.Flush s q = others calls.Flush (λ z. z) q
+    kept_by calls.Begin s q = others calls.Begin (λ z. z) q
+    kept_by (calls.BeginWith query) s q = others (calls.BeginWith query) (λ z. z) q
+    kept_by calls.Commit s q = others calls.Commit (λ z. z) q
+    kept_by calls.Rollback s q = others calls.Rollback (λ z. z) q
+    kept_by calls.StartRollback s q = others calls.StartRollback (λ z. z) q
+    kept_by (calls.Describe x) s q = others (calls.Describe x) (λ z. z) q
+    kept_by (calls.Run bound) s q = others (calls.Run bound) (λ z. z) q
+    kept_by (calls.Prepare p) s q = others (calls.Prepare p) (λ z. z) q
+    kept_by calls.Clear s q = others calls.Clear (λ z. z) q
+    kept_by (calls.Tell prepared) s q = others (calls.Tell prepared) (λ z. z) q
+
+-- ---- a statement that an exchange described
+
+-- the response to the own group, told and whole, behind those of the groups before it
+pub record DescribedAt (at next : Place) (x : Extended) (own cleanup : List Group) (slice : List Frame) (response : List BackendMessage) : Type 0 where
+  pub queued : own ≡ describing (name_of x.statement) x.sql x.arguments.types ∷ []
+  pub answered : after_readys (length at.groups) (heard next.frames) ≡ map backend_frame response
+  pub read : length at.groups + 1 ≤ count_by is_ready (heard next.frames)
+  pub ends : EndsReady response
+  pub has_frames : AllByRecursion HasBackendFrame response
+  pub well : AllByRecursion IsNoError response
+  pub can : CanBeSaid (requests.Describe x)
+
+new_kept : (at next : Place) (x : Extended) (own cleanup : List Group) (slice : List Frame) (response : List BackendMessage) → DescribedAt at next x own cleanup slice response → ((n : Named) → AllByRecursion (Spares n) cleanup) → next.groups ≡ at.groups ++ (own ++ cleanup)
+    → (d : Described) → d.columns ≡ Some (described response) → IsKeptAt next (entry_of (record x { described = Some d }) d)
+new_kept at next x own cleanup slice response t cleans groups d columns = record {
+  before = at.groups;
+  later = cleanup;
+  types = x.arguments.types;
+  groups = groups ∙ ap (λ (g : List Group). at.groups ++ (g ++ cleanup)) t.queued;
+  spared = cleans (named_of (entry_of (record x { described = Some d }) d));
+  told = response;
+  more = [];
+  answered = t.answered ∙ sym (append-nil (map backend_frame response));
+  read = t.read;
+  ends = t.ends;
+  has_frames = t.has_frames;
+  well = t.well;
+  columns = sym (ap (λ (o : Option (List FieldDescription)). unwrap_or o []) columns);
+}
+
+-- it is held where it has a name
+leaves_held : (at next : Place) (rule : Rule) (x : Extended) (own cleanup : List Group) (slice : List Frame) (response : List BackendMessage) → DescribedAt at next x own cleanup slice response → ((n : Named) → AllByRecursion (Spares n) cleanup) → next.groups ≡ at.groups ++ (own ++ cleanup)
+    → IsOrderly rule → IsNumbered rule x → LeavesKept at next (moved (named_keeping x.statement) rule) → LeavesKept at next (held_by (moved (named_keeping x.statement) rule) (told_by x response))
+leaves_held at next rule x own cleanup slice response t cleans groups o numbered l = by (nat_eq x.statement 0) refl l
+  where
+    d : Described
+    d = record { parameters = parameters_after [] response; columns = Some (described response) }
+
+    new : Entry
+    new = entry_of (record x { described = Some d }) d
+
+    is_new : nat_eq x.statement 0 ≡ false → (x.statement ≡ 0) ⊎ ((x.statement ≡ rule.next) × (rule.next < 2 ^ 32)) → (x.statement ≡ rule.next) × (rule.next < 2 ^ 32)
+    is_new e (inl z) = let y = sym (ap (λ (n : ℕ). nat_eq n 0) z) ∙ e in absurd cc
+    is_new e (inr k) = k
+
+    drawn_so : (k : rule.next < 2 ^ 32) → moved keepings.Draws rule ≡ drawn rule
+    drawn_so k = ap (λ (b : Bool). cond (is_some (cond b (Some rule.next) None)) (drawn rule) rule) (lt-ltb rule.next 4294967296 k)
+
+    by : (b : Bool) → nat_eq x.statement 0 ≡ b → LeavesKept at next (moved (cond b keepings.Stays keepings.Draws) rule) → LeavesKept at next (cond b (moved (cond b keepings.Stays keepings.Draws) rule) (holding new (moved (cond b keepings.Stays keepings.Draws) rule)))
+    by true e l = l
+    by false e l =
+        let k = is_new e (numbered t.can.1.1) in
+        let so = drawn_so k.1 in
+        record {
+          orderly = hold_orderly (moved keepings.Draws rule) new l.orderly (subst (IsNewest new) (sym so) (drawn_newest rule new o k.0));
+          kept = (new_kept at next x own cleanup slice response t cleans groups d refl, (all_split (IsKeptAt next) (option_to_list (moved keepings.Draws rule).cache.held) (moved keepings.Draws rule).cache.entries l.kept).1);
+        }
+
+-- ---- behind an exchange
+
+to_keeps : (at next : Place) (rule : Rule) → LeavesKept at next rule → next.rule ≡ rule → Keeps next
+to_keeps at next rule l e = record {
+  orderly = subst (λ (r : Rule). IsOrderly r) (sym e) l.orderly;
+  kept = subst (λ (r : Rule). AllByRecursion (IsKeptAt next) (all_kept r)) (sym e) l.kept;
+}
+
+after_open : (depth : ℕ) (rule : Rule) (a : After) → IsAfter (kept rule) a → IsAfter (kept (with_depth depth rule)) a
+after_open depth rule (afters.Run bound) h = h
+after_open depth rule (afters.Prepare prepared) h = h
+
+sound_open : (depth : ℕ) (rule : Rule) (call : Call) → IsSound rule call → IsSound (with_depth depth rule) call
+sound_open depth rule (calls.Describe x) s = s
+sound_open depth rule (calls.Evict v) s = record { gone = s.gone; after = after_open depth rule v.after s.after }
+sound_open depth rule _ s = tt
+
+held_after_close : (rule : Rule) (a : After) → held_by rule (request_behind a) ≡ rule
+held_after_close rule (afters.Run bound) = refl
+held_after_close rule (afters.Prepare prepared) = refl
+
+fine_handed : (end : End) (call : Call) (response : List BackendMessage) → is_fine end ≡ true → handed_at end call response ≡ handed_by call response
+fine_handed end call response f = ap (λ (b : Bool). cond b (handed_by call response) None) f
+
+-- each statement that is kept is kept still, or was closed, or another one was put in its place
+pub keeps_by : (at next : Place) (call : Call) (end : End) (own cleanup : List Group) (slice : List Frame) (response : List BackendMessage) → Keeps at → IsSound at.rule call → Queues end (groups_of (request_of at.rule.depth call)) own → ((n : Named) → AllByRecursion (Spares n) cleanup)
+    → next.groups ≡ at.groups ++ (own ++ cleanup) → heard next.frames ≡ heard at.frames ++ slice → next.rule ≡ rule_after at.rule call own response end
+    → ((x : Extended) → call ≡ calls.Describe x → is_fine end ≡ true → DescribedAt at next x own cleanup slice response) → Keeps next
+keeps_by at next call end own cleanup slice response k sound q cleans groups frames rule described = by (is_fine end) refl
+  where
+    S : Call → Rule
+    S c = statements_after (keeping_of (request_of at.rule.depth c)) (has_moved own end) (with_depth (depth_after at.rule.depth c end) at.rule)
+
+    base : (c : Call) → IsSound at.rule c → Queues end (groups_of (request_of at.rule.depth c)) own → LeavesKept at next (S c)
+    base c s q = leaves_statements at next c end own cleanup slice (with_depth (depth_after at.rule.depth c end) at.rule) q cleans (sound_open (depth_after at.rule.depth c end) at.rule c s) groups frames (open_orderly (depth_after at.rule.depth c end) at.rule k.orderly) k.kept
+
+    none : (c : Call) → IsSound at.rule c → Queues end (groups_of (request_of at.rule.depth c)) own → handed_at end c response ≡ None → next.rule ≡ rule_after at.rule c own response end → Keeps next
+    none c s q h e = to_keeps at next (S c) (base c s q) (e ∙ ap (λ (o : Option Request). held_after o (S c)) h)
+
+    fine : is_fine end ≡ true → (c : Call) → IsSound at.rule c → Queues end (groups_of (request_of at.rule.depth c)) own → next.rule ≡ rule_after at.rule c own response end → ((x : Extended) → c ≡ calls.Describe x → DescribedAt at next x own cleanup slice response) → Keeps next
+    fine f (calls.Describe x) s q e d =
+        let moved_so : S (calls.Describe x) ≡ moved (named_keeping x.statement) at.rule = ap (λ (b : Bool). statements_after (named_keeping x.statement) (b || has_group own) at.rule) f in
+        let held = leaves_held at next at.rule x own cleanup slice response (d x refl) cleans groups k.orderly s (subst (λ (r : Rule). LeavesKept at next r) moved_so (base (calls.Describe x) s q)) in
+        to_keeps at next (held_by (moved (named_keeping x.statement) at.rule) (told_by x response)) held
+        (e ∙ ap (λ (o : Option Request). held_after o (S (calls.Describe x))) (fine_handed end (calls.Describe x) response f) ∙ ap (λ (r : Rule). held_by r (told_by x response)) moved_so)
+    fine f (calls.Evict v) s q e d =
+        to_keeps at next (S (calls.Evict v)) (base (calls.Evict v) s q)
+        (e ∙ ap (λ (o : Option Request). held_after o (S (calls.Evict v))) (fine_handed end (calls.Evict v) response f) ∙ held_after_close (S (calls.Evict v)) v.after)
+    fine f (calls.Execute query) s q e d = none (calls.Execute query) s q (fine_handed end (calls.Execute query) response f) e
+    fine f (calls.ExecuteMany query) s q e d = none (calls.ExecuteMany query) s q (fine_handed end (calls.ExecuteMany query) response f) e
+    fine f (calls.Fetch query) s q e d = none (calls.Fetch query) s q (fine_handed end (calls.Fetch query) response f) e
+    fine f (calls.FetchMany query) s q e d = none (calls.FetchMany query) s q (fine_handed end (calls.FetchMany query) response f) e
+    fine f (calls.FetchAll query) s q e d = none (calls.FetchAll query) s q (fine_handed end (calls.FetchAll query) response f) e
+    fine f (calls.FetchOptional query) s q e d = none (calls.FetchOptional query) s q (fine_handed end (calls.FetchOptional query) response f) e
+    fine f (calls.FetchOne query) s q e d = none (calls.FetchOne query) s q (fine_handed end (calls.FetchOne query) response f) e
+    fine f calls.Ping s q e d = none calls.Ping s q (fine_handed end calls.Ping response f) e
+    fine f calls.Flush s q e d = none calls.Flush s q (fine_handed end calls.Flush response f) e
+    fine f calls.Begin s q e d = none calls.Begin s q (fine_handed end calls.Begin response f) e
+    fine f (calls.BeginWith query) s q e d = none (calls.BeginWith query) s q (fine_handed end (calls.BeginWith query) response f) e
+    fine f calls.Commit s q e d = none calls.Commit s q (fine_handed end calls.Commit response f) e
+    fine f calls.Rollback s q e d = none calls.Rollback s q (fine_handed end calls.Rollback response f) e
+    fine f calls.StartRollback s q e d = none calls.StartRollback s q (fine_handed end calls.StartRollback response f) e
+    fine f (calls.Run bound) s q e d = none (calls.Run bound) s q (fine_handed end (calls.Run bound) response f) e
+    fine f (calls.Prepare p) s q e d = none (calls.Prepare p) s q (fine_handed end (calls.Prepare p) response f) e
+    fine f calls.Clear s q e d = none calls.Clear s q (fine_handed end calls.Clear response f) e
+    fine f (calls.Tell prepared) s q e d = none (calls.Tell prepared) s q (fine_handed end (calls.Tell prepared) response f) e
+    fine f (calls.CloseAll statements) s q e d = none (calls.CloseAll statements) s q (fine_handed end (calls.CloseAll statements) response f) e
+
+    by : (b : Bool) → is_fine end ≡ b → Keeps next
+    by false f = none call sound q (none_handed end call response f) rule
+    by true f = fine f call sound q rule (λ x c. described x c f)
+
+-- the same of an exchange that is told
+pub keeps_next : (at mid next : Place) (step : Step) (told out : Outcome) (one : Plays_call at step told mid) (s : Settles at step told out one.own one.told.response mid next) → Keeps at → IsSound at.rule step.call
+    → ((x : Extended) → step.call ≡ calls.Describe x → is_fine told.end ≡ true → DescribedAt at next x one.own s.cleanup one.slice one.told.response) → Keeps next
+keeps_next at mid next step told out one s k sound described =
+    keeps_by at next step.call told.end one.own s.cleanup one.slice one.told.response k sound one.queued.asks
+    (λ n. subst (AllByRecursion (Spares n)) (sym s.cleans) (cleanup_spares n at.rule.depth step.call told.end one.own (owed mid)))
+    (s.groups ∙ ap (λ (g : List Group). g ++ s.cleanup) one.queued.groups ∙ append_assoc at.groups one.own s.cleanup) (ap heard s.frames ∙ one.queued.taken) s.rule described
+
+-- ---- what is known of a statement that is kept
+
+known_kept : (start : StreamSeen) (at : Place) (a : ConnSeen) (e : Entry) → StandsAt start at a → 0 < e.statement → IsKeptAt at e → KnownAt ((name_of e.statement, length e.columns) ∷ []) at
+known_kept start at a e st positive k group slice front g l count =
+    let further = after_further (heard at.frames) slice (length k.before) (omega (arith, k.read)) in
+    let begun : after_readys (length k.before) (heard at.frames ++ slice) ≡ map backend_frame k.told ++ (k.more ++ slice) = further ∙ ap (λ (f : List Frame). f ++ slice) k.answered ∙ append_assoc (map backend_frame k.told) k.more slice in
+    let part : after_readys (length at.groups) (heard at.frames ++ slice) ≡ after_readys (owed at) slice =
+    after_more (heard at.frames) slice (length at.groups) a.ledger.owed st.ledger st.between ∙ ap (λ (n : ℕ). after_readys n slice) (sym (owed_is start at a st)) in
+    subst (λ (n : ℕ). BeginsKnowing ((name_of e.statement, n) ∷ []) group (after_readys (owed at) slice ++ front ∷ [])) (ap (λ (c : List FieldDescription). length c) k.columns)
+    (lawful_keeps k.before (name_of e.statement) e.sql k.types k.later group (heard at.frames ++ slice) (after_readys (owed at) slice) (k.more ++ slice) front k.told
+    (subst (AllByRecursion IsGroup) k.groups st.are_groups) g (named_nothing e.statement positive) k.spared (subst (λ (gs : List Group). MayHear (said_in (gs ++ group ∷ [])) ((heard at.frames ++ slice) ++ front ∷ [])) k.groups l) (count ∙ ap (λ (gs : List Group). length gs) k.groups) begun (ap (λ (gs : List Group). after_readys (length gs) (heard at.frames ++ slice)) (sym k.groups) ∙ part) k.ends k.has_frames k.well)
+
+-- of what is kept there, the columns are known
+pub known_of : (start : StreamSeen) (at : Place) (a : ConnSeen) (e : Entry) → StandsAt start at a → (0 < e.statement) × IsKeptAt at e → KnownAt ((name_of e.statement, length e.columns) ∷ []) at
+known_of start at a e st h = known_kept start at a e st h.0 h.1
+
+run_known : (start : StreamSeen) (at : Place) (a : ConnSeen) (d : ℕ) (how : How) (sql : List ℕ) (arguments : ArgumentsSeen) (persistent : Bool) → StandsAt start at a → Keeps at → (o : Option Entry) → entry_at sql at.rule.cache.entries ≡ o
+    → KnownAt (widths_of (request_of d (exchange_for (run_or_describe at.rule how sql arguments persistent o)))) at
+run_known start at a d how sql arguments persistent st k None e = known_none start at a st
+run_known start at a d how sql arguments persistent st k (Some entry) e = known_of start at a entry st (found_has (λ e. (0 < e.statement) × IsKeptAt at e) (λ e. bytes_eq e.sql sql) at.rule.cache.entries entry (each_known at k) e)
+
+as_known : (start : StreamSeen) (at : Place) (a : ConnSeen) (d : ℕ) (how : How) (query : QueryText) (call : Call) → StandsAt start at a → Keeps at → widths_of (request_of d call) ≡ [] → (o : Option ArgumentsSeen) → KnownAt (widths_of (request_of d (first_as at.rule how query o call))) at
+as_known start at a d how query call st k w None = subst (λ (x : Widths). KnownAt x at) (sym w) (known_none start at a st)
+as_known start at a d how query call st k w (Some arguments) = run_known start at a d how query.sql arguments query.persistent st k (entry_at query.sql at.rule.cache.entries) refl
+
+none_known : (start : StreamSeen) (at : Place) (a : ConnSeen) (d : ℕ) (call : Call) → StandsAt start at a → widths_of (request_of d call) ≡ [] → KnownAt (widths_of (request_of d call)) at
+none_known start at a d call st w = subst (λ (x : Widths). KnownAt x at) (sym w) (known_none start at a st)
+
+-- what the first exchange of a call takes as known is so
+pub first_known : (start : StreamSeen) (at : Place) (a : ConnSeen) (d : ℕ) (call : Call) → StandsAt start at a → Keeps at → KnownAt (widths_of (request_of d (first_call at.rule call))) at
+first_known start at a d (calls.Execute query) st k = as_known start at a d hows.Execute query (calls.Execute query) st k refl query.arguments
+first_known start at a d (calls.ExecuteMany query) st k = as_known start at a d hows.ExecuteMany query (calls.ExecuteMany query) st k refl query.arguments
+first_known start at a d (calls.Fetch query) st k = as_known start at a d hows.Fetch query (calls.Fetch query) st k refl query.arguments
+first_known start at a d (calls.FetchMany query) st k = as_known start at a d hows.FetchMany query (calls.FetchMany query) st k refl query.arguments
+first_known start at a d (calls.FetchAll query) st k = as_known start at a d hows.FetchAll query (calls.FetchAll query) st k refl query.arguments
+first_known start at a d (calls.FetchOptional query) st k = as_known start at a d hows.FetchOptional query (calls.FetchOptional query) st k refl query.arguments
+first_known start at a d (calls.FetchOne query) st k = as_known start at a d hows.FetchOne query (calls.FetchOne query) st k refl query.arguments
+first_known start at a d (calls.Prepare p) st k = none_known start at a d (first_call at.rule (calls.Prepare p)) st (by (entry_at p.sql at.rule.cache.entries))
+  where
+    by : (o : Option Entry) → widths_of (request_of d (exchange_for (tell_or_describe at.rule (record { sql = p.sql; parameters = p.types; columns = None; keeping = keepings.Stays }) o))) ≡ []
+    by (Some e) = refl
+    by None = refl
+first_known start at a d calls.Clear st k = none_known start at a d (first_call at.rule calls.Clear) st (by (nat_eq (length at.rule.cache.entries) 0))
+  where
+    by : (b : Bool) → widths_of (request_of d (exchange_for (asked_by at.rule (cond b requests.Flush (requests.Clear []))))) ≡ []
+    by true = refl
+    by false = refl
+first_known start at a zero calls.Commit st k = known_none start at a st
+first_known start at a (suc left) calls.Commit st k = known_none start at a st
+first_known start at a zero calls.Rollback st k = known_none start at a st
+first_known start at a (suc left) calls.Rollback st k = known_none start at a st
+first_known start at a d _ st k = known_none start at a st
+
+-- what comes behind a close knows the columns of its statement
+after_known : (start : StreamSeen) (at : Place) (a : ConnSeen) (after : After) → StandsAt start at a → Keeps at → IsAfter at.rule after → KnownAt (widths_of (request_behind after)) at
+after_known start at a (afters.Prepare prepared) st k h = known_none start at a st
+after_known start at a (afters.Run bound) st k (e, others, is, same, columns) =
+    let known = known_of start at a e st (subst (AllByRecursion (λ e. (0 < e.statement) × IsKeptAt at e)) is (each_known at k)).0 in
+    subst (λ (n : ℕ). KnownAt (known_under (name_of n) (option_map (λ (c : List FieldDescription). length c) bound.columns)) at) (sym same)
+    (subst (λ (o : Option (List FieldDescription)). KnownAt (known_under (name_of e.statement) (option_map (λ (c : List FieldDescription). length c) o)) at) (sym columns) known)
+
+told_known : (rule : Rule) (x : Extended) (reply : List BackendMessage) (at : Place) → KnownAt ((name_of x.statement, length (described reply)) ∷ []) at → KnownAt [] at → KnownAt (widths_of (asked_by rule (told_by x reply))) at
+told_known rule x reply at k none = by (nat_eq x.statement 0) (option_map (λ (e : Entry). e.statement) (leaving rule))
+  where
+    d : Described
+    d = record { parameters = parameters_after [] reply; columns = Some (described reply) }
+
+    x' : Extended
+    x' = record x { described = Some d }
+
+    runs : (goal : Goal) (keeping : Keeping) → KnownAt (widths_of (request_behind (behind_goal goal x' d keeping))) at
+    runs (goals.Run how) keeping = k
+    runs goals.Prepare keeping = none
+
+    closes : (o : Option ℕ) → KnownAt (widths_of (by_leaving x' d o)) at
+    closes (Some statement) = none
+    closes None = runs x.goal keepings.Puts
+
+    by : (b : Bool) (o : Option ℕ) → KnownAt (widths_of (cond b (request_behind (behind_goal x.goal x' d keepings.Stays)) (by_leaving x' d o))) at
+    by true o = runs x.goal keepings.Stays
+    by false o = closes o
+
+closed_known : (rule : Rule) (at : Place) (a : After) → KnownAt (widths_of (request_behind a)) at → KnownAt [] at → KnownAt (widths_of (asked_by rule (request_behind a))) at
+closed_known rule at (afters.Run bound) k none = k
+closed_known rule at (afters.Prepare prepared) k none = by prepared.columns
+  where
+    by : (o : Option (List FieldDescription)) → KnownAt (widths_of (prepare_by rule prepared o)) at
+    by (Some columns) = none
+    by None = tells (entry_at prepared.sql rule.cache.entries)
+      where
+        tells : (o : Option Entry) → KnownAt (widths_of (tell_or_describe rule prepared o)) at
+        tells (Some e) = none
+        tells None = none
+
+-- what a description that hands on has told is known where the next exchange begins
+known_told : (rule : Rule) (start : StreamSeen) (at next : Place) (a c : ConnSeen) (x : Extended) (after : Request) (said : List FrontendMessage) (slice : List Frame) (items : List CallItem) → StandsAt start at a → StandsAt start next c → next.groups ≡ at.groups ++ groups_of (requests.Describe x) → heard next.frames ≡ heard at.frames ++ slice
+    → EndsFine a.ledger (requests.Describe x) said slice items c.ledger (Ok (answers.Next after)) → KnownAt (widths_of (asked_by rule after)) next
+known_told rule start at next a c x after said slice items st st' groups frames e =
+    let told : told_by x e.0.reply ≡ after = same_Some (told_by x e.0.reply) after (next_is (requests.Describe x) e.0.reply e.0.status after e.1).1 in
+    let known = described_known start at next a c x said slice items st st' groups frames e.0 in
+    subst (λ (r : Request). KnownAt (widths_of (asked_by rule r)) next) told (told_known rule x e.0.reply next known (known_none start next c st'))
+
+-- and what comes behind a close knows its statement
+known_closed : (rule : Rule) (start : StreamSeen) (at next : Place) (a c : ConnSeen) (v : Eviction) (after : Request) (said : List FrontendMessage) (slice : List Frame) (items : List CallItem) → StandsAt start next c → Keeps next → IsAfter next.rule v.after
+    → EndsFine a.ledger (requests.Evict v) said slice items c.ledger (Ok (answers.Next after)) → KnownAt (widths_of (asked_by rule after)) next
+known_closed rule start at next a c v after said slice items st' k h e =
+    let told : request_behind v.after ≡ after = same_Some (request_behind v.after) after (next_is (requests.Evict v) e.0.reply e.0.status after e.1).1 in
+    subst (λ (r : Request). KnownAt (widths_of (asked_by rule r)) next) told (closed_known rule next v.after (after_known start next c v.after st' k h) (known_none start next c st'))
+
+pub known_next : (rule : Rule) (start : StreamSeen) (at next : Place) (a c : ConnSeen) (d : ℕ) (call : Call) (after : Request) (said : List FrontendMessage) (slice : List Frame) (items : List CallItem) → StandsAt start at a → StandsAt start next c → Keeps next → next.groups ≡ at.groups ++ groups_of (request_of d call) → heard next.frames ≡ heard at.frames ++ slice
+    → ((v : Eviction) → call ≡ calls.Evict v → IsAfter next.rule v.after) → EndsFine a.ledger (request_of d call) said slice items c.ledger (Ok (answers.Next after)) → KnownAt (widths_of (asked_by rule after)) next
+known_next rule start at next a c d call after said slice items st st' k groups frames evicts e =
+    by (hands_by d call (hands_on_described (request_of d call) e.0.reply e.0.status after e.1))
+  where
+    by : ((x : Extended) × (call ≡ calls.Describe x)) ⊎ ((v : Eviction) × (call ≡ calls.Evict v)) → KnownAt (widths_of (asked_by rule after)) next
+    by (inl (x, is)) =
+        known_told rule start at next a c x after said slice items st st' (groups ∙ ap (λ (y : Call). at.groups ++ groups_of (request_of d y)) is) frames
+        (subst (λ (y : Call). EndsFine a.ledger (request_of d y) said slice items c.ledger (Ok (answers.Next after))) is e)
+    by (inr (v, is)) =
+        known_closed rule start at next a c v after said slice items st' k (evicts v is)
+        (subst (λ (y : Call). EndsFine a.ledger (request_of d y) said slice items c.ledger (Ok (answers.Next after))) is e)
+
+-- a close leaves the statement among those that are kept for which it came
+pub closes_known : (at next : Place) (call : Call) (v : Eviction) (own : List Group) (response : List BackendMessage) → call ≡ calls.Evict v → ClosesNone at.rule v → next.rule ≡ rule_after at.rule call own response (ends.Ok AnswersUnit) → IsAfter next.rule v.after
+closes_known at next call v own response is s e =
+    let same : next.rule ≡ kept at.rule = e ∙ ap (λ (y : Call). rule_after at.rule y own response (ends.Ok AnswersUnit)) is ∙ held_after_close (kept at.rule) v.after in
+    subst (λ (r : Rule). IsAfter r v.after) (sym same) s.after
+
+-- ---- at first
+
+pub keeps_first : (capacity : ℕ) (seen : StreamSeen) → Keeps (first_place capacity seen)
+keeps_first capacity seen = record { orderly = new_orderly capacity; kept = tt }
