@@ -5,4 +5,5 @@ pub mod EventLaws
 pub mod OutsideLaws
 pub mod VersionLaws
 pub mod ParameterLaws
+pub mod NotificationLaws
 pub mod MemoryLaws

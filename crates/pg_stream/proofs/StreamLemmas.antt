@@ -20,7 +20,10 @@ use Rattle.pg_stream.specs.Links.{asked_with, LinkSeen, NoneFalls, Rose, GrewBy,
 use Rattle.pg_stream.specs.Streams.{AskedFor, NoneWaited, StreamSeen, Sends, Takes, TakenFrom, Passes, AreFrames, Tallies, Moves, AllMoved, OneMoved, WriteWaited, ReadWaited, SendsOnce, ReadsOnce, HasNone, PollsFront, PollsFrame, PollsHeard, PollsAhead, IsHeardFront, framed, AheadOnce, HeardCause, IsMalformedFront, PassesAside, TakesFront, TakesHeard, StreamOf, stream_by, AreAsynchronous, PendingCause, ErrorCause, IsFrontOf, IsFront}
 use Rattle.pg_stream.specs.Parameters.{ParametersSeen, SetsBy, SetsByAll}
 use Rattle.pg_stream.specs.Asynchronous.{IsAside, TakesAside}
+use Rattle.pg_wire.specs.declared.message.notification_response.Notification.{Notification}
+use Rattle.pg_stream.specs.Notifications.{KeptSeen, KeepsBy, with_news}
 use Rattle.pg_stream.proofs.ParameterLaws.{sets_heard}
+use Rattle.pg_stream.proofs.NotificationLaws.{with_none, keeps_heard, KeepsByAll-append, KeepsByAll-none, KeepsByAll-one}
 use Rattle.pg_stream.specs.Received.{ReceivedSeen, bytes_in, room_for, given_of, ReadsOnto}
 use Rattle.pg_stream.proofs.Known.{AskedFor-then, Keeps-refl, Keeps-then, AddsPlace-after, Appends-then, Appends-from_keeps, Appends-refl, NoneFalls-refl, NoneFalls-then, NoneFalls-from_counts, NoWaits-from_counts, NoWaits-then, GrewBy-after, GrewBy-still}
 
@@ -118,6 +121,7 @@ Moves-then a b c s t x y p q = record {
   spare = omega (arith, p.spare, q.spare, length-append s t);
   room = room_then a b c x y q.read p.room q.room;
   parameters = SetsByAll-append x y a.parameters b.parameters c.parameters p.parameters q.parameters;
+  notifications = KeepsByAll-append x y a.notifications b.notifications c.notifications p.notifications q.notifications;
 }
 
 -- no call at all
@@ -135,6 +139,7 @@ Moves-none a = record {
   spare = omega arith;
   room = omega arith;
   parameters = refl;
+  notifications = KeepsByAll-none a.notifications;
 }
 
 pub NoneWaited-none : (a : StreamSeen) → NoneWaited a a
@@ -214,6 +219,7 @@ called a link r unsent held took gave room w m counts secured asked grows taken 
   spare = omega arith;
   room = omega (arith, grows, ap length holds, length-append a.held gave);
   parameters = refl;
+  notifications = KeepsByAll-none a.notifications;
 }
 
 pub sends_moved : (a : StreamSeen) (link : LinkSeen) (n m : ℕ) → Writes a.link link (writes.Moved n) a.unsent → 0 < a.left → GrewBy 1 a.moves m
@@ -332,33 +338,46 @@ front_within held front f =
 
 -- ---- a message at the front that is taken aside
 
-pub passes_aside : {A : Type 0} (a b : StreamOf A) (p : ParametersSeen) (front : Front) (body rest : List ℕ) → IsFrontOf a.held front (framed front.tag body) rest → TakesAside (framed front.tag body) a.parameters p (Ok true)
-    → Passes front (record a { parameters = p }) b → PassesAside front a b (Ok true)
-passes_aside {A} a b p front body rest f t q =
+-- what is told stands in the stream behind
+taken_as : {A : Type 0} (a b : StreamOf A) (rest : List ℕ) (p : ParametersSeen) (n : KeptSeen) → b.parameters ≡ p → b.notifications ≡ n → b ≡ record a { held = rest; taken = b.taken; parameters = p; notifications = n }
+    → b ≡ record a { held = rest; taken = b.taken; parameters = b.parameters; notifications = b.notifications }
+taken_as a b rest p n same kept e =
+    e ∙ ap (λ (m : ParametersSeen). record a { held = rest; taken = b.taken; parameters = m; notifications = n }) (sym same) ∙ ap (λ (k : KeptSeen). record a { held = rest; taken = b.taken; parameters = b.parameters; notifications = k }) (sym kept)
+
+pub passes_aside : {A : Type 0} (a b : StreamOf A) (p : ParametersSeen) (n : KeptSeen) (front : Front) (body rest : List ℕ) → IsFrontOf a.held front (framed front.tag body) rest
+    → TakesAside (framed front.tag body) a.parameters p a.notifications n (Ok true) → Passes front (record a { parameters = p; notifications = n }) b → PassesAside front a b (Ok true)
+passes_aside {A} a b p n front body rest f t q =
     let moved = q (framed front.tag body) rest f in
-    let same : b.parameters ≡ p = ap (λ (s : StreamOf A). s.parameters) moved.0 in (
+    let same : b.parameters ≡ p = ap (λ (s : StreamOf A). s.parameters) moved.0 in
+    let kept : b.notifications ≡ n = ap (λ (s : StreamOf A). s.notifications) moved.0 in (
       framed front.tag body,
       rest,
       f,
       t.0,
       (
-        moved.0 ∙ ap (λ (m : ParametersSeen). record a { held = rest; taken = b.taken; parameters = m }) (sym same),
+        taken_as a b rest p n same kept moved.0,
         moved.1,
         subst (SetsBy (framed front.tag body) a.parameters) (sym same) t.1,
+        subst (KeepsBy (framed front.tag body) a.notifications) (sym kept) t.2,
       ),
     )
 
-pub refuses_aside : {A : Type 0} (a : StreamOf A) (p : ParametersSeen) (front : Front) (body rest : List ℕ) (e : Error) → IsFrontOf a.held front (framed front.tag body) rest → TakesAside (framed front.tag body) a.parameters p (Err e)
-    → PassesAside front a (record a { parameters = p }) (Err e)
-refuses_aside {A} a p front body rest errors.OutOfMemory f t = ap (λ (m : ParametersSeen). record a { parameters = m }) t.1
-refuses_aside {A} a p front body rest (errors.Protocol (protocol.Server (faults.Malformed tag))) f t = (
-  ap (λ (m : ParametersSeen). record a { parameters = m }) t.1,
-  record { frame = framed front.tag body; rest = rest; whole = f.whole; tag_is = sym t.2.0; asynchronous = t.0; refused = t.2.1; parts = f.parts },
-)
-refuses_aside {A} a p front body rest _ f t = absurd t.2
+-- nothing that is kept changed
+untold : {A : Type 0} (a : StreamOf A) (p : ParametersSeen) (n : KeptSeen) → p ≡ a.parameters → n ≡ a.notifications → record a { parameters = p; notifications = n } ≡ a
+untold a p n same kept = ap (λ (m : ParametersSeen). record a { parameters = m; notifications = n }) same ∙ ap (λ (k : KeptSeen). record a { notifications = k }) kept
 
-pub leaves_heard : {A : Type 0} (a : StreamOf A) (p : ParametersSeen) (front : Front) (body : List ℕ) → TakesAside (framed front.tag body) a.parameters p (Ok false) → PassesAside front a (record a { parameters = p }) (Ok false)
-leaves_heard a p front body t = (ap (λ (m : ParametersSeen). record a { parameters = m }) t.1, λ frame rest f. front_tag a.held front frame rest f ∙ t.0)
+pub refuses_aside : {A : Type 0} (a : StreamOf A) (p : ParametersSeen) (n : KeptSeen) (front : Front) (body rest : List ℕ) (e : Error) → IsFrontOf a.held front (framed front.tag body) rest
+    → TakesAside (framed front.tag body) a.parameters p a.notifications n (Err e) → PassesAside front a (record a { parameters = p; notifications = n }) (Err e)
+refuses_aside a p n front body rest errors.OutOfMemory f t = untold a p n t.1 t.2
+refuses_aside a p n front body rest (errors.Protocol (protocol.Server (faults.Malformed tag))) f t = (
+  untold a p n t.1 t.2,
+  record { frame = framed front.tag body; rest = rest; whole = f.whole; tag_is = sym t.3.0; asynchronous = t.0; refused = t.3.1; parts = f.parts },
+)
+refuses_aside a p n front body rest _ f t = absurd t.3
+
+pub leaves_heard : {A : Type 0} (a : StreamOf A) (p : ParametersSeen) (n : KeptSeen) (front : Front) (body : List ℕ) → TakesAside (framed front.tag body) a.parameters p a.notifications n (Ok false)
+    → PassesAside front a (record a { parameters = p; notifications = n }) (Ok false)
+leaves_heard a p n front body t = (untold a p n t.1 t.2, λ frame rest f. front_tag a.held front frame rest f ∙ t.0)
 
 -- ---- reads one after another, with all sent and no whole frame held before each
 
@@ -415,7 +434,7 @@ takes_front a b front frame rest f t =
     let parts : a.held ++ [] ≡ text_of (frame ∷ []) ++ rest = append-nil a.held ∙ f.parts ∙ ap (λ (z : List ℕ). z ++ rest) (sym (append-nil (bytes_of frame))) in
     let long : front.total ≡ length (text_of (frame ∷ [])) = omega (arith, f.total, length-append (bytes_of frame) [], length-append (number32 (length frame.body + 4)) frame.body) in
     let counts : NoneFalls a.link a.link = NoneFalls-refl a.link in
-    let c : StreamSeen = record a { held = rest; taken = b.taken; parameters = b.parameters } in
+    let c : StreamSeen = record a { held = rest; taken = b.taken; parameters = b.parameters; notifications = b.notifications } in
     let taken : Moves a c [] (frame ∷ []) = record {
       counts = counts;
       secured = refl;
@@ -429,6 +448,7 @@ takes_front a b front frame rest f t =
       spare = omega arith;
       room = omega arith;
       parameters = (b.parameters, t.2, refl);
+      notifications = KeepsByAll-one frame a.notifications b.notifications t.3;
     } in
     subst (λ (s : StreamSeen). Moves a s [] (frame ∷ [])) (sym t.0) taken
 
@@ -436,14 +456,23 @@ AllMoved-taken : (a b c : StreamSeen) (front : Front) (frame : Frame) (rest : Li
 AllMoved-taken a b c front frame rest m t = subst (λ (s : StreamSeen). AllMoved a s) (sym t.0) m
 
 seen_taken : {A : Type 0} (seen : A → LinkSeen) (a b : StreamOf A) (front : Front) (frame : Frame) (rest : List ℕ) → TakenFrom a b front frame rest → TakenFrom (stream_by seen a) (stream_by seen b) front frame rest
-seen_taken seen a b front frame rest t = (ap (stream_by seen) t.0, t.1, t.2)
+seen_taken seen a b front frame rest t = (ap (stream_by seen) t.0, t.1, t.2, t.3)
 
 -- a frame that is no asynchronous message sets nothing
 taken_heard : {A : Type 0} (a b : StreamOf A) (front : Front) (frame : Frame) (rest : List ℕ) → is_asynchronous frame ≡ false → IsFrontOf a.held front frame rest → Passes front a b → TakenFrom a b front frame rest
 taken_heard {A} a b front frame rest h f p =
     let q = p frame rest f in
     let same : b.parameters ≡ a.parameters = ap (λ (s : StreamOf A). s.parameters) q.0 in
-    (q.0 ∙ ap (λ (m : ParametersSeen). record a { held = rest; taken = b.taken; parameters = m }) (sym same), q.1, subst (SetsBy frame a.parameters) (sym same) (sets_heard frame a.parameters h))
+    let kept : b.notifications ≡ a.notifications = ap (λ (s : StreamOf A). s.notifications) q.0 in (
+      taken_as a b rest a.parameters a.notifications same kept q.0,
+      q.1,
+      subst (SetsBy frame a.parameters) (sym same) (sets_heard frame a.parameters h),
+      subst (KeepsBy frame a.notifications) (sym kept) (keeps_heard frame a.notifications h),
+    )
+
+-- where no frame is taken, what is kept stays
+pub untold_moves : (a b : StreamSeen) (q : List ℕ) → Moves a b q [] → b.notifications ≡ a.notifications
+untold_moves a b q m = m.notifications.2 ∙ ap (λ (news : List Notification). with_news news a.notifications) m.notifications.1 ∙ with_none a.notifications
 
 -- one frame aside
 pub aside_once : {A : Type 0} (seen : A → LinkSeen) (a b c : StreamOf A) (front : Front) → PollsFront (stream_by seen a) (stream_by seen b) (Ready (Ok front)) → PassesAside front b c (Ok true)
@@ -461,7 +490,7 @@ aside_once seen a b c front p q =
 pub ahead_once : {A : Type 0} (seen : A → LinkSeen) (a b c : StreamOf A) (front : Front) → PollsFront (stream_by seen a) (stream_by seen b) (Ready (Ok front)) → PassesAside front b c (Ok false)
     → AheadOnce (stream_by seen a) (stream_by seen c) (Some (Ready (Ok front)))
 ahead_once {A} seen a b c front p q = subst (λ (s : StreamOf A). AheadOnce (stream_by seen a) (stream_by seen s) (Some (Ready (Ok front)))) (sym q.0)
-    ([], tt, p.0, p.1, p.2, (p.3.0, p.3.1, p.3.2, q.1 p.3.0 p.3.1 p.3.2), p.4)
+    (([], tt, p.0, p.1, p.2, (p.3.0, p.3.1, p.3.2, q.1 p.3.0 p.3.1 p.3.2), p.4), untold_moves (stream_by seen a) (stream_by seen b) [] p.0)
 
 -- the frame at the front is taken too, or stays for want of memory
 pub heard_then : {A : Type 0} (seen : A → LinkSeen) (a b c : StreamOf A) (front : Front) (r : Result Frame Error) → PollsAhead (stream_by seen a) (stream_by seen b) (Ready (Ok front)) → TakesHeard front b c r
@@ -499,10 +528,12 @@ pub refused_once : {A : Type 0} (seen : A → LinkSeen) (a b c : StreamOf A) (fr
     → AheadOnce (stream_by seen a) (stream_by seen c) (Some (Ready (Err e)))
 refused_once {A} seen a b c front errors.OutOfMemory p q =
     let same : stream_by seen c ≡ stream_by seen b = ap (stream_by seen) q in
-    ([], tt, subst (λ (s : StreamSeen). Moves (stream_by seen a) s [] []) (sym same) p.0, tt, ap (λ (s : StreamSeen). s.spare) same ∙ p.4, subst (NoneWaited (stream_by seen a)) (sym same) p.2.2)
+    let moves = subst (λ (s : StreamSeen). Moves (stream_by seen a) s [] []) (sym same) p.0 in
+    (([], tt, moves, tt, ap (λ (s : StreamSeen). s.spare) same ∙ p.4, subst (NoneWaited (stream_by seen a)) (sym same) p.2.2), untold_moves (stream_by seen a) (stream_by seen c) [] moves)
 refused_once {A} seen a b c front (errors.Protocol (protocol.Server (faults.Malformed tag))) p q =
     let same : stream_by seen c ≡ stream_by seen b = ap (stream_by seen) q.0 in
-    ([], tt, subst (λ (s : StreamSeen). Moves (stream_by seen a) s [] []) (sym same) p.0, subst (λ (s : StreamOf A). IsMalformedFront s.held tag) (sym q.0) q.1, ap (λ (s : StreamSeen). s.spare) same ∙ p.4, subst (NoneWaited (stream_by seen a)) (sym same) p.2.2)
+    let moves = subst (λ (s : StreamSeen). Moves (stream_by seen a) s [] []) (sym same) p.0 in
+    (([], tt, moves, subst (λ (s : StreamOf A). IsMalformedFront s.held tag) (sym q.0) q.1, ap (λ (s : StreamSeen). s.spare) same ∙ p.4, subst (NoneWaited (stream_by seen a)) (sym same) p.2.2), untold_moves (stream_by seen a) (stream_by seen c) [] moves)
 refused_once {A} seen a b c front _ p q = absurd q
 
 HeardCause-from : (a b : StreamSeen) (e : Error) → ErrorCause a b e → HeardCause a b e
@@ -511,10 +542,10 @@ HeardCause-from a b e p = p
 
 -- the stream itself fails
 pub failed_once : (a b : StreamSeen) (e : Error) → PollsFront a b (Ready (Err e)) → AheadOnce a b (Some (Ready (Err e)))
-failed_once a b e p = ([], tt, p.0, HeardCause-from a b e p.1, p.2, p.3)
+failed_once a b e p = (([], tt, p.0, HeardCause-from a b e p.1, p.2, p.3), untold_moves a b [] p.0)
 
 pub waits_once : (a b : StreamSeen) → PollsFront a b Pending → AheadOnce a b (Some Pending)
-waits_once a b p = ([], tt, p.0, p.1, p.2)
+waits_once a b p = (([], tt, p.0, p.1, p.2), untold_moves a b [] p.0)
 
 pub hears_on : (a b c : StreamSeen) → HearsOn a b → AheadOnce b c None → HearsOn a c
 hears_on a b c i p = record {
@@ -575,6 +606,7 @@ queues_by {A} seen a b bytes spare room e =
       room = omega arith;
       spare = room;
       parameters = refl;
+      notifications = KeepsByAll-none s.notifications;
     } in
     let all : AllMoved s t = (GrewBy-spent s.left s.link.moved, GrewBy-spent s.left s.moves, (refl, Keeps-refl s.link.wait_places, (refl, refl))) in
     subst (λ (u : StreamOf A). Moves s (stream_by seen u) bytes [] × AllMoved s (stream_by seen u)) (sym e) (moves, all)

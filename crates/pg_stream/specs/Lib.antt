@@ -10,5 +10,6 @@ pub mod Versions
 pub mod VersionReading
 pub mod Outgoing
 pub mod Parameters
+pub mod Notifications
 pub mod Sockets
 pub mod SocketLinks

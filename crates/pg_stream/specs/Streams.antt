@@ -22,6 +22,7 @@ use Rattle.pg_wire.specs.Backend.{BackendMessage}
 use Rattle.pg_stream.specs.Links.{LinkSeen, NoneFalls, Rose, GrewBy, NoWaits, AddsPlace, asked_with}
 use Rattle.pg_stream.specs.Received.{room_for}
 use Rattle.pg_stream.specs.Parameters.{ParametersSeen, no_parameters, Carries, SetsBy, SetsByAll}
+use Rattle.pg_stream.specs.Notifications.{KeptSeen, none_kept, KeepsBy, KeepsByAll}
 use Rattle.pg_stream.specs.Asynchronous.{IsAside}
 
 -- A stream over a link, or over what is seen of one: clauses name the first, lemmas the second.
@@ -44,16 +45,18 @@ pub record StreamOf (A : Type 0) : Type 0 where
   pub taken : ℕ
   -- what the frames taken told of the server's parameters
   pub parameters : ParametersSeen
+  -- the notifications among them that are kept
+  pub notifications : KeptSeen
 
 abbrev pub StreamSeen : Type 0
 StreamSeen = StreamOf LinkSeen
 
 abbrev pub stream_by : {A : Type 0} → (A → LinkSeen) → StreamOf A → StreamSeen
-stream_by f s = record { link = f s.link; unsent = s.unsent; spare = s.spare; held = s.held; room = s.room; left = s.left; waits = s.waits; moves = s.moves; taken = s.taken; parameters = s.parameters }
+stream_by f s = record { link = f s.link; unsent = s.unsent; spare = s.spare; held = s.held; room = s.room; left = s.left; waits = s.waits; moves = s.moves; taken = s.taken; parameters = s.parameters; notifications = s.notifications }
 
 -- a stream that has queued and read nothing
 abbrev pub fresh_stream : {A : Type 0} → A → StreamOf A
-fresh_stream link = record { link = link; unsent = []; spare = 0; held = []; room = 0; left = 256; waits = 0; moves = 0; taken = 0; parameters = no_parameters }
+fresh_stream link = record { link = link; unsent = []; spare = 0; held = []; room = 0; left = 256; waits = 0; moves = 0; taken = 0; parameters = no_parameters; notifications = none_kept }
 
 -- how much a poll can still do: a link call adds at most 8192 bytes, and a frame takes five away at least
 abbrev pub fuel_of : StreamSeen → ℕ
@@ -102,6 +105,7 @@ pub record Moves (a b : StreamSeen) (queued : List ℕ) (frames : List Frame) : 
   -- the receive buffer's room grows by bytes that came, whatever a frame claims
   pub room : b.room ≤ max a.room (room_for (length (text_of frames) + length b.held))
   pub parameters : SetsByAll frames a.parameters b.parameters
+  pub notifications : KeepsByAll frames a.notifications b.notifications
 
 -- no read waited, so the link has no further place of a wait
 abbrev pub KeepsPlaces : StreamSeen → StreamSeen → Type 0
@@ -218,9 +222,9 @@ FrontIs held (Ok None) = HasNone held
 FrontIs held (Err (errors.Protocol (protocol.Server fault))) = HeaderFault held fault
 FrontIs held (Err _) = ⊥
 
--- the frame at the front is gone, its bytes are counted, and the value that it tells is kept
+-- the frame at the front is gone, its bytes are counted, and what it tells is kept
 abbrev pub TakenFrom : {A : Type 0} → StreamOf A → StreamOf A → Front → Frame → List ℕ → Type 0
-TakenFrom a b front frame rest = (b ≡ record a { held = rest; taken = b.taken; parameters = b.parameters }) × GrewBy front.total a.taken b.taken × SetsBy frame a.parameters b.parameters
+TakenFrom a b front frame rest = (b ≡ record a { held = rest; taken = b.taken; parameters = b.parameters; notifications = b.notifications }) × GrewBy front.total a.taken b.taken × SetsBy frame a.parameters b.parameters × KeepsBy frame a.notifications b.notifications
 
 -- whatever frame stood at the front is gone, and nothing of it is kept
 abbrev pub Passes : {A : Type 0} → Front → StreamOf A → StreamOf A → Type 0
@@ -289,7 +293,7 @@ PassesAside front a b (Err errors.OutOfMemory) = b ≡ a
 PassesAside front a b (Err (errors.Protocol (protocol.Server (faults.Malformed tag)))) = (b ≡ a) × IsMalformedFront a.held tag
 PassesAside front a b (Err _) = ⊥
 
--- one frame taken aside, or the answer
+-- one frame taken aside, or the answer, with which none is
 abbrev pub AheadOnce : StreamSeen → StreamSeen → Option (Poll (Result Front Error)) → Type 0
 AheadOnce a b None = (frame : Frame) × IsAside frame × Moves a b [] (frame ∷ []) × AllMoved a b × (b.spare ≡ a.spare)
-AheadOnce a b (Some answer) = PollsAhead a b answer
+AheadOnce a b (Some answer) = PollsAhead a b answer × (b.notifications ≡ a.notifications)

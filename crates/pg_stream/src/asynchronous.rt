@@ -1,11 +1,14 @@
-ghost use Rattle.std.specs.Prelude.{◌≡◌, IfErr, OnOk};
+ghost use Rattle.std.specs.Prelude.{◌≡◌, IfErr, OnOk, OnErr};
 ghost use Rattle.pg_wire.specs.Decoding.{IsRefused};
 ghost use Rattle.pg_stream.specs.Asynchronous.{IsSaid, TakesAside};
+ghost use Rattle.pg_stream.specs.Notifications.{KeepsBy};
+ghost use Rattle.pg_stream.specs.Parameters.{SetsBy};
 ghost use Rattle.pg_stream.specs.Streams.{framed};
 
+use crate::notifications::Notifications;
 use crate::parameters::Parameters;
-use pg_wire::{Error, decode_notice_response, decode_notification_response};
-use std::alloc::Global;
+use pg_wire::{Error, decode_notice_response};
+use std::alloc::{AllocError, Global};
 
 fn check_notice(alloc: Global, body: &[u8]) -> Result<(), Error>
     ensures said { OnOk result (IsSaid (framed 78 body.now)) }
@@ -17,25 +20,16 @@ fn check_notice(alloc: Global, body: &[u8]) -> Result<(), Error>
     }
 }
 
-fn check_notification(alloc: Global, body: &[u8]) -> Result<(), Error>
-    ensures said { OnOk result (IsSaid (framed 65 body.now)) }
-    ensures refused { IfErr result (λ e. IsRefused 65 body.now e) }
-{
-    match decode_notification_response(alloc, body) {
-        Ok(_) => Ok(()),
-        Err(e) => Err(e),
-    }
-}
-
-/// Takes an asynchronous message aside, and tells whether it is one: of a notice or a notification nothing is kept, and of a
-/// parameter the last value.
+/// Takes an asynchronous message aside, and tells whether it is one: of a parameter the last value is kept, of a notification all where
+/// they are kept, and of a notice nothing.
 pub(crate) fn take_aside(
     parameters: &mut Parameters,
+    notifications: &mut Notifications,
     alloc: Global,
     tag: u8,
     body: &[u8],
 ) -> Result<bool, Error>
-    ensures { TakesAside (framed tag body.now) parameters.old parameters.new result }
+    ensures { TakesAside (framed tag body.now) parameters.old parameters.new notifications.old notifications.new result }
 {
     match tag {
         b'N' => {
@@ -47,9 +41,28 @@ pub(crate) fn take_aside(
             Ok(true)
         }
         b'A' => {
-            check_notification(alloc, body)?;
+            notifications.take(alloc, body)?;
             Ok(true)
         }
         _ => Ok(false),
+    }
+}
+
+/// Keeps what a message tells, where it is an asynchronous one in its format.
+pub(crate) fn note_aside(
+    parameters: &mut Parameters,
+    notifications: &mut Notifications,
+    alloc: Global,
+    tag: u8,
+    body: &[u8],
+) -> Result<(), AllocError>
+    ensures sets { OnOk result (SetsBy (framed tag body.now) parameters.old parameters.new) }
+    ensures keeps { OnOk result (KeepsBy (framed tag body.now) notifications.old notifications.new) }
+    ensures err { OnErr result ((parameters.new ≡ parameters.old) × (notifications.new ≡ notifications.old)) }
+{
+    if tag == b'A' {
+        notifications.note(alloc, body)
+    } else {
+        parameters.note(alloc, tag, body)
     }
 }

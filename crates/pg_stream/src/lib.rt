@@ -13,6 +13,7 @@ mod link;
 mod memory;
 mod memory_sink;
 mod memory_source;
+mod notifications;
 mod outgoing;
 mod outside;
 mod parameters;

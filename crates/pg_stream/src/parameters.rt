@@ -11,7 +11,7 @@ use std::collections::BTreeMap;
 use std::marker::Model;
 
 // Nothing but want of memory is a failure.
-fn memory_alone(error: Error) -> Result<(), AllocError>
+pub(crate) fn memory_alone(error: Error) -> Result<(), AllocError>
     ensures { OnOk result (error ≢ Error.OutOfMemory) }
 {
     match error {

@@ -2,13 +2,17 @@ ghost use Rattle.std.specs.Prelude.{◌≡◌, ◌+◌, ◌-◌, ◌<◌, ◌≤
 ghost use Rattle.std.specs.Prelude.{nat_eq, List, ℕ};
 ghost use Rattle.pg_stream.specs.Streams.{stream_by, fresh_stream, SendsOnce, ReadsOnce, PollsSend, PollsFront, PollsFrame, PollsHeard, FrontIs, IsFront, IsHeardFront, IsFrontOf, TakesFront, TakesHeard, Passes, PassesAside, PollsAhead, AheadOnce, framed};
 ghost use Rattle.pg_stream.specs.Parameters.{value_of};
+ghost use Rattle.pg_stream.specs.Notifications.{TakesOldest, keeping_from};
 
-use crate::asynchronous::take_aside;
+use crate::asynchronous::{note_aside, take_aside};
+use crate::notifications::Notifications;
 use crate::outgoing::Outgoing;
 use crate::parameters::Parameters;
 use crate::received::Received;
 use crate::{Link, LinkRead, LinkWrite};
-use pg_wire::{Blob, Cut, Error, Frame, IoCause, Poll, ProtocolFault, ServerFault, cut};
+use pg_wire::{
+    Blob, Cut, Error, Frame, IoCause, Notification, Poll, ProtocolFault, ServerFault, cut,
+};
 use std::alloc::{AllocError, Global};
 use std::marker::Model;
 
@@ -32,6 +36,7 @@ pub struct PgStream<L> {
     moves: u64,
     taken: u64,
     parameters: Parameters,
+    notifications: Notifications,
 }
 
 // By hand, so that whoever lets one go makes one call, and doesn't go through its parts.
@@ -46,6 +51,7 @@ impl<L: Drop> Drop for PgStream<L> {
             moves: _,
             taken: _,
             parameters: _,
+            notifications: _,
         } = self;
     }
 }
@@ -56,7 +62,7 @@ impl<L> Model for PgStream<L> {
 
     ghost Value = { StreamOf L };
 
-    ghost view = { λ s. record { link = s.link; unsent = s.unsent.bytes; spare = s.unsent.spare; held = bytes_in s.held; room = s.held.room; left = s.left; waits = s.waits; moves = s.moves; taken = s.taken; parameters = s.parameters } };
+    ghost view = { λ s. record { link = s.link; unsent = s.unsent.bytes; spare = s.unsent.spare; held = bytes_in s.held; room = s.held.room; left = s.left; waits = s.waits; moves = s.moves; taken = s.taken; parameters = s.parameters; notifications = s.notifications } };
 }
 
 /// The whole frame at the front of what is held: its tag, and its size with the header.
@@ -109,6 +115,7 @@ impl<L> PgStream<L> {
             moves: 0,
             taken: 0,
             parameters: Parameters::new(alloc),
+            notifications: Notifications::new(alloc),
         }
     }
 
@@ -132,6 +139,7 @@ impl<L> PgStream<L> {
             moves: _,
             taken: _,
             parameters: _,
+            notifications: _,
         } = self;
         link
     }
@@ -186,6 +194,21 @@ impl<L> PgStream<L> {
         ensures { result ≡ self.now.parameters.version }
     {
         self.parameters.version()
+    }
+
+    /// Whether notifications that are taken aside are kept from now on, for `next_buffered`. Where they aren't, those kept are let go.
+    pub fn set_notifications(&mut self, keep: bool)
+        ensures { self.new ≡ record self.old { notifications = keeping_from keep self.old.notifications } }
+    {
+        self.notifications.keep(keep);
+    }
+
+    /// Takes the oldest of the notifications that are kept. It takes no memory.
+    pub fn next_buffered(&mut self) -> Option<Notification>
+        ensures same { self.new ≡ record self.old { notifications = self.new.notifications } }
+        ensures takes { TakesOldest self.old.notifications self.new.notifications result }
+    {
+        self.notifications.next()
     }
 
     /// Gives up the room of the buffers that neither bytes nor the cleanup reserve need.
@@ -302,13 +325,19 @@ impl<L> PgStream<L> {
         Ok(frame)
     }
 
-    // Takes the frame at the front, and keeps the parameter that it tells; without memory it stays.
+    // Takes the frame at the front, and keeps what it tells of a parameter or as a notification; without memory it stays.
     fn take_front(&mut self, alloc: Global, front: Front) -> Result<Frame, Error>
         requires { IsFront self.old.held front }
         ensures { TakesFront front self.old self.new result }
     {
         let frame = self.share(front)?;
-        self.parameters.note(alloc, front.tag, frame.body())?;
+        note_aside(
+            &mut self.parameters,
+            &mut self.notifications,
+            alloc,
+            front.tag,
+            frame.body(),
+        )?;
         self.skip(front);
         Ok(frame)
     }
@@ -319,7 +348,13 @@ impl<L> PgStream<L> {
         ensures { PassesAside front self.old self.new result }
     {
         let body = body_of(self.held.as_slice(), front);
-        match take_aside(&mut self.parameters, alloc, front.tag, body) {
+        match take_aside(
+            &mut self.parameters,
+            &mut self.notifications,
+            alloc,
+            front.tag,
+            body,
+        ) {
             Ok(true) => {
                 self.skip(front);
                 Ok(true)
@@ -438,8 +473,9 @@ impl<L: Link> PgStream<L> {
         }
     }
 
-    // Takes the next frame aside, or answers.
-    fn ahead_once(&mut self, alloc: Global) -> Option<Poll<Result<Front, Error>>>
+    /// Sends what is unsent, and takes the next frame aside where it is an asynchronous message. Else it answers: with that frame, which stays,
+    /// or why there is none.
+    pub fn ahead_once(&mut self, alloc: Global) -> Option<Poll<Result<Front, Error>>>
         ensures { AheadOnce (stream_by L.seen self.old) (stream_by L.seen self.new) result }
     {
         match self.poll_front() {
@@ -454,7 +490,8 @@ impl<L: Link> PgStream<L> {
     }
 
     /// Sends what is unsent, and waits until a frame that is no asynchronous message stands at the front, where it stays:
-    /// `body` shows it and `pass` takes it. Notices, parameter changes and notifications before it are taken aside.
+    /// `body` shows it and `pass` takes it. Notices, parameter changes and notifications before it are taken aside;
+    /// a notification that can't be kept for want of memory stays held.
     /// (PostgreSQL manual, "Message Flow", "Asynchronous Operations".)
     pub fn poll_ahead(&mut self, alloc: Global) -> Poll<Result<Front, Error>>
         ensures { PollsAhead (stream_by L.seen self.old) (stream_by L.seen self.new) result }

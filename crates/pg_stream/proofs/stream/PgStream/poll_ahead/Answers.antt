@@ -13,4 +13,4 @@ loop-answer-preserved g c =
 pub returns-in-Some : goal.returns-in-Some
 returns-in-Some g c =
     let seen = stream_by g.L.Link.seen in
-    hears_last (seen c.args.self.now) (seen c.loop-answer.self) (seen c.ahead_once.new.self) c.in-Some.answer c.loop-answer.invariant c.in-Some.ensures
+    hears_last (seen c.args.self.now) (seen c.loop-answer.self) (seen c.ahead_once.new.self) c.in-Some.answer c.loop-answer.invariant c.in-Some.ensures.0
