@@ -1,5 +1,5 @@
 -- What a poll answers is of the call's kind.
-use Rattle.std.proofs.Common.{◌≡◌, ◌≤◌, ℕ, List, [], ◌∷◌, ◌++◌, refl, sym, ap, ◌∙◌, subst, arith, Result, Ok, Err, Option, Some, None, ◌-◌, ◌*◌, nat_eq, cond, Bool, true, false}
+use Rattle.std.proofs.Common.{◌≡◌, ◌≤◌, ℕ, List, [], ◌∷◌, ◌++◌, refl, sym, ap, ◌∙◌, subst, arith, Result, Ok, Err, Option, Some, None, ◌-◌, ◌*◌, nat_eq, cond, length, Bool, true, false}
 use Rattle.pg_wire.specs.declared.status.TransactionStatus.{TransactionStatus}
 use Rattle.pg_wire.specs.Backend.{BackendMessage}
 use Rattle.pg_wire.specs.Frame.{Frame}
@@ -306,3 +306,11 @@ rollback_calls {A} depth c = by (nat_eq depth 0)
     by : (b : Bool) → IsCallingPlainly (begun_by (Some (cond b requests.Flush (requests.Rollback (depth - 1)))) c)
     by true = (kinds.Flush, tt, started_calling requests.Flush c refl)
     by false = (kinds.Rollback, tt, started_calling (requests.Rollback (depth - 1)) c refl)
+
+-- and what is asked where what is kept is to be closed
+pub clear_calls : {A : Type 0} (c : ConnOf A) → IsCallingPlainly (begun_by (Some (requests.Clear [])) c)
+clear_calls {A} c = by (nat_eq (length (left c).rule.cache.entries) 0) refl
+  where
+    by : (b : Bool) → nat_eq (length (left c).rule.cache.entries) 0 ≡ b → IsCallingPlainly (begun_by (Some (requests.Clear [])) c)
+    by true e = (kinds.Flush, tt, ((left c).ledger, begun_as (left c).rule (requests.Clear []), [], [], [], rw e refl, (refl, refl, refl, refl, refl), omega arith))
+    by false e = (kinds.Clear, tt, started_calling (requests.Clear []) c (rw e refl))

@@ -1,5 +1,5 @@
 -- The states of calls: what is known of the call that runs, and what a poll of it answers.
-use Rattle.std.specs.Prelude.{◌≡◌, Bool, true, List, [], Option, Some, None, unwrap_or, Result, Ok, Err}
+use Rattle.std.specs.Prelude.{◌≡◌, ℕ, Bool, true, List, [], Option, Some, None, unwrap_or, Result, Ok, Err}
 use Rattle.futures.specs.declared.task.Poll.{Poll}
 use Rattle.futures.specs.declared.task.Poll.TheVariants.{Ready, Pending}
 use Rattle.pg_wire.specs.declared.error.Error.{Error}
@@ -57,6 +57,10 @@ abbrev pub PollFitsPlainly : {A : Type 0} → ConnOf A → Poll Turn → Type 0
 PollFitsPlainly b answer = (kind : Kind) × TurnIsPlain kind × PollFits kind b answer
 
 -- ---- a statement that is prepared
+
+-- a text of whose parameters no type is said
+abbrev pub untyped : List ℕ → Preparation
+untyped sql = record { sql = sql; types = [] }
 
 -- what is asked for one, of which nothing is described yet
 abbrev pub to_prepare : Preparation → Request

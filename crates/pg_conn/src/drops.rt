@@ -34,6 +34,6 @@ pub fn a_prepare_that_is_polled_once<L: Link>(
 ) -> Poll<Result<PgStatement, Error>>
     ensures { (b : ConnOf L) × PollsPrepare (seen_by L.seen (started_call (to_prepare preparation) conn.old)) (seen_by L.seen b) result × (conn.new ≡ left b) }
 {
-    let mut call = conn.prepare(preparation);
+    let mut call = conn.prepare_with(preparation);
     call.poll()
 }

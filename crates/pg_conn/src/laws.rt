@@ -1,5 +1,5 @@
 //! What follows from the definitions of this crate, each law as the contract of a function that does nothing.
-ghost use Rattle.std.specs.Prelude.{◌≡◌, ◌<◌, ◌-◌, ◌^◌, ℕ, [], None, Some, true, false};
+ghost use Rattle.std.specs.Prelude.{◌≡◌, ◌≤◌, ◌<◌, ◌-◌, ◌^◌, ℕ, [], None, Some, true, false};
 ghost use Rattle.futures.specs.declared.task.Poll.{Poll};
 ghost use Rattle.pg_call.specs.declared.answer.Turn.{Turn};
 ghost use Rattle.pg_call.specs.declared.kind.Kind.{Kind};
@@ -11,6 +11,9 @@ ghost use Rattle.pg_stream.specs.Streams.{StreamSeen};
 ghost use Rattle.pg_conn.specs.Ledgers.{Owes, OwesSome};
 ghost use Rattle.pg_conn.specs.States.{IsCalling};
 ghost use Rattle.pg_conn.specs.Turns.{first_exchange, FlushesAtOnce, HasAllRoom, HasRoom, PollsCall, PollsMore, PollsWithin, RefusesAtOnce};
+
+use crate::PgConnection;
+use pg_stream::Link;
 
 /// The state of a call that is dropped before its first poll leaves the connection as it was: it has queued and taken nothing.
 pub fn an_unpolled_call_does_nothing()
@@ -69,3 +72,13 @@ pub fn a_connection_has_room_for_its_rollbacks()
     ensures rolls_back { (a : ConnSeen) → a.rule.depth < 2 ^ 64 → HasAllRoom a → HasAllRoom (rolled_back a) }
     ensures fresh { (capacity : ℕ) (stream : StreamSeen) (sent read : ℕ) → HasAllRoom (fresh_connection capacity stream sent read) }
 {}
+
+/// The same connection, whose next statement with a name gets this number: so a caller can see what becomes of the last numbers.
+pub fn at_statement<L: Link>(conn: PgConnection<L>, number: u32) -> PgConnection<L>
+    requires { conn.rule.next ≤ number }
+    ensures { result ≡ record conn { rule = record conn.rule { next = number } } }
+{
+    let mut conn = conn;
+    conn.rule.next = u64::from(number);
+    conn
+}

@@ -32,6 +32,6 @@ pub use socket_dial::SocketDial;
 pub use starting::Establish;
 pub use statement::PgStatement;
 pub use states::{
-    Begin, Close, Commit, Execute, ExecuteMany, Fetch, FetchAll, FetchMany, FetchOne,
-    FetchOptional, Flush, Ping, Prepare, Rollback, commit_request, rollback_request,
+    Begin, ClearCachedStatements, Close, Commit, Execute, ExecuteMany, Fetch, FetchAll, FetchMany,
+    FetchOne, FetchOptional, Flush, Ping, Prepare, Rollback, commit_request, rollback_request,
 };

@@ -1,8 +1,11 @@
-ghost use Rattle.std.specs.Prelude.{◌≡◌, ℕ, Some, slice_get, IfOk, IfErr};
+ghost use Rattle.std.specs.Prelude.{◌≡◌, ℕ, Some, None, slice_get, IfOk, IfErr, OnOk};
 ghost use Rattle.pg_columns.specs.Columns.{IsLastNamed, MissesName, names_of};
 ghost use Rattle.pg_columns.specs.Told.{columns_of};
 ghost use Rattle.pg_conn.specs.States.{statement_of};
+ghost use Rattle.pg_request.specs.Asked.{AsksWith, RefusesType, kept_query, missing_type, no_arguments, sent_as};
 
+use crate::Query;
+use pg_arguments::PgArguments;
 use pg_call::Prepared;
 use pg_columns::{PgColumn, PgColumns, column_by_name};
 use pg_wire::{Error, Oid, Oids, Text};
@@ -82,6 +85,24 @@ impl PgStatement {
         ensures err { IfErr result (MissesName name.now (names_of (columns_of self.now.columns))) }
     {
         column_by_name(alloc, self.columns(), name)
+    }
+
+    /// A query of its text without arguments, which is kept. Only want of memory refuses it.
+    pub fn query(&self, alloc: Global) -> Result<Query, Error>
+        ensures query { IfOk result (λ q. q ≡ kept_query self.now.sql no_arguments) }
+        ensures memory { IfErr result (λ e. e ≡ Error.OutOfMemory) }
+    {
+        Query::new(alloc, self.sql())
+    }
+
+    /// The same with these arguments. `TypeNotFound` comes exactly where one of their types has no OID, but for want of memory.
+    pub fn query_with(&self, alloc: Global, arguments: &PgArguments) -> Result<Query, Error>
+        ensures query { IfOk result (λ q. q ≡ kept_query self.now.sql (sent_as arguments.now)) }
+        ensures values { IfOk result (λ q. AsksWith arguments.now q.arguments) }
+        ensures known { OnOk result (missing_type arguments.now ≡ None) }
+        ensures cause { IfErr result (RefusesType (missing_type arguments.now)) }
+    {
+        Query::with(alloc, self.sql(), arguments)
     }
 
     /// An equal value. Only want of memory refuses it.

@@ -3,6 +3,7 @@
 //! The type of the request is a parameter, which is left at `Request`: so the contract of the drop can say what is left of the connection.
 
 mod begin;
+mod clear_cached_statements;
 mod close;
 mod commit;
 mod execute;
@@ -18,6 +19,7 @@ mod prepare;
 mod rollback;
 
 pub use begin::Begin;
+pub use clear_cached_statements::ClearCachedStatements;
 pub use close::Close;
 pub use commit::{Commit, commit_request};
 pub use execute::Execute;

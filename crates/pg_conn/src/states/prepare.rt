@@ -1,7 +1,7 @@
 ghost use Rattle.std.specs.Prelude.{◌≡◌, false, None, Some};
 ghost use Rattle.pg_call.specs.declared.kind.Kind.TheVariants as kinds;
 ghost use Rattle.pg_conn.specs.Connections.{seen_by, begun_by, is_over, left_by};
-ghost use Rattle.pg_conn.specs.States.{IsCalling, PollsPrepare, StaysPreparing, to_prepare};
+ghost use Rattle.pg_conn.specs.States.{IsCalling, PollsPrepare, StaysPreparing, to_prepare, untyped};
 
 use crate::{PgConnection, PgStatement, Preparation, Request};
 use pg_call::{Keeping, Prepared};
@@ -32,10 +32,21 @@ fn request_of(alloc: Global, preparation: Preparation) -> Request
 }
 
 impl<L> PgConnection<L> {
-    /// Prepares a statement, and asks what it takes and gives: the types of its parameters and the columns of its rows. The caller may say the types
-    /// of the first parameters; the server finds each that the caller doesn't say. Nothing of the statement is kept at the server's side under a
-    /// name, unless statements are kept. (PostgreSQL manual, "Message Flow", "Extended Query".)
-    pub fn prepare(&mut self, preparation: Preparation) -> Prepare<'_, L>
+    /// Prepares a statement, and asks what it takes and gives: the types of its parameters, which the server finds, and the columns of its rows.
+    /// Nothing of the statement is kept at the server's side under a name, unless statements are kept.
+    /// (PostgreSQL manual, "Message Flow", "Extended Query".)
+    pub fn prepare(&mut self, sql: Text) -> Prepare<'_, L>
+        ensures same { result.conn.ghost_name ≡ self.entry.ghost_name }
+        ensures conn { result.conn.now ≡ self.old }
+        ensures request { result.request ≡ Some (to_prepare (untyped sql)) }
+        ensures calling { IsCalling kinds.Prepare (begun_by result.request result.conn.now) }
+    {
+        let types = Oids::new(self.alloc);
+        self.prepare_with(Preparation { sql, types })
+    }
+
+    /// The same where the caller says the types of the first parameters; the server finds each that the caller doesn't say.
+    pub fn prepare_with(&mut self, preparation: Preparation) -> Prepare<'_, L>
         ensures same { result.conn.ghost_name ≡ self.entry.ghost_name }
         ensures conn { result.conn.now ≡ self.old }
         ensures request { result.request ≡ Some (to_prepare preparation) }
