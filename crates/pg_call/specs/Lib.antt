@@ -5,3 +5,4 @@ pub mod Replies
 pub mod Drains
 pub mod Hearing
 pub mod Calls
+pub mod Sums

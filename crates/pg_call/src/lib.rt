@@ -27,7 +27,7 @@ pub use format::refuse;
 pub use judging::{News, Part, Verdict, judge};
 pub use kind::{Change, How, Keeping, Kind};
 pub use ledger::Ledger;
-pub use query_result::PgQueryResult;
+pub use query_result::{AnyQueryResult, PgQueryResult, any_result};
 pub use reply::{Heard, Reply};
 pub use request::{Request, Sort};
 pub use rollback::rollback_frame;

@@ -14,6 +14,10 @@ info = codes "SQLx (Rust) Postgres advisory lock"
 abbrev pub number_of_text : List ℕ → ℤ
 number_of_text text = cast_signed w64 (from_le_bytes w64 (hkdf8 text info))
 
+-- that number in decimal digits, on a line of its own
+abbrev pub key_line : List ℕ → List ℕ
+key_line text = signed_decimal (number_of_text text) ++ codes "\n"
+
 abbrev pub as_bigint : PgAdvisoryLockKey → Option ℤ
 as_bigint (BigInt number) = Some number
 as_bigint (IntPair first second) = None

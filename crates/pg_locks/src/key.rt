@@ -15,20 +15,29 @@ pub enum PgAdvisoryLockKey {
     IntPair(i32, i32),
 }
 
+// The first eight bytes that HKDF over SHA-256 (RFC 5869) expands from a text, read from the low byte on.
+#[tactic(auto, unfolding(crate::specs::Locks::info))]
+pub(crate) fn number_of_text(alloc: Global, text: &str) -> Result<i64, Error>
+    ensures value { IfOk result (λ number. number ≡ number_of_text text.now) }
+    ensures memory { IfErr result (λ e. e ≡ OutOfMemory) }
+{
+    let bytes = hkdf8(
+        alloc,
+        text.as_bytes(),
+        b"SQLx (Rust) Postgres advisory lock",
+    )?;
+    Ok(i64::from_le_bytes(bytes))
+}
+
 impl PgAdvisoryLockKey {
     /// The key that stands for a text, the same one on every machine: the first eight bytes that HKDF over SHA-256 (RFC 5869)
     /// expands from it, read from the low byte on. Only want of memory refuses it.
-    #[tactic(auto, unfolding(crate::specs::Locks::info))]
     pub fn from_text(alloc: Global, text: &str) -> Result<Self, Error>
         ensures value { IfOk result (λ key. key ≡ BigInt (number_of_text text.now)) }
         ensures memory { IfErr result (λ e. e ≡ OutOfMemory) }
     {
-        let bytes = hkdf8(
-            alloc,
-            text.as_bytes(),
-            b"SQLx (Rust) Postgres advisory lock",
-        )?;
-        Ok(PgAdvisoryLockKey::BigInt(i64::from_le_bytes(bytes)))
+        let number = number_of_text(alloc, text)?;
+        Ok(PgAdvisoryLockKey::BigInt(number))
     }
 
     /// The number of 64 bits, where the key is one.

@@ -4,6 +4,10 @@
 #![tactic(auto)]
 
 mod key;
+mod line;
+mod lock;
 mod queries;
 
 pub use key::PgAdvisoryLockKey;
+pub use line::key_line;
+pub use lock::PgAdvisoryLock;

@@ -13,3 +13,4 @@ pub mod OrderLaws
 pub mod NullableLaws
 pub mod TableLaws
 pub mod EndLaws
+pub mod MarkLaws

@@ -12,3 +12,4 @@ pub mod Rounds
 pub mod Columns
 pub mod Nullable
 pub mod Tables
+pub mod Marks

@@ -4,12 +4,14 @@
 //! two codes, the OIDs of element, base and subtype, its labels and its attributes; a minus stands for none. `forget` forgets all rows.
 //! `take` takes the rows with these OIDs in this order. `serve` asks for a type and answers each lookup by the rows that it asks. `text`
 //! writes a lookup, and `columns` a column lookup. `names` takes rows of a column lookup, behind a semicolon each, and tells names of columns.
-//! `nullable` writes the query that asks of so many columns whether they may be null. The line is written with what came of it behind it.
+//! `nullable` writes the query that asks of so many columns whether they may be null, and `plan` marks a query's outputs by its plan. The line is
+//! written with what came of it behind it.
 #![tactic(auto)]
 
 mod columns;
 mod described;
 mod kinds;
+mod plans;
 mod rows;
 mod types;
 
@@ -33,6 +35,7 @@ fn played(alloc: Global, rows: &mut Vec<Text>, verb: &str, rest: &str) -> Result
         "columns" => columns::lookup(alloc, rest),
         "names" => columns::names(alloc, rest),
         "nullable" => described::nullable(alloc, rest),
+        "plan" => plans::walk(alloc, rest),
         _ => Ok(String::from_str(alloc, "no such case")?),
     }
 }

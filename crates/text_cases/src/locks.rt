@@ -1,14 +1,12 @@
-use pg_locks::PgAdvisoryLockKey;
+use pg_locks::{PgAdvisoryLock, PgAdvisoryLockKey, key_line};
 use pg_wire::Error;
 use std::alloc::{AllocError, Global};
 
-// The number that stands for a text.
+// The key of a text's lock, and the line that tells it.
 pub(crate) fn key_of_text(alloc: Global, text: &str) -> Result<String, Error> {
-    let key = PgAdvisoryLockKey::from_text(alloc, text)?;
-    Ok(match key.as_bigint() {
-        Some(number) => format!(in alloc; "{number}")?,
-        None => String::from_str(alloc, "no number")?,
-    })
+    let lock = PgAdvisoryLock::new(alloc, text)?;
+    let line = key_line(alloc, text)?;
+    Ok(format!(in alloc; "{:?} {line:?}", lock.key())?)
 }
 
 // A number, or two with a comma between them.
@@ -23,9 +21,10 @@ fn key(row: &str) -> PgAdvisoryLockKey {
 
 // The texts of a key; the row is the key.
 pub(crate) fn lock_texts(alloc: Global, row: &str) -> Result<String, AllocError> {
-    let key = key(row);
+    let lock = PgAdvisoryLock::with_key(key(row));
+    let key = lock.key();
     let query = key.unlock_query();
-    let (lock, try_lock) = (key.lock_statement(), key.try_lock_statement());
+    let (wait, try_lock) = (key.lock_statement(), key.try_lock_statement());
     let unlock = key.unlock_statement();
-    format!(in alloc; "{lock} | {try_lock} | {unlock} | {}", query.as_str())
+    format!(in alloc; "{wait} | {try_lock} | {unlock} | {}", query.as_str())
 }

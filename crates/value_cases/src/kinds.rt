@@ -36,6 +36,10 @@ pub enum Tried {
     /// A column of a row by its place or name; of a row that has fewer values than columns.
     Row,
     ShortRow,
+    /// The kind of a type that drivers of several databases have in common; a row in such forms.
+    AnyKind,
+    AnyText,
+    AnyBinary,
 }
 
 #[derive(Clone, Copy, PartialEq)]
@@ -61,7 +65,10 @@ enum Kind {
     Unknown,
 }
 
-static TRIED: [(&str, Tried); 14] = [
+static TRIED: [(&str, Tried); 17] = [
+    ("anykind", Tried::AnyKind),
+    ("anytext", Tried::AnyText),
+    ("anybinary", Tried::AnyBinary),
     ("columns", Tried::Columns),
     ("textrow", Tried::TextRow),
     ("binaryrow", Tried::BinaryRow),

@@ -1,11 +1,12 @@
 //! Cases of types, arguments and values.
 //!
 //! Each line of standard input is a row: a word that says what is tried, a word for a type, and a value's bytes in hexadecimal or
-//! `null`. The row is written with what came of it behind it.
+//! `null`; of generic forms the OIDs of one type or more, and as many values. The row is written with what came of it behind it.
 #![tactic(auto)]
 
 mod columns;
 mod digests;
+mod generic;
 mod given;
 mod iterators;
 mod kinds;
@@ -48,6 +49,9 @@ fn answer(alloc: Global, row: &str) -> Result<String, AllocError> {
         Tried::Columns => columns::find(alloc, kind),
         Tried::Row => play_columns(alloc, false, kind),
         Tried::ShortRow => play_columns(alloc, true, kind),
+        Tried::AnyKind => generic::play_kind(alloc, kind),
+        Tried::AnyText => generic::play(alloc, PgValueFormat::Text, kind, bytes),
+        Tried::AnyBinary => generic::play(alloc, PgValueFormat::Binary, kind, bytes),
         tried if bytes == "null" => play_value(alloc, tried, kind, None),
         tried => match hex::decode(alloc, bytes) {
             Ok(bytes) => play_value(alloc, tried, kind, Some(&bytes)),

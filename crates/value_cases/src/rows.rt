@@ -11,9 +11,14 @@ use std::fmt::Debug;
 const COLUMNS: &[u8] =
     b"\0\x03a\0\0\0\x40\0\0\x01\0\0\0\x19\xff\xff\xff\xff\xff\xff\0\0b\0\0\0\0\0\0\0\0\0\0\x19\xff\xff\xff\xff\xff\xff\0\0a\0\0\0\x40\0\0\x02\0\0\0\x19\xff\xff\xff\xff\xff\xff\0\0";
 
-// A row under these columns.
-fn row_of(alloc: Global, format: PgValueFormat, body: &[u8]) -> Result<PgRow, Error> {
-    let description = decode_row_description(alloc, COLUMNS)?;
+/// A row under these columns.
+pub fn row_of(
+    alloc: Global,
+    columns: &[u8],
+    format: PgValueFormat,
+    body: &[u8],
+) -> Result<PgRow, Error> {
+    let description = decode_row_description(alloc, columns)?;
     let columns = PgColumns::described(alloc, &description)?;
     let heading = Heading {
         columns: Some(columns),
@@ -22,18 +27,24 @@ fn row_of(alloc: Global, format: PgValueFormat, body: &[u8]) -> Result<PgRow, Er
     Ok(PgRow::new(decode_data_row(alloc, body)?, heading))
 }
 
-// A row of one value.
-fn single(alloc: Global, format: PgValueFormat, value: Option<&[u8]>) -> Result<PgRow, Error> {
-    let mut body = Blob::from_slice(alloc, b"\0\x01")?;
+/// Adds a value behind its length.
+pub fn append_value(out: &mut Blob, value: Option<&[u8]>) -> Result<(), Error> {
     match value {
         Some(value) => {
             let len = u32::try_from(value.len()).unwrap_or(u32::MAX);
-            body.append(&len.to_be_bytes())?;
-            body.append(value)?;
+            out.append(&len.to_be_bytes())?;
+            out.append(value)?;
         }
-        None => body.append(b"\xff\xff\xff\xff")?,
+        None => out.append(b"\xff\xff\xff\xff")?,
     }
-    row_of(alloc, format, body.as_bytes())
+    Ok(())
+}
+
+// A row of one value.
+fn single(alloc: Global, format: PgValueFormat, value: Option<&[u8]>) -> Result<PgRow, Error> {
+    let mut body = Blob::from_slice(alloc, b"\0\x01")?;
+    append_value(&mut body, value)?;
+    row_of(alloc, COLUMNS, format, body.as_bytes())
 }
 
 // The value of a row that has it alone.
@@ -101,7 +112,7 @@ fn texts(alloc: Global, is_short: bool) -> Result<PgRow, Error> {
     } else {
         b"\0\x03\0\0\0\x011\0\0\0\x012\0\0\0\x013"
     };
-    row_of(alloc, PgValueFormat::Text, body)
+    row_of(alloc, COLUMNS, PgValueFormat::Text, body)
 }
 
 fn tell_column(alloc: Global, row: &PgRow, place: usize) -> Result<String, AllocError> {

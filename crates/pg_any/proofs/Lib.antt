@@ -1,0 +1,2 @@
+pub mod AnyLaws
+pub mod RowLaws
