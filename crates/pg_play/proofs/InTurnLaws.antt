@@ -325,7 +325,7 @@ turns_on start first old at a m step call next b p z l h =
     let frames : heard t.next.frames ≡ heard at.frames ++ heard h.fs = ap heard t.settles.frames ∙ heard-append at.frames h.fs in
     let knows : t.next.rule ≡ held_by rule next = sym t.stands.rule in
     let keeps : Keeps t.next = keeps_next at mid t.next exchange (told_in c) t.out c.one t.settles b.keeps b.sound
-        (λ x is y. described_so start at t.next a m at.rule.depth call x s.own t.settles.cleanup h.said (heard h.fs) response st is whole n.one frames f (sym same) h.can) in
+    (λ x is y. described_so start at t.next a m at.rule.depth call x s.own t.settles.cleanup h.said (heard h.fs) response st is whole n.one frames f (sym same) h.can) in
     let asks = n.asks t.next.rule.depth in
     let closed = λ (v : Eviction) (is : call ≡ calls.Evict v). closes_known at t.next call v s.own response is (subst (λ (y : Call). IsSound at.rule y) is b.sound) t.settles.rule in
     let known : KnownAt (widths_of (asked_from m next)) t.next = known_next rule start at t.next a (held_conn m next) at.rule.depth call next h.said (heard h.fs) [] st t.stands keeps groups frames closed h.ends.0 in

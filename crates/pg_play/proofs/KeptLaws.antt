@@ -235,7 +235,7 @@ closes_last rule new last a o full held is after =
         new_name newest.0 numbers.1.0 below.1.0,
         each_by (λ e. ((0 < e.statement) × (e.statement < rule.next)) × (statement_name e.statement ≢ statement_name last.statement)) (λ e. name_of e.statement ≢ name_of last.statement)
             (λ e h same. h.1 (sym (named_some e.statement h.0.0) ∙ same ∙ named_some last.statement numbers.1.0.0)) p.0
-            (each_two (λ e. (0 < e.statement) × (e.statement < rule.next)) (λ e. statement_name e.statement ≢ statement_name last.statement) p.0 numbers.0 apart)
+            (each_two (λ e. (0 < e.statement) × (e.statement < rule.next)) (λ e. statement_name e.statement ≢ statement_name last.statement) p.0 numbers.0 apart),
       );
       after = subst (λ (c : Statements). IsAfter (record rule { cache = c }) a) (sym kept_are) (after p.0);
     }

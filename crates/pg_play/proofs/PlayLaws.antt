@@ -304,10 +304,10 @@ quiet_step start at a step out end st kept later f k q one none dropped duly =
       cleanup = [];
       cleans = rw none (sym (cleanup_polled at.rule.depth (first_call at.rule step.call) out.end [] (owed at) waits));
       rule = sym (
-        ap (λ (o : Option Request). held_after o (statements_after (keeping_of (request_of at.rule.depth call)) (has_moved one.own out.end) (with_depth (depth_after at.rule.depth call out.end) at.rule))) (none_handed out.end call one.told.response (ap is_fine ends_so ∙ f))
-        ∙ ap₂ (λ (b : Bool) (n : ℕ). statements_after (keeping_of (request_of at.rule.depth call)) b (with_depth n at.rule)) made (depth_other at.rule.depth call out.end (ap is_fine ends_so ∙ f) waits)
-        ∙ first_unmoved at.rule at.rule.depth step.call
-      );
+          ap (λ (o : Option Request). held_after o (statements_after (keeping_of (request_of at.rule.depth call)) (has_moved one.own out.end) (with_depth (depth_after at.rule.depth call out.end) at.rule))) (none_handed out.end call one.told.response (ap is_fine ends_so ∙ f))
+          ∙ ap₂ (λ (b : Bool) (n : ℕ). statements_after (keeping_of (request_of at.rule.depth call)) b (with_depth n at.rule)) made (depth_other at.rule.depth call out.end (ap is_fine ends_so ∙ f) waits)
+          ∙ first_unmoved at.rule at.rule.depth step.call
+          );
       said = sym (append-nil at.said);
       groups = sym (append-nil at.groups);
       seen = ap (λ (u : List ℕ). record at.seen { unsent = u }) (sym (append-nil at.seen.unsent));

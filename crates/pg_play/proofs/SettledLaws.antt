@@ -510,9 +510,9 @@ settles_call start at mid m step told one a st small groups change keeping = by 
         settles_plain start at mid m step told one.own response (held_after o (settled m).rule) (settled m).cache st (room_held o (settled m) (all_settled m st.room)) counts
         (ok_cleans_none at.rule.depth step.call one.own ∙ ap (λ (b : Bool). cleanup_by at.rule.depth step.call b one.own) (sym f) ∙ sym (cleanup_polled at.rule.depth step.call told.end one.own (owed mid) a))
         (fine_makes at m step told one.own response same keeping f (
-          ap (λ (c : Change). depth_behind c m.groups m.rule.depth) change
-          ∙ ap (λ (n : ℕ). depth_behind (change_of (kind_of (request_of at.rule.depth step.call))) m.groups n) depth_is
-          ∙ depth_ok at.rule.depth step.call m.groups told.end f a (λ b. some_groups (length one.own) m.groups (length_some one.own (λ n. begins_one at.rule.depth step.call b (sym (fine_has told.end _ one.own f one.queued.asks) ∙ n))) groups)
+        ap (λ (c : Change). depth_behind c m.groups m.rule.depth) change
+        ∙ ap (λ (n : ℕ). depth_behind (change_of (kind_of (request_of at.rule.depth step.call))) m.groups n) depth_is
+        ∙ depth_ok at.rule.depth step.call m.groups told.end f a (λ b. some_groups (length one.own) m.groups (length_some one.own (λ n. begins_one at.rule.depth step.call b (sym (fine_has told.end _ one.own f one.queued.asks) ∙ n))) groups)
         ))
 
     other : is_fine told.end ≡ false → (b : Bool) → may_open m.change m.groups m.rule.depth ≡ b → SettlesTo start at step told one.own response mid m (record (cleaned m) { rule = held_after o (cleaned m).rule })

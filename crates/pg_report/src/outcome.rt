@@ -18,10 +18,7 @@ pub enum Answer {
     Unit,
     Total(u64),
     /// The types of a statement's parameters, and what was told of its columns.
-    Described {
-        parameters: Oids,
-        fields: PgColumns,
-    },
+    Described { parameters: Oids, fields: PgColumns },
     Held(bool),
 }
 

@@ -42,10 +42,7 @@ pub enum Call {
 }
 
 // The same numbers again.
-fn copied(
-    alloc: Global,
-    statements: &Sequence<StatementId>,
-) -> Result<Sequence<StatementId>, Error>
+fn copied(alloc: Global, statements: &Sequence<StatementId>) -> Result<Sequence<StatementId>, Error>
     ensures copy { IfOk result (λ s. s ≡ statements.now) }
     ensures memory { IfErr result (λ e. e ≡ Error.OutOfMemory) }
 {
