@@ -2,7 +2,7 @@
 
   instructions.py PROGRAM [UNIT ..]
 
-Each unit (`steps`, `execute`, `fetch`, `fetch_all`, and each of the last three with `4` behind for rows of four int columns) is
+Each unit (`steps`, `queries`, `execute`, `fetch`, `fetch_all`, and each of the last three with `4` behind for rows of four int columns) is
 played at two sizes under valgrind's callgrind, and what is printed is the slope: instructions for each step or row more. `script`
 is that of reading the script, for each byte of it, over the script of `steps`. Below each unit stand the crates, each with what it
 calls in the standard library and the C library, and then the functions that take most by themselves.
@@ -17,14 +17,14 @@ import tempfile
 sys.dont_write_bytecode = True
 import scripts
 
-SIZES = {'steps': (1000, 2000)}
+SIZES = {'steps': (1000, 2000), 'queries': (1000, 2000)}
 ROWS = (4000, 8000)
-UNITS = ['steps', 'execute', 'fetch', 'fetch_all', 'execute4', 'fetch4', 'fetch_all4']
+UNITS = ['steps', 'queries', 'execute', 'fetch', 'fetch_all', 'execute4', 'fetch4', 'fetch_all4']
 
 
 def text_of(unit, size):
-    if unit == 'steps':
-        return scripts.script('steps', size)
+    if unit in SIZES:
+        return scripts.script(unit, size)
     call = unit.rstrip('4')
     return scripts.script('rows', size, call, '4' if unit.endswith('4') else '1')
 
@@ -102,7 +102,7 @@ def entered(profile, crate):
 def tell(program, unit):
     profile, units, size = slope(program, unit)
     print(f'{unit}: {sum(profile.own.values()) / units:.0f} for each')
-    if unit == 'steps':
+    if unit in SIZES:
         print(f'  script: {entered(profile, "pg_script") / size:.1f} for each of {size / units:.0f} bytes a step')
         print(f'  report: {entered(profile, "pg_report") / units:.0f} for each')
     for crate, cost in shares(profile).most_common():

@@ -1,6 +1,7 @@
 """Writes a long script to standard output.
 
   scripts.py steps N                  N calls, each with a reply of its own
+  scripts.py queries N                one call that prepares a text, and N that find its statement kept, with the reply of `steps`
   scripts.py rows N [CALL [COLUMNS]]  one call, `execute` if none is said, whose reply has N rows of so many int columns, one if
                                       no number is said, each row a piece of its own
 """
@@ -27,6 +28,7 @@ def row(values):
     return message(b'D', struct.pack('>h', len(values)) + b''.join(struct.pack('>i', len(v)) + v for v in values))
 
 
+PARSED, BOUND, CLOSED = (message(tag, b'') for tag in (b'1', b'2', b'3'))
 READY = message(b'Z', b'I')
 GREETING = message(b'R', struct.pack('>i', 0)) + READY
 END = message(b'C', b'SELECT 1\0') + READY
@@ -42,6 +44,12 @@ def steps(count):
     return (server(fields(NAMES[:1]) + row(VALUES[:1]) + END) + 'step 9 fetch_all raw "SELECT 1"\n') * count
 
 
+def queries(count):
+    step = 'step 9 fetch_all query "SELECT 1"\n'
+    first = server(PARSED + message(b't', b'\0\0') + fields(NAMES[:1]) + READY) + step.replace('fetch_all query', 'prepare')
+    return first + (server(BOUND + row(VALUES[:1]) + END[:-len(READY)] + CLOSED + READY) + step) * count
+
+
 def rows(count, call='execute', columns='1'):
     many = int(columns)
     return (server(fields(NAMES[:many])) + server(row(VALUES[:many])) * count + server(END)
@@ -49,7 +57,7 @@ def rows(count, call='execute', columns='1'):
 
 
 def script(kind, count, *more):
-    return 'user "u"\n' + server(GREETING) + {'steps': steps, 'rows': rows}[kind](count, *more)
+    return 'user "u"\n' + server(GREETING) + {'steps': steps, 'queries': queries, 'rows': rows}[kind](count, *more)
 
 
 if __name__ == '__main__':

@@ -1,11 +1,11 @@
 //! Each kind of call by its own state: it is polled, and dropped.
 
 use either::Either;
-use pg_conn::{PgConnection, PgQueryResult, PgRow, Query};
+use pg_conn::{PgConnection, PgQueryResult, PgRow, PgStatement, Preparation, Query};
 use pg_guards::PgTransactionManager;
 use pg_script::{Call, Step};
 use pg_stream::MemoryLink;
-use pg_wire::{Error, Poll, Sequence, Text};
+use pg_wire::{CallerFault, Error, Poll, ProtocolFault, Sequence, Text};
 use std::alloc::Global;
 
 type Connection = PgConnection<MemoryLink>;
@@ -15,6 +15,7 @@ type Connection = PgConnection<MemoryLink>;
 pub(crate) enum Answer {
     Waits,
     Rows(u64),
+    NoNumber,
     Fails,
 }
 
@@ -24,6 +25,7 @@ pub(crate) enum Stand {
     Waits,
     Shows(u64),
     Ends(u64),
+    NoNumber,
     Fails,
 }
 
@@ -32,6 +34,7 @@ pub(crate) fn stand_of(answer: Answer, is_finished: bool) -> Stand {
         Answer::Waits if !is_finished => Stand::Waits,
         Answer::Rows(rows) if is_finished => Stand::Ends(rows),
         Answer::Rows(rows) => Stand::Shows(rows),
+        Answer::NoNumber if is_finished => Stand::NoNumber,
         _ => Stand::Fails,
     }
 }
@@ -136,6 +139,30 @@ fn row_or_none(answer: Poll<Option<Option<PgRow>>>) -> Answer {
     }
 }
 
+// A statement, with its columns counted.
+fn statement(answer: Poll<Result<PgStatement, Error>>) -> Answer {
+    match answer {
+        Poll::Pending => Answer::Waits,
+        Poll::Ready(Ok(statement)) => {
+            let columns = statement.columns().len() as u64;
+            drop(statement);
+            Answer::Rows(columns)
+        }
+        Poll::Ready(Err(error)) => {
+            let is_out = matches!(
+                &error,
+                Error::Protocol(ProtocolFault::Caller(CallerFault::NoStatementNumber))
+            );
+            drop(error);
+            if is_out {
+                Answer::NoNumber
+            } else {
+                Answer::Fails
+            }
+        }
+    }
+}
+
 fn execute(conn: &mut Connection, query: Query) -> Stand {
     let mut call = conn.execute(query);
     let answer = count(settled(call.poll()));
@@ -220,6 +247,18 @@ fn commit(conn: &mut Connection) -> Stand {
 
 fn rollback(conn: &mut Connection) -> Stand {
     let mut call = conn.rollback();
+    let answer = unit(settled(call.poll()));
+    stand_of(answer, call.is_finished())
+}
+
+fn prepare(conn: &mut Connection, preparation: Preparation) -> Stand {
+    let mut call = conn.prepare_with(preparation);
+    let answer = statement(call.poll());
+    stand_of(answer, call.is_finished())
+}
+
+fn clear(conn: &mut Connection) -> Stand {
+    let mut call = conn.clear_cached_statements();
     let answer = unit(settled(call.poll()));
     stand_of(answer, call.is_finished())
 }
@@ -312,6 +351,8 @@ fn play_once(alloc: Global, conn: &mut Connection, call: Call) -> Stand {
         Call::Commit => commit(conn),
         Call::Rollback => rollback(conn),
         Call::StartRollback => start_rollback(conn),
+        Call::Prepare(preparation) => prepare(conn, preparation),
+        Call::Clear => clear(conn),
         other => {
             drop(other);
             Stand::Fails

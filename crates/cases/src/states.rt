@@ -5,6 +5,7 @@ use crate::calls::{Stand, close, keep, play_step, settled};
 use crate::case::{entry, script};
 use crate::guards::{give_up, transact};
 use crate::options::options;
+use pg_conn::laws::at_statement;
 use pg_conn::{PgConnection, establish};
 use pg_options::PgConnectOptions;
 use pg_script::{Script, Step, read_script};
@@ -59,6 +60,7 @@ fn push_stand(told: &mut String, stand: Stand) -> Result<(), AllocError> {
         Stand::Waits => told.push_str("waits\n"),
         Stand::Shows(rows) => write!(told, "shows {rows}\n"),
         Stand::Ends(rows) => write!(told, "ends {rows}\n"),
+        Stand::NoNumber => told.push_str("no number\n"),
         Stand::Fails => told.push_str("fails\n"),
     }
 }
@@ -99,10 +101,17 @@ fn drop_commit(mut conn: Connection) -> Stand {
     close_where(conn, is_so, last)
 }
 
+fn close_behind_the_last_number(conn: Connection) -> Stand {
+    let last =
+        b"P\x00\x00\x00\x1asqlx_s_4294967295\x00a\x00\x00\x00D\x00\x00\x00\x17Ssqlx_s_4294967295\x00S\x00\x00\x00\x04X\x00\x00\x00\x04";
+    close(conn, last)
+}
+
 // What is done with a connection behind its steps.
 fn leave(conn: Connection, case: &str) -> Option<Stand> {
     match entry(case, "then") {
         Some("close") => Some(close(conn, b"X\x00\x00\x00\x04")),
+        Some("close behind the last number") => Some(close_behind_the_last_number(conn)),
         Some("drop a savepoint") => Some(drop_savepoint(conn)),
         Some("drop a commit") => Some(drop_commit(conn)),
         Some(_) => Some(keep(conn)),
@@ -127,6 +136,14 @@ fn play_over(
     }
 }
 
+// Where the case says so, the connection gives its last number next.
+fn numbered(conn: Connection, case: &str) -> Connection {
+    match entry(case, "next") {
+        Some(_) => at_statement(conn, u32::MAX),
+        None => conn,
+    }
+}
+
 // The link that a script says.
 fn link(alloc: Global, script: &mut Script) -> MemoryLink {
     let reads = mem::replace(&mut script.events, Sequence::new(alloc));
@@ -144,7 +161,7 @@ fn play_script(
     let steps = mem::replace(&mut script.steps, Sequence::new(alloc)).into_vec();
     drop(script);
     match connect(alloc, link) {
-        Some(conn) => play_over(alloc, conn, case, steps, told),
+        Some(conn) => play_over(alloc, numbered(conn, case), case, steps, told),
         None => {
             drop(steps);
             Ok(())

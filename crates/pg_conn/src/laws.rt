@@ -1,5 +1,5 @@
 //! What follows from the definitions of this crate, each law as the contract of a function that does nothing.
-ghost use Rattle.std.specs.Prelude.{◌≡◌, ◌≤◌, ◌<◌, ◌-◌, ◌^◌, ℕ, [], None, Some, true, false};
+ghost use Rattle.std.specs.Prelude.{◌≡◌, ◌<◌, ◌-◌, ◌^◌, ℕ, max, [], None, Some, true, false};
 ghost use Rattle.futures.specs.declared.task.Poll.{Poll};
 ghost use Rattle.pg_call.specs.declared.answer.Turn.{Turn};
 ghost use Rattle.pg_call.specs.declared.kind.Kind.{Kind};
@@ -73,12 +73,12 @@ pub fn a_connection_has_room_for_its_rollbacks()
     ensures fresh { (capacity : ℕ) (stream : StreamSeen) (sent read : ℕ) → HasAllRoom (fresh_connection capacity stream sent read) }
 {}
 
-/// The same connection, whose next statement with a name gets this number: so a caller can see what becomes of the last numbers.
+/// The same connection, whose next statement with a name gets this number, unless a greater one is due: so a caller can see what becomes of the last
+/// numbers.
 pub fn at_statement<L: Link>(conn: PgConnection<L>, number: u32) -> PgConnection<L>
-    requires { conn.rule.next ≤ number }
-    ensures { result ≡ record conn { rule = record conn.rule { next = number } } }
+    ensures { result ≡ record conn { rule = record conn.rule { next = max conn.rule.next number } } }
 {
     let mut conn = conn;
-    conn.rule.next = u64::from(number);
+    conn.rule.next = conn.rule.next.max(u64::from(number));
     conn
 }
