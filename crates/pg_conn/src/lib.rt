@@ -23,7 +23,7 @@ mod states;
 pub use connection::PgConnection;
 pub use dial::{Dial, DialFailed, MemoryDial};
 pub use establishing::establish;
-pub use pg_call::{CallAnswer, CallItem, PgQueryResult, Request, Turn};
+pub use pg_call::{AnyQueryResult, CallAnswer, CallItem, PgQueryResult, Request, Turn, any_result};
 pub use pg_columns::{ColumnOrigin, PgColumn};
 pub use pg_request::{CacheStep, Preparation, Progress, Query};
 pub use pg_rows::PgRow;

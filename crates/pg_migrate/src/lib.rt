@@ -19,6 +19,7 @@ pub use checksum::generate_lock_id;
 pub use clock::Clock;
 pub use memory_clock::MemoryClock;
 pub use migration::{AppliedMigration, MigrateError, Migration};
+pub use quoting::put_quoted;
 pub use spans::{as_int8, elapsed};
 pub use system_clock::SystemClock;
 pub use texts::{

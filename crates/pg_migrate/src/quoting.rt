@@ -34,9 +34,9 @@ fn put_all_doubled(out: &mut String, mark: char, text: &str) -> Result<(), Alloc
     Ok(())
 }
 
-// A text between two marks.
+/// Adds a text between two marks, with each mark in it doubled. (PostgreSQL manual, "Identifiers and Key Words", "String Constants".)
 #[tactic(auto, using(crate::proofs::QuoteLaws::quoted_put))]
-pub(crate) fn put_quoted(out: &mut String, mark: char, text: &str) -> Result<(), AllocError>
+pub fn put_quoted(out: &mut String, mark: char, text: &str) -> Result<(), AllocError>
     requires { mark < 128 }
     ensures { OnOk result (string_bytes out.new ≡ string_bytes out.old ++ quoted mark text.now) }
 {
