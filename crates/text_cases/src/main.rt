@@ -1,4 +1,5 @@
-//! Cases of connect options, of what a client answers to prove a password, of advisory locks, of scripts, of reports and of migrations.
+//! Cases of connect options, of what a client answers to prove a password, of advisory locks, of listeners, of
+//! scripts, of reports and of migrations.
 //!
 //! Each line of standard input is a row: a word that says what is tried, and what it is tried on. The row is written with what
 //! came of it behind it. Within a row, the picture of a line feed, tab, unit separator or delete stands for that character.
@@ -7,6 +8,7 @@
 mod calls;
 mod drawing;
 mod failures;
+mod listening;
 mod locks;
 mod migrations;
 mod proving;
@@ -49,6 +51,8 @@ fn lock_answer(alloc: Global, word: &str, rest: &str) -> Result<String, Error> {
     match word {
         "key" => locks::key_of_text(alloc, rest),
         "lock" => Ok(locks::lock_texts(alloc, rest)?),
+        "channel" => listening::channel(alloc, rest),
+        "channels" => listening::channels(alloc, rest),
         _ => report_answer(alloc, word, rest),
     }
 }
