@@ -1,2 +1,3 @@
+pub mod CrossingLaws
 mod SeatLaws
 mod RestLaws

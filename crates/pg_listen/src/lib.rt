@@ -18,5 +18,5 @@ pub use options::PgPoolOptions;
 pub use pg_pool::{PoolSeat, Receipt};
 pub use pg_wire::{PoolAct, PoolEntry};
 pub use pool::PgPool;
-pub use sends::{send_establishing, send_ticket};
+pub use sends::{send_connection, send_establishing, send_ticket, share_pool};
 pub use starting::EstablishPooled;

@@ -1,8 +1,22 @@
-use crate::{EstablishPooled, Ticket};
+use crate::{EstablishPooled, PgPool, PoolConnection, PoolLedger, Ticket};
+
+// What several threads may use at once.
+fn shared<T: Sync>(_x: &T) {}
 
 // What may move to another thread.
 fn sent<T: Send>(x: T) -> T {
     x
+}
+
+/// Threads share a pool, whose connections move between them.
+#[tactic(auto, using(crate::proofs::CrossingLaws::pool_sync))]
+pub fn share_pool<G: PoolLedger + Send + Sync, L: Send>(pool: &PgPool<G, L>) {
+    shared(pool)
+}
+
+#[tactic(auto, using(crate::proofs::CrossingLaws::held_send))]
+pub fn send_connection<L: Send>(held: PoolConnection<L>) -> PoolConnection<L> {
+    sent(held)
 }
 
 pub fn send_ticket(ticket: Ticket) -> Ticket {
