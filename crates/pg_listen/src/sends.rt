@@ -9,12 +9,10 @@ fn sent<T: Send>(x: T) -> T {
 }
 
 /// Threads share a pool, whose connections move between them.
-#[tactic(auto, using(crate::proofs::CrossingLaws::pool_sync))]
 pub fn share_pool<G: PoolLedger + Send + Sync, L: Send>(pool: &PgPool<G, L>) {
     shared(pool)
 }
 
-#[tactic(auto, using(crate::proofs::CrossingLaws::held_send))]
 pub fn send_connection<L: Send>(held: PoolConnection<L>) -> PoolConnection<L> {
     sent(held)
 }

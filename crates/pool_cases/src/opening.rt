@@ -16,7 +16,7 @@ use std::sync::Wait;
 // A poll that answers `Pending` has waited for the link's own time.
 const POLLS: u32 = 1000;
 
-pub(crate) fn dial_error(failed: DialFailed) -> Error {
+fn dial_error(failed: DialFailed) -> Error {
     match failed {
         DialFailed::Fault => Error::Io(IoCause::Fault),
         DialFailed::OutOfMemory => Error::OutOfMemory,
