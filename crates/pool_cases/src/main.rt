@@ -3,18 +3,21 @@
 
 mod opening;
 mod rows;
+mod sharing;
 mod visiting;
 
 use pg_wire::Error;
 use std::alloc::Global;
 use std::io;
 use std::sync::Wait;
+use std::thread::Threads;
 
-fn told<R: Wait>(rt: &R, alloc: Global, row: &str) -> Result<String, Error> {
+fn told<R: Threads + Wait + Sync>(rt: &R, alloc: Global, row: &str) -> Result<String, Error> {
     match row {
         "one" => rows::one(rt, alloc),
         "two" => rows::two(rt, alloc),
         "leave" => rows::leave(rt, alloc),
+        "threads" => sharing::threads(rt, alloc),
         _ => Ok(String::from_str(alloc, "no such case")?),
     }
 }
