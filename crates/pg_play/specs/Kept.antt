@@ -17,7 +17,7 @@ use Rattle.pg_play.specs.Places.{Place}
 abbrev pub named_of : Entry → Named
 named_of e = record { name = name_of e.statement; sql = e.sql; width = length e.columns }
 
--- Internal: one of the groups queued described the statement, the response to it was heard to its end without an error, and no group behind it closes the
+-- One of the groups queued described the statement, the response to it was heard to its end without an error, and no group behind it closes the
 -- statement.
 pub record IsKeptAt (at : Place) (e : Entry) : Type 0 where
   pub before : List Group
@@ -34,7 +34,7 @@ pub record IsKeptAt (at : Place) (e : Entry) : Type 0 where
   pub well : AllByRecursion IsNoError told
   pub columns : described told ≡ e.columns
 
--- Internal: so it is with each that is kept, or is held to be kept.
+-- So it is with each that is kept, or is held to be kept.
 pub record Keeps (at : Place) : Type 0 where
   pub orderly : IsOrderly at.rule
   pub kept : AllByRecursion (IsKeptAt at) (option_to_list at.rule.cache.held ++ at.rule.cache.entries)

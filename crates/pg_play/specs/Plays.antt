@@ -46,7 +46,6 @@ use Rattle.pg_play.specs.Told.{Told, Numbers, CountsTo}
 use Rattle.pg_play.specs.Causes.{HasCause, IsDropped, EndsDuly, KeepsFault, IsFront}
 use Rattle.pg_play.specs.Complete.{WhereFaultless}
 use Rattle.pg_play.specs.Kept.{Keeps, named_of}
-use Rattle.pg_rule.specs.Rules.{IsOrderly}
 use Rattle.pg_exchanges.specs.Keeping.{Keeps as ServerKeeps}
 use Rattle.pg_play.specs.WaitPlaces.{WaitPlaces, LastPlaces}
 
@@ -335,8 +334,8 @@ pub record Plays (opening : Opening) (polls : ℕ) (first last : LinkSeen) (star
   pub counts : NoneFalls first last
   pub place : Place
   pub plays : Plays_from (first_place opening.options.statement_cache_capacity begins) steps outs place
-  -- the statements that are kept have names of their own, and are as many as may be at most
-  pub kept : IsOrderly place.rule
+  -- the statements that are kept have names of their own, are as many as may be at most, and each was described whole, with no Close of it queued since
+  pub kept : Keeps place
   pub bytes : TellsBytes opening first last started place
   -- each message queued has a frame, and the groups are closed request groups
   pub can : AllByRecursion HasFrontendFrame place.said
