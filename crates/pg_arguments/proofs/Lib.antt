@@ -5,3 +5,4 @@ pub mod ArgumentLaws
 pub mod PatchLaws
 pub mod ElementLaws
 pub mod IteratedLaws
+pub mod CrossingLaws

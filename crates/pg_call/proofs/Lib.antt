@@ -11,3 +11,4 @@ pub mod StateLaws
 pub mod WritingLaws
 pub mod RefusalLaws
 pub mod FormatLaws
+pub mod CrossingLaws

@@ -4,3 +4,4 @@ pub mod StateLaws
 pub mod RefusalLaws
 pub mod LedgerLaws
 pub mod StatementLaws
+pub mod CrossingLaws

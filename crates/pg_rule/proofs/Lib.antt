@@ -1,3 +1,4 @@
 pub mod CacheLaws
 pub mod RowLaws
 pub mod OrderLaws
+pub mod CrossingLaws
