@@ -1,0 +1,6 @@
+pub mod BoundLaws
+pub mod FitLaws
+pub mod AskingLaws
+pub mod AnswerLaws
+pub mod CourseLaws
+pub mod LockLaws

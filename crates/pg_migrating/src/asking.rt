@@ -1,0 +1,144 @@
+//! One call on what holds a connection.
+
+ghost use Rattle.std.specs.Prelude.{◌≡◌, ◌≤◌, true, None, Some, is_some, Result};
+ghost use Rattle.pg_wire.specs.declared.error.Error as declared_error;
+ghost use Rattle.pg_call.specs.declared.kind.Kind as declared_kind;
+ghost use Rattle.pg_call.specs.declared.request.Request as declared_request;
+ghost use Rattle.pg_conn.specs.Connections.{ConnOf};
+ghost use Rattle.pg_conn.specs.States.{PollFits};
+ghost use Rattle.pg_migrating.specs.Asking.{CallsFor, CallsQuietly, EndsAs, IsEnd, StandsAt, StaysQuiet, Tells, TellsEnd, asked_by, groups_of, is_asked, left_of, refusal};
+
+use crate::holding;
+use pg_call::{Request, Turn};
+use pg_guards::PgExecutor;
+use pg_wire::{Error, Poll};
+
+/// A call on what is held, which does nothing before its first poll: what it asks, or why there is no request for that.
+pub(crate) struct Asking<C: PgExecutor> {
+    conn: C,
+    question: Option<Result<Request, Error>>,
+}
+
+// What the end of a call without items was.
+fn ended(turn: Turn) -> Result<(), Error>
+    requires { IsEnd turn }
+    ensures { EndsAs turn result }
+{
+    match turn {
+        Turn::Ok(_) => Ok(()),
+        Turn::Err(e) => Err(e),
+        Turn::Item(_) => unreachable!(),
+    }
+}
+
+impl<C: PgExecutor> Asking<C> {
+    pub(crate) fn new(conn: C, question: Result<Request, Error>) -> Self
+        ensures { result ≡ record { conn = conn; question = Some question } }
+    {
+        Asking {
+            conn,
+            question: Some(question),
+        }
+    }
+
+    /// Whether it is still to be polled.
+    pub(crate) fn is_asked(&self) -> bool
+        ensures { result ≡ is_asked self.now.question (C.conn self.now.conn).call }
+    {
+        self.question.is_some() || self.conn.conn_ref().is_running()
+    }
+
+    /// Whether no poll was made yet.
+    pub(crate) fn is_new(&self) -> bool
+        ensures { result ≡ is_some self.now.question }
+    {
+        self.question.is_some()
+    }
+
+    /// How many transactions and savepoints are open.
+    pub(crate) fn depth(&self) -> u64
+        ensures { result ≡ (C.conn self.now.conn).rule.depth }
+    {
+        self.conn.conn_ref().transaction_depth()
+    }
+
+    /// How many groups the call that ran last has queued.
+    pub(crate) fn groups(&self) -> u64
+        ensures { result ≡ groups_of (C.conn self.now.conn) }
+    {
+        self.conn.conn_ref().progress().groups
+    }
+
+    /// Another call comes behind one that has ended.
+    pub(crate) fn ask(&mut self, question: Result<Request, Error>)
+        ensures { self.new ≡ record { conn = self.old.conn; question = Some question } }
+    {
+        self.question = Some(question);
+    }
+
+    // Begins the call where it was not, and tells why it can't be asked.
+    fn begin(&mut self) -> Result<(), Error>
+        ensures conn { self.new.conn ≡ C.with_conn self.old.conn (asked_by self.old.question (C.conn self.old.conn)) }
+        ensures question { self.new.question ≡ None }
+        ensures refusal { result ≡ refusal self.old.question }
+    {
+        match self.question.take() {
+            None => Ok(()),
+            Some(Ok(request)) => {
+                holding::start(&mut self.conn, request);
+                Ok(())
+            }
+            Some(Err(e)) => {
+                holding::abandon(&mut self.conn);
+                Err(e)
+            }
+        }
+    }
+
+    /// Moves the call on, within so many calls of the link, which it takes off.
+    pub(crate) fn poll(&mut self, left: &mut u16) -> Poll<Turn>
+        requires asked { is_asked self.old.question (C.conn self.old.conn).call ≡ true }
+        requires left { left.old ≤ 256 }
+        ensures holder { self.new.conn ≡ C.with_conn self.old.conn (C.conn self.new.conn) }
+        ensures question { self.new.question ≡ None }
+        ensures left { left.new ≤ left.old }
+        ensures tells { (asked : Result declared_request.Request declared_error.Error) (first : ConnOf C.L) → StandsAt C.L.seen asked first self.old.question (C.conn self.old.conn) → Tells C.L.seen asked first (C.conn self.new.conn) result }
+        ensures fits { (kind : declared_kind.Kind) → CallsFor kind self.old.question (C.conn self.old.conn) → PollFits kind (C.conn self.new.conn) result }
+    {
+        match self.begin() {
+            Ok(()) => holding::poll(&mut self.conn, left),
+            Err(e) => Poll::Ready(Turn::Err(e)),
+        }
+    }
+
+    /// The same of a call that shows no items.
+    pub(crate) fn poll_end(&mut self, left: &mut u16) -> Poll<Result<(), Error>>
+        requires asked { is_asked self.old.question (C.conn self.old.conn).call ≡ true }
+        requires left { left.old ≤ 256 }
+        requires quiet { CallsQuietly self.old.question (C.conn self.old.conn) }
+        ensures holder { self.new.conn ≡ C.with_conn self.old.conn (C.conn self.new.conn) }
+        ensures question { self.new.question ≡ None }
+        ensures left { left.new ≤ left.old }
+        ensures tells { (asked : Result declared_request.Request declared_error.Error) (first : ConnOf C.L) → StandsAt C.L.seen asked first self.old.question (C.conn self.old.conn) → TellsEnd C.L.seen asked first (C.conn self.new.conn) result }
+        ensures quiet { StaysQuiet (C.conn self.new.conn) result }
+    {
+        match self.poll(left) {
+            Poll::Pending => Poll::Pending,
+            Poll::Ready(turn) => Poll::Ready(ended(turn)),
+        }
+    }
+
+    /// Hands back what holds the connection: a call that runs is given up, and what was opened is rolled back where that is due.
+    pub(crate) fn into_conn(self, is_open: bool) -> C
+        ensures { result ≡ C.with_conn self.conn (left_of is_open self.question (C.conn self.conn)) }
+    {
+        let Asking { mut conn, question } = self;
+        if is_open {
+            holding::start_rollback(&mut conn);
+        } else if question.is_none() {
+            holding::abandon(&mut conn);
+        }
+        drop(question);
+        conn
+    }
+}

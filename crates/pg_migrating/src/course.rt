@@ -1,0 +1,175 @@
+//! Which step of a migration comes behind which.
+
+ghost use Rattle.std.specs.Prelude.{◌≡◌, false};
+ghost use Rattle.pg_call.specs.declared.kind.How.TheVariants as hows;
+ghost use Rattle.pg_migrating.specs.Courses.{ends_work, first_step, is_open_at, next_step, row_at, statement_at, timed};
+ghost use Rattle.pg_migrating.specs.Requests.{IsRequestOf};
+
+use crate::requests;
+use pg_call::Request;
+use pg_conn::commit_request;
+use pg_migrate::Migration;
+use pg_wire::Error;
+use std::alloc::Global;
+use std::marker::Model;
+
+/// What a migration is run for.
+#[derive(Clone, Copy)]
+pub(crate) enum Way {
+    Apply,
+    Revert,
+}
+
+/// A statement of a migration.
+#[derive(Clone, Copy)]
+pub(crate) enum Step {
+    Begin,
+    Script,
+    Row,
+    Commit,
+    Time,
+}
+
+/// How far a migration has come: the step that is asked, whether a transaction is to be rolled back where that is given up, when it began, and how
+/// long its work took, both in nanoseconds.
+pub(crate) struct Course {
+    pub(crate) step: Step,
+    pub(crate) is_open: bool,
+    pub(crate) start: u64,
+    pub(crate) nanos: u64,
+}
+
+impl Course {
+    /// It begins with this step.
+    pub(crate) fn at(step: Step) -> Self
+        ensures { result ≡ record { step = step; is_open = false; start = 0; nanos = 0 } }
+    {
+        Course {
+            step,
+            is_open: false,
+            start: 0,
+            nanos: 0,
+        }
+    }
+}
+
+impl Drop for Course {
+    fn drop(self) {
+        let Course {
+            step: _,
+            is_open: _,
+            start: _,
+            nanos: _,
+        } = self;
+    }
+}
+
+/// What is to be done.
+pub(crate) struct Work<'m> {
+    pub(crate) way: Way,
+    pub(crate) table: &'m str,
+    pub(crate) migration: &'m Migration,
+}
+
+impl Drop for Work<'_> {
+    fn drop(self) {
+        let Work {
+            way: _,
+            table: _,
+            migration: _,
+        } = self;
+    }
+}
+
+impl<'m> Model for Work<'m> {
+    ghost use Rattle.pg_migrating.specs.Courses.{WorkSeen};
+
+    ghost Value = { WorkSeen };
+
+    ghost view = { λ w. record { way = w.way; table = w.table.now; migration = w.migration.now } };
+}
+
+// The step behind the last one of a transaction.
+fn timed(way: Way) -> Option<Step>
+    ensures { result ≡ timed way }
+{
+    match way {
+        Way::Apply => Some(Step::Time),
+        Way::Revert => None,
+    }
+}
+
+impl Work<'_> {
+    pub(crate) fn first_step(&self) -> Step
+        ensures { result ≡ first_step self.now.migration.no_tx }
+    {
+        if self.migration.no_tx {
+            Step::Script
+        } else {
+            Step::Begin
+        }
+    }
+
+    /// The step behind this one.
+    pub(crate) fn next_step(&self, step: Step) -> Option<Step>
+        ensures { result ≡ next_step self.now.way self.now.migration.no_tx step }
+    {
+        match step {
+            Step::Begin => Some(Step::Script),
+            Step::Script => Some(Step::Row),
+            Step::Row if !self.migration.no_tx => Some(Step::Commit),
+            Step::Row | Step::Commit => timed(self.way),
+            Step::Time => None,
+        }
+    }
+
+    /// Whether it is the last step whose time is taken.
+    pub(crate) fn ends_work(&self, step: Step) -> bool
+        ensures { result ≡ ends_work self.now.migration.no_tx step }
+    {
+        match step {
+            Step::Row => self.migration.no_tx,
+            Step::Commit => true,
+            Step::Begin | Step::Script | Step::Time => false,
+        }
+    }
+
+    /// Whether a transaction is open while this step is asked.
+    pub(crate) fn is_open_at(&self, step: Step) -> bool
+        ensures { result ≡ is_open_at self.now.migration.no_tx step }
+    {
+        match step {
+            Step::Script | Step::Row | Step::Commit => !self.migration.no_tx,
+            Step::Begin | Step::Time => false,
+        }
+    }
+
+    // What adds the migration's row, or takes it away.
+    fn row(&self, alloc: Global) -> Result<Request, Error>
+        ensures { IsRequestOf hows.Execute 0 (row_at self.now) result }
+    {
+        match self.way {
+            Way::Apply => requests::insert_row(alloc, self.table, self.migration),
+            Way::Revert => requests::delete_row(alloc, self.table, self.migration),
+        }
+    }
+
+    /// What asks a step, where so many transactions and savepoints are open.
+    pub(crate) fn request(
+        &self,
+        alloc: Global,
+        step: Step,
+        depth: u64,
+        nanos: u64,
+    ) -> Result<Request, Error>
+        ensures { IsRequestOf hows.Execute depth (statement_at self.now nanos step) result }
+    {
+        match step {
+            Step::Begin => Ok(Request::Begin(depth)),
+            Step::Script => requests::script(alloc, self.migration.sql.as_str()),
+            Step::Row => self.row(alloc),
+            Step::Commit => Ok(commit_request(depth)),
+            Step::Time => requests::update_time(alloc, self.table, self.migration, nanos),
+        }
+    }
+}

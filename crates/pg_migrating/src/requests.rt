@@ -1,0 +1,144 @@
+//! The requests of the statements.
+
+ghost use Rattle.std.specs.Prelude.{◌≡◌, ◌∷◌, [], List, IfOk, IfErr, string_bytes};
+ghost use Rattle.pg_wire.specs.declared.error.Error.TheVariants as errors;
+ghost use Rattle.pg_request.specs.Asked.{kept_query};
+ghost use Rattle.pg_request.specs.Queries.{plain_text};
+ghost use Rattle.pg_call.specs.declared.kind.How.TheVariants as hows;
+ghost use Rattle.pg_call.specs.Requests.{raw};
+ghost use Rattle.pg_migrate.specs.Orders.{Bound, Int8, Prepared, Script, row_of, time_of, without_row};
+ghost use Rattle.pg_migrate.specs.Texts.{create_schema_text, create_table_text, current_database_text, dirty_version_text, list_text, lock_text, unlock_text};
+ghost use Rattle.pg_migrating.specs.Requests.{AreBound, IsRequestOf, arguments_of};
+
+use crate::binding;
+use pg_arguments::PgArguments;
+use pg_call::{How, Request};
+use pg_migrate::{
+    Migration, as_int8, current_database_text, lock_text, put_create_schema, put_create_table,
+    put_delete_row, put_dirty_version, put_insert_row, put_list, put_update_time, unlock_text,
+};
+use pg_request::Query;
+use pg_wire::{Error, Text};
+use std::alloc::Global;
+
+/// A text without arguments, which may hold several statements.
+pub(crate) fn script(alloc: Global, sql: &str) -> Result<Request, Error>
+    ensures { IsRequestOf hows.Execute 0 (Script sql.now) result }
+{
+    Ok(Request::Execute(Query::raw(alloc, sql)?))
+}
+
+// The same of a text that is owned.
+fn owned_script(sql: String) -> Request
+    ensures { result ≡ raw hows.Execute (plain_text (string_bytes sql)) }
+{
+    Request::Execute(Query::from_text(Text::from_string(sql)))
+}
+
+// A statement without arguments.
+fn bare(alloc: Global, how: How, sql: &str) -> Result<Request, Error>
+    ensures { IsRequestOf how 0 (Prepared sql.now []) result }
+{
+    Ok(Request::raw(how, Query::new(alloc, sql)?))
+}
+
+// A statement with these arguments.
+fn prepared(alloc: Global, sql: &str, arguments: &PgArguments) -> Result<Request, Error>
+    ensures ok { IfOk result (λ r. (bounds : List Bound) → AreBound bounds arguments.now → r ≡ raw hows.Execute (kept_query sql.now (arguments_of bounds))) }
+    ensures err { IfErr result (λ e. (bounds : List Bound) → AreBound bounds arguments.now → e ≡ errors.OutOfMemory) }
+{
+    match Query::with(alloc, sql, arguments) {
+        Ok(query) => Ok(Request::Execute(query)),
+        Err(e) => Err(e),
+    }
+}
+
+pub(crate) fn create_schema(alloc: Global, schema: &str) -> Result<Request, Error>
+    ensures { IsRequestOf hows.Execute 0 (Script (create_schema_text schema.now)) result }
+{
+    let mut sql = String::new(alloc);
+    put_create_schema(&mut sql, schema)?;
+    Ok(owned_script(sql))
+}
+
+pub(crate) fn create_table(alloc: Global, table: &str) -> Result<Request, Error>
+    ensures { IsRequestOf hows.Execute 0 (Script (create_table_text table.now)) result }
+{
+    let mut sql = String::new(alloc);
+    put_create_table(&mut sql, table)?;
+    Ok(owned_script(sql))
+}
+
+pub(crate) fn dirty_version(alloc: Global, table: &str) -> Result<Request, Error>
+    ensures { IsRequestOf hows.FetchOptional 0 (Prepared (dirty_version_text table.now) []) result }
+{
+    let mut sql = String::new(alloc);
+    put_dirty_version(&mut sql, table)?;
+    bare(alloc, How::FetchOptional, sql.as_str())
+}
+
+pub(crate) fn list(alloc: Global, table: &str) -> Result<Request, Error>
+    ensures { IsRequestOf hows.FetchAll 0 (Prepared (list_text table.now) []) result }
+{
+    let mut sql = String::new(alloc);
+    put_list(&mut sql, table)?;
+    bare(alloc, How::FetchAll, sql.as_str())
+}
+
+pub(crate) fn current_database(alloc: Global) -> Result<Request, Error>
+    ensures { IsRequestOf hows.FetchOne 0 (Prepared current_database_text []) result }
+{
+    bare(alloc, How::FetchOne, current_database_text())
+}
+
+pub(crate) fn lock(alloc: Global, id: i64) -> Result<Request, Error>
+    ensures { IsRequestOf hows.Execute 0 (Prepared lock_text (Int8 id ∷ [])) result }
+{
+    prepared(alloc, lock_text(), &binding::one_int8(alloc, id)?)
+}
+
+pub(crate) fn unlock(alloc: Global, id: i64) -> Result<Request, Error>
+    ensures { IsRequestOf hows.Execute 0 (Prepared unlock_text (Int8 id ∷ [])) result }
+{
+    prepared(alloc, unlock_text(), &binding::one_int8(alloc, id)?)
+}
+
+pub(crate) fn insert_row(
+    alloc: Global,
+    table: &str,
+    migration: &Migration,
+) -> Result<Request, Error>
+    ensures { IsRequestOf hows.Execute 0 (row_of table.now migration.now) result }
+{
+    let mut sql = String::new(alloc);
+    put_insert_row(&mut sql, table)?;
+    prepared(alloc, sql.as_str(), &binding::row(alloc, migration)?)
+}
+
+pub(crate) fn delete_row(
+    alloc: Global,
+    table: &str,
+    migration: &Migration,
+) -> Result<Request, Error>
+    ensures { IsRequestOf hows.Execute 0 (without_row table.now migration.now) result }
+{
+    let mut sql = String::new(alloc);
+    put_delete_row(&mut sql, table)?;
+    let arguments = binding::one_int8(alloc, binding::version_of(migration))?;
+    prepared(alloc, sql.as_str(), &arguments)
+}
+
+pub(crate) fn update_time(
+    alloc: Global,
+    table: &str,
+    migration: &Migration,
+    nanos: u64,
+) -> Result<Request, Error>
+    ensures { IsRequestOf hows.Execute 0 (time_of table.now migration.now nanos) result }
+{
+    let mut sql = String::new(alloc);
+    put_update_time(&mut sql, table)?;
+    let version = binding::version_of(migration);
+    let arguments = binding::two_int8(alloc, as_int8(nanos), version)?;
+    prepared(alloc, sql.as_str(), &arguments)
+}

@@ -1,0 +1,243 @@
+//! How a migration is applied, or reverted.
+
+ghost use Rattle.std.specs.Prelude.{◌≡◌, ◌≤◌, true, false, not, None, Some};
+ghost use Rattle.pg_call.specs.declared.kind.How.TheVariants as hows;
+ghost use Rattle.pg_conn.specs.Connections.{ConnOf};
+ghost use Rattle.pg_migrating.specs.Asking.{CallsQuietly, StaysQuiet, is_asked, left_of};
+ghost use Rattle.pg_migrating.specs.Courses.{ends_work, statement_at};
+ghost use Rattle.pg_migrating.specs.Requests.{Asks};
+ghost use Rattle.pg_migrating.specs.Migrating.{HasRun, Runs, StandsIn, StepEnds, StepGoes, StopsBy, TellsRun, TellsStep, entered, is_database, is_script, told_as};
+
+use crate::asking::Asking;
+use crate::binding::version_of;
+use crate::course::{Course, Step, Way, Work};
+use pg_guards::PgExecutor;
+use pg_migrate::{Clock, MigrateError, Migration, elapsed};
+use pg_wire::{Error, Poll};
+use std::alloc::Global;
+
+/// The state of `Migrate::apply` and `Migrate::revert`, which owns what holds the connection. It does nothing before its first poll, which reads the
+/// clock. Where it is given up within its transaction, that is rolled back without waiting, as the drop of a `Transaction` does: the next call on the
+/// connection sends the ROLLBACK. (PostgreSQL manual, "Tutorial", "Transactions".)
+pub struct RunMigration<'m, C: PgExecutor, K> {
+    alloc: Global,
+    asking: Asking<C>,
+    clock: &'m mut K,
+    work: Work<'m>,
+    course: Course,
+}
+
+fn is_script(step: Step) -> bool
+    ensures { result ≡ is_script step }
+{
+    match step {
+        Step::Script => true,
+        Step::Begin | Step::Row | Step::Commit | Step::Time => false,
+    }
+}
+
+fn is_database(e: &Error) -> bool
+    ensures { result ≡ is_database e.now }
+{
+    match e {
+        Error::Database(_) => true,
+        _ => false,
+    }
+}
+
+impl<'m, C: PgExecutor, K> RunMigration<'m, C, K> {
+    /// Whether a poll has ended the call.
+    pub fn is_finished(&self) -> bool
+        ensures { result ≡ not (is_asked self.now.asking.question (C.conn self.now.asking.conn).call) }
+    {
+        !self.asking.is_asked()
+    }
+
+    // How an error of the step that is asked is told.
+    fn told(&self, e: Error) -> MigrateError
+        ensures { result ≡ told_as self.now.course.step self.now.work.migration.version (C.conn self.now.asking.conn) e }
+    {
+        if is_script(self.course.step) && is_database(&e) && self.asking.groups() > 0 {
+            MigrateError::ExecuteMigration(e, version_of(self.work.migration))
+        } else {
+            MigrateError::Execute(e)
+        }
+    }
+
+    // Asks this step.
+    fn enter(&mut self, step: Step)
+        ensures conn { self.new.asking.conn ≡ self.old.asking.conn }
+        ensures asks { Asks hows.Execute (C.conn self.old.asking.conn).rule.depth (statement_at self.old.work self.old.course.nanos step) self.new.asking.question }
+        ensures clock { self.new.clock.now ≡ self.old.clock.now }
+        ensures same { self.new.clock.ghost_name ≡ self.old.clock.ghost_name }
+        ensures work { self.new.work ≡ self.old.work }
+        ensures course { self.new.course ≡ entered self.old.work.migration.no_tx step self.old.course }
+    {
+        self.course.is_open = self.work.is_open_at(step);
+        self.course.step = step;
+        let depth = self.asking.depth();
+        let question = self
+            .work
+            .request(self.alloc, step, depth, self.course.nanos);
+        self.asking.ask(question);
+    }
+
+    /// Hands back what holds the connection, as the drop of the state leaves it: a call that runs is given up, and a transaction that was opened and
+    /// not committed is rolled back without waiting. (PostgreSQL manual, "SQL Commands", ROLLBACK.)
+    pub fn into_conn(self) -> C
+        ensures { result ≡ C.with_conn self.entry.asking.conn (left_of self.entry.course.is_open self.entry.asking.question (C.conn self.entry.asking.conn)) }
+    {
+        let RunMigration {
+            alloc: _,
+            asking,
+            clock: _,
+            work,
+            course,
+        } = self;
+        drop(work);
+        asking.into_conn(course.is_open)
+    }
+}
+
+impl<'m, C: PgExecutor, K: Clock> RunMigration<'m, C, K> {
+    pub(crate) fn new(
+        alloc: Global,
+        conn: C,
+        way: Way,
+        table: &'m str,
+        migration: &'m Migration,
+        clock: &'m mut K,
+    ) -> Self
+        ensures conn { result.asking.conn ≡ conn }
+        ensures clock { result.clock.now ≡ clock.old }
+        ensures same { result.clock.ghost_name ≡ clock.entry.ghost_name }
+        ensures work { result.work ≡ record { way = way; table = table.now; migration = migration.now } }
+        ensures stands { StandsIn C.L.seen K.seen K.tells result.work (C.conn conn) clock.old result.course result.asking.question (C.conn result.asking.conn) result.clock.now }
+        ensures goes { is_asked result.asking.question (C.conn result.asking.conn).call ≡ true }
+        ensures calling { CallsQuietly result.asking.question (C.conn result.asking.conn) }
+    {
+        let work = Work {
+            way,
+            table,
+            migration,
+        };
+        let step = work.first_step();
+        let depth = conn.conn_ref().transaction_depth();
+        let question = work.request(alloc, step, depth, 0);
+        RunMigration {
+            alloc,
+            asking: Asking::new(conn, question),
+            clock,
+            work,
+            course: Course::at(step),
+        }
+    }
+
+    // Reads the clock at the first poll.
+    fn start_clock(&mut self)
+        ensures asking { self.new.asking ≡ self.old.asking }
+        ensures same { self.new.clock.ghost_name ≡ self.old.clock.ghost_name }
+        ensures work { self.new.work ≡ self.old.work }
+        ensures runs { (first : ConnOf C.L) (zero : K) → StandsIn C.L.seen K.seen K.tells self.old.work first zero self.old.course self.old.asking.question (C.conn self.old.asking.conn) self.old.clock.now → Runs C.L.seen K.seen K.tells self.old.work first zero self.new.course self.old.asking.question (C.conn self.old.asking.conn) self.new.clock.now }
+    {
+        if self.asking.is_new() {
+            self.course.start = self.clock.now();
+        }
+    }
+
+    // Reads it again behind the last step whose time is taken.
+    fn stop_clock(&mut self)
+        ensures asking { self.new.asking ≡ self.old.asking }
+        ensures same { self.new.clock.ghost_name ≡ self.old.clock.ghost_name }
+        ensures work { self.new.work ≡ self.old.work }
+        ensures stops { StopsBy K.seen K.tells (ends_work self.old.work.migration.no_tx self.old.course.step) self.old.course self.new.course self.old.clock.now self.new.clock.now }
+    {
+        if self.work.ends_work(self.course.step) {
+            self.course.nanos = elapsed(self.course.start, self.clock.now());
+        }
+    }
+
+    // Asks the next step, or answers how long all of them took.
+    fn go_on(&mut self) -> Option<Poll<Result<u64, MigrateError>>>
+        requires { self.old.asking.question ≡ None }
+        ensures conn { self.new.asking.conn ≡ self.old.asking.conn }
+        ensures same { self.new.clock.ghost_name ≡ self.old.clock.ghost_name }
+        ensures work { self.new.work ≡ self.old.work }
+        ensures goes { StepGoes self.old.course.step self.new.course.step self.new.asking.question (C.conn self.new.asking.conn) result }
+        ensures tells { (first : ConnOf C.L) (zero : K) → HasRun C.L.seen K.seen K.tells self.old.work first zero self.old.course (C.conn self.old.asking.conn) self.old.clock.now → TellsStep C.L.seen K.seen K.tells self.old.work first zero self.new.course self.new.asking.question (C.conn self.new.asking.conn) self.new.clock.now result }
+    {
+        self.stop_clock();
+        match self.work.next_step(self.course.step) {
+            Some(step) => {
+                self.enter(step);
+                None
+            }
+            None => {
+                self.course.is_open = false;
+                Some(Poll::Ready(Ok(self.course.nanos)))
+            }
+        }
+    }
+
+    // What comes behind the end of a step.
+    fn end_step(&mut self, end: Result<(), Error>) -> Option<Poll<Result<u64, MigrateError>>>
+        requires { self.old.asking.question ≡ None }
+        ensures conn { self.new.asking.conn ≡ self.old.asking.conn }
+        ensures same { self.new.clock.ghost_name ≡ self.old.clock.ghost_name }
+        ensures work { self.new.work ≡ self.old.work }
+        ensures goes { StepGoes self.old.course.step self.new.course.step self.new.asking.question (C.conn self.new.asking.conn) result }
+        ensures tells { (first : ConnOf C.L) (zero : K) → StepEnds C.L.seen K.seen K.tells self.old.work first zero self.old.course (C.conn self.old.asking.conn) self.old.clock.now end → TellsStep C.L.seen K.seen K.tells self.old.work first zero self.new.course self.new.asking.question (C.conn self.new.asking.conn) self.new.clock.now result }
+    {
+        match end {
+            Ok(()) => self.go_on(),
+            Err(e) => Some(Poll::Ready(Err(self.told(e)))),
+        }
+    }
+
+    // One poll of the step that is asked. Where it was answered Ok, the next one is asked, and there is no answer yet.
+    fn poll_step(&mut self, left: &mut u16) -> Option<Poll<Result<u64, MigrateError>>>
+        requires over { is_asked self.old.asking.question (C.conn self.old.asking.conn).call ≡ true }
+        requires left { left.old ≤ 256 }
+        requires calling { CallsQuietly self.old.asking.question (C.conn self.old.asking.conn) }
+        ensures holder { self.new.asking.conn ≡ C.with_conn self.old.asking.conn (C.conn self.new.asking.conn) }
+        ensures left { left.new ≤ left.old }
+        ensures same { self.new.clock.ghost_name ≡ self.old.clock.ghost_name }
+        ensures work { self.new.work ≡ self.old.work }
+        ensures goes { StepGoes self.old.course.step self.new.course.step self.new.asking.question (C.conn self.new.asking.conn) result }
+        ensures tells { (first : ConnOf C.L) (zero : K) → Runs C.L.seen K.seen K.tells self.old.work first zero self.old.course self.old.asking.question (C.conn self.old.asking.conn) self.old.clock.now → TellsStep C.L.seen K.seen K.tells self.old.work first zero self.new.course self.new.asking.question (C.conn self.new.asking.conn) self.new.clock.now result }
+    {
+        match self.asking.poll_end(left) {
+            Poll::Pending => Some(Poll::Pending),
+            Poll::Ready(end) => self.end_step(end),
+        }
+    }
+
+    /// Moves the migration on, by at most 256 calls of the link, and answers how long its work took, in nanoseconds. `ExecuteMigration` comes exactly
+    /// where the migration's script was answered by an ErrorResponse; any other error is `Execute`.
+    pub fn poll(&mut self) -> Poll<Result<u64, MigrateError>>
+        requires over { is_asked self.old.asking.question (C.conn self.old.asking.conn).call ≡ true }
+        requires calling { CallsQuietly self.old.asking.question (C.conn self.old.asking.conn) }
+        ensures holder { self.new.asking.conn ≡ C.with_conn self.old.asking.conn (C.conn self.new.asking.conn) }
+        ensures asked { self.new.asking.question ≡ None }
+        ensures same { self.new.clock.ghost_name ≡ self.old.clock.ghost_name }
+        ensures work { self.new.work ≡ self.old.work }
+        ensures tells { (first : ConnOf C.L) (zero : K) → StandsIn C.L.seen K.seen K.tells self.old.work first zero self.old.course self.old.asking.question (C.conn self.old.asking.conn) self.old.clock.now → TellsRun C.L.seen K.seen K.tells self.old.work first zero self.new.course (C.conn self.new.asking.conn) self.new.clock.now result }
+        ensures calling { StaysQuiet (C.conn self.new.asking.conn) result }
+    {
+        self.start_clock();
+        let mut left = 256;
+        loop {
+            match self.poll_step(&mut left) {
+                Some(answer) => return answer,
+                None => {}
+            }
+        }
+    }
+}
+
+impl<C: PgExecutor + Drop, K> Drop for RunMigration<'_, C, K> {
+    fn drop(self) {
+        let conn = self.into_conn();
+        let _ = conn;
+    }
+}
