@@ -71,3 +71,4 @@ word_law (words.Call call_words.Rollback) = record { shape = refl; read = refl; 
 word_law (words.Call call_words.StartRollback) = record { shape = refl; read = refl; no_mode = refl; no_bare = refl }
 word_law (words.Call call_words.Prepare) = record { shape = refl; read = refl; no_mode = refl; no_bare = refl }
 word_law (words.Call call_words.Clear) = record { shape = refl; read = refl; no_mode = refl; no_bare = refl }
+word_law (words.Call call_words.CopyOut) = record { shape = refl; read = refl; no_mode = refl; no_bare = refl }

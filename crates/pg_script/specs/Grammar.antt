@@ -92,6 +92,7 @@ call_tokens asked calls.Rollback = Word (words.Call call_words.Rollback) ∷ []
 call_tokens asked calls.StartRollback = Word (words.Call call_words.StartRollback) ∷ []
 call_tokens asked (calls.Prepare preparation) = Word (words.Call call_words.Prepare) ∷ preparation_tokens preparation
 call_tokens asked calls.Clear = Word (words.Call call_words.Clear) ∷ []
+call_tokens asked (calls.CopyOut query) = Word (words.Call call_words.CopyOut) ∷ query_tokens query.sql
 call_tokens asked _ = []
 
 -- digits below 0 have no spelling (`LineFits` has none of them)
@@ -159,6 +160,7 @@ CallFits asked calls.Rollback = Unit {0}
 CallFits asked calls.StartRollback = Unit {0}
 CallFits asked (calls.Prepare preparation) = IsUnicode preparation.sql
 CallFits asked calls.Clear = Unit {0}
+CallFits asked (calls.CopyOut query) = QueryFits query
 CallFits asked _ = ⊥
 
 abbrev pub LineFits : Asked → Line → Type 0

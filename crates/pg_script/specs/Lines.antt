@@ -35,6 +35,7 @@ call_with call_words.Rollback rest = alone calls.Rollback rest
 call_with call_words.StartRollback rest = alone calls.StartRollback rest
 call_with call_words.Prepare rest = prepare_arg rest >>= λ preparation. Some (calls.Prepare preparation)
 call_with call_words.Clear rest = alone calls.Clear rest
+call_with call_words.CopyOut rest = query_arg rest >>= λ query. Some (calls.CopyOut query)
 
 abbrev pub call_arg : List Token → Option Call
 call_arg (Space ∷ Word (words.Call word) ∷ rest) = call_with word rest

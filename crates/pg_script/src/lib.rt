@@ -20,7 +20,7 @@
 //! The options, the events of reads, those of writes and the steps each keep their order, and else the lines may stand in any.
 //! A CALL is `execute`, `execute_many`, `fetch`, `fetch_many`, `fetch_all`, `fetch_optional` or `fetch_one`, each with `raw TEXT`
 //! behind it, a text of SQL, or with `query TEXT` and any number of ARG, each behind a space: one statement with arguments, which is kept,
-//! or with `once` in place of `query`, whose statement isn't kept; `begin_with TEXT`, where the text is one of SQL as well;
+//! or with `once` in place of `query`, whose statement isn't kept; `begin_with TEXT` and `copyout TEXT`, where the text is one of SQL as well;
 //! `prepare TEXT` and any number of N, each behind a space: the OIDs of the types of its first parameters; or `ping`, `flush`, `begin`,
 //! `commit`, `rollback`, `start_rollback` or `clear`, which closes all statements that are kept.
 //!

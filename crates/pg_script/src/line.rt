@@ -74,6 +74,7 @@ fn call_with(alloc: Global, word: CallWord, rest: &[Token]) -> Result<Call, Line
         CallWord::StartRollback => alone(Call::StartRollback, rest),
         CallWord::Prepare => Ok(Call::Prepare(prepare_arg(alloc, rest)?)),
         CallWord::Clear => alone(Call::Clear, rest),
+        CallWord::CopyOut => Ok(Call::CopyOut(query_arg(alloc, rest)?)),
     }
 }
 

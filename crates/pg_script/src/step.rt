@@ -33,6 +33,8 @@ pub enum Call {
     Prepare(Preparation),
     /// Closes all statements that are kept.
     Clear,
+    /// Copies from the server, piece by piece.
+    CopyOut(Query),
     /// The exchange that closes a statement for another one. No script says it alone.
     Evict(Eviction),
     /// The one that tells what a statement was described to be, which asks nothing of the server.
@@ -76,6 +78,7 @@ impl Call {
             Call::Run(bound) => Call::Run(bound.to_copy(alloc)?),
             Call::Prepare(preparation) => Call::Prepare(preparation.to_copy(alloc)?),
             Call::Clear => Call::Clear,
+            Call::CopyOut(query) => Call::CopyOut(query.to_copy(alloc)?),
             Call::Evict(eviction) => Call::Evict(eviction.to_copy(alloc)?),
             Call::Tell(prepared) => Call::Tell(prepared.to_copy(alloc)?),
             Call::CloseAll(statements) => Call::CloseAll(copied(alloc, statements)?),

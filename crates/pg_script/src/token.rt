@@ -21,6 +21,7 @@ pub(crate) enum CallWord {
     StartRollback,
     Prepare,
     Clear,
+    CopyOut,
 }
 
 /// The words of a script.

@@ -10,7 +10,7 @@ use pg_options::PgSslMode;
 use std::alloc::Global;
 
 /// All words of a script, the most usual first.
-const WORDS: [Keyword; 46] = [
+const WORDS: [Keyword; 47] = [
     Keyword::Step,
     Keyword::Server,
     Keyword::Raw,
@@ -37,6 +37,7 @@ const WORDS: [Keyword; 46] = [
     Keyword::Call(CallWord::StartRollback),
     Keyword::Call(CallWord::Prepare),
     Keyword::Call(CallWord::Clear),
+    Keyword::Call(CallWord::CopyOut),
     Keyword::Most,
     Keyword::Take,
     Keyword::Hold,
@@ -80,6 +81,7 @@ fn call_spelling(word: CallWord) -> &'static [u8]
         CallWord::StartRollback => b"start_rollback",
         CallWord::Prepare => b"prepare",
         CallWord::Clear => b"clear",
+        CallWord::CopyOut => b"copyout",
     }
 }
 
