@@ -2,10 +2,10 @@
 
 use either::Either;
 use pg_conn::{PgConnection, PgQueryResult, PgRow, PgStatement, Preparation, Query};
-use pg_guards::PgTransactionManager;
+use pg_guards::{PgTransactionManager, copy_out_raw};
 use pg_script::{Call, Step};
 use pg_stream::MemoryLink;
-use pg_wire::{CallerFault, Error, Poll, ProtocolFault, Sequence, Text};
+use pg_wire::{Blob, CallerFault, Error, Poll, ProtocolFault, Sequence, Text};
 use std::alloc::Global;
 
 type Connection = PgConnection<MemoryLink>;
@@ -103,6 +103,19 @@ fn row(answer: Poll<Option<PgRow>>) -> Answer {
             let rows = shown(&row);
             drop(row);
             Answer::Rows(rows)
+        }
+        Poll::Ready(None) => Answer::Fails,
+    }
+}
+
+// 1 for a piece of the one byte "a".
+fn piece(answer: Poll<Option<Blob>>) -> Answer {
+    match answer {
+        Poll::Pending => Answer::Waits,
+        Poll::Ready(Some(piece)) => {
+            let is_so = piece.as_bytes() == b"a".as_slice();
+            drop(piece);
+            Answer::Rows(u64::from(is_so))
         }
         Poll::Ready(None) => Answer::Fails,
     }
@@ -239,6 +252,15 @@ fn begin_with(alloc: Global, conn: &mut Connection, query: Query) -> Stand {
     }
 }
 
+fn copy_out(alloc: Global, conn: &mut Connection, query: Query) -> Stand {
+    let Ok(sql) = Text::from_str(alloc, query.sql()) else {
+        return Stand::Fails;
+    };
+    let mut call = copy_out_raw(conn, sql);
+    let answer = piece(item(call.poll_next()));
+    stand_of(answer, call.is_finished())
+}
+
 fn commit(conn: &mut Connection) -> Stand {
     let mut call = conn.commit();
     let answer = unit(settled(call.poll()));
@@ -353,6 +375,7 @@ fn play_once(alloc: Global, conn: &mut Connection, call: Call) -> Stand {
         Call::StartRollback => start_rollback(conn),
         Call::Prepare(preparation) => prepare(conn, preparation),
         Call::Clear => clear(conn),
+        Call::CopyOut(query) => copy_out(alloc, conn, query),
         other => {
             drop(other);
             Stand::Fails

@@ -13,7 +13,7 @@ use Rattle.pg_wire.specs.declared.fields.ErrorField.{ErrorField}
 use Rattle.pg_wire.specs.Frame.{Frame}
 use Rattle.pg_wire.specs.Parts.{is_ready}
 use Rattle.pg_wire.specs.Frontend.{FrontendMessage}
-use Rattle.pg_wire.specs.Backend.{FieldDescription, BackendMessage, backend_frame, HasBackendFrame, ErrorResponse, ReadyForQuery, CopyInResponse, CopyOutResponse}
+use Rattle.pg_wire.specs.Backend.{FieldDescription, BackendMessage, backend_frame, HasBackendFrame, ErrorResponse, ReadyForQuery}
 use Rattle.pg_wire.specs.Decoding.{IsRefused}
 use Rattle.pg_wire.specs.declared.status.TransactionStatus.{TransactionStatus}
 use Rattle.pg_rows.specs.declared.heading.Heading.{Heading}
@@ -45,7 +45,7 @@ use Rattle.pg_call.specs.declared.calling.Taken.{Taken}
 use Rattle.pg_call.specs.declared.running.Running.{Running}
 use Rattle.pg_call.specs.Requests.{Group, said_in, kind_of, groups_of, messages_of, farewell, heading_of, rest_of, told, CanBeSaid}
 use Rattle.pg_call.specs.Items.{news_of, heading_by, heading_after, item_by, items_of, yields, shown, tally_of, answer_to, finished, one_row, begun, parameters_after, parameters_by}
-use Rattle.pg_call.specs.Replies.{awaits_first, goes_on, may_close, part_after, may_copy, MayNotCome, IsFault}
+use Rattle.pg_call.specs.Replies.{awaits_first, goes_on, may_close, part_after, may_stray, MayNotCome, IsFault}
 use Rattle.pg_call.specs.Drains.{is_error, is_copy_in, before_readys, after_readys, failed_behind, fails_for, drain_fails}
 use Rattle.pg_call.specs.Hearing.{framed, added_all, gone_on, HearsMessage, Hears, marked, ledger_behind, fails_of, DrainsBy, Drains, Follows, handed_on}
 use Rattle.pg_call.specs.Calls.{answer_by, IsDraining, IsReplying, owes_own, owes_none, CallIs, owner_failed, Leaves, IsFine, EndsFine, CallEnds, IsFrontFault, CallTakes, StaysIn, TakesMessage, RefusesMessage}
@@ -169,11 +169,11 @@ owner_own start hs (g ∷ gs) copied e = refl
 not_none : (groups : List Group) → length groups ≡ 1 → groups ≡ [] → ⊥
 not_none groups n e = let z = ap (λ (g : List Group). length g) e in absurd (omega (arith, n, z))
 
--- what a call leaves whose reply comes: some more messages of it, which show no more
+-- what a call leaves whose reply comes, with some more messages of it
 pub leaves_own : (start : Ledger) (r : Request) (said : List FrontendMessage) (hs hs' : List Frame) (items : List CallItem) (reply : Reply) (i : IsReplying start r said hs items reply) (copied : Bool) (own' : List BackendMessage) → CanBeSaid r
-    → count_by is_ready hs' ≡ start.owed → before_readys start.owed hs' ≡ before_readys start.owed hs → after_readys start.owed hs' ≡ map backend_frame own' → AllByRecursion HasBackendFrame own' → items_of (heading_of r) own' ≡ items_of (heading_of r) i.own
+    → count_by is_ready hs' ≡ start.owed → before_readys start.owed hs' ≡ before_readys start.owed hs → after_readys start.owed hs' ≡ map backend_frame own' → AllByRecursion HasBackendFrame own' → (more : List CallItem) → items_of (heading_of r) own' ≡ items_of (heading_of r) i.own ++ more
     → Leaves start r (said ++ fails_of copied) hs' items (record { owed = 1; is_copy_failed = copied }) copied
-leaves_own start r said hs hs' items reply i copied own' can c before after have same = record {
+leaves_own start r said hs hs' items reply i copied own' can c before after have more same = record {
   own = groups_of r;
   bye = [];
   reply = own';
@@ -189,7 +189,12 @@ leaves_own start r said hs hs' items reply i copied own' can c before after have
   farewells = inl refl;
   replied = after;
   reply_has_frames = have;
-  shows = ([], append-nil items ∙ i.items_are ∙ ap (λ (k : Kind). shown k (items_of (heading_of r) i.own)) i.kind_is ∙ ap (shown (kind_of r)) (sym same));
+  shows = (
+    shown (kind_of r) more,
+    ap (λ (t : List CallItem). t ++ shown (kind_of r) more) (i.items_are ∙ ap (λ (k : Kind). shown k (items_of (heading_of r) i.own)) i.kind_is)
+        ∙ sym (filter-append (yields (kind_of r)) (items_of (heading_of r) i.own) more)
+        ∙ ap (shown (kind_of r)) (sym same),
+  );
   idle = λ e. absurd (not_none (groups_of r) i.one e);
   rests = λ e. absurd (omega (arith, e));
 }
@@ -207,15 +212,16 @@ IsNoItem m = (h : Heading) → item_by h (news_of m) ≡ []
 items_same : (h : Heading) (own : List BackendMessage) (m : BackendMessage) → IsNoItem m → items_of h (own ++ m ∷ []) ≡ items_of h own
 items_same h own m e = items-push h own m ∙ ap (λ (t : List CallItem). items_of h own ++ t) (e (heading_after h own)) ∙ append-nil (items_of h own)
 
-leaves_with : (start : Ledger) (r : Request) (said : List FrontendMessage) (hs : List Frame) (items : List CallItem) (reply : Reply) (copied : Bool) (m : BackendMessage) → CanBeSaid r → HasBackendFrame m → is_ready (backend_frame m) ≡ false → IsNoItem m
+leaves_with : (start : Ledger) (r : Request) (said : List FrontendMessage) (hs : List Frame) (items : List CallItem) (reply : Reply) (copied : Bool) (m : BackendMessage) → CanBeSaid r → HasBackendFrame m → is_ready (backend_frame m) ≡ false
     → IsReplying start r said hs items reply → Leaves start r (said ++ fails_of copied) (hs ++ backend_frame m ∷ []) items (record { owed = 1; is_copy_failed = copied }) copied
-leaves_with start r said hs items reply copied m can have z none i =
+leaves_with start r said hs items reply copied m can have z i =
     leaves_own start r said hs (hs ++ backend_frame m ∷ []) items reply i copied (i.own ++ m ∷ []) can
     (count-same is_ready hs (backend_frame m) start.owed z i.counted)
     (before_from hs start.owed (backend_frame m) (omega (arith, i.counted)))
     (own_push start r said hs items reply i m)
     (each_end HasBackendFrame i.own m i.own_have_frames have)
-    (items_same (heading_of r) i.own m none)
+    (item_by (heading_after (heading_of r) i.own) (news_of m))
+    (items-push (heading_of r) i.own m)
 
 -- an error ends it
 own_fails : (start : Ledger) (r : Request) (said : List FrontendMessage) (hs : List Frame) (items : List CallItem) (reply : Reply) (error : List ErrorField) → CanBeSaid r → HasBackendFrame (ErrorResponse error) → IsReplying start r said hs items reply
@@ -223,7 +229,7 @@ own_fails : (start : Ledger) (r : Request) (said : List FrontendMessage) (hs : L
 own_fails start r said hs items reply error can have i = (
   refl,
   (
-    leaves_with start r said hs items reply false (ErrorResponse error) can have refl (λ h. refl) i,
+    leaves_with start r said hs items reply false (ErrorResponse error) can have refl i,
     (hs, refl, have, i.well),
   ),
   tt,
@@ -249,6 +255,7 @@ no_groups_close (requests.FetchOptional query) e = absurd cc
 no_groups_close (requests.FetchOne query) e = absurd cc
 no_groups_close (requests.Begin depth) e = absurd cc
 no_groups_close (requests.BeginWith query) e = absurd cc
+no_groups_close (requests.CopyOut query) e = absurd cc
 no_groups_close (requests.Commit left) e = absurd cc
 no_groups_close (requests.Rollback left) e = absurd cc
 
@@ -286,6 +293,7 @@ finished_last kinds.Clear t status = tt
 finished_last kinds.Begin t status = begun_last status
 finished_last kinds.Commit t status = tt
 finished_last kinds.Rollback t status = tt
+finished_last kinds.CopyOut t status = tt
 finished_last kinds.Ping t status = tt
 finished_last kinds.Flush t status = tt
 finished_last kinds.Close t status = tt
@@ -306,6 +314,7 @@ plain_messages (requests.FetchOptional query) n = refl
 plain_messages (requests.FetchOne query) n = refl
 plain_messages (requests.Begin depth) n = refl
 plain_messages (requests.BeginWith query) n = refl
+plain_messages (requests.CopyOut query) n = refl
 plain_messages (requests.Commit left) n = refl
 plain_messages (requests.Rollback left) n = refl
 plain_messages (requests.Describe extended) n = refl
@@ -377,17 +386,17 @@ own_closes start r said hs items reply status closes can i =
     let same = answers_same r i.own reply status i.rest_is i.heading_is i.parameters_are i.so_far closes plain in
     (refl, ends_fine start r (said ++ []) _ items owes_none _ (handed_last reply.rest reply.parameters reply.heading.columns _ (finished_last reply.kind reply.tally status)) (rw (append-nil said) (closed_fine start r said hs items reply i status can, same)), on_ok answer (kind_of r ≡ kinds.Close → ⊥) (λ k. own_not_close r i.one k))
 
--- ---- a copy that nobody asked for
+-- ---- another reply than the one that is awaited
 
-own_copies : (start : Ledger) (r : Request) (said : List FrontendMessage) (hs : List Frame) (items : List CallItem) (reply : Reply) (m : BackendMessage) → CanBeSaid r → HasBackendFrame m → may_copy reply.part m ≡ true → is_ready (backend_frame m) ≡ false → is_error (backend_frame m) ≡ false
-    → IsNoItem m → IsReplying start r said hs items reply
+own_copies : (start : Ledger) (r : Request) (said : List FrontendMessage) (hs : List Frame) (items : List CallItem) (reply : Reply) (m : BackendMessage) → CanBeSaid r → HasBackendFrame m → may_stray reply.part m ≡ true → is_ready (backend_frame m) ≡ false → is_error (backend_frame m) ≡ false
+    → IsReplying start r said hs items reply
     → let tag = (backend_frame m).tag in let copied = tag == 71 in
     CallTakes start r (said ++ fails_of copied) (hs ++ backend_frame m ∷ []) items (record { owed = 1; is_copy_failed = copied }) calls.Idle (beats.Ends (Err (errors.Protocol (protocol.Reply tag))))
 unfolding leaves_with leaves_own
-own_copies start r said hs items reply m can have copies z e none i = (
+own_copies start r said hs items reply m can have copies z e i = (
   refl,
   (
-    (leaves_with start r said hs items reply ((backend_frame m).tag == 71) m can have z none i, refl, i.one),
+    (leaves_with start r said hs items reply ((backend_frame m).tag == 71) m can have z i, refl, i.one),
     count-same is_error hs (backend_frame m) 0 e i.well,
     record {
       front = hs;
@@ -457,6 +466,10 @@ no_ready (parts.Binding width) next status e = absurd cc
 no_ready (parts.Running width) next status e = absurd cc
 no_ready (parts.RunningOn columns) next status e = absurd cc
 no_ready (parts.Closing more) next status e = absurd cc
+no_ready parts.CopyFirst next status e = absurd cc
+no_ready parts.CopyData next status e = absurd cc
+no_ready parts.CopyEnd next status e = absurd cc
+no_ready parts.Copied next status e = absurd cc
 
 no_error : (part next : Part) (details : List ErrorField) → goes_on part (ErrorResponse details) ≡ Some next → ⊥
 no_error parts.First next details e = absurd cc
@@ -471,23 +484,36 @@ no_error (parts.Binding width) next details e = absurd cc
 no_error (parts.Running width) next details e = absurd cc
 no_error (parts.RunningOn columns) next details e = absurd cc
 no_error (parts.Closing more) next details e = absurd cc
+no_error parts.CopyFirst next details e = absurd cc
+no_error parts.CopyData next details e = absurd cc
+no_error parts.CopyEnd next details e = absurd cc
+no_error parts.Copied next details e = absurd cc
 
 goes_plain : (part next : Part) (m : BackendMessage) → goes_on part m ≡ Some next → (is_ready (backend_frame m) ≡ false) × (is_error (backend_frame m) ≡ false)
 goes_plain part next (ReadyForQuery status) e = absurd (no_ready part next status e)
 goes_plain part next (ErrorResponse details) e = absurd (no_error part next details e)
 goes_plain part next _ e = (refl, refl)
 
-copies_plain : (part : Part) (m : BackendMessage) → may_copy part m ≡ true → (is_ready (backend_frame m) ≡ false) × (is_error (backend_frame m) ≡ false) × IsNoItem m
-copies_plain parts.First (CopyInResponse format columns) e = (refl, refl, λ h. refl)
-copies_plain parts.First (CopyOutResponse format columns) e = (refl, refl, λ h. refl)
-copies_plain parts.First _ e = absurd cc
-copies_plain parts.Further (CopyInResponse format columns) e = (refl, refl, λ h. refl)
-copies_plain parts.Further (CopyOutResponse format columns) e = (refl, refl, λ h. refl)
-copies_plain parts.Further _ e = absurd cc
-copies_plain (parts.Running width) (CopyInResponse format columns) e = (refl, refl, λ h. refl)
-copies_plain (parts.Running width) (CopyOutResponse format columns) e = (refl, refl, λ h. refl)
-copies_plain (parts.Running width) _ e = absurd cc
-copies_plain _ m e = absurd cc
+pub copies_plain : (part : Part) (m : BackendMessage) → may_stray part m ≡ true → (is_ready (backend_frame m) ≡ false) × (is_error (backend_frame m) ≡ false)
+copies_plain part (ReadyForQuery status) e = absurd (none part e)
+  where
+    none : (part : Part) → may_stray part (ReadyForQuery status) ≡ true → ⊥
+    none parts.First e = cc
+    none parts.Further e = cc
+    none (parts.Running width) e = cc
+    none parts.CopyFirst e = cc
+    none parts.Copied e = cc
+    none _ e = cc
+copies_plain part (ErrorResponse details) e = absurd (none part e)
+  where
+    none : (part : Part) → may_stray part (ErrorResponse details) ≡ true → ⊥
+    none parts.First e = cc
+    none parts.Further e = cc
+    none (parts.Running width) e = cc
+    none parts.CopyFirst e = cc
+    none parts.Copied e = cc
+    none _ e = cc
+copies_plain part _ e = (refl, refl)
 
 -- ---- a message of the own reply
 
@@ -513,9 +539,9 @@ own_takes start r said hs items reply reply' m (heards.Failed error) ledger b ta
     rw (f.1, f.0, o, h.0) (own_fails start r said hs items reply error can (rw h.0 at have) i)
 own_takes start r said hs items reply reply' m (heards.Closed status) ledger b taken have h f o can i =
     rw (f.1, f.0, h.1, h.2) (own_closes start r said hs items reply status h.0 can i)
-own_takes start r said hs items reply reply' m heards.Copies ledger b taken have h f o can i =
+own_takes start r said hs items reply reply' m heards.Strays ledger b taken have h f o can i =
     let p = copies_plain reply.part m h.0 in
-    rw (f.1, f.0, o) (own_copies start r said hs items reply m can have h.0 p.0 p.1 p.2 i)
+    rw (f.1, f.0, o) (own_copies start r said hs items reply m can have h.0 p.0 p.1 i)
 
 -- ---- a message that is refused
 
@@ -533,7 +559,7 @@ pub own_refuses : (f : Frame) (ledger : Ledger) (reply : Reply) (e : Error) → 
     → (l : Leaves start r said hs items ledger false) × (count_by is_error hs ≡ 0) × IsFrontFault start r l.own hs f e
 unfolding leaves_own
 own_refuses f ledger reply e h start r said hs items i =
-    let l = leaves_own start r said hs hs items reply i.2 false i.2.own i.1 i.2.counted refl i.2.own_is i.2.own_have_frames refl in
+    let l = leaves_own start r said hs hs items reply i.2 false i.2.own i.1 i.2.counted refl i.2.own_is i.2.own_have_frames [] (sym (append-nil (items_of (heading_of r) i.2.own))) in
     rw (i.0, ← append-nil said) (l, i.2.well, fault_at start r said hs items reply f e h i.2)
 
 drain_fault : (start : Ledger) (r : Request) (own : List Group) (hs : List Frame) (f : Frame) (e : Error) → IsRefused f.tag f.body e → IsFrontFault start r own hs f e
@@ -608,4 +634,4 @@ own_stays tag a b reply reply' heards.More taken k f = rw (k, f.0, f.1) refl
 own_stays tag a b reply reply' (heards.Yields item) taken k f = rw (k, f.0, f.1) refl
 own_stays tag a b reply reply' (heards.Failed error) taken k f = rw f.0 tt
 own_stays tag a b reply reply' (heards.Closed status) taken k f = rw f.0 tt
-own_stays tag a b reply reply' heards.Copies taken k f = rw f.0 tt
+own_stays tag a b reply reply' heards.Strays taken k f = rw f.0 tt

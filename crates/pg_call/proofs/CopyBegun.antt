@@ -16,7 +16,7 @@ use Rattle.pg_wire.proofs.StepLaws.{found_first}
 use Rattle.pg_exchanges.specs.Answering.{running}
 
 -- whole segments
-abbrev Pieces : List BackendMessage → Type 0
+abbrev pub Pieces : List BackendMessage → Type 0
 Pieces own = (segments : List (List BackendMessage)) × AllByRecursion IsCopySegment segments × (own ≡ flat_map (λ rs. rs) segments)
 
 -- the rest of a table, and whole segments
@@ -94,7 +94,7 @@ starts _ m h = absurd h
 -- ---- the response of a server that begins so
 
 -- the whole reply to a Query, of which these are the first messages
-begins_by : (sql : List ℕ) (own tail : List BackendMessage) (m : BackendMessage) (rs : List BackendMessage) → rs ≡ own ++ m ∷ tail → AllByRecursion HasBackendFrame rs
+pub begins_by : (sql : List ℕ) (own tail : List BackendMessage) (m : BackendMessage) (rs : List BackendMessage) → rs ≡ own ++ m ∷ tail → AllByRecursion HasBackendFrame rs
     → (after : CopyServer) → CopyStep fresh_copy_server (Query sql) rs after → BeginsCopyResponse (Query sql ∷ []) (map backend_frame own ++ backend_frame m ∷ [])
 begins_by sql own tail m rs e have after step = record {
   before = fresh_copy_server;
@@ -112,7 +112,7 @@ begins_by sql own tail m rs e have after step = record {
   );
 }
 
-have_more : (own more : List BackendMessage) → AllByRecursion HasBackendFrame own → AllByRecursion HasBackendFrame more → AllByRecursion HasBackendFrame (own ++ more)
+pub have_more : (own more : List BackendMessage) → AllByRecursion HasBackendFrame own → AllByRecursion HasBackendFrame more → AllByRecursion HasBackendFrame (own ++ more)
 have_more [] more h k = k
 have_more (m ∷ ms) more h k = (h.0, have_more ms more h.1 k)
 

@@ -7,7 +7,7 @@ use Rattle.pg_rows.specs.declared.heading.Heading.{Heading}
 use Rattle.pg_rows.specs.Rows.{RowSeen}
 use Rattle.pg_call.specs.declared.kind.Kind.{Kind}
 use Rattle.pg_call.specs.declared.answer.CallItem.{CallItem}
-use Rattle.pg_call.specs.declared.answer.CallItem.TheVariants.{Row, Count}
+use Rattle.pg_call.specs.declared.answer.CallItem.TheVariants.{Row, Count, Piece}
 use Rattle.pg_call.specs.declared.tally.Tally.{Tally}
 use Rattle.pg_call.specs.Items.{news_of, heading_by, heading_after, parameters_by, parameters_after, item_by, items_of, row_in, rows_in, count_in, total_of, first_row, first_of, keeps_all, keeps_first, tally_of, added}
 use Rattle.pg_call.specs.Hearing.{added_all}
@@ -51,11 +51,15 @@ push_count kind t t' rows rows' e f = rw (e, f) refl
 total-push : (xs : List CallItem) (i : CallItem) → min (total_of xs + count_in i) (2 ^ 64 - 1) ≡ total_of (xs ++ i ∷ [])
 total-push xs i = omega (arith, sum_by-append count_in xs (i ∷ []))
 
+total-piece : (xs : List CallItem) (bytes : List ℕ) → total_of xs ≡ total_of (xs ++ Piece bytes ∷ [])
+total-piece xs bytes = omega (arith, sum_by-append count_in xs (Piece bytes ∷ []))
+
 total-row : (xs : List CallItem) (row : RowSeen) → total_of xs ≡ total_of (xs ++ Row row ∷ [])
 total-row xs row = omega (arith, sum_by-append count_in xs (Row row ∷ []))
 
 pub tally-push : (kind : Kind) (xs : List CallItem) (i : CallItem) → added kind (tally_of kind xs) i ≡ tally_of kind (xs ++ i ∷ [])
 tally-push kind xs (Count n) = push_count kind _ _ (rows_in xs) (rows_in (xs ++ Count n ∷ [])) (total-push xs (Count n)) (rows-push xs (Count n) ∙ append-nil (rows_in xs))
+tally-push kind xs (Piece bytes) = push_count kind _ _ (rows_in xs) (rows_in (xs ++ Piece bytes ∷ [])) (total-piece xs bytes) (rows-push xs (Piece bytes) ∙ append-nil (rows_in xs))
 tally-push kind xs (Row row) = push_row (keeps_all kind) (keeps_first kind) _ _ (rows_in xs) (rows_in (xs ++ Row row ∷ [])) row (total-row xs row) (rows-push xs (Row row))
 
 pub tally-more : (kind : Kind) (xs more : List CallItem) → added_all kind (tally_of kind xs) more ≡ tally_of kind (xs ++ more)

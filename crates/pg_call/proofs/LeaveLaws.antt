@@ -16,9 +16,9 @@ use Rattle.pg_call.specs.declared.ledger.Ledger.{Ledger}
 use Rattle.pg_call.specs.declared.waiting.Waiting.{Waiting}
 use Rattle.pg_call.specs.declared.calling.Call.{Call}
 use Rattle.pg_call.specs.declared.calling.Call.TheVariants as calls
-use Rattle.pg_call.specs.Requests.{Group, said_in, kind_of, groups_of, messages_of, farewell, is_flush, is_close, CanBeSaid, rest_of}
+use Rattle.pg_call.specs.Requests.{Group, said_in, kind_of, groups_of, messages_of, farewell, is_flush, is_close, heading_of, CanBeSaid, rest_of}
 use Rattle.pg_call.specs.declared.tally.Tally.{Tally}
-use Rattle.pg_call.specs.Items.{shown, empty_tally, tally_of, keeps_all, keeps_first}
+use Rattle.pg_call.specs.Items.{items_of, shown, empty_tally, tally_of, keeps_all, keeps_first}
 use Rattle.pg_call.specs.Hearing.{fresh_reply, sent_rest}
 use Rattle.pg_call.specs.declared.statement.Rest.{Rest}
 use Rattle.pg_call.specs.Drains.{is_error, before_readys, after_readys, drain_fails}
@@ -115,7 +115,7 @@ pub leaves_call : (start : Ledger) (r : Request) (said : List FrontendMessage) (
 leaves_call start r said hs items ledger (calls.Asked asked) i = rw (i.1, i.2, i.3, i.4) (leaves_asked start r)
 leaves_call start r said hs items ledger (calls.Waiting w) i = leaves_draining start r said hs items ledger w.is_copy_failed i.3
 leaves_call start r said hs items ledger (calls.Own reply) i =
-    rw (i.0, ← append-nil said) (leaves_own start r said hs hs items reply i.2 false i.2.own i.1 i.2.counted refl i.2.own_is i.2.own_have_frames refl)
+    rw (i.0, ← append-nil said) (leaves_own start r said hs hs items reply i.2 false i.2.own i.1 i.2.counted refl i.2.own_is i.2.own_have_frames [] (sym (append-nil (items_of (heading_of r) i.2.own))))
 leaves_call start r said hs items ledger calls.Closing i = leaves_closing start r said hs items ledger i.0 i.1 i.2
 leaves_call start r said hs items ledger calls.Idle i = absurd i
 
@@ -147,6 +147,7 @@ no_groups_flush (requests.FetchOptional query) e = absurd cc
 no_groups_flush (requests.FetchOne query) e = absurd cc
 no_groups_flush (requests.Begin depth) e = absurd cc
 no_groups_flush (requests.BeginWith query) e = absurd cc
+no_groups_flush (requests.CopyOut query) e = absurd cc
 no_groups_flush (requests.Commit left) e = absurd cc
 no_groups_flush (requests.Rollback left) e = absurd cc
 
@@ -205,6 +206,7 @@ one_of (requests.FetchOptional query) f c = (refl, refl)
 one_of (requests.FetchOne query) f c = (refl, refl)
 one_of (requests.Begin depth) f c = (refl, refl)
 one_of (requests.BeginWith query) f c = (refl, refl)
+one_of (requests.CopyOut query) f c = (refl, refl)
 one_of (requests.Commit left) f c = (refl, refl)
 one_of (requests.Rollback left) f c = (refl, refl)
 one_of (requests.Describe extended) f c = (refl, refl)
@@ -234,6 +236,7 @@ close_kind (requests.FetchOptional query) e = absurd cc
 close_kind (requests.FetchOne query) e = absurd cc
 close_kind (requests.Begin depth) e = absurd cc
 close_kind (requests.BeginWith query) e = absurd cc
+close_kind (requests.CopyOut query) e = absurd cc
 close_kind (requests.Commit left) e = absurd cc
 close_kind (requests.Rollback left) e = absurd cc
 

@@ -4,6 +4,7 @@ pub mod DrainLaws
 pub mod ItemLaws
 pub mod RefusedLaws
 pub mod CopyBegun
+pub mod CopyOutLaws
 pub mod CallLaws
 pub mod LeaveLaws
 pub mod FitLaws

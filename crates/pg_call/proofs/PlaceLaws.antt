@@ -1,16 +1,16 @@
 -- What may come where, by its tag.
-use Rattle.std.proofs.Common.{◌≡◌, ℕ, true, false, List, length, Some, None, refl, sym, ◌∙◌, ap, subst, Ok, Err, arith}
+use Rattle.std.proofs.Common.{◌≡◌, ℕ, ℤ, true, false, List, length, Some, None, refl, sym, ◌∙◌, ap, subst, Ok, Err, arith}
 use Rattle.pg_wire.specs.declared.error.Error.{Error}
 use Rattle.pg_wire.specs.declared.error.Error.TheVariants as errors
 use Rattle.pg_wire.specs.declared.error.ProtocolFault.TheVariants as protocol
 use Rattle.pg_wire.specs.declared.error.ServerFault.TheVariants as faults
 use Rattle.pg_wire.specs.Frame.{Frame, is_known}
-use Rattle.pg_wire.specs.Backend.{FieldDescription, Values, BackendMessage, backend_frame, ReadyForQuery, RowDescription, DataRow, CommandComplete, ErrorResponse, EmptyQueryResponse, ParameterDescription, ParseComplete, BindComplete, CloseComplete, NoData, CopyInResponse, CopyOutResponse}
+use Rattle.pg_wire.specs.Backend.{FieldDescription, Values, BackendMessage, backend_frame, ReadyForQuery, RowDescription, DataRow, CommandComplete, ErrorResponse, EmptyQueryResponse, ParameterDescription, ParseComplete, BindComplete, CloseComplete, NoData, CopyInResponse, CopyOutResponse, BackendCopyData, BackendCopyDone}
 use Rattle.pg_wire.specs.Decoding.{Says}
 use Rattle.pg_wire.proofs.Unique.{backend_frame_unique}
 use Rattle.pg_call.specs.declared.judging.Part.{Part}
-use Rattle.pg_call.specs.declared.judging.Part.TheVariants.{First, Further, Rows, Synced, Parsing, Typing, Describing, Described, Binding, Running, RunningOn, Closing}
-use Rattle.pg_call.specs.Replies.{goes_on, goes_plainly, may_copy, may_close, after_row, after_bind, after_close, after_columns, after_end, tags_of, MayNotCome, IsAny, IsFault, Judges}
+use Rattle.pg_call.specs.declared.judging.Part.TheVariants.{First, Further, Rows, Synced, Parsing, Typing, Describing, Described, Binding, Running, RunningOn, Closing, CopyFirst, CopyData, CopyEnd, Copied}
+use Rattle.pg_call.specs.Replies.{goes_on, goes_plainly, may_stray, may_close, after_row, after_bind, after_close, after_columns, after_end, stray_tags, tags_of, MayNotCome, IsAny, IsFault, Judges}
 use Rattle.pg_call.specs.declared.judging.Verdict.{Verdict}
 use Rattle.pg_call.specs.declared.judging.News.TheVariants.{Nothing}
 use Rattle.pg_call.specs.Items.{news_of}
@@ -19,6 +19,7 @@ pub closes_at : (part : Part) → is_known (tags_of part) 90 ≡ true → may_cl
 closes_at Further k = refl
 closes_at Synced k = refl
 closes_at (Described columns) k = refl
+closes_at Copied k = refl
 closes_at _ k = absurd cc
 
 pub describes_at : (part : Part) (fields : List FieldDescription) → is_known (tags_of part) 84 ≡ true → goes_on part (RowDescription fields) ≡ Some (after_columns part (length fields))
@@ -53,6 +54,7 @@ ends_at Further tag k = refl
 ends_at (Rows columns) tag k = refl
 ends_at (Running width) tag k = refl
 ends_at (RunningOn columns) tag k = refl
+ends_at CopyEnd tag k = refl
 ends_at _ tag k = absurd cc
 
 pub empties_at : (part : Part) → is_known (tags_of part) 73 ≡ true → goes_on part EmptyQueryResponse ≡ Some (after_end part)
@@ -62,87 +64,139 @@ empties_at (Running width) k = refl
 empties_at (RunningOn columns) k = refl
 empties_at _ k = absurd cc
 
-pub copies_at : (part : Part) (m : BackendMessage) → is_known (tags_of part) 71 ≡ true → may_copy First m ≡ true → may_copy part m ≡ true
-copies_at First m k e = e
-copies_at Further m k e = e
-copies_at (Running width) m k e = e
-copies_at _ m k e = absurd cc
+pub begins_copy_at : (part : Part) (format : ℤ) (columns : List ℤ) → is_known (tags_of part) 72 ≡ true → goes_on part (CopyOutResponse format columns) ≡ Some CopyData
+begins_copy_at CopyFirst format columns k = refl
+begins_copy_at _ format columns k = absurd cc
 
-pub copies_out_at : (part : Part) (m : BackendMessage) → is_known (tags_of part) 72 ≡ true → may_copy First m ≡ true → may_copy part m ≡ true
-copies_out_at First m k e = e
-copies_out_at Further m k e = e
-copies_out_at (Running width) m k e = e
-copies_out_at _ m k e = absurd cc
+pub copies_at : (part : Part) (bytes : List ℕ) → is_known (tags_of part) 100 ≡ true → goes_on part (BackendCopyData bytes) ≡ Some CopyData
+copies_at CopyData bytes k = refl
+copies_at _ bytes k = absurd cc
+
+pub ends_copy_at : (part : Part) → is_known (tags_of part) 99 ≡ true → goes_on part BackendCopyDone ≡ Some CopyEnd
+ends_copy_at CopyData k = refl
+ends_copy_at _ k = absurd cc
+
+-- another reply than the one that is awaited
+strays_by : (part : Part) (m : BackendMessage) → is_known (stray_tags part) (backend_frame m).tag ≡ true → may_stray part m ≡ true
+strays_by First (CopyInResponse format columns) k = refl
+strays_by First (CopyOutResponse format columns) k = refl
+strays_by First _ k = absurd cc
+strays_by Further (CopyInResponse format columns) k = refl
+strays_by Further (CopyOutResponse format columns) k = refl
+strays_by Further _ k = absurd cc
+strays_by (Running width) (CopyInResponse format columns) k = refl
+strays_by (Running width) (CopyOutResponse format columns) k = refl
+strays_by (Running width) _ k = absurd cc
+strays_by CopyFirst (RowDescription fields) k = refl
+strays_by CopyFirst (CommandComplete tag) k = refl
+strays_by CopyFirst EmptyQueryResponse k = refl
+strays_by CopyFirst (CopyInResponse format columns) k = refl
+strays_by CopyFirst _ k = absurd cc
+strays_by Copied (RowDescription fields) k = refl
+strays_by Copied (CommandComplete tag) k = refl
+strays_by Copied EmptyQueryResponse k = refl
+strays_by Copied (CopyInResponse format columns) k = refl
+strays_by Copied (CopyOutResponse format columns) k = refl
+strays_by Copied _ k = absurd cc
+strays_by _ m k = absurd cc
+
+pub strays_at : (part : Part) (tag : ℕ) (body : List ℕ) (m : BackendMessage) → Says tag body m → is_known (stray_tags part) tag ≡ true → may_stray part m ≡ true
+strays_at part tag body m s k = strays_by part m (ap (λ (f : Frame). is_known (stray_tags part) f.tag) s.1 ∙ k)
 
 -- ---- what may not come
 
--- a message whose tag the part doesn't await
-untold : (part : Part) (m : BackendMessage) → is_known (tags_of part) (backend_frame m).tag ≡ false → MayNotCome part m
-untold First (RowDescription fields) k = absurd cc
-untold First (CommandComplete tag) k = absurd cc
-untold First EmptyQueryResponse k = absurd cc
-untold First (ErrorResponse details) k = absurd cc
-untold First (CopyInResponse format columns) k = absurd cc
-untold First (CopyOutResponse format columns) k = absurd cc
-untold First (ReadyForQuery status) k = refl
-untold First _ k = (refl, refl)
-untold Further (RowDescription fields) k = absurd cc
-untold Further (CommandComplete tag) k = absurd cc
-untold Further EmptyQueryResponse k = absurd cc
-untold Further (ErrorResponse details) k = absurd cc
-untold Further (CopyInResponse format columns) k = absurd cc
-untold Further (CopyOutResponse format columns) k = absurd cc
-untold Further (ReadyForQuery status) k = absurd cc
-untold Further _ k = (refl, refl)
-untold (Rows columns) (DataRow values) k = absurd cc
-untold (Rows columns) (CommandComplete tag) k = absurd cc
-untold (Rows columns) (ErrorResponse details) k = absurd cc
-untold (Rows columns) (ReadyForQuery status) k = refl
-untold (Rows columns) _ k = (refl, refl)
-untold Synced (ErrorResponse details) k = absurd cc
-untold Synced (ReadyForQuery status) k = absurd cc
-untold Synced _ k = (refl, refl)
-untold Parsing ParseComplete k = absurd cc
-untold Parsing (ErrorResponse details) k = absurd cc
-untold Parsing (ReadyForQuery status) k = refl
-untold Parsing _ k = (refl, refl)
-untold Typing (ParameterDescription types) k = absurd cc
-untold Typing (ErrorResponse details) k = absurd cc
-untold Typing (ReadyForQuery status) k = refl
-untold Typing _ k = (refl, refl)
-untold Describing (RowDescription fields) k = absurd cc
-untold Describing NoData k = absurd cc
-untold Describing (ErrorResponse details) k = absurd cc
-untold Describing (ReadyForQuery status) k = refl
-untold Describing _ k = (refl, refl)
-untold (Described columns) (ErrorResponse details) k = absurd cc
-untold (Described columns) (ReadyForQuery status) k = absurd cc
-untold (Described columns) _ k = (refl, refl)
-untold (Binding width) BindComplete k = absurd cc
-untold (Binding width) (ErrorResponse details) k = absurd cc
-untold (Binding width) (ReadyForQuery status) k = refl
-untold (Binding width) _ k = (refl, refl)
-untold (Running width) (DataRow values) k = absurd cc
-untold (Running width) (CommandComplete tag) k = absurd cc
-untold (Running width) EmptyQueryResponse k = absurd cc
-untold (Running width) (ErrorResponse details) k = absurd cc
-untold (Running width) (CopyInResponse format columns) k = absurd cc
-untold (Running width) (CopyOutResponse format columns) k = absurd cc
-untold (Running width) (ReadyForQuery status) k = refl
-untold (Running width) _ k = (refl, refl)
-untold (RunningOn columns) (DataRow values) k = absurd cc
-untold (RunningOn columns) (CommandComplete tag) k = absurd cc
-untold (RunningOn columns) EmptyQueryResponse k = absurd cc
-untold (RunningOn columns) (ErrorResponse details) k = absurd cc
-untold (RunningOn columns) (ReadyForQuery status) k = refl
-untold (RunningOn columns) _ k = (refl, refl)
-untold (Closing more) CloseComplete k = absurd cc
-untold (Closing more) (ErrorResponse details) k = absurd cc
-untold (Closing more) (ReadyForQuery status) k = refl
-untold (Closing more) _ k = (refl, refl)
+-- a message with a tag that neither is awaited nor may come
+untold : (part : Part) (m : BackendMessage) → is_known (tags_of part) (backend_frame m).tag ≡ false → is_known (stray_tags part) (backend_frame m).tag ≡ false → MayNotCome part m
+untold First (RowDescription fields) k s = absurd cc
+untold First (CommandComplete tag) k s = absurd cc
+untold First EmptyQueryResponse k s = absurd cc
+untold First (ErrorResponse details) k s = absurd cc
+untold First (CopyInResponse format columns) k s = absurd cc
+untold First (CopyOutResponse format columns) k s = absurd cc
+untold First (ReadyForQuery status) k s = refl
+untold First _ k s = (refl, refl)
+untold Further (RowDescription fields) k s = absurd cc
+untold Further (CommandComplete tag) k s = absurd cc
+untold Further EmptyQueryResponse k s = absurd cc
+untold Further (ErrorResponse details) k s = absurd cc
+untold Further (CopyInResponse format columns) k s = absurd cc
+untold Further (CopyOutResponse format columns) k s = absurd cc
+untold Further (ReadyForQuery status) k s = absurd cc
+untold Further _ k s = (refl, refl)
+untold (Rows columns) (DataRow values) k s = absurd cc
+untold (Rows columns) (CommandComplete tag) k s = absurd cc
+untold (Rows columns) (ErrorResponse details) k s = absurd cc
+untold (Rows columns) (ReadyForQuery status) k s = refl
+untold (Rows columns) _ k s = (refl, refl)
+untold Synced (ErrorResponse details) k s = absurd cc
+untold Synced (ReadyForQuery status) k s = absurd cc
+untold Synced _ k s = (refl, refl)
+untold Parsing ParseComplete k s = absurd cc
+untold Parsing (ErrorResponse details) k s = absurd cc
+untold Parsing (ReadyForQuery status) k s = refl
+untold Parsing _ k s = (refl, refl)
+untold Typing (ParameterDescription types) k s = absurd cc
+untold Typing (ErrorResponse details) k s = absurd cc
+untold Typing (ReadyForQuery status) k s = refl
+untold Typing _ k s = (refl, refl)
+untold Describing (RowDescription fields) k s = absurd cc
+untold Describing NoData k s = absurd cc
+untold Describing (ErrorResponse details) k s = absurd cc
+untold Describing (ReadyForQuery status) k s = refl
+untold Describing _ k s = (refl, refl)
+untold (Described columns) (ErrorResponse details) k s = absurd cc
+untold (Described columns) (ReadyForQuery status) k s = absurd cc
+untold (Described columns) _ k s = (refl, refl)
+untold (Binding width) BindComplete k s = absurd cc
+untold (Binding width) (ErrorResponse details) k s = absurd cc
+untold (Binding width) (ReadyForQuery status) k s = refl
+untold (Binding width) _ k s = (refl, refl)
+untold (Running width) (DataRow values) k s = absurd cc
+untold (Running width) (CommandComplete tag) k s = absurd cc
+untold (Running width) EmptyQueryResponse k s = absurd cc
+untold (Running width) (ErrorResponse details) k s = absurd cc
+untold (Running width) (CopyInResponse format columns) k s = absurd cc
+untold (Running width) (CopyOutResponse format columns) k s = absurd cc
+untold (Running width) (ReadyForQuery status) k s = refl
+untold (Running width) _ k s = (refl, refl)
+untold (RunningOn columns) (DataRow values) k s = absurd cc
+untold (RunningOn columns) (CommandComplete tag) k s = absurd cc
+untold (RunningOn columns) EmptyQueryResponse k s = absurd cc
+untold (RunningOn columns) (ErrorResponse details) k s = absurd cc
+untold (RunningOn columns) (ReadyForQuery status) k s = refl
+untold (RunningOn columns) _ k s = (refl, refl)
+untold (Closing more) CloseComplete k s = absurd cc
+untold (Closing more) (ErrorResponse details) k s = absurd cc
+untold (Closing more) (ReadyForQuery status) k s = refl
+untold (Closing more) _ k s = (refl, refl)
+untold CopyFirst (RowDescription fields) k s = absurd cc
+untold CopyFirst (CommandComplete tag) k s = absurd cc
+untold CopyFirst EmptyQueryResponse k s = absurd cc
+untold CopyFirst (ErrorResponse details) k s = absurd cc
+untold CopyFirst (CopyInResponse format columns) k s = absurd cc
+untold CopyFirst (CopyOutResponse format columns) k s = absurd cc
+untold CopyFirst (ReadyForQuery status) k s = refl
+untold CopyFirst _ k s = (refl, refl)
+untold CopyData (BackendCopyData bytes) k s = absurd cc
+untold CopyData BackendCopyDone k s = absurd cc
+untold CopyData (ErrorResponse details) k s = absurd cc
+untold CopyData (ReadyForQuery status) k s = refl
+untold CopyData _ k s = (refl, refl)
+untold CopyEnd (CommandComplete tag) k s = absurd cc
+untold CopyEnd (ErrorResponse details) k s = absurd cc
+untold CopyEnd (ReadyForQuery status) k s = refl
+untold CopyEnd _ k s = (refl, refl)
+untold Copied (RowDescription fields) k s = absurd cc
+untold Copied (CommandComplete tag) k s = absurd cc
+untold Copied EmptyQueryResponse k s = absurd cc
+untold Copied (ErrorResponse details) k s = absurd cc
+untold Copied (CopyInResponse format columns) k s = absurd cc
+untold Copied (CopyOutResponse format columns) k s = absurd cc
+untold Copied (ReadyForQuery status) k s = absurd cc
+untold Copied _ k s = (refl, refl)
 
-out_of_place : (part : Part) (m : BackendMessage) (tag : ℕ) (body : List ℕ) → Says tag body m → is_known (tags_of part) tag ≡ false → MayNotCome part m
-out_of_place part m tag body s k = untold part m (ap (λ (f : Frame). is_known (tags_of part) f.tag) s.1 ∙ k)
+out_of_place : (part : Part) (m : BackendMessage) (tag : ℕ) (body : List ℕ) → Says tag body m → is_known (tags_of part) tag ≡ false → is_known (stray_tags part) tag ≡ false → MayNotCome part m
+out_of_place part m tag body s k x = untold part m (ap (λ (f : Frame). is_known (tags_of part) f.tag) s.1 ∙ k) (ap (λ (f : Frame). is_known (stray_tags part) f.tag) s.1 ∙ x)
 
 -- a refusal for whatever reason is one for this
 because : (part : Part) (tag : ℕ) (body : List ℕ) (e : Error) → ((m : BackendMessage) → Says tag body m → MayNotCome part m) → IsFault IsAny tag body e → Judges part tag body (Err e)
@@ -151,8 +205,8 @@ because part tag body (errors.Protocol (protocol.Server (faults.Malformed t))) f
 because part tag body (errors.Protocol (protocol.Server (faults.Unlawful t))) f h = (h.0, h.1, h.2, f h.1 h.2)
 because part tag body _ f h = absurd h
 
-pub misplaced : (part : Part) (tag : ℕ) (body : List ℕ) (e : Error) → is_known (tags_of part) tag ≡ false → IsFault IsAny tag body e → Judges part tag body (Err e)
-misplaced part tag body e k h = because part tag body e (λ m s. out_of_place part m tag body s k) h
+pub misplaced : (part : Part) (tag : ℕ) (body : List ℕ) (e : Error) → is_known (tags_of part) tag ≡ false → is_known (stray_tags part) tag ≡ false → IsFault IsAny tag body e → Judges part tag body (Err e)
+misplaced part tag body e k x h = because part tag body e (λ m s. out_of_place part m tag body s k x) h
 
 -- ---- rows
 
@@ -169,6 +223,10 @@ row_goes Describing next values e = absurd cc
 row_goes (Described columns) next values e = absurd cc
 row_goes (Binding width) next values e = absurd cc
 row_goes (Closing more) next values e = absurd cc
+row_goes CopyFirst next values e = absurd cc
+row_goes CopyData next values e = absurd cc
+row_goes CopyEnd next values e = absurd cc
+row_goes Copied next values e = absurd cc
 
 unfitting : (part : Part) (values : Values) → after_row part (length values) ≡ None → MayNotCome part (DataRow values)
 unfitting (Rows columns) values e = (e, refl)
@@ -183,6 +241,10 @@ unfitting Describing values e = (refl, refl)
 unfitting (Described columns) values e = (refl, refl)
 unfitting (Binding width) values e = (refl, refl)
 unfitting (Closing more) values e = (refl, refl)
+unfitting CopyFirst values e = (refl, refl)
+unfitting CopyData values e = (refl, refl)
+unfitting CopyEnd values e = (refl, refl)
+unfitting Copied values e = (refl, refl)
 
 pub other_width : (part : Part) (values : Values) (body : List ℕ) (e : Error) → Says 68 body (DataRow values) → after_row part (length values) ≡ None → IsFault IsAny 68 body e → Judges part 68 body (Err e)
 other_width part values body e s n h =

@@ -40,6 +40,7 @@ refusal_is (requests.FetchOptional query) e h = query_is (Some query) e h
 refusal_is (requests.FetchOne query) e h = query_is (Some query) e h
 refusal_is (requests.Begin depth) e h = query_is (query_of (requests.Begin depth)) e h
 refusal_is (requests.BeginWith query) e h = query_is (Some query) e h
+refusal_is (requests.CopyOut query) e h = query_is (Some query) e h
 refusal_is (requests.Commit left) e h = query_is (query_of (requests.Commit left)) e h
 refusal_is (requests.Rollback left) e h = query_is (query_of (requests.Rollback left)) e h
 refusal_is (requests.Evict eviction) e h = query_is None e h

@@ -16,14 +16,15 @@ use Rattle.pg_exchanges.specs.Answering.{described, running}
 use Rattle.pg_exchanges.specs.Answering.{closing as closing_group}
 use Rattle.pg_exchanges.proofs.ExpectingLaws.{refused_begins_no_group_response}
 use Rattle.pg_call.proofs.CopyBegun.{copy_begins_response, copy_begins_run}
+use Rattle.pg_call.proofs.CopyOutLaws.{copy_refused, copy_strays}
 use Rattle.pg_call.specs.declared.request.Request.{Request}
 use Rattle.pg_call.specs.declared.request.Request.TheVariants as requests
 use Rattle.pg_call.specs.declared.judging.Part.{Part}
-use Rattle.pg_call.specs.declared.judging.Part.TheVariants.{First, Further, Rows, Synced, Parsing, Typing, Describing, Described, Binding, Running, RunningOn, Closing}
+use Rattle.pg_call.specs.declared.judging.Part.TheVariants.{First, Further, Rows, Synced, Parsing, Typing, Describing, Described, Binding, Running, RunningOn, Closing, CopyFirst, CopyData, CopyEnd, Copied}
 use Rattle.pg_rows.specs.declared.heading.Heading.{Heading}
 use Rattle.pg_call.specs.Requests.{Group, groups_of, known, name_of, width_of, widths_of}
 use Rattle.pg_call.specs.Items.{heading_after}
-use Rattle.pg_call.specs.Replies.{awaited, awaits_first, begins, closing, goes_on, part_after, may_copy, MayNotCome}
+use Rattle.pg_call.specs.Replies.{awaited, awaits_first, begins, begins_copy, closing, goes_on, part_after, may_stray, MayNotCome}
 
 -- ---- the reply goes on as the protocol says
 
@@ -62,46 +63,121 @@ closes_on : (more : ℕ) → Leads (Some (InSteps (replicate more Closes))) (Som
 closes_on zero = refl
 closes_on (suc more) = subst (λ (p : Part). Leads (Some (InSteps (replicate (suc more) Closes))) (Some p)) (sym (closing_suc more)) refl
 
-gone : (part : Part) (m : BackendMessage) → Leads (following (awaited part) m) (goes_on part m)
-gone First m = begun m
-gone Further m = begun_further m
-gone (Rows columns) (DataRow values) = of_table columns (length values == columns)
-gone (Rows columns) (CommandComplete tag) = refl
-gone (Rows columns) _ = tt
-gone Synced m = tt
-gone Parsing ParseComplete = refl
-gone Parsing _ = tt
-gone Typing (ParameterDescription types) = refl
-gone Typing _ = tt
-gone Describing (RowDescription fields) = refl
-gone Describing NoData = refl
-gone Describing _ = tt
-gone (Described columns) m = tt
-gone (Binding width) BindComplete = refl
-gone (Binding width) _ = tt
-gone (Running None) (DataRow values) = refl
-gone (Running (Some columns)) (DataRow values) = of_portal columns (length values == columns)
-gone (Running width) (CommandComplete tag) = refl
-gone (Running width) EmptyQueryResponse = refl
-gone (Running width) _ = tt
-gone (RunningOn columns) (DataRow values) = of_portal columns (length values == columns)
-gone (RunningOn columns) (CommandComplete tag) = refl
-gone (RunningOn columns) EmptyQueryResponse = refl
-gone (RunningOn columns) _ = tt
-gone (Closing more) CloseComplete = closes_on more
-gone (Closing more) _ = tt
+-- no part of a copy
+abbrev pub IsPlain : Part → Type 0
+IsPlain CopyFirst = ⊥
+IsPlain CopyData = ⊥
+IsPlain CopyEnd = ⊥
+IsPlain Copied = ⊥
+IsPlain _ = Unit {0}
 
-followed : (part next : Part) (m : BackendMessage) → goes_on part m ≡ Some next → following (awaited part) m ≡ Some (awaited next)
-followed part next m e = subst (Leads (following (awaited part) m)) e (gone part m)
+abbrev IsPlainOr : Option Part → Type 0
+IsPlainOr None = Unit {0}
+IsPlainOr (Some part) = IsPlain part
 
-accepted_step : (part : Part) (m : BackendMessage) (ms : List BackendMessage) (q : Part) (o : Option Part) → goes_on part m ≡ o → ((n : Part) → part_after n ms ≡ Some q → behind (awaited n) ms ≡ Some (awaited q))
-    → option_and_then (λ n. part_after n ms) o ≡ Some q → behind (awaited part) (m ∷ ms) ≡ Some (awaited q)
-accepted_step part m ms q None g f e = absurd cc
-accepted_step part m ms q (Some n) g f e = ap (λ (o : Option Expected). option_and_then (λ t. behind t ms) o) (followed part n m g) ∙ f n e
+begins_plain : (m : BackendMessage) → IsPlainOr (begins m)
+begins_plain (RowDescription fields) = tt
+begins_plain (CommandComplete tag) = tt
+begins_plain EmptyQueryResponse = tt
+begins_plain _ = tt
 
-accepted : (part : Part) (ms : List BackendMessage) (q : Part) → part_after part ms ≡ Some q → behind (awaited part) ms ≡ Some (awaited q)
-accepted part [] q e = ap (λ (p : Part). Some (awaited p)) (same_Some part q e)
-accepted part (m ∷ ms) q e = accepted_step part m ms q (goes_on part m) refl (λ n k. accepted n ms q k) e
+table_plain : (columns : ℕ) (b : Bool) → IsPlainOr (cond b (Some (Rows columns)) None)
+table_plain columns true = tt
+table_plain columns false = tt
+
+portal_plain : (columns : ℕ) (b : Bool) → IsPlainOr (cond b (Some (RunningOn columns)) None)
+portal_plain columns true = tt
+portal_plain columns false = tt
+
+pub closing_plain : (more : ℕ) → IsPlain (closing more)
+closing_plain more = by (nat_eq more 0)
+  where
+    by : (b : Bool) → IsPlain (cond b Synced (Closing (more - 1)))
+    by true = tt
+    by false = tt
+
+goes_plain : (part : Part) (m : BackendMessage) → IsPlain part → IsPlainOr (goes_on part m)
+goes_plain First m i = begins_plain m
+goes_plain Further m i = begins_plain m
+goes_plain (Rows columns) (DataRow values) i = table_plain columns (length values == columns)
+goes_plain (Rows columns) (CommandComplete tag) i = tt
+goes_plain (Rows columns) _ i = tt
+goes_plain Synced m i = tt
+goes_plain Parsing ParseComplete i = tt
+goes_plain Parsing _ i = tt
+goes_plain Typing (ParameterDescription types) i = tt
+goes_plain Typing _ i = tt
+goes_plain Describing (RowDescription fields) i = tt
+goes_plain Describing NoData i = tt
+goes_plain Describing _ i = tt
+goes_plain (Described columns) m i = tt
+goes_plain (Binding width) BindComplete i = tt
+goes_plain (Binding width) _ i = tt
+goes_plain (Running None) (DataRow values) i = tt
+goes_plain (Running (Some columns)) (DataRow values) i = portal_plain columns (length values == columns)
+goes_plain (Running width) (CommandComplete tag) i = tt
+goes_plain (Running width) EmptyQueryResponse i = tt
+goes_plain (Running width) _ i = tt
+goes_plain (RunningOn columns) (DataRow values) i = portal_plain columns (length values == columns)
+goes_plain (RunningOn columns) (CommandComplete tag) i = tt
+goes_plain (RunningOn columns) EmptyQueryResponse i = tt
+goes_plain (RunningOn columns) _ i = tt
+goes_plain (Closing more) CloseComplete i = closing_plain more
+goes_plain (Closing more) _ i = tt
+goes_plain CopyFirst m i = absurd i
+goes_plain CopyData m i = absurd i
+goes_plain CopyEnd m i = absurd i
+goes_plain Copied m i = absurd i
+
+plain_on : (part next : Part) (m : BackendMessage) → IsPlain part → goes_on part m ≡ Some next → IsPlain next
+plain_on part next m i e = subst IsPlainOr e (goes_plain part m i)
+
+gone : (part : Part) (m : BackendMessage) → IsPlain part → Leads (following (awaited part) m) (goes_on part m)
+gone First m i = begun m
+gone Further m i = begun_further m
+gone (Rows columns) (DataRow values) i = of_table columns (length values == columns)
+gone (Rows columns) (CommandComplete tag) i = refl
+gone (Rows columns) _ i = tt
+gone Synced m i = tt
+gone Parsing ParseComplete i = refl
+gone Parsing _ i = tt
+gone Typing (ParameterDescription types) i = refl
+gone Typing _ i = tt
+gone Describing (RowDescription fields) i = refl
+gone Describing NoData i = refl
+gone Describing _ i = tt
+gone (Described columns) m i = tt
+gone (Binding width) BindComplete i = refl
+gone (Binding width) _ i = tt
+gone (Running None) (DataRow values) i = refl
+gone (Running (Some columns)) (DataRow values) i = of_portal columns (length values == columns)
+gone (Running width) (CommandComplete tag) i = refl
+gone (Running width) EmptyQueryResponse i = refl
+gone (Running width) _ i = tt
+gone (RunningOn columns) (DataRow values) i = of_portal columns (length values == columns)
+gone (RunningOn columns) (CommandComplete tag) i = refl
+gone (RunningOn columns) EmptyQueryResponse i = refl
+gone (RunningOn columns) _ i = tt
+gone (Closing more) CloseComplete i = closes_on more
+gone (Closing more) _ i = tt
+gone CopyFirst m i = absurd i
+gone CopyData m i = absurd i
+gone CopyEnd m i = absurd i
+gone Copied m i = absurd i
+
+followed : (part next : Part) (m : BackendMessage) → IsPlain part → goes_on part m ≡ Some next → following (awaited part) m ≡ Some (awaited next)
+followed part next m i e = subst (Leads (following (awaited part) m)) e (gone part m i)
+
+accepted_step : (part : Part) (m : BackendMessage) (ms : List BackendMessage) (q : Part) (o : Option Part) → IsPlain part → goes_on part m ≡ o → ((n : Part) → IsPlain n → part_after n ms ≡ Some q → (behind (awaited n) ms ≡ Some (awaited q)) × IsPlain q)
+    → option_and_then (λ n. part_after n ms) o ≡ Some q → (behind (awaited part) (m ∷ ms) ≡ Some (awaited q)) × IsPlain q
+accepted_step part m ms q None i g f e = absurd cc
+accepted_step part m ms q (Some n) i g f e =
+    let on = f n (plain_on part n m i g) e in
+    (ap (λ (o : Option Expected). option_and_then (λ t. behind t ms) o) (followed part n m i g) ∙ on.0, on.1)
+
+accepted : (part : Part) (ms : List BackendMessage) (q : Part) → IsPlain part → part_after part ms ≡ Some q → (behind (awaited part) ms ≡ Some (awaited q)) × IsPlain q
+accepted part [] q i e = (ap (λ (p : Part). Some (awaited p)) (same_Some part q e), subst IsPlain (same_Some part q e) i)
+accepted part (m ∷ ms) q i e = accepted_step part m ms q (goes_on part m) i refl (λ n j k. accepted n ms q j k) e
 
 -- ---- what may not come is refused
 
@@ -113,61 +189,65 @@ not_of_portal : (columns : ℕ) (b : Bool) → cond b (Some (RunningOn columns))
 not_of_portal columns true e = absurd cc
 not_of_portal columns false e = refl
 
-refused : (part : Part) (m : BackendMessage) → MayNotCome part m → (following (awaited part) m ≡ None) × (MayCopy (awaited part) m → ⊥)
-refused First (RowDescription fields) h = absurd cc
-refused First (CommandComplete tag) h = absurd cc
-refused First EmptyQueryResponse h = absurd cc
-refused First (ErrorResponse details) h = absurd h
-refused First (CopyInResponse format columns) h = absurd cc
-refused First (CopyOutResponse format columns) h = absurd cc
-refused First _ h = (refl, λ x. x)
-refused Further (RowDescription fields) h = absurd cc
-refused Further (CommandComplete tag) h = absurd cc
-refused Further EmptyQueryResponse h = absurd cc
-refused Further (ErrorResponse details) h = absurd h
-refused Further (ReadyForQuery status) h = absurd cc
-refused Further (CopyInResponse format columns) h = absurd cc
-refused Further (CopyOutResponse format columns) h = absurd cc
-refused Further _ h = (refl, λ x. x)
-refused (Rows columns) (DataRow values) h = (not_of_table columns (length values == columns) h.0, λ x. x)
-refused (Rows columns) (CommandComplete tag) h = absurd cc
-refused (Rows columns) (ErrorResponse details) h = absurd h
-refused (Rows columns) _ h = (refl, λ x. x)
-refused Synced (ErrorResponse details) h = absurd h
-refused Synced (ReadyForQuery status) h = absurd cc
-refused Synced _ h = (refl, λ x. x)
-refused Parsing ParseComplete h = absurd cc
-refused Parsing (ErrorResponse details) h = absurd h
-refused Parsing _ h = (refl, λ x. x)
-refused Typing (ParameterDescription types) h = absurd cc
-refused Typing (ErrorResponse details) h = absurd h
-refused Typing _ h = (refl, λ x. x)
-refused Describing (RowDescription fields) h = absurd cc
-refused Describing NoData h = absurd cc
-refused Describing (ErrorResponse details) h = absurd h
-refused Describing _ h = (refl, λ x. x)
-refused (Described columns) (ErrorResponse details) h = absurd h
-refused (Described columns) (ReadyForQuery status) h = absurd cc
-refused (Described columns) _ h = (refl, λ x. x)
-refused (Binding width) BindComplete h = absurd cc
-refused (Binding width) (ErrorResponse details) h = absurd h
-refused (Binding width) _ h = (refl, λ x. x)
-refused (Running None) (DataRow values) h = absurd cc
-refused (Running (Some columns)) (DataRow values) h = (not_of_portal columns (length values == columns) h.0, λ x. x)
-refused (Running width) (CommandComplete tag) h = absurd cc
-refused (Running width) EmptyQueryResponse h = absurd cc
-refused (Running width) (ErrorResponse details) h = absurd h
-refused (Running width) (CopyInResponse format columns) h = absurd cc
-refused (Running width) (CopyOutResponse format columns) h = absurd cc
-refused (Running width) _ h = (refl, λ x. x)
-refused (RunningOn columns) (DataRow values) h = (not_of_portal columns (length values == columns) h.0, λ x. x)
-refused (RunningOn columns) (CommandComplete tag) h = absurd cc
-refused (RunningOn columns) EmptyQueryResponse h = absurd cc
-refused (RunningOn columns) (ErrorResponse details) h = absurd h
-refused (RunningOn columns) _ h = (refl, λ x. x)
-refused (Closing more) CloseComplete h = absurd cc
-refused (Closing more) (ErrorResponse details) h = absurd h
-refused (Closing more) _ h = (refl, λ x. x)
+refused : (part : Part) (m : BackendMessage) → IsPlain part → MayNotCome part m → (following (awaited part) m ≡ None) × (MayCopy (awaited part) m → ⊥)
+refused First (RowDescription fields) i h = absurd cc
+refused First (CommandComplete tag) i h = absurd cc
+refused First EmptyQueryResponse i h = absurd cc
+refused First (ErrorResponse details) i h = absurd h
+refused First (CopyInResponse format columns) i h = absurd cc
+refused First (CopyOutResponse format columns) i h = absurd cc
+refused First _ i h = (refl, λ x. x)
+refused Further (RowDescription fields) i h = absurd cc
+refused Further (CommandComplete tag) i h = absurd cc
+refused Further EmptyQueryResponse i h = absurd cc
+refused Further (ErrorResponse details) i h = absurd h
+refused Further (ReadyForQuery status) i h = absurd cc
+refused Further (CopyInResponse format columns) i h = absurd cc
+refused Further (CopyOutResponse format columns) i h = absurd cc
+refused Further _ i h = (refl, λ x. x)
+refused (Rows columns) (DataRow values) i h = (not_of_table columns (length values == columns) h.0, λ x. x)
+refused (Rows columns) (CommandComplete tag) i h = absurd cc
+refused (Rows columns) (ErrorResponse details) i h = absurd h
+refused (Rows columns) _ i h = (refl, λ x. x)
+refused Synced (ErrorResponse details) i h = absurd h
+refused Synced (ReadyForQuery status) i h = absurd cc
+refused Synced _ i h = (refl, λ x. x)
+refused Parsing ParseComplete i h = absurd cc
+refused Parsing (ErrorResponse details) i h = absurd h
+refused Parsing _ i h = (refl, λ x. x)
+refused Typing (ParameterDescription types) i h = absurd cc
+refused Typing (ErrorResponse details) i h = absurd h
+refused Typing _ i h = (refl, λ x. x)
+refused Describing (RowDescription fields) i h = absurd cc
+refused Describing NoData i h = absurd cc
+refused Describing (ErrorResponse details) i h = absurd h
+refused Describing _ i h = (refl, λ x. x)
+refused (Described columns) (ErrorResponse details) i h = absurd h
+refused (Described columns) (ReadyForQuery status) i h = absurd cc
+refused (Described columns) _ i h = (refl, λ x. x)
+refused (Binding width) BindComplete i h = absurd cc
+refused (Binding width) (ErrorResponse details) i h = absurd h
+refused (Binding width) _ i h = (refl, λ x. x)
+refused (Running None) (DataRow values) i h = absurd cc
+refused (Running (Some columns)) (DataRow values) i h = (not_of_portal columns (length values == columns) h.0, λ x. x)
+refused (Running width) (CommandComplete tag) i h = absurd cc
+refused (Running width) EmptyQueryResponse i h = absurd cc
+refused (Running width) (ErrorResponse details) i h = absurd h
+refused (Running width) (CopyInResponse format columns) i h = absurd cc
+refused (Running width) (CopyOutResponse format columns) i h = absurd cc
+refused (Running width) _ i h = (refl, λ x. x)
+refused (RunningOn columns) (DataRow values) i h = (not_of_portal columns (length values == columns) h.0, λ x. x)
+refused (RunningOn columns) (CommandComplete tag) i h = absurd cc
+refused (RunningOn columns) EmptyQueryResponse i h = absurd cc
+refused (RunningOn columns) (ErrorResponse details) i h = absurd h
+refused (RunningOn columns) _ i h = (refl, λ x. x)
+refused (Closing more) CloseComplete i h = absurd cc
+refused (Closing more) (ErrorResponse details) i h = absurd h
+refused (Closing more) _ i h = (refl, λ x. x)
+refused CopyFirst m i h = absurd i
+refused CopyData m i h = absurd i
+refused CopyEnd m i h = absurd i
+refused Copied m i h = absurd i
 
 -- ---- the groups that calls queue
 
@@ -191,6 +271,7 @@ groups_are (requests.FetchOptional query) = (inl (query.sql, refl), tt)
 groups_are (requests.FetchOne query) = (inl (query.sql, refl), tt)
 groups_are (requests.Begin depth) = (inl (_, refl), tt)
 groups_are (requests.BeginWith query) = (inl (query.sql, refl), tt)
+groups_are (requests.CopyOut query) = (inl (query.sql, refl), tt)
 groups_are (requests.Commit left) = (inl (_, refl), tt)
 groups_are (requests.Rollback left) = (inl (_, refl), tt)
 groups_are (requests.Describe x) = (inr (Parse (name_of x.statement) x.sql x.arguments.types ∷ DescribeStatement (name_of x.statement) ∷ [], (tt, (tt, tt)), refl), tt)
@@ -221,33 +302,54 @@ closes_awaited [] = refl
 closes_awaited (s ∷ ss) = ap (λ (t : List Step). InSteps (Closes ∷ t)) (closes_steps ss) ∙ ap awaited (sym (closing_suc (length ss)))
 
 -- what is awaited first is what the protocol says of the group
-first_awaits : (r : Request) (group : Group) → groups_of r ≡ group ∷ [] → expected (widths_of r) group ≡ awaited (awaits_first r)
-first_awaits (requests.Execute query) group e = rw (← the_first _ _ e) refl
-first_awaits (requests.ExecuteMany query) group e = rw (← the_first _ _ e) refl
-first_awaits (requests.Fetch query) group e = rw (← the_first _ _ e) refl
-first_awaits (requests.FetchMany query) group e = rw (← the_first _ _ e) refl
-first_awaits (requests.FetchAll query) group e = rw (← the_first _ _ e) refl
-first_awaits (requests.FetchOptional query) group e = rw (← the_first _ _ e) refl
-first_awaits (requests.FetchOne query) group e = rw (← the_first _ _ e) refl
-first_awaits (requests.Begin depth) group e = rw (← the_first _ _ e) refl
-first_awaits (requests.BeginWith query) group e = rw (← the_first _ _ e) refl
-first_awaits (requests.Commit left) group e = rw (← the_first _ _ e) refl
-first_awaits (requests.Rollback left) group e = rw (← the_first _ _ e) refl
-first_awaits (requests.Describe extended) group e = rw (← the_first _ _ e) refl
-first_awaits (requests.Run bound) group e = rw (← the_first _ _ e) (run_awaits (name_of bound.statement) bound.arguments.values (width_of bound))
-first_awaits (requests.Evict eviction) group e = rw (← the_first _ _ e) refl
-first_awaits (requests.Clear statements) group e = rw (← the_first _ _ e) (closes_awaited statements)
-first_awaits (requests.Prepare prepared) group e = absurd (none_first group e)
-first_awaits requests.Ping group e = rw (← the_first _ _ e) refl
-first_awaits requests.Flush group e = absurd (none_first group e)
-first_awaits requests.Close group e = absurd (none_first group e)
+first_awaits : (r : Request) (group : Group) → IsPlain (awaits_first r) → groups_of r ≡ group ∷ [] → expected (widths_of r) group ≡ awaited (awaits_first r)
+first_awaits (requests.Execute query) group i e = rw (← the_first _ _ e) refl
+first_awaits (requests.ExecuteMany query) group i e = rw (← the_first _ _ e) refl
+first_awaits (requests.Fetch query) group i e = rw (← the_first _ _ e) refl
+first_awaits (requests.FetchMany query) group i e = rw (← the_first _ _ e) refl
+first_awaits (requests.FetchAll query) group i e = rw (← the_first _ _ e) refl
+first_awaits (requests.FetchOptional query) group i e = rw (← the_first _ _ e) refl
+first_awaits (requests.FetchOne query) group i e = rw (← the_first _ _ e) refl
+first_awaits (requests.Begin depth) group i e = rw (← the_first _ _ e) refl
+first_awaits (requests.BeginWith query) group i e = rw (← the_first _ _ e) refl
+first_awaits (requests.CopyOut query) group i e = absurd i
+first_awaits (requests.Commit left) group i e = rw (← the_first _ _ e) refl
+first_awaits (requests.Rollback left) group i e = rw (← the_first _ _ e) refl
+first_awaits (requests.Describe extended) group i e = rw (← the_first _ _ e) refl
+first_awaits (requests.Run bound) group i e = rw (← the_first _ _ e) (run_awaits (name_of bound.statement) bound.arguments.values (width_of bound))
+first_awaits (requests.Evict eviction) group i e = rw (← the_first _ _ e) refl
+first_awaits (requests.Clear statements) group i e = rw (← the_first _ _ e) (closes_awaited statements)
+first_awaits (requests.Prepare prepared) group i e = absurd (none_first group e)
+first_awaits requests.Ping group i e = rw (← the_first _ _ e) refl
+first_awaits requests.Flush group i e = absurd (none_first group e)
+first_awaits requests.Close group i e = absurd (none_first group e)
+
+plain_refused : (r : Request) (group : Group) (own : List BackendMessage) (part : Part) (f : Frame) → IsPlain (awaits_first r) → groups_of r ≡ group ∷ [] → AllByRecursion HasBackendFrame own → part_after (awaits_first r) own ≡ Some part
+    → ((m : BackendMessage) → HasBackendFrame m → backend_frame m ≡ f → MayNotCome part m) → BeginsKnowing (widths_of r) group (map backend_frame own ++ f ∷ []) → ⊥
+plain_refused r group own part f i g have e out b =
+    let is = subst (AllByRecursion IsGroup) g (groups_are r) in
+    let on = accepted (awaits_first r) own part i e in
+    let came = ap (λ (x : Expected). behind x own) (first_awaits r group i g) ∙ on.0 in
+    refused_begins_no_group_response (widths_of r) group own (awaited part) f is.0 have came (λ m h k. refused part m on.1 (out m h k)) b
 
 pub group_refused : (r : Request) (group : Group) (own : List BackendMessage) (part : Part) (f : Frame) → groups_of r ≡ group ∷ [] → AllByRecursion HasBackendFrame own → part_after (awaits_first r) own ≡ Some part
     → ((m : BackendMessage) → HasBackendFrame m → backend_frame m ≡ f → MayNotCome part m) → BeginsKnowing (widths_of r) group (map backend_frame own ++ f ∷ []) → ⊥
-group_refused r group own part f g have e out b =
-    let is = subst (AllByRecursion IsGroup) g (groups_are r) in
-    let came = ap (λ (x : Expected). behind x own) (first_awaits r group g) ∙ accepted (awaits_first r) own part e in
-    refused_begins_no_group_response (widths_of r) group own (awaited part) f is.0 have came (λ m h k. refused part m (out m h k)) b
+group_refused (requests.CopyOut query) group own part f g have e out b = copy_refused query.sql own part f have e out (subst (λ (x : Group). BeginsCopyResponse x (map backend_frame own ++ f ∷ [])) (sym (the_first _ _ g)) b.0)
+group_refused (requests.Clear statements) group own part f g have e out b = plain_refused (requests.Clear statements) group own part f (closing_plain (length statements)) g have e out b
+group_refused r group own part f g have e out b = plain_refused r group own part f tt g have e out b
+
+-- behind a part of no copy comes another
+pub plain_after : (part q : Part) (ms : List BackendMessage) → IsPlain part → part_after part ms ≡ Some q → IsPlain q
+plain_after part q ms i e = (accepted part ms q i e).1
+
+-- and there only a copy is another reply than the one that is awaited
+pub copies_begin : (part : Part) (m : BackendMessage) → IsPlain part → may_stray part m ≡ true → begins_copy m ≡ true
+copies_begin First m i e = e
+copies_begin Further m i e = e
+copies_begin (Running width) m i e = e
+copies_begin CopyFirst m i e = absurd i
+copies_begin Copied m i e = absurd i
+copies_begin _ m i e = absurd cc
 
 -- ---- a copy that may come
 
@@ -261,13 +363,13 @@ stays_in_query s (m ∷ ms) e h = by (next s m) (λ t k. stays_in_query t ms e k
     by None f k = absurd cc
     by (Some t) f k = f t k
 
-may_begin : (part : Part) (s : Awaits) (m : BackendMessage) → awaited part ≡ InQuery s → may_copy part m ≡ true → MayBeginCopy s m
+may_begin : (part : Part) (s : Awaits) (m : BackendMessage) → awaited part ≡ InQuery s → may_stray part m ≡ true → MayBeginCopy s m
 may_begin First s m e h = subst (λ (t : Awaits). MayBeginCopy t m) (of_query FirstSegment s e) (begins_it m h)
   where
     of_query : (s t : Awaits) → InQuery s ≡ InQuery t → s ≡ t
     of_query s t e = cc
 
-    begins_it : (m : BackendMessage) → may_copy First m ≡ true → MayBeginCopy FirstSegment m
+    begins_it : (m : BackendMessage) → may_stray First m ≡ true → MayBeginCopy FirstSegment m
     begins_it (CopyInResponse format columns) h = tt
     begins_it (CopyOutResponse format columns) h = tt
     begins_it _ h = absurd cc
@@ -276,17 +378,17 @@ may_begin Further s m e h = subst (λ (t : Awaits). MayBeginCopy t m) (of_query 
     of_query : (s t : Awaits) → InQuery s ≡ InQuery t → s ≡ t
     of_query s t e = cc
 
-    begins_it : (m : BackendMessage) → may_copy Further m ≡ true → MayBeginCopy FurtherSegment m
+    begins_it : (m : BackendMessage) → may_stray Further m ≡ true → MayBeginCopy FurtherSegment m
     begins_it (CopyInResponse format columns) h = tt
     begins_it (CopyOutResponse format columns) h = tt
     begins_it _ h = absurd cc
 may_begin (Running width) s m e h = absurd cc
 may_begin _ s m e h = absurd cc
 
-query_copies : (sql : List ℕ) (group : Group) (own : List BackendMessage) (part : Part) (m : BackendMessage) → (Query sql ∷ []) ∷ [] ≡ group ∷ [] → AllByRecursion HasBackendFrame own → HasBackendFrame m → part_after First own ≡ Some part → may_copy part m ≡ true
+query_copies : (sql : List ℕ) (group : Group) (own : List BackendMessage) (part : Part) (m : BackendMessage) → (Query sql ∷ []) ∷ [] ≡ group ∷ [] → AllByRecursion HasBackendFrame own → HasBackendFrame m → part_after First own ≡ Some part → may_stray part m ≡ true
     → BeginsCopyResponse group (map backend_frame own ++ backend_frame m ∷ [])
 query_copies sql group own part m g have h e may =
-    let stays = stays_in_query FirstSegment own (awaited part) (accepted First own part e) in
+    let stays = stays_in_query FirstSegment own (awaited part) (accepted First own part tt e).0 in
     subst (λ (x : Group). BeginsCopyResponse x (map backend_frame own ++ backend_frame m ∷ [])) (the_first _ _ g) (copy_begins_response sql own stays.0 m have h stays.2 (may_begin part stays.0 m stays.1 may))
 
 -- a portal's copy begins right behind BindComplete
@@ -329,14 +431,14 @@ past_after part q (m ∷ ms) i e = by (goes_on part m) refl (λ n j k. past_afte
     by None g f k = absurd cc
     by (Some n) g f k = f n (past_on part n m i g) k
 
-past_copies_none : (part : Part) (m : BackendMessage) → IsPast part → may_copy part m ≡ true → ⊥
+past_copies_none : (part : Part) (m : BackendMessage) → IsPast part → may_stray part m ≡ true → ⊥
 past_copies_none (RunningOn columns) m i e = cc
 past_copies_none (Closing more) m i e = cc
 past_copies_none Synced m i e = cc
 past_copies_none _ m i e = i
 
-bound_copies : (width : Option ℕ) (own : List BackendMessage) (part : Part) (m : BackendMessage) → part_after (Binding width) own ≡ Some part → may_copy part m ≡ true → own ≡ BindComplete ∷ []
-bound_copies width [] part m e may = let k : may_copy (Binding width) m ≡ true = subst (λ (p : Part). may_copy p m ≡ true) (sym (same_Some (Binding width) part e)) may in absurd cc
+bound_copies : (width : Option ℕ) (own : List BackendMessage) (part : Part) (m : BackendMessage) → part_after (Binding width) own ≡ Some part → may_stray part m ≡ true → own ≡ BindComplete ∷ []
+bound_copies width [] part m e may = let k : may_stray (Binding width) m ≡ true = subst (λ (p : Part). may_stray p m ≡ true) (sym (same_Some (Binding width) part e)) may in absurd cc
 bound_copies width (BindComplete ∷ []) part m e may = refl
 bound_copies width (BindComplete ∷ x ∷ xs) part m e may = absurd (by (goes_on (Running width) x) refl e)
   where
@@ -372,7 +474,7 @@ describes_after part q (m ∷ ms) i e = by (goes_on part m) refl (λ n j k. desc
     by None g f k = absurd cc
     by (Some n) g f k = f n (describes_on part n m i g) k
 
-describes_copies_none : (part : Part) (m : BackendMessage) → Describes part → may_copy part m ≡ true → ⊥
+describes_copies_none : (part : Part) (m : BackendMessage) → Describes part → may_stray part m ≡ true → ⊥
 describes_copies_none Parsing m i e = cc
 describes_copies_none Typing m i e = cc
 describes_copies_none Describing m i e = cc
@@ -384,28 +486,22 @@ synced_alone : (own : List BackendMessage) (part : Part) → part_after Synced o
 synced_alone [] part e = cc
 synced_alone (m ∷ ms) part e = absurd cc
 
-no_copy_synced : (own : List BackendMessage) (part : Part) (m : BackendMessage) → part_after Synced own ≡ Some part → may_copy part m ≡ true → ⊥
-no_copy_synced own part m e may = let k : may_copy Synced m ≡ true = subst (λ (p : Part). may_copy p m ≡ true) (synced_alone own part e) may in absurd cc
+no_copy_synced : (own : List BackendMessage) (part : Part) (m : BackendMessage) → part_after Synced own ≡ Some part → may_stray part m ≡ true → ⊥
+no_copy_synced own part m e may = let k : may_stray Synced m ≡ true = subst (λ (p : Part). may_stray p m ≡ true) (synced_alone own part e) may in absurd cc
 
-run_copies : (name : List ℕ) (values : List (Option (List ℕ))) (width : Option ℕ) (group : Group) (own : List BackendMessage) (part : Part) (m : BackendMessage) → running name values 0 ∷ [] ≡ group ∷ [] → HasBackendFrame m → part_after (Binding width) own ≡ Some part → may_copy part m ≡ true
+run_copies : (name : List ℕ) (values : List (Option (List ℕ))) (width : Option ℕ) (group : Group) (own : List BackendMessage) (part : Part) (m : BackendMessage) → running name values 0 ∷ [] ≡ group ∷ [] → HasBackendFrame m → part_after (Binding width) own ≡ Some part → may_stray part m ≡ true
     → BeginsCopyResponse group (map backend_frame own ++ backend_frame m ∷ [])
 run_copies name values width group own part m g h e may =
     let alone = bound_copies width own part m e may in
-    rw (alone, ← the_first _ _ g) (copy_begins_run name values m h (begins_it part m may))
+    let runs : Running width ≡ part = same_Some (Running width) part (subst (λ (ms : List BackendMessage). part_after (Binding width) ms ≡ Some part) alone e) in
+    rw (alone, ← the_first _ _ g) (copy_begins_run name values m h (begins_it m (subst (λ (p : Part). may_stray p m ≡ true) (sym runs) may)))
   where
-    begins_it : (part : Part) (m : BackendMessage) → may_copy part m ≡ true → MayBeginCopy FirstSegment m
-    begins_it First (CopyInResponse format columns) h = tt
-    begins_it First (CopyOutResponse format columns) h = tt
-    begins_it First _ h = absurd cc
-    begins_it Further (CopyInResponse format columns) h = tt
-    begins_it Further (CopyOutResponse format columns) h = tt
-    begins_it Further _ h = absurd cc
-    begins_it (Running width) (CopyInResponse format columns) h = tt
-    begins_it (Running width) (CopyOutResponse format columns) h = tt
-    begins_it (Running width) _ h = absurd cc
-    begins_it _ m h = absurd cc
+    begins_it : (m : BackendMessage) → may_stray (Running width) m ≡ true → MayBeginCopy FirstSegment m
+    begins_it (CopyInResponse format columns) h = tt
+    begins_it (CopyOutResponse format columns) h = tt
+    begins_it _ h = absurd cc
 
-pub group_copies : (r : Request) (group : Group) (own : List BackendMessage) (part : Part) (m : BackendMessage) → groups_of r ≡ group ∷ [] → AllByRecursion HasBackendFrame own → HasBackendFrame m → part_after (awaits_first r) own ≡ Some part → may_copy part m ≡ true
+pub group_copies : (r : Request) (group : Group) (own : List BackendMessage) (part : Part) (m : BackendMessage) → groups_of r ≡ group ∷ [] → AllByRecursion HasBackendFrame own → HasBackendFrame m → part_after (awaits_first r) own ≡ Some part → may_stray part m ≡ true
     → BeginsCopyResponse group (map backend_frame own ++ backend_frame m ∷ [])
 group_copies (requests.Execute query) group own part m g have h e may = query_copies query.sql group own part m g have h e may
 group_copies (requests.ExecuteMany query) group own part m g have h e may = query_copies query.sql group own part m g have h e may
@@ -416,6 +512,8 @@ group_copies (requests.FetchOptional query) group own part m g have h e may = qu
 group_copies (requests.FetchOne query) group own part m g have h e may = query_copies query.sql group own part m g have h e may
 group_copies (requests.Begin depth) group own part m g have h e may = query_copies _ group own part m g have h e may
 group_copies (requests.BeginWith query) group own part m g have h e may = query_copies query.sql group own part m g have h e may
+group_copies (requests.CopyOut query) group own part m g have h e may =
+    subst (λ (x : Group). BeginsCopyResponse x (map backend_frame own ++ backend_frame m ∷ [])) (the_first _ _ g) (copy_strays query.sql own part m have h e may)
 group_copies (requests.Commit left) group own part m g have h e may = query_copies _ group own part m g have h e may
 group_copies (requests.Rollback left) group own part m g have h e may = query_copies _ group own part m g have h e may
 group_copies (requests.Describe extended) group own part m g have h e may = absurd (describes_copies_none part m (describes_after Parsing part own tt e) may)

@@ -1,5 +1,5 @@
 -- What a state of a call that isn't meant stays.
-use Rattle.std.proofs.Common.{◌≡◌, ℕ, Bool, List, [], Option, None, refl}
+use Rattle.std.proofs.Common.{◌≡◌, ℕ, Bool, List, [], refl}
 use Rattle.pg_values.specs.declared.format.PgValueFormat.TheVariants as formats
 use Rattle.pg_rows.specs.declared.heading.Heading.{Heading}
 use Rattle.pg_call.specs.declared.statement.Extended.{Extended}

@@ -1,5 +1,5 @@
 -- Which items and answers a call of each kind has.
-use Rattle.std.specs.Prelude.{◌≡◌, true, List, Option, Some, None, Result, Ok, Err}
+use Rattle.std.specs.Prelude.{◌≡◌, ℕ, true, List, Option, Some, None, Result, Ok, Err}
 use Rattle.either.specs.declared.Either.{Either}
 use Rattle.either.specs.declared.Either.TheVariants.{Left, Right}
 use Rattle.pg_wire.specs.declared.error.Error.{Error}
@@ -33,6 +33,7 @@ AnswerFits kinds.Rollback answers.Unit = Unit {0}
 AnswerFits kinds.Ping answers.Unit = Unit {0}
 AnswerFits kinds.Flush answers.Unit = Unit {0}
 AnswerFits kinds.Close answers.Unit = Unit {0}
+AnswerFits kinds.CopyOut answers.Unit = Unit {0}
 AnswerFits _ _ = ⊥
 
 abbrev pub TurnFits : Kind → Turn → Type 0
@@ -45,6 +46,7 @@ abbrev pub TurnIsPlain : Kind → Type 0
 TurnIsPlain (kinds.Run how) = ⊥
 TurnIsPlain kinds.Describe = ⊥
 TurnIsPlain kinds.Prepare = ⊥
+TurnIsPlain kinds.CopyOut = ⊥
 TurnIsPlain _ = Unit {0}
 
 -- ---- what a state of such a call answers, as the core's
@@ -72,6 +74,11 @@ one_turn (Err e) = turns.Err e
 abbrev pub statement_turn : Result Prepared Error → Turn
 statement_turn (Ok prepared) = turns.Ok (answers.Statement prepared)
 statement_turn (Err e) = turns.Err e
+
+abbrev pub piece_turn : Option (Result (List ℕ) Error) → Turn
+piece_turn (Some (Ok piece)) = turns.Item (items.Piece piece)
+piece_turn (Some (Err e)) = turns.Err e
+piece_turn None = turns.Ok answers.Unit
 
 abbrev pub row_turn : Option (Result RowSeen Error) → Turn
 row_turn (Some (Ok row)) = turns.Item (items.Row row)

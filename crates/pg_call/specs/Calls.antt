@@ -31,7 +31,7 @@ use Rattle.pg_call.specs.declared.calling.Taken.{Taken}
 use Rattle.pg_call.specs.declared.running.Running.{Running}
 use Rattle.pg_call.specs.Requests.{Group, said_in, spelled, kind_of, groups_of, messages_of, farewell, heading_of, request_behind, rest_of, told, widths_of, CanBeSaid, IsRefusal}
 use Rattle.pg_call.specs.Items.{heading_after, parameters_after, own_items, shown, tally_of, answer_to}
-use Rattle.pg_call.specs.Replies.{awaits_first, part_after, may_copy}
+use Rattle.pg_call.specs.Replies.{awaits_first, part_after, may_stray}
 use Rattle.pg_call.specs.Drains.{is_error, before_readys, after_readys, failed_after, drain_fails}
 use Rattle.pg_call.specs.Hearing.{framed, fails_of}
 
@@ -167,7 +167,7 @@ abbrev pub EndsFine : Ledger → Request → List FrontendMessage → List Frame
 EndsFine start r said hs items ledger answer = (f : IsFine start r said hs items ledger) × (answer_by r f.reply f.status ≡ answer)
 
 -- the last message is a copy, which some server begins there in its response to the call's group, and which nobody has asked for
-pub record EndsInCopy (start : Ledger) (r : Request) (hs : List Frame) (tag : ℕ) : Type 0 where
+pub record EndsAstray (start : Ledger) (r : Request) (hs : List Frame) (tag : ℕ) : Type 0 where
   pub front : List Frame
   pub own : List BackendMessage
   pub part : Part
@@ -178,7 +178,7 @@ pub record EndsInCopy (start : Ledger) (r : Request) (hs : List Frame) (tag : �
   pub own_is : after_readys start.owed front ≡ map backend_frame own
   pub own_have_frames : AllByRecursion HasBackendFrame own
   pub so_far : part_after (awaits_first r) own ≡ Some part
-  pub copies : may_copy part last ≡ true
+  pub copies : may_stray part last ≡ true
   pub lawful : (group : Group) → groups_of r ≡ group ∷ [] → BeginsCopyResponse group (after_readys start.owed hs)
 
 -- what a call answers at its end
@@ -188,7 +188,7 @@ CallEnds start r said hs items ledger (Err errors.RowNotFound) = EndsFine start 
 CallEnds start r said hs items ledger (Err (errors.BeginFailed status)) = EndsFine start r said hs items ledger (Err (errors.BeginFailed status))
 CallEnds start r said hs items ledger (Err (errors.Database error)) = Leaves start r said hs items ledger false
     × ((front : List Frame) × (hs ≡ front ++ backend_frame (ErrorResponse error) ∷ []) × HasBackendFrame (ErrorResponse error) × (count_by is_error front ≡ 0))
-CallEnds start r said hs items ledger (Err (errors.Protocol (protocol.Reply tag))) = ((l : Leaves start r said hs items ledger (tag == 71)) × (l.own ≡ groups_of r) × (length l.own ≡ 1)) × (count_by is_error hs ≡ 0) × EndsInCopy start r hs tag
+CallEnds start r said hs items ledger (Err (errors.Protocol (protocol.Reply tag))) = ((l : Leaves start r said hs items ledger (tag == 71)) × (l.own ≡ groups_of r) × (length l.own ≡ 1)) × (count_by is_error hs ≡ 0) × EndsAstray start r hs tag
 CallEnds start r said hs items ledger (Err (errors.Protocol (protocol.Caller fault))) = (said ≡ []) × (hs ≡ []) × (items ≡ []) × (ledger ≡ start) × IsRefusal r (errors.Protocol (protocol.Caller fault))
 CallEnds start r said hs items ledger (Err _) = ⊥
 

@@ -34,7 +34,7 @@ use Rattle.pg_call.specs.declared.calling.Taken.{Taken}
 use Rattle.pg_call.specs.declared.running.Running.{Running}
 use Rattle.pg_call.specs.Requests.{copy_fail, kind_of, request_behind, rest_of, heading_of, told}
 use Rattle.pg_call.specs.Items.{news_of, heading_by, parameters_by, item_by, yields, added, empty_tally, finished, keeps_row}
-use Rattle.pg_call.specs.Replies.{awaits_first, goes_on, may_close, may_copy}
+use Rattle.pg_call.specs.Replies.{awaits_first, goes_on, may_close, may_stray}
 use Rattle.pg_call.specs.Drains.{is_error, failed_behind, fails_for}
 
 abbrev pub framed : ℕ → List ℕ → Frame
@@ -66,7 +66,7 @@ HearsNews a b part news heard = (b ≡ gone_on a part news) × Shows (filter (yi
 abbrev pub HearsMessage : Reply → Reply → BackendMessage → Heard → Type 0
 HearsMessage a b m (heards.Failed error) = (m ≡ ErrorResponse error) × (b ≡ a)
 HearsMessage a b m (heards.Closed status) = (may_close a.part ≡ true) × (m ≡ ReadyForQuery status) × (b ≡ a)
-HearsMessage a b m heards.Copies = (may_copy a.part m ≡ true) × (b ≡ a)
+HearsMessage a b m heards.Strays = (may_stray a.part m ≡ true) × (b ≡ a)
 HearsMessage a b m heard = (next : Part) × (goes_on a.part m ≡ Some next) × (b ≡ gone_on a next (news_of m)) × Shows (filter (yields a.kind) (item_by a.heading (news_of m))) heard
 
 abbrev pub Hears : Reply → Reply → ℕ → List ℕ → Heard → Type 0
@@ -167,4 +167,4 @@ Follows tag heards.More a b taken = (b ≡ a) × (taken ≡ just beats.More)
 Follows tag (heards.Yields item) a b taken = (b ≡ a) × (taken ≡ just (beats.Yields item))
 Follows tag (heards.Failed error) a b taken = (b ≡ idle_with a.ledger) × (taken ≡ just (beats.Ends (Err (errors.Database error))))
 Follows tag (heards.Closed status) a b taken = Closes status a b taken
-Follows tag heards.Copies a b taken = RefusesCopy tag a b taken
+Follows tag heards.Strays a b taken = RefusesCopy tag a b taken

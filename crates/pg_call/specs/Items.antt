@@ -4,7 +4,7 @@ use Rattle.pg_wire.specs.declared.error.Error.{Error}
 use Rattle.pg_wire.specs.declared.error.Error.TheVariants as errors
 use Rattle.pg_wire.specs.declared.status.TransactionStatus.{TransactionStatus}
 use Rattle.pg_wire.specs.declared.status.TransactionStatus.TheVariants as statuses
-use Rattle.pg_wire.specs.Backend.{BackendMessage, RowDescription, DataRow, CommandComplete, ParameterDescription}
+use Rattle.pg_wire.specs.Backend.{BackendMessage, RowDescription, DataRow, CommandComplete, ParameterDescription, BackendCopyData}
 use Rattle.pg_wire.specs.Completion.{rows_affected}
 use Rattle.pg_rows.specs.declared.heading.Heading.{Heading}
 use Rattle.pg_rows.specs.Rows.{RowSeen}
@@ -12,7 +12,7 @@ use Rattle.pg_call.specs.declared.kind.How.TheVariants as hows
 use Rattle.pg_call.specs.declared.kind.Kind.{Kind}
 use Rattle.pg_call.specs.declared.kind.Kind.TheVariants as kinds
 use Rattle.pg_call.specs.declared.answer.CallItem.{CallItem}
-use Rattle.pg_call.specs.declared.answer.CallItem.TheVariants.{Row, Count}
+use Rattle.pg_call.specs.declared.answer.CallItem.TheVariants.{Row, Count, Piece}
 use Rattle.pg_call.specs.declared.answer.CallAnswer.{CallAnswer}
 use Rattle.pg_call.specs.declared.answer.CallAnswer.TheVariants as answers
 use Rattle.pg_call.specs.declared.judging.News.{News}
@@ -21,12 +21,13 @@ use Rattle.pg_call.specs.declared.request.Request.{Request}
 use Rattle.pg_call.specs.declared.tally.Tally.{Tally}
 use Rattle.pg_call.specs.Requests.{heading_of}
 
--- what a message tells of rows: their columns, a row, or their count; or the types of parameters
+-- what a message tells: the columns of rows, a row, or the count of rows; the types of parameters; or some data of a copy
 abbrev pub news_of : BackendMessage → News
 news_of (RowDescription fields) = news.Columns fields
 news_of (DataRow values) = news.Row values
 news_of (CommandComplete tag) = news.Count (record { rows = rows_affected tag })
 news_of (ParameterDescription types) = news.Parameters types
+news_of (BackendCopyData bytes) = news.Piece bytes
 news_of _ = news.Nothing
 
 -- the heading of the rows behind it, where their columns are kept
@@ -34,13 +35,14 @@ abbrev pub heading_by : Heading → News → Heading
 heading_by heading (news.Columns fields) = record heading { columns = option_map (λ earlier. fields) heading.columns }
 heading_by heading _ = heading
 
--- the item that it is: a row under its heading, or a count
+-- the item that it is: a row under its heading, a count, or a piece of a copy
 abbrev pub item_by : Heading → News → List CallItem
 item_by heading (news.Row values) = Row (record { values = values; heading = heading }) ∷ []
 item_by heading (news.Count n) = Count n ∷ []
+item_by heading (news.Piece bytes) = Piece bytes ∷ []
 item_by heading _ = []
 
--- a row for each DataRow, under the columns that were described last, and a count for each CommandComplete
+-- a row for each DataRow, under the columns that were described last, a count for each CommandComplete, and a piece for each CopyData
 abbrev pub items_of : Heading → List BackendMessage → List CallItem
 items_of heading [] = []
 items_of heading (m ∷ ms) = item_by heading (news_of m) ++ items_of (heading_by heading (news_of m)) ms
@@ -65,6 +67,7 @@ parameters_after types (m ∷ ms) = parameters_after (parameters_by types (news_
 abbrev pub row_in : CallItem → List RowSeen
 row_in (Row row) = row ∷ []
 row_in (Count n) = []
+row_in (Piece bytes) = []
 
 abbrev pub rows_in : List CallItem → List RowSeen
 rows_in items = flat_map row_in items
@@ -72,6 +75,7 @@ rows_in items = flat_map row_in items
 abbrev pub count_in : CallItem → ℕ
 count_in (Row row) = 0
 count_in (Count n) = n.rows
+count_in (Piece bytes) = 0
 
 -- the sum of the counts, up to u64's greatest value
 abbrev pub total_of : List CallItem → ℕ
@@ -85,7 +89,9 @@ first_row (row ∷ rows) = Some row
 abbrev pub yields : Kind → CallItem → Bool
 yields (kinds.Run hows.ExecuteMany) (Count n) = true
 yields (kinds.Run hows.Fetch) (Row row) = true
-yields (kinds.Run hows.FetchMany) item = true
+yields (kinds.Run hows.FetchMany) (Count n) = true
+yields (kinds.Run hows.FetchMany) (Row row) = true
+yields kinds.CopyOut (Piece bytes) = true
 yields _ _ = false
 
 -- what it shows of all items
@@ -142,6 +148,7 @@ first_of (Some first) row = Some first
 
 abbrev pub added : Kind → Tally → CallItem → Tally
 added kind t (Count n) = record t { total = min (t.total + n.rows) (2 ^ 64 - 1) }
+added kind t (Piece bytes) = t
 added kind t (Row row) = record t {
   rows = if keeps_all kind then t.rows ++ row ∷ [] else t.rows;
   first = if keeps_first kind then first_of t.first row else t.first;

@@ -5,7 +5,7 @@ use Rattle.pg_wire.specs.declared.error.Error.{Error}
 use Rattle.pg_wire.specs.declared.error.Error.TheVariants as errors
 use Rattle.pg_wire.specs.declared.error.ProtocolFault.TheVariants as protocol
 use Rattle.pg_wire.specs.declared.error.ServerFault.TheVariants as faults
-use Rattle.pg_wire.specs.Backend.{FieldDescription, BackendMessage, Values, ReadyForQuery, RowDescription, DataRow, CommandComplete, ErrorResponse, EmptyQueryResponse, ParameterDescription, ParseComplete, BindComplete, CloseComplete, NoData, CopyInResponse, CopyOutResponse}
+use Rattle.pg_wire.specs.Backend.{FieldDescription, BackendMessage, Values, ReadyForQuery, RowDescription, DataRow, CommandComplete, ErrorResponse, EmptyQueryResponse, ParameterDescription, ParseComplete, BindComplete, CloseComplete, NoData, CopyInResponse, CopyOutResponse, BackendCopyData, BackendCopyDone}
 use Rattle.pg_wire.specs.Acceptor.{FirstSegment, FurtherSegment, RowsOf}
 use Rattle.pg_exchanges.specs.Expecting.{Parses, Types, Columns, Binds, Runs, RunsOn, Closes, Expected, InQuery, InSteps}
 use Rattle.pg_wire.specs.Decoding.{Says, IsRefused}
@@ -16,7 +16,7 @@ use Rattle.pg_call.specs.declared.request.Request.TheVariants as requests
 use Rattle.pg_call.specs.Requests.{kind_of, width_of}
 use Rattle.pg_call.specs.declared.answer.CallItem.{CallItem}
 use Rattle.pg_call.specs.declared.judging.Part.{Part}
-use Rattle.pg_call.specs.declared.judging.Part.TheVariants.{First, Further, Rows, Synced, Parsing, Typing, Describing, Described, Binding, Running, RunningOn, Closing}
+use Rattle.pg_call.specs.declared.judging.Part.TheVariants.{First, Further, Rows, Synced, Parsing, Typing, Describing, Described, Binding, Running, RunningOn, Closing, CopyFirst, CopyData, CopyEnd, Copied}
 use Rattle.pg_call.specs.declared.judging.News.TheVariants.{Nothing}
 use Rattle.pg_call.specs.declared.judging.Verdict.{Verdict}
 use Rattle.pg_call.specs.declared.judging.Verdict.TheVariants as verdicts
@@ -28,6 +28,7 @@ first_part (kinds.Run how) = First
 first_part kinds.Begin = First
 first_part kinds.Commit = First
 first_part kinds.Rollback = First
+first_part kinds.CopyOut = CopyFirst
 first_part _ = Synced
 
 -- that so many statements are closed, and then the end
@@ -78,6 +79,7 @@ after_close part = part
 abbrev pub after_end : Part → Part
 after_end (Running width) = Closing 0
 after_end (RunningOn width) = Closing 0
+after_end CopyEnd = Copied
 after_end _ = Further
 
 -- what is awaited behind one more message; None where the reply doesn't go on by it
@@ -98,6 +100,10 @@ goes_on (RunningOn columns) (DataRow values) = after_row (RunningOn columns) (le
 goes_on (RunningOn columns) (CommandComplete tag) = Some (Closing 0)
 goes_on (RunningOn columns) EmptyQueryResponse = Some (Closing 0)
 goes_on (Closing more) CloseComplete = Some (closing more)
+goes_on CopyFirst (CopyOutResponse format columns) = Some CopyData
+goes_on CopyData (BackendCopyData bytes) = Some CopyData
+goes_on CopyData BackendCopyDone = Some CopyEnd
+goes_on CopyEnd (CommandComplete tag) = Some Copied
 goes_on _ _ = None
 
 -- what is awaited behind these messages
@@ -110,6 +116,7 @@ abbrev pub may_close : Part → Bool
 may_close Further = true
 may_close Synced = true
 may_close (Described columns) = true
+may_close Copied = true
 may_close _ = false
 
 -- a copy may begin, from the client or to it
@@ -118,16 +125,27 @@ begins_copy (CopyInResponse format columns) = true
 begins_copy (CopyOutResponse format columns) = true
 begins_copy _ = false
 
-abbrev pub may_copy : Part → BackendMessage → Bool
-may_copy First m = begins_copy m
-may_copy Further m = begins_copy m
-may_copy (Running width) m = begins_copy m
-may_copy _ _ = false
+-- a segment of the response to a Query may begin
+abbrev pub begins_segment : BackendMessage → Bool
+begins_segment (RowDescription fields) = true
+begins_segment (CommandComplete tag) = true
+begins_segment EmptyQueryResponse = true
+begins_segment m = begins_copy m
 
--- the tags of the messages that may come
+-- another reply may come than the one that is awaited: a copy for which nobody has asked, or what is no copy to the client
+abbrev pub may_stray : Part → BackendMessage → Bool
+may_stray First m = begins_copy m
+may_stray Further m = begins_copy m
+may_stray (Running width) m = begins_copy m
+may_stray CopyFirst (CopyOutResponse format columns) = false
+may_stray CopyFirst m = begins_segment m
+may_stray Copied m = begins_segment m
+may_stray _ _ = false
+
+-- the tags of the messages that are awaited, and of the others that may come
 abbrev pub tags_of : Part → List ℕ
-tags_of First = codes "TCIEGH"
-tags_of Further = codes "TCIEGHZ"
+tags_of First = codes "TCIE"
+tags_of Further = codes "TCIEZ"
 tags_of (Rows columns) = codes "DCE"
 tags_of Synced = codes "EZ"
 tags_of Parsing = codes "1E"
@@ -135,11 +153,23 @@ tags_of Typing = codes "tE"
 tags_of Describing = codes "TnE"
 tags_of (Described columns) = codes "EZ"
 tags_of (Binding width) = codes "2E"
-tags_of (Running width) = codes "DCIEGH"
+tags_of (Running width) = codes "DCIE"
 tags_of (RunningOn columns) = codes "DCIE"
 tags_of (Closing more) = codes "3E"
+tags_of CopyFirst = codes "HE"
+tags_of CopyData = codes "dcE"
+tags_of CopyEnd = codes "CE"
+tags_of Copied = codes "EZ"
 
--- what a part awaits, as the protocol says it
+abbrev pub stray_tags : Part → List ℕ
+stray_tags First = codes "GH"
+stray_tags Further = codes "GH"
+stray_tags (Running width) = codes "GH"
+stray_tags CopyFirst = codes "TCIG"
+stray_tags Copied = codes "TCIGH"
+stray_tags _ = []
+
+-- what a part awaits, as the protocol says it, outside of copies
 abbrev pub awaited : Part → Expected
 awaited First = InQuery FirstSegment
 awaited Further = InQuery FurtherSegment
@@ -153,12 +183,13 @@ awaited (Binding width) = InSteps (Binds ∷ Runs width ∷ Closes ∷ [])
 awaited (Running width) = InSteps (Runs width ∷ Closes ∷ [])
 awaited (RunningOn columns) = InSteps (RunsOn columns ∷ Closes ∷ [])
 awaited (Closing more) = InSteps (Closes ∷ replicate more Closes)
+awaited _ = InSteps []
 
 -- no error, no end, and nothing that the reply goes on by
 abbrev pub MayNotCome : Part → BackendMessage → Type 0
 MayNotCome part (ErrorResponse details) = ⊥
 MayNotCome part (ReadyForQuery status) = may_close part ≡ false
-MayNotCome part m = (goes_on part m ≡ None) × (may_copy part m ≡ false)
+MayNotCome part m = (goes_on part m ≡ None) × (may_stray part m ≡ false)
 
 abbrev pub list_of : Option CallItem → List CallItem
 list_of None = []
@@ -173,7 +204,7 @@ abbrev pub IsVerdict : Part → BackendMessage → Verdict → Type 0
 IsVerdict part m (verdicts.On next news) = (goes_on part m ≡ Some next) × (news ≡ news_of m)
 IsVerdict part m (verdicts.Failed error) = m ≡ ErrorResponse error
 IsVerdict part m (verdicts.Closed status) = (may_close part ≡ true) × (m ≡ ReadyForQuery status)
-IsVerdict part m verdicts.Copies = may_copy part m ≡ true
+IsVerdict part m verdicts.Strays = may_stray part m ≡ true
 
 -- the body is that of a message with this tag, or is refused
 abbrev pub Checks : {X : Type 0} → ℕ → List ℕ → Result X Error → Type 0

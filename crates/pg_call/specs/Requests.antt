@@ -30,10 +30,8 @@ use Rattle.pg_call.specs.declared.statement.Goal.TheVariants as goals
 use Rattle.pg_call.specs.declared.statement.Described.{Described}
 use Rattle.pg_call.specs.declared.statement.Extended.{Extended}
 use Rattle.pg_call.specs.declared.statement.Bound.{Bound}
-use Rattle.pg_call.specs.declared.statement.Prepared.{Prepared}
 use Rattle.pg_call.specs.declared.statement.After.{After}
 use Rattle.pg_call.specs.declared.statement.After.TheVariants as afters
-use Rattle.pg_call.specs.declared.statement.Eviction.{Eviction}
 use Rattle.pg_call.specs.declared.statement.Rest.{Rest}
 use Rattle.pg_call.specs.declared.statement.Rest.TheVariants as rests
 use Rattle.pg_call.specs.declared.request.Request.{Request}
@@ -72,6 +70,7 @@ kind_of (requests.Clear statements) = kinds.Clear
 kind_of requests.Ping = kinds.Ping
 kind_of requests.Flush = kinds.Flush
 kind_of requests.Close = kinds.Close
+kind_of (requests.CopyOut query) = kinds.CopyOut
 
 -- what its Query says
 abbrev pub query_of : Request → Option QueryText
@@ -86,9 +85,10 @@ query_of (requests.Begin depth) = Some (plain_text (begin_text None depth))
 query_of (requests.BeginWith query) = Some query
 query_of (requests.Commit left) = Some (plain_text (commit_text left))
 query_of (requests.Rollback left) = Some (plain_text (rollback_text left))
+query_of (requests.CopyOut query) = Some query
 query_of _ = None
 
--- the groups of a call: one Query for a query and for what opens or ends a transaction, one Sync for a ping, and none for a flush and a close
+-- the groups of a call: one Query for a query, for what opens or ends a transaction and for a copy, one Sync for a ping, and none for a flush and a close
 abbrev pub groups_by : Kind → Option QueryText → List Group
 groups_by kind (Some query) = (Query query.sql ∷ []) ∷ []
 groups_by kinds.Ping None = (Sync ∷ []) ∷ []

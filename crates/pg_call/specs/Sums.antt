@@ -1,5 +1,5 @@
 -- The rows of several results.
-use Rattle.std.specs.Prelude.{◌≡◌, ℕ, ◌+◌, ◌-◌, ◌^◌, min, List}
+use Rattle.std.specs.Prelude.{◌≡◌, ◌+◌, ◌-◌, ◌^◌, min, List}
 use Rattle.std.specs.List.{sum_by}
 use Rattle.pg_call.specs.declared.query_result.PgQueryResult.{PgQueryResult}
 

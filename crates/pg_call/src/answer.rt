@@ -1,11 +1,11 @@
 ghost use Rattle.std.specs.Prelude.{◌≡◌};
 ghost use Rattle.pg_call.specs.declared.kind.How.TheVariants as hows;
-ghost use Rattle.pg_call.specs.Answers.{TurnFits, TurnIsPlain, total_turn, unit_turn, rows_turn, optional_turn, one_turn, statement_turn, row_turn, count_turn, either_turn};
+ghost use Rattle.pg_call.specs.Answers.{TurnFits, TurnIsPlain, total_turn, unit_turn, rows_turn, optional_turn, one_turn, piece_turn, statement_turn, row_turn, count_turn, either_turn};
 
 use crate::{Kind, PgQueryResult, Prepared, Request};
 use either::Either;
 use pg_rows::PgRow;
-use pg_wire::{Error, Sequence};
+use pg_wire::{Blob, Error, Sequence};
 
 /// One thing that a call shows as it comes.
 #[derive(Drop)]
@@ -13,6 +13,8 @@ pub enum CallItem {
     Row(PgRow),
     /// The rows that one statement counts.
     Count(PgQueryResult),
+    /// Some data of a copy to the client, as one message had it.
+    Piece(Blob),
 }
 
 /// What a call answers where all went well.
@@ -129,6 +131,18 @@ impl Turn {
         }
     }
 
+    pub fn into_piece(self) -> Option<Result<Blob, Error>>
+        requires { TurnFits Kind.CopyOut self }
+        ensures { self ≡ piece_turn result }
+    {
+        match self {
+            Turn::Item(CallItem::Piece(piece)) => Some(Ok(piece)),
+            Turn::Ok(CallAnswer::Unit) => None,
+            Turn::Err(e) => Some(Err(e)),
+            Turn::Ok(_) | Turn::Item(_) => unreachable!(),
+        }
+    }
+
     pub fn into_either(self) -> Option<Result<Either<PgQueryResult, PgRow>, Error>>
         requires { TurnFits (Kind.Run hows.FetchMany) self }
         ensures { self ≡ either_turn result }
@@ -138,7 +152,7 @@ impl Turn {
             Turn::Item(CallItem::Row(row)) => Some(Ok(Either::Right(row))),
             Turn::Ok(CallAnswer::Unit) => None,
             Turn::Err(e) => Some(Err(e)),
-            Turn::Ok(_) => unreachable!(),
+            Turn::Ok(_) | Turn::Item(_) => unreachable!(),
         }
     }
 }

@@ -21,8 +21,8 @@ fn checked<T: Drop>(read: Result<T, Error>) -> Result<(), Error>
     }
 }
 
-// Whether the body of a message with this tag is in its format. No message has any other tag.
-fn check_message(alloc: Global, tag: u8, body: &[u8]) -> Result<(), Error>
+/// Whether the body of a message with this tag is in its format. No message has any other tag.
+pub(crate) fn check_message(alloc: Global, tag: u8, body: &[u8]) -> Result<(), Error>
     ensures { Checks tag body.now result }
 {
     match tag {

@@ -1,17 +1,17 @@
-ghost use Rattle.std.specs.Prelude.{◌≡◌, true, length};
+ghost use Rattle.std.specs.Prelude.{◌≡◌, true, false, length};
 ghost use Rattle.pg_wire.specs.Backend as backend;
 ghost use Rattle.pg_wire.specs.Backend.{Values};
 ghost use Rattle.pg_wire.specs.Decoding.{Says};
 ghost use Rattle.pg_wire.specs.Frame.{is_known};
-ghost use Rattle.pg_call.specs.Replies.{Judges, PassesColumns, PassesRow, after_bind, after_close, after_columns, after_end, after_row, awaits_first, closing, goes_plainly, tags_of};
+ghost use Rattle.pg_call.specs.Replies.{Judges, PassesColumns, PassesRow, after_bind, after_close, after_columns, after_end, after_row, awaits_first, closing, goes_plainly, stray_tags, tags_of};
 
-use crate::format::refuse;
+use crate::format::{check_message, refuse};
 use crate::{PgQueryResult, Request};
 use pg_columns::PgColumns;
 use pg_wire::{
-    DataRow, Error, Frame, Oids, PgDatabaseError, TransactionStatus, check_data_row,
+    Blob, DataRow, Error, Frame, Oids, PgDatabaseError, TransactionStatus, check_data_row,
     check_row_description, claimed_width, cut_data_row, decode_bind_complete,
-    decode_close_complete, decode_command_complete, decode_copy_in_response,
+    decode_close_complete, decode_command_complete, decode_copy_data, decode_copy_done,
     decode_copy_out_response, decode_data_row, decode_empty_query, decode_error_response,
     decode_no_data, decode_parameter_description, decode_parse_complete, decode_ready_for_query,
     decode_row_description,
@@ -31,9 +31,13 @@ use std::alloc::Global;
 /// | `Running(width)` | D of this width, or of any: `RunningOn(n)`; C, I: `Closing(0)` |
 /// | `RunningOn(n)` | D of n values; C, I: `Closing(0)` |
 /// | `Closing(n)` | 3: `Closing(n - 1)`, or `Synced` where n is 0 |
+/// | `CopyFirst` | H: `CopyData` |
+/// | `CopyData` | d; c: `CopyEnd` |
+/// | `CopyEnd` | C: `Copied` |
 ///
-/// Each fails by E. `Further`, `Described` and `Synced` close by Z. `First`, `Further` and `Running` may begin a copy by G or H. Whatever stands nowhere in
-/// the table is refused.
+/// Each fails by E. `Further`, `Described`, `Synced` and `Copied` close by Z. In `First`, `Further` and `Running` a copy may begin by G or H, in `CopyFirst` something
+/// else than a copy to the client by T, C, I or G, and in `Copied` whatever begins a segment: these are lawful, and not awaited. Whatever stands nowhere here is
+/// refused.
 #[derive(Clone, Copy, Debug, PartialEq, Eq)]
 pub enum Part {
     /// The first segment of a query.
@@ -60,6 +64,14 @@ pub enum Part {
     RunningOn(usize),
     /// That the portal or a statement is closed, and behind it so many more.
     Closing(usize),
+    /// A copy to the client.
+    CopyFirst,
+    /// Its data, or that it has come to its end.
+    CopyData,
+    /// The end of the statement that copied.
+    CopyEnd,
+    /// The end, behind a copy to the client.
+    Copied,
 }
 
 // That so many statements are closed, and the end.
@@ -83,26 +95,41 @@ impl Part {
             Request::Evict(_) => Part::Closing(0),
             Request::Clear(statements) => closing(statements.len()),
             Request::Prepare(_) | Request::Ping | Request::Flush | Request::Close => Part::Synced,
+            Request::CopyOut(_) => Part::CopyFirst,
             _ => Part::First,
         }
     }
 
-    // Whether a message of this tag may come.
+    // Whether a message of this tag is awaited.
     fn awaits(self, tag: u8) -> bool
         ensures { result ≡ is_known (tags_of self) tag }
     {
         match self {
-            Part::First => matches!(tag, b'T' | b'C' | b'I' | b'E' | b'G' | b'H'),
-            Part::Further => matches!(tag, b'T' | b'C' | b'I' | b'E' | b'G' | b'H' | b'Z'),
+            Part::First => matches!(tag, b'T' | b'C' | b'I' | b'E'),
+            Part::Further => matches!(tag, b'T' | b'C' | b'I' | b'E' | b'Z'),
             Part::Rows(_) => matches!(tag, b'D' | b'C' | b'E'),
-            Part::Synced | Part::Described(_) => matches!(tag, b'E' | b'Z'),
+            Part::Synced | Part::Described(_) | Part::Copied => matches!(tag, b'E' | b'Z'),
             Part::Parsing => matches!(tag, b'1' | b'E'),
             Part::Typing => matches!(tag, b't' | b'E'),
             Part::Describing => matches!(tag, b'T' | b'n' | b'E'),
             Part::Binding(_) => matches!(tag, b'2' | b'E'),
-            Part::Running(_) => matches!(tag, b'D' | b'C' | b'I' | b'E' | b'G' | b'H'),
-            Part::RunningOn(_) => matches!(tag, b'D' | b'C' | b'I' | b'E'),
+            Part::Running(_) | Part::RunningOn(_) => matches!(tag, b'D' | b'C' | b'I' | b'E'),
             Part::Closing(_) => matches!(tag, b'3' | b'E'),
+            Part::CopyFirst => matches!(tag, b'H' | b'E'),
+            Part::CopyData => matches!(tag, b'd' | b'c' | b'E'),
+            Part::CopyEnd => matches!(tag, b'C' | b'E'),
+        }
+    }
+
+    /// Whether a message of this tag may come, which is not awaited.
+    pub(crate) fn strays(self, tag: u8) -> bool
+        ensures { result ≡ is_known (stray_tags self) tag }
+    {
+        match self {
+            Part::First | Part::Further | Part::Running(_) => matches!(tag, b'G' | b'H'),
+            Part::CopyFirst => matches!(tag, b'T' | b'C' | b'I' | b'G'),
+            Part::Copied => matches!(tag, b'T' | b'C' | b'I' | b'G' | b'H'),
+            _ => false,
         }
     }
 
@@ -165,6 +192,7 @@ impl Part {
     {
         match self {
             Part::Running(_) | Part::RunningOn(_) => Part::Closing(0),
+            Part::CopyEnd => Part::Copied,
             _ => Part::Further,
         }
     }
@@ -181,6 +209,8 @@ pub enum News {
     Row(DataRow),
     /// The rows that a statement counts.
     Count(PgQueryResult),
+    /// Some data of a copy.
+    Piece(Blob),
 }
 
 /// What one message is to a reply.
@@ -190,8 +220,8 @@ pub enum Verdict {
     On { part: Part, news: News },
     Failed(PgDatabaseError),
     Closed(TransactionStatus),
-    /// A copy begins, for which nobody has asked.
-    Copies,
+    /// Another reply comes than the one that is awaited.
+    Strays,
 }
 
 // The reply goes on by a message of which nothing is kept.
@@ -298,6 +328,7 @@ fn row(alloc: Global, part: Part, body: &[u8]) -> Result<Verdict, Error>
 
 /// The same of columns of which nothing is kept: what is awaited behind them, or the server's fault, or want of memory.
 pub fn pass_columns(alloc: Global, part: Part, body: &[u8]) -> Result<Part, Error>
+    requires { is_known (stray_tags part) 84 ≡ false }
     ensures { PassesColumns part body.now result }
 {
     if !part.awaits(b'T') {
@@ -348,26 +379,52 @@ fn close(part: Part, body: &[u8]) -> Result<Verdict, Error>
     Ok(Verdict::Closed(status))
 }
 
-fn copy_in(alloc: Global, part: Part, body: &[u8]) -> Result<Verdict, Error>
-    requires { is_known (tags_of part) 71 ≡ true }
-    ensures { Judges part 71 body.now result }
-{
-    let _ = decode_copy_in_response(alloc, body)?;
-    Ok(Verdict::Copies)
-}
-
-fn copy_out(alloc: Global, part: Part, body: &[u8]) -> Result<Verdict, Error>
+// A copy to the client begins.
+fn begin_copy(alloc: Global, part: Part, body: &[u8]) -> Result<Verdict, Error>
     requires { is_known (tags_of part) 72 ≡ true }
     ensures { Judges part 72 body.now result }
 {
     let _ = decode_copy_out_response(alloc, body)?;
-    Ok(Verdict::Copies)
+    Ok(go_on(Part::CopyData))
+}
+
+// Some data of it.
+fn copy(alloc: Global, part: Part, body: &[u8]) -> Result<Verdict, Error>
+    requires { is_known (tags_of part) 100 ≡ true }
+    ensures { Judges part 100 body.now result }
+{
+    let piece = decode_copy_data(alloc, body)?;
+    Ok(Verdict::On {
+        part: Part::CopyData,
+        news: News::Piece(piece),
+    })
+}
+
+// All of its data has come.
+fn end_copy(part: Part, body: &[u8]) -> Result<Verdict, Error>
+    requires { is_known (tags_of part) 99 ≡ true }
+    ensures { Judges part 99 body.now result }
+{
+    decode_copy_done(body)?;
+    Ok(go_on(Part::CopyEnd))
+}
+
+// Another reply than the one that is awaited.
+fn stray(alloc: Global, part: Part, tag: u8, body: &[u8]) -> Result<Verdict, Error>
+    requires { is_known (stray_tags part) tag ≡ true }
+    ensures { Judges part tag body.now result }
+{
+    check_message(alloc, tag, body)?;
+    Ok(Verdict::Strays)
 }
 
 /// What the message is to the reply that has come so far. An `Err` is the server's fault, or want of memory.
 pub fn judge(alloc: Global, part: Part, tag: u8, body: &[u8]) -> Result<Verdict, Error>
     ensures { Judges part tag body.now result }
 {
+    if part.strays(tag) {
+        return stray(alloc, part, tag, body);
+    }
     if !part.awaits(tag) {
         return Err(refuse(alloc, tag, body));
     }
@@ -383,8 +440,9 @@ pub fn judge(alloc: Global, part: Part, tag: u8, body: &[u8]) -> Result<Verdict,
         b'D' => row(alloc, part, body),
         b'E' => fail(alloc, part, body),
         b'Z' => close(part, body),
-        b'G' => copy_in(alloc, part, body),
-        b'H' => copy_out(alloc, part, body),
+        b'H' => begin_copy(alloc, part, body),
+        b'd' => copy(alloc, part, body),
+        b'c' => end_copy(part, body),
         _ => Err(refuse(alloc, tag, body)),
     }
 }

@@ -39,6 +39,8 @@ pub enum Kind {
     Ping,
     Flush,
     Close,
+    /// A copy to the client.
+    CopyOut,
 }
 
 /// What a call makes of the number of transactions and savepoints that are open, where it is Ok.
@@ -82,7 +84,8 @@ impl Kind {
             | Kind::Rollback
             | Kind::Ping
             | Kind::Flush
-            | Kind::Close => false,
+            | Kind::Close
+            | Kind::CopyOut => false,
         }
     }
 
@@ -99,7 +102,8 @@ impl Kind {
             | Kind::Clear
             | Kind::Ping
             | Kind::Flush
-            | Kind::Close => Change::Stays,
+            | Kind::Close
+            | Kind::CopyOut => Change::Stays,
         }
     }
 

@@ -47,8 +47,8 @@ pub enum Heard {
     Yields(CallItem),
     Failed(PgDatabaseError),
     Closed(TransactionStatus),
-    /// A copy begins, for which nobody has asked.
-    Copies,
+    /// Another reply comes than the one that is awaited.
+    Strays,
 }
 
 impl Reply {
@@ -112,6 +112,7 @@ impl Reply {
             }
             News::Row(values) => self.add_row(values),
             News::Count(count) => self.add(CallItem::Count(count)),
+            News::Piece(piece) => self.add(CallItem::Piece(piece)),
         }
     }
 
@@ -137,7 +138,7 @@ impl Reply {
             Verdict::On { part, news } => self.go_on(part, news),
             Verdict::Failed(error) => Ok(Heard::Failed(error)),
             Verdict::Closed(status) => Ok(Heard::Closed(status)),
-            Verdict::Copies => Ok(Heard::Copies),
+            Verdict::Strays => Ok(Heard::Strays),
         }
     }
 
@@ -162,7 +163,7 @@ impl Reply {
             self.part = pass_row(alloc, self.part, body)?;
             return Ok(Heard::More);
         }
-        if tag == b'T' && self.heading.columns.is_none() {
+        if tag == b'T' && self.heading.columns.is_none() && !self.part.strays(b'T') {
             self.part = pass_columns(alloc, self.part, body)?;
             return Ok(Heard::More);
         }

@@ -44,6 +44,8 @@ pub enum Request {
     Flush,
     /// Ends the session.
     Close,
+    /// Copies to the client by the text of this query, which is asked without arguments. (PostgreSQL manual, "COPY Operations".)
+    CopyOut(Query),
 }
 
 // By hand, so that whoever lets one go makes one call, and doesn't go through its parts.
@@ -68,7 +70,8 @@ impl Drop for Request {
             | Request::Clear(_)
             | Request::Ping
             | Request::Flush
-            | Request::Close => {}
+            | Request::Close
+            | Request::CopyOut(_) => {}
         }
     }
 }
@@ -141,6 +144,7 @@ impl Request {
             Request::Ping => Kind::Ping,
             Request::Flush => Kind::Flush,
             Request::Close => Kind::Close,
+            Request::CopyOut(_) => Kind::CopyOut,
         }
     }
 
@@ -198,7 +202,8 @@ impl Request {
             | Request::FetchAll(query)
             | Request::FetchOptional(query)
             | Request::FetchOne(query)
-            | Request::BeginWith(query) => encode_query(&mut frames, query.sql())?,
+            | Request::BeginWith(query)
+            | Request::CopyOut(query) => encode_query(&mut frames, query.sql())?,
             Request::Begin(depth) => encode_query(&mut frames, begin_text(*depth).as_str())?,
             Request::Commit(left) => encode_query(&mut frames, commit_text(*left).as_str())?,
             Request::Rollback(left) => encode_query(&mut frames, rollback_text(*left).as_str())?,

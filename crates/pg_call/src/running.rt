@@ -221,8 +221,8 @@ impl Running {
         }
     }
 
-    // A copy has begun, for which nobody has asked: one from the client is ended at once.
-    fn refuse_copy(&mut self, tag: u8) -> Taken
+    // Another reply comes than the one that is awaited: a copy from the client is ended at once.
+    fn refuse_stray(&mut self, tag: u8) -> Taken
         ensures { RefusesCopy tag self.old self.new result }
     {
         let fails_copy = tag == b'G';
@@ -244,7 +244,7 @@ impl Running {
             Heard::Yields(item) => plain(Beat::Yields(item)),
             Heard::Failed(error) => self.end(Err(Error::Database(error))),
             Heard::Closed(status) => self.close(status),
-            Heard::Copies => self.refuse_copy(tag),
+            Heard::Strays => self.refuse_stray(tag),
         }
     }
 

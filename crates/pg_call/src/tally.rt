@@ -74,6 +74,10 @@ impl Tally {
     {
         match item {
             CallItem::Row(row) => self.add_row(kind, row),
+            CallItem::Piece(piece) => match kind {
+                Kind::CopyOut => Ok(Some(CallItem::Piece(piece))),
+                _ => Ok(None),
+            },
             CallItem::Count(count) => {
                 self.total = self.total.saturating_add(count.rows_affected());
                 match kind {

@@ -1,5 +1,5 @@
 -- What the end of a call, a drop and a rollback make of the room for cleanups.
-use Rattle.std.proofs.Common.{◌≡◌, ℕ, zero, suc, ◌+◌, ◌-◌, ◌*◌, ◌^◌, ◌<◌, ◌≤◌, Bool, true, false, ◌&&◌, not, nat_eq, leb, ltb, min, cond, List, [], ◌∷◌, ◌++◌, length, codes, decimal, length-append, Ok, Err, refl, sym, ap, ◌∙◌, subst, arith}
+use Rattle.std.proofs.Common.{◌≡◌, ℕ, zero, suc, ◌+◌, ◌-◌, ◌*◌, ◌^◌, ◌<◌, ◌≤◌, Bool, true, false, ◌&&◌, not, nat_eq, leb, ltb, min, cond, List, [], ◌∷◌, ◌++◌, length, codes, decimal, length-append, Ok, Err, refl, sym, ap, ap₂, ◌∙◌, subst, arith}
 use Rattle.std.proofs.lemmas.Bool.{leb-true, le-leb, ltb-true, lt-ltb}
 use Rattle.std.proofs.lemmas.Fmt.{length-decimal-le}
 use Rattle.pg_wire.proofs.Tests.{both_true}
@@ -20,7 +20,7 @@ use Rattle.pg_call.specs.declared.calling.Call.TheVariants as calls
 use Rattle.pg_call.specs.declared.ledger.Ledger.{Ledger}
 use Rattle.pg_conn.specs.Statements.{moved, unmoved, step_of}
 use Rattle.pg_conn.proofs.StatementLaws.{depth_moved, depth_unmoved, depth_held}
-use Rattle.pg_conn.specs.Turns.{HasAllRoom, HasRoom, HasRoomBeside, behind, broken_by, cleanup_of, level_of}
+use Rattle.pg_conn.specs.Turns.{HasAllRoom, HasRoom, HasRoomBeside, kept_for, behind, broken_by, cleanup_of, level_of}
 
 pub fits_room : (bytes : List ℕ) (c : ConnSeen) → has_room_for bytes c ≡ true → (length bytes ≤ c.stream.spare) × (c.ledger.owed < 2 ^ 64 - 1)
 fits_room bytes c e =
@@ -74,7 +74,7 @@ room_ended : (n : ℕ) (c : ConnSeen) → n + cleanup_of c.call ≤ c.stream.spa
 room_ended n c h = omega (arith, h, level_none c.groups)
 
 -- a rollback is queued out of the room of one level
-room_queued : (n : ℕ) (frame : List ℕ) (c : ConnSeen) → length frame ≤ 64 → n + 64 + cleanup_of c.call ≤ c.stream.spare → n + cleanup_of (queued_group frame c).call ≤ (queued_group frame c).stream.spare
+pub room_queued : (n : ℕ) (frame : List ℕ) (c : ConnSeen) → length frame ≤ 64 → n + 64 + cleanup_of c.call ≤ c.stream.spare → n + cleanup_of (queued_group frame c).call ≤ (queued_group frame c).stream.spare
 room_queued n frame c s h = by (has_room_for frame c)
   where
     by : (b : Bool) → n + cleanup_of (cond b (with_group frame c) c).call ≤ (cond b (with_group frame c) c).stream.spare
@@ -89,13 +89,14 @@ record Restates (c d : ConnSeen) : Type 0 where
   stream : d.stream ≡ c.stream
   change : d.change ≡ c.change
   depth : d.rule.depth ≡ c.rule.depth
+  held : d.held ≡ c.held
 
 restates : (c : ConnSeen) → Restates c (restated c)
 restates c = by (nat_eq c.groups 0)
   where
     by : (b : Bool) → Restates c (cond b (record c { rule = unmoved c.keeping c.rule }) (record c { rule = moved c.keeping c.rule; cache = step_of c.keeping c.cache }))
-    by true = record { spare = refl; call = refl; ledger = refl; stream = refl; change = refl; depth = depth_unmoved c.keeping c.rule }
-    by false = record { spare = refl; call = refl; ledger = refl; stream = refl; change = refl; depth = depth_moved c.keeping c.rule }
+    by true = record { spare = refl; call = refl; ledger = refl; stream = refl; change = refl; depth = depth_unmoved c.keeping c.rule; held = refl }
+    by false = record { spare = refl; call = refl; ledger = refl; stream = refl; change = refl; depth = depth_moved c.keeping c.rule; held = refl }
 
 pub room_cleaned : (n : ℕ) (c : ConnSeen) → HasRoomBeside n c → HasRoomBeside n (cleaned c)
 unfolding restates
@@ -112,7 +113,7 @@ room_cleaned n c h = by (may_open c.change c.groups c.rule.depth) refl
     by false e = let wants = ap cleanup_of same.call in room_ended n (restated c) (omega (arith, h, wants, same.spare))
 
 -- what is known of the session stays
-rule_queued : (frame : List ℕ) (c : ConnSeen) → (queued_group frame c).rule ≡ c.rule
+pub rule_queued : (frame : List ℕ) (c : ConnSeen) → (queued_group frame c).rule ≡ c.rule
 rule_queued frame c = by (has_room_for frame c)
   where
     by : (b : Bool) → (cond b (with_group frame c) c).rule ≡ c.rule
@@ -129,8 +130,24 @@ rule_cleaned c = by (may_open c.change c.groups c.rule.depth)
 pub depth_cleaned : (c : ConnSeen) → (cleaned c).rule.depth ≡ c.rule.depth
 depth_cleaned c = ap (λ (r : Rule). r.depth) (rule_cleaned c) ∙ (restates c).depth
 
+-- as many locks are held
+pub held_queued : (frame : List ℕ) (c : ConnSeen) → (queued_group frame c).held ≡ c.held
+held_queued frame c = by (has_room_for frame c)
+  where
+    by : (b : Bool) → (cond b (with_group frame c) c).held ≡ c.held
+    by true = refl
+    by false = refl
+
+pub held_cleaned : (c : ConnSeen) → (cleaned c).held ≡ c.held
+unfolding restates
+held_cleaned c = by (may_open c.change c.groups c.rule.depth) ∙ (restates c).held
+  where
+    by : (b : Bool) → (ended (cond b (queued_group (spelled (rollback 0)) (restated c)) (restated c))).held ≡ (restated c).held
+    by true = held_queued (spelled (rollback 0)) (restated c)
+    by false = refl
+
 pub all_cleaned : (c : ConnSeen) → HasAllRoom c → HasAllRoom (cleaned c)
-all_cleaned c h = subst (λ (n : ℕ). HasRoomBeside (64 * n) (cleaned c)) (sym (depth_cleaned c)) (room_cleaned (64 * c.rule.depth) c h)
+all_cleaned c h = subst (λ (n : ℕ). HasRoomBeside n (cleaned c)) (ap₂ (λ (d k : ℕ). 64 * d + 64 * k) (sym (depth_cleaned c)) (sym (held_cleaned c))) (room_cleaned (kept_for c) c h)
 
 -- an Ok of a begin takes the room that was kept for it
 depth_fits : (change : Change) (groups depth : ℕ) → 64 * depth_behind change groups depth ≤ 64 * depth + level_of change groups
@@ -202,19 +219,19 @@ all_resolved c h = by c.call refl
     by (calls.Own reply) e = h
     by calls.Closing e = h
 
-change_queued : (frame : List ℕ) (c : ConnSeen) → (queued_group frame c).change ≡ c.change
+pub change_queued : (frame : List ℕ) (c : ConnSeen) → (queued_group frame c).change ≡ c.change
 change_queued frame c = by (has_room_for frame c)
   where
     by : (b : Bool) → (cond b (with_group frame c) c).change ≡ c.change
     by true = refl
     by false = refl
 
-all_of : (n : ℕ) (c : ConnSeen) → c.rule.depth ≡ n → c.change ≡ changes.Stays → 64 * n + cleanup_of c.call ≤ c.stream.spare → HasAllRoom c
-all_of n c e k h =
+pub all_of : (n k : ℕ) (c : ConnSeen) → c.rule.depth ≡ n → c.held ≡ k → c.change ≡ changes.Stays → 64 * n + 64 * k + cleanup_of c.call ≤ c.stream.spare → HasAllRoom c
+all_of n g c e f k h =
     let none : level_of c.change c.groups ≡ 0 = ap (λ (x : Change). level_of x c.groups) k ∙ level_none c.groups in
-    omega (arith, h, e, none)
+    omega (arith, h, e, f, none)
 
-some : (n : ℕ) → nat_eq n 0 ≡ false → 0 < n
+pub some : (n : ℕ) → nat_eq n 0 ≡ false → 0 < n
 some zero e = absurd cc
 some (suc n) e = omega arith
 
@@ -227,8 +244,8 @@ all_rolled c l k h = by (nat_eq c.rule.depth 0) refl
         let d : ConnSeen = record c { rule = with_depth (c.rule.depth - 1) c.rule } in
         let f : List ℕ = spelled (rollback (c.rule.depth - 1)) in
         let positive = some c.rule.depth e in
-        let kept = room_queued (64 * (c.rule.depth - 1)) f d (rollback_short (c.rule.depth - 1) (omega (arith, l))) (omega (arith, h, positive)) in
-        all_of (c.rule.depth - 1) (queued_group f d) (ap (λ (r : Rule). r.depth) (rule_queued f d)) (change_queued f d ∙ k) kept
+        let kept = room_queued (64 * (c.rule.depth - 1) + 64 * c.held) f d (rollback_short (c.rule.depth - 1) (omega (arith, l))) (omega (arith, h, positive)) in
+        all_of (c.rule.depth - 1) c.held (queued_group f d) (ap (λ (r : Rule). r.depth) (rule_queued f d)) (held_queued f d) (change_queued f d ∙ k) kept
 
 pub all_rolled_back : (a : ConnSeen) → a.rule.depth < 2 ^ 64 → HasAllRoom a → HasAllRoom (rolled_back a)
 all_rolled_back a l h =

@@ -12,7 +12,8 @@ use Rattle.pg_wire.specs.declared.error.ProtocolFault.TheVariants as protocol
 use Rattle.pg_wire.specs.declared.error.ServerFault.{ServerFault}
 use Rattle.pg_wire.specs.Frame.{Frame, is_known}
 use Rattle.pg_wire.specs.Parts.{heard, is_asynchronous, is_ready}
-use Rattle.pg_wire.specs.Frontend.{FrontendMessage}
+use Rattle.pg_wire.specs.Frontend.{FrontendMessage, Query}
+use Rattle.pg_request.specs.Texts.{rollback_text}
 use Rattle.pg_stream.specs.Streams.{Sends, Takes, StreamSeen}
 use Rattle.pg_stream.proofs.StreamLemmas.{Moves-none, Sends-then, Takes-then}
 use Rattle.pg_call.specs.declared.kind.Kind.{Kind}
@@ -93,6 +94,7 @@ groups_ask (requests.FetchOptional query) = refl
 groups_ask (requests.FetchOne query) = refl
 groups_ask (requests.Begin depth) = refl
 groups_ask (requests.BeginWith query) = refl
+groups_ask (requests.CopyOut query) = refl
 groups_ask (requests.Commit left) = refl
 groups_ask (requests.Rollback left) = refl
 groups_ask (requests.Describe extended) = refl
@@ -112,6 +114,7 @@ farewell_asks_none kinds.Clear = refl
 farewell_asks_none kinds.Begin = refl
 farewell_asks_none kinds.Commit = refl
 farewell_asks_none kinds.Rollback = refl
+farewell_asks_none kinds.CopyOut = refl
 farewell_asks_none kinds.Ping = refl
 farewell_asks_none kinds.Flush = refl
 farewell_asks_none kinds.Close = refl
@@ -205,7 +208,7 @@ owes_beat a b kind beat t i =
     )
 
 -- nothing was queued and nothing read
-owes_same : (a b : ConnSeen) → b.stream ≡ a.stream → b.ledger ≡ a.ledger → Owes a b [] []
+pub owes_same : (a b : ConnSeen) → b.stream ≡ a.stream → b.ledger ≡ a.ledger → Owes a b [] []
 owes_same a b s l =
     let m = Moves-none a.stream in
     record { sent = subst (λ (t : StreamSeen). Sends a.stream t []) (sym s) m.sent; read = subst (λ (t : StreamSeen). Takes a.stream t []) (sym s) m.read; owed = rw l (omega arith) }
@@ -217,25 +220,28 @@ Owes-then a b c said more fs gs s t = record {
   owed = omega (arith, s.owed, t.owed, readies-append fs gs, counts-append said more);
 }
 
-OwesSome-then : (a b c : ConnSeen) → OwesSome a b → OwesSome b c → OwesSome a c
+pub OwesSome-then : (a b c : ConnSeen) → OwesSome a b → OwesSome b c → OwesSome a c
 OwesSome-then a b c s t = (s.0 ++ t.0, s.1 ++ t.1, Owes-then a b c s.0 t.0 s.1 t.1 s.2 t.2)
 
--- a rollback is queued, where there is room for it
-owes_group : (left : ℕ) (c : ConnSeen) → has_room_for (spelled (rollback left)) c ≡ true → Owes c (with_group (spelled (rollback left)) c) (rollback left) []
-owes_group left c e =
-    let m = group_moves (spelled (rollback left)) c (fits_room (spelled (rollback left)) c e).0 in
-    let one : count_by ends_request (rollback left) ≡ 1 = refl in
+-- a Query is queued, where there is room for it
+owes_query : (text : List ℕ) (c : ConnSeen) → has_room_for (spelled (Query text ∷ [])) c ≡ true → Owes c (with_group (spelled (Query text ∷ [])) c) (Query text ∷ []) []
+owes_query text c e =
+    let m = group_moves (spelled (Query text ∷ [])) c (fits_room (spelled (Query text ∷ [])) c e).0 in
+    let one : count_by ends_request (Query text ∷ []) ≡ 1 = refl in
     record { sent = m.sent; read = m.read; owed = omega (arith, one) }
 
-owes_queued : (left : ℕ) (c : ConnSeen) → OwesSome c (queued_group (spelled (rollback left)) c)
-owes_queued left c = by (has_room_for (spelled (rollback left)) c) refl
+pub owes_group : (text : List ℕ) (c : ConnSeen) → OwesSome c (queued_group (spelled (Query text ∷ [])) c)
+owes_group text c = by (has_room_for (spelled (Query text ∷ [])) c) refl
   where
-    by : (b : Bool) → has_room_for (spelled (rollback left)) c ≡ b → OwesSome c (cond b (with_group (spelled (rollback left)) c) c)
-    by true e = (rollback left, [], owes_group left c e)
+    by : (b : Bool) → has_room_for (spelled (Query text ∷ [])) c ≡ b → OwesSome c (cond b (with_group (spelled (Query text ∷ [])) c) c)
+    by true e = (Query text ∷ [], [], owes_query text c e)
     by false e = ([], [], owes_same c c refl refl)
 
+owes_queued : (left : ℕ) (c : ConnSeen) → OwesSome c (queued_group (spelled (rollback left)) c)
+owes_queued left c = owes_group (rollback_text left) c
+
 -- the call and its numbers are no matter
-owes_by : (a b c : ConnSeen) → OwesSome a b → c.stream ≡ record b.stream { waits = c.stream.waits; moves = c.stream.moves } → c.ledger ≡ b.ledger → OwesSome a c
+pub owes_by : (a b c : ConnSeen) → OwesSome a b → c.stream ≡ record b.stream { waits = c.stream.waits; moves = c.stream.moves } → c.ledger ≡ b.ledger → OwesSome a c
 owes_by a b c o s l = (
   o.0,
   o.1,

@@ -3,5 +3,8 @@ pub mod CleanupLaws
 pub mod StateLaws
 pub mod RefusalLaws
 pub mod LedgerLaws
+pub mod HoldingLaws
 pub mod StatementLaws
 pub mod CrossingLaws
+pub mod ViewLaws
+pub mod NewsLaws

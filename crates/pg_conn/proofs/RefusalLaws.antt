@@ -40,7 +40,7 @@ broken_left a = by (runs a.call) (may_open a.change a.groups a.rule.depth) (has_
     by true true false = broken_restated a
     by true true true = broken_restated a
 
-broken_started : (a : ConnSeen) (request : Request) → (started_call request a).broken ≡ a.broken
+pub broken_started : (a : ConnSeen) (request : Request) → (started_call request a).broken ≡ a.broken
 broken_started a request = broken_left a
 
 -- a poll from a start

@@ -1,5 +1,5 @@
 -- What a poll answers is of the call's kind.
-use Rattle.std.proofs.Common.{◌≡◌, ◌≤◌, ℕ, List, [], ◌∷◌, ◌++◌, refl, sym, ap, ◌∙◌, subst, arith, Result, Ok, Err, Option, Some, None, ◌-◌, ◌*◌, nat_eq, cond, length, Bool, true, false}
+use Rattle.std.proofs.Common.{◌≡◌, ◌≤◌, ◌+◌, ap₂, ℕ, List, [], ◌∷◌, ◌++◌, refl, sym, ap, ◌∙◌, subst, arith, Result, Ok, Err, Option, Some, None, ◌-◌, ◌*◌, nat_eq, cond, length, Bool, true, false}
 use Rattle.pg_wire.specs.declared.status.TransactionStatus.{TransactionStatus}
 use Rattle.pg_wire.specs.Backend.{BackendMessage}
 use Rattle.pg_wire.specs.Frame.{Frame}
@@ -30,17 +30,21 @@ use Rattle.pg_call.specs.Items.{yields}
 use Rattle.pg_call.specs.Answers.{TurnFits, AnswerFits, TurnIsPlain}
 use Rattle.pg_call.proofs.FitLaws.{shown_fits, answers_main, next_is, shows_main}
 use Rattle.pg_rule.specs.declared.rule.Rule.{Rule}
-use Rattle.pg_conn.specs.Connections.{ConnOf, ConnSeen, seen_by, started_call, begun_with, begun_by, handed, left, commit_of, resolved, resolved_by, restated, rollback_of, cleaned, may_open, has_room_for, with_group, rollback, ended}
+use Rattle.pg_conn.specs.Connections.{ConnOf, ConnSeen, Standing, standing, seen_by, started_call, started_next, begun_with, begun_by, handed, left, commit_of, resolved, resolved_by, restated, rollback_of, cleaned, may_open, has_room_for, with_group, rollback, ended}
 use Rattle.pg_conn.specs.Statements.{asked_by, begun_as, moved, unmoved, step_of}
 use Rattle.pg_conn.proofs.StatementLaws.{asked_main}
 use Rattle.pg_call.specs.declared.calling.Call.{Call}
 use Rattle.pg_call.specs.declared.calling.Call.TheVariants as calls
-use Rattle.pg_conn.specs.Turns.{HasRoom, TakesBeat, Polled, PollsThrough, HandsOver, PollsBy, PollsWithin, PollsCall, HandsOnNone, hands_on, beat_of, HasRoomBeside, HasAllRoom, behind, broken_by}
+use Rattle.pg_conn.specs.Turns.{HasRoom, TakesBeat, Polled, PollsThrough, HandsOver, PollsBy, PollsWithin, PollsCall, PollsMore, HandsOnNone, hands_on, beat_of, HasRoomBeside, HasAllRoom, kept_for, behind, broken_by}
 use Rattle.pg_conn.specs.States.{IsCalling, PollFits, turn_of, closing_turn, KeepsConn, PollsClose, IsCallingPlainly}
 
 -- a call that was started
 pub started_calling : {A : Type 0} (r : Request) (c : ConnOf A) → main_kind (begun_as (left c).rule r) ≡ main_kind r → IsCalling (main_kind r) (started_call r c)
 started_calling r c k = ((left c).ledger, begun_as (left c).rule r, [], [], [], k, (refl, refl, refl, refl, refl), omega arith)
+
+-- and one that was started behind another
+pub next_calling : {A : Type 0} (r : Request) (c : ConnOf A) → main_kind (begun_as (left c).rule r) ≡ main_kind r → IsCalling (main_kind r) (started_next r c)
+next_calling r c k = ((left c).ledger, begun_as (left c).rule r, [], [], [], k, (refl, refl, refl, refl, refl), omega arith)
 
 -- what stands as an exchange is of its kind
 pub resolved_calls : (kind : Kind) (c : ConnSeen) → IsCalling kind c → IsCalling kind (resolved c)
@@ -154,8 +158,14 @@ unseen seen b kind (Ready (turns.Item item)) f = f
 unseen seen b kind (Ready (turns.Ok answer)) f = f
 unseen seen b kind (Ready (turns.Err e)) f = f
 
+pub poll_fits_within : {A : Type 0} (seen : A → LinkSeen) (calls : ℕ) (a b : ConnOf A) (kind : Kind) (answer : Poll Turn) → PollsWithin calls (seen_by seen a) (seen_by seen b) answer → IsCalling kind a → PollFits kind b answer
+poll_fits_within seen calls a b kind answer p i = unseen seen b kind answer (fits_by a.broken (begun_with calls (seen_by seen a)) (seen_by seen a) (seen_by seen b) kind answer p i)
+
 pub poll_fits : {A : Type 0} (seen : A → LinkSeen) (a b : ConnOf A) (kind : Kind) (answer : Poll Turn) → PollsCall (seen_by seen a) (seen_by seen b) answer → IsCalling kind a → PollFits kind b answer
-poll_fits seen a b kind answer p i = unseen seen b kind answer (fits_by a.broken (begun_with 256 (seen_by seen a)) (seen_by seen a) (seen_by seen b) kind answer p i)
+poll_fits seen a b kind answer p i = poll_fits_within seen 256 a b kind answer p i
+
+pub more_fits : {A : Type 0} (seen : A → LinkSeen) (a b : ConnOf A) (kind : Kind) (answer : Poll Turn) → PollsMore (seen_by seen a) (seen_by seen b) answer → IsCalling kind a → PollFits kind b answer
+more_fits seen a b kind answer p i = unseen seen b kind answer (fits_by a.broken (seen_by seen a) (seen_by seen a) (seen_by seen b) kind answer p i)
 
 -- ---- the calls of the link that are left
 
@@ -212,9 +222,13 @@ keeps_room left a b answer h p = by a.broken p
     by None p = keeps_polled (resolved p.last) b (beat_of answer) (room_resolved p.last (hands_keep (λ (c : ConnSeen). HasRoom c) room_handed p.later (begun_with left a) p.last p.hands h)) p.polled
     by (Some fault) p = subst (λ (c : ConnSeen). HasRoom c) (sym p.0) (omega (arith, h, level_none a.groups))
 
+-- what no beat changes keeps the same room
+pub same_kept : (a b : ConnSeen) → b.rule ≡ a.rule → standing b ≡ standing a → kept_for a ≡ kept_for b
+same_kept a b r s = ap₂ (λ (x : Rule) (y : Standing). 64 * x.depth + 64 * y.held) (sym r) (sym s)
+
 keeps_all_polled : (begun b : ConnSeen) (beat : Beat) → HasAllRoom begun → Polled begun b beat → HasAllRoom b
 keeps_all_polled begun b beat h p =
-    let kept : HasAllRoom p.stopped = subst (λ (r : Rule). HasRoomBeside (64 * r.depth) p.stopped) (sym p.turns.3.started.2) (p.turns.3.room (64 * begun.rule.depth) (omega arith) h) in
+    let kept : HasAllRoom p.stopped = subst (λ (n : ℕ). HasRoomBeside n p.stopped) (same_kept begun p.stopped p.turns.3.started.2 p.turns.3.started.3) (p.turns.3.room (kept_for begun) (omega arith) h) in
     subst (λ (c : ConnSeen). HasAllRoom c) (sym p.behind_is) (all_behind beat p.stopped kept)
 
 all_handed : (a b : ConnSeen) (next : Request) → Polled (resolved a) b (beat_of (hands_on next)) → HasAllRoom a → HasAllRoom (handed next b)
@@ -241,6 +255,7 @@ closes_by seen a a' b r r' new answer e f polls fits keeps = rw (← e, ← f) (
 plain_answer : (kind : Kind) (answer : CallAnswer) → TurnIsPlain kind → AnswerFits kind answer → AnswerFits kinds.Flush answer
 plain_answer (kinds.Run how) answer p f = absurd p
 plain_answer kinds.Describe answer p f = absurd p
+plain_answer kinds.CopyOut answer p f = absurd p
 plain_answer kind answers.Unit p f = tt
 plain_answer kinds.Prepare answer p f = absurd p
 plain_answer kinds.Clear (answers.Total total) p f = absurd f
@@ -283,6 +298,7 @@ plain_item kinds.Clear item p f = absurd cc
 plain_item kinds.Begin item p f = absurd cc
 plain_item kinds.Commit item p f = absurd cc
 plain_item kinds.Rollback item p f = absurd cc
+plain_item kinds.CopyOut item p f = absurd p
 plain_item kinds.Ping item p f = absurd cc
 plain_item kinds.Flush item p f = f
 plain_item kinds.Close item p f = absurd cc

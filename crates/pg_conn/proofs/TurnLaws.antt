@@ -53,7 +53,7 @@ use Rattle.pg_conn.specs.Connections.{ConnOf, ConnSeen, Standing, standing, seen
 use Rattle.pg_conn.specs.Statements.{asked_by, moved, unmoved, step_of}
 use Rattle.pg_conn.proofs.StatementLaws.{asked_main}
 use Rattle.pg_exchanges.specs.Answering.{closing as closing_group}
-use Rattle.pg_conn.specs.Turns.{HearsBy, HearsFront, running_of, ends_request, IsMissed, FailsBy, EndsBy, Tells, SendCause, BeatCause, Turns, TakesBeat, IsAsked, cleanup_of, IsSayable, GoesOn, Prepares, Refuses, Refused, Polled, beat_of, broken_by, only_sends, flushes, only_flushes, is_flushed, EndsFlush, IsAhead, Readies, Accepts, queued_copy_fail, level_of, HasRoomBeside, behind}
+use Rattle.pg_conn.specs.Turns.{HearsBy, kept_for, HearsFront, running_of, ends_request, IsMissed, FailsBy, EndsBy, Tells, SendCause, BeatCause, Turns, TakesBeat, IsAsked, cleanup_of, IsSayable, GoesOn, Prepares, Refuses, Refused, Polled, beat_of, broken_by, only_sends, flushes, only_flushes, is_flushed, EndsFlush, IsAhead, Readies, Accepts, queued_copy_fail, level_of, HasRoomBeside, behind}
 use Rattle.pg_startup.proofs.GreetLaws.{heard_none, heard_one}
 
 -- the bytes of messages, one after another
@@ -106,7 +106,7 @@ Turns-then a b c beat q q' fs fs' hs hs' s t = record {
   counted = GrewBy-then (length hs) (length hs') (length (hs ++ hs')) a.heard b.heard c.heard s.counted t.counted (length-append hs hs');
   started = (t.started.0 ∙ s.started.0, t.started.1 ∙ s.started.1, t.started.2 ∙ s.started.2, t.started.3 ∙ s.started.3);
   asked = λ i. s.asked (t.asked i);
-  room = λ n l h. t.room n (omega (arith, l, ap (λ (r : Rule). r.depth) s.started.2)) (s.room n l h);
+  room = λ n l h. t.room n (omega (arith, l, ap (λ (r : Rule). r.depth) s.started.2, ap (λ (x : Standing). x.held) s.started.3)) (s.room n l h);
   tells = λ start r said heards items i.
       let one = s.tells start r said heards items i in
       let two = t.tells start r (said ++ one.0) (heards ++ hs) items one.3 in (
@@ -227,6 +227,7 @@ groups_said (requests.FetchOptional query) f c = refl
 groups_said (requests.FetchOne query) f c = refl
 groups_said (requests.Begin depth) f c = refl
 groups_said (requests.BeginWith query) f c = refl
+groups_said (requests.CopyOut query) f c = refl
 groups_said (requests.Commit left) f c = refl
 groups_said (requests.Rollback left) f c = refl
 groups_said (requests.Describe extended) f c = refl
@@ -256,6 +257,7 @@ groups_farewell (requests.FetchOptional query) c = absurd cc
 groups_farewell (requests.FetchOne query) c = absurd cc
 groups_farewell (requests.Begin depth) c = absurd cc
 groups_farewell (requests.BeginWith query) c = absurd cc
+groups_farewell (requests.CopyOut query) c = absurd cc
 groups_farewell (requests.Commit left) c = absurd cc
 groups_farewell (requests.Rollback left) c = absurd cc
 
@@ -264,7 +266,7 @@ flush_false true n z e = let w : true && 0 == 0 ≡ false = rw z at e in absurd 
 flush_false false n z e = refl
 
 -- the state b stands where what waited was queued
-queues_waiting : (a b : ConnSeen) (w : Waiting) → a.call ≡ calls.Waiting w → Moves a.stream b.stream w.frames [] → AllMoved a.stream b.stream → (IsAsked b.call → ⊥) → ((n : ℕ) → n ≤ 64 * a.rule.depth → HasRoomBeside n b) → b.broken ≡ a.broken → b.heard ≡ a.heard → b.sent ≡ a.sent → b.read ≡ a.read → b.rule ≡ a.rule → standing b ≡ standing a
+queues_waiting : (a b : ConnSeen) (w : Waiting) → a.call ≡ calls.Waiting w → Moves a.stream b.stream w.frames [] → AllMoved a.stream b.stream → (IsAsked b.call → ⊥) → ((n : ℕ) → n ≤ kept_for a → HasRoomBeside n b) → b.broken ≡ a.broken → b.heard ≡ a.heard → b.sent ≡ a.sent → b.read ≡ a.read → b.rule ≡ a.rule → standing b ≡ standing a
     → ((start : Ledger) (r : Request) (said : List FrontendMessage) (hs : List Frame) (items : List CallItem) → CallIs start r said hs items a.ledger (calls.Waiting w) → GrewBy (count_by ends_request (messages_of r)) a.groups b.groups × CallIs start r (said ++ messages_of r) hs items b.ledger b.call)
     → TakesBeat a b beats.More
 queues_waiting a b w k m moved asked room broken h s t d e tells = (
@@ -295,7 +297,7 @@ level_most c g = by (nat_eq g 0)
     by true = omega arith
     by false = omega arith
 
-pub asks_reply : (a : ConnSeen) (n g : ℕ) (w : Waiting) → a.call ≡ calls.Waiting w → a.ledger.owed ≡ 0 → only_sends a.ledger a.call ≡ false → is_close w.kind ≡ false → Moves a.stream (queued_call n a).stream w.frames [] × AllMoved a.stream (queued_call n a).stream → 64 * a.rule.depth + level_of a.change 1 + 128 ≤ n → GrewBy 1 a.groups g
+pub asks_reply : (a : ConnSeen) (n g : ℕ) (w : Waiting) → a.call ≡ calls.Waiting w → a.ledger.owed ≡ 0 → only_sends a.ledger a.call ≡ false → is_close w.kind ≡ false → Moves a.stream (queued_call n a).stream w.frames [] × AllMoved a.stream (queued_call n a).stream → kept_for a + level_of a.change 1 + 128 ≤ n → GrewBy 1 a.groups g
     → Readies a (awaiting g (queued_call n a))
 asks_reply a n g w k z f c m room grew =
     let flush : is_flush w.kind ≡ false = flush_false (is_flush w.kind) a.ledger.owed z (subst (λ (x : Call). only_sends a.ledger x ≡ false) k f) in
@@ -307,7 +309,7 @@ asks_reply a n g w k z f c m room grew =
       ahead = tt;
     })
 
-pub asks_nothing : (a : ConnSeen) (n : ℕ) (w : Waiting) → a.call ≡ calls.Waiting w → a.ledger.owed ≡ 0 → is_close w.kind ≡ true → Moves a.stream (queued_call n a).stream w.frames [] × AllMoved a.stream (queued_call n a).stream → 64 * a.rule.depth + level_of a.change 1 + 128 ≤ n
+pub asks_nothing : (a : ConnSeen) (n : ℕ) (w : Waiting) → a.call ≡ calls.Waiting w → a.ledger.owed ≡ 0 → is_close w.kind ≡ true → Moves a.stream (queued_call n a).stream w.frames [] × AllMoved a.stream (queued_call n a).stream → kept_for a + level_of a.change 1 + 128 ≤ n
     → Readies a (closing (queued_call n a))
 asks_nothing a n w k z c m room = record {
   beat = queues_waiting a (closing (queued_call n a)) w k m.0 m.1 (λ i. i) (λ k l. omega (arith, room, l, level_most a.change a.groups)) refl refl refl refl refl refl (λ start r said hs items i.
@@ -349,6 +351,7 @@ flush_said (requests.FetchOptional query) e = absurd cc
 flush_said (requests.FetchOne query) e = absurd cc
 flush_said (requests.Begin depth) e = absurd cc
 flush_said (requests.BeginWith query) e = absurd cc
+flush_said (requests.CopyOut query) e = absurd cc
 flush_said (requests.Commit left) e = absurd cc
 flush_said (requests.Rollback left) e = absurd cc
 
@@ -675,20 +678,20 @@ queued_moves : {A : Type 0} (seen : A → LinkSeen) (a : ConnOf A) (n : ℕ) (w 
 queued_moves {A} seen a n w k le =
     queues_by seen a.stream (queued_call n a).stream w.frames n (omega (arith, le)) (ap (λ (c : Call). record a.stream { unsent = a.stream.unsent ++ frames_in c; spare = n }) k)
 
-pub asks_closing : {A : Type 0} (seen : A → LinkSeen) (a q b : ConnOf A) (w : Waiting) → a.call ≡ calls.Waiting w → a.ledger.owed ≡ 0 → is_close w.kind ≡ true → a.stream.spare ≤ q.stream.spare → 64 * q.rule.depth + level_of q.change 1 + 128 ≤ q.stream.spare → q ≡ queued_call q.stream.spare a → b ≡ closing q
+pub asks_closing : {A : Type 0} (seen : A → LinkSeen) (a q b : ConnOf A) (w : Waiting) → a.call ≡ calls.Waiting w → a.ledger.owed ≡ 0 → is_close w.kind ≡ true → a.stream.spare ≤ q.stream.spare → kept_for q + level_of q.change 1 + 128 ≤ q.stream.spare → q ≡ queued_call q.stream.spare a → b ≡ closing q
     → Readies (seen_by seen a) (seen_by seen b)
 asks_closing {A} seen a q b w k z c le room is closes =
     let n = q.stream.spare in
-    let kept = subst (λ (x : ConnOf A). 64 * x.rule.depth + level_of x.change 1 + 128 ≤ n) is room in
+    let kept = subst (λ (x : ConnOf A). kept_for x + level_of x.change 1 + 128 ≤ n) is room in
     subst (λ (x : ConnOf A). Readies (seen_by seen a) (seen_by seen x)) (sym (closes ∙ ap (λ (x : ConnOf A). closing x) is)) (asks_nothing (seen_by seen a) n w k z c (queued_moves seen a n w k le) kept)
 
-pub asks_own : {A : Type 0} (seen : A → LinkSeen) (a q b : ConnOf A) (w : Waiting) → a.call ≡ calls.Waiting w → a.ledger.owed ≡ 0 → only_sends a.ledger a.call ≡ false → is_close w.kind ≡ false → a.stream.spare ≤ q.stream.spare → 64 * q.rule.depth + level_of q.change 1 + 128 ≤ q.stream.spare → q ≡ queued_call q.stream.spare a
+pub asks_own : {A : Type 0} (seen : A → LinkSeen) (a q b : ConnOf A) (w : Waiting) → a.call ≡ calls.Waiting w → a.ledger.owed ≡ 0 → only_sends a.ledger a.call ≡ false → is_close w.kind ≡ false → a.stream.spare ≤ q.stream.spare → kept_for q + level_of q.change 1 + 128 ≤ q.stream.spare → q ≡ queued_call q.stream.spare a
     → b ≡ awaiting b.groups q → GrewBy 1 q.groups b.groups → Readies (seen_by seen a) (seen_by seen b)
 asks_own {A} seen a q b w k z f c le room is awaits grew =
     let n = q.stream.spare in
     let g = b.groups in
     let same : q.groups ≡ a.groups = ap (λ (x : ConnOf A). x.groups) is in
-    let kept = subst (λ (x : ConnOf A). 64 * x.rule.depth + level_of x.change 1 + 128 ≤ n) is room in
+    let kept = subst (λ (x : ConnOf A). kept_for x + level_of x.change 1 + 128 ≤ n) is room in
     subst (λ (x : ConnOf A). Readies (seen_by seen a) (seen_by seen x)) (sym (awaits ∙ ap (λ (x : ConnOf A). awaiting g x) is)) (asks_reply (seen_by seen a) n g w k z f c (queued_moves seen a n w k le) kept (rw same at grew))
 
 pub with_room : {A : Type 0} (seen : A → LinkSeen) (a r : ConnOf A) → r ≡ with_spare r.stream.spare a → a.stream.spare ≤ r.stream.spare → TakesBeat (seen_by seen a) (seen_by seen r) beats.More
@@ -716,7 +719,7 @@ sends_none t false u e = append-nil t.unsent ∙ u
 sends_none t true u e = absurd cc
 
 pub takes_message : {A : Type 0} (seen : A → LinkSeen) (a b : ConnOf A) (new : Running) (front : Front) (body rest : List ℕ) (taken : Taken) → IsHeardFront a.stream.held front → IsFrontOf a.stream.held front (framed front.tag body) rest
-    → TakesMessage front.tag body (record { ledger = a.ledger; call = a.call }) new taken → StaysIn a.call taken.fails_copy new.call → (taken.fails_copy ≡ true → 64 * a.rule.depth + level_of a.change a.groups + 57 ≤ a.stream.spare) → (taken.fails_copy ≡ true → front.tag ≡ 71) → a.stream.unsent ≡ [] → (taken.beat ≢ beats.Waits) → Accepts front taken.fails_copy (record a { ledger = new.ledger; call = new.call }) b
+    → TakesMessage front.tag body (record { ledger = a.ledger; call = a.call }) new taken → StaysIn a.call taken.fails_copy new.call → (taken.fails_copy ≡ true → kept_for a + level_of a.change a.groups + 57 ≤ a.stream.spare) → (taken.fails_copy ≡ true → front.tag ≡ 71) → a.stream.unsent ≡ [] → (taken.beat ≢ beats.Waits) → Accepts front taken.fails_copy (record a { ledger = new.ledger; call = new.call }) b
     → TakesBeat (seen_by seen a) (seen_by seen b) taken.beat
 takes_message {A} seen a b new front body rest taken f of takes stays_in room copy sent goes acc =
     let t = acc.0 in
@@ -786,7 +789,7 @@ starves_front held front a b e f replied oom same =
     let body : List ℕ = take (front.total - 5) (drop 5 held) in
     (body, drop front.total held, front_frame held front (IsFront-from_heard held front f), (rw oom (starves_message front.tag body a replied), same))
 
-pub taken_front : {A : Type 0} (seen : A → LinkSeen) (a m b : ConnOf A) (front : Front) (taken : Taken) → IsHeardFront a.stream.held front → (front.tag ≡ 71 → 64 * a.rule.depth + level_of a.change a.groups + 57 ≤ a.stream.spare) → a.stream.unsent ≡ [] → m ≡ record a { ledger = m.ledger; call = m.call }
+pub taken_front : {A : Type 0} (seen : A → LinkSeen) (a m b : ConnOf A) (front : Front) (taken : Taken) → IsHeardFront a.stream.held front → (front.tag ≡ 71 → kept_for a + level_of a.change a.groups + 57 ≤ a.stream.spare) → a.stream.unsent ≡ [] → m ≡ record a { ledger = m.ledger; call = m.call }
     → HearsFront front a m (Ok taken) → Accepts front taken.fails_copy m b → TakesBeat (seen_by seen a) (seen_by seen b) taken.beat
 taken_front {A} seen a m b front taken f room sent now h acc =
     takes_message seen a b (running_of m) front h.0 h.1 taken f h.2 h.3.0 h.3.3 (λ e. room (h.3.1 e)) h.3.1 sent h.3.2 (subst (λ (x : ConnOf A). Accepts front taken.fails_copy x b) now acc)

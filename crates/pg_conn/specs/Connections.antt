@@ -38,6 +38,8 @@ pub record ConnOf (A : Type 0) : Type 0 where
   pub keeping : Keeping
   -- what the call has made of them so far
   pub cache : CacheStep
+  -- how many advisory locks are held by guards, or are being taken for one
+  pub held : ℕ
   -- the fault by which the server broke the connection
   pub broken : Option ServerFault
   -- groups queued in the exchange that runs and in those before it, and frames heard, since the last call began, each up to u64's greatest value
@@ -53,20 +55,21 @@ pub record Standing : Type 0 where
   pub change : Change
   pub keeping : Keeping
   pub cache : CacheStep
+  pub held : ℕ
   pub earlier : ℕ
 
 abbrev pub standing : {A : Type 0} → ConnOf A → Standing
-standing c = record { change = c.change; keeping = c.keeping; cache = c.cache; earlier = c.earlier }
+standing c = record { change = c.change; keeping = c.keeping; cache = c.cache; held = c.held; earlier = c.earlier }
 
 abbrev pub ConnSeen : Type 0
 ConnSeen = ConnOf LinkSeen
 
 abbrev pub seen_by : {A : Type 0} → (A → LinkSeen) → ConnOf A → ConnSeen
-seen_by f c = record { stream = stream_by f c.stream; ledger = c.ledger; call = c.call; rule = c.rule; change = c.change; keeping = c.keeping; cache = c.cache; broken = c.broken; groups = c.groups; earlier = c.earlier; heard = c.heard; sent = c.sent; read = c.read }
+seen_by f c = record { stream = stream_by f c.stream; ledger = c.ledger; call = c.call; rule = c.rule; change = c.change; keeping = c.keeping; cache = c.cache; held = c.held; broken = c.broken; groups = c.groups; earlier = c.earlier; heard = c.heard; sent = c.sent; read = c.read }
 
 -- behind start-up, before any call, where so many statements may be kept
 abbrev pub fresh_connection : {A : Type 0} → ℕ → StreamOf A → ℕ → ℕ → ConnOf A
-fresh_connection capacity stream sent read = record { stream = stream; ledger = owes_none; call = calls.Idle; rule = new_rule capacity; change = changes.Stays; keeping = keepings.Stays; cache = steps.Same; broken = None; groups = 0; earlier = 0; heard = 0; sent = sent; read = read }
+fresh_connection capacity stream sent read = record { stream = stream; ledger = owes_none; call = calls.Idle; rule = new_rule capacity; change = changes.Stays; keeping = keepings.Stays; cache = steps.Same; held = 0; broken = None; groups = 0; earlier = 0; heard = 0; sent = sent; read = read }
 
 abbrev pub runs : Call → Bool
 runs calls.Idle = false
@@ -140,6 +143,16 @@ counted_anew c = record c { stream = record c.stream { waits = 0; moves = 0 }; g
 -- a call has begun, in place of one that ran
 abbrev pub started_call : {A : Type 0} → Request → ConnOf A → ConnOf A
 started_call request c = counted_anew (record (left c) { call = calls.Asked (begun_as (left c).rule request); change = change_of (kind_of request); keeping = keepings.Stays })
+
+-- one more has begun behind a call that has ended, and its numbers go on
+abbrev pub started_next : {A : Type 0} → Request → ConnOf A → ConnOf A
+started_next request c = record (left c) {
+  call = calls.Asked (begun_as (left c).rule request);
+  change = change_of (kind_of request);
+  keeping = keepings.Stays;
+  groups = 0;
+  earlier = min ((left c).earlier + (left c).groups) (2 ^ 64 - 1);
+}
 
 -- as a poll goes on, what is asked stands as an exchange, by the statements that are kept
 abbrev pub resolved_by : {A : Type 0} → Call → ConnOf A → ConnOf A

@@ -7,3 +7,6 @@ pub mod Dials
 pub mod SocketDials
 pub mod Ledgers
 pub mod Cleanliness
+pub mod Holding
+pub mod Flags
+pub mod News

@@ -86,9 +86,13 @@ HasRoomBeside n c = n + level_of c.change c.groups + cleanup_of c.call ≤ c.str
 abbrev pub HasRoom : {A : Type 0} → ConnOf A → Type 0
 HasRoom c = HasRoomBeside 0 c
 
--- and for the rollback of each transaction and savepoint that is open, of 64 bytes at most
+-- the bytes that are kept for the rollback of each transaction and savepoint that is open, and for the release of each lock that is held
+abbrev pub kept_for : {A : Type 0} → ConnOf A → ℕ
+kept_for c = 64 * c.rule.depth + 64 * c.held
+
+-- and for each of these, of 64 bytes at most
 abbrev pub HasAllRoom : {A : Type 0} → ConnOf A → Type 0
-HasAllRoom c = HasRoomBeside (64 * c.rule.depth) c
+HasAllRoom c = HasRoomBeside (kept_for c) c
 
 -- nothing is left to do but to send: for a flush behind the last reply that is owed, and for a close behind its last frame
 abbrev pub only_sends : Ledger → Call → Bool
@@ -132,7 +136,7 @@ pub record Turns (a b : ConnSeen) (beat : Beat) (q : List ℕ) (fs hs : List Fra
   pub counted : GrewBy (length hs) a.heard b.heard
   pub started : (b.sent ≡ a.sent) × (b.read ≡ a.read) × (b.rule ≡ a.rule) × (standing b ≡ standing a)
   pub asked : IsAsked b.call → IsAsked a.call
-  pub room : (n : ℕ) → n ≤ 64 * a.rule.depth → HasRoomBeside n a → HasRoomBeside n b
+  pub room : (n : ℕ) → n ≤ kept_for a → HasRoomBeside n a → HasRoomBeside n b
   pub tells : (start : Ledger) (r : Request) (said : List FrontendMessage) (hs' : List Frame) (items : List CallItem) → CallIs start r said hs' items a.ledger a.call
       → TellsOf a b start r said (hs' ++ hs) items beat q
 

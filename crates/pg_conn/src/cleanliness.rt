@@ -5,7 +5,7 @@ use crate::PgConnection;
 
 impl<L> PgConnection<L> {
     /// Whether nothing of what was done on it is left, so that somebody else may have it: the server has not broken it, no reply is owed,
-    /// all bytes are sent, no call runs, and no transaction is open.
+    /// all bytes are sent, no call runs, no lock is held by a guard, and no transaction is open.
     pub fn is_clean(&self) -> bool
         ensures { result ≡ is_clean self.now }
     {
@@ -13,6 +13,7 @@ impl<L> PgConnection<L> {
             && self.running.ledger.owed == 0
             && !self.should_flush()
             && !self.is_running()
+            && self.held == 0
             && self.transaction_depth() == 0
     }
 }

@@ -1,6 +1,7 @@
-ghost use Rattle.std.specs.Prelude.{◌≡◌, ◌≤◌, ◌+◌, ◌-◌, ◌^◌, min, not, nat_eq, length, option_map, OnErr, Err};
+ghost use Rattle.std.specs.Prelude.{◌≡◌, ◌≤◌, ◌+◌, ◌-◌, ◌^◌, min, not, nat_eq, length, is_some, option_map, OnErr, Err};
+ghost use Rattle.pg_rule.specs.Caches.{entry_at};
 ghost use Rattle.pg_stream.specs.Parameters.{value_of};
-ghost use Rattle.pg_conn.specs.Connections.{cleaned, counted_anew, ended, idle, fresh_connection, handed, left, left_by, may_open, queued_group, restated, rolled_back, runs, settled, started_call, with_room};
+ghost use Rattle.pg_conn.specs.Connections.{cleaned, counted_anew, ended, idle, fresh_connection, handed, left, left_by, may_open, queued_group, restated, rolled_back, runs, settled, started_call, started_next, with_room};
 ghost use Rattle.pg_conn.specs.Turns.{level_of};
 
 use crate::keeping::{begun_as, keep, let_go, step_of};
@@ -22,6 +23,7 @@ pub struct PgConnection<L> {
     change: Change,
     pub(crate) keeping: Keeping,
     cache: CacheStep,
+    pub(crate) held: u64,
     pub(crate) broken: Option<ServerFault>,
     pub(crate) groups: u64,
     pub(crate) earlier: u64,
@@ -41,6 +43,7 @@ impl<L: Drop> Drop for PgConnection<L> {
             change: _,
             keeping: _,
             cache: _,
+            held: _,
             broken: _,
             groups: _,
             earlier: _,
@@ -56,7 +59,7 @@ impl<L> Model for PgConnection<L> {
 
     ghost Value = { ConnOf L };
 
-    ghost view = { λ c. record { stream = c.stream; ledger = c.running.ledger; call = c.running.call; rule = c.rule; change = c.change; keeping = c.keeping; cache = c.cache; broken = c.broken; groups = c.groups; earlier = c.earlier; heard = c.heard; sent = c.sent; read = c.read } };
+    ghost view = { λ c. record { stream = c.stream; ledger = c.running.ledger; call = c.running.call; rule = c.rule; change = c.change; keeping = c.keeping; cache = c.cache; held = c.held; broken = c.broken; groups = c.groups; earlier = c.earlier; heard = c.heard; sent = c.sent; read = c.read } };
 }
 
 impl<L> PgConnection<L> {
@@ -78,6 +81,7 @@ impl<L> PgConnection<L> {
             change: Change::Stays,
             keeping: Keeping::Stays,
             cache: CacheStep::Same,
+            held: 0,
             broken: None,
             groups: 0,
             earlier: 0,
@@ -131,6 +135,7 @@ impl<L> PgConnection<L> {
             change: _,
             keeping: _,
             cache: _,
+            held: _,
             broken: _,
             groups: _,
             earlier: _,
@@ -190,6 +195,18 @@ impl<L> PgConnection<L> {
         self.rule.cache.len()
     }
 
+    /// Whether a statement of this text is kept.
+    pub fn keeps_statement(&self, sql: &str) -> bool
+        ensures { result ≡ is_some (entry_at sql.now self.now.rule.cache.entries) }
+    {
+        self.rule.cache.get(sql).is_some()
+    }
+
+    /// Where its memory comes from.
+    pub fn allocator(&self) -> Global {
+        self.alloc
+    }
+
     // Whether the call is a begin that may have opened a transaction.
     fn may_open(&self) -> bool
         ensures { result ≡ may_open self.now.change self.now.groups self.now.rule.depth }
@@ -209,7 +226,7 @@ impl<L> PgConnection<L> {
     }
 
     // Queues a group for which no call waits, out of the room that is kept for cleanups. It takes no memory.
-    fn queue_group(&mut self, frame: &[u8])
+    pub(crate) fn queue_group(&mut self, frame: &[u8])
         ensures { self.new ≡ queued_group frame.now self.old }
     {
         if frame.len() <= self.stream.spare() && self.running.ledger.owed < u64::MAX {
@@ -235,7 +252,7 @@ impl<L> PgConnection<L> {
     }
 
     // Nothing more comes of the call's end.
-    fn end_change(&mut self)
+    pub(crate) fn end_change(&mut self)
         ensures { self.new ≡ ended self.old }
     {
         self.change = Change::Stays;
@@ -286,7 +303,7 @@ impl<L> PgConnection<L> {
     }
 
     // The numbers of a call are counted from zero.
-    fn count_anew(&mut self)
+    pub(crate) fn count_anew(&mut self)
         ensures { self.new ≡ counted_anew self.old }
     {
         self.groups = 0;
@@ -327,6 +344,19 @@ impl<L> PgConnection<L> {
         let request = begun_as(&self.rule, request);
         self.turn_to(Call::Asked(request));
         self.count_anew();
+    }
+
+    /// Begins a call behind one that has ended, and goes on with its numbers: so `progress` tells of both.
+    pub fn start_next(&mut self, request: Request)
+        ensures { self.new ≡ started_next request self.old }
+    {
+        self.abandon();
+        self.change = request.kind().change();
+        self.keeping = Keeping::Stays;
+        let request = begun_as(&self.rule, request);
+        self.turn_to(Call::Asked(request));
+        self.earlier = self.earlier.saturating_add(self.groups);
+        self.groups = 0;
     }
 
     /// The next exchange of a call begins, where the one before it has ended.

@@ -1,16 +1,17 @@
 //! What follows from the definitions of this crate, each law as the contract of a function that does nothing.
-ghost use Rattle.std.specs.Prelude.{◌≡◌, ◌<◌, ◌-◌, ◌^◌, ℕ, max, [], None, Some, true, false};
+ghost use Rattle.std.specs.Prelude.{◌≡◌, ◌<◌, ◌-◌, ◌^◌, ◌+◌, ◌≤◌, ℕ, List, Option, max, [], None, Some, IfSome, true, false};
 ghost use Rattle.futures.specs.declared.task.Poll.{Poll};
 ghost use Rattle.pg_call.specs.declared.answer.Turn.{Turn};
 ghost use Rattle.pg_call.specs.declared.kind.Kind.{Kind};
 ghost use Rattle.pg_call.specs.declared.request.Request.{Request};
 ghost use Rattle.pg_call.specs.declared.request.Request.TheVariants as requests;
 ghost use Rattle.pg_call.specs.Requests.{CanBeSaid, spelled};
-ghost use Rattle.pg_conn.specs.Connections.{ConnSeen, ended, fresh_connection, idle, left, left_by, may_open, restated, rollback, rolled_back, runs, started_call, with_group};
+ghost use Rattle.pg_conn.specs.Connections.{ConnSeen, ended, fresh_connection, idle, left, left_by, may_open, restated, rollback, rolled_back, runs, started_call, started_next, with_group, with_spare};
+ghost use Rattle.pg_conn.specs.Holding.{IsRelease, gave_up, held_more, took_held};
 ghost use Rattle.pg_stream.specs.Streams.{StreamSeen};
 ghost use Rattle.pg_conn.specs.Ledgers.{Owes, OwesSome};
 ghost use Rattle.pg_conn.specs.States.{IsCalling};
-ghost use Rattle.pg_conn.specs.Turns.{first_exchange, FlushesAtOnce, HasAllRoom, HasRoom, PollsCall, PollsMore, PollsWithin, RefusesAtOnce};
+ghost use Rattle.pg_conn.specs.Turns.{first_exchange, FlushesAtOnce, HasAllRoom, HasRoom, kept_for, level_of, PollsCall, PollsMore, PollsWithin, RefusesAtOnce};
 
 use crate::PgConnection;
 use pg_stream::Link;
@@ -50,8 +51,11 @@ pub fn replies_owed_are_requests_less_readies()
     ensures polls { (kind : Kind) (left : ℕ) (a b : ConnSeen) (answer : Poll Turn) → IsCalling kind a → PollsWithin left a b answer → OwesSome a b }
     ensures more { (kind : Kind) (a b : ConnSeen) (answer : Poll Turn) → IsCalling kind a → PollsMore a b answer → OwesSome a b }
     ensures starts { (a : ConnSeen) (request : Request) → OwesSome a (started_call request a) }
+    ensures goes_on { (a : ConnSeen) (request : Request) → OwesSome a (started_next request a) }
     ensures leaves { (a : ConnSeen) → OwesSome a (left a) }
     ensures rolls_back { (a : ConnSeen) → OwesSome a (rolled_back a) }
+    ensures gives_up { (a : ConnSeen) (unlock : Option (List ℕ)) → OwesSome a (gave_up unlock a) }
+    ensures takes_held { (a : ConnSeen) (unlock : Option (List ℕ)) → OwesSome a (took_held unlock a) }
 {}
 
 /// A running call that has queued a group has room for its cleanup, which takes no memory then: 128 bytes, and 64 more for a begin. Each call
@@ -62,15 +66,25 @@ pub fn a_call_has_room_for_its_cleanup()
     ensures starts { (a : ConnSeen) (request : Request) → HasRoom (started_call request a) }
 {}
 
-/// A connection has room for the cleanup of its call and for a rollback of each transaction and savepoint that is open: 64 bytes each. It begins
-/// so behind start-up, and each poll, start, drop and rollback keeps it so.
+/// A connection has room for the cleanup of its call, for a rollback of each transaction and savepoint that is open, and for the release of each lock
+/// that is held: 64 bytes each. It begins so behind start-up, and each poll, start, drop and rollback keeps it so, and each lock that is taken or let go.
 pub fn a_connection_has_room_for_its_rollbacks()
     ensures polls { (left : ℕ) (a b : ConnSeen) (answer : Poll Turn) → HasAllRoom a → PollsWithin left a b answer → HasAllRoom b }
     ensures more { (a b : ConnSeen) (answer : Poll Turn) → HasAllRoom a → PollsMore a b answer → HasAllRoom b }
     ensures starts { (a : ConnSeen) (request : Request) → HasAllRoom a → HasAllRoom (started_call request a) }
+    ensures goes_on { (a : ConnSeen) (request : Request) → HasAllRoom a → HasAllRoom (started_next request a) }
     ensures leaves { (a : ConnSeen) → HasAllRoom a → HasAllRoom (left a) }
     ensures rolls_back { (a : ConnSeen) → a.rule.depth < 2 ^ 64 → HasAllRoom a → HasAllRoom (rolled_back a) }
+    ensures holds { (a : ConnSeen) (spare : ℕ) → kept_for a + level_of a.change a.groups + 192 ≤ spare → HasAllRoom (held_more (with_spare spare a)) }
+    ensures gives_up { (a : ConnSeen) (unlock : Option (List ℕ)) → IfSome unlock IsRelease → HasAllRoom a → HasAllRoom (gave_up unlock a) }
+    ensures takes_held { (a : ConnSeen) (unlock : Option (List ℕ)) → IfSome unlock IsRelease → HasAllRoom a → HasAllRoom (took_held unlock a) }
     ensures fresh { (capacity : ℕ) (stream : StreamSeen) (sent read : ℕ) → HasAllRoom (fresh_connection capacity stream sent read) }
+{}
+
+/// A guard that is dropped on a connection on which no lock is held does nothing there: so it is where its holder has put another connection in
+/// place of the one on which the lock was taken.
+pub fn where_no_lock_is_held_none_is_released()
+    ensures { (a : ConnSeen) (unlock : Option (List ℕ)) → a.held ≡ 0 → took_held unlock a ≡ a }
 {}
 
 /// The same connection, whose next statement with a name gets this number, unless a greater one is due: so a caller can see what becomes of the last

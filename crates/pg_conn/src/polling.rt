@@ -1,4 +1,4 @@
-ghost use Rattle.std.specs.Prelude.{◌≡◌, ◌≢◌, ◌+◌, ◌*◌, ◌-◌, ◌<◌, ◌≤◌, ◌⊎◌, ◌==◌, ◌&&◌, true, false, [], None, IsSome, OnOk, OnErr, IfOk, IfErr};
+ghost use Rattle.std.specs.Prelude.{◌≡◌, ◌≢◌, ◌+◌, ◌*◌, ◌-◌, ◌<◌, ◌≤◌, ◌⊎◌, ◌==◌, ◌&&◌, true, false, [], None, IsSome, IfSome, OnOk, OnErr, IfOk, IfErr};
 ghost use Rattle.pg_stream.specs.Links.{GrewBy};
 ghost use Rattle.pg_stream.specs.Streams.{IsHeardFront, Passes};
 ghost use Rattle.pg_conn.specs.Connections.{seen_by, ended, idle, begun_with, begun_by, is_over, runs, with_spare, queued_call, awaiting, closing, resolved};
@@ -7,7 +7,7 @@ ghost use Rattle.pg_call.specs.Hearing.{IsReplied, keeps_now, sent_answer, waits
 ghost use Rattle.pg_call.specs.declared.kind.Kind as declared_kind;
 ghost use Rattle.pg_call.specs.declared.request.Request as declared_request;
 ghost use Rattle.pg_conn.specs.States.{IsCalling, PollFits};
-ghost use Rattle.pg_conn.specs.Turns.{level_of, TakesBeat, Falls, GoesOn, HearsFront, Prepares, Readies, Refuses, Accepts, IsAsked, IsSayable, Refused, IsAhead, only_sends, flushes, is_flushed, EndsFlush, queued_copy_fail, Polled, PollsThrough, PollsWithin, PollsCall, PollsMore, beat_of, broken_by, hands_on, HandsOnNone};
+ghost use Rattle.pg_conn.specs.Turns.{level_of, kept_for, TakesBeat, Falls, GoesOn, HearsFront, Prepares, Readies, Refuses, Accepts, IsAsked, IsSayable, Refused, IsAhead, only_sends, flushes, is_flushed, EndsFlush, queued_copy_fail, Polled, PollsThrough, PollsWithin, PollsCall, PollsMore, beat_of, broken_by, hands_on, HandsOnNone};
 
 use crate::{PgConnection, Request, Turn};
 use pg_call::{Beat, Call, CallAnswer, Kind, Taken};
@@ -15,13 +15,13 @@ use pg_stream::{Front, Link};
 use pg_wire::{Blob, Error, Poll, ProtocolFault, ServerFault};
 
 /// The bytes that are kept for the cleanup of a call that has queued a group.
-const RESERVE: usize = 128;
+pub(crate) const RESERVE: usize = 128;
 
 /// The frame that ends a copy from the client which no one feeds. (PostgreSQL manual, "Message Formats", CopyFail.)
 const COPY_FAIL: [u8; 57] = *b"f\0\0\0\x38PgCopyIn dropped without calling finish() or fail()\0";
 
 // The fault of the server that an error tells: it breaks the connection.
-fn fault_in(error: &Error) -> Option<ServerFault>
+pub(crate) fn fault_in(error: &Error) -> Option<ServerFault>
     ensures { result ≡ broken_by (Beat.Ends (Err error.now)) }
 {
     match error {
@@ -111,19 +111,25 @@ impl<L> PgConnection<L> {
         self.flushes() && self.running.ledger.owed == 0 && self.stream.is_sent()
     }
 
-    // Keeps room for so many bytes of cleanup, beside the rollbacks of the transactions and savepoints that are open.
-    fn reserve(&mut self, bytes: usize) -> Result<(), Error>
-        requires { bytes ≤ 192 }
+    // The bytes of cleanup that are kept: these, and 64 for each transaction and savepoint that is open, and for each lock that is held.
+    fn room(&self, bytes: usize) -> Option<u64>
+        ensures { IfSome result (λ room. room ≡ kept_for self.now + bytes) }
+    {
+        let kept = self.transaction_depth().checked_add(self.held)?;
+        let levels = kept.checked_mul(64)?;
+        levels.checked_add(bytes as u64)
+    }
+
+    // Keeps room for so many bytes of cleanup, beside the rollbacks of the transactions and savepoints that are open, and the releases of the
+    // locks that are held.
+    pub(crate) fn reserve(&mut self, bytes: usize) -> Result<(), Error>
+        requires { bytes ≤ 256 }
         ensures now { self.new ≡ with_spare self.new.stream.spare self.old }
         ensures spare { self.old.stream.spare ≤ self.new.stream.spare }
-        ensures ok { OnOk result (64 * self.new.rule.depth + bytes ≤ self.new.stream.spare) }
+        ensures ok { OnOk result (kept_for self.new + bytes ≤ self.new.stream.spare) }
         ensures err { IfErr result (λ e. e ≡ Error.OutOfMemory) }
     {
-        let room = match self.transaction_depth().checked_mul(64) {
-            Some(levels) => levels.checked_add(bytes as u64),
-            None => None,
-        };
-        match room {
+        match self.room(bytes) {
             Some(room) => self.stream.reserve_cleanup(room as usize),
             None => Err(Error::OutOfMemory),
         }
@@ -135,7 +141,7 @@ impl<L> PgConnection<L> {
         ensures err { OnErr result (self.new ≡ with_spare self.new.stream.spare self.old) }
         ensures memory { IfErr result (λ e. e ≡ Error.OutOfMemory) }
         ensures spare { self.old.stream.spare ≤ self.new.stream.spare }
-        ensures reserve { OnOk result (64 * self.new.rule.depth + level_of self.new.change 1 + 128 ≤ self.new.stream.spare) }
+        ensures reserve { OnOk result (kept_for self.new + level_of self.new.change 1 + 128 ≤ self.new.stream.spare) }
     {
         let bytes = self.level(1) + RESERVE;
         self.reserve(bytes)?;
@@ -149,7 +155,7 @@ impl<L> PgConnection<L> {
     fn make_room(&mut self, front: Front) -> Result<(), Error>
         ensures now { self.new ≡ with_spare self.new.stream.spare self.old }
         ensures spare { self.old.stream.spare ≤ self.new.stream.spare }
-        ensures ok { OnOk result (front.tag ≡ 71 → 64 * self.new.rule.depth + level_of self.new.change self.new.groups + 57 ≤ self.new.stream.spare) }
+        ensures ok { OnOk result (front.tag ≡ 71 → kept_for self.new + level_of self.new.change self.new.groups + 57 ≤ self.new.stream.spare) }
         ensures err { IfErr result (λ e. e ≡ Error.OutOfMemory) }
     {
         if front.tag == b'G' {
@@ -285,7 +291,7 @@ impl<L: Link> PgConnection<L> {
     fn judge_front(&mut self, front: Front) -> Beat
         requires awaiting { IsAwaiting self.old.ledger self.old.call }
         requires front { IsHeardFront self.old.stream.held front }
-        requires room { front.tag ≡ 71 → 64 * self.old.rule.depth + level_of self.old.change self.old.groups + 57 ≤ self.old.stream.spare }
+        requires room { front.tag ≡ 71 → kept_for self.old + level_of self.old.change self.old.groups + 57 ≤ self.old.stream.spare }
         requires sent { self.old.stream.unsent ≡ [] }
         ensures beat { TakesBeat (seen_by L.seen self.old) (seen_by L.seen self.new) result }
         ensures goes { result ≢ Beat.Waits }

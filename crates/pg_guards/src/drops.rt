@@ -1,16 +1,17 @@
 //! What a caller knows of a connection once a guard or a state that held it is given up: each law as the contract of the shortest user.
 ghost use Rattle.std.specs.Prelude.{◌≡◌, true, IsSome, Some};
-ghost use Rattle.pg_call.specs.Answers.{unit_turn};
+ghost use Rattle.pg_request.specs.Queries.{plain_text};
+ghost use Rattle.pg_call.specs.Answers.{piece_turn, unit_turn};
 ghost use Rattle.pg_call.specs.declared.request.Request.TheVariants as requests;
-ghost use Rattle.pg_conn.specs.Connections.{ConnOf, commit_of, left_by, rolled_back, seen_by, started_call};
+ghost use Rattle.pg_conn.specs.Connections.{ConnOf, commit_of, left, left_by, rolled_back, seen_by, started_call};
 ghost use Rattle.pg_conn.specs.States.{turn_of};
 ghost use Rattle.pg_conn.specs.Turns.{PollsCall};
 ghost use Rattle.pg_guards.specs.Holders.{given_up, left_due, stays_due};
 
-use crate::{BeginTransaction, PgExecutor, Transaction};
+use crate::{BeginTransaction, PgExecutor, Transaction, copy_out_raw};
 use pg_conn::PgConnection;
 use pg_stream::Link;
-use pg_wire::{Error, Poll};
+use pg_wire::{Blob, Error, Poll, Text};
 
 /// A begin that is never polled leaves a connection that was lent to it as it was.
 pub fn a_begin_that_is_never_polled<L: Link>(conn: &mut PgConnection<L>)
@@ -77,6 +78,19 @@ pub fn a_transaction_that_is_given_up<C: PgExecutor>(conn: C) -> (C, Poll<Result
         Poll::Ready(Err(e)) => (held(state), Poll::Ready(Err(e))),
         Poll::Pending => (held(state), Poll::Pending),
     }
+}
+
+/// A copy to the client that is polled once, and given up with what it answers: the connection is what that poll has left of it, and no call runs on it. What was
+/// sent stays owed.
+pub fn a_copy_out_that_is_polled_once<C: PgExecutor>(
+    conn: C,
+    statement: Text,
+) -> (C, Poll<Option<Result<Blob, Error>>>)
+    ensures { (b : ConnOf C.L) × PollsCall (seen_by C.L.seen (started_call (requests.CopyOut (plain_text statement)) (C.conn conn))) (seen_by C.L.seen b) (turn_of piece_turn result.1) × (result.0 ≡ C.with_conn conn (left b)) }
+{
+    let mut state = copy_out_raw(conn, statement);
+    let answer = state.poll_next();
+    (state.into_conn(), answer)
 }
 
 /// What must be spent goes through a whole transaction, and comes back.

@@ -1,12 +1,13 @@
 ghost use Rattle.std.specs.Prelude.{◌≡◌, false, None};
 ghost use Rattle.pg_call.specs.Answers.{unit_turn};
 ghost use Rattle.pg_conn.specs.Connections.{begun_by, is_over, left_by, rolled_back, seen_by};
-ghost use Rattle.pg_conn.specs.States.{IsCallingPlainly, PollFitsPlainly, turn_of};
+ghost use Rattle.pg_conn.specs.States.{IsCalling, IsCallingPlainly, PollFits, PollFitsPlainly, turn_of};
 ghost use Rattle.pg_conn.specs.Turns.{PollsCall};
+ghost use Rattle.pg_call.specs.declared.kind.Kind as declared_kind;
 
 use crate::PgExecutor;
 use pg_call::{Kind, Request};
-use pg_conn::PgConnection;
+use pg_conn::{PgConnection, Turn};
 use pg_stream::Link;
 use pg_wire::{Error, Poll};
 
@@ -40,6 +41,17 @@ pub(crate) fn poll_held<C: PgExecutor>(
     ensures calling { PollFitsPlainly (C.conn holder.new) (turn_of unit_turn result) }
 {
     poll_unit(holder.conn_mut(), request)
+}
+
+/// One poll of a call on the connection that is held. It begins the call where this is its first.
+pub(crate) fn poll_turn<C: PgExecutor>(holder: &mut C, request: &mut Option<Request>) -> Poll<Turn>
+    requires { is_over request.old (C.conn holder.old).call ≡ false }
+    ensures holder { holder.new ≡ C.with_conn holder.old (C.conn holder.new) }
+    ensures asked { request.new ≡ None }
+    ensures polls { PollsCall (seen_by C.L.seen (begun_by request.old (C.conn holder.old))) (seen_by C.L.seen (C.conn holder.new)) result }
+    ensures fits { (kind : declared_kind.Kind) → IsCalling kind (begun_by request.old (C.conn holder.old)) → PollFits kind (C.conn holder.new) result }
+{
+    holder.conn_mut().poll_with(request)
 }
 
 // Rolls back without waiting on the connection that is held.

@@ -10,6 +10,7 @@ use Rattle.pg_call.specs.declared.statement.After.{After}
 use Rattle.pg_call.specs.declared.statement.Goal.TheVariants as goals
 use Rattle.pg_call.specs.declared.statement.Goal.{Goal}
 use Rattle.pg_call.specs.declared.kind.Keeping.TheVariants as keepings
+use Rattle.pg_conn.proofs.StateLaws.{same_kept}
 use Rattle.pg_conn.proofs.StatementLaws.{asked_main}
 use Rattle.pg_conn.specs.Statements.{asked_by, begun_as, held_by, moved, number_for, prepare_by, query_by, run_or_describe, step_of, tell_or_describe, unmoved}
 use Rattle.pg_call.specs.Drains.{drain_fails, before_readys}
@@ -53,7 +54,7 @@ use Rattle.pg_call.specs.Requests.{spelled, CanBeSaid, IsRefusal, kind_of, chang
 use Rattle.pg_call.specs.Calls.{CallIs, Leaves, answer_by}
 use Rattle.pg_call.proofs.LeaveLaws.{leaves_call, call_well}
 use Rattle.pg_conn.specs.Connections.{ConnSeen, idle, begun_with, runs, ended, settled, cleaned, left, may_open, has_room_for, with_group, queued_group, rollback, ConnOf, seen_by, depth_behind, rolled, rolled_back, counted_anew, with_depth, Standing, standing, restated, resolved, resolved_by, started_call}
-use Rattle.pg_conn.specs.Turns.{ends_request, Tells, IsWaited, BeatCause, IsSayable, Refuses, Refused, broken_by, is_flushed, behind, TakesBeat, EndsFlush, HasAllRoom, HasRoomBeside, IsAsked, flushes}
+use Rattle.pg_conn.specs.Turns.{ends_request, Tells, IsWaited, BeatCause, IsSayable, Refuses, Refused, broken_by, is_flushed, behind, TakesBeat, EndsFlush, HasAllRoom, HasRoomBeside, kept_for, IsAsked, flushes}
 use Rattle.pg_report.specs.declared.outcome.Item.{Item}
 use Rattle.pg_report.specs.declared.outcome.Answer.{Answer}
 use Rattle.pg_report.specs.declared.outcome.End.{End}
@@ -300,7 +301,7 @@ after_beat left old first a b m r before waits items beat said fs i t whole says
         went = went_on left a b m said told.0 t.0 fs t.1 i.went moves told.1 told.2 grew turns.started (waits_or_not (begun_with left b) m beat turns.cause);
         broken = whole;
         asked = i.asked;
-        room = λ h. subst (λ (r : Rule). HasRoomBeside (64 * r.depth) m) (sym turns.started.2) (turns.room (64 * b.rule.depth) (omega arith) (i.room h));
+        room = λ h. subst (λ (n : ℕ). HasRoomBeside n m) (same_kept b m turns.started.2 turns.started.3) (turns.room (kept_for b) (omega arith) (i.room h));
         tells = subst (λ (x : List Frame). Tells a m a.ledger r (said ++ told.0) x items beat) all (tells_from a b m a.ledger r (said ++ told.0) (heard fs ++ t.2) items beat i.went.flows.counts told.3);
         over = over;
         unsaid = refuses_beat left old a b m r before items beat said fs t.1 t.0 i says moves;
@@ -471,6 +472,7 @@ rows_stay _ reply status answer e h = refl
 rows_asked : (r : Request) (reply : List BackendMessage) (status : TransactionStatus) (answer : CallAnswer) → answer_by r reply status ≡ Ok answer → has_rows answer ≡ true → count_by ends_request (messages_of r) ≡ 1
 rows_asked (requests.Begin depth) reply status answer e h = refl
 rows_asked (requests.BeginWith query) reply status answer e h = refl
+rows_asked (requests.CopyOut query) reply status answer e h = refl
 rows_asked (requests.Commit left) reply status answer e h = refl
 rows_asked (requests.Rollback left) reply status answer e h = refl
 rows_asked (requests.Execute query) reply status answer e h = refl

@@ -21,13 +21,12 @@ use Rattle.pg_call.specs.declared.answer.CallItem.TheVariants as call_items
 use Rattle.pg_call.specs.declared.ledger.Ledger.{Ledger}
 use Rattle.pg_exchanges.specs.Expecting.{Widths, BeginsKnowing}
 use Rattle.pg_call.specs.declared.judging.Part.{Part}
-use Rattle.pg_call.specs.declared.judging.Part.TheVariants.{First, Further, Running}
 use Rattle.pg_call.specs.Requests.{Group, groups_of, widths_of, heading_of}
 use Rattle.pg_call.specs.Items.{own_items, rows_in}
-use Rattle.pg_call.specs.Replies.{may_copy, begins_copy}
 use Rattle.pg_call.specs.Drains.{after_readys}
-use Rattle.pg_call.specs.Calls.{Leaves, CallEnds, EndsInCopy, IsFrontFault}
+use Rattle.pg_call.specs.Calls.{Leaves, CallEnds, EndsAstray, IsFrontFault}
 use Rattle.pg_call.proofs.DrainLaws.{count-push, after_from}
+use Rattle.pg_call.proofs.CallLaws.{copies_plain}
 use Rattle.pg_conn.specs.Connections.{ConnSeen}
 use Rattle.pg_conn.specs.Turns.{FrontFails, IsMissed}
 use Rattle.pg_report.specs.declared.outcome.Item.{Item}
@@ -111,22 +110,11 @@ front_cause start at a b step said fs items items' copied end e st s l (front, r
 
 -- ---- the call's own ends
 
-begins_none : (m : BackendMessage) → begins_copy m ≡ true → is_ready (backend_frame m) ≡ false
-begins_none (CopyInResponse format columns) e = refl
-begins_none (CopyOutResponse format columns) e = refl
-begins_none _ e = absurd cc
-
-pub copies_begin : (part : Part) (m : BackendMessage) → may_copy part m ≡ true → begins_copy m ≡ true
-copies_begin First m e = e
-copies_begin Further m e = e
-copies_begin (Running width) m e = e
-copies_begin _ m e = absurd cc
-
 copy_cause : (start : StreamSeen) (at : Place) (a b : ConnSeen) (step : Step) (said : List FrontendMessage) (fs : List Frame) (items items' : List CallItem) (copied copied' : Bool) (tag : ℕ) → StandsAt start at a → (s : Summary a.ledger (request_of at.rule.depth step.call) said (heard fs) items b.ledger copied)
-    → (l : Leaves a.ledger (request_of at.rule.depth step.call) said (heard fs) items' b.ledger copied') → l.own ≡ groups_of (request_of at.rule.depth step.call) → length l.own ≡ 1 → EndsInCopy a.ledger (request_of at.rule.depth step.call) (heard fs) tag → IsAskedToCopy at step s.own (heard fs) tag
+    → (l : Leaves a.ledger (request_of at.rule.depth step.call) said (heard fs) items' b.ledger copied') → l.own ≡ groups_of (request_of at.rule.depth step.call) → length l.own ≡ 1 → EndsAstray a.ledger (request_of at.rule.depth step.call) (heard fs) tag → IsAskedToCopy at step s.own (heard fs) tag
 copy_cause start at a b step said fs items items' copied copied' tag st s l e n c =
     let q = whole_own a.ledger (request_of at.rule.depth step.call) said (heard fs) items' items b.ledger copied copied' s l e n in
-    let unready = begins_none c.last (copies_begin c.part c.last c.copies) in
+    let unready = (copies_plain c.part c.last c.copies).0 in
     let same : count_by is_ready (heard fs) ≡ count_by is_ready c.front = ap (λ (x : List Frame). count_by is_ready x) c.hs_are ∙ count-push is_ready c.front (backend_frame c.last) ∙ ap (λ (t : Bool). count_by is_ready c.front + cond t 1 0) unready ∙ omega arith in
     let split : after_readys a.ledger.owed (heard fs) ≡ after_readys a.ledger.owed c.front ++ backend_frame c.last ∷ [] =
     ap (after_readys a.ledger.owed) c.hs_are ∙ after_from c.front a.ledger.owed (backend_frame c.last) (omega (arith, q.read, same)) in
@@ -156,6 +144,7 @@ no_rows : (xs : List CallItem) → rows_in xs ≡ [] → AllByRecursion (λ item
 no_rows [] e = tt
 no_rows (call_items.Row row ∷ xs) e = absurd cc
 no_rows (call_items.Count n ∷ xs) e = (refl, no_rows xs e)
+no_rows (call_items.Piece bytes ∷ xs) e = (refl, no_rows xs e)
 
 row_cause : (start : StreamSeen) (at : Place) (a b : ConnSeen) (step : Step) (said : List FrontendMessage) (fs : List Frame) (items items' : List CallItem) (copied : Bool) (end : End) → StandsAt start at a → (s : Summary a.ledger (request_of at.rule.depth step.call) said (heard fs) items' b.ledger copied)
     → CallEnds a.ledger (request_of at.rule.depth step.call) said (heard fs) items b.ledger (Err errors.RowNotFound) → HasNoRow at step s.own (heard fs) (next_place at b said s.own fs end)

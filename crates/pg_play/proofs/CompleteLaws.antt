@@ -1,5 +1,5 @@
 -- Where neither the link nor the server failed, no step ends by a failure of theirs.
-use Rattle.std.proofs.Common.{◌≡◌, ℕ, true, false, inl, inr, List, [], ◌∷◌, ◌++◌, refl, sym, ap, ◌∙◌, subst, append_assoc, append-nil, Some, None, arith}
+use Rattle.std.proofs.Common.{◌≡◌, ℕ, zero, suc, Bool, true, false, inl, inr, List, [], ◌∷◌, ◌++◌, length, refl, sym, ap, ◌∙◌, subst, append_assoc, append-nil, Some, None, arith}
 use Rattle.std.specs.List.{AllByRecursion}
 use Rattle.pg_wire.specs.declared.error.Error.{Error}
 use Rattle.pg_wire.specs.declared.error.Error.TheVariants as errors
@@ -22,7 +22,6 @@ use Rattle.pg_stream.specs.Streams.{HeaderFault, StreamSeen}
 use Rattle.pg_stream.specs.Asynchronous.{IsSaid}
 use Rattle.pg_stream.proofs.Known.{NoneFalls-refl, NoneFalls-then}
 use Rattle.pg_call.specs.Requests.{Group, said_in}
-use Rattle.pg_call.specs.Replies.{begins_copy}
 use Rattle.pg_report.specs.declared.outcome.End.{End}
 use Rattle.pg_report.specs.declared.outcome.End.TheVariants as ends
 use Rattle.pg_report.specs.declared.outcome.Outcome.{Outcome}
@@ -34,7 +33,10 @@ use Rattle.pg_script.specs.declared.step.Call.{Call}
 use Rattle.pg_rule.specs.declared.rule.Rule.{Rule}
 use Rattle.pg_play.proofs.ExchangeLaws.{IsOf, first_is_of, next_is_of, wants_so}
 use Rattle.pg_play.specs.Plays.{Plays_call, Plays_exchange, Plays_exchanges, last_of, FirstIs, Hands, HandsOn, Plays_step, Plays_from, AsksForNoCopy}
-use Rattle.pg_play.proofs.CauseLaws.{copies_begin}
+use Rattle.pg_call.specs.Replies.{awaits_first, begins_copy}
+use Rattle.pg_call.proofs.RefusedLaws.{IsPlain, closing_plain, copies_begin, plain_after}
+use Rattle.pg_script.specs.declared.step.Call.TheVariants as calls
+use Rattle.pg_play.specs.Shown.{request_of, copies}
 use Rattle.pg_play.proofs.RepliesLaws.{starts_copy, StartsNoCopy, all_prefix, replies_start_no_copy, replies_are_said}
 use Rattle.pg_play.proofs.LinkLaws.{Refutes, breaks_first, fault_breaks, broken_in, broken_stays, some_first, front_read, front_heard, taken_heard, hears_groups, unlawful_refuted}
 use Rattle.pg_wire.proofs.Each.{each_last}
@@ -113,10 +115,21 @@ starts (CopyInResponse format columns) e = refl
 starts (CopyOutResponse format columns) e = refl
 starts _ e = absurd cc
 
-no_copy_asked : (at : Place) (step : Step) (own : List Group) (slice : List Frame) (tag : ℕ) → IsAskedToCopy at step own slice tag → AllByRecursion StartsNoCopy slice → ⊥
-no_copy_asked at step own slice tag c n =
+-- what asks for no copy awaits none
+plays_plain : (d : ℕ) (call : Call) → copies call ≡ false → IsPlain (awaits_first (request_of d call))
+plays_plain d (calls.CopyOut query) n = absurd cc
+plays_plain zero calls.Commit n = tt
+plays_plain (suc d) calls.Commit n = tt
+plays_plain zero calls.Rollback n = tt
+plays_plain (suc d) calls.Rollback n = tt
+plays_plain d (calls.CloseAll statements) n = closing_plain (length statements)
+plays_plain d _ n = tt
+
+no_copy_asked : (at : Place) (step : Step) (own : List Group) (slice : List Frame) (tag : ℕ) → copies step.call ≡ false → IsAskedToCopy at step own slice tag → AllByRecursion StartsNoCopy slice → ⊥
+no_copy_asked at step own slice tag f c n =
     let last : starts_copy (backend_frame c.last) ≡ false = at_front StartsNoCopy c.front (backend_frame c.last) slice ([], append-nil (c.front ++ backend_frame c.last ∷ []) ∙ sym c.slice_is) n in
-    let begun = starts c.last (copies_begin c.part c.last c.copies) in
+    let plain = plain_after (awaits_first (request_of at.rule.depth step.call)) c.part c.before (plays_plain at.rule.depth step.call f) c.so_far in
+    let begun = starts c.last (copies_begin c.part c.last plain c.copies) in
     absurd cc
 
 fair_error : (first : LinkSeen) (at : Place) (call : Call) (step : Step) (own : List Group) (slice : List Frame) (next last : Place) (e : Error) → IsOf call step.call → Holds first last → NoneFalls first at.seen.link → NoneFalls next.seen.link last.seen.link → AllByRecursion StartsNoCopy slice
@@ -127,7 +140,11 @@ fair_error first at call step own slice next last (errors.Io io.End) part g a b 
 fair_error first at call step own slice next last (errors.Io _) part g a b n k c = absurd c
 fair_error first at call step own slice next last (errors.Database details) part g a b n k c = tt
 fair_error first at call step own slice next last (errors.Protocol (protocol.Server fault)) part g a b n k c = absurd (g.unbroken fault (k fault refl))
-fair_error first at call step own slice next last (errors.Protocol (protocol.Reply tag)) part g a b n k c = absurd (no_copy_asked at step own slice tag c n)
+fair_error first at call step own slice next last (errors.Protocol (protocol.Reply tag)) part g a b n k c = by (copies step.call) refl
+  where
+    by : (b : Bool) → copies step.call ≡ b → copies call ≡ true
+    by true e = part.copies e
+    by false e = absurd (no_copy_asked at step own slice tag e c n)
 fair_error first at call step own slice next last (errors.Protocol (protocol.Caller fault)) part g a b n k c = (at.rule.depth, step.call, part.is_part, c.2)
 fair_error first at call step own slice next last (errors.BeginFailed status) part g a b n k c = (part.opens c.begins_it, c.other)
 fair_error first at call step own slice next last errors.InvalidSavePointStatement part g a b n k c = part.opens_with c.0.0

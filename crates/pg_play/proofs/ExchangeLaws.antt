@@ -33,7 +33,7 @@ use Rattle.pg_call.specs.Calls.{answer_by}
 use Rattle.pg_script.specs.declared.step.Call.{Call}
 use Rattle.pg_script.specs.declared.step.Call.TheVariants as calls
 use Rattle.pg_call.proofs.FitLaws.{next_is, hands_on_described}
-use Rattle.pg_play.specs.Shown.{request_of, asked_of, first_as, first_call, next_call, handed_by, exchange_for, IsPartOf, how_of, IsWanted, waits_how, waits_to_show, wants_row, wants_how, acts_at_once, begins, begins_with}
+use Rattle.pg_play.specs.Shown.{request_of, asked_of, first_as, first_call, next_call, handed_by, exchange_for, IsPartOf, how_of, IsWanted, waits_how, waits_to_show, wants_row, wants_how, acts_at_once, begins, begins_with, copies}
 use Rattle.pg_play.specs.Calls.{IsLast}
 
 -- ---- what an exchange stands for
@@ -58,13 +58,13 @@ exchange_asks d requests.Flush h = refl
 exchange_asks d _ h = absurd h
 
 -- it is polled, and opens nothing
-pub exchange_polled : (r : Request) → (acts_at_once (exchange_for r) ≡ false) × (begins (exchange_for r) ≡ false) × (begins_with (exchange_for r) ≡ false)
-exchange_polled (requests.Describe x) = (refl, refl, refl)
-exchange_polled (requests.Run bound) = (refl, refl, refl)
-exchange_polled (requests.Evict eviction) = (refl, refl, refl)
-exchange_polled (requests.Prepare prepared) = (refl, refl, refl)
-exchange_polled (requests.Clear statements) = (refl, refl, refl)
-exchange_polled _ = (refl, refl, refl)
+pub exchange_polled : (r : Request) → (acts_at_once (exchange_for r) ≡ false) × (begins (exchange_for r) ≡ false) × (begins_with (exchange_for r) ≡ false) × (copies (exchange_for r) ≡ false)
+exchange_polled (requests.Describe x) = (refl, refl, refl, refl)
+exchange_polled (requests.Run bound) = (refl, refl, refl, refl)
+exchange_polled (requests.Evict eviction) = (refl, refl, refl, refl)
+exchange_polled (requests.Prepare prepared) = (refl, refl, refl, refl)
+exchange_polled (requests.Clear statements) = (refl, refl, refl, refl)
+exchange_polled _ = (refl, refl, refl, refl)
 
 run_exchange : (rule : Rule) (how : How) (sql : List ℕ) (arguments : ArgumentsSeen) (persistent : Bool) (o : Option Entry) → IsExchange (run_or_describe rule how sql arguments persistent o)
 run_exchange rule how sql arguments persistent (Some e) = tt
@@ -102,6 +102,7 @@ first_request rule d (calls.FetchAll query) = first_by_request rule d hows.Fetch
 first_request rule d (calls.FetchOptional query) = first_by_request rule d hows.FetchOptional query query.arguments (calls.FetchOptional query) (requests.FetchOptional query) refl
 first_request rule d (calls.FetchOne query) = first_by_request rule d hows.FetchOne query query.arguments (calls.FetchOne query) (requests.FetchOne query) refl
 first_request rule d calls.Ping = refl
+first_request rule d (calls.CopyOut query) = refl
 first_request rule d calls.Flush = refl
 first_request rule d calls.Begin = refl
 first_request rule d (calls.BeginWith query) = refl
@@ -172,6 +173,13 @@ first_begins rule call = kept_first begins (record { queries = begins_none; exch
 
 pub first_begins_with : (rule : Rule) (call : Call) → begins_with (first_call rule call) ≡ begins_with call
 first_begins_with rule call = kept_first begins_with (record { queries = begins_with_none; exchanges = λ r. (exchange_polled r).2; prepares = λ p. refl; clears = refl; evicts = λ e. refl }) rule call
+
+copies_none : (call : Call) (how : How) → how_of call ≡ Some how → copies call ≡ false
+copies_none (calls.CopyOut query) how e = absurd cc
+copies_none _ how e = refl
+
+first_copies : (rule : Rule) (call : Call) → copies (first_call rule call) ≡ copies call
+first_copies rule call = kept_first copies (record { queries = copies_none; exchanges = λ r. (exchange_polled r).3; prepares = λ p. refl; clears = refl; evicts = λ e. refl }) rule call
 
 -- how the query is run that an exchange is of
 abbrev goal_how : Goal → Option How
@@ -411,11 +419,11 @@ some_next : (rule : Rule) (o : Option Request) (part : Call) → option_map (λ 
 some_next rule None part e = absurd cc
 some_next rule (Some r) part e = (asked_by rule r, same_Some (exchange_for (asked_by rule r)) part e)
 
-next_begins : (rule : Rule) (call : Call) (response : List BackendMessage) (part : Call) → next_call rule call response ≡ Some part → (begins part ≡ false) × (begins_with part ≡ false)
+next_begins : (rule : Rule) (call : Call) (response : List BackendMessage) (part : Call) → next_call rule call response ≡ Some part → (begins part ≡ false) × (begins_with part ≡ false) × (copies part ≡ false)
 next_begins rule call response part e =
     let is = some_next rule (handed_by call response) part e in
     let so = exchange_polled is.0 in
-    (ap begins (sym is.1) ∙ so.1, ap begins_with (sym is.1) ∙ so.2)
+    (ap begins (sym is.1) ∙ so.1, ap begins_with (sym is.1) ∙ so.2, ap copies (sym is.1) ∙ so.3)
 
 -- ---- what is so of an exchange is so of its call
 
@@ -424,6 +432,7 @@ pub record IsOf (call part : Call) : Type 0 where
   pub opens : begins part ≡ true → begins call ≡ true
   pub opens_with : begins_with part ≡ true → begins_with call ≡ true
   pub wants : wants_how (runs_how part) ≡ true → wants_row call ≡ true
+  pub copies : copies part ≡ true → copies call ≡ true
 
 pub first_is_of : (rule : Rule) (call : Call) → IsOf call (first_call rule call)
 first_is_of rule call = record {
@@ -431,6 +440,7 @@ first_is_of rule call = record {
   opens = λ b. sym (first_begins rule call) ∙ b;
   opens_with = λ b. sym (first_begins_with rule call) ∙ b;
   wants = first_wants rule call;
+  copies = λ b. sym (first_copies rule call) ∙ b;
 }
 
 pub next_is_of : (rule : Rule) (call part next : Call) (response : List BackendMessage) → IsOf call part → next_call rule part response ≡ Some next → IsOf call next
@@ -440,5 +450,6 @@ next_is_of rule call part next response of k =
       is_part = (suc of.is_part.0, (rule, part, response, of.is_part.1, k));
       opens = λ b. let x = sym none.0 ∙ b in absurd cc;
       opens_with = λ b. let x = sym none.1 ∙ b in absurd cc;
+      copies = λ b. let x = sym none.2 ∙ b in absurd cc;
       wants = λ w. of.wants (ap wants_how (sym (next_how rule part response next k)) ∙ w);
     }

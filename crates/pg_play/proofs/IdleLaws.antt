@@ -68,6 +68,8 @@ no_cleanup d (calls.FetchOne query) end [] o b a = refl
 no_cleanup d (calls.FetchOne query) end (g ∷ gs) o b a = refl
 no_cleanup d calls.Ping end [] o b a = refl
 no_cleanup d calls.Ping end (g ∷ gs) o b a = refl
+no_cleanup d (calls.CopyOut query) end [] o b a = refl
+no_cleanup d (calls.CopyOut query) end (g ∷ gs) o b a = refl
 no_cleanup d calls.Flush end [] o b a = refl
 no_cleanup d calls.Flush end (g ∷ gs) o b a = refl
 no_cleanup d calls.Begin end own o b a = absurd cc
@@ -141,6 +143,7 @@ idle_by idle n d (calls.FetchAll query) end own cleanup owed others commits roll
 idle_by idle n d (calls.FetchOptional query) end own cleanup owed others commits rolls cleans c q l i z = plain_idle idle n own cleanup (few_own d (calls.FetchOptional query) end own q) (c ∙ no_cleanup d (calls.FetchOptional query) end own owed refl refl) (i z) (others refl)
 idle_by idle n d (calls.FetchOne query) end own cleanup owed others commits rolls cleans c q l i z = plain_idle idle n own cleanup (few_own d (calls.FetchOne query) end own q) (c ∙ no_cleanup d (calls.FetchOne query) end own owed refl refl) (i z) (others refl)
 idle_by idle n d calls.Ping end own cleanup owed others commits rolls cleans c q l i z = plain_idle idle n own cleanup (few_own d calls.Ping end own q) (c ∙ no_cleanup d calls.Ping end own owed refl refl) (i z) (others refl)
+idle_by idle n d (calls.CopyOut query) end own cleanup owed others commits rolls cleans c q l i z = plain_idle idle n own cleanup (few_own d (calls.CopyOut query) end own q) (c ∙ no_cleanup d (calls.CopyOut query) end own owed refl refl) (i z) (others refl)
 idle_by idle n d calls.Flush end own cleanup owed others commits rolls cleans c q l i z = plain_idle idle n own cleanup (few_own d calls.Flush end own q) (c ∙ no_cleanup d calls.Flush end own owed refl refl) (i z) (others refl)
 idle_by idle n d calls.Begin end [] cleanup owed others commits rolls cleans c q l i z = unbegun_idle idle n d cleanup (is_fine end) z i c
 idle_by idle n d calls.Begin end (g ∷ gs) cleanup owed others commits rolls cleans c q l i z = begun_idle idle n d end g gs cleanup (is_fine end) refl z cleans c

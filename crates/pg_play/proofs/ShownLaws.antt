@@ -5,7 +5,7 @@ use Rattle.pg_wire.specs.declared.status.TransactionStatus.{TransactionStatus}
 use Rattle.std.proofs.lemmas.List.{map-append}
 use Rattle.std.proofs.lemmas.List.Sums.{sum_by-append}
 use Rattle.pg_wire.specs.declared.error.Error.TheVariants as errors
-use Rattle.pg_wire.specs.Backend.{BackendMessage, DataRow, CommandComplete}
+use Rattle.pg_wire.specs.Backend.{BackendMessage, DataRow, CommandComplete, BackendCopyData}
 use Rattle.pg_rows.specs.declared.heading.Heading.{Heading}
 use Rattle.pg_rows.specs.Rows.{RowSeen}
 use Rattle.pg_wire.specs.Server.{IsPrefixOf}
@@ -23,11 +23,11 @@ use Rattle.pg_call.specs.Items.{yields, shown, rows_in, count_in, total_of, firs
 use Rattle.pg_call.specs.Items as raw
 use Rattle.pg_call.proofs.FitLaws.{the_ok}
 use Rattle.pg_report.specs.declared.outcome.Item.{Item}
-use Rattle.pg_report.specs.declared.outcome.Item.TheVariants.{Row, Count}
+use Rattle.pg_report.specs.declared.outcome.Item.TheVariants.{Row, Count, Piece}
 use Rattle.pg_report.specs.declared.outcome.Answer.{Answer}
 use Rattle.pg_script.specs.declared.step.Call.{Call}
 use Rattle.pg_script.specs.declared.step.Call.TheVariants as calls
-use Rattle.pg_play.specs.Shown.{request_of, item_in, items_in, is_row, is_count, count_of, shown_as, shown_how, shown_by, how_of, waits_how, waits_to_show, answered_how, answered_by, wants_how, wants_row, item_of, one_row, items_with, answer_of, begins, acts_at_once}
+use Rattle.pg_play.specs.Shown.{request_of, item_in, items_in, is_row, is_count, is_result, is_piece, count_of, shown_as, shown_how, shown_by, how_of, waits_how, waits_to_show, answered_how, answered_by, wants_how, wants_row, item_of, one_row, items_with, answer_of, begins, acts_at_once}
 
 -- the items of a response, told
 pub items_told : (h : Heading) (ms : List BackendMessage) → items_in ms ≡ map item_of (items_of h ms)
@@ -39,6 +39,7 @@ items_told h (m ∷ ms) =
     one : (h : Heading) (m : BackendMessage) → item_in m ≡ map item_of (item_by h (news_of m))
     one h (DataRow values) = refl
     one h (CommandComplete tag) = refl
+    one h (BackendCopyData bytes) = refl
     one h _ = refl
 
 pub none_shown : (kind : Kind) (xs : List CallItem) → ((x : CallItem) → yields kind x ≡ false) → shown kind xs ≡ []
@@ -66,21 +67,32 @@ waits_none d _ xs e = absurd cc
 counts_shown : (xs : List CallItem) → map item_of (shown (kinds.Run hows.ExecuteMany) xs) ≡ filter is_count (map item_of xs)
 counts_shown [] = refl
 counts_shown (call_items.Row row ∷ xs) = counts_shown xs
+counts_shown (call_items.Piece bytes ∷ xs) = counts_shown xs
 counts_shown (call_items.Count n ∷ xs) = ap (λ (t : List Item). Count n.rows ∷ t) (counts_shown xs)
 
 rows_shown : (xs : List CallItem) → map item_of (shown (kinds.Run hows.Fetch) xs) ≡ filter is_row (map item_of xs)
 rows_shown [] = refl
 rows_shown (call_items.Row row ∷ xs) = ap (λ (t : List Item). Row row.values ∷ t) (rows_shown xs)
 rows_shown (call_items.Count n ∷ xs) = rows_shown xs
+rows_shown (call_items.Piece bytes ∷ xs) = rows_shown xs
 
-all_shown : (xs : List CallItem) → map item_of (shown (kinds.Run hows.FetchMany) xs) ≡ map item_of xs
+all_shown : (xs : List CallItem) → map item_of (shown (kinds.Run hows.FetchMany) xs) ≡ filter is_result (map item_of xs)
 all_shown [] = refl
-all_shown (x ∷ xs) = ap (λ (t : List Item). item_of x ∷ t) (all_shown xs)
+all_shown (call_items.Row row ∷ xs) = ap (λ (t : List Item). Row row.values ∷ t) (all_shown xs)
+all_shown (call_items.Count n ∷ xs) = ap (λ (t : List Item). Count n.rows ∷ t) (all_shown xs)
+all_shown (call_items.Piece bytes ∷ xs) = all_shown xs
+
+pieces_shown : (xs : List CallItem) → map item_of (shown kinds.CopyOut xs) ≡ filter is_piece (map item_of xs)
+pieces_shown [] = refl
+pieces_shown (call_items.Row row ∷ xs) = pieces_shown xs
+pieces_shown (call_items.Count n ∷ xs) = pieces_shown xs
+pieces_shown (call_items.Piece bytes ∷ xs) = ap (λ (t : List Item). Piece bytes ∷ t) (pieces_shown xs)
 
 rows_told : (xs : List CallItem) → map (λ (row : RowSeen). Row row.values) (rows_in xs) ≡ filter is_row (map item_of xs)
 rows_told [] = refl
 rows_told (call_items.Row row ∷ xs) = ap (λ (t : List Item). Row row.values ∷ t) (rows_told xs)
 rows_told (call_items.Count n ∷ xs) = rows_told xs
+rows_told (call_items.Piece bytes ∷ xs) = rows_told xs
 
 first_told : (rows : List RowSeen) → one_row (first_row rows) ≡ take 1 (map (λ (row : RowSeen). Row row.values) rows)
 first_told [] = refl
@@ -115,6 +127,7 @@ shown_front d (calls.Tell prepared) xs = rw (none_shown kinds.Prepare xs (λ x. 
 shown_front d (calls.CloseAll statements) xs = rw (none_shown kinds.Clear xs (λ x. refl)) ([], refl)
 shown_front d (calls.Describe extended) xs = rw (none_shown kinds.Describe xs (λ x. refl)) ([], refl)
 shown_front d calls.Ping xs = rw (none_shown kinds.Ping xs (λ x. refl)) ([], refl)
+shown_front d (calls.CopyOut query) xs = ([], append-nil _ ∙ pieces_shown xs)
 shown_front d calls.Flush xs = rw (none_shown kinds.Flush xs (λ x. refl)) ([], refl)
 shown_front d calls.Begin xs = rw (none_shown kinds.Begin xs (λ x. refl)) ([], refl)
 shown_front d (calls.BeginWith query) xs = rw (none_shown kinds.Begin xs (λ x. refl)) ([], refl)
@@ -131,12 +144,13 @@ sum-told (x ∷ xs) = sum_by-append count_in (x ∷ []) xs ∙ omega (arith, sum
     same : (x : CallItem) → count_in x ≡ count_of (item_of x)
     same (call_items.Row row) = refl
     same (call_items.Count n) = refl
+    same (call_items.Piece bytes) = refl
 
 -- ---- at Ok
 
 -- all is shown
-abbrev AllShown : Kind → Option How → List CallItem → CallAnswer → Type 0
-AllShown kind how xs answer = items_with (map item_of (shown kind xs)) answer ≡ shown_how how (map item_of xs)
+abbrev AllShown : Kind → (List Item → List Item) → List CallItem → CallAnswer → Type 0
+AllShown kind told xs answer = items_with (map item_of (shown kind xs)) answer ≡ told (map item_of xs)
 
 one_by : (first : Option RowSeen) (answer : CallAnswer) → raw.one_row first ≡ Ok answer → (row : RowSeen) × (first ≡ Some row) × (answer ≡ call_answers.OneRow (Some row))
 one_by None answer e = absurd cc
@@ -148,7 +162,7 @@ begun_unit statuses.Transaction answer e = the_ok call_answers.Unit answer e
 begun_unit statuses.Idle answer e = absurd cc
 begun_unit statuses.Error answer e = absurd cc
 
-how_told : (how : How) (xs : List CallItem) (status : TransactionStatus) (answer : CallAnswer) → answer_to (kinds.Run how) xs status ≡ Ok answer → AllShown (kinds.Run how) (Some how) xs answer
+how_told : (how : How) (xs : List CallItem) (status : TransactionStatus) (answer : CallAnswer) → answer_to (kinds.Run how) xs status ≡ Ok answer → AllShown (kinds.Run how) (shown_as how) xs answer
 how_told hows.Execute xs status answer e = rw (← the_ok _ answer e, none_shown (kinds.Run hows.Execute) xs (λ x. refl)) refl
 how_told hows.ExecuteMany xs status answer e = rw (← the_ok _ answer e) (counts_shown xs)
 how_told hows.Fetch xs status answer e = rw (← the_ok _ answer e) (rows_shown xs)
@@ -159,7 +173,7 @@ how_told hows.FetchOne xs status answer e =
     let o = one_by (first_row (rows_in xs)) answer e in
     ap (items_with (map item_of (shown (kinds.Run hows.FetchOne) xs))) o.2 ∙ ap one_row (sym o.1) ∙ row_told xs
 
-pub all_told : (d : ℕ) (call : Call) (reply : List BackendMessage) (status : TransactionStatus) (answer : CallAnswer) → answer_by (request_of d call) reply status ≡ Ok answer → AllShown (kind_of (request_of d call)) (how_of call) (own_items (request_of d call) reply) answer
+pub all_told : (d : ℕ) (call : Call) (reply : List BackendMessage) (status : TransactionStatus) (answer : CallAnswer) → answer_by (request_of d call) reply status ≡ Ok answer → AllShown (kind_of (request_of d call)) (shown_by call) (own_items (request_of d call) reply) answer
 all_told d (calls.Execute query) reply status answer e = how_told hows.Execute (own_items (request_of d (calls.Execute query)) reply) status answer e
 all_told d (calls.ExecuteMany query) reply status answer e = how_told hows.ExecuteMany (own_items (request_of d (calls.ExecuteMany query)) reply) status answer e
 all_told d (calls.Fetch query) reply status answer e = how_told hows.Fetch (own_items (request_of d (calls.Fetch query)) reply) status answer e
@@ -175,6 +189,7 @@ all_told d (calls.Tell prepared) reply status answer e = rw (← the_ok _ answer
 all_told d (calls.CloseAll statements) reply status answer e = rw (← the_ok _ answer e, none_shown kinds.Clear (own_items (request_of d (calls.CloseAll statements)) reply) (λ x. refl)) refl
 all_told d (calls.Describe extended) reply status answer e = rw (← the_ok _ answer e, none_shown kinds.Describe (own_items (request_of d (calls.Describe extended)) reply) (λ x. refl)) refl
 all_told d calls.Ping reply status answer e = rw (← the_ok _ answer e, none_shown kinds.Ping (own_items (request_of d calls.Ping) reply) (λ x. refl)) refl
+all_told d (calls.CopyOut query) reply status answer e = rw (← the_ok _ answer e) (pieces_shown (own_items (request_of d (calls.CopyOut query)) reply))
 all_told d calls.Flush reply status answer e = rw (← the_ok _ answer e, none_shown kinds.Flush (own_items (request_of d calls.Flush) reply) (λ x. refl)) refl
 all_told d calls.Begin reply status answer e = rw (← begun_unit status answer e, none_shown kinds.Begin (own_items (request_of d calls.Begin) reply) (λ x. refl)) refl
 all_told d (calls.BeginWith query) reply status answer e = rw (← begun_unit status answer e, none_shown kinds.Begin (own_items (request_of d (calls.BeginWith query)) reply) (λ x. refl)) refl
@@ -208,6 +223,7 @@ answer_told d (calls.Tell prepared) reply status answer e = rw (← the_ok _ ans
 answer_told d (calls.CloseAll statements) reply status answer e = rw (← the_ok _ answer e) refl
 answer_told d (calls.Describe extended) reply status answer e = rw (← the_ok _ answer e) refl
 answer_told d calls.Ping reply status answer e = rw (← the_ok _ answer e) refl
+answer_told d (calls.CopyOut query) reply status answer e = rw (← the_ok _ answer e) refl
 answer_told d calls.Flush reply status answer e = rw (← the_ok _ answer e) refl
 answer_told d calls.Begin reply status answer e = rw (← begun_unit status answer e) refl
 answer_told d (calls.BeginWith query) reply status answer e = rw (← begun_unit status answer e) refl
@@ -271,6 +287,7 @@ not_found d (calls.Tell prepared) reply status e = absurd cc
 not_found d (calls.CloseAll statements) reply status e = absurd cc
 not_found d (calls.Describe extended) reply status e = absurd cc
 not_found d calls.Ping reply status e = absurd cc
+not_found d (calls.CopyOut query) reply status e = absurd cc
 not_found d calls.Flush reply status e = absurd cc
 not_found d calls.Begin reply status e = absurd (begun_found status e)
 not_found d (calls.BeginWith query) reply status e = absurd (begun_found status e)
@@ -303,6 +320,7 @@ no_items_come d (calls.Tell prepared) reply status answer items w e = rw (← th
 no_items_come d (calls.CloseAll statements) reply status answer items w e = rw (← the_ok _ answer e) refl
 no_items_come d (calls.Describe extended) reply status answer items w e = rw (← the_ok _ answer e) refl
 no_items_come d calls.Ping reply status answer items w e = rw (← the_ok _ answer e) refl
+no_items_come d (calls.CopyOut query) reply status answer items w e = rw (← the_ok _ answer e) refl
 no_items_come d calls.Flush reply status answer items w e = rw (← the_ok _ answer e) refl
 no_items_come d calls.Begin reply status answer items w e = rw (← begun_unit status answer e) refl
 no_items_come d (calls.BeginWith query) reply status answer items w e = rw (← begun_unit status answer e) refl
@@ -346,6 +364,7 @@ begun_failed d (calls.Tell prepared) reply status other e = absurd cc
 begun_failed d (calls.CloseAll statements) reply status other e = absurd cc
 begun_failed d (calls.Describe extended) reply status other e = absurd cc
 begun_failed d calls.Ping reply status other e = absurd cc
+begun_failed d (calls.CopyOut query) reply status other e = absurd cc
 begun_failed d calls.Flush reply status other e = absurd cc
 begun_failed d calls.Begin reply status other e = let s = status_fails status other e in (refl, s.0, s.1)
 begun_failed d (calls.BeginWith query) reply status other e = let s = status_fails status other e in (refl, s.0, s.1)

@@ -19,7 +19,7 @@ use Rattle.pg_stream.specs.Streams.{HeaderFault, HasNone, IsMalformedFront}
 use Rattle.pg_call.specs.declared.judging.Part.{Part}
 use Rattle.pg_call.specs.Requests.{Group, groups_of, widths_of, CanBeSaid, IsRefusal}
 use Rattle.pg_call.specs.declared.request.Request.{Request}
-use Rattle.pg_call.specs.Replies.{awaits_first, part_after, may_copy}
+use Rattle.pg_call.specs.Replies.{awaits_first, part_after, may_stray}
 use Rattle.pg_call.specs.Calls.{HasMessage}
 use Rattle.pg_report.specs.declared.outcome.Answer.TheVariants.{Unit as AnswersUnit}
 use Rattle.pg_report.specs.declared.outcome.End.{End}
@@ -75,7 +75,7 @@ pub record IsAskedToCopy (at : Place) (step : Step) (own : List Group) (slice : 
   pub part : Part
   pub says : Carry (main_frames at own slice) (before ++ last ∷ [])
   pub so_far : part_after (awaits_first (request_of at.rule.depth step.call)) before ≡ Some part
-  pub copies : may_copy part last ≡ true
+  pub copies : may_stray part last ≡ true
   pub lawful : (group : Group) → own ≡ group ∷ [] → BeginsCopyResponse group (main_frames at own slice)
 
 -- the response to the own group came to its end without an error and without a row

@@ -20,7 +20,7 @@ use Rattle.pg_report.specs.declared.outcome.End.TheVariants as ends
 use Rattle.pg_report.specs.declared.outcome.Outcome.{Outcome}
 use Rattle.pg_script.specs.declared.step.Call.{Call}
 use Rattle.pg_script.specs.declared.step.Step.{Step}
-use Rattle.pg_play.specs.Shown.{request_of, IsPartOf, wants_row, begins, begins_with}
+use Rattle.pg_play.specs.Shown.{request_of, IsPartOf, wants_row, begins, begins_with, copies}
 use Rattle.pg_play.specs.Places.{Place}
 
 -- From this link up to this place no read or write failed, and no read told the end. In all that was read the server kept the protocol: no
@@ -36,7 +36,8 @@ pub record IsFaultless (first : LinkSeen) (at : Place) (sent read : List Frame) 
   pub replies : AreReplies sent (heard read)
 
 -- an error that is neither the link's nor the server's fault: want of memory; an error of the database; no row where one is wanted; a text of
--- the caller's that no frame can carry, or that would open a savepoint; or a begin behind which no transaction is open
+-- the caller's that no frame can carry, or that would open a savepoint; a begin behind which no transaction is open; or a reply without a copy to
+-- what asks for one
 abbrev pub IsFairError : Call → Error → Type 0
 IsFairError call errors.OutOfMemory = Unit {0}
 IsFairError call (errors.Database details) = Unit {0}
@@ -44,6 +45,7 @@ IsFairError call errors.RowNotFound = wants_row call ≡ true
 IsFairError call (errors.Protocol (protocol.Caller fault)) = (depth : ℕ) × (part : Call) × IsPartOf call part × IsRefusal (request_of depth part) (errors.Protocol (protocol.Caller fault))
 IsFairError call (errors.BeginFailed status) = (begins call ≡ true) × (status ≢ statuses.Transaction)
 IsFairError call errors.InvalidSavePointStatement = begins_with call ≡ true
+IsFairError call (errors.Protocol (protocol.Reply tag)) = copies call ≡ true
 IsFairError call _ = ⊥
 
 -- it had no more polls than its waits and moves take up, or might show no more items than it showed

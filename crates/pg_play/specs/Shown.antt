@@ -1,7 +1,7 @@
 -- What the call of a step asks, what it shows of the response to it, and what it answers.
 use Rattle.std.specs.Prelude.{◌≡◌, ℕ, ◌-◌, ◌^◌, min, Bool, true, false, List, [], ◌∷◌, filter, flat_map, map, take, sum_by, Option, Some, None, option_map, unwrap_or, zero, suc}
 use Rattle.pg_rows.specs.Rows.{RowSeen}
-use Rattle.pg_wire.specs.Backend.{BackendMessage, DataRow, CommandComplete}
+use Rattle.pg_wire.specs.Backend.{BackendMessage, DataRow, CommandComplete, BackendCopyData}
 use Rattle.pg_wire.specs.Completion.{rows_affected}
 use Rattle.pg_request.specs.Queries.{QueryText, ArgumentsSeen}
 use Rattle.pg_rule.specs.declared.rule.Rule.{Rule}
@@ -19,7 +19,7 @@ use Rattle.pg_call.specs.declared.answer.CallItem.TheVariants as call_items
 use Rattle.pg_call.specs.declared.answer.CallAnswer.{CallAnswer}
 use Rattle.pg_call.specs.declared.answer.CallAnswer.TheVariants as call_answers
 use Rattle.pg_report.specs.declared.outcome.Item.{Item}
-use Rattle.pg_report.specs.declared.outcome.Item.TheVariants.{Row, Count}
+use Rattle.pg_report.specs.declared.outcome.Item.TheVariants.{Row, Count, Piece}
 use Rattle.pg_report.specs.declared.outcome.Answer.{Answer}
 use Rattle.pg_report.specs.declared.outcome.Answer.TheVariants.{Unit as AnswersUnit, Total, Described}
 use Rattle.pg_script.specs.declared.step.Call.{Call}
@@ -49,6 +49,7 @@ request_of depth calls.Rollback = ending requests.Rollback depth
 request_of depth calls.StartRollback = requests.Flush
 request_of depth (calls.Prepare preparation) = requests.Flush
 request_of depth calls.Clear = requests.Flush
+request_of depth (calls.CopyOut query) = requests.CopyOut query
 request_of depth (calls.Describe extended) = requests.Describe extended
 request_of depth (calls.Run bound) = requests.Run bound
 request_of depth (calls.Evict eviction) = requests.Evict eviction
@@ -148,6 +149,11 @@ abbrev pub begins_with : Call → Bool
 begins_with (calls.BeginWith query) = true
 begins_with _ = false
 
+-- whether it asks for a copy, and so for another answer than one without
+abbrev pub copies : Call → Bool
+copies (calls.CopyOut query) = true
+copies _ = false
+
 -- whether it acts at once, without a poll
 abbrev pub acts_at_once : Call → Bool
 acts_at_once calls.StartRollback = true
@@ -155,10 +161,11 @@ acts_at_once _ = false
 
 -- ---- the answer rule
 
--- a row for each DataRow, and a count for each CommandComplete, in order
+-- a row for each DataRow, a count for each CommandComplete, and a piece for each CopyData, in order
 abbrev pub item_in : BackendMessage → List Item
 item_in (DataRow values) = Row values ∷ []
 item_in (CommandComplete tag) = Count (rows_affected tag) ∷ []
+item_in (BackendCopyData bytes) = Piece bytes ∷ []
 item_in _ = []
 
 abbrev pub items_in : List BackendMessage → List Item
@@ -172,6 +179,15 @@ abbrev pub is_count : Item → Bool
 is_count (Count n) = true
 is_count _ = false
 
+-- a row or a count
+abbrev pub is_result : Item → Bool
+is_result (Piece bytes) = false
+is_result _ = true
+
+abbrev pub is_piece : Item → Bool
+is_piece (Piece bytes) = true
+is_piece _ = false
+
 abbrev pub count_of : Item → ℕ
 count_of (Count n) = n
 count_of _ = 0
@@ -181,7 +197,7 @@ abbrev pub shown_as : How → List Item → List Item
 shown_as hows.Execute items = []
 shown_as hows.ExecuteMany items = filter is_count items
 shown_as hows.Fetch items = filter is_row items
-shown_as hows.FetchMany items = items
+shown_as hows.FetchMany items = filter is_result items
 shown_as hows.FetchAll items = filter is_row items
 shown_as hows.FetchOptional items = take 1 (filter is_row items)
 shown_as hows.FetchOne items = take 1 (filter is_row items)
@@ -202,7 +218,9 @@ abbrev pub shown_how : Option How → List Item → List Item
 shown_how None items = []
 shown_how (Some how) items = shown_as how items
 
+-- what it shows of them: a copy its pieces
 abbrev pub shown_by : Call → List Item → List Item
+shown_by (calls.CopyOut query) items = filter is_piece items
 shown_by call items = shown_how (how_of call) items
 
 -- whether it shows them with its answer, and so none without it
@@ -241,6 +259,7 @@ wants_row call = wants_how (how_of call)
 abbrev pub item_of : CallItem → Item
 item_of (call_items.Row row) = Row row.values
 item_of (call_items.Count n) = Count n.rows
+item_of (call_items.Piece bytes) = Piece bytes
 
 abbrev pub one_row : Option RowSeen → List Item
 one_row None = []

@@ -42,6 +42,7 @@ pub(crate) fn request_of(alloc: Global, depth: u64, call: &Call) -> Result<Reque
         Call::Rollback if depth > 0 => Request::Rollback(depth - 1),
         Call::Prepare(preparation) => preparing(alloc, preparation)?,
         Call::Clear => Request::Clear(Sequence::new(alloc)),
+        Call::CopyOut(query) => Request::CopyOut(query.to_copy(alloc)?),
         Call::Commit
         | Call::Rollback
         | Call::Flush

@@ -34,5 +34,6 @@ pub(crate) fn item_of(item: CallItem) -> Item
     match item {
         CallItem::Row(row) => Item::Row(row.into_values()),
         CallItem::Count(count) => Item::Count(count.rows_affected()),
+        CallItem::Piece(piece) => Item::Piece(piece),
     }
 }

@@ -17,7 +17,7 @@ pub struct Prepare<'c, L, R = Request> {
 }
 
 // What asks it, without taking memory.
-fn request_of(alloc: Global, preparation: Preparation) -> Request
+pub(super) fn request_of(alloc: Global, preparation: Preparation) -> Request
     ensures { result ≡ to_prepare preparation }
 {
     let mut preparation = preparation;
