@@ -4,3 +4,4 @@ pub mod AskingLaws
 pub mod AnswerLaws
 pub mod CourseLaws
 pub mod LockLaws
+pub mod DropLaws

@@ -4,7 +4,7 @@ ghost use Rattle.std.specs.Prelude.{◌≡◌, ◌∷◌, ◌++◌, [], List, le
 ghost use Rattle.pg_migrate.specs.Orders.{Bound, Int8, Words, Bytes};
 ghost use Rattle.pg_migrating.specs.Requests.{AreBound, RefusesBound, RefusesBounds};
 
-use pg_arguments::{PgArguments, PgTypeInfo, Typed};
+use pg_arguments::{PgArguments, Typed};
 use pg_migrate::Migration;
 use pg_wire::{Blob, Error, Text};
 use std::alloc::Global;
@@ -48,18 +48,6 @@ pub(crate) fn two_int8(alloc: Global, first: i64, second: i64) -> Result<PgArgum
     let mut arguments = one_int8(alloc, first)?;
     bind_int8(&mut arguments, second)?;
     Ok(arguments)
-}
-
-/// A text.
-pub(crate) fn one_text(alloc: Global, text: &str) -> Result<PgArguments, Error>
-    ensures ok { IfOk result (AreBound (Words text.now ∷ [])) }
-    ensures err { IfErr result (RefusesBounds (Words text.now ∷ [])) }
-{
-    let mut arguments = PgArguments::new(alloc);
-    match bind_text(alloc, &mut arguments, text) {
-        Ok(()) => Ok(arguments),
-        Err(e) => Err(e),
-    }
 }
 
 // A version and a description.

@@ -8,6 +8,7 @@ mod asking;
 mod binding;
 mod course;
 mod dirty_version;
+pub mod drops;
 mod holding;
 mod listing;
 mod lock;

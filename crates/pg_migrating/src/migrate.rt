@@ -1,6 +1,6 @@
 //! The calls of migrations.
 
-ghost use Rattle.std.specs.Prelude.{◌≡◌, ◌∷◌, [], true};
+ghost use Rattle.std.specs.Prelude.{◌≡◌, ◌∷◌, [], true, false, is_some};
 ghost use Rattle.pg_call.specs.declared.kind.How.TheVariants as hows;
 ghost use Rattle.pg_call.specs.declared.kind.Kind.TheVariants as kinds;
 ghost use Rattle.pg_migrate.specs.Orders.{Prepared, Script, row_of};
@@ -140,6 +140,8 @@ impl Migrate {
         ensures same { result.clock.ghost_name ≡ clock.entry.ghost_name }
         ensures work { result.work ≡ record { way = ways.Apply; table = table.now; migration = migration.now } }
         ensures stands { StandsIn C.L.seen K.seen K.tells result.work (C.conn conn) clock.old result.course result.asking.question (C.conn result.asking.conn) result.clock.now }
+        ensures new { is_some result.asking.question ≡ true }
+        ensures open { result.course.is_open ≡ false }
         ensures goes { is_asked result.asking.question (C.conn result.asking.conn).call ≡ true }
         ensures calling { CallsQuietly result.asking.question (C.conn result.asking.conn) }
     {
@@ -159,6 +161,8 @@ impl Migrate {
         ensures same { result.clock.ghost_name ≡ clock.entry.ghost_name }
         ensures work { result.work ≡ record { way = ways.Revert; table = table.now; migration = migration.now } }
         ensures stands { StandsIn C.L.seen K.seen K.tells result.work (C.conn conn) clock.old result.course result.asking.question (C.conn result.asking.conn) result.clock.now }
+        ensures new { is_some result.asking.question ≡ true }
+        ensures open { result.course.is_open ≡ false }
         ensures goes { is_asked result.asking.question (C.conn result.asking.conn).call ≡ true }
         ensures calling { CallsQuietly result.asking.question (C.conn result.asking.conn) }
     {

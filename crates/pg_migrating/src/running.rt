@@ -1,6 +1,6 @@
 //! How a migration is applied, or reverted.
 
-ghost use Rattle.std.specs.Prelude.{◌≡◌, ◌≤◌, true, false, not, None, Some};
+ghost use Rattle.std.specs.Prelude.{◌≡◌, ◌≤◌, true, false, not, is_some, None, Some};
 ghost use Rattle.pg_call.specs.declared.kind.How.TheVariants as hows;
 ghost use Rattle.pg_conn.specs.Connections.{ConnOf};
 ghost use Rattle.pg_migrating.specs.Asking.{CallsQuietly, StaysQuiet, is_asked, left_of};
@@ -113,6 +113,8 @@ impl<'m, C: PgExecutor, K: Clock> RunMigration<'m, C, K> {
         ensures same { result.clock.ghost_name ≡ clock.entry.ghost_name }
         ensures work { result.work ≡ record { way = way; table = table.now; migration = migration.now } }
         ensures stands { StandsIn C.L.seen K.seen K.tells result.work (C.conn conn) clock.old result.course result.asking.question (C.conn result.asking.conn) result.clock.now }
+        ensures new { is_some result.asking.question ≡ true }
+        ensures open { result.course.is_open ≡ false }
         ensures goes { is_asked result.asking.question (C.conn result.asking.conn).call ≡ true }
         ensures calling { CallsQuietly result.asking.question (C.conn result.asking.conn) }
     {
