@@ -13,6 +13,7 @@ use Rattle.pg_script.specs.declared.token.CallWord.{CallWord}
 use Rattle.pg_script.specs.declared.token.CallWord.TheVariants as call_words
 use Rattle.pg_script.specs.declared.step.Call.{Call}
 use Rattle.pg_script.specs.declared.step.Call.TheVariants as calls
+use Rattle.pg_script.specs.declared.step.Chain.TheVariants as chains
 use Rattle.pg_script.specs.declared.line.Line.{Line}
 use Rattle.pg_script.specs.declared.line.Line.TheVariants as lines
 use Rattle.pg_script.specs.Reading.{◌>>=◌}
@@ -206,6 +207,7 @@ call_takes call_words.StartRollback rest c e = bare IsCall calls.StartRollback (
 call_takes call_words.Prepare rest c e = made IsCall prepare_arg preparation_tokens PreparationFits (λ p. calls.Prepare p) (words.Call call_words.Prepare) prepare_takes (λ p f. (nothing, refl, f)) rest c e
 call_takes call_words.Clear rest c e = bare IsCall calls.Clear (words.Call call_words.Clear) (nothing, refl, tt) rest c e
 call_takes call_words.CopyOut rest c e = made IsCall query_arg (λ q. query_tokens q.sql) QueryFits (λ q. calls.CopyOut q) (words.Call call_words.CopyOut) query_takes (λ q f. (nothing, refl, f)) rest c e
+call_takes call_words.Describe rest c e = made IsCall text_arg text_tokens IsUnicode (λ s. calls.Chain (chains.Describe s)) (words.Call call_words.Describe) text_takes (λ s f. (nothing, refl, f)) rest c e
 
 behind_takes : (ts : List Token) (c : Call) → call_arg ts ≡ Some c → (asked : Asked) × (ts ≡ Space ∷ call_tokens asked c) × CallFits asked c
 behind_takes (Space ∷ Word (words.Call k) ∷ rest) c e = let t = call_takes k rest c e in (t.0, ap (λ (ts : List Token). Space ∷ ts) t.1, t.2)
@@ -235,6 +237,7 @@ call_again asked calls.StartRollback f = record { read = refl; plain = refl; par
 call_again asked (calls.Prepare p) f = record { read = rw (prepare_again p f) refl; plain = refl; parts = oids_apart (Text p.sql) p.types }
 call_again asked calls.Clear f = record { read = refl; plain = refl; parts = refl }
 call_again asked (calls.CopyOut q) f = record { read = rw f.0 (ap (λ (r : QueryText). Some (calls.CopyOut r)) (sym f.1)); plain = refl; parts = refl }
+call_again asked (calls.Chain (chains.Describe s)) f = record { read = rw f refl; plain = refl; parts = refl }
 call_again asked (calls.Describe x) f = absurd f
 call_again asked (calls.Run b) f = absurd f
 call_again asked (calls.Evict x) f = absurd f

@@ -72,3 +72,4 @@ word_law (words.Call call_words.StartRollback) = record { shape = refl; read = r
 word_law (words.Call call_words.Prepare) = record { shape = refl; read = refl; no_mode = refl; no_bare = refl }
 word_law (words.Call call_words.Clear) = record { shape = refl; read = refl; no_mode = refl; no_bare = refl }
 word_law (words.Call call_words.CopyOut) = record { shape = refl; read = refl; no_mode = refl; no_bare = refl }
+word_law (words.Call call_words.Describe) = record { shape = refl; read = refl; no_mode = refl; no_bare = refl }

@@ -16,6 +16,7 @@ use Rattle.pg_script.specs.declared.token.Keyword.TheVariants as words
 use Rattle.pg_script.specs.declared.token.CallWord.TheVariants as call_words
 use Rattle.pg_script.specs.declared.step.Call.{Call}
 use Rattle.pg_script.specs.declared.step.Call.TheVariants as calls
+use Rattle.pg_script.specs.declared.step.Chain.TheVariants as chains
 use Rattle.pg_script.specs.declared.line.Line.{Line}
 use Rattle.pg_script.specs.declared.line.Line.TheVariants as lines
 use Rattle.pg_script.specs.declared.kind.Kind.{Kind}
@@ -93,6 +94,7 @@ call_tokens asked calls.StartRollback = Word (words.Call call_words.StartRollbac
 call_tokens asked (calls.Prepare preparation) = Word (words.Call call_words.Prepare) ∷ preparation_tokens preparation
 call_tokens asked calls.Clear = Word (words.Call call_words.Clear) ∷ []
 call_tokens asked (calls.CopyOut query) = Word (words.Call call_words.CopyOut) ∷ query_tokens query.sql
+call_tokens asked (calls.Chain (chains.Describe sql)) = Word (words.Call call_words.Describe) ∷ query_tokens sql
 call_tokens asked _ = []
 
 -- digits below 0 have no spelling (`LineFits` has none of them)
@@ -161,6 +163,7 @@ CallFits asked calls.StartRollback = Unit {0}
 CallFits asked (calls.Prepare preparation) = IsUnicode preparation.sql
 CallFits asked calls.Clear = Unit {0}
 CallFits asked (calls.CopyOut query) = QueryFits query
+CallFits asked (calls.Chain (chains.Describe sql)) = IsUnicode sql
 CallFits asked _ = ⊥
 
 abbrev pub LineFits : Asked → Line → Type 0

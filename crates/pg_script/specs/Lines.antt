@@ -9,6 +9,7 @@ use Rattle.pg_script.specs.declared.token.CallWord.{CallWord}
 use Rattle.pg_script.specs.declared.token.CallWord.TheVariants as call_words
 use Rattle.pg_script.specs.declared.step.Call.{Call}
 use Rattle.pg_script.specs.declared.step.Call.TheVariants as calls
+use Rattle.pg_script.specs.declared.step.Chain.TheVariants as chains
 use Rattle.pg_script.specs.declared.line.Line.{Line}
 use Rattle.pg_script.specs.declared.line.Line.TheVariants as lines
 use Rattle.pg_script.specs.Lexing.{tokens_in}
@@ -36,6 +37,7 @@ call_with call_words.StartRollback rest = alone calls.StartRollback rest
 call_with call_words.Prepare rest = prepare_arg rest >>= λ preparation. Some (calls.Prepare preparation)
 call_with call_words.Clear rest = alone calls.Clear rest
 call_with call_words.CopyOut rest = query_arg rest >>= λ query. Some (calls.CopyOut query)
+call_with call_words.Describe rest = text_arg rest >>= λ sql. Some (calls.Chain (chains.Describe sql))
 
 abbrev pub call_arg : List Token → Option Call
 call_arg (Space ∷ Word (words.Call word) ∷ rest) = call_with word rest

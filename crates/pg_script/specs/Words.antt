@@ -35,6 +35,7 @@ call_spelling call_words.StartRollback = codes "start_rollback"
 call_spelling call_words.Prepare = codes "prepare"
 call_spelling call_words.Clear = codes "clear"
 call_spelling call_words.CopyOut = codes "copyout"
+call_spelling call_words.Describe = codes "describe"
 
 -- how a word is spelled
 abbrev pub spelling_of : Keyword → List ℕ
@@ -73,7 +74,7 @@ spelling_of (words.Call word) = call_spelling word
 abbrev pub all_words : List Keyword
 all_words = words.Step ∷ words.Server ∷ words.Raw ∷ words.Query ∷ words.Once ∷ words.Text ∷ words.Bytea ∷ words.Texts ∷ words.Comma ∷ words.Wait ∷ words.Call call_words.Execute ∷ words.Call call_words.Fetch ∷ words.Call call_words.FetchAll ∷ words.Call call_words.FetchOne
     ∷ words.Call call_words.FetchOptional ∷ words.Call call_words.FetchMany ∷ words.Call call_words.ExecuteMany ∷ words.Call call_words.Ping ∷ words.Call call_words.Flush ∷ words.Call call_words.Begin
-    ∷ words.Call call_words.BeginWith ∷ words.Call call_words.Commit ∷ words.Call call_words.Rollback ∷ words.Call call_words.StartRollback ∷ words.Call call_words.Prepare ∷ words.Call call_words.Clear ∷ words.Call call_words.CopyOut ∷ words.Most ∷ words.Take ∷ words.Hold ∷ words.End
+    ∷ words.Call call_words.BeginWith ∷ words.Call call_words.Commit ∷ words.Call call_words.Rollback ∷ words.Call call_words.StartRollback ∷ words.Call call_words.Prepare ∷ words.Call call_words.Clear ∷ words.Call call_words.CopyOut ∷ words.Call call_words.Describe ∷ words.Most ∷ words.Take ∷ words.Hold ∷ words.End
     ∷ words.Fail ∷ words.Break ∷ words.Start ∷ words.User ∷ words.Password ∷ words.Database ∷ words.Application ∷ words.Option ∷ words.SslMode ∷ words.Cache ∷ words.Digits ∷ words.None ∷ words.Link ∷ words.Upgrade
     ∷ words.Local ∷ words.Nonce ∷ []
 

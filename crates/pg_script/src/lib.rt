@@ -21,8 +21,9 @@
 //! A CALL is `execute`, `execute_many`, `fetch`, `fetch_many`, `fetch_all`, `fetch_optional` or `fetch_one`, each with `raw TEXT`
 //! behind it, a text of SQL, or with `query TEXT` and any number of ARG, each behind a space: one statement with arguments, which is kept,
 //! or with `once` in place of `query`, whose statement isn't kept; `begin_with TEXT` and `copyout TEXT`, where the text is one of SQL as well;
-//! `prepare TEXT` and any number of N, each behind a space: the OIDs of the types of its first parameters; or `ping`, `flush`, `begin`,
-//! `commit`, `rollback`, `start_rollback` or `clear`, which closes all statements that are kept.
+//! `prepare TEXT` and any number of N, each behind a space: the OIDs of the types of its first parameters; `describe TEXT`, which prepares a text
+//! of SQL and asks of its columns whether they may be null; or `ping`, `flush`, `begin`, `commit`, `rollback`, `start_rollback` or `clear`, which
+//! closes all statements that are kept.
 //!
 //! | ARG | Its type and value |
 //! |---|---|
@@ -67,4 +68,4 @@ pub use live::LiveScript;
 pub use nonce::Nonce;
 pub use reader::{read_live, read_script};
 pub use script::Script;
-pub use step::{Call, Step};
+pub use step::{Call, Chain, Step};

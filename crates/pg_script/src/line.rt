@@ -10,7 +10,7 @@ use crate::asking::{asked_arg, prepare_arg, query_arg};
 use crate::error::LineError;
 use crate::lexer::Lexer;
 use crate::nonce::Nonce;
-use crate::step::Call;
+use crate::step::{Call, Chain};
 use crate::token::{CallWord, Keyword, Token};
 use pg_options::PgSslMode;
 use pg_wire::{Blob, Text};
@@ -75,6 +75,7 @@ fn call_with(alloc: Global, word: CallWord, rest: &[Token]) -> Result<Call, Line
         CallWord::Prepare => Ok(Call::Prepare(prepare_arg(alloc, rest)?)),
         CallWord::Clear => alone(Call::Clear, rest),
         CallWord::CopyOut => Ok(Call::CopyOut(query_arg(alloc, rest)?)),
+        CallWord::Describe => Ok(Call::Chain(Chain::Describe(text_arg(alloc, rest)?))),
     }
 }
 

@@ -2,8 +2,27 @@ ghost use Rattle.std.specs.Prelude.{◌≡◌, IfOk, IfErr};
 
 use pg_call::{Bound, Eviction, Extended, Prepared};
 use pg_request::{Preparation, Query};
-use pg_wire::{Error, Sequence, StatementId};
+use pg_wire::{Error, Sequence, StatementId, Text};
 use std::alloc::Global;
+
+/// Calls of a connection one behind another, of which a script says all by one word.
+#[derive(Debug, Drop)]
+pub enum Chain {
+    /// Prepares a text, and asks of its columns whether they may be null.
+    Describe(Text),
+}
+
+impl Chain {
+    /// Equal calls. Only want of memory refuses them.
+    pub fn to_copy(&self, alloc: Global) -> Result<Self, Error>
+        ensures copy { IfOk result (λ c. c ≡ self.now) }
+        ensures memory { IfErr result (λ e. e ≡ Error.OutOfMemory) }
+    {
+        Ok(match self {
+            Chain::Describe(text) => Chain::Describe(text.to_copy(alloc)?),
+        })
+    }
+}
 
 /// A call of a script.
 #[derive(Debug, Drop)]
@@ -35,6 +54,8 @@ pub enum Call {
     Clear,
     /// Copies from the server, piece by piece.
     CopyOut(Query),
+    /// Calls one behind another.
+    Chain(Chain),
     /// The exchange that closes a statement for another one. No script says it alone.
     Evict(Eviction),
     /// The one that tells what a statement was described to be, which asks nothing of the server.
@@ -79,6 +100,7 @@ impl Call {
             Call::Prepare(preparation) => Call::Prepare(preparation.to_copy(alloc)?),
             Call::Clear => Call::Clear,
             Call::CopyOut(query) => Call::CopyOut(query.to_copy(alloc)?),
+            Call::Chain(chain) => Call::Chain(chain.to_copy(alloc)?),
             Call::Evict(eviction) => Call::Evict(eviction.to_copy(alloc)?),
             Call::Tell(prepared) => Call::Tell(prepared.to_copy(alloc)?),
             Call::CloseAll(statements) => Call::CloseAll(copied(alloc, statements)?),

@@ -22,6 +22,7 @@ pub(crate) enum CallWord {
     Prepare,
     Clear,
     CopyOut,
+    Describe,
 }
 
 /// The words of a script.

@@ -10,7 +10,7 @@ use pg_options::PgSslMode;
 use std::alloc::Global;
 
 /// All words of a script, the most usual first.
-const WORDS: [Keyword; 47] = [
+const WORDS: [Keyword; 48] = [
     Keyword::Step,
     Keyword::Server,
     Keyword::Raw,
@@ -38,6 +38,7 @@ const WORDS: [Keyword; 47] = [
     Keyword::Call(CallWord::Prepare),
     Keyword::Call(CallWord::Clear),
     Keyword::Call(CallWord::CopyOut),
+    Keyword::Call(CallWord::Describe),
     Keyword::Most,
     Keyword::Take,
     Keyword::Hold,
@@ -82,6 +83,7 @@ fn call_spelling(word: CallWord) -> &'static [u8]
         CallWord::Prepare => b"prepare",
         CallWord::Clear => b"clear",
         CallWord::CopyOut => b"copyout",
+        CallWord::Describe => b"describe",
     }
 }
 
