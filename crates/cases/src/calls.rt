@@ -2,8 +2,9 @@
 
 use either::Either;
 use pg_conn::{PgConnection, PgQueryResult, PgRow, PgStatement, Preparation, Query};
+use pg_describe::describe;
 use pg_guards::{PgTransactionManager, copy_out_raw};
-use pg_script::{Call, Step};
+use pg_script::{Call, Chain, Step};
 use pg_stream::MemoryLink;
 use pg_wire::{Blob, CallerFault, Error, Poll, ProtocolFault, Sequence, Text};
 use std::alloc::Global;
@@ -279,6 +280,20 @@ fn prepare(conn: &mut Connection, preparation: Preparation) -> Stand {
     stand_of(answer, call.is_finished())
 }
 
+// A statement that is described in full, with the columns counted that may be null.
+fn described(conn: &mut Connection, sql: Text) -> Stand {
+    let mut call = describe(conn, sql);
+    let answer = match settled(call.poll()) {
+        Poll::Pending => Answer::Waits,
+        Poll::Ready(None) => Answer::Fails,
+        Poll::Ready(Some(told)) => {
+            let nullable = told.nullable().iter();
+            Answer::Rows(nullable.filter(|it| **it == Some(true)).count() as u64)
+        }
+    };
+    stand_of(answer, call.is_finished())
+}
+
 fn clear(conn: &mut Connection) -> Stand {
     let mut call = conn.clear_cached_statements();
     let answer = unit(settled(call.poll()));
@@ -376,6 +391,7 @@ fn play_once(alloc: Global, conn: &mut Connection, call: Call) -> Stand {
         Call::Prepare(preparation) => prepare(conn, preparation),
         Call::Clear => clear(conn),
         Call::CopyOut(query) => copy_out(alloc, conn, query),
+        Call::Chain(Chain::Describe(sql)) => described(conn, sql),
         other => {
             drop(other);
             Stand::Fails

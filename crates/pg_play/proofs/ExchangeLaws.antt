@@ -104,6 +104,7 @@ first_request rule d (calls.FetchOne query) = first_by_request rule d hows.Fetch
 first_request rule d calls.Ping = refl
 first_request rule d (calls.CopyOut query) = refl
 first_request rule d calls.Flush = refl
+first_request rule d (calls.Chain chain) = refl
 first_request rule d calls.Begin = refl
 first_request rule d (calls.BeginWith query) = refl
 first_request rule zero calls.Commit = refl

@@ -72,6 +72,8 @@ no_cleanup d (calls.CopyOut query) end [] o b a = refl
 no_cleanup d (calls.CopyOut query) end (g ∷ gs) o b a = refl
 no_cleanup d calls.Flush end [] o b a = refl
 no_cleanup d calls.Flush end (g ∷ gs) o b a = refl
+no_cleanup d (calls.Chain chain) end [] o b a = refl
+no_cleanup d (calls.Chain chain) end (g ∷ gs) o b a = refl
 no_cleanup d calls.Begin end own o b a = absurd cc
 no_cleanup d (calls.BeginWith query) end own o b a = absurd cc
 no_cleanup d calls.Commit end [] o b a = refl
@@ -145,6 +147,7 @@ idle_by idle n d (calls.FetchOne query) end own cleanup owed others commits roll
 idle_by idle n d calls.Ping end own cleanup owed others commits rolls cleans c q l i z = plain_idle idle n own cleanup (few_own d calls.Ping end own q) (c ∙ no_cleanup d calls.Ping end own owed refl refl) (i z) (others refl)
 idle_by idle n d (calls.CopyOut query) end own cleanup owed others commits rolls cleans c q l i z = plain_idle idle n own cleanup (few_own d (calls.CopyOut query) end own q) (c ∙ no_cleanup d (calls.CopyOut query) end own owed refl refl) (i z) (others refl)
 idle_by idle n d calls.Flush end own cleanup owed others commits rolls cleans c q l i z = plain_idle idle n own cleanup (few_own d calls.Flush end own q) (c ∙ no_cleanup d calls.Flush end own owed refl refl) (i z) (others refl)
+idle_by idle n d (calls.Chain chain) end own cleanup owed others commits rolls cleans c q l i z = plain_idle idle n own cleanup (few_own d (calls.Chain chain) end own q) (c ∙ no_cleanup d (calls.Chain chain) end own owed refl refl) (i z) (others refl)
 idle_by idle n d calls.Begin end [] cleanup owed others commits rolls cleans c q l i z = unbegun_idle idle n d cleanup (is_fine end) z i c
 idle_by idle n d calls.Begin end (g ∷ gs) cleanup owed others commits rolls cleans c q l i z = begun_idle idle n d end g gs cleanup (is_fine end) refl z cleans c
 idle_by idle n d (calls.BeginWith query) end [] cleanup owed others commits rolls cleans c q l i z = unbegun_idle idle n d cleanup (is_fine end) z i c

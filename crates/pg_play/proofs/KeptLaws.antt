@@ -332,6 +332,7 @@ spares_asked n d (calls.FetchOne query) h = (query_spares n query.sql, tt)
 spares_asked n d calls.Ping h = (λ c. none_closes Sync [] n.name (λ e. cc) (λ z. z) c, tt)
 spares_asked n d (calls.CopyOut query) h = (query_spares n query.sql, tt)
 spares_asked n d calls.Flush h = tt
+spares_asked n d (calls.Chain chain) h = tt
 spares_asked n d calls.Begin h = (query_spares n (begin_text None d), tt)
 spares_asked n d (calls.BeginWith query) h = (query_spares n query.sql, tt)
 spares_asked n zero calls.Commit h = tt
@@ -499,6 +500,7 @@ leaves_statements at next call end own cleanup slice rule q cleans sound groups 
     kept_by calls.Ping s q = others calls.Ping (λ z. z) q
     kept_by (calls.CopyOut query) s q = others (calls.CopyOut query) (λ z. z) q
     kept_by calls.Flush s q = others calls.Flush (λ z. z) q
+    kept_by (calls.Chain chain) s q = others (calls.Chain chain) (λ z. z) q
     kept_by calls.Begin s q = others calls.Begin (λ z. z) q
     kept_by (calls.BeginWith query) s q = others (calls.BeginWith query) (λ z. z) q
     kept_by calls.Commit s q = others calls.Commit (λ z. z) q
@@ -626,6 +628,7 @@ keeps_by at next call end own cleanup slice response k sound q cleans groups fra
     fine f calls.Ping s q e d = none calls.Ping s q (fine_handed end calls.Ping response f) e
     fine f (calls.CopyOut query) s q e d = none (calls.CopyOut query) s q (fine_handed end (calls.CopyOut query) response f) e
     fine f calls.Flush s q e d = none calls.Flush s q (fine_handed end calls.Flush response f) e
+    fine f (calls.Chain chain) s q e d = none (calls.Chain chain) s q (fine_handed end (calls.Chain chain) response f) e
     fine f calls.Begin s q e d = none calls.Begin s q (fine_handed end calls.Begin response f) e
     fine f (calls.BeginWith query) s q e d = none (calls.BeginWith query) s q (fine_handed end (calls.BeginWith query) response f) e
     fine f calls.Commit s q e d = none calls.Commit s q (fine_handed end calls.Commit response f) e

@@ -27,3 +27,4 @@ pub mod TopLaws
 pub mod RefutedLaws
 mod KeptLaws
 mod NameLaws
+mod ChainLaws

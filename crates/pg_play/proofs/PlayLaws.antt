@@ -43,7 +43,8 @@ use Rattle.pg_play.specs.Told.{Numbers, CountsTo, WellAtOk}
 use Rattle.pg_play.specs.Causes.{AnsweredPending, IsDropped, HasCause, KeepsFault, EndsDuly, OpensSavepoint}
 use Rattle.pg_play.specs.Settling.{Settles, depth_after, has_moved, held_after, statements_after, step_after}
 use Rattle.pg_play.specs.WaitPlaces.{LastPlaces}
-use Rattle.pg_play.specs.Plays.{IsNeverUnlawful, Plays_call, ActsAtOnce, Plays_step, Plays_from, places_in, TakesInTime, StandsAt, PlaysOn, TellsBytes, Plays, Totals, over}
+use Rattle.pg_play.specs.Chains.{AreChained, IsChained}
+use Rattle.pg_play.specs.Plays.{IsNeverUnlawful, Plays_call, ActsAtOnce, Plays_step, Plays_from, places_in, TakesInTime, StandsAt, PlaysOn, PlaysInOrder, PlaysChain, PlaysAll, TellsBytes, PlaysCalls, Plays, Totals, over}
 use Rattle.pg_play.specs.Starts.{Opening, IsOf, HasOpened}
 use Rattle.pg_startup.proofs.FlowLaws.{Flows-none}
 use Rattle.pg_play.proofs.PartLaws.{take_none}
@@ -444,14 +445,52 @@ plays_more at mid next [] (o ∷ outs) step out run one = absurd run
 plays_more at mid next (s ∷ steps) [] step out run one = absurd run
 plays_more at mid next (s ∷ steps) (o ∷ outs) step out run one = (run.0, run.1, plays_more run.0 mid next steps outs step out run.2 one)
 
-pub plays_on : (a b c : ConnSeen) (steps : List Step) (outs : List Outcome) (step : Step) (out : Outcome) → PlaysOn a b steps outs → b.rule.depth < 2 ^ 64 → PlaysStep b c step out → PlaysOn a c (steps ++ step ∷ []) (outs ++ out ∷ [])
+plays_on : (a b c : ConnSeen) (steps : List Step) (outs : List Outcome) (step : Step) (out : Outcome) → PlaysOn a b steps outs → b.rule.depth < 2 ^ 64 → PlaysStep b c step out → PlaysOn a c (steps ++ step ∷ []) (outs ++ out ∷ [])
 plays_on a b c steps outs step out run d call start at st kept =
     let so_far = run start at st kept in
     let one = plays_step start so_far.0 b c step out so_far.2 so_far.3 d call in
     (one.0, plays_more at so_far.0 one.0 steps outs step out so_far.1 one.1, one.2, one.3)
 
-pub plays_none : (a : ConnSeen) → PlaysOn a a [] []
+plays_none : (a : ConnSeen) → PlaysOn a a [] []
 plays_none a start at st kept = (at, refl, st, kept)
+
+-- ---- chains of calls
+
+-- calls behind those that were played
+plays_behind : (a b c : ConnSeen) (steps : List Step) (outs : List Outcome) (calls : List Step) (told : List Outcome) → PlaysOn a b steps outs → PlaysInOrder b c calls told → PlaysOn a c (steps ++ calls) (outs ++ told)
+plays_behind a b c steps outs [] [] on run = rw (append-nil steps, append-nil outs, run) on
+plays_behind a b c steps outs [] (o ∷ told) on run = absurd run
+plays_behind a b c steps outs (s ∷ calls) [] on run = absurd run
+plays_behind a b c steps outs (s ∷ calls) (o ∷ told) on run =
+    let one : PlaysOn a run.0 (steps ++ s ∷ []) (outs ++ o ∷ []) = plays_on a b run.0 steps outs s o on run.2 run.1 in
+    let more : PlaysOn a c ((steps ++ s ∷ []) ++ calls) ((outs ++ o ∷ []) ++ told) = plays_behind a run.0 c (steps ++ s ∷ []) (outs ++ o ∷ []) calls told one run.3 in
+    subst (λ (x : List Step). PlaysOn a c x (outs ++ o ∷ told)) (append_assoc steps (s ∷ []) calls) (subst (λ (y : List Outcome). PlaysOn a c ((steps ++ s ∷ []) ++ calls) y) (append_assoc outs (o ∷ []) told) more)
+
+chained_more : (steps : List Step) (outs : List Outcome) (calls : List Step) (told : List Outcome) (step : Step) (out : Outcome) (own : List Step) (ones : List Outcome) → AreChained steps outs calls told → IsChained step out own ones → AreChained (steps ++ step ∷ []) (outs ++ out ∷ []) (calls ++ own) (told ++ ones)
+chained_more [] [] calls told step out own ones all one = (own, [], ones, [], one, (refl, refl), ap (λ (x : List Step). x ++ own) all.0 ∙ sym (append-nil own), ap (λ (x : List Outcome). x ++ ones) all.1 ∙ sym (append-nil ones))
+chained_more [] (o ∷ outs) calls told step out own ones all one = absurd all
+chained_more (s ∷ steps) [] calls told step out own ones all one = absurd all
+chained_more (s ∷ steps) (o ∷ outs) calls told step out own ones (first, later, firsts, others, chained, rest, c, t) one = (
+  first,
+  later ++ own,
+  firsts,
+  others ++ ones,
+  chained,
+  chained_more steps outs later others step out own ones rest one,
+  ap (λ (x : List Step). x ++ own) c ∙ append_assoc first later own,
+  ap (λ (x : List Outcome). x ++ ones) t ∙ append_assoc firsts others ones,
+)
+
+pub plays_step_on : (a b c : ConnSeen) (steps : List Step) (outs : List Outcome) (step : Step) (out : Outcome) → PlaysAll a b steps outs → PlaysChain b c step out → PlaysAll a c (steps ++ step ∷ []) (outs ++ out ∷ [])
+plays_step_on a b c steps outs step out (calls, told, chained, on) (own, ones, one, run) =
+    (calls ++ own, told ++ ones, chained_more steps outs calls told step out own ones chained one, plays_behind a b c calls told own ones on run)
+
+pub plays_no_step : (a : ConnSeen) → PlaysAll a a [] []
+plays_no_step a = ([], [], (refl, refl), plays_none a)
+
+-- a step that is one call
+pub plays_alone : (a b : ConnSeen) (step : Step) (out : Outcome) → IsChained step out (step ∷ []) (out ∷ []) → a.rule.depth < 2 ^ 64 → PlaysStep a b step out → PlaysChain a b step out
+plays_alone a b step out one d run = (step ∷ [], out ∷ [], one, (b, run, d, refl))
 
 -- ---- from the end of start-up on
 
@@ -532,9 +571,9 @@ in_time opening polls link a steps outs last g run old new x y =
     let behind : old ++ g.begun.given ≡ (old ++ g.begun.read) ++ a.stream.held = ap (λ (z : List ℕ). old ++ z) held ∙ sym (append_assoc old g.begun.read a.stream.held) in
     takes_all (old ++ g.begun.read) (old ++ g.begun.given) new (first_place opening.options.statement_cache_capacity a.stream) steps outs last run (given_next link.given a.stream.link.given old g.begun.given x gave) behind y
 
-pub plays_begun : (opening : Opening) (polls : ℕ) (link last : LinkSeen) (a b : ConnSeen) (started : Started) (steps : List Step) (outs : List Outcome) → HasOpened opening polls link a → PlaysOn a b steps outs → started.sent ≡ a.sent → started.read ≡ a.read → last ≡ b.stream.link → Plays opening polls link last started steps outs
+calls_begun : (opening : Opening) (polls : ℕ) (link last : LinkSeen) (a b : ConnSeen) (started : Started) (steps : List Step) (outs : List Outcome) → HasOpened opening polls link a → PlaysOn a b steps outs → started.sent ≡ a.sent → started.read ≡ a.read → last ≡ b.stream.link → PlaysCalls opening polls link last started steps outs
 unfolding tells_bytes tells_over
-plays_begun opening polls link last a b started steps outs g run s r l =
+calls_begun opening polls link last a b started steps outs g run s r l =
     let p = run a.stream (first_place opening.options.statement_cache_capacity a.stream) (stands_first opening polls link a g) (keeps_first opening.options.statement_cache_capacity a.stream) in
     let st = p.2 in
     let bytes : TellsBytes opening link b.stream.link started p.0 = tells_bytes opening polls link a b started p.0 g st s r in
@@ -559,3 +598,6 @@ plays_begun opening polls link last a b started steps outs g run s r l =
       complete = where_faultless link (first_place opening.options.statement_cache_capacity a.stream) p.0 steps outs p.1 g.counts refl st.sayable st.flows.read.3 st.plain;
       plain = st.plain;
     })
+
+pub plays_begun : (opening : Opening) (polls : ℕ) (link last : LinkSeen) (a b : ConnSeen) (started : Started) (steps : List Step) (outs : List Outcome) → HasOpened opening polls link a → PlaysAll a b steps outs → started.sent ≡ a.sent → started.read ≡ a.read → last ≡ b.stream.link → Plays opening polls link last started steps outs
+plays_begun opening polls link last a b started steps outs g (calls, told, chained, on) s r l = (calls, told, chained, calls_begun opening polls link last a b started calls told g on s r l)

@@ -276,6 +276,10 @@ limits_of step = record { polls = step.polls; most = step.most }
 abbrev pub untouched : End → Outcome
 untouched end = record { items = []; end = end; groups = 0; heard = 0; cache = cache.Same; waits = 0; moved = 0 }
 
+-- nothing was done for want of memory, where anything was to be done
+abbrev pub IsUnmade : Step → Outcome → Type 0
+IsUnmade step out = (IsUnpolled step × (out ≡ untouched ends.Dropped)) ⊎ ((IsUnpolled step → ⊥) × (step.polls < 2 ^ 32) × (out ≡ untouched (ends.Err errors.OutOfMemory)))
+
 -- the numbers of an outcome are the connection's
 abbrev pub outcome_of : ConnSeen → List Item → End → Outcome
 outcome_of b shown end = record { items = shown; end = end; groups = all_groups b; heard = b.heard; cache = b.cache; waits = b.stream.waits; moved = b.stream.moves }

@@ -8,6 +8,7 @@ pub mod WaitPlaces
 pub mod Causes
 pub mod Complete
 pub mod Idles
+pub mod Chains
 pub mod Plays
 pub mod Starts
 pub mod Top

@@ -2,7 +2,8 @@
 use Rattle.std.specs.Prelude.{◌≡◌, ◌≢◌, ℕ, ◌+◌, ◌*◌, ◌<◌, false, List, [], ◌∷◌, ◌++◌, length, map, flat_map, Some, None, Ok, sum_by, count_by, ◌≤◌, true, ◌-◌, ◌^◌}
 use Rattle.pg_play.specs.Idles.{KeepsOrder, SaysIdle, statuses}
 use Rattle.pg_report.specs.declared.outcome.Answer.TheVariants.{Unit as AnswersUnit}
-use Rattle.pg_play.specs.Calls.{untouched, limits_of}
+use Rattle.pg_play.specs.Calls.{PlaysStep, untouched, limits_of}
+use Rattle.pg_play.specs.Chains.{AreChained, IsChained}
 use Rattle.pg_play.specs.Shown.{acts_at_once, first_call, next_call, request_of}
 use Rattle.pg_play.specs.Settling.{Settles}
 use Rattle.std.specs.List.{AllByRecursion}
@@ -264,6 +265,21 @@ pub record StandsAt (start : StreamSeen) (at : Place) (c : ConnSeen) : Type 0 wh
 abbrev pub PlaysOn : ConnSeen → ConnSeen → List Step → List Outcome → Type 0
 PlaysOn a b steps outs = (start : StreamSeen) (at : Place) → StandsAt start at a → Keeps at → (last : Place) × Plays_from at steps outs last × StandsAt start last b × Keeps last
 
+-- Internal: these calls were played one after another
+abbrev pub PlaysInOrder : ConnSeen → ConnSeen → List Step → List Outcome → Type 0
+PlaysInOrder a b [] [] = b ≡ a
+PlaysInOrder a b (step ∷ steps) (out ∷ outs) = (m : ConnSeen) × PlaysStep a m step out × (a.rule.depth < 2 ^ 64) × PlaysInOrder m b steps outs
+PlaysInOrder a b [] (out ∷ outs) = ⊥
+PlaysInOrder a b (step ∷ steps) [] = ⊥
+
+-- Internal: a step was played, as the calls of its chain
+abbrev pub PlaysChain : ConnSeen → ConnSeen → Step → Outcome → Type 0
+PlaysChain a b step out = (calls : List Step) × (told : List Outcome) × IsChained step out calls told × PlaysInOrder a b calls told
+
+-- Internal: so were these steps
+abbrev pub PlaysAll : ConnSeen → ConnSeen → List Step → List Outcome → Type 0
+PlaysAll a b steps outs = (calls : List Step) × (told : List Outcome) × AreChained steps outs calls told × PlaysOn a b calls told
+
 -- ---- the headline
 
 -- The link's bytes, where it tells them: those of the handshake that start-up was, and behind them those of the steps. And what its TLS had
@@ -325,8 +341,8 @@ pub record IsLawful (at : Place) (outs : List Outcome) : Type 0 where
 abbrev pub WhereLawful : Place → List Outcome → Type 0
 WhereLawful at outs = (sent read : List Frame) (rest : List ℕ) → IsPrefixOf sent (map frontend_frame at.said) → Cuts backend_tags (text_of at.frames ++ at.seen.held) read rest → AreReplies sent (heard read) → IsLawful at outs
 
--- The steps were played behind a start-up, from the place where nothing is said and taken yet.
-pub record Plays (opening : Opening) (polls : ℕ) (first last : LinkSeen) (started : Started) (steps : List Step) (outs : List Outcome) : Type 0 where
+-- These calls were played behind a start-up, from the place where nothing is said and taken yet.
+pub record PlaysCalls (opening : Opening) (polls : ℕ) (first last : LinkSeen) (started : Started) (steps : List Step) (outs : List Outcome) : Type 0 where
   pub begins : StreamSeen
   pub begun : NoneFalls first begins.link
   -- fewer polls of start-up than it had answered `Pending`
@@ -353,3 +369,7 @@ pub record Plays (opening : Opening) (polls : ℕ) (first last : LinkSeen) (star
   pub complete : WhereFaultless first place steps outs
   -- the groups alone are said, where no server asks for a copy
   pub plain : AsksForNoCopy (heard place.frames) → place.said ≡ said_in place.groups
+
+-- The steps were played: each is one call, or a chain of some, and all calls were played in order.
+abbrev pub Plays : Opening → ℕ → LinkSeen → LinkSeen → Started → List Step → List Outcome → Type 0
+Plays opening polls first last started steps outs = (calls : List Step) × (told : List Outcome) × AreChained steps outs calls told × PlaysCalls opening polls first last started calls told

@@ -30,8 +30,8 @@ abbrev pub ending : (ℕ → Request) → ℕ → Request
 ending ends zero = requests.Flush
 ending ends (suc left) = ends left
 
--- What an exchange asks of a connection on which so many transactions and savepoints are open. A rollback without waiting is no call of the connection,
--- and what to prepare and to clear is no exchange yet: they ask nothing.
+-- What an exchange asks of a connection on which so many transactions and savepoints are open. A rollback without waiting is no call of the connection, a chain is
+-- some of them, and what to prepare and to clear is no exchange yet: they ask nothing.
 abbrev pub request_of : ℕ → Call → Request
 request_of depth (calls.Execute query) = requests.Execute query
 request_of depth (calls.ExecuteMany query) = requests.ExecuteMany query
@@ -50,6 +50,7 @@ request_of depth calls.StartRollback = requests.Flush
 request_of depth (calls.Prepare preparation) = requests.Flush
 request_of depth calls.Clear = requests.Flush
 request_of depth (calls.CopyOut query) = requests.CopyOut query
+request_of depth (calls.Chain chain) = requests.Flush
 request_of depth (calls.Describe extended) = requests.Describe extended
 request_of depth (calls.Run bound) = requests.Run bound
 request_of depth (calls.Evict eviction) = requests.Evict eviction

@@ -47,6 +47,7 @@ pub(crate) fn request_of(alloc: Global, depth: u64, call: &Call) -> Result<Reque
         | Call::Rollback
         | Call::Flush
         | Call::StartRollback
+        | Call::Chain(_)
         | Call::Describe(_)
         | Call::Run(_)
         | Call::Evict(_)

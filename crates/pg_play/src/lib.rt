@@ -6,6 +6,7 @@
 #![tactic(auto)]
 
 mod asking;
+mod chaining;
 mod command;
 mod connecting;
 mod ending;
@@ -22,7 +23,7 @@ mod stepping;
 mod tally;
 
 pub use pg_report::{Answer, End, Item, Outcome, Started};
-pub use pg_script::{Call, Step};
+pub use pg_script::{Call, Chain, Step};
 pub use played::{Played, Ran};
 pub use playing::play;
 pub use program::top;

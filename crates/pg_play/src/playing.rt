@@ -6,9 +6,9 @@ ghost use Rattle.pg_play.specs.Plays.{Plays};
 ghost use Rattle.pg_play.specs.Starts.{Opening, HasOpened, StartEnds, opening_of};
 ghost use Rattle.pg_play.specs.Top.{HasOutcomes};
 
+use crate::chaining::play_chain;
 use crate::played::Played;
 use crate::starting::start_up;
-use crate::stepping::play_step;
 use pg_conn::PgConnection;
 use pg_options::PgConnectOptions;
 use pg_report::{Outcome, Started};
@@ -45,7 +45,7 @@ fn play_steps<L: Link>(
 {
     let (sent, read) = conn.started();
     for step in steps {
-        let outcome = play_step(alloc, &mut conn, step);
+        let outcome = play_chain(alloc, &mut conn, step);
         outcomes.push(outcome).unwrap();
     }
     Played {

@@ -3,7 +3,7 @@ ghost use Rattle.pg_request.specs.declared.progress.CacheStep.TheVariants as cac
 ghost use Rattle.pg_conn.specs.Connections.{ConnSeen, seen_by, runs};
 ghost use Rattle.pg_call.specs.declared.request.Request.{Request};
 ghost use Rattle.pg_conn.specs.Turns.{first_exchange};
-ghost use Rattle.pg_play.specs.Calls.{IsCallPlaying, PollGives, PlaysCall, PlaysPolled, PlaysStep, first_conn, untouched};
+ghost use Rattle.pg_play.specs.Calls.{IsCallPlaying, IsUnmade, PollGives, PlaysCall, PlaysPolled, PlaysStep, first_conn, untouched};
 ghost use Rattle.pg_play.specs.Shown.{IsWanted};
 
 use crate::asking::request_of;
@@ -71,6 +71,17 @@ fn untouched(alloc: Global, end: End) -> Outcome
         moved: 0,
     };
     outcome(Vec::new(alloc), end, progress)
+}
+
+/// What comes of a step for whose call there was no memory.
+pub(crate) fn unmade(alloc: Global, step: &Step) -> Outcome
+    ensures { IsUnmade step.now result }
+{
+    if step.polls == 0 || step.most == 0 {
+        untouched(alloc, End::Dropped)
+    } else {
+        untouched(alloc, End::Err(Error::OutOfMemory))
+    }
 }
 
 // Polls a call until it ends, or is dropped.

@@ -1,6 +1,6 @@
 use Rattle.std.proofs.Common.{◌≡◌, ◌≤◌, length, take, vec_capacity}
 use Rattle.pg_conn.specs.Connections.{seen_by}
-use Rattle.pg_play.specs.Plays.{PlaysOn}
+use Rattle.pg_play.specs.Plays.{PlaysAll}
 use Rattle.pg_play.proofs.playing.play_steps.Given as goal
 
 -- each step so far has its outcome and was played, and there is room for the others
@@ -8,5 +8,5 @@ abbrev pub invariant-loop-step : goal.invariant-loop-step
 invariant-loop-step g l = record {
   count : length l.outcomes.items ≡ l.step-index;
   room : length l.fn.steps ≤ vec_capacity l.outcomes;
-  plays : PlaysOn (seen_by g.L.Link.seen l.fn.conn) (seen_by g.L.Link.seen l.conn) (take l.step-index l.fn.steps) l.outcomes.items;
+  plays : PlaysAll (seen_by g.L.Link.seen l.fn.conn) (seen_by g.L.Link.seen l.conn) (take l.step-index l.fn.steps) l.outcomes.items;
 }

@@ -1,0 +1,30 @@
+use Rattle.std.proofs.Common.{Ok, Err, refl, ap, ◌∙◌, subst}
+use Rattle.futures.specs.declared.task.Poll.TheVariants.{Ready, Pending}
+use Rattle.pg_call.specs.declared.answer.Turn.{Turn}
+use Rattle.pg_call.specs.declared.kind.Kind.TheVariants as kinds
+use Rattle.pg_call.specs.Answers.{statement_turn}
+use Rattle.pg_conn.specs.Connections.{begun_by, seen_by}
+use Rattle.pg_conn.specs.Turns.{PollsCall}
+use Rattle.pg_describe.proofs.describing.Describing.poll_prepare.Goals as goal
+
+pub into_statement-requires : goal.into_statement-requires
+into_statement-requires g c = (c.in-Ready.ensures.fits kinds.Prepare c.requires.calling).0
+
+pub returns-in-Pending-clause-polls : goal.returns-in-Pending-clause-polls
+returns-in-Pending-clause-polls g c = (g.C.PgExecutor.conn c.poll.new.holder, Pending, c.in-Pending.ensures.polls, (refl, refl, c.requires.told))
+
+pub returns-in-Ok-clause-polls : goal.returns-in-Ok-clause-polls
+returns-in-Ok-clause-polls g c = (
+  g.C.PgExecutor.conn c.poll.new.holder,
+  Ready (Ok c.in-Ok.prepared),
+  subst (λ (turn : Turn). PollsCall (seen_by g.C.L.Link.seen (begun_by c.args.self.now.request (g.C.PgExecutor.conn c.args.self.now.conn))) (seen_by g.C.L.Link.seen (g.C.PgExecutor.conn c.poll.new.holder)) (Ready turn)) (c.into_statement.ensures ∙ ap statement_turn c.in-Ok.is) c.in-Ready.ensures.polls,
+  c.go_on.ensures.goes,
+)
+
+pub returns-in-Err-clause-polls : goal.returns-in-Err-clause-polls
+returns-in-Err-clause-polls g c = (
+  g.C.PgExecutor.conn c.poll.new.holder,
+  Ready (Err c.in-Err.e),
+  subst (λ (turn : Turn). PollsCall (seen_by g.C.L.Link.seen (begun_by c.args.self.now.request (g.C.PgExecutor.conn c.args.self.now.conn))) (seen_by g.C.L.Link.seen (g.C.PgExecutor.conn c.poll.new.holder)) (Ready turn)) (c.into_statement.ensures ∙ ap statement_turn c.in-Err.is) c.in-Ready.ensures.polls,
+  (refl, refl, c.requires.told),
+)

@@ -1,0 +1,187 @@
+ghost use Rattle.std.specs.Prelude.{◌≡◌, false, None, Some, [], unwrap_or};
+ghost use Rattle.pg_columns.specs.Told.{columns_of};
+ghost use Rattle.pg_call.specs.declared.kind.How.TheVariants as hows;
+ghost use Rattle.pg_call.specs.declared.kind.Kind.TheVariants as kinds;
+ghost use Rattle.pg_conn.specs.Connections.{begun_by, is_over, left_by};
+ghost use Rattle.pg_conn.specs.States.{PollFits, to_prepare, untyped};
+ghost use Rattle.pg_describe.specs.Describing.{GoesOn, HearsTurn, IsDescribing, PollsDescribe, StaysDescribing, TellsNulls};
+
+use crate::flags::read_flags;
+use crate::{Describe, holding};
+use pg_call::{Keeping, Prepared, Request, Turn};
+use pg_columns::{PgColumn, PgColumns};
+use pg_conn::PgRow;
+use pg_guards::PgExecutor;
+use pg_nullable::nulls_query;
+use pg_wire::{Error, Oids, Poll, Sequence, Text};
+use std::alloc::Global;
+
+/// The state of `describe`, which owns what holds the connection. It does nothing before its first poll. It is made of two calls, whose numbers `progress`
+/// tells together. Where it is dropped before its end, what was sent stays owed: the next call on the connection reads it away.
+pub struct Describing<C: PgExecutor> {
+    conn: C,
+    request: Option<Request>,
+    // The statement, once it is prepared.
+    told: Option<Prepared>,
+}
+
+/// Describes a statement in full: what `prepare` tells of it, and of each column whether it may be null, which the catalog is asked for. More than 21845
+/// columns are `TooMany` behind the preparation, which stands. (PostgreSQL manual, "Message Flow", "Extended Query"; "System Catalogs", pg_attribute.)
+pub fn describe<C: PgExecutor>(conn: C, sql: Text) -> Describing<C>
+    ensures conn { result.conn ≡ conn }
+    ensures request { result.request ≡ Some (to_prepare (untyped sql)) }
+    ensures told { result.told ≡ None }
+    ensures calling { IsDescribing result.told (begun_by result.request (C.conn result.conn)) }
+{
+    let parameters = Oids::new(conn.conn_ref().allocator());
+    let request = Request::Prepare(Prepared {
+        sql,
+        parameters,
+        columns: None,
+        keeping: Keeping::Stays,
+    });
+    Describing {
+        conn,
+        request: Some(request),
+        told: None,
+    }
+}
+
+// The columns that were told.
+fn columns_in(told: &Option<PgColumns>) -> &[PgColumn]
+    ensures { result.now ≡ columns_of (unwrap_or told.now []) }
+{
+    match told {
+        Some(columns) => columns.as_slice(),
+        None => &[],
+    }
+}
+
+// The whole of a statement, and of the rows that tell of its columns.
+fn described(alloc: Global, prepared: Prepared, rows: Sequence<PgRow>) -> Result<Describe, Error>
+    ensures { TellsNulls prepared rows result }
+{
+    match read_flags(alloc, rows.as_slice()) {
+        Ok(nullable) => Ok(Describe::new(prepared, nullable)),
+        Err(e) => Err(e),
+    }
+}
+
+impl<C: PgExecutor> Describing<C> {
+    /// Whether a poll has ended the call.
+    pub fn is_finished(&self) -> bool
+        ensures { result ≡ is_over self.now.request (C.conn self.now.conn).call }
+    {
+        self.request.is_none() && !self.conn.conn_ref().is_running()
+    }
+
+    // What a poll of the query on nulls has come to.
+    fn hear(&mut self, prepared: Prepared, answer: Poll<Turn>) -> Poll<Result<Describe, Error>>
+        requires told { self.old.told ≡ None }
+        requires fits { PollFits (kinds.Run hows.FetchAll) (C.conn self.old.conn) answer }
+        ensures conn { self.new.conn ≡ self.old.conn }
+        ensures request { self.new.request ≡ self.old.request }
+        ensures hears { HearsTurn prepared answer result self.new.told }
+        ensures stays { StaysDescribing self.new.told (C.conn self.new.conn) result }
+    {
+        match answer {
+            Poll::Pending => {
+                self.told = Some(prepared);
+                Poll::Pending
+            }
+            Poll::Ready(turn) => match turn.into_rows() {
+                Ok(rows) => {
+                    let alloc = self.conn.conn_ref().allocator();
+                    Poll::Ready(described(alloc, prepared, rows))
+                }
+                Err(e) => Poll::Ready(Err(e)),
+            },
+        }
+    }
+
+    // The first poll of the query on nulls, behind the preparation. Where there is no column, nothing is asked.
+    fn go_on(&mut self, prepared: Prepared) -> Poll<Result<Describe, Error>>
+        requires told { self.old.told ≡ None }
+        ensures holder { self.new.conn ≡ C.with_conn self.old.conn (C.conn self.new.conn) }
+        ensures request { self.new.request ≡ self.old.request }
+        ensures goes { GoesOn C.L.seen prepared (C.conn self.old.conn) (C.conn self.new.conn) result self.new.told }
+        ensures stays { StaysDescribing self.new.told (C.conn self.new.conn) result }
+    {
+        let alloc = self.conn.conn_ref().allocator();
+        match nulls_query(alloc, columns_in(&prepared.columns)) {
+            Ok(Some(query)) => {
+                let answer = holding::poll_next(&mut self.conn, Request::FetchAll(query));
+                self.hear(prepared, answer)
+            }
+            Ok(None) => Poll::Ready(Ok(Describe::new(prepared, Vec::new(alloc)))),
+            Err(e) => Poll::Ready(Err(e)),
+        }
+    }
+
+    // One poll of the preparation, and of what comes behind it.
+    fn poll_prepare(&mut self) -> Poll<Result<Describe, Error>>
+        requires over { is_over self.old.request (C.conn self.old.conn).call ≡ false }
+        requires told { self.old.told ≡ None }
+        requires calling { IsDescribing None (begun_by self.old.request (C.conn self.old.conn)) }
+        ensures holder { self.new.conn ≡ C.with_conn self.old.conn (C.conn self.new.conn) }
+        ensures asked { self.new.request ≡ None }
+        ensures polls { PollsDescribe C.L.seen None (begun_by self.old.request (C.conn self.old.conn)) (C.conn self.new.conn) result self.new.told }
+        ensures stays { StaysDescribing self.new.told (C.conn self.new.conn) result }
+    {
+        match holding::poll(&mut self.conn, &mut self.request) {
+            Poll::Pending => Poll::Pending,
+            Poll::Ready(turn) => match turn.into_statement() {
+                Ok(prepared) => self.go_on(prepared),
+                Err(e) => Poll::Ready(Err(e)),
+            },
+        }
+    }
+
+    // One poll of the query on nulls, of a statement that is prepared.
+    fn poll_nulls(&mut self, prepared: Prepared) -> Poll<Result<Describe, Error>>
+        requires over { is_over self.old.request (C.conn self.old.conn).call ≡ false }
+        requires told { self.old.told ≡ None }
+        requires calling { IsDescribing (Some prepared) (begun_by self.old.request (C.conn self.old.conn)) }
+        ensures holder { self.new.conn ≡ C.with_conn self.old.conn (C.conn self.new.conn) }
+        ensures asked { self.new.request ≡ None }
+        ensures polls { PollsDescribe C.L.seen (Some prepared) (begun_by self.old.request (C.conn self.old.conn)) (C.conn self.new.conn) result self.new.told }
+        ensures stays { StaysDescribing self.new.told (C.conn self.new.conn) result }
+    {
+        let answer = holding::poll(&mut self.conn, &mut self.request);
+        self.hear(prepared, answer)
+    }
+
+    /// Moves the call on. A row of the catalog without a truth value is `ColumnDecode` with the place 0.
+    pub fn poll(&mut self) -> Poll<Result<Describe, Error>>
+        requires over { is_over self.old.request (C.conn self.old.conn).call ≡ false }
+        requires calling { IsDescribing self.old.told (begun_by self.old.request (C.conn self.old.conn)) }
+        ensures holder { self.new.conn ≡ C.with_conn self.old.conn (C.conn self.new.conn) }
+        ensures asked { self.new.request ≡ None }
+        ensures polls { PollsDescribe C.L.seen self.old.told (begun_by self.old.request (C.conn self.old.conn)) (C.conn self.new.conn) result self.new.told }
+        ensures calling { StaysDescribing self.new.told (C.conn self.new.conn) result }
+    {
+        match self.told.take() {
+            Some(prepared) => self.poll_nulls(prepared),
+            None => self.poll_prepare(),
+        }
+    }
+
+    /// Hands back what holds the connection, as the drop of the state leaves it: a call that runs is given up.
+    pub fn into_conn(self) -> C
+        ensures { result ≡ C.with_conn self.conn (left_by self.request (C.conn self.conn)) }
+    {
+        let Describing {
+            conn,
+            request,
+            told: _,
+        } = self;
+        holding::leave(conn, request)
+    }
+}
+
+impl<C: PgExecutor + Drop> Drop for Describing<C> {
+    fn drop(self) {
+        let conn = self.into_conn();
+        let _ = conn;
+    }
+}
