@@ -1,0 +1,5 @@
+pub mod KeyLaws
+pub mod RoomLaws
+pub mod ReleaseLaws
+pub mod HeldLaws
+pub mod CallLaws

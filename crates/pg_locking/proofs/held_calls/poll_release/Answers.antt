@@ -1,0 +1,15 @@
+use Rattle.std.proofs.Common.{subst, sym}
+use Rattle.pg_conn.specs.Connections.{ConnOf}
+use Rattle.pg_locking.specs.Flags.{IsAsking, PollsFlag, StaysAsking, forgot_if}
+use Rattle.pg_locking.proofs.HeldLaws.{told_of}
+use Rattle.pg_locking.proofs.held_calls.poll_release.Goals as goal
+
+pub poll_release-requires : goal.poll_release-requires
+poll_release-requires g c = subst (λ (conn : ConnOf _). IsAsking c.args.call.now.asking conn) (sym c.conn_mut.ensures.value) c.requires
+
+pub returns-clause-polls : goal.returns-clause-polls
+returns-clause-polls g c =
+    told_of (λ (a b : ConnOf _). PollsFlag g.C.L.Link.seen c.args.call.now.key c.args.call.now.holds c.args.call.now.asking (forgot_if c.args.call.now.asking a) b c.poll_release.new.self.asking c.poll_release.result) _ _ _ _ c.conn_mut.ensures.value (g.met.C.PgExecutor.written c.args.holder.now c.poll_release.new.conn) c.poll_release.ensures.polls
+
+pub returns-clause-stays : goal.returns-clause-stays
+returns-clause-stays g c = subst (λ (conn : ConnOf _). StaysAsking c.poll_release.new.self.asking conn c.poll_release.result) (sym (g.met.C.PgExecutor.written c.args.holder.now c.poll_release.new.conn)) c.poll_release.ensures.stays

@@ -1,0 +1,7 @@
+use Rattle.pg_call.specs.declared.kind.How.TheVariants as hows
+use Rattle.pg_call.specs.declared.kind.Kind.TheVariants as kinds
+use Rattle.pg_conn.proofs.StateLaws.{poll_fits}
+use Rattle.pg_locking.proofs.lock_call.LockCall.poll_lock.Goals as goal
+
+pub hear_locked-requires-clause-fits : goal.hear_locked-requires-clause-fits
+hear_locked-requires-clause-fits g c = poll_fits g.L.Link.seen c.args.conn.now c.poll_call-answer.new.self (kinds.Run hows.Execute) c.poll_call-answer.result c.poll_call-answer.ensures c.requires.calling

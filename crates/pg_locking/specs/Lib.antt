@@ -1,0 +1,5 @@
+pub mod Keys
+pub mod Rooms
+pub mod Held
+pub mod Flags
+pub mod Locking
