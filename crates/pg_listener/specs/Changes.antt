@@ -1,5 +1,5 @@
 -- What a listener changes of its channels, and the statement that asks for it (PostgreSQL manual, "SQL Commands": LISTEN, UNLISTEN).
-use Rattle.std.specs.Prelude.{ℕ, Bool, bytes_eq, List, [], ◌∷◌, ◌++◌}
+use Rattle.std.specs.Prelude.{ℕ, Bool, true, false, bytes_eq, List, [], ◌∷◌, ◌++◌}
 use Rattle.std.specs.List.{before_first, after_first}
 use Rattle.pg_listener.specs.declared.changing.ChannelChange.{ChannelChange}
 use Rattle.pg_listener.specs.declared.changing.ChannelChange.TheVariants as changes
@@ -10,6 +10,12 @@ statement_of (changes.Listen channel) = listen_text channel
 statement_of (changes.ListenAll channels) = listen_each_text channels
 statement_of (changes.Unlisten channel) = unlisten_text channel
 statement_of changes.UnlistenAll = unlisten_all_text
+
+-- it listens to more channels, and not to fewer
+abbrev pub listens : ChannelChange → Bool
+listens (changes.Listen channel) = true
+listens (changes.ListenAll channels) = true
+listens change = false
 
 abbrev pub is_named : List ℕ → List ℕ → Bool
 is_named name channel = bytes_eq channel name

@@ -1,5 +1,5 @@
 ghost use Rattle.std.specs.Prelude.{◌≡◌, ◌++◌, position, IfOk, IfErr, OnOk};
-ghost use Rattle.pg_listener.specs.Changes.{changed, is_named, statement_of, without_first};
+ghost use Rattle.pg_listener.specs.Changes.{changed, is_named, listens, statement_of, without_first};
 
 use crate::channels::{listen_each_text, listen_text, unlisten_all_text, unlisten_text};
 use pg_wire::{Error, Sequence, Text};
@@ -55,6 +55,16 @@ fn joined(alloc: Global, channels: &[Text], more: &[Text]) -> Result<Vec<Text>, 
 }
 
 impl ChannelChange {
+    /// Whether it listens to more channels, and not to fewer.
+    pub fn listens(&self) -> bool
+        ensures { result ≡ listens self.now }
+    {
+        match self {
+            ChannelChange::Listen(_) | ChannelChange::ListenAll(_) => true,
+            ChannelChange::Unlisten(_) | ChannelChange::UnlistenAll => false,
+        }
+    }
+
     /// The statement that asks the server for it. An `Err` is want of memory.
     /// (PostgreSQL manual, "SQL Commands", LISTEN, UNLISTEN.)
     pub fn statement(&self, alloc: Global) -> Result<Text, Error>

@@ -25,7 +25,8 @@ impl Model for PgNotification {
 }
 
 impl PgNotification {
-    pub(crate) fn over(told: Notification) -> Self
+    /// What a connection has told.
+    pub fn over(told: Notification) -> Self
         ensures { result ≡ told }
     {
         PgNotification { told }

@@ -1,0 +1,5 @@
+pub mod BufferLaws
+mod CallLaws
+mod HeldLaws
+pub mod ListeningLaws
+mod SaveLaws
