@@ -13,8 +13,8 @@ use pg_wire::{Error, IoCause, Poll};
 use std::alloc::Global;
 use std::sync::Wait;
 
-// A poll that answers `Pending` has waited for the link's own time.
-const POLLS: u32 = 1000;
+/// A poll that answers `Pending` has waited for the link's own time.
+pub(crate) const POLLS: u32 = 1000;
 
 fn dial_error(failed: DialFailed) -> Error {
     match failed {
