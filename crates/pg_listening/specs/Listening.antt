@@ -97,6 +97,11 @@ abbrev pub channels_behind : Poll (Result (Unit {0}) Error) → Option (List (Li
 channels_behind (Ready (Ok u)) (Some next) channels = next
 channels_behind answer behind channels = channels
 
+-- and none are to be made then
+abbrev pub behind_after : Poll (Result (Unit {0}) Error) → Option (List (List ℕ)) → Option (List (List ℕ))
+behind_after (Ready (Ok u)) behind = None
+behind_after answer behind = behind
+
 -- the answer as the core's: how many rows were counted is let go
 abbrev pub without_total : Poll (Result PgQueryResult Error) → Poll (Result (Unit {0}) Error)
 without_total Pending = Pending

@@ -9,7 +9,7 @@ ghost use Rattle.pg_conn.specs.News.{PollsNews, given, with_kept};
 ghost use Rattle.pg_listener.specs.Changes.{changed};
 ghost use Rattle.pg_listener.specs.Channels.{listen_each_text};
 ghost use Rattle.pg_listening.specs.Buffers.{Hears, kept_on, buffered, news_begun};
-ghost use Rattle.pg_listening.specs.Listening.{FailsOn, OnHeld, PollsStatement, Starts, StaysHeld, buffers_by, channels_behind, query_of, stored_behind, stream_in, waits};
+ghost use Rattle.pg_listening.specs.Listening.{FailsOn, OnHeld, PollsStatement, Starts, StaysHeld, behind_after, buffers_by, channels_behind, query_of, stored_behind, stream_in, waits};
 
 use crate::ChannelChange;
 use crate::holding::{begin, end, poll_news, poll_statement, save, start_statement, take_oldest};
@@ -243,7 +243,7 @@ impl<C: PgExecutor> Listening<C> {
         ensures polls { OnHeld (λ a b. PollsStatement left.old a b result) C.conn C.L.seen self.old.conn self.new.conn }
         ensures holder { StaysHeld C.conn C.with_conn self.old.conn self.new.conn }
         ensures channels { self.new.channels ≡ channels_behind result self.old.behind self.old.channels }
-        ensures behind { self.old.behind ≡ None → self.new.behind ≡ None }
+        ensures behind { self.new.behind ≡ behind_after result self.old.behind }
         ensures asking { self.new.is_asking ≡ waits result }
     {
         let Some(conn) = &mut self.conn else {
