@@ -1,0 +1,5 @@
+pub mod OpeningLaws
+pub mod RequestLaws
+pub mod SessionLaws
+pub mod AnswerLaws
+pub mod ForceLaws
