@@ -3,3 +3,4 @@ pub mod RoomLaws
 pub mod ReleaseLaws
 pub mod HeldLaws
 pub mod CallLaws
+pub mod AskedLaws

@@ -3,3 +3,4 @@ pub mod Rooms
 pub mod Held
 pub mod Flags
 pub mod Locking
+pub mod Giving
