@@ -12,18 +12,22 @@
 //!     call      a call
 //!     exchange  a guard's connection is exchanged for the other one
 //!
-//! For each it prints what the calls answered, and what was sent behind the start-up.
+//! For each it prints what the calls answered, and what was sent behind the start-up. A word that is a URL, as
+//! `postgres://USER@HOST:PORT/DATABASE`, is a server on which two connections contend for a lock.
 #![tactic(auto)]
 
 mod calls;
 mod case;
+mod dialling;
 mod exchange;
+mod live;
 mod opening;
 mod telling;
 
 use crate::calls::call;
 use crate::case::{behind, entry};
 use crate::exchange::exchange;
+use crate::live::live;
 use crate::opening::connect;
 use crate::telling::push_sent;
 use pg_conn::PgConnection;
@@ -100,9 +104,29 @@ fn play_file(rt: &HostRuntime, file: &str) -> io::Result<()> {
     Ok(())
 }
 
+fn contend(rt: &HostRuntime, url: &str) -> Result<String, Error> {
+    let mut told = String::new(rt.alloc());
+    let mut first = dialling::connect(rt, url)?;
+    let mut other = dialling::connect(rt, url)?;
+    live(&mut first, &mut other, &mut told)?;
+    Ok(told)
+}
+
+fn play_server(rt: &HostRuntime, url: &str) -> io::Result<()> {
+    match contend(rt, url) {
+        Ok(told) => print!(rt; "{told}"),
+        Err(error) => println!(rt; "{error:?}"),
+    }
+}
+
 fn main(rt: HostRuntime) -> io::Result<()> {
-    for file in env::args(&rt)?.skip(1) {
-        play_file(&rt, file.as_str())?;
+    for word in env::args(&rt)?.skip(1) {
+        let word = word.as_str();
+        if word.starts_with("postgres://") {
+            play_server(&rt, word)?;
+        } else {
+            play_file(&rt, word)?;
+        }
     }
     Ok(())
 }
