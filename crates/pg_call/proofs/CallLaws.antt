@@ -52,7 +52,7 @@ use Rattle.pg_call.specs.Calls.{answer_by, IsDraining, IsReplying, owes_own, owe
 use Rattle.pg_call.proofs.DrainLaws.{count-push, count-same, after_below, after_from, before_below, before_from, failed-push, fails-push, still_failed, no_more_failed}
 use Rattle.pg_call.proofs.ItemLaws.{items-push, heading-push, tally-more, parameters-push}
 use Rattle.pg_wire.specs.Refusals.{BeginsCopyResponse}
-use Rattle.pg_call.proofs.RefusedLaws.{Describes, describes_after, described_columns, group_refused, group_copies}
+use Rattle.pg_call.proofs.RefusedLaws.{Describes, describes_after, described_columns, group_refused, group_copies, opens_for}
 use Rattle.pg_wire.proofs.Each.{each_end}
 use Rattle.pg_wire.proofs.Unique.{backend_frame_unique}
 
@@ -144,6 +144,7 @@ drain_takes f a b w beats.More fails k some d start r said hs items i =
     rw (d.2, d.1, k) (i.0, i.1, i.2, drained start said hs items a.ledger w.is_copy_failed f some d.0 i.3, i.4, i.5, i.6)
 drain_takes f a b w beats.Waits fails k some d start r said hs items i = absurd d
 drain_takes f a b w (beats.Yields item) fails k some d start r said hs items i = absurd d
+drain_takes f a b w (beats.Opens opened) fails k some d start r said hs items i = absurd d
 drain_takes f a b w (beats.Ends answer) fails k some d start r said hs items i =
     let tag : f.tag ≡ 69 = sym (ap (λ (g : Frame). g.tag) d.1.1) in
     rw (d.4, d.2, d.3, append-nil said) (
@@ -256,6 +257,7 @@ no_groups_close (requests.FetchOne query) e = absurd cc
 no_groups_close (requests.Begin depth) e = absurd cc
 no_groups_close (requests.BeginWith query) e = absurd cc
 no_groups_close (requests.CopyOut query) e = absurd cc
+no_groups_close (requests.CopyIn feed) e = absurd cc
 no_groups_close (requests.Commit left) e = absurd cc
 no_groups_close (requests.Rollback left) e = absurd cc
 
@@ -294,6 +296,7 @@ finished_last kinds.Begin t status = begun_last status
 finished_last kinds.Commit t status = tt
 finished_last kinds.Rollback t status = tt
 finished_last kinds.CopyOut t status = tt
+finished_last kinds.CopyIn t status = tt
 finished_last kinds.Ping t status = tt
 finished_last kinds.Flush t status = tt
 finished_last kinds.Close t status = tt
@@ -315,6 +318,7 @@ plain_messages (requests.FetchOne query) n = refl
 plain_messages (requests.Begin depth) n = refl
 plain_messages (requests.BeginWith query) n = refl
 plain_messages (requests.CopyOut query) n = refl
+plain_messages (requests.CopyIn feed) n = sym (append-nil (said_in (groups_of (requests.CopyIn feed))))
 plain_messages (requests.Commit left) n = refl
 plain_messages (requests.Rollback left) n = refl
 plain_messages (requests.Describe extended) n = refl
@@ -470,6 +474,9 @@ no_ready parts.CopyFirst next status e = absurd cc
 no_ready parts.CopyData next status e = absurd cc
 no_ready parts.CopyEnd next status e = absurd cc
 no_ready parts.Copied next status e = absurd cc
+no_ready (parts.Opening ended) next status e = absurd cc
+no_ready (parts.Feeding true) next status e = absurd cc
+no_ready (parts.Feeding false) next status e = absurd cc
 
 no_error : (part next : Part) (details : List ErrorField) → goes_on part (ErrorResponse details) ≡ Some next → ⊥
 no_error parts.First next details e = absurd cc
@@ -488,6 +495,9 @@ no_error parts.CopyFirst next details e = absurd cc
 no_error parts.CopyData next details e = absurd cc
 no_error parts.CopyEnd next details e = absurd cc
 no_error parts.Copied next details e = absurd cc
+no_error (parts.Opening ended) next details e = absurd cc
+no_error (parts.Feeding true) next details e = absurd cc
+no_error (parts.Feeding false) next details e = absurd cc
 
 goes_plain : (part next : Part) (m : BackendMessage) → goes_on part m ≡ Some next → (is_ready (backend_frame m) ≡ false) × (is_error (backend_frame m) ≡ false)
 goes_plain part next (ReadyForQuery status) e = absurd (no_ready part next status e)
@@ -503,6 +513,7 @@ copies_plain part (ReadyForQuery status) e = absurd (none part e)
     none (parts.Running width) e = cc
     none parts.CopyFirst e = cc
     none parts.Copied e = cc
+    none (parts.Opening ended) e = cc
     none _ e = cc
 copies_plain part (ErrorResponse details) e = absurd (none part e)
   where
@@ -512,6 +523,7 @@ copies_plain part (ErrorResponse details) e = absurd (none part e)
     none (parts.Running width) e = cc
     none parts.CopyFirst e = cc
     none parts.Copied e = cc
+    none (parts.Opening ended) e = cc
     none _ e = cc
 copies_plain part _ e = (refl, refl)
 
@@ -535,6 +547,11 @@ own_takes start r said hs items reply reply' m heards.More ledger b taken have h
 own_takes start r said hs items reply reply' m (heards.Yields item) ledger b taken have h f o can i =
     let g = goes_plain reply.part h.0 m h.1 in
     rw (f.1, f.0, append-nil said, h.2) (o, can, rw h.3 at (went_on start r said hs items reply h.0 m have h.1 g.0 g.1 i))
+own_takes start r said hs items reply reply' m (heards.Opens opened) ledger b taken have h f o can i =
+    let g = goes_plain reply.part h.0 m h.1 in
+    let none : items ++ filter (yields reply.kind) (item_by reply.heading (news_of m)) ≡ items = ap (λ (t : List CallItem). items ++ t) h.3 ∙ append-nil items in
+    let opens = opens_for r i.own reply.part h.0 m opened i.so_far h.1 h.4 in
+    rw (f.1, f.0, append-nil said, h.2) ((o, can, rw none at (went_on start r said hs items reply h.0 m have h.1 g.0 g.1 i)), opens.0, opens.1)
 own_takes start r said hs items reply reply' m (heards.Failed error) ledger b taken have h f o can i =
     rw (f.1, f.0, o, h.0) (own_fails start r said hs items reply error can (rw h.0 at have) i)
 own_takes start r said hs items reply reply' m (heards.Closed status) ledger b taken have h f o can i =
@@ -622,6 +639,7 @@ drained_stays : (f : Frame) (a b : Running) (w : Waiting) (beat : Beat) (fails :
 drained_stays f a b w beats.More fails k d = rw (d.1, k) tt
 drained_stays f a b w beats.Waits fails k d = absurd d
 drained_stays f a b w (beats.Yields item) fails k d = absurd d
+drained_stays f a b w (beats.Opens opened) fails k d = absurd d
 drained_stays f a b w (beats.Ends answer) fails k d = rw d.3 tt
 
 pub drains_stay : (tag : ℕ) (body : List ℕ) (a b : Running) (w : Waiting) (result : Result Taken Error) → a.call ≡ calls.Waiting w → IfOk result (Drains tag body w.is_copy_failed (as_call a.ledger (calls.Waiting w)) b)
@@ -632,6 +650,7 @@ drains_stay tag body a b w (Err e) k d = tt
 pub own_stays : (tag : ℕ) (a b : Running) (reply reply' : Reply) (heard : Heard) (taken : Taken) → a.call ≡ calls.Own reply → Follows tag heard (as_call a.ledger (calls.Own reply')) b taken → StaysIn a.call taken.fails_copy b.call
 own_stays tag a b reply reply' heards.More taken k f = rw (k, f.0, f.1) refl
 own_stays tag a b reply reply' (heards.Yields item) taken k f = rw (k, f.0, f.1) refl
+own_stays tag a b reply reply' (heards.Opens opened) taken k f = rw (k, f.0, f.1) refl
 own_stays tag a b reply reply' (heards.Failed error) taken k f = rw f.0 tt
 own_stays tag a b reply reply' (heards.Closed status) taken k f = rw f.0 tt
 own_stays tag a b reply reply' heards.Strays taken k f = rw f.0 tt

@@ -19,7 +19,7 @@ use Rattle.pg_call.specs.declared.judging.Part.TheVariants.{CopyFirst, CopyData,
 use Rattle.pg_call.specs.Replies.{goes_on, part_after, begins_segment, may_stray, MayNotCome}
 
 -- a part of a copy, and what a server that may copy goes on with there
-abbrev IsCopying : Part → Type 0
+abbrev pub IsCopying : Part → Type 0
 IsCopying CopyFirst = Unit {0}
 IsCopying CopyData = Unit {0}
 IsCopying CopyEnd = Unit {0}
@@ -62,6 +62,10 @@ copied_after part q (m ∷ ms) i e = by (goes_on part m) refl (λ n j k. copied_
         let on = copied_on part n m i g in
         let rest = f n on.1 k in
         (ap (λ (x : Option Expects). option_and_then (λ y. takes y ms) x) on.0 ∙ rest.0, rest.1)
+
+-- so nothing else is awaited behind its beginning
+pub copied_parts : (own : List BackendMessage) (q : Part) → part_after CopyFirst own ≡ Some q → IsCopying q
+copied_parts own q e = (copied_after CopyFirst q own tt e).1
 
 -- ---- what may not come is refused
 

@@ -8,6 +8,7 @@ use Rattle.pg_call.specs.contracts.statement.Prepared as Prepared
 use Rattle.pg_call.specs.contracts.statement.After as After
 use Rattle.pg_call.specs.contracts.statement.Eviction as Eviction
 use Rattle.pg_call.specs.contracts.statement.Rest as Rest
+use Rattle.pg_call.specs.contracts.feed.Feed as Feed
 use Rattle.pg_call.specs.contracts.request.Request as Request
 use Rattle.pg_call.specs.contracts.waiting.Waiting as Waiting
 use Rattle.pg_call.specs.contracts.tally.Tally as Tally
@@ -49,8 +50,11 @@ eviction_send = search (after_send, wire, sendable, crosses) depth 20
 rest_send : IsSend Rest.the_field.row
 rest_send = search (extended_send, after_send, prepared_send, sendable, crosses) depth 20
 
+feed_send : IsSend Feed.the_field.row
+feed_send = search (plain, wire, sendable, crosses) depth 20
+
 pub request_send : IsSend Request.the_field.row
-request_send = search (extended_send, bound_send, eviction_send, prepared_send, plain, wire, sendable, crosses) depth 30
+request_send = search (extended_send, bound_send, eviction_send, prepared_send, feed_send, plain, wire, sendable, crosses) depth 30
 
 waiting_send : IsSend Waiting.the_field.row
 waiting_send = search (rest_send, heading_send, plain, wire, sendable, crosses) depth 20

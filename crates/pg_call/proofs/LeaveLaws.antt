@@ -148,6 +148,7 @@ no_groups_flush (requests.FetchOne query) e = absurd cc
 no_groups_flush (requests.Begin depth) e = absurd cc
 no_groups_flush (requests.BeginWith query) e = absurd cc
 no_groups_flush (requests.CopyOut query) e = absurd cc
+no_groups_flush (requests.CopyIn feed) e = absurd cc
 no_groups_flush (requests.Commit left) e = absurd cc
 no_groups_flush (requests.Rollback left) e = absurd cc
 
@@ -207,6 +208,7 @@ one_of (requests.FetchOne query) f c = (refl, refl)
 one_of (requests.Begin depth) f c = (refl, refl)
 one_of (requests.BeginWith query) f c = (refl, refl)
 one_of (requests.CopyOut query) f c = (refl, refl)
+one_of (requests.CopyIn feed) f c = (refl, sym (append-nil (said_in (groups_of (requests.CopyIn feed)))))
 one_of (requests.Commit left) f c = (refl, refl)
 one_of (requests.Rollback left) f c = (refl, refl)
 one_of (requests.Describe extended) f c = (refl, refl)
@@ -237,6 +239,7 @@ close_kind (requests.FetchOne query) e = absurd cc
 close_kind (requests.Begin depth) e = absurd cc
 close_kind (requests.BeginWith query) e = absurd cc
 close_kind (requests.CopyOut query) e = absurd cc
+close_kind (requests.CopyIn feed) e = absurd cc
 close_kind (requests.Commit left) e = absurd cc
 close_kind (requests.Rollback left) e = absurd cc
 

@@ -5,6 +5,8 @@ pub mod ItemLaws
 pub mod RefusedLaws
 pub mod CopyBegun
 pub mod CopyOutLaws
+pub mod CopyInLaws
+pub mod FeedLaws
 pub mod CallLaws
 pub mod LeaveLaws
 pub mod FitLaws

@@ -9,8 +9,8 @@ use Rattle.pg_wire.specs.Backend.{FieldDescription, Values, BackendMessage, back
 use Rattle.pg_wire.specs.Decoding.{Says}
 use Rattle.pg_wire.proofs.Unique.{backend_frame_unique}
 use Rattle.pg_call.specs.declared.judging.Part.{Part}
-use Rattle.pg_call.specs.declared.judging.Part.TheVariants.{First, Further, Rows, Synced, Parsing, Typing, Describing, Described, Binding, Running, RunningOn, Closing, CopyFirst, CopyData, CopyEnd, Copied}
-use Rattle.pg_call.specs.Replies.{goes_on, goes_plainly, may_stray, may_close, after_row, after_bind, after_close, after_columns, after_end, stray_tags, tags_of, MayNotCome, IsAny, IsFault, Judges}
+use Rattle.pg_call.specs.declared.judging.Part.TheVariants.{First, Further, Rows, Synced, Parsing, Typing, Describing, Described, Binding, Running, RunningOn, Closing, CopyFirst, CopyData, CopyEnd, Copied, Opening, Feeding}
+use Rattle.pg_call.specs.Replies.{goes_on, goes_plainly, may_stray, may_close, after_row, after_bind, after_close, after_columns, after_end, after_opening, stray_tags, tags_of, MayNotCome, IsAny, IsFault, Judges}
 use Rattle.pg_call.specs.declared.judging.Verdict.{Verdict}
 use Rattle.pg_call.specs.declared.judging.News.TheVariants.{Nothing}
 use Rattle.pg_call.specs.Items.{news_of}
@@ -20,32 +20,46 @@ closes_at Further k = refl
 closes_at Synced k = refl
 closes_at (Described columns) k = refl
 closes_at Copied k = refl
+closes_at (Feeding true) k = absurd cc
+closes_at (Feeding false) k = absurd cc
 closes_at _ k = absurd cc
 
 pub describes_at : (part : Part) (fields : List FieldDescription) → is_known (tags_of part) 84 ≡ true → goes_on part (RowDescription fields) ≡ Some (after_columns part (length fields))
 describes_at First fields k = refl
 describes_at Further fields k = refl
 describes_at Describing fields k = refl
+describes_at (Feeding true) fields k = absurd cc
+describes_at (Feeding false) fields k = absurd cc
 describes_at _ fields k = absurd cc
 
 pub describes_none_at : (part : Part) → is_known (tags_of part) 110 ≡ true → goes_on part NoData ≡ Some (Described 0)
 describes_none_at Describing k = refl
+describes_none_at (Feeding true) k = absurd cc
+describes_none_at (Feeding false) k = absurd cc
 describes_none_at _ k = absurd cc
 
 pub types_at : (part : Part) (types : List ℕ) → is_known (tags_of part) 116 ≡ true → goes_on part (ParameterDescription types) ≡ Some Describing
 types_at Typing types k = refl
+types_at (Feeding true) types k = absurd cc
+types_at (Feeding false) types k = absurd cc
 types_at _ types k = absurd cc
 
 pub parses_at : (part : Part) → is_known (tags_of part) 49 ≡ true → goes_on part ParseComplete ≡ Some Typing
 parses_at Parsing k = refl
+parses_at (Feeding true) k = absurd cc
+parses_at (Feeding false) k = absurd cc
 parses_at _ k = absurd cc
 
 pub binds_at : (part : Part) → is_known (tags_of part) 50 ≡ true → goes_on part BindComplete ≡ Some (after_bind part)
 binds_at (Binding width) k = refl
+binds_at (Feeding true) k = absurd cc
+binds_at (Feeding false) k = absurd cc
 binds_at _ k = absurd cc
 
 pub closes_one_at : (part : Part) → is_known (tags_of part) 51 ≡ true → goes_on part CloseComplete ≡ Some (after_close part)
 closes_one_at (Closing more) k = refl
+closes_one_at (Feeding true) k = absurd cc
+closes_one_at (Feeding false) k = absurd cc
 closes_one_at _ k = absurd cc
 
 pub ends_at : (part : Part) (tag : List ℕ) → is_known (tags_of part) 67 ≡ true → goes_on part (CommandComplete tag) ≡ Some (after_end part)
@@ -55,6 +69,8 @@ ends_at (Rows columns) tag k = refl
 ends_at (Running width) tag k = refl
 ends_at (RunningOn columns) tag k = refl
 ends_at CopyEnd tag k = refl
+ends_at (Feeding true) tag k = refl
+ends_at (Feeding false) tag k = absurd cc
 ends_at _ tag k = absurd cc
 
 pub empties_at : (part : Part) → is_known (tags_of part) 73 ≡ true → goes_on part EmptyQueryResponse ≡ Some (after_end part)
@@ -62,18 +78,32 @@ empties_at First k = refl
 empties_at Further k = refl
 empties_at (Running width) k = refl
 empties_at (RunningOn columns) k = refl
+empties_at (Feeding true) k = absurd cc
+empties_at (Feeding false) k = absurd cc
 empties_at _ k = absurd cc
+
+pub opens_at : (part : Part) (format : ℤ) (columns : List ℤ) → is_known (tags_of part) 71 ≡ true → goes_on part (CopyInResponse format columns) ≡ Some (after_opening part)
+opens_at (Opening ended) format columns k = refl
+opens_at (Feeding true) format columns k = absurd cc
+opens_at (Feeding false) format columns k = absurd cc
+opens_at _ format columns k = absurd cc
 
 pub begins_copy_at : (part : Part) (format : ℤ) (columns : List ℤ) → is_known (tags_of part) 72 ≡ true → goes_on part (CopyOutResponse format columns) ≡ Some CopyData
 begins_copy_at CopyFirst format columns k = refl
+begins_copy_at (Feeding true) format columns k = absurd cc
+begins_copy_at (Feeding false) format columns k = absurd cc
 begins_copy_at _ format columns k = absurd cc
 
 pub copies_at : (part : Part) (bytes : List ℕ) → is_known (tags_of part) 100 ≡ true → goes_on part (BackendCopyData bytes) ≡ Some CopyData
 copies_at CopyData bytes k = refl
+copies_at (Feeding true) bytes k = absurd cc
+copies_at (Feeding false) bytes k = absurd cc
 copies_at _ bytes k = absurd cc
 
 pub ends_copy_at : (part : Part) → is_known (tags_of part) 99 ≡ true → goes_on part BackendCopyDone ≡ Some CopyEnd
 ends_copy_at CopyData k = refl
+ends_copy_at (Feeding true) k = absurd cc
+ends_copy_at (Feeding false) k = absurd cc
 ends_copy_at _ k = absurd cc
 
 -- another reply than the one that is awaited
@@ -98,6 +128,11 @@ strays_by Copied EmptyQueryResponse k = refl
 strays_by Copied (CopyInResponse format columns) k = refl
 strays_by Copied (CopyOutResponse format columns) k = refl
 strays_by Copied _ k = absurd cc
+strays_by (Opening ended) (RowDescription fields) k = refl
+strays_by (Opening ended) (CommandComplete tag) k = refl
+strays_by (Opening ended) EmptyQueryResponse k = refl
+strays_by (Opening ended) (CopyOutResponse format columns) k = refl
+strays_by (Opening ended) _ k = absurd cc
 strays_by _ m k = absurd cc
 
 pub strays_at : (part : Part) (tag : ℕ) (body : List ℕ) (m : BackendMessage) → Says tag body m → is_known (stray_tags part) tag ≡ true → may_stray part m ≡ true
@@ -194,6 +229,21 @@ untold Copied (CopyInResponse format columns) k s = absurd cc
 untold Copied (CopyOutResponse format columns) k s = absurd cc
 untold Copied (ReadyForQuery status) k s = absurd cc
 untold Copied _ k s = (refl, refl)
+untold (Opening ended) (RowDescription fields) k s = absurd cc
+untold (Opening ended) (CommandComplete tag) k s = absurd cc
+untold (Opening ended) EmptyQueryResponse k s = absurd cc
+untold (Opening ended) (ErrorResponse details) k s = absurd cc
+untold (Opening ended) (CopyInResponse format columns) k s = absurd cc
+untold (Opening ended) (CopyOutResponse format columns) k s = absurd cc
+untold (Opening ended) (ReadyForQuery status) k s = refl
+untold (Opening ended) _ k s = (refl, refl)
+untold (Feeding true) (CommandComplete tag) k s = absurd cc
+untold (Feeding true) (ErrorResponse details) k s = absurd cc
+untold (Feeding true) (ReadyForQuery status) k s = refl
+untold (Feeding true) _ k s = (refl, refl)
+untold (Feeding false) (ErrorResponse details) k s = absurd cc
+untold (Feeding false) (ReadyForQuery status) k s = refl
+untold (Feeding false) _ k s = (refl, refl)
 
 out_of_place : (part : Part) (m : BackendMessage) (tag : ℕ) (body : List ℕ) → Says tag body m → is_known (tags_of part) tag ≡ false → is_known (stray_tags part) tag ≡ false → MayNotCome part m
 out_of_place part m tag body s k x = untold part m (ap (λ (f : Frame). is_known (tags_of part) f.tag) s.1 ∙ k) (ap (λ (f : Frame). is_known (stray_tags part) f.tag) s.1 ∙ x)
@@ -227,6 +277,9 @@ row_goes CopyFirst next values e = absurd cc
 row_goes CopyData next values e = absurd cc
 row_goes CopyEnd next values e = absurd cc
 row_goes Copied next values e = absurd cc
+row_goes (Opening ended) next values e = absurd cc
+row_goes (Feeding true) next values e = absurd cc
+row_goes (Feeding false) next values e = absurd cc
 
 unfitting : (part : Part) (values : Values) → after_row part (length values) ≡ None → MayNotCome part (DataRow values)
 unfitting (Rows columns) values e = (e, refl)
@@ -245,6 +298,9 @@ unfitting CopyFirst values e = (refl, refl)
 unfitting CopyData values e = (refl, refl)
 unfitting CopyEnd values e = (refl, refl)
 unfitting Copied values e = (refl, refl)
+unfitting (Opening ended) values e = (refl, refl)
+unfitting (Feeding true) values e = (refl, refl)
+unfitting (Feeding false) values e = (refl, refl)
 
 pub other_width : (part : Part) (values : Values) (body : List ℕ) (e : Error) → Says 68 body (DataRow values) → after_row part (length values) ≡ None → IsFault IsAny 68 body e → Judges part 68 body (Err e)
 other_width part values body e s n h =

@@ -1,5 +1,5 @@
 -- A request that is refused is refused for want of memory or by a fault of the caller's.
-use Rattle.std.proofs.Common.{◌≡◌, ◌⊎◌, inl, inr, ℕ, refl, Option, Some, None}
+use Rattle.std.proofs.Common.{◌≡◌, ◌⊎◌, inl, inr, ℕ, List, [], ◌∷◌, refl, Option, Some, None}
 use Rattle.pg_wire.specs.declared.error.Error.{Error}
 use Rattle.pg_wire.specs.declared.error.Error.TheVariants as errors
 use Rattle.pg_wire.specs.declared.error.CallerFault.{CallerFault}
@@ -9,7 +9,7 @@ use Rattle.pg_request.specs.Queries.{QueryText}
 use Rattle.pg_call.specs.declared.statement.Extended.{Extended}
 use Rattle.pg_call.specs.declared.request.Request.{Request}
 use Rattle.pg_call.specs.declared.request.Request.TheVariants as requests
-use Rattle.pg_call.specs.Requests.{query_of, RefusesQuery, RefusesExtended, IsRefusal}
+use Rattle.pg_call.specs.Requests.{query_of, RefusesPieces, RefusesQuery, RefusesExtended, IsRefusal}
 
 abbrev pub IsCallers : Error → Type 0
 IsCallers e = (e ≡ errors.OutOfMemory) ⊎ ((fault : CallerFault) × (e ≡ errors.Protocol (protocol.Caller fault)))
@@ -28,6 +28,11 @@ query_is : (query : Option QueryText) (e : Error) → RefusesQuery query e → I
 query_is None e h = inl h
 query_is (Some query) e h = refuses_is 0 _ _ e h
 
+pieces_is : (pieces : List (List ℕ)) (e : Error) → RefusesPieces pieces e → IsCallers e
+pieces_is [] e h = inl h
+pieces_is (piece ∷ pieces) e (inl h) = refuses_is 0 _ _ e h
+pieces_is (piece ∷ pieces) e (inr h) = pieces_is pieces e h
+
 pub refusal_is : (r : Request) (e : Error) → IsRefusal r e → IsCallers e
 refusal_is (requests.Describe extended) e h = extended_is extended e h
 refusal_is (requests.Run bound) e h = refuses_is _ _ _ e h
@@ -41,6 +46,8 @@ refusal_is (requests.FetchOne query) e h = query_is (Some query) e h
 refusal_is (requests.Begin depth) e h = query_is (query_of (requests.Begin depth)) e h
 refusal_is (requests.BeginWith query) e h = query_is (Some query) e h
 refusal_is (requests.CopyOut query) e h = query_is (Some query) e h
+refusal_is (requests.CopyIn feed) e (inl h) = query_is (Some feed.query) e h
+refusal_is (requests.CopyIn feed) e (inr h) = pieces_is feed.pieces e h
 refusal_is (requests.Commit left) e h = query_is (query_of (requests.Commit left)) e h
 refusal_is (requests.Rollback left) e h = query_is (query_of (requests.Rollback left)) e h
 refusal_is (requests.Evict eviction) e h = query_is None e h
@@ -58,6 +65,7 @@ memory_refuses (requests.Evict eviction) = refl
 memory_refuses (requests.Prepare prepared) = refl
 memory_refuses (requests.Clear statements) = refl
 memory_refuses requests.Ping = refl
+memory_refuses (requests.CopyIn feed) = inl tt
 memory_refuses requests.Flush = refl
 memory_refuses requests.Close = refl
 memory_refuses _ = tt

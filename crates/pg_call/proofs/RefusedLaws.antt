@@ -16,14 +16,19 @@ use Rattle.pg_exchanges.specs.Answering.{described, running}
 use Rattle.pg_exchanges.specs.Answering.{closing as closing_group}
 use Rattle.pg_exchanges.proofs.ExpectingLaws.{refused_begins_no_group_response}
 use Rattle.pg_call.proofs.CopyBegun.{copy_begins_response, copy_begins_run}
-use Rattle.pg_call.proofs.CopyOutLaws.{copy_refused, copy_strays}
+use Rattle.pg_call.proofs.CopyOutLaws.{copy_refused, copy_strays, copied_parts}
+use Rattle.pg_call.proofs.CopyInLaws.{feed_refused, feed_strays}
+use Rattle.pg_call.specs.declared.kind.Kind.TheVariants as kinds
+use Rattle.pg_call.specs.Hearing.{Opens, opens_at}
+use Rattle.pg_wire.specs.declared.message.copy_response.CopyResponseData.{CopyResponseData}
+use Rattle.pg_call.specs.declared.reply.Heard.TheVariants as heards
 use Rattle.pg_call.specs.declared.request.Request.{Request}
 use Rattle.pg_call.specs.declared.request.Request.TheVariants as requests
 use Rattle.pg_call.specs.declared.judging.Part.{Part}
-use Rattle.pg_call.specs.declared.judging.Part.TheVariants.{First, Further, Rows, Synced, Parsing, Typing, Describing, Described, Binding, Running, RunningOn, Closing, CopyFirst, CopyData, CopyEnd, Copied}
+use Rattle.pg_call.specs.declared.judging.Part.TheVariants.{First, Further, Rows, Synced, Parsing, Typing, Describing, Described, Binding, Running, RunningOn, Closing, CopyFirst, CopyData, CopyEnd, Copied, Opening, Feeding}
 use Rattle.pg_rows.specs.declared.heading.Heading.{Heading}
-use Rattle.pg_call.specs.Requests.{Group, groups_of, known, name_of, width_of, widths_of}
-use Rattle.pg_call.specs.Items.{heading_after}
+use Rattle.pg_call.specs.Requests.{Group, groups_of, kind_of, known, name_of, width_of, widths_of}
+use Rattle.pg_call.specs.Items.{heading_after, news_of}
 use Rattle.pg_call.specs.Replies.{awaited, awaits_first, begins, begins_copy, closing, goes_on, part_after, may_stray, MayNotCome}
 
 -- ---- the reply goes on as the protocol says
@@ -69,6 +74,8 @@ IsPlain CopyFirst = ⊥
 IsPlain CopyData = ⊥
 IsPlain CopyEnd = ⊥
 IsPlain Copied = ⊥
+IsPlain (Opening ended) = ⊥
+IsPlain (Feeding ended) = ⊥
 IsPlain _ = Unit {0}
 
 abbrev IsPlainOr : Option Part → Type 0
@@ -128,6 +135,8 @@ goes_plain CopyFirst m i = absurd i
 goes_plain CopyData m i = absurd i
 goes_plain CopyEnd m i = absurd i
 goes_plain Copied m i = absurd i
+goes_plain (Opening ended) m i = absurd i
+goes_plain (Feeding ended) m i = absurd i
 
 plain_on : (part next : Part) (m : BackendMessage) → IsPlain part → goes_on part m ≡ Some next → IsPlain next
 plain_on part next m i e = subst IsPlainOr e (goes_plain part m i)
@@ -164,6 +173,8 @@ gone CopyFirst m i = absurd i
 gone CopyData m i = absurd i
 gone CopyEnd m i = absurd i
 gone Copied m i = absurd i
+gone (Opening ended) m i = absurd i
+gone (Feeding ended) m i = absurd i
 
 followed : (part next : Part) (m : BackendMessage) → IsPlain part → goes_on part m ≡ Some next → following (awaited part) m ≡ Some (awaited next)
 followed part next m i e = subst (Leads (following (awaited part) m)) e (gone part m i)
@@ -248,6 +259,8 @@ refused CopyFirst m i h = absurd i
 refused CopyData m i h = absurd i
 refused CopyEnd m i h = absurd i
 refused Copied m i h = absurd i
+refused (Opening ended) m i h = absurd i
+refused (Feeding ended) m i h = absurd i
 
 -- ---- the groups that calls queue
 
@@ -261,27 +274,37 @@ closes_end : (names : List (List ℕ)) → AllByRecursion IsInner (map CloseStat
 closes_end [] = tt
 closes_end (name ∷ names) = (tt, closes_end names)
 
-pub groups_are : (r : Request) → AllByRecursion IsGroup (groups_of r)
-groups_are (requests.Execute query) = (inl (query.sql, refl), tt)
-groups_are (requests.ExecuteMany query) = (inl (query.sql, refl), tt)
-groups_are (requests.Fetch query) = (inl (query.sql, refl), tt)
-groups_are (requests.FetchMany query) = (inl (query.sql, refl), tt)
-groups_are (requests.FetchAll query) = (inl (query.sql, refl), tt)
-groups_are (requests.FetchOptional query) = (inl (query.sql, refl), tt)
-groups_are (requests.FetchOne query) = (inl (query.sql, refl), tt)
-groups_are (requests.Begin depth) = (inl (_, refl), tt)
-groups_are (requests.BeginWith query) = (inl (query.sql, refl), tt)
-groups_are (requests.CopyOut query) = (inl (query.sql, refl), tt)
-groups_are (requests.Commit left) = (inl (_, refl), tt)
-groups_are (requests.Rollback left) = (inl (_, refl), tt)
-groups_are (requests.Describe x) = (inr (Parse (name_of x.statement) x.sql x.arguments.types ∷ DescribeStatement (name_of x.statement) ∷ [], (tt, (tt, tt)), refl), tt)
-groups_are (requests.Run bound) = (inr (Bind (name_of bound.statement) bound.arguments.values ∷ Execute [] 0 ∷ ClosePortal [] ∷ [], (tt, (tt, (tt, tt))), refl), tt)
-groups_are (requests.Evict eviction) = (inr (CloseStatement (name_of eviction.statement) ∷ [], (tt, tt), refl), tt)
-groups_are (requests.Clear statements) = (inr (map CloseStatement (map name_of statements), closes_end (map name_of statements), refl), tt)
-groups_are (requests.Prepare prepared) = tt
-groups_are requests.Ping = (inr ([], tt, refl), tt)
-groups_are requests.Flush = tt
-groups_are requests.Close = tt
+-- what is asked begins with no copy from the client
+abbrev IsPlainStart : Request → Type 0
+IsPlainStart (requests.CopyIn feed) = ⊥
+IsPlainStart r = Unit {0}
+
+plain_start : (r : Request) → IsPlain (awaits_first r) → IsPlainStart r
+plain_start (requests.CopyIn feed) i = absurd i
+plain_start _ i = tt
+
+pub groups_are : (r : Request) → IsPlainStart r → AllByRecursion IsGroup (groups_of r)
+groups_are (requests.Execute query) i = (inl (query.sql, refl), tt)
+groups_are (requests.ExecuteMany query) i = (inl (query.sql, refl), tt)
+groups_are (requests.Fetch query) i = (inl (query.sql, refl), tt)
+groups_are (requests.FetchMany query) i = (inl (query.sql, refl), tt)
+groups_are (requests.FetchAll query) i = (inl (query.sql, refl), tt)
+groups_are (requests.FetchOptional query) i = (inl (query.sql, refl), tt)
+groups_are (requests.FetchOne query) i = (inl (query.sql, refl), tt)
+groups_are (requests.Begin depth) i = (inl (_, refl), tt)
+groups_are (requests.BeginWith query) i = (inl (query.sql, refl), tt)
+groups_are (requests.CopyOut query) i = (inl (query.sql, refl), tt)
+groups_are (requests.CopyIn feed) i = absurd i
+groups_are (requests.Commit left) i = (inl (_, refl), tt)
+groups_are (requests.Rollback left) i = (inl (_, refl), tt)
+groups_are (requests.Describe x) i = (inr (Parse (name_of x.statement) x.sql x.arguments.types ∷ DescribeStatement (name_of x.statement) ∷ [], (tt, (tt, tt)), refl), tt)
+groups_are (requests.Run bound) i = (inr (Bind (name_of bound.statement) bound.arguments.values ∷ Execute [] 0 ∷ ClosePortal [] ∷ [], (tt, (tt, (tt, tt))), refl), tt)
+groups_are (requests.Evict eviction) i = (inr (CloseStatement (name_of eviction.statement) ∷ [], (tt, tt), refl), tt)
+groups_are (requests.Clear statements) i = (inr (map CloseStatement (map name_of statements), closes_end (map name_of statements), refl), tt)
+groups_are (requests.Prepare prepared) i = tt
+groups_are requests.Ping i = (inr ([], tt, refl), tt)
+groups_are requests.Flush i = tt
+groups_are requests.Close i = tt
 
 -- what is known of a statement stands under its name
 known_at : (name : List ℕ) (width : Option ℕ) → width_at (known name width) name ≡ width
@@ -313,6 +336,7 @@ first_awaits (requests.FetchOne query) group i e = rw (← the_first _ _ e) refl
 first_awaits (requests.Begin depth) group i e = rw (← the_first _ _ e) refl
 first_awaits (requests.BeginWith query) group i e = rw (← the_first _ _ e) refl
 first_awaits (requests.CopyOut query) group i e = absurd i
+first_awaits (requests.CopyIn feed) group i e = absurd i
 first_awaits (requests.Commit left) group i e = rw (← the_first _ _ e) refl
 first_awaits (requests.Rollback left) group i e = rw (← the_first _ _ e) refl
 first_awaits (requests.Describe extended) group i e = rw (← the_first _ _ e) refl
@@ -327,7 +351,7 @@ first_awaits requests.Close group i e = absurd (none_first group e)
 plain_refused : (r : Request) (group : Group) (own : List BackendMessage) (part : Part) (f : Frame) → IsPlain (awaits_first r) → groups_of r ≡ group ∷ [] → AllByRecursion HasBackendFrame own → part_after (awaits_first r) own ≡ Some part
     → ((m : BackendMessage) → HasBackendFrame m → backend_frame m ≡ f → MayNotCome part m) → BeginsKnowing (widths_of r) group (map backend_frame own ++ f ∷ []) → ⊥
 plain_refused r group own part f i g have e out b =
-    let is = subst (AllByRecursion IsGroup) g (groups_are r) in
+    let is = subst (AllByRecursion IsGroup) g (groups_are r (plain_start r i)) in
     let on = accepted (awaits_first r) own part i e in
     let came = ap (λ (x : Expected). behind x own) (first_awaits r group i g) ∙ on.0 in
     refused_begins_no_group_response (widths_of r) group own (awaited part) f is.0 have came (λ m h k. refused part m on.1 (out m h k)) b
@@ -335,6 +359,7 @@ plain_refused r group own part f i g have e out b =
 pub group_refused : (r : Request) (group : Group) (own : List BackendMessage) (part : Part) (f : Frame) → groups_of r ≡ group ∷ [] → AllByRecursion HasBackendFrame own → part_after (awaits_first r) own ≡ Some part
     → ((m : BackendMessage) → HasBackendFrame m → backend_frame m ≡ f → MayNotCome part m) → BeginsKnowing (widths_of r) group (map backend_frame own ++ f ∷ []) → ⊥
 group_refused (requests.CopyOut query) group own part f g have e out b = copy_refused query.sql own part f have e out (subst (λ (x : Group). BeginsCopyResponse x (map backend_frame own ++ f ∷ [])) (sym (the_first _ _ g)) b.0)
+group_refused (requests.CopyIn feed) group own part f g have e out b = feed_refused feed own part f have e out (subst (λ (x : Group). BeginsCopyResponse x (map backend_frame own ++ f ∷ [])) (sym (the_first _ _ g)) b.0)
 group_refused (requests.Clear statements) group own part f g have e out b = plain_refused (requests.Clear statements) group own part f (closing_plain (length statements)) g have e out b
 group_refused r group own part f g have e out b = plain_refused r group own part f tt g have e out b
 
@@ -349,6 +374,8 @@ copies_begin Further m i e = e
 copies_begin (Running width) m i e = e
 copies_begin CopyFirst m i e = absurd i
 copies_begin Copied m i e = absurd i
+copies_begin (Opening ended) m i e = absurd i
+copies_begin (Feeding ended) m i e = absurd i
 copies_begin _ m i e = absurd cc
 
 -- ---- a copy that may come
@@ -514,6 +541,8 @@ group_copies (requests.Begin depth) group own part m g have h e may = query_copi
 group_copies (requests.BeginWith query) group own part m g have h e may = query_copies query.sql group own part m g have h e may
 group_copies (requests.CopyOut query) group own part m g have h e may =
     subst (λ (x : Group). BeginsCopyResponse x (map backend_frame own ++ backend_frame m ∷ [])) (the_first _ _ g) (copy_strays query.sql own part m have h e may)
+group_copies (requests.CopyIn feed) group own part m g have h e may =
+    subst (λ (x : Group). BeginsCopyResponse x (map backend_frame own ++ backend_frame m ∷ [])) (the_first _ _ g) (feed_strays feed own part m have h e may)
 group_copies (requests.Commit left) group own part m g have h e may = query_copies _ group own part m g have h e may
 group_copies (requests.Rollback left) group own part m g have h e may = query_copies _ group own part m g have h e may
 group_copies (requests.Describe extended) group own part m g have h e may = absurd (describes_copies_none part m (describes_after Parsing part own tt e) may)
@@ -524,6 +553,40 @@ group_copies (requests.Prepare prepared) group own part m g have h e may = absur
 group_copies requests.Ping group own part m g have h e may = absurd (no_copy_synced own part m e may)
 group_copies requests.Flush group own part m g have h e may = absurd (none_first group g)
 group_copies requests.Close group own part m g have h e may = absurd (none_first group g)
+
+-- ---- a copy from the client that opens
+
+-- it is one that was asked for
+opening_part : (part next : Part) (m : BackendMessage) (opened : CopyResponseData) → goes_on part m ≡ Some next → Opens (opens_at next (news_of m)) (heards.Opens opened) → (next ≡ Feeding false) × (ended : Bool) × (part ≡ Opening ended)
+opening_part part next (CopyInResponse format columns) opened e h = let begun = by part e in (awaited_now next h, begun.0, begun.1)
+  where
+    awaited_now : (next : Part) → Opens (opens_at next (news_of (CopyInResponse format columns))) (heards.Opens opened) → next ≡ Feeding false
+    awaited_now (Feeding false) h = refl
+    awaited_now (Feeding true) h = absurd h
+    awaited_now _ h = absurd h
+
+    by : (part : Part) → goes_on part (CopyInResponse format columns) ≡ Some next → (ended : Bool) × (part ≡ Opening ended)
+    by (Opening ended) e = (ended, refl)
+    by (Feeding true) e = absurd cc
+    by (Feeding false) e = absurd cc
+    by (Running None) e = absurd cc
+    by (Running (Some columns)) e = absurd cc
+    by _ e = absurd cc
+opening_part part next _ opened e h = absurd (none next h)
+  where
+    none : (next : Part) → Opens None (heards.Opens opened) → ⊥
+    none next h = h
+
+pub opens_for : (r : Request) (own : List BackendMessage) (part next : Part) (m : BackendMessage) (opened : CopyResponseData) → part_after (awaits_first r) own ≡ Some part → goes_on part m ≡ Some next → Opens (opens_at next (news_of m)) (heards.Opens opened) → (kind_of r ≡ kinds.CopyIn) × (next ≡ Feeding false)
+opens_for r own part next m opened came goes opens =
+    let at = opening_part part next m opened goes opens in
+    (by r at.1 (subst (λ (p : Part). part_after (awaits_first r) own ≡ Some p) at.2 came), at.0)
+  where
+    by : (r : Request) (ended : Bool) → part_after (awaits_first r) own ≡ Some (Opening ended) → kind_of r ≡ kinds.CopyIn
+    by (requests.CopyIn feed) ended e = refl
+    by (requests.CopyOut query) ended e = absurd (copied_parts own (Opening ended) e)
+    by (requests.Clear statements) ended e = absurd (plain_after (closing (length statements)) (Opening ended) own (closing_plain (length statements)) e)
+    by r ended e = absurd (plain_after (awaits_first r) (Opening ended) own tt e)
 
 -- ---- which columns were described
 

@@ -41,6 +41,7 @@ adds_none kinds.Begin t row e = refl
 adds_none kinds.Commit t row e = refl
 adds_none kinds.Rollback t row e = refl
 adds_none kinds.CopyOut t row e = refl
+adds_none kinds.CopyIn t row e = refl
 adds_none kinds.Ping t row e = refl
 adds_none kinds.Flush t row e = refl
 adds_none kinds.Close t row e = refl
@@ -60,6 +61,7 @@ yields_none kinds.Begin first row e = refl
 yields_none kinds.Commit first row e = refl
 yields_none kinds.Rollback first row e = refl
 yields_none kinds.CopyOut first row e = refl
+yields_none kinds.CopyIn first row e = refl
 yields_none kinds.Ping first row e = refl
 yields_none kinds.Flush first row e = refl
 yields_none kinds.Close first row e = refl
@@ -69,12 +71,12 @@ passes_row a body values next says goes keeps =
     let row : RowSeen = record { values = values; heading = a.heading } in
     let none : yields a.kind (Row row) ≡ false = yields_none a.kind a.tally.first row keeps in
     let same : added a.kind a.tally (Row row) ≡ a.tally = adds_none a.kind a.tally row keeps in
-    (DataRow values, says, (next, goes, ap (λ (t : Tally). record a { tally = t; part = next }) (sym same), rw none refl))
+    (DataRow values, says, (next, goes, ap (λ (t : Tally). record a { tally = t; part = next }) (sym same), rw none refl, tt))
 
 -- so do columns that nobody sees
 pub passes_columns : (a : Reply) (body : List ℕ) (fields : List FieldDescription) (next : Part) → Says 84 body (RowDescription fields) → goes_on a.part (RowDescription fields) ≡ Some next → a.heading.columns ≡ None → Hears a (record a { part = next }) 84 body heards.More
 passes_columns a body fields next says goes none =
-    (RowDescription fields, says, (next, goes, ap (λ (c : Option (List FieldDescription)). record a { part = next; heading = record a.heading { columns = c } }) (rw none refl), refl))
+    (RowDescription fields, says, (next, goes, ap (λ (c : Option (List FieldDescription)). record a { part = next; heading = record a.heading { columns = c } }) (rw none refl), refl, tt))
 
 -- what a verdict makes of the reply is what its message does
 pub hears_verdict : (a b : Reply) (tag : ℕ) (body : List ℕ) (verdict : Verdict) (r : Result Heard Error) → Judges a.part tag body (Ok verdict) → IfOk r (λ heard. (m : BackendMessage) → IsVerdict a.part m verdict → HearsMessage a b m heard) → IfOk r (Hears a b tag body)

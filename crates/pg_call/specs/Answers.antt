@@ -34,12 +34,19 @@ AnswerFits kinds.Ping answers.Unit = Unit {0}
 AnswerFits kinds.Flush answers.Unit = Unit {0}
 AnswerFits kinds.Close answers.Unit = Unit {0}
 AnswerFits kinds.CopyOut answers.Unit = Unit {0}
+AnswerFits kinds.CopyIn (answers.Total total) = Unit {0}
 AnswerFits _ _ = ⊥
+
+-- whether its copy from the client may be open
+abbrev pub OpensFor : Kind → Type 0
+OpensFor kinds.CopyIn = Unit {0}
+OpensFor _ = ⊥
 
 abbrev pub TurnFits : Kind → Turn → Type 0
 TurnFits kind (turns.Item item) = yields kind item ≡ true
 TurnFits kind (turns.Ok answer) = AnswerFits kind answer
 TurnFits kind (turns.Err e) = Unit {0}
+TurnFits kind (turns.Opened opened) = OpensFor kind
 
 -- a kind without items and without an answer of its own
 abbrev pub TurnIsPlain : Kind → Type 0
@@ -47,6 +54,7 @@ TurnIsPlain (kinds.Run how) = ⊥
 TurnIsPlain kinds.Describe = ⊥
 TurnIsPlain kinds.Prepare = ⊥
 TurnIsPlain kinds.CopyOut = ⊥
+TurnIsPlain kinds.CopyIn = ⊥
 TurnIsPlain _ = Unit {0}
 
 -- ---- what a state of such a call answers, as the core's

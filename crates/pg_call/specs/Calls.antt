@@ -33,7 +33,7 @@ use Rattle.pg_call.specs.Requests.{Group, said_in, spelled, kind_of, groups_of, 
 use Rattle.pg_call.specs.Items.{heading_after, parameters_after, own_items, shown, tally_of, answer_to}
 use Rattle.pg_call.specs.Replies.{awaits_first, part_after, may_stray}
 use Rattle.pg_call.specs.Drains.{is_error, before_readys, after_readys, failed_after, drain_fails}
-use Rattle.pg_call.specs.Hearing.{framed, fails_of}
+use Rattle.pg_call.specs.Hearing.{IsOpen, framed, fails_of}
 
 -- ---- a running call
 
@@ -212,6 +212,7 @@ abbrev pub CallTakes : Ledger → Request → List FrontendMessage → List Fram
 CallTakes start r said hs items ledger call beats.More = CallIs start r said hs items ledger call
 CallTakes start r said hs items ledger call beats.Waits = ⊥
 CallTakes start r said hs items ledger call (beats.Yields item) = CallIs start r said hs (items ++ item ∷ []) ledger call
+CallTakes start r said hs items ledger call (beats.Opens opened) = CallIs start r said hs items ledger call × (kind_of r ≡ kinds.CopyIn) × IsOpen call
 CallTakes start r said hs items ledger call (beats.Ends answer) = (call ≡ calls.Idle) × CallEnds start r said hs items ledger answer × OnOk answer (kind_of r ≡ kinds.Close → ⊥)
 
 -- The message ends the call, or leaves it where it stands: behind the replies of earlier calls, or in its own, for which no CopyFail

@@ -4,6 +4,7 @@ use Rattle.pg_wire.specs.declared.error.Error.{Error}
 use Rattle.pg_wire.specs.declared.error.Error.TheVariants as errors
 use Rattle.pg_wire.specs.declared.error.ProtocolFault.TheVariants as protocol
 use Rattle.pg_wire.specs.declared.fields.ErrorField.{ErrorField}
+use Rattle.pg_wire.specs.declared.message.copy_response.CopyResponseData.{CopyResponseData}
 use Rattle.pg_wire.specs.declared.status.TransactionStatus.{TransactionStatus}
 use Rattle.pg_wire.specs.Frame.{Frame}
 use Rattle.pg_wire.specs.Parts.{is_ready}
@@ -21,6 +22,8 @@ use Rattle.pg_call.specs.declared.request.Request.TheVariants as requests
 use Rattle.pg_call.specs.declared.waiting.Waiting.{Waiting}
 use Rattle.pg_call.specs.declared.tally.Tally.{Tally}
 use Rattle.pg_call.specs.declared.judging.News.{News}
+use Rattle.pg_call.specs.declared.judging.News.TheVariants as news
+use Rattle.pg_call.specs.declared.judging.Part.TheVariants.{Feeding}
 use Rattle.pg_call.specs.declared.judging.Part.{Part}
 use Rattle.pg_call.specs.declared.ledger.Ledger.{Ledger}
 use Rattle.pg_call.specs.declared.reply.Reply.{Reply}
@@ -58,16 +61,33 @@ gone_on r part news = record r { tally = added_all r.kind r.tally (item_by r.hea
 abbrev pub Shows : List CallItem → Heard → Type 0
 Shows items heards.More = items ≡ []
 Shows items (heards.Yields item) = items ≡ item ∷ []
+Shows items (heards.Opens opened) = items ≡ []
 Shows items _ = ⊥
 
+-- the copy from the client that is open now, whose data is awaited
+abbrev pub if_awaited : Part → CopyResponseData → Option CopyResponseData
+if_awaited (Feeding false) opened = Some opened
+if_awaited part opened = None
+
+abbrev pub opens_at : Part → News → Option CopyResponseData
+opens_at part (news.Opens opened) = if_awaited part opened
+opens_at part _ = None
+
+-- and what is told of it, and of nothing else
+abbrev pub Opens : Option CopyResponseData → Heard → Type 0
+Opens (Some opened) (heards.Opens told) = opened ≡ told
+Opens (Some opened) heard = ⊥
+Opens None (heards.Opens told) = ⊥
+Opens None heard = Unit {0}
+
 abbrev pub HearsNews : Reply → Reply → Part → News → Heard → Type 0
-HearsNews a b part news heard = (b ≡ gone_on a part news) × Shows (filter (yields a.kind) (item_by a.heading news)) heard
+HearsNews a b part news heard = (b ≡ gone_on a part news) × Shows (filter (yields a.kind) (item_by a.heading news)) heard × Opens (opens_at part news) heard
 
 abbrev pub HearsMessage : Reply → Reply → BackendMessage → Heard → Type 0
 HearsMessage a b m (heards.Failed error) = (m ≡ ErrorResponse error) × (b ≡ a)
 HearsMessage a b m (heards.Closed status) = (may_close a.part ≡ true) × (m ≡ ReadyForQuery status) × (b ≡ a)
 HearsMessage a b m heards.Strays = (may_stray a.part m ≡ true) × (b ≡ a)
-HearsMessage a b m heard = (next : Part) × (goes_on a.part m ≡ Some next) × (b ≡ gone_on a next (news_of m)) × Shows (filter (yields a.kind) (item_by a.heading (news_of m))) heard
+HearsMessage a b m heard = (next : Part) × (goes_on a.part m ≡ Some next) × (b ≡ gone_on a next (news_of m)) × Shows (filter (yields a.kind) (item_by a.heading (news_of m))) heard × Opens (opens_at next (news_of m)) heard
 
 abbrev pub Hears : Reply → Reply → ℕ → List ℕ → Heard → Type 0
 Hears a b tag body heard = (m : BackendMessage) × Says tag body m × HearsMessage a b m heard
@@ -165,6 +185,22 @@ RefusesCopy tag a b taken = (b ≡ idle_with (record { owed = a.ledger.owed; is_
 abbrev pub Follows : ℕ → Heard → Running → Running → Taken → Type 0
 Follows tag heards.More a b taken = (b ≡ a) × (taken ≡ just beats.More)
 Follows tag (heards.Yields item) a b taken = (b ≡ a) × (taken ≡ just (beats.Yields item))
+Follows tag (heards.Opens opened) a b taken = (b ≡ a) × (taken ≡ just (beats.Opens opened))
 Follows tag (heards.Failed error) a b taken = (b ≡ idle_with a.ledger) × (taken ≡ just (beats.Ends (Err (errors.Database error))))
 Follows tag (heards.Closed status) a b taken = Closes status a b taken
 Follows tag heards.Strays a b taken = RefusesCopy tag a b taken
+
+-- ---- a copy from the client that is fed
+
+abbrev pub IsOpen : Call → Type 0
+IsOpen (calls.Own reply) = reply.part ≡ Feeding false
+IsOpen _ = ⊥
+
+-- all of its data is sent
+abbrev pub fed_part : Part → Part
+fed_part (Feeding ended) = Feeding true
+fed_part part = part
+
+abbrev pub fed_whole : Call → Call
+fed_whole (calls.Own reply) = calls.Own (record reply { part = fed_part reply.part })
+fed_whole call = call

@@ -4,7 +4,7 @@ use Rattle.pg_wire.specs.declared.error.Error.{Error}
 use Rattle.pg_wire.specs.declared.error.Error.TheVariants as errors
 use Rattle.pg_wire.specs.declared.status.TransactionStatus.{TransactionStatus}
 use Rattle.pg_wire.specs.declared.status.TransactionStatus.TheVariants as statuses
-use Rattle.pg_wire.specs.Backend.{BackendMessage, RowDescription, DataRow, CommandComplete, ParameterDescription, BackendCopyData}
+use Rattle.pg_wire.specs.Backend.{BackendMessage, RowDescription, DataRow, CommandComplete, ParameterDescription, CopyInResponse, BackendCopyData}
 use Rattle.pg_wire.specs.Completion.{rows_affected}
 use Rattle.pg_rows.specs.declared.heading.Heading.{Heading}
 use Rattle.pg_rows.specs.Rows.{RowSeen}
@@ -21,13 +21,14 @@ use Rattle.pg_call.specs.declared.request.Request.{Request}
 use Rattle.pg_call.specs.declared.tally.Tally.{Tally}
 use Rattle.pg_call.specs.Requests.{heading_of}
 
--- what a message tells: the columns of rows, a row, or the count of rows; the types of parameters; or some data of a copy
+-- what a message tells: the columns of rows, a row, or the count of rows; the types of parameters; some data of a copy; or that the client is to send some
 abbrev pub news_of : BackendMessage → News
 news_of (RowDescription fields) = news.Columns fields
 news_of (DataRow values) = news.Row values
 news_of (CommandComplete tag) = news.Count (record { rows = rows_affected tag })
 news_of (ParameterDescription types) = news.Parameters types
 news_of (BackendCopyData bytes) = news.Piece bytes
+news_of (CopyInResponse format columns) = news.Opens (record { format = format; format_codes = columns })
 news_of _ = news.Nothing
 
 -- the heading of the rows behind it, where their columns are kept
@@ -132,6 +133,7 @@ finished (kinds.Run hows.FetchAll) t status = Ok (answers.Rows t.rows)
 finished (kinds.Run hows.FetchOptional) t status = Ok (answers.OneRow t.first)
 finished (kinds.Run hows.FetchOne) t status = one_row t.first
 finished kinds.Begin t status = begun status
+finished kinds.CopyIn t status = Ok (answers.Total (record { rows = t.total }))
 finished _ t status = Ok answers.Unit
 
 abbrev pub answer_to : Kind → List CallItem → TransactionStatus → Result CallAnswer Error

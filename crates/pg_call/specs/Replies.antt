@@ -16,7 +16,7 @@ use Rattle.pg_call.specs.declared.request.Request.TheVariants as requests
 use Rattle.pg_call.specs.Requests.{kind_of, width_of}
 use Rattle.pg_call.specs.declared.answer.CallItem.{CallItem}
 use Rattle.pg_call.specs.declared.judging.Part.{Part}
-use Rattle.pg_call.specs.declared.judging.Part.TheVariants.{First, Further, Rows, Synced, Parsing, Typing, Describing, Described, Binding, Running, RunningOn, Closing, CopyFirst, CopyData, CopyEnd, Copied}
+use Rattle.pg_call.specs.declared.judging.Part.TheVariants.{First, Further, Rows, Synced, Parsing, Typing, Describing, Described, Binding, Running, RunningOn, Closing, CopyFirst, CopyData, CopyEnd, Copied, Opening, Feeding}
 use Rattle.pg_call.specs.declared.judging.News.TheVariants.{Nothing}
 use Rattle.pg_call.specs.declared.judging.Verdict.{Verdict}
 use Rattle.pg_call.specs.declared.judging.Verdict.TheVariants as verdicts
@@ -40,6 +40,7 @@ awaits_first (requests.Describe extended) = Parsing
 awaits_first (requests.Run bound) = Binding (width_of bound)
 awaits_first (requests.Evict eviction) = Closing 0
 awaits_first (requests.Clear statements) = closing (length statements)
+awaits_first (requests.CopyIn feed) = Opening feed.is_ended
 awaits_first request = first_part (kind_of request)
 
 -- the first message of a segment, and what comes behind it
@@ -75,11 +76,17 @@ abbrev pub after_close : Part → Part
 after_close (Closing more) = closing more
 after_close part = part
 
+-- behind CopyInResponse
+abbrev pub after_opening : Part → Part
+after_opening (Opening ended) = Feeding ended
+after_opening part = part
+
 -- behind the end of a statement
 abbrev pub after_end : Part → Part
 after_end (Running width) = Closing 0
 after_end (RunningOn width) = Closing 0
 after_end CopyEnd = Copied
+after_end (Feeding ended) = Copied
 after_end _ = Further
 
 -- what is awaited behind one more message; None where the reply doesn't go on by it
@@ -104,6 +111,8 @@ goes_on CopyFirst (CopyOutResponse format columns) = Some CopyData
 goes_on CopyData (BackendCopyData bytes) = Some CopyData
 goes_on CopyData BackendCopyDone = Some CopyEnd
 goes_on CopyEnd (CommandComplete tag) = Some Copied
+goes_on (Opening ended) (CopyInResponse format columns) = Some (Feeding ended)
+goes_on (Feeding true) (CommandComplete tag) = Some Copied
 goes_on _ _ = None
 
 -- what is awaited behind these messages
@@ -132,7 +141,7 @@ begins_segment (CommandComplete tag) = true
 begins_segment EmptyQueryResponse = true
 begins_segment m = begins_copy m
 
--- another reply may come than the one that is awaited: a copy for which nobody has asked, or what is no copy to the client
+-- another reply may come than the one that is awaited: a copy for which nobody has asked, or what is no copy where one is asked for
 abbrev pub may_stray : Part → BackendMessage → Bool
 may_stray First m = begins_copy m
 may_stray Further m = begins_copy m
@@ -140,6 +149,8 @@ may_stray (Running width) m = begins_copy m
 may_stray CopyFirst (CopyOutResponse format columns) = false
 may_stray CopyFirst m = begins_segment m
 may_stray Copied m = begins_segment m
+may_stray (Opening ended) (CopyInResponse format columns) = false
+may_stray (Opening ended) m = begins_segment m
 may_stray _ _ = false
 
 -- the tags of the messages that are awaited, and of the others that may come
@@ -160,6 +171,9 @@ tags_of CopyFirst = codes "HE"
 tags_of CopyData = codes "dcE"
 tags_of CopyEnd = codes "CE"
 tags_of Copied = codes "EZ"
+tags_of (Opening ended) = codes "GE"
+tags_of (Feeding true) = codes "CE"
+tags_of (Feeding false) = codes "E"
 
 abbrev pub stray_tags : Part → List ℕ
 stray_tags First = codes "GH"
@@ -167,6 +181,7 @@ stray_tags Further = codes "GH"
 stray_tags (Running width) = codes "GH"
 stray_tags CopyFirst = codes "TCIG"
 stray_tags Copied = codes "TCIGH"
+stray_tags (Opening ended) = codes "TCIH"
 stray_tags _ = []
 
 -- what a part awaits, as the protocol says it, outside of copies

@@ -5,7 +5,7 @@ use Rattle.pg_wire.specs.declared.error.Error.{Error}
 use Rattle.pg_wire.specs.declared.error.Error.TheVariants as errors
 use Rattle.pg_wire.specs.Bytes.{HasNoNul}
 use Rattle.pg_wire.specs.Frame.{text_of}
-use Rattle.pg_wire.specs.Frontend.{FrontendMessage, frontend_frame, HasFrontendFrame, Query, Parse, Bind, CloseStatement, Sync, Terminate, CopyFail, name_under, statement_name}
+use Rattle.pg_wire.specs.Frontend.{FrontendMessage, frontend_frame, HasFrontendFrame, Query, Parse, Bind, CloseStatement, Sync, Terminate, CopyFail, CopyData, CopyDone, name_under, statement_name}
 use Rattle.pg_wire.specs.declared.error.ProtocolFault.TheVariants as protocol
 use Rattle.pg_wire.specs.declared.error.CallerFault.TheVariants as callers
 use Rattle.pg_wire.specs.Encoding.{Refuses, body_max}
@@ -34,6 +34,7 @@ use Rattle.pg_call.specs.declared.statement.After.{After}
 use Rattle.pg_call.specs.declared.statement.After.TheVariants as afters
 use Rattle.pg_call.specs.declared.statement.Rest.{Rest}
 use Rattle.pg_call.specs.declared.statement.Rest.TheVariants as rests
+use Rattle.pg_call.specs.declared.feed.Feed.{Feed}
 use Rattle.pg_call.specs.declared.request.Request.{Request}
 use Rattle.pg_call.specs.declared.request.Sort.{Sort}
 use Rattle.pg_call.specs.declared.request.Sort.TheVariants as sorts
@@ -71,6 +72,7 @@ kind_of requests.Ping = kinds.Ping
 kind_of requests.Flush = kinds.Flush
 kind_of requests.Close = kinds.Close
 kind_of (requests.CopyOut query) = kinds.CopyOut
+kind_of (requests.CopyIn feed) = kinds.CopyIn
 
 -- what its Query says
 abbrev pub query_of : Request → Option QueryText
@@ -102,12 +104,21 @@ name_of number = name_under statement_name number
 abbrev pub close_of : ℕ → FrontendMessage
 close_of number = CloseStatement (name_of number)
 
+-- that its data has come to its end
+abbrev pub ended_by : Bool → List FrontendMessage
+ended_by ended = if ended then CopyDone ∷ [] else []
+
+-- a copy from the client, and its data ("COPY Operations"): it has one response
+abbrev pub feeding : Feed → List FrontendMessage
+feeding feed = Query feed.query.sql ∷ map CopyData feed.pieces ++ ended_by feed.is_ended
+
 -- A statement is prepared and described, what is so prepared is run with its arguments, and statements are closed ("Extended Query").
 abbrev pub groups_of : Request → List Group
 groups_of (requests.Describe extended) = describing (name_of extended.statement) extended.sql extended.arguments.types ∷ []
 groups_of (requests.Run bound) = running (name_of bound.statement) bound.arguments.values 0 ∷ []
 groups_of (requests.Evict eviction) = closing (name_of eviction.statement ∷ []) ∷ []
 groups_of (requests.Clear statements) = closing (map name_of statements) ∷ []
+groups_of (requests.CopyIn feed) = feeding feed ∷ []
 groups_of request = groups_by (kind_of request) (query_of request)
 
 -- how many columns a statement has, where that is known
@@ -220,6 +231,7 @@ abbrev pub change_of : Kind → Change
 change_of kinds.Begin = changes.Opens
 change_of kinds.Commit = changes.Closes
 change_of kinds.Rollback = changes.Closes
+change_of kinds.CopyIn = changes.Copies
 change_of _ = changes.Stays
 
 -- a flush and what tells of a statement ask nothing of the server, and Close ends the session
@@ -286,9 +298,18 @@ RefusesExtended x _ = ⊥
 abbrev pub RefusesBind : Bound → Error → Type 0
 RefusesBind bound e = Refuses (length bound.arguments.values) (Unit {0}) (bind_size bound.statement bound.arguments) e
 
+-- a piece that is too long for a frame
+abbrev pub RefusesPieces : List (List ℕ) → Error → Type 0
+RefusesPieces [] e = e ≡ errors.OutOfMemory
+RefusesPieces (piece ∷ pieces) e = Refuses 0 (Unit {0}) (length piece) e ⊎ RefusesPieces pieces e
+
+abbrev pub RefusesFeed : Feed → Error → Type 0
+RefusesFeed feed e = RefusesQuery (Some feed.query) e ⊎ RefusesPieces feed.pieces e
+
 abbrev pub IsRefusal : Request → Error → Type 0
 IsRefusal (requests.Describe extended) e = RefusesExtended extended e
 IsRefusal (requests.Run bound) e = RefusesBind bound e
+IsRefusal (requests.CopyIn feed) e = RefusesFeed feed e
 IsRefusal request e = RefusesQuery (query_of request) e
 
 -- the message that ends a copy from the client which no one feeds ("COPY Operations")

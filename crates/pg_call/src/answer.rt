@@ -5,7 +5,7 @@ ghost use Rattle.pg_call.specs.Answers.{TurnFits, TurnIsPlain, total_turn, unit_
 use crate::{Kind, PgQueryResult, Prepared, Request};
 use either::Either;
 use pg_rows::PgRow;
-use pg_wire::{Blob, Error, Sequence};
+use pg_wire::{Blob, CopyResponseData, Error, Sequence};
 
 /// One thing that a call shows as it comes.
 #[derive(Drop)]
@@ -36,6 +36,8 @@ pub enum Turn {
     Item(CallItem),
     Ok(CallAnswer),
     Err(Error),
+    /// The call goes on, and awaits the data of its copy from the client.
+    Opened(CopyResponseData),
 }
 
 /// What the turn of a call of one kind is to the state that the caller holds.
@@ -47,7 +49,7 @@ impl Turn {
         match self {
             Turn::Ok(CallAnswer::Total(total)) => Ok(total),
             Turn::Err(e) => Err(e),
-            Turn::Ok(_) | Turn::Item(_) => unreachable!(),
+            Turn::Ok(_) | Turn::Item(_) | Turn::Opened(_) => unreachable!(),
         }
     }
 
@@ -58,7 +60,7 @@ impl Turn {
         match self {
             Turn::Ok(CallAnswer::Rows(rows)) => Ok(rows),
             Turn::Err(e) => Err(e),
-            Turn::Ok(_) | Turn::Item(_) => unreachable!(),
+            Turn::Ok(_) | Turn::Item(_) | Turn::Opened(_) => unreachable!(),
         }
     }
 
@@ -69,7 +71,7 @@ impl Turn {
         match self {
             Turn::Ok(CallAnswer::OneRow(row)) => Ok(row),
             Turn::Err(e) => Err(e),
-            Turn::Ok(_) | Turn::Item(_) => unreachable!(),
+            Turn::Ok(_) | Turn::Item(_) | Turn::Opened(_) => unreachable!(),
         }
     }
 
@@ -80,7 +82,7 @@ impl Turn {
         match self {
             Turn::Ok(CallAnswer::OneRow(Some(row))) => Ok(row),
             Turn::Err(e) => Err(e),
-            Turn::Ok(_) | Turn::Item(_) => unreachable!(),
+            Turn::Ok(_) | Turn::Item(_) | Turn::Opened(_) => unreachable!(),
         }
     }
 
@@ -92,7 +94,7 @@ impl Turn {
         match self {
             Turn::Ok(CallAnswer::Unit) => Ok(()),
             Turn::Err(e) => Err(e),
-            Turn::Ok(_) | Turn::Item(_) => unreachable!(),
+            Turn::Ok(_) | Turn::Item(_) | Turn::Opened(_) => unreachable!(),
         }
     }
 
@@ -103,7 +105,7 @@ impl Turn {
         match self {
             Turn::Ok(CallAnswer::Statement(prepared)) => Ok(prepared),
             Turn::Err(e) => Err(e),
-            Turn::Ok(_) | Turn::Item(_) => unreachable!(),
+            Turn::Ok(_) | Turn::Item(_) | Turn::Opened(_) => unreachable!(),
         }
     }
 
@@ -115,7 +117,7 @@ impl Turn {
             Turn::Item(CallItem::Row(row)) => Some(Ok(row)),
             Turn::Ok(CallAnswer::Unit) => None,
             Turn::Err(e) => Some(Err(e)),
-            Turn::Ok(_) | Turn::Item(_) => unreachable!(),
+            Turn::Ok(_) | Turn::Item(_) | Turn::Opened(_) => unreachable!(),
         }
     }
 
@@ -127,7 +129,7 @@ impl Turn {
             Turn::Item(CallItem::Count(count)) => Some(Ok(count)),
             Turn::Ok(CallAnswer::Unit) => None,
             Turn::Err(e) => Some(Err(e)),
-            Turn::Ok(_) | Turn::Item(_) => unreachable!(),
+            Turn::Ok(_) | Turn::Item(_) | Turn::Opened(_) => unreachable!(),
         }
     }
 
@@ -139,7 +141,7 @@ impl Turn {
             Turn::Item(CallItem::Piece(piece)) => Some(Ok(piece)),
             Turn::Ok(CallAnswer::Unit) => None,
             Turn::Err(e) => Some(Err(e)),
-            Turn::Ok(_) | Turn::Item(_) => unreachable!(),
+            Turn::Ok(_) | Turn::Item(_) | Turn::Opened(_) => unreachable!(),
         }
     }
 
@@ -152,7 +154,7 @@ impl Turn {
             Turn::Item(CallItem::Row(row)) => Some(Ok(Either::Right(row))),
             Turn::Ok(CallAnswer::Unit) => None,
             Turn::Err(e) => Some(Err(e)),
-            Turn::Ok(_) | Turn::Item(_) => unreachable!(),
+            Turn::Ok(_) | Turn::Item(_) | Turn::Opened(_) => unreachable!(),
         }
     }
 }

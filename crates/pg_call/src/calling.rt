@@ -1,5 +1,5 @@
 use crate::{CallAnswer, CallItem, Reply, Request, Waiting};
-use pg_wire::Error;
+use pg_wire::{CopyResponseData, Error};
 
 /// How far the running call has come.
 ///
@@ -31,6 +31,8 @@ pub enum Beat {
     /// The link has to be asked again later.
     Waits,
     Yields(CallItem),
+    /// The server awaits the data of a copy from the client.
+    Opens(CopyResponseData),
     Ends(Result<CallAnswer, Error>),
 }
 

@@ -3,18 +3,18 @@ ghost use Rattle.pg_wire.specs.Backend as backend;
 ghost use Rattle.pg_wire.specs.Backend.{Values};
 ghost use Rattle.pg_wire.specs.Decoding.{Says};
 ghost use Rattle.pg_wire.specs.Frame.{is_known};
-ghost use Rattle.pg_call.specs.Replies.{Judges, PassesColumns, PassesRow, after_bind, after_close, after_columns, after_end, after_row, awaits_first, closing, goes_plainly, stray_tags, tags_of};
+ghost use Rattle.pg_call.specs.Replies.{Judges, PassesColumns, PassesRow, after_bind, after_close, after_columns, after_end, after_row, awaits_first, closing, after_opening, goes_plainly, stray_tags, tags_of};
 
 use crate::format::{check_message, refuse};
 use crate::{PgQueryResult, Request};
 use pg_columns::PgColumns;
 use pg_wire::{
-    Blob, DataRow, Error, Frame, Oids, PgDatabaseError, TransactionStatus, check_data_row,
-    check_row_description, claimed_width, cut_data_row, decode_bind_complete,
+    Blob, CopyResponseData, DataRow, Error, Frame, Oids, PgDatabaseError, TransactionStatus,
+    check_data_row, check_row_description, claimed_width, cut_data_row, decode_bind_complete,
     decode_close_complete, decode_command_complete, decode_copy_data, decode_copy_done,
-    decode_copy_out_response, decode_data_row, decode_empty_query, decode_error_response,
-    decode_no_data, decode_parameter_description, decode_parse_complete, decode_ready_for_query,
-    decode_row_description,
+    decode_copy_in_response, decode_copy_out_response, decode_data_row, decode_empty_query,
+    decode_error_response, decode_no_data, decode_parameter_description, decode_parse_complete,
+    decode_ready_for_query, decode_row_description,
 };
 use std::alloc::Global;
 
@@ -34,9 +34,11 @@ use std::alloc::Global;
 /// | `CopyFirst` | H: `CopyData` |
 /// | `CopyData` | d; c: `CopyEnd` |
 /// | `CopyEnd` | C: `Copied` |
+/// | `Opening(ended)` | G: `Feeding(ended)` |
+/// | `Feeding(true)` | C: `Copied` |
 ///
-/// Each fails by E. `Further`, `Described`, `Synced` and `Copied` close by Z. In `First`, `Further` and `Running` a copy may begin by G or H, in `CopyFirst` something
-/// else than a copy to the client by T, C, I or G, and in `Copied` whatever begins a segment: these are lawful, and not awaited. Whatever stands nowhere here is
+/// Each fails by E. `Further`, `Described`, `Synced` and `Copied` close by Z. In `First`, `Further` and `Running` a copy may begin by G or H, in `CopyFirst` and
+/// `Opening` something else than the copy that is asked for, by T, C, I, G or H, and in `Copied` whatever begins a segment: these are lawful, and not awaited. Whatever stands nowhere here is
 /// refused.
 #[derive(Clone, Copy, Debug, PartialEq, Eq)]
 pub enum Part {
@@ -70,8 +72,12 @@ pub enum Part {
     CopyData,
     /// The end of the statement that copied.
     CopyEnd,
-    /// The end, behind a copy to the client.
+    /// The end, behind a copy.
     Copied,
+    /// That data of a copy from the client is awaited. It tells whether all is sent.
+    Opening(bool),
+    /// The data; behind all of it the end of the statement that copied.
+    Feeding(bool),
 }
 
 // That so many statements are closed, and the end.
@@ -96,6 +102,7 @@ impl Part {
             Request::Clear(statements) => closing(statements.len()),
             Request::Prepare(_) | Request::Ping | Request::Flush | Request::Close => Part::Synced,
             Request::CopyOut(_) => Part::CopyFirst,
+            Request::CopyIn(feed) => Part::Opening(feed.is_ended),
             _ => Part::First,
         }
     }
@@ -117,7 +124,9 @@ impl Part {
             Part::Closing(_) => matches!(tag, b'3' | b'E'),
             Part::CopyFirst => matches!(tag, b'H' | b'E'),
             Part::CopyData => matches!(tag, b'd' | b'c' | b'E'),
-            Part::CopyEnd => matches!(tag, b'C' | b'E'),
+            Part::CopyEnd | Part::Feeding(true) => matches!(tag, b'C' | b'E'),
+            Part::Opening(_) => matches!(tag, b'G' | b'E'),
+            Part::Feeding(false) => matches!(tag, b'E'),
         }
     }
 
@@ -128,6 +137,7 @@ impl Part {
         match self {
             Part::First | Part::Further | Part::Running(_) => matches!(tag, b'G' | b'H'),
             Part::CopyFirst => matches!(tag, b'T' | b'C' | b'I' | b'G'),
+            Part::Opening(_) => matches!(tag, b'T' | b'C' | b'I' | b'H'),
             Part::Copied => matches!(tag, b'T' | b'C' | b'I' | b'G' | b'H'),
             _ => false,
         }
@@ -186,13 +196,23 @@ impl Part {
         }
     }
 
+    // Behind CopyInResponse.
+    fn after_opening(self) -> Part
+        ensures { result ≡ after_opening self }
+    {
+        match self {
+            Part::Opening(ended) => Part::Feeding(ended),
+            _ => self,
+        }
+    }
+
     // Behind the end of a statement.
     fn after_end(self) -> Part
         ensures { result ≡ after_end self }
     {
         match self {
             Part::Running(_) | Part::RunningOn(_) => Part::Closing(0),
-            Part::CopyEnd => Part::Copied,
+            Part::CopyEnd | Part::Feeding(_) => Part::Copied,
             _ => Part::Further,
         }
     }
@@ -211,6 +231,8 @@ pub enum News {
     Count(PgQueryResult),
     /// Some data of a copy.
     Piece(Blob),
+    /// The formats of the data that the client is to send.
+    Opens(CopyResponseData),
 }
 
 /// What one message is to a reply.
@@ -379,6 +401,18 @@ fn close(part: Part, body: &[u8]) -> Result<Verdict, Error>
     Ok(Verdict::Closed(status))
 }
 
+// A copy from the client is open.
+fn open(alloc: Global, part: Part, body: &[u8]) -> Result<Verdict, Error>
+    requires { is_known (tags_of part) 71 ≡ true }
+    ensures { Judges part 71 body.now result }
+{
+    let data = decode_copy_in_response(alloc, body)?;
+    Ok(Verdict::On {
+        part: part.after_opening(),
+        news: News::Opens(data),
+    })
+}
+
 // A copy to the client begins.
 fn begin_copy(alloc: Global, part: Part, body: &[u8]) -> Result<Verdict, Error>
     requires { is_known (tags_of part) 72 ≡ true }
@@ -440,6 +474,7 @@ pub fn judge(alloc: Global, part: Part, tag: u8, body: &[u8]) -> Result<Verdict,
         b'D' => row(alloc, part, body),
         b'E' => fail(alloc, part, body),
         b'Z' => close(part, body),
+        b'G' => open(alloc, part, body),
         b'H' => begin_copy(alloc, part, body),
         b'd' => copy(alloc, part, body),
         b'c' => end_copy(part, body),

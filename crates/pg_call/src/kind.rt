@@ -41,9 +41,11 @@ pub enum Kind {
     Close,
     /// A copy to the client.
     CopyOut,
+    /// A copy from the client.
+    CopyIn,
 }
 
-/// What a call makes of the number of transactions and savepoints that are open, where it is Ok.
+/// What a call makes of the number of transactions and savepoints that are open, where it is Ok, and what it leaves to be cleaned up where it is not.
 #[derive(Clone, Copy, Debug, PartialEq, Eq)]
 pub enum Change {
     Stays,
@@ -51,6 +53,10 @@ pub enum Change {
     Opens,
     /// One fewer is.
     Closes,
+    /// As many are; a copy from the client is begun, which a CopyFail ends where nothing else has.
+    Copies,
+    /// As many are; all data of a copy from the client is sent.
+    Fed,
 }
 
 /// What becomes of the statements that are kept by an exchange that has queued its group, or is Ok.
@@ -85,7 +91,8 @@ impl Kind {
             | Kind::Ping
             | Kind::Flush
             | Kind::Close
-            | Kind::CopyOut => false,
+            | Kind::CopyOut
+            | Kind::CopyIn => false,
         }
     }
 
@@ -96,6 +103,7 @@ impl Kind {
         match self {
             Kind::Begin => Change::Opens,
             Kind::Commit | Kind::Rollback => Change::Closes,
+            Kind::CopyIn => Change::Copies,
             Kind::Run(_)
             | Kind::Describe
             | Kind::Prepare

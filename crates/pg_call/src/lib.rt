@@ -6,6 +6,7 @@
 
 mod answer;
 mod calling;
+mod feed;
 mod format;
 mod heading;
 mod judging;
@@ -23,6 +24,7 @@ mod writing;
 
 pub use answer::{CallAnswer, CallItem, Turn};
 pub use calling::{Beat, Call, Taken};
+pub use feed::Feed;
 pub use format::refuse;
 pub use judging::{News, Part, Verdict, judge};
 pub use kind::{Change, How, Keeping, Kind};

@@ -1,15 +1,15 @@
-ghost use Rattle.std.specs.Prelude.{◌≡◌, filter, IfOk, IfErr};
+ghost use Rattle.std.specs.Prelude.{◌≡◌, [], filter, IfOk, IfErr};
 ghost use Rattle.pg_wire.specs.Backend.{BackendMessage};
 ghost use Rattle.pg_call.specs.Items.{added, finished, item_by, keeps_row, shown_if, yields};
 ghost use Rattle.pg_call.specs.Replies.{IsFault, IsVerdict, MayNotCome, list_of};
-ghost use Rattle.pg_call.specs.Hearing.{Hears, HearsMessage, HearsNews, fresh_reply, gone_on, handed_on};
+ghost use Rattle.pg_call.specs.Hearing.{Hears, HearsMessage, HearsNews, Opens, Shows, fed_part, opens_at, fresh_reply, gone_on, handed_on};
 
 use crate::judging::{judge_row, pass_columns, pass_row};
 use crate::{
     CallAnswer, CallItem, How, Kind, News, Part, Request, Rest, Tally, Verdict, Waiting, judge,
 };
 use pg_rows::{Heading, PgRow};
-use pg_wire::{DataRow, Error, Frame, Oids, PgDatabaseError, TransactionStatus};
+use pg_wire::{CopyResponseData, DataRow, Error, Frame, Oids, PgDatabaseError, TransactionStatus};
 use std::alloc::Global;
 
 /// The call's own reply, as far as it has come.
@@ -47,8 +47,21 @@ pub enum Heard {
     Yields(CallItem),
     Failed(PgDatabaseError),
     Closed(TransactionStatus),
+    /// The server awaits the data of a copy from the client.
+    Opens(CopyResponseData),
     /// Another reply comes than the one that is awaited.
     Strays,
+}
+
+// What is told of a copy from the client: that it is open, where its data is awaited.
+fn opened(part: Part, told: CopyResponseData) -> Heard
+    ensures opens { Opens (opens_at part (News.Opens told)) result }
+    ensures shows { Shows [] result }
+{
+    match part {
+        Part::Feeding(false) => Heard::Opens(told),
+        _ => Heard::More,
+    }
 }
 
 impl Reply {
@@ -99,7 +112,7 @@ impl Reply {
         ensures err { IfErr result (λ e. (e ≡ Error.OutOfMemory) × (self.new ≡ self.old)) }
     {
         match news {
-            News::Nothing => Ok(None),
+            News::Nothing | News::Opens(_) => Ok(None),
             News::Columns(columns) => {
                 if self.heading.columns.is_some() {
                     self.heading.columns = Some(columns);
@@ -121,6 +134,10 @@ impl Reply {
         ensures ok { IfOk result (HearsNews self.old self.new part news) }
         ensures err { IfErr result (λ e. (e ≡ Error.OutOfMemory) × (self.new ≡ self.old)) }
     {
+        if let News::Opens(data) = news {
+            self.part = part;
+            return Ok(opened(part, data));
+        }
         let shown = self.tell(news)?;
         self.part = part;
         match shown {
@@ -139,6 +156,15 @@ impl Reply {
             Verdict::Failed(error) => Ok(Heard::Failed(error)),
             Verdict::Closed(status) => Ok(Heard::Closed(status)),
             Verdict::Strays => Ok(Heard::Strays),
+        }
+    }
+
+    // All of the data of its copy is sent.
+    pub(crate) fn end_feed(&mut self)
+        ensures { self.new ≡ record self.old { part = fed_part self.old.part } }
+    {
+        if let Part::Feeding(_) = self.part {
+            self.part = Part::Feeding(true);
         }
     }
 

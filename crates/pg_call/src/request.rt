@@ -3,8 +3,8 @@ ghost use Rattle.pg_call.specs.Requests.{kind_of, keeping_of, messages_of, raw, 
 ghost use Rattle.pg_call.specs.Hearing.{sent_rest};
 
 use crate::heading::raw_heading;
-use crate::writing::{encode_closing, encode_description, encode_run};
-use crate::{Bound, CallAnswer, Eviction, Extended, How, Keeping, Kind, Prepared, Rest};
+use crate::writing::{encode_closing, encode_description, encode_feed, encode_run};
+use crate::{Bound, CallAnswer, Eviction, Extended, Feed, How, Keeping, Kind, Prepared, Rest};
 use pg_request::{Query, begin_text, commit_text, rollback_text};
 use pg_rows::Heading;
 use pg_wire::{Blob, Error, Sequence, StatementId, encode_query, encode_sync, encode_terminate};
@@ -46,6 +46,8 @@ pub enum Request {
     Close,
     /// Copies to the client by the text of this query, which is asked without arguments. (PostgreSQL manual, "COPY Operations".)
     CopyOut(Query),
+    /// Copies from the client.
+    CopyIn(Feed),
 }
 
 // By hand, so that whoever lets one go makes one call, and doesn't go through its parts.
@@ -71,7 +73,8 @@ impl Drop for Request {
             | Request::Ping
             | Request::Flush
             | Request::Close
-            | Request::CopyOut(_) => {}
+            | Request::CopyOut(_)
+            | Request::CopyIn(_) => {}
         }
     }
 }
@@ -145,6 +148,7 @@ impl Request {
             Request::Flush => Kind::Flush,
             Request::Close => Kind::Close,
             Request::CopyOut(_) => Kind::CopyOut,
+            Request::CopyIn(_) => Kind::CopyIn,
         }
     }
 
@@ -213,6 +217,7 @@ impl Request {
             Request::Clear(statements) => encode_closing(&mut frames, statements.as_slice())?,
             Request::Ping => encode_sync(&mut frames)?,
             Request::Close => encode_terminate(&mut frames)?,
+            Request::CopyIn(feed) => encode_feed(&mut frames, feed)?,
             Request::Prepare(_) | Request::Flush => {}
         }
         Ok(frames)

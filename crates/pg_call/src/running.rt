@@ -1,7 +1,7 @@
 ghost use Rattle.std.specs.Prelude.{◌≡◌, ◌≢◌, ◌<◌, true, false, IfOk, IfErr, OnErr};
 ghost use Rattle.pg_wire.specs.Decoding.{IsRefused};
 ghost use Rattle.pg_call.specs.Calls.{owes_own, IsAwaiting, StaysIn, TakesMessage, RefusesMessage};
-ghost use Rattle.pg_call.specs.Hearing.{Drains, Closes, RefusesCopy, Follows, IsReplied, asked_in, awaits, keeps_now, marked, sent_answer, waits, without_asked};
+ghost use Rattle.pg_call.specs.Hearing.{Drains, Closes, RefusesCopy, Follows, IsOpen, IsReplied, fed_whole, asked_in, awaits, keeps_now, marked, sent_answer, waits, without_asked};
 
 use crate::{
     Beat, Call, CallAnswer, CallItem, Heard, Ledger, Part, Reply, Request, Taken, Waiting,
@@ -154,6 +154,26 @@ impl Running {
         sent(mem::replace(&mut self.call, Call::Idle))
     }
 
+    /// Whether a copy from the client is open: its data is awaited.
+    pub fn is_open(&self) -> bool
+        ensures yes { result ≡ true → IsOpen self.now.call }
+        ensures no { result ≡ false → IsOpen self.now.call → ⊥ }
+    {
+        match &self.call {
+            Call::Own(reply) => matches!(reply.part, Part::Feeding(false)),
+            Call::Idle | Call::Asked(_) | Call::Waiting(_) | Call::Closing => false,
+        }
+    }
+
+    /// All of its data is sent: the reply goes on.
+    pub fn end_feed(&mut self)
+        ensures { self.new ≡ record self.old { call = fed_whole self.old.call } }
+    {
+        if let Call::Own(reply) = &mut self.call {
+            reply.end_feed();
+        }
+    }
+
     // Marks whether a CopyFail was queued for the reply that is drained now.
     fn mark(&mut self, failed: bool)
         ensures { self.new ≡ record self.old { call = marked failed self.old.call } }
@@ -242,6 +262,7 @@ impl Running {
         match heard {
             Heard::More => plain(Beat::More),
             Heard::Yields(item) => plain(Beat::Yields(item)),
+            Heard::Opens(data) => plain(Beat::Opens(data)),
             Heard::Failed(error) => self.end(Err(Error::Database(error))),
             Heard::Closed(status) => self.close(status),
             Heard::Strays => self.refuse_stray(tag),

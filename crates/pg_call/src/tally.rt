@@ -96,7 +96,9 @@ impl Tally {
     {
         let Tally { total, rows, first } = self;
         match kind {
-            Kind::Run(How::Execute) => Ok(CallAnswer::Total(PgQueryResult::new(total))),
+            Kind::Run(How::Execute) | Kind::CopyIn => {
+                Ok(CallAnswer::Total(PgQueryResult::new(total)))
+            }
             Kind::Run(How::FetchAll) => Ok(CallAnswer::Rows(rows)),
             Kind::Run(How::FetchOptional) => Ok(CallAnswer::OneRow(first)),
             Kind::Run(How::FetchOne) => match first {

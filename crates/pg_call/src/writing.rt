@@ -1,16 +1,16 @@
 ghost use Rattle.std.specs.Prelude.{◌≡◌, ◌<◌, ◌≤◌, ◌++◌, length, map, true, false, IfErr, OnOk};
 ghost use Rattle.std.specs.List.{AllByRecursion};
 ghost use Rattle.pg_wire.specs.Encoding.{body_max};
-ghost use Rattle.pg_wire.specs.Frontend.{Bind, FitsValue, HasFrontendFrame};
+ghost use Rattle.pg_wire.specs.Frontend.{Bind, CopyData, FitsValue, HasFrontendFrame};
 ghost use Rattle.pg_exchanges.specs.Answering.{closing, describing, running};
-ghost use Rattle.pg_call.specs.Requests.{close_of, name_of, spelled, bind_size, RefusesExtended, RefusesBind};
+ghost use Rattle.pg_call.specs.Requests.{close_of, ended_by, feeding, name_of, spelled, bind_size, RefusesExtended, RefusesBind, RefusesFeed, RefusesPieces};
 
-use crate::{Bound, Extended};
+use crate::{Bound, Extended, Feed};
 use pg_request::Arguments;
 use pg_wire::{
     Blob, CallerFault, Error, PortalId, ProtocolFault, StatementId, check_body, encode_bind,
-    encode_close_portal, encode_close_statement, encode_describe_statement, encode_execute,
-    encode_parse, encode_sync,
+    encode_close_portal, encode_close_statement, encode_copy_bytes, encode_copy_done,
+    encode_describe_statement, encode_execute, encode_parse, encode_query, encode_sync,
 };
 
 // Refuses more arguments than two bytes can count.
@@ -113,4 +113,41 @@ pub(crate) fn encode_closing(out: &mut Blob, statements: &[StatementId]) -> Resu
 {
     close_each(out, statements)?;
     encode_sync(out)
+}
+
+// Adds the frame of each piece.
+fn encode_pieces(out: &mut Blob, pieces: &[Blob]) -> Result<(), Error>
+    ensures ok { OnOk result (out.new ≡ out.old ++ spelled (map CopyData pieces.now)) }
+    ensures said { OnOk result (AllByRecursion HasFrontendFrame (map CopyData pieces.now)) }
+    ensures err { IfErr result (RefusesPieces pieces.now) }
+{
+    match pieces {
+        [] => Ok(()),
+        [piece, rest @ ..] => {
+            encode_copy_bytes(out, piece.as_bytes())?;
+            encode_pieces(out, rest)
+        }
+    }
+}
+
+// Adds the frame that ends the data, where they are all.
+fn encode_end(out: &mut Blob, is_ended: bool) -> Result<(), Error>
+    ensures ok { OnOk result (out.new ≡ out.old ++ spelled (ended_by is_ended)) }
+    ensures err { IfErr result (λ e. e ≡ Error.OutOfMemory) }
+{
+    if is_ended {
+        encode_copy_done(out)?;
+    }
+    Ok(())
+}
+
+/// Adds the frames that begin a copy from the client, with what is given of its data.
+pub(crate) fn encode_feed(out: &mut Blob, feed: &Feed) -> Result<(), Error>
+    ensures ok { OnOk result (out.new ≡ out.old ++ spelled (feeding feed.now)) }
+    ensures said { OnOk result (AllByRecursion HasFrontendFrame (feeding feed.now)) }
+    ensures err { IfErr result (RefusesFeed feed.now) }
+{
+    encode_query(out, feed.query.sql())?;
+    encode_pieces(out, feed.pieces.as_slice())?;
+    encode_end(out, feed.is_ended)
 }

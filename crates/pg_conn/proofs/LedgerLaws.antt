@@ -1,5 +1,5 @@
 -- What is owed between any two polls follows from where the call stands before and behind each.
-use Rattle.std.proofs.Common.{◌≡◌, ◌⊎◌, inl, inr, ℕ, ◌+◌, Bool, true, false, not, ◌&&◌, ◌==◌, cond, List, [], ◌∷◌, ◌++◌, append-nil, map, length, codes, refl, sym, ap, ◌∙◌, subst, arith, Result, Ok, Err, Option, Some, None, ◌-◌, nat_eq}
+use Rattle.std.proofs.Common.{◌≡◌, ◌⊎◌, inl, inr, ℕ, ◌+◌, Bool, true, false, not, ◌&&◌, ◌==◌, cond, List, [], ◌∷◌, ◌++◌, append-nil, map, length, codes, refl, sym, ap, ◌∙◌, subst, arith, Result, Ok, Err, Option, Some, None, ◌-◌, nat_eq, leb}
 use Rattle.pg_conn.proofs.CleanupLaws.{group_moves, fits_room}
 use Rattle.std.specs.List.{count_by}
 use Rattle.pg_exchanges.specs.Answering.{closing as closing_group}
@@ -15,7 +15,9 @@ use Rattle.pg_wire.specs.Parts.{heard, is_asynchronous, is_ready}
 use Rattle.pg_wire.specs.Frontend.{FrontendMessage, Query}
 use Rattle.pg_request.specs.Texts.{rollback_text}
 use Rattle.pg_stream.specs.Streams.{Sends, Takes, StreamSeen}
-use Rattle.pg_stream.proofs.StreamLemmas.{Moves-none, Sends-then, Takes-then}
+use Rattle.pg_stream.proofs.StreamLemmas.{Moves-none, Sends-then, Takes-then, cleans}
+use Rattle.pg_stream.specs.Links.{LinkSeen}
+use Rattle.std.proofs.lemmas.Bool.{leb-true}
 use Rattle.pg_call.specs.declared.kind.Kind.{Kind}
 use Rattle.pg_call.specs.declared.kind.Kind.TheVariants as kinds
 use Rattle.pg_call.specs.declared.request.Request.{Request}
@@ -28,16 +30,16 @@ use Rattle.pg_call.specs.declared.calling.Call.{Call}
 use Rattle.pg_call.specs.declared.calling.Call.TheVariants as calls
 use Rattle.pg_call.specs.declared.calling.Beat.{Beat}
 use Rattle.pg_call.specs.declared.calling.Beat.TheVariants as beats
-use Rattle.pg_call.specs.Requests.{Group, said_in, kind_of, name_of, groups_of, messages_of, farewell, CanBeSaid, copy_fail, spelled}
+use Rattle.pg_call.specs.Requests.{Group, said_in, feeding, kind_of, name_of, groups_of, messages_of, farewell, CanBeSaid, copy_fail, spelled}
 use Rattle.pg_call.specs.Drains.{before_readys, is_copy_in, failed_behind, fails_for, drain_fails}
 use Rattle.pg_call.specs.Hearing.{fails_of}
 use Rattle.pg_call.specs.Calls.{CallIs, IsDraining, Leaves, IsFine, CallEnds}
 use Rattle.pg_conn.proofs.StateLaws.{hands_keep, last_calls, resolved_calls}
-use Rattle.pg_conn.specs.Connections.{ConnSeen, with_depth, handed, idle, started_call, begun_with, left, cleaned, settled, ended, resolved, resolved_by, restated, rolled, rolled_back, counted_anew, queued_group, with_group, has_room_for, rollback, may_open, runs}
+use Rattle.pg_conn.specs.Connections.{ConnSeen, with_depth, copies, ends_copy, owned, unfed, with_copy_fail, handed, idle, started_call, begun_with, left, cleaned, settled, ended, resolved, resolved_by, restated, rolled, rolled_back, counted_anew, queued_group, with_group, has_room_for, rollback, may_open, runs}
 use Rattle.pg_conn.specs.Turns.{ends_request, Tells, TakesBeat, Polled, PollsThrough, PollsBy, PollsWithin, hands_on, beat_of, behind, broken_by}
 use Rattle.pg_conn.specs.States.{IsCalling}
 use Rattle.pg_conn.specs.Ledgers.{Owes, OwesSome}
-use Rattle.pg_conn.proofs.TurnLaws.{closes_said, counts-append, no_groups, is_Z, spelled-append}
+use Rattle.pg_conn.proofs.TurnLaws.{closes_said, counts-append, feed_asks, no_groups, is_Z, spelled-append}
 
 -- ---- ReadyForQuery is no asynchronous message
 
@@ -95,6 +97,7 @@ groups_ask (requests.FetchOne query) = refl
 groups_ask (requests.Begin depth) = refl
 groups_ask (requests.BeginWith query) = refl
 groups_ask (requests.CopyOut query) = refl
+groups_ask (requests.CopyIn feed) = rw (append-nil (feeding feed)) (feed_asks feed)
 groups_ask (requests.Commit left) = refl
 groups_ask (requests.Rollback left) = refl
 groups_ask (requests.Describe extended) = refl
@@ -115,6 +118,7 @@ farewell_asks_none kinds.Begin = refl
 farewell_asks_none kinds.Commit = refl
 farewell_asks_none kinds.Rollback = refl
 farewell_asks_none kinds.CopyOut = refl
+farewell_asks_none kinds.CopyIn = refl
 farewell_asks_none kinds.Ping = refl
 farewell_asks_none kinds.Flush = refl
 farewell_asks_none kinds.Close = refl
@@ -184,6 +188,7 @@ told_counts : (a b : ConnSeen) (start : Ledger) (r : Request) (said : List Front
 told_counts a b start r said hs items beats.More t = call_counts start r said hs items b.ledger b.call t
 told_counts a b start r said hs items beats.Waits t = call_counts start r said hs items b.ledger b.call t.0
 told_counts a b start r said hs items (beats.Yields item) t = call_counts start r said hs (items ++ item ∷ []) b.ledger b.call t
+told_counts a b start r said hs items (beats.Opens opened) t = call_counts start r said hs items b.ledger b.call t.0
 told_counts a b start r said hs items (beats.Ends (Ok answer)) t = ends_count start r said hs items b.ledger (Ok answer) t.1
 told_counts a b start r said hs items (beats.Ends (Err e)) t = elim t.1 [
   | inl ends ↦ ends_count start r said hs items b.ledger (Err e) ends
@@ -293,11 +298,33 @@ owes_cleaned c = by (may_open c.change c.groups c.rule.depth)
     by true = owes_by c (queued_group (spelled (rollback 0)) d) (ended (queued_group (spelled (rollback 0)) d)) (OwesSome-then c d (queued_group (spelled (rollback 0)) d) same (owes_queued 0 d)) refl refl
     by false = owes_by c d (ended d) same refl refl
 
+-- a CopyFail asks for no reply
+owes_fail : (c : ConnSeen) → leb (length (spelled (copy_fail ∷ []))) c.stream.spare ≡ true → Owes c (with_copy_fail c) (copy_fail ∷ []) []
+owes_fail c e =
+    let m = (cleans (λ (link : LinkSeen). link) c.stream (with_copy_fail c).stream (spelled (copy_fail ∷ [])) (leb-true _ _ e) refl).0 in
+    let none : count_by ends_request (copy_fail ∷ []) ≡ 0 = refl in
+    record { sent = m.sent; read = m.read; owed = omega (arith, none) }
+
+owes_owned : (c : ConnSeen) → Owes c (owned c) [] []
+owes_owned c = let same = owes_same c c refl refl in record { sent = same.sent; read = same.read; owed = same.owed }
+
+owes_unfed : (over : Bool) (c : ConnSeen) → OwesSome c (unfed over c)
+owes_unfed over c = by (copies c.change c.groups) (not over) (leb (length (spelled (copy_fail ∷ []))) c.stream.spare) refl
+  where
+    by : (k o f : Bool) → leb (length (spelled (copy_fail ∷ []))) c.stream.spare ≡ f → OwesSome c (cond (k && (o && f)) (with_copy_fail c) (owned c))
+    by true true true e = (copy_fail ∷ [], [], owes_fail c e)
+    by true true false e = ([], [], owes_owned c)
+    by true false f e = ([], [], owes_owned c)
+    by false o f e = ([], [], owes_owned c)
+
 pub owes_left : (c : ConnSeen) → OwesSome c (left c)
 owes_left c = by (runs c.call)
   where
-    by : (b : Bool) → OwesSome c (cond b (idle (cleaned c)) c)
-    by true = owes_by c (cleaned c) (idle (cleaned c)) (owes_cleaned c) refl refl
+    d : ConnSeen
+    d = unfed false c
+
+    by : (b : Bool) → OwesSome c (cond b (idle (cleaned d)) c)
+    by true = owes_by c (cleaned d) (idle (cleaned d)) (OwesSome-then c d (cleaned d) (owes_unfed false c) (owes_cleaned d)) refl refl
     by false = ([], [], owes_same c c refl refl)
 
 pub owes_started : (a : ConnSeen) (request : Request) → OwesSome a (started_call request a)
@@ -322,11 +349,13 @@ owes_behind : (beat : Beat) (c : ConnSeen) → OwesSome c (behind beat c)
 owes_behind (beats.Ends (Ok answer)) c = ([], [], owes_same c (settled c) refl refl)
 owes_behind (beats.Ends (Err e)) c =
     let d : ConnSeen = record c { broken = broken_by (beats.Ends (Err e)) } in
-    let o = owes_cleaned d in
+    let f = unfed (ends_copy e) d in
+    let o = OwesSome-then d f (cleaned f) (owes_unfed (ends_copy e) d) (owes_cleaned f) in
     (o.0, o.1, record { sent = o.2.sent; read = o.2.read; owed = o.2.owed })
 owes_behind beats.More c = ([], [], owes_same c c refl refl)
 owes_behind beats.Waits c = ([], [], owes_same c c refl refl)
 owes_behind (beats.Yields item) c = ([], [], owes_same c c refl refl)
+owes_behind (beats.Opens opened) c = ([], [], owes_same c c refl refl)
 
 owes_polled : (kind : Kind) (begun b : ConnSeen) (beat : Beat) → IsCalling kind begun → Polled begun b beat → OwesSome begun b
 owes_polled kind begun b beat i p = subst (OwesSome begun) (sym p.behind_is) (OwesSome-then begun p.stopped (behind beat p.stopped) (owes_beat begun p.stopped kind beat p.turns i) (owes_behind beat p.stopped))

@@ -8,3 +8,4 @@ pub mod StatementLaws
 pub mod CrossingLaws
 pub mod ViewLaws
 pub mod NewsLaws
+pub mod FeedingLaws

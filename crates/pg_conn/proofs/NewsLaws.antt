@@ -1,5 +1,5 @@
 -- What polls read of notifications is kept and given, in order and once.
-use Rattle.std.proofs.Common.{◌≡◌, inl, inr, ℕ, ◌-◌, Bool, true, false, cond, not, ◌&&◌, nat_eq, List, [], ◌∷◌, ◌++◌, append-nil, append_assoc, length, refl, sym, ap, ◌∙◌, subst, arith, Option, Some, None, IsSome, Result, Ok, Err}
+use Rattle.std.proofs.Common.{◌≡◌, inl, inr, ℕ, ◌-◌, Bool, true, false, cond, not, ◌&&◌, nat_eq, leb, List, [], ◌∷◌, ◌++◌, append-nil, append_assoc, length, refl, sym, ap, ◌∙◌, subst, arith, Option, Some, None, IsSome, Result, Ok, Err}
 use Rattle.futures.specs.declared.task.Poll.{Poll}
 use Rattle.futures.specs.declared.task.Poll.TheVariants.{Ready, Pending}
 use Rattle.pg_wire.specs.declared.error.Error.{Error}
@@ -25,6 +25,7 @@ use Rattle.pg_call.specs.declared.calling.Beat.{Beat}
 use Rattle.pg_call.specs.declared.calling.Call.{Call}
 use Rattle.pg_call.specs.declared.calling.Call.TheVariants as calls
 use Rattle.pg_call.specs.declared.calling.Beat.TheVariants as beats
+use Rattle.pg_call.specs.declared.kind.Change.{Change}
 use Rattle.pg_call.specs.declared.kind.Change.TheVariants as changes
 use Rattle.pg_call.specs.declared.request.Request.{Request}
 use Rattle.pg_call.specs.declared.request.Request.TheVariants as requests
@@ -33,11 +34,12 @@ use Rattle.pg_call.specs.Calls.{CallEnds, CallIs, EndsFine}
 use Rattle.pg_call.specs.declared.answer.CallItem.{CallItem}
 use Rattle.pg_call.specs.declared.ledger.Ledger.{Ledger}
 use Rattle.pg_wire.specs.Frontend.{FrontendMessage}
-use Rattle.pg_call.specs.Requests.{Group, spelled}
-use Rattle.pg_conn.specs.Connections.{ConnOf, ConnSeen, begun_by, begun_with, cleaned, ended, has_room_for, Standing, idle, left, may_open, queued_group, resolved, resolved_by, restated, rollback, runs, seen_by, settled, started_call, with_group}
+use Rattle.pg_call.specs.Requests.{Group, copy_fail, spelled}
+use Rattle.pg_conn.specs.Connections.{ConnOf, ConnSeen, begun_by, begun_with, cleaned, ended, has_room_for, Standing, idle, left, may_open, queued_group, resolved, resolved_by, restated, rollback, runs, seen_by, settled, started_call, with_group, with_copy_fail, copies, ends_copy, has_fed, owned, unfed}
 use Rattle.pg_conn.specs.States.{turn_of}
 use Rattle.pg_conn.specs.Turns.{EndsBy, FailsBy, FrontFails, HandsOver, Polled, PollsBy, PollsCall, PollsMore, PollsThrough, PollsWithin, beat_of, behind, broken_by, hands_on}
 use Rattle.pg_conn.specs.News.{AwaitsNews, AwaitsOn, AwaitsOnce, BreaksBy, DrainCause, Drains, FindsNews, GivesKept, NewsCause, NewsFails, NewsFault, NewsStep, PollsNews, ReadsNews, UnaskedCause, UnaskedFault, flushing, given, with_kept, without_news}
+use Rattle.pg_conn.proofs.CleanupLaws.{stays_unfed}
 use Rattle.pg_conn.proofs.RefusalLaws.{broken_started}
 use Rattle.pg_conn.proofs.StateLaws.{hands_keep}
 use Rattle.pg_conn.proofs.TurnLaws.{kept}
@@ -187,7 +189,7 @@ message_refused a b front k h other =
 
 -- ---- what is owed is read away
 
--- what an end and a drop queue is no more than a rollback
+-- what an end and a drop queue is no more than a CopyFail and a rollback
 abbrev OnlyQueued : ConnSeen → ConnSeen → Type 0
 OnlyQueued c d = (unsent : List ℕ) × (spare : ℕ) × (d.stream ≡ record c.stream { unsent = unsent; spare = spare })
 
@@ -202,10 +204,23 @@ cleaned_queued c = by (may_open c.change c.groups c.rule.depth) (has_room_for (s
     by true true true = (c.stream.unsent ++ spelled (rollback 0), c.stream.spare - length (spelled (rollback 0)), refl)
     by true true false = (c.stream.unsent ++ spelled (rollback 0), c.stream.spare - length (spelled (rollback 0)), refl)
 
-left_queued : (c : ConnSeen) → OnlyQueued c (left c)
-left_queued c = by (runs c.call) (cleaned_queued c)
+unfed_queued : (over : Bool) (c : ConnSeen) → OnlyQueued c (unfed over c)
+unfed_queued over c = by (copies c.change c.groups && (not over && leb (length (spelled (copy_fail ∷ []))) c.stream.spare))
   where
-    by : (r : Bool) → OnlyQueued c (cleaned c) → OnlyQueued c (cond r (idle (cleaned c)) c)
+    by : (b : Bool) → OnlyQueued c (cond b (with_copy_fail c) (owned c))
+    by true = (c.stream.unsent ++ spelled (copy_fail ∷ []), c.stream.spare - length (spelled (copy_fail ∷ [])), refl)
+    by false = (c.stream.unsent, c.stream.spare, refl)
+
+ended_queued : (over : Bool) (c : ConnSeen) → OnlyQueued c (cleaned (unfed over c))
+ended_queued over c =
+    let first = unfed_queued over c in
+    let then_on = cleaned_queued (unfed over c) in
+    (then_on.0, then_on.1, then_on.2 ∙ ap (λ (s : StreamSeen). record s { unsent = then_on.0; spare = then_on.1 }) first.2)
+
+left_queued : (c : ConnSeen) → OnlyQueued c (left c)
+left_queued c = by (runs c.call) (ended_queued false c)
+  where
+    by : (r : Bool) → OnlyQueued c (cleaned (unfed false c)) → OnlyQueued c (cond r (idle (cleaned (unfed false c))) c)
     by false q = (c.stream.unsent, c.stream.spare, refl)
     by true q = q
 
@@ -241,6 +256,14 @@ opens_none groups depth = by (nat_eq groups 0) (nat_eq depth 0)
     by true d = refl
     by false true = refl
     by false false = refl
+
+-- nor is a copy from the client ended
+copies_none : (groups : ℕ) → (copies changes.Stays groups ≡ false) × (has_fed changes.Stays groups ≡ false)
+copies_none groups = by (nat_eq groups 0)
+  where
+    by : (g : Bool) → (not g && false ≡ false) × (not g && false ≡ false)
+    by true = (refl, refl)
+    by false = (refl, refl)
 
 record IsKept (c d : ConnSeen) : Type 0 where
   stream : d.stream ≡ c.stream
@@ -357,9 +380,12 @@ drained_stopped l a (Ready (Err e)) f k p =
     let told = t.tells (flush l a).ledger requests.Flush [] [] [] (flush_is l a) in
     let fault = error_fault (flush l a) p.stopped (flush l a).ledger ([] ++ told.0) p.turns.1 ([] ++ p.turns.2) e t.moves.read t.hears told.3.1 in
     let broken : ConnSeen = record p.stopped { broken = broken_by (beats.Ends (Err e)) } in
-    let same = cleaned_kept broken (ap (λ (x : Standing). x.change) t.started.3) in
-    let stream : f.stream ≡ p.stopped.stream = ap (λ (c : ConnSeen). c.stream) p.behind_is ∙ same.stream in
-    let behind : f.broken ≡ broken_by (beats.Ends (Err e)) = ap (λ (c : ConnSeen). c.broken) p.behind_is ∙ same.broken in (
+    let stays : broken.change ≡ changes.Stays = ap (λ (x : Standing). x.change) t.started.3 in
+    let same = cleaned_kept broken stays in
+    let none = subst (λ (x : Change). (copies x broken.groups ≡ false) × (has_fed x broken.groups ≡ false)) (sym stays) (copies_none broken.groups) in
+    let is : f ≡ cleaned broken = p.behind_is ∙ ap (λ (c : ConnSeen). cleaned c) (stays_unfed (ends_copy e) broken none.0 none.1) in
+    let stream : f.stream ≡ p.stopped.stream = ap (λ (c : ConnSeen). c.stream) is ∙ same.stream in
+    let behind : f.broken ≡ broken_by (beats.Ends (Err e)) = ap (λ (c : ConnSeen). c.broken) is ∙ same.broken in (
       subst (λ (s : StreamSeen). NewsStep l s.left a.stream s []) (sym stream) (flush_step l a p.stopped p.turns.0 p.turns.1 k t.moves),
       subst (λ (s : StreamSeen). NewsFault (flushing l a).stream s e) (sym stream) fault,
       broken_for e f.broken behind,
@@ -469,10 +495,12 @@ reads_behind : (beat : Beat) (c : ConnSeen) → c.stream.notifications.keeping �
 reads_behind (beats.Ends (Ok answer)) c k = reads_quiet c.stream c.stream refl k
 reads_behind (beats.Ends (Err e)) c k =
     let broken : ConnSeen = record c { broken = broken_by (beats.Ends (Err e)) } in
-    reads_quiet c.stream (cleaned broken).stream (queued_quiet broken (cleaned broken) (cleaned_queued broken)) k
+    let d = cleaned (unfed (ends_copy e) broken) in
+    reads_quiet c.stream d.stream (queued_quiet broken d (ended_queued (ends_copy e) broken)) k
 reads_behind beats.More c k = reads_quiet c.stream c.stream refl k
 reads_behind beats.Waits c k = reads_quiet c.stream c.stream refl k
 reads_behind (beats.Yields item) c k = reads_quiet c.stream c.stream refl k
+reads_behind (beats.Opens opened) c k = reads_quiet c.stream c.stream refl k
 
 resolved_stream : (c : ConnSeen) → (resolved c).stream ≡ c.stream
 resolved_stream c = by c.call

@@ -1,5 +1,5 @@
 -- A request that no frame can say is refused by its first poll, and a flush with nothing to do is done by its first poll.
-use Rattle.std.proofs.Common.{◌≡◌, ◌⊎◌, inl, inr, List, [], ◌∷◌, refl, ap, ◌∙◌, subst, Ok, Err, Option, None, Bool, true, false, cond, nat_eq, sym, ℕ, ◌+◌, ◌-◌, ◌^◌, min, arith}
+use Rattle.std.proofs.Common.{◌≡◌, ◌⊎◌, inl, inr, List, [], ◌∷◌, refl, ap, ◌∙◌, subst, Ok, Err, Option, None, Bool, true, false, cond, nat_eq, sym, ℕ, ◌+◌, ◌-◌, ◌^◌, min, arith, leb, not, ◌&&◌, length}
 use Rattle.futures.specs.declared.task.Poll.{Poll}
 use Rattle.futures.specs.declared.task.Poll.TheVariants.{Ready, Pending}
 use Rattle.pg_wire.specs.declared.error.Error.{Error}
@@ -10,9 +10,9 @@ use Rattle.pg_call.specs.declared.answer.CallAnswer.TheVariants as answers
 use Rattle.pg_call.specs.declared.answer.Turn.{Turn}
 use Rattle.pg_call.specs.declared.answer.Turn.TheVariants as turns
 use Rattle.pg_call.specs.declared.calling.Beat.TheVariants as beats
-use Rattle.pg_call.specs.Requests.{CanBeSaid, IsRefusal, spelled}
+use Rattle.pg_call.specs.Requests.{CanBeSaid, IsRefusal, copy_fail, spelled}
 use Rattle.pg_call.proofs.RefusalLaws.{refusal_is}
-use Rattle.pg_conn.specs.Connections.{ConnSeen, idle, started_call, begun, left, cleaned, settled, ended, resolved, restated, runs, may_open, has_room_for, with_group, rollback}
+use Rattle.pg_conn.specs.Connections.{ConnSeen, idle, started_call, begun, left, cleaned, copies, ends_copy, owned, unfed, with_copy_fail, settled, ended, resolved, restated, runs, may_open, has_room_for, with_group, rollback}
 use Rattle.pg_conn.specs.Statements.{moved, unmoved, step_of}
 use Rattle.pg_conn.specs.Turns.{Refused, Polled, PollsThrough, HandsOver, PollsBy, PollsCall, hands_on, beat_of, broken_by, first_exchange, RefusesAtOnce, FlushesAtOnce, behind}
 
@@ -31,14 +31,27 @@ broken_restated c = by (nat_eq c.groups 0)
     by true = refl
     by false = refl
 
-broken_left : (a : ConnSeen) → (left a).broken ≡ a.broken
-broken_left a = by (runs a.call) (may_open a.change a.groups a.rule.depth) (has_room_for (spelled (rollback 0)) (restated a))
+broken_unfed : (over : Bool) (c : ConnSeen) → (unfed over c).broken ≡ c.broken
+broken_unfed over c = by (copies c.change c.groups && (not over && leb (length (spelled (copy_fail ∷ []))) c.stream.spare))
   where
-    by : (r m h : Bool) → (cond r (idle (ended (cond m (cond h (with_group (spelled (rollback 0)) (restated a)) (restated a)) (restated a)))) a).broken ≡ a.broken
-    by false m h = refl
-    by true false h = broken_restated a
-    by true true false = broken_restated a
-    by true true true = broken_restated a
+    by : (b : Bool) → (cond b (with_copy_fail c) (owned c)).broken ≡ c.broken
+    by true = refl
+    by false = refl
+
+broken_cleaned : (c : ConnSeen) → (cleaned c).broken ≡ c.broken
+broken_cleaned c = by (may_open c.change c.groups c.rule.depth) (has_room_for (spelled (rollback 0)) (restated c))
+  where
+    by : (m h : Bool) → (ended (cond m (cond h (with_group (spelled (rollback 0)) (restated c)) (restated c)) (restated c))).broken ≡ c.broken
+    by false h = broken_restated c
+    by true false = broken_restated c
+    by true true = broken_restated c
+
+broken_left : (a : ConnSeen) → (left a).broken ≡ a.broken
+broken_left a = by (runs a.call)
+  where
+    by : (r : Bool) → (cond r (idle (cleaned (unfed false a))) a).broken ≡ a.broken
+    by false = refl
+    by true = broken_cleaned (unfed false a) ∙ broken_unfed false a
 
 pub broken_started : (a : ConnSeen) (request : Request) → (started_call request a).broken ≡ a.broken
 broken_started a request = broken_left a
@@ -59,11 +72,12 @@ refuses_once a b request answer polled unsaid = elim polled.says [
     by Pending s w k r = absurd r
     by (Ready (turns.Item item)) s w k r = absurd r
     by (Ready (turns.Ok answer)) s w k r = absurd r
+    by (Ready (turns.Opened opened)) s w k r = absurd r
     by (Ready (turns.Err e)) s w k r = (
       e,
       refl,
       r.0,
-      k ∙ ap (λ (o : Option ServerFault). cleaned (record s { broken = o })) (refusal_breaks_none (first_exchange request a) e r.0 ∙ sym w) ∙ ap (λ (c : ConnSeen). cleaned c) r.1,
+      k ∙ ap (λ (o : Option ServerFault). cleaned (unfed (ends_copy e) (record s { broken = o }))) (refusal_breaks_none (first_exchange request a) e r.0 ∙ sym w) ∙ ap (λ (c : ConnSeen). cleaned (unfed (ends_copy e) c)) r.1,
     )
 
 pub refuses_at_once : (a b : ConnSeen) (request : Request) (answer : Poll Turn) → a.broken ≡ None → PollsCall (started_call request a) b answer → (CanBeSaid (first_exchange request a) → ⊥) → RefusesAtOnce request a b answer
@@ -92,6 +106,7 @@ flushes_once a b answer owed sent polled =
     by (Ready (turns.Item item)) s k e is = absurd cc
     by (Ready (turns.Ok answer)) s k e is = (cc, k ∙ ap (λ (c : ConnSeen). settled c) is ∙ ap (λ (n : ℕ). record (ended (idle (begun (started_call requests.Flush a)))) { earlier = n }) none)
     by (Ready (turns.Err error)) s k e is = absurd cc
+    by (Ready (turns.Opened opened)) s k e is = absurd cc
 
 pub flushes_at_once : (a b : ConnSeen) (answer : Poll Turn) → a.broken ≡ None → (left a).ledger.owed ≡ 0 → (left a).stream.unsent ≡ [] → PollsCall (started_call requests.Flush a) b answer → FlushesAtOnce a b answer
 flushes_at_once a b answer whole owed sent p =

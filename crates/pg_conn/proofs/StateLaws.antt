@@ -1,5 +1,5 @@
 -- What a poll answers is of the call's kind.
-use Rattle.std.proofs.Common.{◌≡◌, ◌≤◌, ◌+◌, ap₂, ℕ, List, [], ◌∷◌, ◌++◌, refl, sym, ap, ◌∙◌, subst, arith, Result, Ok, Err, Option, Some, None, ◌-◌, ◌*◌, nat_eq, cond, length, Bool, true, false}
+use Rattle.std.proofs.Common.{◌≡◌, ◌≤◌, ◌+◌, ap₂, ℕ, List, [], ◌∷◌, ◌++◌, refl, sym, ap, ◌∙◌, subst, arith, Result, Ok, Err, Option, Some, None, ◌-◌, ◌*◌, nat_eq, cond, length, Bool, true, false, leb, not, ◌&&◌}
 use Rattle.pg_wire.specs.declared.status.TransactionStatus.{TransactionStatus}
 use Rattle.pg_wire.specs.Backend.{BackendMessage}
 use Rattle.pg_wire.specs.Frame.{Frame}
@@ -25,12 +25,13 @@ use Rattle.pg_call.specs.declared.answer.Turn.{Turn}
 use Rattle.pg_call.specs.declared.answer.Turn.TheVariants as turns
 use Rattle.pg_call.specs.declared.calling.Beat.{Beat}
 use Rattle.pg_call.specs.declared.calling.Beat.TheVariants as beats
-use Rattle.pg_call.specs.Requests.{kind_of, main_kind, spelled}
+use Rattle.pg_call.specs.Requests.{copy_fail, kind_of, main_kind, spelled}
 use Rattle.pg_call.specs.Items.{yields}
-use Rattle.pg_call.specs.Answers.{TurnFits, AnswerFits, TurnIsPlain}
-use Rattle.pg_call.proofs.FitLaws.{shown_fits, answers_main, next_is, shows_main}
+use Rattle.pg_call.specs.Answers.{TurnFits, AnswerFits, OpensFor, TurnIsPlain}
+use Rattle.pg_call.proofs.FitLaws.{shown_fits, answers_main, main_alone, next_is, shows_main}
+use Rattle.pg_call.specs.Hearing.{IsOpen}
 use Rattle.pg_rule.specs.declared.rule.Rule.{Rule}
-use Rattle.pg_conn.specs.Connections.{ConnOf, ConnSeen, Standing, standing, seen_by, started_call, started_next, begun_with, begun_by, handed, left, commit_of, resolved, resolved_by, restated, rollback_of, cleaned, may_open, has_room_for, with_group, rollback, ended}
+use Rattle.pg_conn.specs.Connections.{ConnOf, ConnSeen, Standing, standing, seen_by, started_call, started_next, begun_with, begun_by, handed, left, commit_of, resolved, resolved_by, restated, rollback_of, cleaned, copies, ends_copy, owned, unfed, with_copy_fail, may_open, has_room_for, with_group, rollback, ended}
 use Rattle.pg_conn.specs.Statements.{asked_by, begun_as, moved, unmoved, step_of}
 use Rattle.pg_conn.proofs.StatementLaws.{asked_main}
 use Rattle.pg_call.specs.declared.calling.Call.{Call}
@@ -71,6 +72,7 @@ Answered r c Pending = Runs r c
 Answered r c (Ready (turns.Item item)) = (yields (kind_of r) item ≡ true) × Runs r c
 Answered r c (Ready (turns.Ok answer)) = (reply : List BackendMessage) × (status : TransactionStatus) × (answer_by r reply status ≡ Ok answer)
 Answered r c (Ready (turns.Err e)) = Unit {0}
+Answered r c (Ready (turns.Opened opened)) = (kind_of r ≡ kinds.CopyIn) × IsOpen c.call × Runs r c
 
 answered_beat : (a b : ConnSeen) (r : Request) (answer : Poll Turn) → TakesBeat a b (beat_of answer) → Runs r a → Answered r b answer
 answered_beat a b r Pending t i =
@@ -84,6 +86,9 @@ answered_beat a b r (Ready (turns.Ok answer)) t i =
     let fine = told.3.1 in
     (fine.0.reply, fine.0.status, fine.1)
 answered_beat a b r (Ready (turns.Err e)) t i = tt
+answered_beat a b r (Ready (turns.Opened opened)) t i =
+    let told = t.3.tells i.0 r i.1 i.2 i.3 i.4 in
+    (told.3.1, told.3.2, (i.0, i.1 ++ told.0, i.2 ++ t.2, i.3, told.3.0, t.3.room 0 (omega arith) i.5))
 
 answered_by : (begun b : ConnSeen) (r : Request) (answer : Poll Turn) → Polled begun b (beat_of answer) → Runs r begun → Answered r b answer
 answered_by begun b r answer p i = as_behind p.stopped b r answer p.behind_is (answered_beat begun p.stopped r answer p.turns i)
@@ -93,23 +98,34 @@ answered_by begun b r answer p i = as_behind p.stopped b r answer p.behind_is (a
     as_behind s b r (Ready (turns.Item item)) e f = (f.0, subst (λ (c : ConnSeen). Runs r c) (sym e) f.1)
     as_behind s b r (Ready (turns.Ok answer)) e f = f
     as_behind s b r (Ready (turns.Err error)) e f = f
+    as_behind s b r (Ready (turns.Opened opened)) e f = subst (λ (c : ConnSeen). (kind_of r ≡ kinds.CopyIn) × IsOpen c.call × Runs r c) (sym e) f
 
 fits_fault : (b : ConnSeen) (kind : Kind) (fault : ServerFault) (answer : Poll Turn) → beat_of answer ≡ beats.Ends (Err (errors.Protocol (protocol.Server fault))) → PollFits kind b answer
 fits_fault b kind fault Pending e = absurd cc
 fits_fault b kind fault (Ready (turns.Item item)) e = absurd cc
 fits_fault b kind fault (Ready (turns.Ok answer)) e = absurd cc
 fits_fault b kind fault (Ready (turns.Err error)) e = (tt, tt)
+fits_fault b kind fault (Ready (turns.Opened opened)) e = absurd cc
 
 -- ---- a call
 
 runs_call : {A : Type 0} (kind : Kind) (r : Request) (c : ConnOf A) → main_kind r ≡ kind → Runs r c → IsCalling kind c
 runs_call kind r c k i = (i.0, r, i.1, i.2, i.3, k, i.4, i.5)
 
+opens_no_description : {kind : Kind} → kind ≡ kinds.CopyIn → kind ≡ kinds.Describe → ⊥
+opens_no_description e d = let same : kinds.CopyIn ≡ kinds.Describe = sym e ∙ d in absurd cc
+
+pub opens_main : (kind : Kind) (r : Request) → main_kind r ≡ kind → kind_of r ≡ kinds.CopyIn → OpensFor kind
+opens_main kind r k e =
+    let main : kinds.CopyIn ≡ kind = sym e ∙ sym (main_alone r (λ d. opens_no_description e d)) ∙ k in
+    subst OpensFor main tt
+
 fits_main : (kind : Kind) (r : Request) (b : ConnSeen) (answer : Poll Turn) → main_kind r ≡ kind → HandsOnNone answer → Answered r b answer → PollFits kind b answer
 fits_main kind r b Pending k n f = runs_call kind r b k f
 fits_main kind r b (Ready (turns.Item item)) k n f = (subst (λ (x : Kind). yields x item ≡ true) k (shows_main r item f.0), runs_call kind r b k f.1)
 fits_main kind r b (Ready (turns.Ok answer)) k n f = (subst (λ (x : Kind). AnswerFits x answer) k (answers_main r f.0 f.1 answer f.2 (λ next e. n next (ap (λ (x : CallAnswer). Ready (turns.Ok x)) e))), tt)
 fits_main kind r b (Ready (turns.Err e)) k n f = (tt, tt)
+fits_main kind r b (Ready (turns.Opened opened)) k n f = (opens_main kind r k f.0, (runs_call kind r b k f.2, f.1))
 
 -- the next exchange runs, and is of the call's kind
 handed_runs : (r next : Request) (m : ConnSeen) (reply : List BackendMessage) (status : TransactionStatus) → answer_by r reply status ≡ Ok (answers.Next next) → HasRoom m → Runs next (handed next m) × (main_kind next ≡ main_kind r)
@@ -157,6 +173,7 @@ unseen seen b kind Pending f = f
 unseen seen b kind (Ready (turns.Item item)) f = f
 unseen seen b kind (Ready (turns.Ok answer)) f = f
 unseen seen b kind (Ready (turns.Err e)) f = f
+unseen seen b kind (Ready (turns.Opened opened)) f = f
 
 pub poll_fits_within : {A : Type 0} (seen : A → LinkSeen) (calls : ℕ) (a b : ConnOf A) (kind : Kind) (answer : Poll Turn) → PollsWithin calls (seen_by seen a) (seen_by seen b) answer → IsCalling kind a → PollFits kind b answer
 poll_fits_within seen calls a b kind answer p i = unseen seen b kind answer (fits_by a.broken (begun_with calls (seen_by seen a)) (seen_by seen a) (seen_by seen b) kind answer p i)
@@ -194,12 +211,22 @@ left_resolved c = by c.call
     by (calls.Own reply) = refl
     by calls.Closing = refl
 
+left_unfed : (over : Bool) (c : ConnSeen) → (unfed over c).stream.left ≡ c.stream.left
+left_unfed over c = by (copies c.change c.groups && (not over && leb (length (spelled (copy_fail ∷ []))) c.stream.spare))
+  where
+    by : (b : Bool) → (cond b (with_copy_fail c) (owned c)).stream.left ≡ c.stream.left
+    by true = refl
+    by false = refl
+
 left_behind : (beat : Beat) (c : ConnSeen) → (behind beat c).stream.left ≡ c.stream.left
 left_behind (beats.Ends (Ok answer)) c = refl
-left_behind (beats.Ends (Err e)) c = left_cleaned (record c { broken = broken_by (beats.Ends (Err e)) })
+left_behind (beats.Ends (Err e)) c =
+    let d : ConnSeen = record c { broken = broken_by (beats.Ends (Err e)) } in
+    left_cleaned (unfed (ends_copy e) d) ∙ left_unfed (ends_copy e) d
 left_behind beats.More c = refl
 left_behind beats.Waits c = refl
 left_behind (beats.Yields item) c = refl
+left_behind (beats.Opens opened) c = refl
 
 left_polled : (a b : ConnSeen) (beat : Beat) → Polled a b beat → b.stream.left ≤ a.stream.left
 left_polled a b beat p = omega (arith, ap (λ (c : ConnSeen). c.stream.left) p.behind_is, left_behind beat p.stopped, p.turns.3.moves.left)
@@ -256,6 +283,7 @@ plain_answer : (kind : Kind) (answer : CallAnswer) → TurnIsPlain kind → Answ
 plain_answer (kinds.Run how) answer p f = absurd p
 plain_answer kinds.Describe answer p f = absurd p
 plain_answer kinds.CopyOut answer p f = absurd p
+plain_answer kinds.CopyIn answer p f = absurd p
 plain_answer kind answers.Unit p f = tt
 plain_answer kinds.Prepare answer p f = absurd p
 plain_answer kinds.Clear (answers.Total total) p f = absurd f
@@ -299,14 +327,21 @@ plain_item kinds.Begin item p f = absurd cc
 plain_item kinds.Commit item p f = absurd cc
 plain_item kinds.Rollback item p f = absurd cc
 plain_item kinds.CopyOut item p f = absurd p
+plain_item kinds.CopyIn item p f = absurd p
 plain_item kinds.Ping item p f = absurd cc
 plain_item kinds.Flush item p f = f
 plain_item kinds.Close item p f = absurd cc
+
+plain_opens_none : (kind : Kind) → TurnIsPlain kind → OpensFor kind → ⊥
+plain_opens_none (kinds.Run how) p f = f
+plain_opens_none kinds.CopyIn p f = p
+plain_opens_none _ p f = f
 
 pub plain_fits : (kind : Kind) (turn : Turn) → TurnIsPlain kind → TurnFits kind turn → TurnFits kinds.Flush turn
 plain_fits kind (turns.Item item) p f = plain_item kind item p f
 plain_fits kind (turns.Ok answer) p f = plain_answer kind answer p f
 plain_fits kind (turns.Err e) p f = tt
+plain_fits kind (turns.Opened opened) p f = absurd (plain_opens_none kind p f)
 
 -- what a commit and a rollback ask where so many are open
 pub commit_calls : {A : Type 0} (depth : ℕ) (c : ConnOf A) → IsCallingPlainly (begun_by (Some (commit_of depth)) c)

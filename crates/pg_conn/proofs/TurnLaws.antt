@@ -1,5 +1,5 @@
 -- How the beats of a call follow one another.
-use Rattle.std.proofs.Common.{◌≡◌, ◌≢◌, ◌⊎◌, ℕ, Option, ◌+◌, ◌-◌, ◌<◌, ◌≤◌, cond, inl, inr, Bool, true, false, ◌&&◌, ◌||◌, ◌==◌, nat_eq, List, [], ◌∷◌, ◌++◌, length, map, refl, sym, ap, ◌∙◌, subst, append_assoc, append-nil, length-append, arith, Ok, Err, None, Result, IfOk, IfErr, OnErr, take, drop, ◌*◌}
+use Rattle.std.proofs.Common.{◌≡◌, ◌≢◌, ◌⊎◌, ℕ, Option, ◌+◌, ◌-◌, ◌<◌, ◌≤◌, cond, inl, inr, Bool, true, false, ◌&&◌, ◌||◌, ◌==◌, nat_eq, leb, not, List, [], ◌∷◌, ◌++◌, length, map, refl, sym, ap, ◌∙◌, subst, append_assoc, append-nil, length-append, arith, Ok, Err, None, Result, IfOk, IfErr, OnErr, take, drop, ◌*◌}
 use Rattle.pg_wire.proofs.Tests.{both_true}
 use Rattle.pg_call.specs.declared.kind.Change.{Change}
 use Rattle.pg_call.specs.declared.kind.Kind.{Kind}
@@ -15,20 +15,21 @@ use Rattle.pg_wire.specs.declared.error.ServerFault.{ServerFault}
 use Rattle.std.specs.List.{count_by}
 use Rattle.std.proofs.lemmas.Bool.{eqb-true}
 use Rattle.std.proofs.lemmas.List.{map-append, same_from_push}
-use Rattle.std.proofs.lemmas.List.Sums.{sum_by-append}
+use Rattle.std.proofs.lemmas.List.Sums.{sum_by-append, sum_by-cons}
 use Rattle.futures.specs.declared.task.Poll.TheVariants.{Ready, Pending}
 use Rattle.pg_wire.specs.declared.error.Error.{Error}
 use Rattle.pg_wire.specs.declared.error.Error.TheVariants as errors
 use Rattle.pg_wire.specs.declared.error.IoCause.TheVariants as io
 use Rattle.pg_wire.specs.declared.error.ProtocolFault.TheVariants as protocol
 use Rattle.pg_wire.specs.Frame.{Frame, text_of}
-use Rattle.pg_wire.specs.Frontend.{FrontendMessage, frontend_frame}
+use Rattle.pg_wire.specs.Frontend.{FrontendMessage, frontend_frame, CopyData, Query}
 use Rattle.pg_wire.specs.Parts.{heard, is_asynchronous, is_ready}
 use Rattle.pg_wire.proofs.PartLaws.{heard-append}
 use Rattle.pg_stream.specs.Links.{LinkSeen, NoneFalls, GrewBy}
 use Rattle.pg_stream.specs.declared.stream.Front.{Front}
 use Rattle.pg_stream.specs.Streams.{StreamOf, StreamSeen, stream_by, Moves, AllMoved, Passes, IsFrontOf, IsHeardFront, AreAsynchronous, PollsAhead, PollsSend, SendGives, PendingCause}
 use Rattle.pg_stream.proofs.StreamLemmas.{NoneWaited-none, NoneWaited-then, Moves-none, Moves-then, AllMoved-none, AllMoved-then, WriteWaited-after, PendingCause-after, text_of-append, queues_by, took_frame, GrewBy-then, HeardCause-after, front_frame, IsFront-from_heard}
+use Rattle.pg_call.specs.declared.feed.Feed.{Feed}
 use Rattle.pg_call.specs.declared.request.Request.{Request}
 use Rattle.pg_call.specs.declared.request.Request.TheVariants as requests
 use Rattle.pg_call.specs.declared.answer.CallItem.{CallItem}
@@ -40,7 +41,7 @@ use Rattle.pg_call.specs.declared.calling.Beat.{Beat}
 use Rattle.pg_call.specs.declared.calling.Beat.TheVariants as beats
 use Rattle.pg_call.specs.declared.calling.Taken.{Taken}
 use Rattle.pg_call.specs.declared.running.Running.{Running}
-use Rattle.pg_call.specs.Requests.{Group, spelled, kind_of, after_kind, goal_kind, main_kind, messages_of, name_of, rest_of, is_flush, is_close, CanBeSaid, IsRefusal}
+use Rattle.pg_call.specs.Requests.{Group, spelled, copy_fail, ended_by, feeding, kind_of, after_kind, goal_kind, main_kind, messages_of, name_of, rest_of, is_flush, is_close, CanBeSaid, IsRefusal}
 use Rattle.pg_call.specs.Hearing.{framed, fails_of, fresh_reply, awaits, waits, waiting_for, sent_answer, sent_rest, IsReplied}
 use Rattle.pg_call.specs.declared.statement.Rest.{Rest}
 use Rattle.pg_call.specs.declared.statement.Rest.TheVariants as rests
@@ -49,11 +50,11 @@ use Rattle.pg_call.proofs.CallLaws.{own_errs}
 use Rattle.pg_call.proofs.RefusalLaws.{refusal_is, memory_refuses}
 use Rattle.pg_call.proofs.LeaveLaws.{leaves_call, call_well, closing_fine, flush_fine, draining_none, replying_from, closing_from}
 use Rattle.pg_rule.specs.declared.rule.Rule.{Rule}
-use Rattle.pg_conn.specs.Connections.{ConnOf, ConnSeen, Standing, standing, seen_by, idle, with_spare, queued_call, awaiting, closing, frames_in, opens, cleaned, resolved, resolved_by, restated, unasked, IsUnresolved, may_open, has_room_for, rollback, queued_group, with_group, ended}
+use Rattle.pg_conn.specs.Connections.{ConnOf, ConnSeen, Standing, standing, seen_by, idle, with_spare, queued_call, awaiting, closing, copies, ends_copy, owned, frames_in, cleaned, unfed, with_copy_fail, resolved, resolved_by, restated, unasked, IsUnresolved, may_open, has_room_for, rollback, queued_group, with_group, ended}
 use Rattle.pg_conn.specs.Statements.{asked_by, moved, unmoved, step_of}
 use Rattle.pg_conn.proofs.StatementLaws.{asked_main}
 use Rattle.pg_exchanges.specs.Answering.{closing as closing_group}
-use Rattle.pg_conn.specs.Turns.{HearsBy, kept_for, HearsFront, running_of, ends_request, IsMissed, FailsBy, EndsBy, Tells, SendCause, BeatCause, Turns, TakesBeat, IsAsked, cleanup_of, IsSayable, GoesOn, Prepares, Refuses, Refused, Polled, beat_of, broken_by, only_sends, flushes, only_flushes, is_flushed, EndsFlush, IsAhead, Readies, Accepts, queued_copy_fail, level_of, HasRoomBeside, behind}
+use Rattle.pg_conn.specs.Turns.{HearsBy, kept_for, HearsFront, running_of, ends_request, IsMissed, FailsBy, EndsBy, Tells, SendCause, BeatCause, Turns, TakesBeat, IsAsked, cleanup_of, IsSayable, GoesOn, Prepares, Refuses, Refused, Polled, beat_of, broken_by, only_sends, flushes, only_flushes, is_flushed, EndsFlush, IsAhead, wants_level, Readies, Accepts, queued_copy_fail, level_of, HasRoomBeside, behind}
 use Rattle.pg_startup.proofs.GreetLaws.{heard_none, heard_one}
 
 -- the bytes of messages, one after another
@@ -77,6 +78,7 @@ pub tells_from : (a b c : ConnSeen) (start : Ledger) (r : Request) (said : List 
 tells_from a b c start r said hs items beats.More m t = t
 tells_from a b c start r said hs items beats.Waits m t = t
 tells_from a b c start r said hs items (beats.Yields item) m t = t
+tells_from a b c start r said hs items (beats.Opens opened) m t = t
 tells_from a b c start r said hs items (beats.Ends (Ok answer)) m t = t
 tells_from a b c start r said hs items (beats.Ends (Err e)) m t = (
   t.0,
@@ -94,6 +96,7 @@ cause_after : (a b c : ConnSeen) (beat : Beat) → AllMoved a.stream b.stream �
 cause_after a b c beats.More h k l t = AllMoved-then a.stream b.stream c.stream h k t l
 cause_after a b c beats.Waits h k l t = (PendingCause-after a.stream b.stream c.stream h k l t.0, λ s. send_after a b c h k l (t.1 s))
 cause_after a b c (beats.Yields item) h k l t = NoneWaited-then a.stream b.stream c.stream h.2 t
+cause_after a b c (beats.Opens opened) h k l t = NoneWaited-then a.stream b.stream c.stream h.2 t
 cause_after a b c (beats.Ends (Ok answer)) h k l t = AllMoved-then a.stream b.stream c.stream h k t l
 cause_after a b c (beats.Ends (Err e)) h k l t = NoneWaited-then a.stream b.stream c.stream h.2 t
 
@@ -217,6 +220,16 @@ pub closes_said : (names : List (List ℕ)) → count_by ends_request (closing_g
 closes_said [] = refl
 closes_said (name ∷ names) = omega (arith, closes_said names)
 
+data_asks_none : (pieces : List (List ℕ)) (ended : Bool) → count_by ends_request (map CopyData pieces ++ ended_by ended) ≡ 0
+data_asks_none [] true = refl
+data_asks_none [] false = refl
+data_asks_none (p ∷ ps) ended = data_asks_none ps ended
+
+pub feed_asks : (feed : Feed) → count_by ends_request (feeding feed) ≡ 1
+feed_asks feed =
+    let behind = map CopyData feed.pieces ++ ended_by feed.is_ended in
+    sum_by-cons (λ (m : FrontendMessage). cond (ends_request m) 1 0) (Query feed.query.sql) behind ∙ ap (λ (n : ℕ). 1 + n) (data_asks_none feed.pieces feed.is_ended)
+
 groups_said : (r : Request) → is_flush (kind_of r) ≡ false → is_close (kind_of r) ≡ false → count_by ends_request (messages_of r) ≡ 1
 groups_said (requests.Execute query) f c = refl
 groups_said (requests.ExecuteMany query) f c = refl
@@ -228,6 +241,7 @@ groups_said (requests.FetchOne query) f c = refl
 groups_said (requests.Begin depth) f c = refl
 groups_said (requests.BeginWith query) f c = refl
 groups_said (requests.CopyOut query) f c = refl
+groups_said (requests.CopyIn feed) f c = rw (append-nil (feeding feed ++ []), append-nil (feeding feed)) (feed_asks feed)
 groups_said (requests.Commit left) f c = refl
 groups_said (requests.Rollback left) f c = refl
 groups_said (requests.Describe extended) f c = refl
@@ -258,6 +272,7 @@ groups_farewell (requests.FetchOne query) c = absurd cc
 groups_farewell (requests.Begin depth) c = absurd cc
 groups_farewell (requests.BeginWith query) c = absurd cc
 groups_farewell (requests.CopyOut query) c = absurd cc
+groups_farewell (requests.CopyIn feed) c = absurd cc
 groups_farewell (requests.Commit left) c = absurd cc
 groups_farewell (requests.Rollback left) c = absurd cc
 
@@ -293,7 +308,7 @@ queues_waiting a b w k m moved asked room broken h s t d e tells = (
 level_most : (c : Change) (g : ℕ) → level_of c g ≤ level_of c 1
 level_most c g = by (nat_eq g 0)
   where
-    by : (b : Bool) → cond b 0 (cond (opens c) 64 0) ≤ cond (opens c) 64 0
+    by : (b : Bool) → cond b 0 (cond (wants_level c) 64 0) ≤ cond (wants_level c) 64 0
     by true = omega arith
     by false = omega arith
 
@@ -352,6 +367,7 @@ flush_said (requests.FetchOne query) e = absurd cc
 flush_said (requests.Begin depth) e = absurd cc
 flush_said (requests.BeginWith query) e = absurd cc
 flush_said (requests.CopyOut query) e = absurd cc
+flush_said (requests.CopyIn feed) e = absurd cc
 flush_said (requests.Commit left) e = absurd cc
 flush_said (requests.Rollback left) e = absurd cc
 
@@ -430,12 +446,22 @@ seen_cleaned {A} seen c = by (nat_eq c.groups 0) (may_open c.change c.groups c.r
     by true false = refl
     by false false = refl
 
+pub seen_unfed : {A : Type 0} (seen : A → LinkSeen) (over : Bool) (c : ConnOf A) → seen_by seen (unfed over c) ≡ unfed over (seen_by seen c)
+seen_unfed {A} seen over c = by (copies c.change c.groups && (not over && leb (length (spelled (copy_fail ∷ []))) c.stream.spare))
+  where
+    by : (b : Bool) → seen_by seen (cond b (with_copy_fail c) (owned c)) ≡ cond b (with_copy_fail (seen_by seen c)) (owned (seen_by seen c))
+    by true = refl
+    by false = refl
+
 pub seen_behind : {A : Type 0} (seen : A → LinkSeen) (beat : Beat) (c : ConnOf A) → seen_by seen (behind beat c) ≡ behind beat (seen_by seen c)
 seen_behind seen (beats.Ends (Ok answer)) c = refl
-seen_behind seen (beats.Ends (Err e)) c = seen_cleaned seen (record c { broken = broken_by (beats.Ends (Err e)) })
+seen_behind seen (beats.Ends (Err e)) c =
+    let d = record c { broken = broken_by (beats.Ends (Err e)) } in
+    seen_cleaned seen (unfed (ends_copy e) d) ∙ ap (λ (x : ConnSeen). cleaned x) (seen_unfed seen (ends_copy e) d)
 seen_behind seen beats.More c = refl
 seen_behind seen beats.Waits c = refl
 seen_behind seen (beats.Yields item) c = refl
+seen_behind seen (beats.Opens opened) c = refl
 
 -- it has the same call
 restated_call : {A : Type 0} (c : ConnOf A) → (restated c).call ≡ c.call
@@ -453,12 +479,22 @@ cleaned_call {A} c = by (may_open c.change c.groups c.rule.depth) (has_room_for 
     by true false = refl
     by false r = refl
 
+unfed_call : {A : Type 0} (over : Bool) (c : ConnOf A) → (unfed over c).call ≡ c.call
+unfed_call {A} over c = by (copies c.change c.groups && (not over && leb (length (spelled (copy_fail ∷ []))) c.stream.spare))
+  where
+    by : (b : Bool) → (cond b (with_copy_fail c) (owned c)).call ≡ c.call
+    by true = refl
+    by false = refl
+
 behind_call : {A : Type 0} (beat : Beat) (c : ConnOf A) → (behind beat c).call ≡ c.call
 behind_call (beats.Ends (Ok answer)) c = refl
-behind_call (beats.Ends (Err e)) c = cleaned_call (record c { broken = broken_by (beats.Ends (Err e)) })
+behind_call (beats.Ends (Err e)) c =
+    let d = record c { broken = broken_by (beats.Ends (Err e)) } in
+    cleaned_call (unfed (ends_copy e) d) ∙ unfed_call (ends_copy e) d
 behind_call beats.More c = refl
 behind_call beats.Waits c = refl
 behind_call (beats.Yields item) c = refl
+behind_call (beats.Opens opened) c = refl
 
 -- a beat on a connection that is whole, and what its end makes of it
 pub polled : {A : Type 0} (seen : A → LinkSeen) (a m b : ConnOf A) (beat : Beat) → a.broken ≡ None → TakesBeat (seen_by seen a) (seen_by seen m) beat → IsSayable a.call ⊎ Refused (seen_by seen a) (seen_by seen m) beat → EndsFlush (seen_by seen a) (seen_by seen m) beat → (IsAsked m.call → ⊥)
@@ -501,7 +537,7 @@ pub unresolved : {A : Type 0} (seen : A → LinkSeen) (a b : ConnOf A) (answer :
 unresolved {A} seen a b answer e whole (r, asked, is, wants) memory answers =
     let begun : ConnSeen = resolved_by (calls.Asked r) (seen_by seen a) in
     let x : Request = asked_by a.rule r in
-    let same : seen_by seen b ≡ cleaned (record (idle begun) { broken = None }) = ap (λ (c : ConnOf A). seen_by seen c) is ∙ ap (λ (o : Option ServerFault). seen_by seen (unasked r (record a { broken = o }))) whole in
+    let same : seen_by seen b ≡ cleaned (unfed false (record (idle begun) { broken = None })) = ap (λ (c : ConnOf A). seen_by seen c) is ∙ ap (λ (o : Option ServerFault). seen_by seen (unasked r (record a { broken = o }))) whole in
     rw (answers, memory, asked) (record {
       stopped = idle begun;
       turns = refused begun errors.OutOfMemory (memory_refuses x);
@@ -607,6 +643,7 @@ told : (a b : ConnSeen) (start : Ledger) (r : Request) (said : List FrontendMess
 told a b start r said hs f items beats.More fails copy sent h = h
 told a b start r said hs f items beats.Waits fails copy sent h = absurd h
 told a b start r said hs f items (beats.Yields item) fails copy sent h = h
+told a b start r said hs f items (beats.Opens opened) fails copy sent h = h
 told a b start r said hs f items (beats.Ends (Ok answer)) fails copy sent h = (h.0, h.1, sent (plain_end fails f (ready_last hs f h.1.0.ends) copy))
 told a b start r said hs f items (beats.Ends (Err e)) fails copy sent h = (h.0, inl h.1)
 
@@ -614,6 +651,7 @@ taken_cause : (a b : ConnSeen) (beat : Beat) → (beat ≢ beats.Waits) → AllM
 taken_cause a b beats.More n h = h
 taken_cause a b beats.Waits n h = absurd (n refl)
 taken_cause a b (beats.Yields item) n h = h.2
+taken_cause a b (beats.Opens opened) n h = h.2
 taken_cause a b (beats.Ends (Ok answer)) n h = h
 taken_cause a b (beats.Ends (Err e)) n h = h.2
 

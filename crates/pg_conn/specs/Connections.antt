@@ -1,11 +1,11 @@
 -- What is seen of a connection, and what its calls that ask nothing of the link make of it.
-use Rattle.std.specs.Prelude.{◌≡◌, ℕ, Bool, true, false, not, List, [], ◌++◌, Option, Some, None, ◌+◌, ◌-◌, ◌^◌, ◌∷◌, ◌&&◌, nat_eq, leb, ltb, min, length, if◌then◌else◌}
+use Rattle.std.specs.Prelude.{◌≡◌, ℕ, Bool, true, false, not, List, [], ◌++◌, Option, Some, None, ◌+◌, ◌-◌, ◌^◌, ◌∷◌, ◌&&◌, ◌||◌, ◌==◌, nat_eq, leb, ltb, min, length, if◌then◌else◌}
 use Rattle.pg_call.specs.declared.kind.Change.TheVariants as changes
 use Rattle.pg_call.specs.declared.kind.Change.{Change}
 use Rattle.pg_call.specs.declared.request.Request.TheVariants as requests
 use Rattle.pg_call.specs.declared.kind.Keeping.TheVariants as keepings
 use Rattle.pg_call.specs.declared.kind.Keeping.{Keeping}
-use Rattle.pg_call.specs.Requests.{spelled, kind_of, change_of, keeping_of}
+use Rattle.pg_call.specs.Requests.{spelled, copy_fail, kind_of, change_of, keeping_of}
 use Rattle.pg_request.specs.declared.progress.CacheStep.{CacheStep}
 use Rattle.pg_request.specs.declared.progress.CacheStep.TheVariants as steps
 use Rattle.pg_conn.specs.Statements.{asked_by, begun_as, held_by, moved, unmoved, step_of}
@@ -13,7 +13,10 @@ use Rattle.pg_request.specs.Queries.{plain_text}
 use Rattle.pg_request.specs.Texts.{rollback_text}
 use Rattle.pg_rule.specs.declared.rule.Rule.{Rule}
 use Rattle.pg_rule.specs.Rules.{new_rule}
-use Rattle.pg_wire.specs.Frontend.{FrontendMessage, Query}
+use Rattle.pg_wire.specs.Frontend.{FrontendMessage, Query, CopyData, CopyDone, CopyFail}
+use Rattle.pg_wire.specs.declared.error.Error.{Error}
+use Rattle.pg_wire.specs.declared.error.Error.TheVariants as errors
+use Rattle.pg_wire.specs.declared.error.ProtocolFault.TheVariants as protocol
 use Rattle.pg_wire.specs.declared.error.ServerFault.{ServerFault}
 use Rattle.pg_stream.specs.Links.{LinkSeen}
 use Rattle.pg_stream.specs.Streams.{StreamOf, stream_by}
@@ -21,7 +24,7 @@ use Rattle.pg_call.specs.declared.ledger.Ledger.{Ledger}
 use Rattle.pg_call.specs.declared.calling.Call.{Call}
 use Rattle.pg_call.specs.declared.calling.Call.TheVariants as calls
 use Rattle.pg_call.specs.declared.request.Request.{Request}
-use Rattle.pg_call.specs.Hearing.{awaits}
+use Rattle.pg_call.specs.Hearing.{awaits, fed_whole}
 use Rattle.pg_call.specs.Calls.{owes_none, owes_own}
 
 -- A connection over a link, or over what is seen of one.
@@ -89,6 +92,8 @@ abbrev pub depth_behind : Change → ℕ → ℕ → ℕ
 depth_behind changes.Opens groups depth = if nat_eq groups 0 then depth else min (depth + 1) (2 ^ 64 - 1)
 depth_behind changes.Closes groups depth = depth - 1
 depth_behind changes.Stays groups depth = depth
+depth_behind changes.Copies groups depth = depth
+depth_behind changes.Fed groups depth = depth
 
 -- so many are open then
 abbrev pub with_depth : ℕ → Rule → Rule
@@ -128,13 +133,68 @@ queued_group frame c = if has_room_for frame c then with_group frame c else c
 abbrev pub ended : {A : Type 0} → ConnOf A → ConnOf A
 ended c = record c { change = changes.Stays; keeping = keepings.Stays }
 
+-- ---- a copy from the client
+
+-- one was begun, and nothing has ended it yet
+abbrev pub begins_copy : Change → Bool
+begins_copy changes.Copies = true
+begins_copy _ = false
+
+abbrev pub copies : Change → ℕ → Bool
+copies change groups = not (nat_eq groups 0) && begins_copy change
+
+-- an error of the server has ended it, or the CopyFail for it is queued already
+abbrev pub ends_copy : Error → Bool
+ends_copy (errors.Database details) = true
+ends_copy (errors.Protocol (protocol.Reply tag)) = tag == 71
+ends_copy _ = false
+
+abbrev pub with_copy_fail : {A : Type 0} → ConnOf A → ConnOf A
+with_copy_fail c = record c {
+  stream = record c.stream { unsent = c.stream.unsent ++ spelled (copy_fail ∷ []); spare = c.stream.spare - length (spelled (copy_fail ∷ [])) };
+  ledger = record c.ledger { is_copy_failed = true };
+  change = changes.Stays;
+}
+
+-- all of its data was sent
+abbrev pub is_fed : Change → Bool
+is_fed changes.Fed = true
+is_fed _ = false
+
+abbrev pub has_fed : Change → ℕ → Bool
+has_fed change groups = not (nat_eq groups 0) && is_fed change
+
+-- so no CopyFail is due for the reply that stays owed, whatever comes in it
+abbrev pub owned : {A : Type 0} → ConnOf A → ConnOf A
+owned c = record c { ledger = record c.ledger { is_copy_failed = has_fed c.change c.groups || c.ledger.is_copy_failed } }
+
+-- behind its end it is failed, where it is not over: out of the room that is kept for that ("COPY Operations")
+abbrev pub unfed : {A : Type 0} → Bool → ConnOf A → ConnOf A
+unfed over c = if copies c.change c.groups && (not over && leb (length (spelled (copy_fail ∷ []))) c.stream.spare) then with_copy_fail c else owned c
+
+-- messages of the call that runs are queued, for which no reply is awaited
+abbrev pub with_messages : {A : Type 0} → List FrontendMessage → ConnOf A → ConnOf A
+with_messages messages c = record c { stream = record c.stream { unsent = c.stream.unsent ++ spelled messages } }
+
+-- a piece of data, which is no message where it is empty
+abbrev pub piece_of : List ℕ → List FrontendMessage
+piece_of bytes = if nat_eq (length bytes) 0 then [] else CopyData bytes ∷ []
+
+-- all data is sent, and the end of the reply is awaited
+abbrev pub copied : {A : Type 0} → ConnOf A → ConnOf A
+copied c = record (with_messages (CopyDone ∷ []) c) { call = fed_whole c.call; change = changes.Fed }
+
+-- the copy is given up by this message, and its reply stays owed
+abbrev pub copy_aborted : {A : Type 0} → List ℕ → ConnOf A → ConnOf A
+copy_aborted message c = record (with_messages (CopyFail message ∷ []) c) { call = calls.Idle; change = changes.Stays; keeping = keepings.Stays; ledger = record c.ledger { is_copy_failed = true } }
+
 -- behind an end that is no Ok: the transaction that a begin may have opened is rolled back
 abbrev pub cleaned : {A : Type 0} → ConnOf A → ConnOf A
 cleaned c = ended (if may_open c.change c.groups c.rule.depth then queued_group (spelled (rollback 0)) (restated c) else restated c)
 
 -- a call that runs is given up
 abbrev pub left : {A : Type 0} → ConnOf A → ConnOf A
-left c = if runs c.call then idle (cleaned c) else c
+left c = if runs c.call then idle (cleaned (unfed false c)) else c
 
 -- the numbers of a call are counted from zero
 abbrev pub counted_anew : {A : Type 0} → ConnOf A → ConnOf A

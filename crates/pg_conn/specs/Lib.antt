@@ -10,3 +10,4 @@ pub mod Cleanliness
 pub mod Holding
 pub mod Flags
 pub mod News
+pub mod Feeding

@@ -21,6 +21,7 @@ use Rattle.pg_call.specs.declared.answer.Turn.TheVariants as turns
 use Rattle.pg_call.specs.Requests.{kind_of, main_kind}
 use Rattle.pg_call.specs.Answers.{TurnFits, TurnIsPlain, statement_turn}
 use Rattle.pg_call.specs.Calls.{CallIs}
+use Rattle.pg_call.specs.Hearing.{IsOpen}
 use Rattle.pg_conn.specs.declared.statement.PgStatement.{PgStatement}
 use Rattle.pg_conn.specs.Connections.{ConnOf, ConnSeen, seen_by, begun_by, is_over}
 use Rattle.pg_conn.specs.Turns.{HasRoom, PollsCall}
@@ -36,6 +37,7 @@ IsCalling kind c = (start : Ledger) × (r : Request) × (said : List FrontendMes
 -- the call still runs where it waits or has shown an item
 abbrev pub StaysCalling : {A : Type 0} → Kind → ConnOf A → Turn → Type 0
 StaysCalling kind b (turns.Item item) = IsCalling kind b
+StaysCalling kind b (turns.Opened opened) = IsCalling kind b × IsOpen b.call
 StaysCalling kind b _ = Unit {0}
 
 -- what a poll answers is of the call's kind

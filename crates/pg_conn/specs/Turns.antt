@@ -1,6 +1,7 @@
 -- How one poll of a call moves the connection on, whatever the call had done before.
 use Rattle.std.specs.Prelude.{◌≡◌, ◌≢◌, Result, ℕ, ◌-◌, ◌<◌, ◌≤◌, ◌⊎◌, ◌==◌, ◌&&◌, Bool, true, false, count_by, List, [], ◌∷◌, ◌++◌, length, nat_eq, Ok, Err, Option, Some, None, ◌+◌, ◌*◌, if◌then◌else◌}
 use Rattle.pg_call.specs.declared.kind.Change.{Change}
+use Rattle.pg_call.specs.declared.kind.Change.TheVariants as changes
 use Rattle.pg_call.specs.declared.kind.Kind.{Kind}
 use Rattle.pg_call.specs.declared.kind.Kind.TheVariants as kinds
 use Rattle.futures.specs.declared.task.Poll.{Poll}
@@ -29,11 +30,11 @@ use Rattle.pg_call.specs.declared.calling.Beat.{Beat}
 use Rattle.pg_call.specs.declared.calling.Beat.TheVariants as beats
 use Rattle.pg_call.specs.Requests.{Group, spelled, kind_of, is_flush, CanBeSaid, IsRefusal}
 use Rattle.pg_call.specs.Drains.{is_error}
-use Rattle.pg_call.specs.Hearing.{fails_of, sent_answer}
+use Rattle.pg_call.specs.Hearing.{IsOpen, fails_of, sent_answer}
 use Rattle.pg_call.specs.declared.calling.Taken.{Taken}
 use Rattle.pg_call.specs.declared.running.Running.{Running}
 use Rattle.pg_call.specs.Calls.{CallIs, IsAwaiting, Leaves, CallEnds, IsFrontFault, TakesMessage, RefusesMessage, StaysIn}
-use Rattle.pg_conn.specs.Connections.{ConnOf, ConnSeen, idle, left, standing, started_call, begun, begun_with, handed, opens, resolved, settled, cleaned, ended}
+use Rattle.pg_conn.specs.Connections.{ConnOf, ConnSeen, idle, left, standing, started_call, begun, begun_with, handed, resolved, settled, cleaned, ended, ends_copy, unfed}
 use Rattle.pg_conn.specs.Statements.{asked_by, begun_as}
 
 -- Query and Sync end a group ("Simple Query", "Extended Query")
@@ -74,9 +75,14 @@ abbrev pub cleanup_of : Call → ℕ
 cleanup_of (calls.Own reply) = 128
 cleanup_of _ = 0
 
--- the bytes that are kept for the rollback of what a begin may have opened
+-- what is kept for a cleanup: for the rollback of what a begin may have opened, and for the CopyFail of a copy from the client
+abbrev pub wants_level : Change → Bool
+wants_level changes.Opens = true
+wants_level changes.Copies = true
+wants_level _ = false
+
 abbrev pub level_of : Change → ℕ → ℕ
-level_of change groups = if nat_eq groups 0 then 0 else (if opens change then 64 else 0)
+level_of change groups = if nat_eq groups 0 then 0 else (if wants_level change then 64 else 0)
 
 -- there is room for them beside so many bytes, which takes no memory
 abbrev pub HasRoomBeside : {A : Type 0} → ℕ → ConnOf A → Type 0
@@ -109,6 +115,7 @@ abbrev pub Tells : ConnSeen → ConnSeen → Ledger → Request → List Fronten
 Tells a b start r said hs items beats.More = CallIs start r said hs items b.ledger b.call
 Tells a b start r said hs items beats.Waits = CallIs start r said hs items b.ledger b.call × IsWaited b
 Tells a b start r said hs items (beats.Yields item) = CallIs start r said hs (items ++ item ∷ []) b.ledger b.call
+Tells a b start r said hs items (beats.Opens opened) = CallIs start r said hs items b.ledger b.call × (kind_of r ≡ kinds.CopyIn) × IsOpen b.call
 Tells a b start r said hs items (beats.Ends (Ok answer)) = (b.call ≡ calls.Idle) × CallEnds start r said hs items b.ledger (Ok answer) × (b.stream.unsent ≡ [])
 Tells a b start r said hs items (beats.Ends (Err e)) = (b.call ≡ calls.Idle) × EndsBy a b start r said hs items e
 
@@ -216,6 +223,7 @@ abbrev pub beat_of_turn : Turn → Beat
 beat_of_turn (turns.Item item) = beats.Yields item
 beat_of_turn (turns.Ok answer) = beats.Ends (Ok answer)
 beat_of_turn (turns.Err e) = beats.Ends (Err e)
+beat_of_turn (turns.Opened opened) = beats.Opens opened
 
 -- what a poll answers
 abbrev pub beat_of : Poll Turn → Beat
@@ -240,7 +248,7 @@ EndsFlush a b beat = is_flushed a ≡ true → (beat ≡ beats.Ends (Ok (sent_an
 -- fault, and is cleaned up behind
 abbrev pub behind : {A : Type 0} → Beat → ConnOf A → ConnOf A
 behind (beats.Ends (Ok answer)) c = settled c
-behind (beats.Ends (Err e)) c = cleaned (record c { broken = broken_by (beats.Ends (Err e)) })
+behind (beats.Ends (Err e)) c = cleaned (unfed (ends_copy e) (record c { broken = broken_by (beats.Ends (Err e)) }))
 behind _ c = c
 
 -- one poll of a call that begins with this connection, which is whole

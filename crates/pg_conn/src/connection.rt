@@ -1,7 +1,8 @@
-ghost use Rattle.std.specs.Prelude.{◌≡◌, ◌≤◌, ◌+◌, ◌-◌, ◌^◌, min, not, nat_eq, length, is_some, option_map, OnErr, Err};
+ghost use Rattle.std.specs.Prelude.{◌≡◌, ◌≤◌, ◌+◌, ◌-◌, ◌^◌, min, not, nat_eq, length, is_some, option_map, true, OnErr, Err};
 ghost use Rattle.pg_rule.specs.Caches.{entry_at};
 ghost use Rattle.pg_stream.specs.Parameters.{value_of};
-ghost use Rattle.pg_conn.specs.Connections.{cleaned, counted_anew, ended, idle, fresh_connection, handed, left, left_by, may_open, queued_group, restated, rolled_back, runs, settled, started_call, started_next, with_room};
+ghost use Rattle.pg_conn.specs.Connections.{cleaned, copies, counted_anew, ended, idle, fresh_connection, handed, left, left_by, may_open, queued_group, restated, rolled_back, runs, settled, started_call, started_next, unfed, with_room};
+ghost use Rattle.pg_call.specs.Hearing.{fed_whole};
 ghost use Rattle.pg_conn.specs.Turns.{level_of};
 
 use crate::keeping::{begun_as, keep, let_go, step_of};
@@ -13,6 +14,10 @@ use pg_stream::PgStream;
 use pg_wire::{Error, ServerFault};
 use std::alloc::Global;
 use std::marker::Model;
+
+/// The frame that ends a copy from the client which no one feeds. (PostgreSQL manual, "Message Formats", CopyFail.)
+pub(crate) const COPY_FAIL: [u8; 57] =
+    *b"f\0\0\0\x38PgCopyIn dropped without calling finish() or fail()\0";
 
 /// A connection behind its start-up, and the call that runs on it.
 pub struct PgConnection<L> {
@@ -207,6 +212,13 @@ impl<L> PgConnection<L> {
         self.alloc
     }
 
+    // Whether the call has begun a copy from the client that nothing has ended yet.
+    fn copies(&self) -> bool
+        ensures { result ≡ copies self.now.change self.now.groups }
+    {
+        self.groups > 0 && matches!(self.change, Change::Copies)
+    }
+
     // Whether the call is a begin that may have opened a transaction.
     fn may_open(&self) -> bool
         ensures { result ≡ may_open self.now.change self.now.groups self.now.rule.depth }
@@ -214,11 +226,11 @@ impl<L> PgConnection<L> {
         self.groups > 0 && self.rule.depth == 0 && matches!(self.change, Change::Opens)
     }
 
-    // The bytes that are kept for the rollback of what a begin may open, once so many groups of it are queued.
+    // The bytes that are kept for the rollback of what a begin may open, or for the CopyFail of a copy from the client, once so many groups of it are queued.
     pub(crate) fn level(&self, groups: u64) -> usize
         ensures { result ≡ level_of self.now.change groups }
     {
-        if groups > 0 && matches!(self.change, Change::Opens) {
+        if groups > 0 && matches!(self.change, Change::Opens | Change::Copies) {
             64
         } else {
             0
@@ -244,7 +256,7 @@ impl<L> PgConnection<L> {
         self.rule.depth = match self.change {
             Change::Opens if self.groups > 0 => self.rule.depth.saturating_add(1),
             Change::Closes => self.rule.depth.saturating_sub(1),
-            Change::Opens | Change::Stays => self.rule.depth,
+            Change::Opens | Change::Stays | Change::Copies | Change::Fed => self.rule.depth,
         };
         keep(&mut self.rule, self.keeping);
         self.cache = step_of(self.keeping, self.cache);
@@ -271,6 +283,36 @@ impl<L> PgConnection<L> {
         }
     }
 
+    /// Fails the copy from the client that the call has begun, unless something has ended it: out of the room that is kept for that, without taking memory. Where all of its data
+    /// was sent, no CopyFail is due for the reply that stays owed.
+    pub(crate) fn unfeed(&mut self, is_over: bool)
+        ensures { self.new ≡ unfed is_over self.old }
+    {
+        if self.copies() && !is_over && COPY_FAIL.len() <= self.stream.spare() {
+            self.stream.queue_cleanup(&COPY_FAIL);
+            self.running.ledger.is_copy_failed = true;
+            self.change = Change::Stays;
+        } else if self.groups > 0 && matches!(self.change, Change::Fed) {
+            self.running.ledger.is_copy_failed = true;
+        }
+    }
+
+    // No CopyFail is due any more for what the call has begun.
+    pub(crate) fn end_feed(&mut self)
+        ensures { self.new ≡ record self.old { call = fed_whole self.old.call; change = Change.Fed } }
+    {
+        self.running.end_feed();
+        self.change = Change::Fed;
+    }
+
+    // The call is given up, for whose reply a CopyFail is queued.
+    pub(crate) fn give_up_copy(&mut self)
+        ensures { self.new ≡ record self.old { call = Call.Idle; change = Change.Stays; keeping = Keeping.Stays; ledger = record self.old.ledger { is_copy_failed = true } } }
+    {
+        self.forget();
+        self.running.ledger.is_copy_failed = true;
+    }
+
     /// The call has come to another end: the transaction that a begin may have opened is rolled back.
     pub(crate) fn clean(&mut self)
         ensures { self.new ≡ cleaned self.old }
@@ -283,12 +325,13 @@ impl<L> PgConnection<L> {
         self.end_change();
     }
 
-    /// Gives the running call up. Replies to what it queued stay owed. Where it is a begin that may have opened a transaction, a rollback is
+    /// Gives the running call up. Replies to what it queued stay owed. A copy from the client that nothing has ended is ended by a CopyFail. Where it is a begin that may have opened a transaction, a rollback is
     /// queued behind it, which takes no memory and which no call waits for.
     pub fn abandon(&mut self)
         ensures { self.new ≡ left self.old }
     {
         if self.is_running() {
+            self.unfeed(false);
             self.clean();
             self.turn_to(Call::Idle);
         }

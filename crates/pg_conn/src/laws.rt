@@ -6,7 +6,7 @@ ghost use Rattle.pg_call.specs.declared.kind.Kind.{Kind};
 ghost use Rattle.pg_call.specs.declared.request.Request.{Request};
 ghost use Rattle.pg_call.specs.declared.request.Request.TheVariants as requests;
 ghost use Rattle.pg_call.specs.Requests.{CanBeSaid, spelled};
-ghost use Rattle.pg_conn.specs.Connections.{ConnSeen, ended, fresh_connection, idle, left, left_by, may_open, restated, rollback, rolled_back, runs, started_call, started_next, with_group, with_spare};
+ghost use Rattle.pg_conn.specs.Connections.{ConnSeen, cleaned, copies, ended, fresh_connection, has_fed, idle, left, left_by, may_open, restated, rollback, rolled_back, runs, started_call, started_next, with_copy_fail, with_group, with_spare};
 ghost use Rattle.pg_conn.specs.Holding.{IsRelease, gave_up, held_more, took_held};
 ghost use Rattle.pg_stream.specs.Streams.{StreamSeen};
 ghost use Rattle.pg_conn.specs.Ledgers.{Owes, OwesSome};
@@ -21,10 +21,21 @@ pub fn an_unpolled_call_does_nothing()
     ensures { (c : ConnSeen) (request : Request) → left_by (Some request) c ≡ c }
 {}
 
-/// A call that is given up, and that is no begin which may have opened a transaction, leaves all but itself as it is: what it queued stays
+/// A call that is given up, and that is neither a begin which may have opened a transaction nor a copy from the client, leaves all but itself as it is: what it queued stays
 /// queued, and its reply stays owed.
 pub fn a_dropped_call_stays_owed()
-    ensures { (c : ConnSeen) → may_open c.change c.groups c.rule.depth ≡ false → ((left c).ledger ≡ c.ledger) × ((left c).stream ≡ c.stream) }
+    ensures { (c : ConnSeen) → may_open c.change c.groups c.rule.depth ≡ false → copies c.change c.groups ≡ false → has_fed c.change c.groups ≡ false → ((left c).ledger ≡ c.ledger) × ((left c).stream ≡ c.stream) }
+{}
+
+/// A copy from the client that is given up once its group is queued, and before anything has ended it, is failed: a CopyFail is queued behind what was sent. There is room
+/// for it, which takes no memory.
+pub fn a_dropped_copy_is_failed()
+    ensures { (c : ConnSeen) → runs c.call ≡ true → copies c.change c.groups ≡ true → HasRoom c → left c ≡ idle (cleaned (with_copy_fail c)) }
+{}
+
+/// A copy from the client that is given up behind the end of its data queues nothing, and its reply stays owed, for which no CopyFail is due any more.
+pub fn a_dropped_copy_that_is_fed_stays_owed()
+    ensures { (c : ConnSeen) → runs c.call ≡ true → has_fed c.change c.groups ≡ true → ((left c).ledger ≡ record c.ledger { is_copy_failed = true }) × ((left c).stream ≡ c.stream) }
 {}
 
 /// A begin that is given up once its group is queued, outside of any transaction, is followed by a rollback: one reply more is owed. There is

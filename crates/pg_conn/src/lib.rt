@@ -11,6 +11,7 @@ mod dial;
 mod dial_counts;
 pub mod drops;
 mod establishing;
+mod feeding;
 mod flags;
 mod holding;
 mod keeping;

@@ -1,7 +1,7 @@
 ghost use Rattle.std.specs.Prelude.{◌≡◌, ◌≢◌, ◌+◌, ◌*◌, ◌-◌, ◌<◌, ◌≤◌, ◌⊎◌, ◌==◌, ◌&&◌, true, false, [], None, IsSome, IfSome, OnOk, OnErr, IfOk, IfErr};
 ghost use Rattle.pg_stream.specs.Links.{GrewBy};
 ghost use Rattle.pg_stream.specs.Streams.{IsHeardFront, Passes};
-ghost use Rattle.pg_conn.specs.Connections.{seen_by, ended, idle, begun_with, begun_by, is_over, runs, with_spare, queued_call, awaiting, closing, resolved};
+ghost use Rattle.pg_conn.specs.Connections.{seen_by, ended, ends_copy, idle, begun_with, begun_by, is_over, runs, with_spare, queued_call, awaiting, closing, resolved};
 ghost use Rattle.pg_call.specs.Calls.{IsAwaiting};
 ghost use Rattle.pg_call.specs.Hearing.{IsReplied, keeps_now, sent_answer, waits};
 ghost use Rattle.pg_call.specs.declared.kind.Kind as declared_kind;
@@ -9,6 +9,7 @@ ghost use Rattle.pg_call.specs.declared.request.Request as declared_request;
 ghost use Rattle.pg_conn.specs.States.{IsCalling, PollFits};
 ghost use Rattle.pg_conn.specs.Turns.{level_of, kept_for, TakesBeat, Falls, GoesOn, HearsFront, Prepares, Readies, Refuses, Accepts, IsAsked, IsSayable, Refused, IsAhead, only_sends, flushes, is_flushed, EndsFlush, queued_copy_fail, Polled, PollsThrough, PollsWithin, PollsCall, PollsMore, beat_of, broken_by, hands_on, HandsOnNone};
 
+use crate::connection::COPY_FAIL;
 use crate::{PgConnection, Request, Turn};
 use pg_call::{Beat, Call, CallAnswer, Kind, Taken};
 use pg_stream::{Front, Link};
@@ -17,9 +18,6 @@ use pg_wire::{Blob, Error, Poll, ProtocolFault, ServerFault};
 /// The bytes that are kept for the cleanup of a call that has queued a group.
 pub(crate) const RESERVE: usize = 128;
 
-/// The frame that ends a copy from the client which no one feeds. (PostgreSQL manual, "Message Formats", CopyFail.)
-const COPY_FAIL: [u8; 57] = *b"f\0\0\0\x38PgCopyIn dropped without calling finish() or fail()\0";
-
 // The fault of the server that an error tells: it breaks the connection.
 pub(crate) fn fault_in(error: &Error) -> Option<ServerFault>
     ensures { result ≡ broken_by (Beat.Ends (Err error.now)) }
@@ -27,6 +25,17 @@ pub(crate) fn fault_in(error: &Error) -> Option<ServerFault>
     match error {
         Error::Protocol(ProtocolFault::Server(fault)) => Some(*fault),
         _ => None,
+    }
+}
+
+// Whether an error has ended a copy from the client, or the CopyFail for it is queued already.
+fn ends_copy(error: &Error) -> bool
+    ensures { result ≡ ends_copy error.now }
+{
+    match error {
+        Error::Database(_) => true,
+        Error::Protocol(ProtocolFault::Reply { tag }) => *tag == b'G',
+        _ => false,
     }
 }
 
@@ -182,7 +191,7 @@ impl<L> PgConnection<L> {
     }
 
     // Allows so many calls of the link.
-    fn allow(&mut self, left: u16)
+    pub(crate) fn allow(&mut self, left: u16)
         requires { left ≤ 256 }
         ensures { self.new ≡ begun_with left self.old }
     {
@@ -419,12 +428,14 @@ impl<L: Link> PgConnection<L> {
         match self.beat() {
             Beat::More | Beat::Waits => Poll::Pending,
             Beat::Yields(item) => Poll::Ready(Turn::Item(item)),
+            Beat::Opens(data) => Poll::Ready(Turn::Opened(data)),
             Beat::Ends(Ok(answer)) => {
                 self.settle();
                 Poll::Ready(Turn::Ok(answer))
             }
             Beat::Ends(Err(e)) => {
                 self.broken = fault_in(&e);
+                self.unfeed(ends_copy(&e));
                 self.clean();
                 Poll::Ready(Turn::Err(e))
             }

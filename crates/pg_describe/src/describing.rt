@@ -6,12 +6,12 @@ ghost use Rattle.pg_conn.specs.Connections.{begun_by, is_over, left_by};
 ghost use Rattle.pg_conn.specs.States.{PollFits, to_prepare, untyped};
 ghost use Rattle.pg_describe.specs.Describing.{GoesOn, HearsTurn, IsDescribing, PollsDescribe, StaysDescribing, TellsNulls};
 
+use crate::Describe;
 use crate::flags::read_flags;
-use crate::{Describe, holding};
 use pg_call::{Keeping, Prepared, Request, Turn};
 use pg_columns::{PgColumn, PgColumns};
 use pg_conn::PgRow;
-use pg_guards::PgExecutor;
+use pg_guards::{PgExecutor, holding};
 use pg_nullable::nulls_query;
 use pg_wire::{Error, Oids, Poll, Sequence, Text};
 use std::alloc::Global;
@@ -128,7 +128,7 @@ impl<C: PgExecutor> Describing<C> {
         ensures polls { PollsDescribe C.L.seen None (begun_by self.old.request (C.conn self.old.conn)) (C.conn self.new.conn) result self.new.told }
         ensures stays { StaysDescribing self.new.told (C.conn self.new.conn) result }
     {
-        match holding::poll(&mut self.conn, &mut self.request) {
+        match holding::poll_turn(&mut self.conn, &mut self.request) {
             Poll::Pending => Poll::Pending,
             Poll::Ready(turn) => match turn.into_statement() {
                 Ok(prepared) => self.go_on(prepared),
@@ -147,7 +147,7 @@ impl<C: PgExecutor> Describing<C> {
         ensures polls { PollsDescribe C.L.seen (Some prepared) (begun_by self.old.request (C.conn self.old.conn)) (C.conn self.new.conn) result self.new.told }
         ensures stays { StaysDescribing self.new.told (C.conn self.new.conn) result }
     {
-        let answer = holding::poll(&mut self.conn, &mut self.request);
+        let answer = holding::poll_turn(&mut self.conn, &mut self.request);
         self.hear(prepared, answer)
     }
 

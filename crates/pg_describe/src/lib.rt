@@ -6,7 +6,6 @@
 mod describing;
 mod description;
 mod flags;
-mod holding;
 
 pub use describing::{Describing, describe};
 pub use description::Describe;

@@ -1,8 +1,9 @@
+//! What a state does with the connection that is held: it lends the connection once for each.
 ghost use Rattle.std.specs.Prelude.{◌≡◌, false, None};
 ghost use Rattle.pg_call.specs.Answers.{unit_turn};
-ghost use Rattle.pg_conn.specs.Connections.{begun_by, is_over, left_by, rolled_back, seen_by};
+ghost use Rattle.pg_conn.specs.Connections.{begun_by, is_over, left_by, rolled_back, seen_by, started_next};
 ghost use Rattle.pg_conn.specs.States.{IsCalling, IsCallingPlainly, PollFits, PollFitsPlainly, turn_of};
-ghost use Rattle.pg_conn.specs.Turns.{PollsCall};
+ghost use Rattle.pg_conn.specs.Turns.{PollsCall, PollsMore};
 ghost use Rattle.pg_call.specs.declared.kind.Kind as declared_kind;
 
 use crate::PgExecutor;
@@ -44,7 +45,7 @@ pub(crate) fn poll_held<C: PgExecutor>(
 }
 
 /// One poll of a call on the connection that is held. It begins the call where this is its first.
-pub(crate) fn poll_turn<C: PgExecutor>(holder: &mut C, request: &mut Option<Request>) -> Poll<Turn>
+pub fn poll_turn<C: PgExecutor>(holder: &mut C, request: &mut Option<Request>) -> Poll<Turn>
     requires { is_over request.old (C.conn holder.old).call ≡ false }
     ensures holder { holder.new ≡ C.with_conn holder.old (C.conn holder.new) }
     ensures asked { request.new ≡ None }
@@ -52,6 +53,24 @@ pub(crate) fn poll_turn<C: PgExecutor>(holder: &mut C, request: &mut Option<Requ
     ensures fits { (kind : declared_kind.Kind) → IsCalling kind (begun_by request.old (C.conn holder.old)) → PollFits kind (C.conn holder.new) result }
 {
     holder.conn_mut().poll_with(request)
+}
+
+// The first poll of a call behind one that ended, with the calls of the link that are left.
+fn poll_behind<L: Link>(conn: &mut PgConnection<L>, request: Request) -> Poll<Turn>
+    ensures polls { PollsMore (seen_by L.seen (started_next request conn.old)) (seen_by L.seen conn.new) result }
+    ensures fits { (kind : declared_kind.Kind) → IsCalling kind (started_next request conn.old) → PollFits kind conn.new result }
+{
+    conn.start_next(request);
+    conn.poll_more()
+}
+
+/// The first poll of a call behind one that ended, on the connection that is held, with the calls of the link that are left.
+pub fn poll_next<C: PgExecutor>(holder: &mut C, request: Request) -> Poll<Turn>
+    ensures holder { holder.new ≡ C.with_conn holder.old (C.conn holder.new) }
+    ensures polls { PollsMore (seen_by C.L.seen (started_next request (C.conn holder.old))) (seen_by C.L.seen (C.conn holder.new)) result }
+    ensures fits { (kind : declared_kind.Kind) → IsCalling kind (started_next request (C.conn holder.old)) → PollFits kind (C.conn holder.new) result }
+{
+    poll_behind(holder.conn_mut(), request)
 }
 
 // Rolls back without waiting on the connection that is held.
@@ -71,7 +90,7 @@ pub(crate) fn roll_back<C: PgExecutor>(holder: C) -> C
 }
 
 /// What the drop of a call's state does, on the connection that is held.
-pub(crate) fn leave<C: PgExecutor>(holder: C, request: Option<Request>) -> C
+pub fn leave<C: PgExecutor>(holder: C, request: Option<Request>) -> C
     ensures { result ≡ C.with_conn holder (left_by request (C.conn holder)) }
 {
     let mut holder = holder;

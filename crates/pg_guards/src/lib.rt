@@ -7,7 +7,7 @@ mod copy_out;
 pub mod drops;
 mod executor;
 mod finish;
-mod holding;
+pub mod holding;
 mod manager;
 mod transaction;
 

@@ -1,6 +1,6 @@
 ghost use Rattle.std.specs.Prelude.{◌≡◌, ◌≤◌, ℕ, false, Some, IfOk, IfErr};
 ghost use Rattle.pg_auth.specs.Nonce.{IsNonce};
-ghost use Rattle.pg_startup.specs.Establishing.{Begins, IsLeft, RefusesStart};
+ghost use Rattle.pg_startup.specs.Establishing.{Begins, IsLeft, RefusesStart, kept_link};
 ghost use Rattle.pg_conn.specs.Connecting.{PollsConnect};
 ghost use Rattle.pg_listen.specs.Handed.{UsesLeave, connection_of};
 
@@ -70,6 +70,15 @@ impl<L> EstablishPooled<L> {
         let EstablishPooled { startup, ticket } = self;
         drop(startup);
         ticket
+    }
+
+    /// The same, and hands back the link as well, which is gone exactly where a poll has answered the connection.
+    pub fn into_parts(self) -> (Option<Ticket>, Option<L>)
+        ensures ticket { result.0 ≡ self.ticket }
+        ensures link { result.1 ≡ kept_link self.connecting.startup.phase }
+    {
+        let EstablishPooled { startup, ticket } = self;
+        (ticket, startup.into_link())
     }
 }
 

@@ -1,17 +1,24 @@
 -- There is always room for the release of a lock that is held, so it is queued.
-use Rattle.std.proofs.Common.{◌≡◌, ℕ, ◌-◌, ◌^◌, ◌*◌, ◌≤◌, ◌<◌, Bool, true, false, cond, nat_eq, ne_eqb, List, length, Some, refl, ap, ◌∙◌, arith}
-use Rattle.pg_call.specs.Requests.{spelled}
-use Rattle.pg_conn.specs.Connections.{ConnSeen, cleaned, counted_anew, ended, idle, left, queued_group, runs, with_group}
+use Rattle.std.proofs.Common.{◌≡◌, ℕ, ◌-◌, ◌^◌, ◌*◌, ◌≤◌, ◌<◌, Bool, true, false, ◌&&◌, cond, nat_eq, leb, ne_eqb, List, [], ◌∷◌, length, Some, refl, ap, ◌∙◌, arith}
+use Rattle.pg_call.specs.Requests.{spelled, copy_fail}
+use Rattle.pg_conn.specs.Connections.{ConnSeen, cleaned, copies, counted_anew, ended, idle, left, owned, queued_group, runs, unfed, with_copy_fail, with_group}
 use Rattle.pg_conn.specs.Holding.{IsRelease, gave_up, held_fewer, let_go, release, took_held}
 use Rattle.pg_conn.specs.Turns.{HasAllRoom}
 use Rattle.pg_conn.proofs.CleanupLaws.{all_left, has_room, held_cleaned}
 use Rattle.pg_conn.proofs.HoldingLaws.{release_short}
 
+held_unfed : (c : ConnSeen) → (unfed false c).held ≡ c.held
+held_unfed c = by (copies c.change c.groups && leb (length (spelled (copy_fail ∷ []))) c.stream.spare)
+  where
+    by : (b : Bool) → (cond b (with_copy_fail c) (owned c)).held ≡ c.held
+    by true = refl
+    by false = refl
+
 held_left : (c : ConnSeen) → (left c).held ≡ c.held
 held_left c = by (runs c.call)
   where
-    by : (b : Bool) → (cond b (idle (cleaned c)) c).held ≡ c.held
-    by true = held_cleaned c
+    by : (b : Bool) → (cond b (idle (cleaned (unfed false c))) c).held ≡ c.held
+    by true = held_cleaned (unfed false c) ∙ held_unfed c
     by false = refl
 
 not_none : (n : ℕ) → 0 < n → nat_eq n 0 ≡ false

@@ -11,20 +11,20 @@ pub into_statement-requires : goal.into_statement-requires
 into_statement-requires g c = (c.in-Ready.ensures.fits kinds.Prepare c.requires.calling).0
 
 pub returns-in-Pending-clause-polls : goal.returns-in-Pending-clause-polls
-returns-in-Pending-clause-polls g c = (g.C.PgExecutor.conn c.poll.new.holder, Pending, c.in-Pending.ensures.polls, (refl, refl, c.requires.told))
+returns-in-Pending-clause-polls g c = (g.C.PgExecutor.conn c.poll_turn.new.holder, Pending, c.in-Pending.ensures.polls, (refl, refl, c.requires.told))
 
 pub returns-in-Ok-clause-polls : goal.returns-in-Ok-clause-polls
 returns-in-Ok-clause-polls g c = (
-  g.C.PgExecutor.conn c.poll.new.holder,
+  g.C.PgExecutor.conn c.poll_turn.new.holder,
   Ready (Ok c.in-Ok.prepared),
-  subst (λ (turn : Turn). PollsCall (seen_by g.C.L.Link.seen (begun_by c.args.self.now.request (g.C.PgExecutor.conn c.args.self.now.conn))) (seen_by g.C.L.Link.seen (g.C.PgExecutor.conn c.poll.new.holder)) (Ready turn)) (c.into_statement.ensures ∙ ap statement_turn c.in-Ok.is) c.in-Ready.ensures.polls,
+  subst (λ (turn : Turn). PollsCall (seen_by g.C.L.Link.seen (begun_by c.args.self.now.request (g.C.PgExecutor.conn c.args.self.now.conn))) (seen_by g.C.L.Link.seen (g.C.PgExecutor.conn c.poll_turn.new.holder)) (Ready turn)) (c.into_statement.ensures ∙ ap statement_turn c.in-Ok.is) c.in-Ready.ensures.polls,
   c.go_on.ensures.goes,
 )
 
 pub returns-in-Err-clause-polls : goal.returns-in-Err-clause-polls
 returns-in-Err-clause-polls g c = (
-  g.C.PgExecutor.conn c.poll.new.holder,
+  g.C.PgExecutor.conn c.poll_turn.new.holder,
   Ready (Err c.in-Err.e),
-  subst (λ (turn : Turn). PollsCall (seen_by g.C.L.Link.seen (begun_by c.args.self.now.request (g.C.PgExecutor.conn c.args.self.now.conn))) (seen_by g.C.L.Link.seen (g.C.PgExecutor.conn c.poll.new.holder)) (Ready turn)) (c.into_statement.ensures ∙ ap statement_turn c.in-Err.is) c.in-Ready.ensures.polls,
+  subst (λ (turn : Turn). PollsCall (seen_by g.C.L.Link.seen (begun_by c.args.self.now.request (g.C.PgExecutor.conn c.args.self.now.conn))) (seen_by g.C.L.Link.seen (g.C.PgExecutor.conn c.poll_turn.new.holder)) (Ready turn)) (c.into_statement.ensures ∙ ap statement_turn c.in-Err.is) c.in-Ready.ensures.polls,
   (refl, refl, c.requires.told),
 )

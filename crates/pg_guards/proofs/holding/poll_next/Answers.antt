@@ -2,7 +2,7 @@ use Rattle.std.proofs.Common.{subst, sym}
 use Rattle.pg_conn.specs.Connections.{ConnOf, seen_by, started_next}
 use Rattle.pg_conn.specs.States.{IsCalling, PollFits}
 use Rattle.pg_conn.specs.Turns.{PollsMore}
-use Rattle.pg_describe.proofs.holding.poll_next.Goals as goal
+use Rattle.pg_guards.proofs.holding.poll_next.Goals as goal
 
 pub returns-clause-polls : goal.returns-clause-polls
 returns-clause-polls g c =
