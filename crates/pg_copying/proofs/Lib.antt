@@ -1,0 +1,4 @@
+pub mod CallingLaws
+pub mod DropLaws
+pub mod FeedLaws
+pub mod HeldLaws

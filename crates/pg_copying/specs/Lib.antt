@@ -1,0 +1,3 @@
+pub mod Aborts
+pub mod Copies
+pub mod Feeds
