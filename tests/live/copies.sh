@@ -1,7 +1,7 @@
 #!/usr/bin/env bash
-# Copies a table to the client against a PostgreSQL server of its own: whole, with as many pieces as rows, and dropped at each of its first polls and behind each of
-# its first pieces. Behind each copy a query asks for a row of its own, and must have it. A copy that fails in its middle, one that is none, and one from the client
-# come besides.
+# Copies a table to the client and from it against a PostgreSQL server of its own: whole, with as many pieces as rows to the client, and dropped at each of its first
+# polls and behind each of its first pieces. Behind each copy a query asks for a row of its own, and must have it. What went in comes out again. Copies that fail in
+# their middle, and those that are none, come besides.
 #
 #     tests/live/copies.sh PROGRAM [PORT]
 #
@@ -45,6 +45,36 @@ step('step 1000 copyout "COPY numbers FROM STDIN"', ('ends', 'error Protocol rep
 step('step 1000 ping', ('fails', '57014'))
 row(4)
 
+def copyin(polls, want, *pieces, of='COPY fed FROM STDIN'):
+    texts = ' '.join('"' + piece.replace('\n', '\\x0a') + '"' for piece in pieces)
+    step(f'step {polls} copyin "{of}" finish {texts}'.rstrip(), want)
+
+
+step('step 1000 execute raw "CREATE TEMP TABLE fed (n int PRIMARY KEY, CHECK (n < 1000000))"', ('ends', 'ok'))
+copyin(1000, ('ends', f'ok total {ROWS}'), *(''.join(f'{k}\n' for k in range(n, n + 1000)) for n in range(1, ROWS, 1000)))
+step('step 1000 copyout "COPY (SELECT n FROM fed ORDER BY n) TO STDOUT"', ('pieces', ROWS))
+for polls in range(11):
+    step('step 1000 execute raw "TRUNCATE fed"', ('ends', 'ok'))
+    copyin(polls, ('fed', 2), '1\n', '', '2\n')
+    row(300 + polls)
+    step('step 1000 fetch_all raw "SELECT count(*) IN (0, 2) FROM fed"', ('row', 't'))
+step('step 1000 execute raw "TRUNCATE fed"', ('ends', 'ok'))
+copyin(1000, ('ends', 'ok total 1'), '', '5\n', '')
+copyin(1000, ('ends', 'ok total 0'))
+copyin(1000, ('fails', '23505'), '6\n', '6\n', '7\n')
+row(5)
+copyin(1000, ('fails', '23514'), '8\n', '1000000\n', '9\n')
+row(6)
+copyin(1000, ('ends', 'error Protocol reply 54'), '1\n', of='SELECT 1')
+row(7)
+copyin(1000, ('ends', 'error Protocol reply 48'), '1\n', of='COPY fed TO STDOUT')
+row(8)
+step('step 1000 begin', ('ends', 'ok'))
+copyin(2, ('fed', 2), '10\n', '11\n')
+step('step 1 start_rollback', ('ends', 'ok'))
+row(9)
+step('step 1000 fetch_all raw "SELECT count(*) FROM fed"', ('row', '1'))
+
 report = subprocess.run([program, 'live', url], input='\n'.join(steps) + '\n', capture_output=True, text=True).stdout
 items, bad, told = {}, 0, 0
 for line in report.splitlines():
@@ -65,11 +95,25 @@ for line in report.splitlines():
         'row': lambda: end == 'ok' and shown == [value],
         'pieces': lambda: end == 'ok' and len(shown) == value and pieces,
         'front': lambda: pieces and (end == 'dropped' or len(shown) == ROWS),
+        'fed': lambda: end in ('dropped', f'ok total {value}'),
         'most': lambda: pieces and len(shown) == value and end == 'dropped',
     }[kind]()
     if not so:
         bad += 1
         print(f'not so: {steps[n - 1]}: {len(shown)} items, {end}')
 print(f'{told} of {len(steps)} steps told, {bad} not so; {sum(map(len, items.values()))} items')
+
+# A call that sends more than the server takes while it says as much itself waits for ever, and can be dropped; its connection serves nobody any more.
+stalled = [
+    'step 1000 execute raw "CREATE FUNCTION pg_temp.tell() RETURNS trigger LANGUAGE plpgsql AS $$BEGIN RAISE NOTICE \'%\', repeat(\'n\', 8000); RETURN NEW; END$$"',
+    'step 1000 execute raw "CREATE TEMP TABLE told (n text)"',
+    'step 1000 execute raw "CREATE TRIGGER tells BEFORE INSERT ON told FOR EACH ROW EXECUTE FUNCTION pg_temp.tell()"',
+    'step 300 copyin "COPY told FROM STDIN" finish ' + ' '.join(['"' + 'row\\x0a' * 4000 + '"'] * 1000),
+    'step 300 fetch_all raw "SELECT 1"',
+]
+report = subprocess.run([program, 'live', url], input='\n'.join(stalled) + '\n', capture_output=True, text=True).stdout
+ends = [line.split(' moved ')[1].split(' ', 1)[1] for line in report.splitlines() if line.startswith('step ')]
+print('the stalled copy, and the call behind it:', *ends[-2:])
+bad += ends[-2:] != ['dropped', 'dropped']
 sys.exit(bad > 0 or told != len(steps))
 PY

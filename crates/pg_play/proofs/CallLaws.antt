@@ -1,9 +1,11 @@
 -- One more poll of an exchange of a call that is played.
-use Rattle.std.proofs.Common.{◌≡◌, ◌≢◌, ◌⊎◌, ℕ, ◌+◌, ◌*◌, ◌<◌, ◌≤◌, inl, inr, cond, Bool, true, false, List, [], ◌∷◌, ◌++◌, length, map, refl, sym, ap, ◌∙◌, subst, arith, append_assoc, Option, Some, None, Ok, Err, not, ◌&&◌, nat_eq, Result, ◌-◌, ◌==◌}
+use Rattle.std.proofs.Common.{◌≡◌, ◌≢◌, ◌⊎◌, ℕ, ◌+◌, ◌*◌, ◌<◌, ◌≤◌, inl, inr, cond, Bool, true, false, List, [], ◌∷◌, ◌++◌, length, map, refl, sym, ap, ◌∙◌, subst, arith, append_assoc, Option, Some, None, Ok, Err, not, ◌&&◌, nat_eq, leb, Result, ◌-◌, ◌==◌}
 use Rattle.pg_rule.specs.Caches.{entry_at}
 use Rattle.pg_rule.specs.declared.cache.Entry.{Entry}
 use Rattle.pg_request.specs.Queries.{QueryText, ArgumentsSeen}
 use Rattle.pg_call.specs.declared.kind.How.TheVariants as hows
+use Rattle.pg_call.specs.declared.kind.Kind.{Kind}
+use Rattle.pg_call.specs.declared.kind.Kind.TheVariants as kinds
 use Rattle.pg_call.specs.declared.kind.How.{How}
 use Rattle.pg_call.specs.declared.statement.After.TheVariants as afters
 use Rattle.pg_call.specs.declared.statement.After.{After}
@@ -22,7 +24,7 @@ use Rattle.pg_rule.specs.declared.rule.Rule.{Rule}
 use Rattle.pg_wire.specs.declared.status.TransactionStatus.TheVariants as statuses
 use Rattle.pg_wire.specs.declared.status.TransactionStatus.{TransactionStatus}
 use Rattle.pg_call.specs.declared.kind.Change.TheVariants as changes
-use Rattle.pg_call.specs.Items.{begun as begun_by_status}
+use Rattle.pg_call.specs.Items.{begun as begun_by_status, own_items, shown}
 use Rattle.std.specs.List.{count_by}
 use Rattle.std.proofs.lemmas.List.{map-append, length-append, length-map}
 use Rattle.std.proofs.lemmas.List.Sums.{sum_by-append}
@@ -50,10 +52,11 @@ use Rattle.pg_call.specs.declared.calling.Call.TheVariants as calls
 use Rattle.pg_call.specs.declared.calling.Beat.{Beat}
 use Rattle.pg_call.specs.declared.calling.Beat.TheVariants as beats
 use Rattle.pg_call.specs.declared.ledger.Ledger.{Ledger}
-use Rattle.pg_call.specs.Requests.{spelled, CanBeSaid, IsRefusal, kind_of, change_of, messages_of, keeping_of, main_kind, goal_kind, after_kind, raw}
+use Rattle.pg_call.specs.Requests.{copy_fail, spelled, CanBeSaid, IsRefusal, kind_of, change_of, messages_of, keeping_of, main_kind, goal_kind, after_kind, raw}
 use Rattle.pg_call.specs.Calls.{CallIs, Leaves, answer_by}
 use Rattle.pg_call.proofs.LeaveLaws.{leaves_call, call_well}
-use Rattle.pg_conn.specs.Connections.{ConnSeen, idle, begun_with, runs, ended, settled, cleaned, left, may_open, has_room_for, with_group, queued_group, rollback, ConnOf, seen_by, depth_behind, rolled, rolled_back, counted_anew, with_depth, Standing, standing, restated, resolved, resolved_by, started_call}
+use Rattle.pg_conn.proofs.CleanupLaws.{stays_unfed}
+use Rattle.pg_conn.specs.Connections.{ConnSeen, idle, begins_copy, copies, owned, with_copy_fail, begun_with, ends_copy, is_fed, unfed, runs, ended, settled, cleaned, left, may_open, has_room_for, with_group, queued_group, rollback, ConnOf, seen_by, depth_behind, rolled, rolled_back, counted_anew, with_depth, Standing, standing, restated, resolved, resolved_by, started_call}
 use Rattle.pg_conn.specs.Turns.{ends_request, Tells, IsWaited, BeatCause, IsSayable, Refuses, Refused, broken_by, is_flushed, behind, TakesBeat, EndsFlush, HasAllRoom, HasRoomBeside, kept_for, IsAsked, flushes}
 use Rattle.pg_report.specs.declared.outcome.Item.{Item}
 use Rattle.pg_report.specs.declared.outcome.Answer.{Answer}
@@ -61,13 +64,14 @@ use Rattle.pg_report.specs.declared.outcome.End.{End}
 use Rattle.pg_report.specs.declared.outcome.End.TheVariants as ends
 use Rattle.pg_report.specs.declared.outcome.Outcome.{Outcome}
 use Rattle.pg_call.proofs.FitLaws.{the_ok}
+use Rattle.pg_call.specs.declared.query_result.PgQueryResult.{PgQueryResult}
 use Rattle.pg_play.specs.declared.tally.Limits.{Limits}
 use Rattle.pg_play.specs.Shown.{item_of, items_with, has_rows, answer_of, IsWanted}
 use Rattle.pg_startup.specs.Flows.{Flows}
 use Rattle.pg_startup.proofs.FlowLaws.{Flows-then, Flows-none, flows_begun}
 use Rattle.pg_play.proofs.WaitLaws.{still_grown, waits_none, waits_on}
-use Rattle.pg_play.specs.Calls.{Waited, Went, InPlay, IsPlayingOn, IsPlaying, EndsStarved, IsDropped, broken_after, HasWaitedFew, IsFresh, EndsAtOnce, EndsOn, HasEnded, IsLast, EndsCall, PlaysOne, outcome_of, Ended, StopsBy, behind_end}
-use Rattle.pg_conn.proofs.TurnLaws.{tells_from, spelled-append, counts-append, seen_cleaned, cleaned_call, kept}
+use Rattle.pg_play.specs.Calls.{again, change_fed, change_for, copy_behind, Waited, Went, InPlay, IsPlayingOn, IsPlaying, EndsStarved, IsDropped, broken_after, HasWaitedFew, IsFresh, EndsAtOnce, EndsOn, HasEnded, IsLast, EndsCall, PlaysOne, outcome_of, Ended, StopsBy, behind_end}
+use Rattle.pg_conn.proofs.TurnLaws.{tells_from, spelled-append, counts-append, seen_cleaned, seen_unfed, cleaned_call, kept}
 
 -- ---- the stream, over any number of polls
 
@@ -157,10 +161,10 @@ pub record OverPoll (first : StreamSeen) (a c : ConnSeen) (waits items : ℕ) (b
 pub record AfterBeat (first : StreamSeen) (a c : ConnSeen) (r : Request) (waits : ℕ) (items : List CallItem) (beat : Beat) (said : List FrontendMessage) (fs : List Frame) : Type 0 where
   pub went : Went a c said fs
   pub broken : c.broken ≡ None
-  pub asked : a.change ≡ change_of (kind_of r)
+  pub asked : a.change ≡ change_for r
   pub room : HasAllRoom a → HasAllRoom c
   pub tells : Tells a c a.ledger r said (heard fs) items beat
-  pub over : OverPoll first a c waits (length items) beat
+  pub over : OverPoll first a c waits (length items + again r) beat
   pub unsaid : (CanBeSaid r → ⊥) → BeatRefuses a c r items fs beat
   pub unflushed : is_flushed a ≡ true → BeatFlushes a c items fs beat
 
@@ -176,12 +180,14 @@ cause_of : (b c : ConnSeen) (beat : Beat) → BeatCause b c beat → beat ≡ be
 cause_of b c beats.Waits h e = h
 cause_of b c beats.More h e = absurd cc
 cause_of b c (beats.Yields item) h e = absurd cc
+cause_of b c (beats.Opens opened) h e = absurd cc
 cause_of b c (beats.Ends answer) h e = absurd cc
 
 none_waited : (b c : ConnSeen) (beat : Beat) → BeatCause b c beat → beat ≢ beats.Waits → NoneWaited b.stream c.stream
 none_waited b c beats.More h n = h.2
 none_waited b c beats.Waits h n = absurd (n refl)
 none_waited b c (beats.Yields item) h n = h
+none_waited b c (beats.Opens opened) h n = h
 none_waited b c (beats.Ends (Ok answer)) h n = h.2
 none_waited b c (beats.Ends (Err e)) h n = h
 
@@ -190,6 +196,7 @@ waits_or_not : (b c : ConnSeen) (beat : Beat) → BeatCause b c beat → NoneWai
 waits_or_not b c beats.More h = inl h.2
 waits_or_not b c beats.Waits h = inr h.0
 waits_or_not b c (beats.Yields item) h = inl h
+waits_or_not b c (beats.Opens opened) h = inl h
 waits_or_not b c (beats.Ends (Ok answer)) h = inl h.2
 waits_or_not b c (beats.Ends (Err e)) h = inl h
 
@@ -259,6 +266,7 @@ refuses_beat left first a b c r waits items beat said fs gs q i says m u = elim 
     by (beats.Ends (Err e)) h = (subst (λ (k : Call). Refuses k e) asked h.0, first_stays left first a b c r waits items said fs gs q i (i.unsaid u) m h.1)
     by (beats.Ends (Ok answer)) h = absurd h
     by (beats.Yields item) h = absurd h
+    by (beats.Opens opened) h = absurd h
     by beats.More h = absurd h
     by beats.Waits h = absurd h
 
@@ -287,8 +295,27 @@ over_poll first a b c waits items beat q fs w v k moves cause = record {
 }
 
 -- A beat that begins with so many calls left. What it goes on from is counted from any stream.
+some_item : (items : List CallItem) (item : CallItem) → items ++ item ∷ [] ≡ [] → ⊥
+some_item [] item h = absurd cc
+some_item (i ∷ is) item h = absurd cc
+
+-- a copy that was fed to its end shows no item
+fed_shows_none : (start : Ledger) (r : Request) (said : List FrontendMessage) (hs : List Frame) (items : List CallItem) (item : CallItem) (ledger : Ledger) (call : Call) → CallIs start r said hs (items ++ item ∷ []) ledger call → again r ≡ 0
+fed_shows_none start (requests.CopyIn feed) said hs items item ledger (calls.Asked asked) i = absurd (some_item items item i.4)
+fed_shows_none start (requests.CopyIn feed) said hs items item ledger (calls.Waiting w) i = absurd (some_item items item i.3.items_are)
+fed_shows_none start (requests.CopyIn feed) said hs items item ledger (calls.Own reply) i =
+    let c = i.2 in
+    absurd (some_item items item (c.items_are ∙ ap (λ (k : Kind). shown k (own_items (requests.CopyIn feed) c.own)) c.kind_is ∙ none (own_items (requests.CopyIn feed) c.own)))
+  where
+    none : (xs : List CallItem) → shown kinds.CopyIn xs ≡ []
+    none [] = refl
+    none (x ∷ xs) = none xs
+fed_shows_none start (requests.CopyIn feed) said hs items item ledger calls.Closing i = let k = i.0 in absurd cc
+fed_shows_none start (requests.CopyIn feed) said hs items item ledger calls.Idle i = absurd i
+fed_shows_none start _ said hs items item ledger call i = refl
+
 pub after_beat : (left : ℕ) (old first : StreamSeen) (a b m : ConnSeen) (r : Request) (before waits : ℕ) (items : List CallItem) (beat : Beat) (said : List FrontendMessage) (fs : List Frame) → InPlay old a b r before items said fs → TakesBeat (begun_with left b) m beat → m.broken ≡ None
-    → IsSayable b.call ⊎ Refused (begun_with left b) m beat → EndsFlush (begun_with left b) m beat → OverPoll first a m waits (length items) beat → AfterSome first a m r waits items beat
+    → IsSayable b.call ⊎ Refused (begun_with left b) m beat → EndsFlush (begun_with left b) m beat → OverPoll first a m waits (length items + again r) beat → AfterSome first a m r waits items beat
 after_beat left old first a b m r before waits items beat said fs i t whole says flush over =
     let turns = t.3 in
     let told = turns.tells a.ledger r said (heard fs) items i.call in
@@ -351,11 +378,11 @@ goes_yields None most first a c r waits shown item n h =
 goes_yields (Some fault) most first a c r waits shown item n h = let e = h.1 in absurd cc
 
 -- an end that the first poll doesn't make
-not_at_once : (a c : ConnSeen) (r : Request) (shown : List Item) (end : End) (fs : List Frame) → ((CanBeSaid r → ⊥) → ⊥) → (is_flushed a ≡ true → ⊥) → EndsAtOnce a c r shown end fs
+pub not_at_once : (a c : ConnSeen) (r : Request) (shown : List Item) (end : End) (fs : List Frame) → ((CanBeSaid r → ⊥) → ⊥) → (is_flushed a ≡ true → ⊥) → EndsAtOnce a c r shown end fs
 not_at_once a c r shown end fs n m = record { refused = λ u. absurd (n u); flushed = λ f. absurd (m f) }
 
 -- an end on a connection that was whole
-ended_whole : (limits : Limits) (first : StreamSeen) (a c : ConnSeen) (r : Request) (shown : List Item) (end : End) (said : List FrontendMessage) (fs : List Frame) → a.broken ≡ None → Went a c said fs
+pub ended_whole : (limits : Limits) (first : StreamSeen) (a c : ConnSeen) (r : Request) (shown : List Item) (end : End) (said : List FrontendMessage) (fs : List Frame) → a.broken ≡ None → Went a c said fs
     → c.broken ≡ broken_after None end → HasWaitedFew limits.polls first c.stream end → (HasAllRoom a → HasAllRoom c) → c.stream.link.calls ≤ first.link.calls + 256 * (limits.polls + limits.most) → EndsAtOnce a c r shown end fs → EndsOn None limits first a c r said (heard fs) shown end → EndsCall r end → HasEnded limits first a c r shown end
 ended_whole limits first a c r shown end said fs e w k few room made once n call = (
   said,
@@ -383,9 +410,24 @@ went_none a c k = rw k (record {
   started = (refl, refl, refl, refl);
 })
 
+-- what is no copy from the client leaves none
+plain_unfed : (over : Bool) (c : ConnSeen) → c.change ≡ changes.Stays → unfed over c ≡ c
+plain_unfed over c e = stays_unfed over c (by (λ change. begins_copy change) refl) (by (λ change. is_fed change) refl)
+  where
+    none : (g : Bool) → not g && false ≡ false
+    none true = refl
+    none false = refl
+
+    by : (test : Change → Bool) → test changes.Stays ≡ false → not (nat_eq c.groups 0) && test c.change ≡ false
+    by test t = ap (λ (x : Change). not (nat_eq c.groups 0) && test x) e ∙ ap (λ (b : Bool). not (nat_eq c.groups 0) && b) t ∙ none (nat_eq c.groups 0)
+
+-- nor does what queued no group
+pub unqueued_unfed : (over : Bool) (c : ConnSeen) → c.groups ≡ 0 → unfed over c ≡ c
+unqueued_unfed over c e = stays_unfed over c (ap (λ (n : ℕ). not (nat_eq n 0) && begins_copy c.change) e) (ap (λ (n : ℕ). not (nat_eq n 0) && is_fed c.change) e)
+
 -- an end on one that was broken, where nothing was queued
 ended_broken : (limits : Limits) (first : StreamSeen) (a c : ConnSeen) (r : Request) (fault : ServerFault) → 0 < limits.polls → a.broken ≡ Some fault → c ≡ cleaned (idle a) → a.groups ≡ 0 → first ≡ a.stream → StopsBy limits first a c r [] (ends.Err (errors.Protocol (protocol.Server fault)))
-ended_broken limits first a c r fault l e k g same = (idle a, ([], [], stays, tt), inl (refl, k))
+ended_broken limits first a c r fault l e k g same = (idle a, ([], [], stays, tt), inl (refl, k ∙ sym (ap (λ (x : ConnSeen). cleaned x) (unqueued_unfed false (idle a) g))))
   where
     stays : Ended limits first a (idle a) r [] (ends.Err (errors.Protocol (protocol.Server fault))) [] []
     stays = record {
@@ -409,15 +451,23 @@ went_faulted a c e said fs w = record { flows = w.flows; tallies = w.tallies; wa
 whole_again : (c : ConnSeen) (o : Option ServerFault) → c.broken ≡ None → record (record c { broken = o }) { broken = None } ≡ c
 whole_again c o e = ap (λ (x : Option ServerFault). record c { broken = x }) (sym e)
 
-below_items : (shown : List Item) (items : List CallItem) (most : ℕ) → shown ≡ map item_of items → length shown < most → length items < most
+pub below_items : (shown : List Item) (items : List CallItem) (most : ℕ) → shown ≡ map item_of items → length shown < most → length items < most
 below_items shown items most e l = omega (arith, l, ap (λ (x : List Item). length x) e, length-map items item_of)
 
 -- each of its polls but the last one waited or showed an item
-few_calls : (first : StreamSeen) (c : ConnSeen) (waits items : ℕ) (limits : Limits) → waits < limits.polls → items < limits.most → c.stream.link.calls ≤ first.link.calls + 256 * (waits + items + 1) → c.stream.link.calls ≤ first.link.calls + 256 * (limits.polls + limits.most)
-few_calls first c waits items limits l m k = omega (arith, l, m, k)
+again_once : (r : Request) → again r ≤ 1
+again_once (requests.CopyIn feed) = by feed.is_ended
+  where
+    by : (b : Bool) → cond b 1 0 ≤ 1
+    by true = omega arith
+    by false = omega arith
+again_once _ = omega arith
+
+pub few_calls : (first : StreamSeen) (c : ConnSeen) (r : Request) (waits items : ℕ) (limits : Limits) → waits < limits.polls → items < limits.most → c.stream.link.calls ≤ first.link.calls + 256 * (waits + (items + again r) + 1) → c.stream.link.calls ≤ first.link.calls + 256 * (limits.polls + limits.most)
+few_calls first c r waits items limits l m k = omega (arith, l, m, k, again_once r)
 
 -- an end that isn't a drop
-ends_few : (limits : Limits) (a c : StreamSeen) (waits : ℕ) (end : End) → waits < limits.polls → Waited waits a c → HasWaitedFew limits.polls a c end
+pub ends_few : (limits : Limits) (a c : StreamSeen) (waits : ℕ) (end : End) → waits < limits.polls → Waited waits a c → HasWaitedFew limits.polls a c end
 ends_few limits a c waits end l w = (waits, w, (λ d. l, omega (arith, l)))
 
 unleft : (a m : ConnSeen) → m.broken ≡ None → record m { broken = None; stream = record m.stream { left = a.stream.left } } ≡ record m { stream = record m.stream { left = a.stream.left } }
@@ -436,7 +486,7 @@ goes_ok limits None first a c r waits old new answer told l e n t none h =
     let m = h.3 in
     let fine = h.5.2.tells.1 in
     let after = h.5.2 in
-    let ended = ended_whole limits first a m r new (ends.Ok told) h.5.0 h.5.1 e after.went after.broken (ends_few limits first m.stream waits (ends.Ok told) l (after.over.waited (λ d. absurd cc))) after.room (few_calls first m waits (length h.0) limits l (below_items old h.0 limits.most h.1 h.2) after.over.calls)
+    let ended = ended_whole limits first a m r new (ends.Ok told) h.5.0 h.5.1 e after.went after.broken (ends_few limits first m.stream waits (ends.Ok told) l (after.over.waited (λ d. absurd cc))) after.room (few_calls first m r waits (length h.0) limits l (below_items old h.0 limits.most h.1 h.2) after.over.calls)
     (record { refused = λ u. absurd (after.unsaid u); flushed = λ f. let x = after.unflushed f in (ap (λ (z : Answer). ends.Ok z) (t ∙ ap answer_of x.0), (n ∙ ap (λ (z : CallAnswer). items_with old z) x.0 ∙ h.1 ∙ ap (map item_of) x.1.0, x.1.1, unleft a m after.broken ∙ x.1.2)) })
     (h.0, answer, n ∙ ap (λ (x : List Item). items_with x answer) h.1, below_items old h.0 limits.most h.1 h.2, t, after.tells.1, after.tells.2) (ends_last r fine.0.reply fine.0.status answer fine.1 none) in
     (m, ended, inl (after.tells.0, h.4))
@@ -460,12 +510,16 @@ begins_none statuses.Transaction (answers.Next next) e h = cc
 begins_none statuses.Idle answer e h = cc
 begins_none statuses.Error answer e h = cc
 
+totals_none : (total : PgQueryResult) (answer : CallAnswer) → answers.Total total ≡ answer → has_rows answer ≡ true → ⊥
+totals_none total answer k h = let x = ap has_rows k ∙ h in cc
+
 -- a call with rows opens and closes nothing
-rows_stay : (r : Request) (reply : List BackendMessage) (status : TransactionStatus) (answer : CallAnswer) → answer_by r reply status ≡ Ok answer → has_rows answer ≡ true → change_of (kind_of r) ≡ changes.Stays
+rows_stay : (r : Request) (reply : List BackendMessage) (status : TransactionStatus) (answer : CallAnswer) → answer_by r reply status ≡ Ok answer → has_rows answer ≡ true → change_for r ≡ changes.Stays
 rows_stay (requests.Begin depth) reply status answer e h = absurd (begins_none status answer e h)
 rows_stay (requests.BeginWith query) reply status answer e h = absurd (begins_none status answer e h)
 rows_stay (requests.Commit left) reply status answer e h = absurd (units_none answer e h)
 rows_stay (requests.Rollback left) reply status answer e h = absurd (units_none answer e h)
+rows_stay (requests.CopyIn feed) reply status answer e h = absurd (totals_none _ answer (the_ok _ _ e) h)
 rows_stay _ reply status answer e h = refl
 
 -- such a call has asked for a reply
@@ -473,6 +527,7 @@ rows_asked : (r : Request) (reply : List BackendMessage) (status : TransactionSt
 rows_asked (requests.Begin depth) reply status answer e h = refl
 rows_asked (requests.BeginWith query) reply status answer e h = refl
 rows_asked (requests.CopyOut query) reply status answer e h = refl
+rows_asked (requests.CopyIn feed) reply status answer e h = absurd (totals_none _ answer (the_ok _ _ e) h)
 rows_asked (requests.Commit left) reply status answer e h = refl
 rows_asked (requests.Rollback left) reply status answer e h = refl
 rows_asked (requests.Execute query) reply status answer e h = refl
@@ -529,9 +584,9 @@ goes_unshown limits None first a c r waits old new answer f l e n t b h =
     let stays = ap (λ (x : Standing). x.change) after.went.started.3 ∙ after.asked ∙ rows_stay r fine.0.reply fine.0.status answer fine.1 b in
     let asked = ap (count_by ends_request) fine.0.said_is ∙ counts-append (drain_fails a.ledger.is_copy_failed (before_readys a.ledger.owed (heard h.5.1))) (messages_of r) in
     let some : nat_eq m.groups 0 ≡ false = not_none m.groups (omega (arith, after.went.groups, asked, rows_asked r fine.0.reply fine.0.status answer fine.1 b)) in
-    let ended = ended_whole limits first a m r new (ends.Err errors.OutOfMemory) h.5.0 h.5.1 e after.went after.broken (ends_few limits first m.stream waits (ends.Err errors.OutOfMemory) l (after.over.waited (λ d. absurd cc))) after.room (few_calls first m waits (length h.0) limits l (below_items old h.0 limits.most h.1 h.2) after.over.calls)
+    let ended = ended_whole limits first a m r new (ends.Err errors.OutOfMemory) h.5.0 h.5.1 e after.went after.broken (ends_few limits first m.stream waits (ends.Err errors.OutOfMemory) l (after.over.waited (λ d. absurd cc))) after.room (few_calls first m r waits (length h.0) limits l (below_items old h.0 limits.most h.1 h.2) after.over.calls)
     (not_at_once a m r new (ends.Err errors.OutOfMemory) h.5.1 after.unsaid (λ k. let x = sym (ap has_rows (after.unflushed k).0) ∙ b in absurd cc)) (inr (h.0, n, refl, fine.0)) tt in
-    rw t (m, ended, inl (after.tells.0, h.4 ∙ settled_is_cleaned m stays some))
+    rw t (m, ended, inl (after.tells.0, h.4 ∙ settled_is_cleaned m stays some ∙ sym (ap (λ (x : ConnSeen). cleaned x) (plain_unfed false m stays))))
 goes_unshown limits (Some fault) first a c r waits old new answer f l e n t b h = let x = h.1 in absurd cc
 
 broken_same : (e : Error) → broken_by (beats.Ends (Err e)) ≡ broken_after None (ends.Err e)
@@ -546,7 +601,7 @@ pub goes_err : (limits : Limits) (o : Option ServerFault) (first : StreamSeen) (
 goes_err limits None first a c r waits shown err l e h =
     let m = h.3 in
     let after = h.5.2 in
-    let ended = ended_whole limits first a (faulted err m) r shown (ends.Err err) h.5.0 h.5.1 e (went_faulted a m err h.5.0 h.5.1 after.went) (broken_same err) (ends_few limits first m.stream waits (ends.Err err) l (after.over.waited (λ d. absurd cc))) after.room (few_calls first (faulted err m) waits (length h.0) limits l (below_items shown h.0 limits.most h.1 h.2) after.over.calls)
+    let ended = ended_whole limits first a (faulted err m) r shown (ends.Err err) h.5.0 h.5.1 e (went_faulted a m err h.5.0 h.5.1 after.went) (broken_same err) (ends_few limits first m.stream waits (ends.Err err) l (after.over.waited (λ d. absurd cc))) after.room (few_calls first (faulted err m) r waits (length h.0) limits l (below_items shown h.0 limits.most h.1 h.2) after.over.calls)
     (record { refused = λ u. let x = after.unsaid u in (err, x.0, refl, (h.1 ∙ ap (map item_of) x.1.0, x.1.1, unleft a m after.broken ∙ x.1.2)); flushed = λ f. absurd (after.unflushed f) }) (inl (h.0, h.1, h.2, after.tells.1)) tt in
     (faulted err m, ended, inl (after.tells.0, h.4))
 goes_err limits (Some fault) first a c r waits shown err l e h = rw (same_error err (errors.Protocol (protocol.Server fault)) h.1, h.2) (ended_broken limits first a c r fault (omega (arith, l)) e h.0 h.3 h.4)
@@ -554,7 +609,7 @@ goes_err limits (Some fault) first a c r waits shown err l e h = rw (same_error 
 -- ---- a call that is given up
 
 -- a call that runs can be polled again
-call_runs : (start : Ledger) (r : Request) (said : List FrontendMessage) (hs : List Frame) (items : List CallItem) (ledger : Ledger) (call : Call) → CallIs start r said hs items ledger call → runs call ≡ true
+pub call_runs : (start : Ledger) (r : Request) (said : List FrontendMessage) (hs : List Frame) (items : List CallItem) (ledger : Ledger) (call : Call) → CallIs start r said hs items ledger call → runs call ≡ true
 call_runs start r said hs items ledger (calls.Asked asked) i = refl
 call_runs start r said hs items ledger (calls.Waiting w) i = refl
 call_runs start r said hs items ledger (calls.Own reply) i = refl
@@ -562,9 +617,9 @@ call_runs start r said hs items ledger calls.Closing i = refl
 call_runs start r said hs items ledger calls.Idle i = absurd i
 
 drops : (limits : Limits) (o : Option ServerFault) (most : ℕ) (first : StreamSeen) (a c : ConnSeen) (r : Request) (waits : ℕ) (items : List CallItem) (shown : List Item) (said : List FrontendMessage) (fs : List Frame) → a.broken ≡ None → shown ≡ map item_of items → InPlay first a c r waits items said fs
-    → ((CanBeSaid r → ⊥) → ⊥) → (is_flushed a ≡ true → ⊥) → waits ≤ limits.polls → IsDropped limits first a c shown → length shown ≤ limits.most → StopsBy limits first a c r shown ends.Dropped
-drops limits o most first a c r waits items shown said fs e k i n m l d b =
-    let ended = ended_whole limits first a c r shown ends.Dropped said fs e i.went i.broken (waits, i.waited, (λ n. absurd (n refl), l)) i.room (omega (arith, i.calls, l, b, ap (λ (x : List Item). length x) k, length-map items item_of)) (not_at_once a c r shown ends.Dropped fs n m)
+    → ((CanBeSaid r → ⊥) → ⊥) → (is_flushed a ≡ true → ⊥) → waits ≤ limits.polls → IsDropped limits first a c shown → length shown ≤ limits.most → length items + again r ≤ limits.most → StopsBy limits first a c r shown ends.Dropped
+drops limits o most first a c r waits items shown said fs e k i n m l d b x =
+    let ended = ended_whole limits first a c r shown ends.Dropped said fs e i.went i.broken (waits, i.waited, (λ n. absurd (n refl), l)) i.room (omega (arith, i.calls, l, x)) (not_at_once a c r shown ends.Dropped fs n m)
     (items, k, leaves_call a.ledger r said (heard fs) items c.ledger c.call i.call, call_well a.ledger r said (heard fs) items c.ledger c.call i.call, d, b) tt in
     (c, ended, inr (call_runs a.ledger r said (heard fs) items c.ledger c.call i.call, refl, refl))
 
@@ -574,14 +629,14 @@ drops_waiting limits None first a c r waits shown k e h =
     let after = h.5.2 in
     let call = after.tells.0 in
     subst (λ (x : ConnSeen). StopsBy limits first a x r shown ends.Dropped) (sym h.4) (drops limits None limits.most first a m r (waits + 1) h.0 shown h.5.0 h.5.1 e h.1 (record { went = after.went; broken = after.broken; asked = after.asked; room = after.room; call = call; waited = after.over.waits_more refl; calls = omega (arith, after.over.calls); unsaid = λ u. absurd (after.unsaid u); unflushed = λ f. absurd (after.unflushed f) }) after.unsaid after.unflushed (omega (arith, k))
-    (inl (subst (λ (n : ℕ). Waited n first m.stream) k (after.over.waits_more refl), after.over.starved refl after.tells.1)) (omega (arith, h.2)))
+    (inl (subst (λ (n : ℕ). Waited n first m.stream) k (after.over.waits_more refl), after.over.starved refl after.tells.1)) (omega (arith, h.2)) (omega (arith, h.2, again_once r, ap (λ (x : List Item). length x) h.1, length-map h.0 item_of)))
 drops_waiting limits (Some fault) first a c r waits shown k e h = let x = h.1 in absurd cc
 
 pub drops_shown : (limits : Limits) (o : Option ServerFault) (first : StreamSeen) (a c : ConnSeen) (r : Request) (waits : ℕ) (old new : List Item) (item : CallItem) → waits < limits.polls → new ≡ old ++ item_of item ∷ [] → length new ≡ limits.most → a.broken ≡ o → PlayBeat o limits.most first a c r waits old (beats.Yields item)
     → StopsBy limits first a c r new ends.Dropped
 drops_shown limits None first a c r waits old new item l k m e h =
     let after = h.5.2 in
-    subst (λ (x : ConnSeen). StopsBy limits first a x r new ends.Dropped) (sym h.4) (drops limits None limits.most first a h.3 r waits (h.0 ++ item ∷ []) new h.5.0 h.5.1 e (k ∙ more_shown old h.0 item h.1) (record { went = after.went; broken = after.broken; asked = after.asked; room = after.room; call = after.tells; waited = after.over.waited (λ d. absurd cc); calls = omega (arith, after.over.calls, length-append h.0 (item ∷ [])); unsaid = λ u. absurd (after.unsaid u); unflushed = λ f. absurd (after.unflushed f) }) after.unsaid after.unflushed (omega (arith, l)) (inr m) (omega (arith, m)))
+    subst (λ (x : ConnSeen). StopsBy limits first a x r new ends.Dropped) (sym h.4) (drops limits None limits.most first a h.3 r waits (h.0 ++ item ∷ []) new h.5.0 h.5.1 e (k ∙ more_shown old h.0 item h.1) (record { went = after.went; broken = after.broken; asked = after.asked; room = after.room; call = after.tells; waited = after.over.waited (λ d. absurd cc); calls = omega (arith, after.over.calls, length-append h.0 (item ∷ [])); unsaid = λ u. absurd (after.unsaid u); unflushed = λ f. absurd (after.unflushed f) }) after.unsaid after.unflushed (omega (arith, l)) (inr m) (omega (arith, m)) (omega (arith, m, fed_shows_none a.ledger r h.5.0 (heard h.5.1) h.0 item h.3.ledger h.3.call after.tells, ap (λ (x : List Item). length x) (k ∙ more_shown old h.0 item h.1), length-map (h.0 ++ item ∷ []) item_of)))
 drops_shown limits (Some fault) first a c r waits old new item l k m e h = let x = h.1 in absurd cc
 
 -- the items before the last one are the first ones
@@ -613,7 +668,7 @@ goes_unkept limits None first a c r waits old new item f l k t e h =
     let m = h.3 in
     let after = h.5.2 in
     let more = leaves_call a.ledger r h.5.0 (heard h.5.1) (h.0 ++ item ∷ []) m.ledger m.call after.tells in
-    let ended = ended_whole limits first a m r old (ends.Err errors.OutOfMemory) h.5.0 h.5.1 e after.went after.broken (ends_few limits first m.stream waits (ends.Err errors.OutOfMemory) l (after.over.waited (λ d. absurd cc))) after.room (few_calls first m waits (length h.0) limits l (below_items old h.0 limits.most h.1 h.2) after.over.calls) (not_at_once a m r old (ends.Err errors.OutOfMemory) h.5.1 after.unsaid after.unflushed)
+    let ended = ended_whole limits first a m r old (ends.Err errors.OutOfMemory) h.5.0 h.5.1 e after.went after.broken (ends_few limits first m.stream waits (ends.Err errors.OutOfMemory) l (after.over.waited (λ d. absurd cc))) after.room (few_calls first m r waits (length h.0) limits l (below_items old h.0 limits.most h.1 h.2) after.over.calls) (not_at_once a m r old (ends.Err errors.OutOfMemory) h.5.1 after.unsaid after.unflushed)
     (inl (h.0, h.1, h.2, inr (leaves_fewer a.ledger r h.5.0 (heard h.5.1) h.0 item m.ledger more, call_well a.ledger r h.5.0 (heard h.5.1) (h.0 ++ item ∷ []) m.ledger m.call after.tells, inl (tt, tt)))) tt in
     rw (k, t) (m, ended, inr (call_runs a.ledger r h.5.0 (heard h.5.1) (h.0 ++ item ∷ []) m.ledger m.call after.tells, h.4, refl))
 goes_unkept limits (Some fault) first a c r waits old new item f l k t e h = let x = h.1 in absurd cc
@@ -639,7 +694,7 @@ playing_one most first a b r waits shown i = by a.broken i
     by (Some fault) i = i.5
 
 -- an exchange that was not polled yet
-pub fresh_play : (a : ConnSeen) (r : Request) → a.broken ≡ None → a.call ≡ calls.Asked r → a.change ≡ change_of (kind_of r) → InPlay a.stream a a r 0 [] [] []
+pub fresh_play : (a : ConnSeen) (r : Request) → a.broken ≡ None → a.call ≡ calls.Asked r → a.change ≡ change_for r → InPlay a.stream a a r 0 [] [] []
 fresh_play a r e k c = record {
   went = record {
     flows = Flows-none a.stream a.stream refl refl refl refl;
@@ -704,6 +759,45 @@ begun_changes rule (requests.Clear statements) w = by (nat_eq (length rule.cache
     by true = refl
     by false = refl
 begun_changes rule _ w = refl
+
+-- what is no copy from the client is fed nothing
+pub not_fed : (r : Request) → (main_kind r ≡ kinds.CopyIn → ⊥) → change_for r ≡ change_of (kind_of r)
+not_fed (requests.CopyIn feed) n = absurd (n refl)
+not_fed _ n = refl
+
+-- and begins as it was fed
+pub first_changes : (rule : Rule) (r : Request) → IsWanted r → change_fed r (change_of (kind_of r)) ≡ change_for (asked_by rule (begun_as rule r))
+first_changes rule r w = by r w (asked_main rule (begun_as rule r)) (asked_changes rule (begun_as rule r) ∙ begun_changes rule r w)
+  where
+    other : (r : Request) (kind : Kind) → main_kind (begun_as rule r) ≡ kind → (kind ≡ kinds.CopyIn → ⊥) → main_kind (asked_by rule (begun_as rule r)) ≡ main_kind (begun_as rule r) → change_of (kind_of (asked_by rule (begun_as rule r))) ≡ change_of (kind_of r) → change_of (kind_of r) ≡ change_for (asked_by rule (begun_as rule r))
+    other r kind k n main same = sym (not_fed (asked_by rule (begun_as rule r)) (λ e. n (sym k ∙ sym main ∙ e)) ∙ same)
+
+    clears : (b : Bool) (statements : List ℕ) → main_kind (cond b requests.Flush (requests.Clear statements)) ≡ kinds.CopyIn → ⊥
+    clears true statements e = cc
+    clears false statements e = cc
+
+    by : (r : Request) → IsWanted r → main_kind (asked_by rule (begun_as rule r)) ≡ main_kind (begun_as rule r) → change_of (kind_of (asked_by rule (begun_as rule r))) ≡ change_of (kind_of r) → change_fed r (change_of (kind_of r)) ≡ change_for (asked_by rule (begun_as rule r))
+    by (requests.CopyIn feed) w main same = refl
+    by (requests.Describe x) w main same = absurd w
+    by (requests.Run bound) w main same = absurd w
+    by (requests.Evict eviction) w main same = absurd w
+    by (requests.Clear statements) w main same = other (requests.Clear statements) (main_kind (begun_as rule (requests.Clear statements))) refl (clears (nat_eq (length rule.cache.entries) 0) statements) main same
+    by (requests.Execute query) w main same = other (requests.Execute query) (kinds.Run hows.Execute) refl (λ e. cc) main same
+    by (requests.ExecuteMany query) w main same = other (requests.ExecuteMany query) (kinds.Run hows.ExecuteMany) refl (λ e. cc) main same
+    by (requests.Fetch query) w main same = other (requests.Fetch query) (kinds.Run hows.Fetch) refl (λ e. cc) main same
+    by (requests.FetchMany query) w main same = other (requests.FetchMany query) (kinds.Run hows.FetchMany) refl (λ e. cc) main same
+    by (requests.FetchAll query) w main same = other (requests.FetchAll query) (kinds.Run hows.FetchAll) refl (λ e. cc) main same
+    by (requests.FetchOptional query) w main same = other (requests.FetchOptional query) (kinds.Run hows.FetchOptional) refl (λ e. cc) main same
+    by (requests.FetchOne query) w main same = other (requests.FetchOne query) (kinds.Run hows.FetchOne) refl (λ e. cc) main same
+    by (requests.Begin depth) w main same = refl
+    by (requests.BeginWith query) w main same = refl
+    by (requests.Commit left) w main same = refl
+    by (requests.Rollback left) w main same = refl
+    by (requests.Prepare prepared) w main same = other (requests.Prepare prepared) kinds.Prepare refl (λ e. cc) main same
+    by requests.Ping w main same = refl
+    by requests.Flush w main same = refl
+    by requests.Close w main same = refl
+    by (requests.CopyOut query) w main same = refl
 
 -- nothing that a step asks is held
 pub wanted_held : (rule : Rule) (r : Request) → IsWanted r → held_by rule (begun_as rule r) ≡ rule
@@ -787,20 +881,43 @@ idle_cleaned c = by (nat_eq c.groups 0) (may_open c.change c.groups c.rule.depth
     by true false = refl
     by false false = refl
 
-left_running : (c : ConnSeen) → runs c.call ≡ true → left c ≡ cleaned (idle c)
-left_running c e = rw e (idle_cleaned c)
+-- and what is left of a copy from the client
+idle_unfed : (over : Bool) (c : ConnSeen) → idle (unfed over c) ≡ unfed over (idle c)
+idle_unfed over c = by (copies c.change c.groups && (not over && leb (length (spelled (copy_fail ∷ []))) c.stream.spare))
+  where
+    by : (b : Bool) → idle (cond b (with_copy_fail c) (owned c)) ≡ cond b (with_copy_fail (idle c)) (owned (idle c))
+    by true = refl
+    by false = refl
 
-behind_other : (end : End) (c : ConnSeen) → behind_end end c ≡ cleaned c → behind_end end (idle c) ≡ cleaned (idle c)
-behind_other (ends.Err e) c h = refl
+idle_left : (over : Bool) (c : ConnSeen) → idle (cleaned (unfed over c)) ≡ cleaned (unfed over (idle c))
+idle_left over c = idle_cleaned (unfed over c) ∙ ap (λ (x : ConnSeen). cleaned x) (idle_unfed over c)
+
+left_running : (c : ConnSeen) → runs c.call ≡ true → left c ≡ cleaned (unfed false (idle c))
+left_running c e = ap (λ (b : Bool). cond b (idle (cleaned (unfed false c))) c) e ∙ idle_left false c
+
+behind_other : (end : End) (c : ConnSeen) → behind_end end (copy_behind end c) ≡ cleaned (unfed false c) → behind_end end (copy_behind end (idle c)) ≡ cleaned (unfed false (idle c))
+behind_other (ends.Err e) c h = sym (idle_left (ends_copy e) c) ∙ ap idle h ∙ idle_left false c
 behind_other ends.Dropped c h = refl
-behind_other (ends.Ok answer) c h = ap idle h ∙ idle_cleaned c
+behind_other (ends.Ok answer) c h = ap idle h ∙ idle_left false c
+
+unfed_call : (over : Bool) (c : ConnSeen) → (unfed over c).call ≡ c.call
+unfed_call over c = by (copies c.change c.groups && (not over && leb (length (spelled (copy_fail ∷ []))) c.stream.spare))
+  where
+    by : (b : Bool) → (cond b (with_copy_fail c) (owned c)).call ≡ c.call
+    by true = refl
+    by false = refl
+
+copy_call : (end : End) (c : ConnSeen) → (copy_behind end c).call ≡ c.call
+copy_call (ends.Ok answer) c = refl
+copy_call (ends.Err e) c = unfed_call (ends_copy e) c
+copy_call ends.Dropped c = unfed_call false c
 
 pub plays_one : (limits : Limits) (first : StreamSeen) (a c d : ConnSeen) (r : Request) (shown : List Item) (end : End) (out : Outcome) → StopsBy limits first a c r shown end → d ≡ left c → out ≡ outcome_of d shown end → PlaysOne limits first a d r out
 plays_one limits first a c d r shown end out g k e = rw e (by g.2)
   where
-    by : ((g.0.call ≡ calls.Idle) × (c ≡ behind_end end g.0)) ⊎ ((runs g.0.call ≡ true) × (c ≡ g.0) × (behind_end end g.0 ≡ cleaned g.0)) → PlaysOne limits first a d r (outcome_of d shown end)
+    by : ((g.0.call ≡ calls.Idle) × (c ≡ behind_end end (copy_behind end g.0))) ⊎ ((runs g.0.call ≡ true) × (c ≡ g.0) × (behind_end end (copy_behind end g.0) ≡ cleaned (unfed false g.0))) → PlaysOne limits first a d r (outcome_of d shown end)
     by (inl (over, is)) =
-        let rests : c.call ≡ calls.Idle = ap (λ (x : ConnSeen). x.call) is ∙ behind_idle end g.0 ∙ over in
+        let rests : c.call ≡ calls.Idle = ap (λ (x : ConnSeen). x.call) is ∙ behind_idle end (copy_behind end g.0) ∙ copy_call end g.0 ∙ over in
         (g.0, g.1, over, k ∙ left_idle c rests ∙ is, refl)
     by (inr (running, is, other)) =
         (idle g.0, given_up limits first a g.0 r shown end g.1, refl, k ∙ ap left is ∙ left_running g.0 running ∙ sym (behind_other end g.0 other), refl)
@@ -810,9 +927,9 @@ plays_one limits first a c d r shown end out g k e = rw e (by g.2)
 pub seen_left : {A : Type 0} (seen : A → LinkSeen) (c : ConnOf A) → seen_by seen (left c) ≡ left (seen_by seen c)
 seen_left {A} seen c = by (runs c.call)
   where
-    by : (r : Bool) → seen_by seen (cond r (idle (cleaned c)) c) ≡ cond r (idle (cleaned (seen_by seen c))) (seen_by seen c)
+    by : (r : Bool) → seen_by seen (cond r (idle (cleaned (unfed false c))) c) ≡ cond r (idle (cleaned (unfed false (seen_by seen c)))) (seen_by seen c)
     by false = refl
-    by true = ap (λ (x : ConnSeen). idle x) (seen_cleaned seen c)
+    by true = ap (λ (x : ConnSeen). idle x) (seen_cleaned seen (unfed false c) ∙ ap (λ (x : ConnSeen). cleaned x) (seen_unfed seen false c))
 
 pub seen_started : {A : Type 0} (seen : A → LinkSeen) (r : Request) (c : ConnOf A) → seen_by seen (started_call r c) ≡ started_call r (seen_by seen c)
 seen_started seen r c = ap (λ (x : ConnSeen). counted_anew (record x { call = calls.Asked (begun_as x.rule r); change = change_of (kind_of r); keeping = keepings.Stays })) (seen_left seen c)

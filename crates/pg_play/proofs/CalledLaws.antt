@@ -2,6 +2,8 @@
 use Rattle.std.proofs.Common.{◌≡◌, ℕ, ◌+◌, ◌-◌, ◌^◌, ◌≤◌, ◌<◌, Bool, false, inl, inr, List, [], ◌∷◌, ◌++◌, length, refl, sym, ap, ◌∙◌, subst, arith, Option, Some, None}
 use Rattle.pg_call.specs.declared.calling.Call.TheVariants as states
 use Rattle.pg_play.proofs.SettleLaws.{settled_waits, settled_counts}
+use Rattle.pg_play.proofs.PlaceLaws.{all_split}
+use Rattle.pg_play.proofs.SettleLaws.{left_counts, left_waits}
 use Rattle.std.specs.List.{count_by, AllByRecursion}
 use Rattle.pg_wire.specs.declared.error.Error.TheVariants as errors
 use Rattle.pg_wire.specs.declared.error.ProtocolFault.TheVariants as protocol
@@ -28,6 +30,7 @@ use Rattle.pg_report.specs.declared.outcome.End.TheVariants as ends
 use Rattle.pg_report.specs.declared.outcome.Outcome.{Outcome}
 use Rattle.pg_script.specs.declared.step.Step.{Step}
 use Rattle.pg_play.specs.Shown.{request_of, acts_at_once}
+use Rattle.pg_play.specs.Copying.{LeavesCopy}
 use Rattle.pg_play.specs.Calls.{EndsOn, Ended, limits_of, broken_after, Counted, asking}
 use Rattle.pg_play.specs.Places.{Place, ended, owed, queued_by, main_frames, refuses_copy}
 use Rattle.pg_play.specs.Causes.{IsFront, IsUnlawful, HasCause, KeepsFault}
@@ -39,7 +42,7 @@ use Rattle.pg_play.proofs.StepLaws.{Summary}
 use Rattle.pg_exchanges.specs.Expecting.{Widths, BeginsKnowing}
 use Rattle.pg_call.specs.Requests.{widths_of}
 use Rattle.pg_play.proofs.DueLaws.{kept_own, still_place}
-use Rattle.pg_play.proofs.PlaceLaws.{HasSummary, said_is_queued, next_place, stands_next, never_copies, own_groups, owed_is}
+use Rattle.pg_play.proofs.PlaceLaws.{HasSummary, said_is_queued, next_place, stands_next, never_copies, owed_is}
 use Rattle.pg_play.proofs.ToldLaws.{main_after, queued_one, queued_step, told_of, CountsOn, numbers_step, counts_on, told_step, at_most_one}
 use Rattle.pg_play.proofs.CauseLaws.{cause_step}
 use Rattle.pg_play.proofs.LawfulLaws.{lawful_begins}
@@ -49,16 +52,16 @@ use Rattle.pg_play.proofs.WaitPlaceLaws.{places_step}
 
 -- what any lawful server begins in response to an exchange's own group, behind what was heard
 abbrev Knows : Widths → Place → List Group → List Frame → Place → Type 0
-Knows widths at own slice next = (group : Group) (front : Frame) → own ≡ group ∷ [] → ended next ≡ length at.groups → MayHear (said_in next.groups) (heard next.frames ++ front ∷ []) → BeginsKnowing widths group (main_frames at own slice ++ front ∷ [])
+Knows widths at own slice next = (group : Group) (front : Frame) → AllByRecursion IsGroup next.groups → own ≡ group ∷ [] → ended next ≡ length at.groups → MayHear (said_in next.groups) (heard next.frames ++ front ∷ []) → BeginsKnowing widths group (main_frames at own slice ++ front ∷ [])
 
--- At this place these columns are known: whatever is heard behind it, any lawful server has begun a response to the next group, and knows them.
+-- At this place these columns are known, where nothing was copied from the client: whatever is heard behind it, any lawful server has begun a response to the next group, and knows them.
 abbrev pub KnownAt : Widths → Place → Type 0
-KnownAt widths at = (group : Group) (slice : List Frame) (front : Frame) → IsGroup group → MayHear (said_in (at.groups ++ group ∷ [])) ((heard at.frames ++ slice) ++ front ∷ []) → count_by is_ready (heard at.frames ++ slice) ≡ length at.groups → BeginsKnowing widths group (after_readys (owed at) slice ++ front ∷ [])
+KnownAt widths at = (group : Group) (slice : List Frame) (front : Frame) → AllByRecursion IsGroup at.groups → IsGroup group → MayHear (said_in (at.groups ++ group ∷ [])) ((heard at.frames ++ slice) ++ front ∷ []) → count_by is_ready (heard at.frames ++ slice) ≡ length at.groups → BeginsKnowing widths group (after_readys (owed at) slice ++ front ∷ [])
 
 -- no columns are known anywhere
 pub known_none : (start : StreamSeen) (at : Place) (a : ConnSeen) → StandsAt start at a → KnownAt [] at
-known_none start at a st group slice front g l count = (
-  lawful_begins at.groups (group ∷ []) group (heard at.frames ++ slice) (after_readys (owed at) slice) front st.are_groups g refl l count
+known_none start at a st group slice front gs g l count = (
+  lawful_begins at.groups (group ∷ []) group (heard at.frames ++ slice) (after_readys (owed at) slice) front gs g refl l count
       (after_more (heard at.frames) slice (length at.groups) a.ledger.owed st.ledger st.between ∙ ap (λ (n : ℕ). after_readys n slice) (sym (owed_is start at a st))),
   tt,
 )
@@ -66,24 +69,25 @@ known_none start at a st group slice front g l count = (
 -- what is known at a place is known of the exchange that begins there
 pub knows_here : (start : StreamSeen) (at : Place) (a b : ConnSeen) (step : Step) (widths : Widths) (said : List FrontendMessage) (fs : List Frame) (items : List CallItem) (copied : Bool) (end : End) → StandsAt start at a → KnownAt widths at → (s : Summary a.ledger (request_of at.rule.depth step.call) said (heard fs) items b.ledger copied)
     → Knows widths at s.own (heard fs) (next_place at b said s.own fs end)
-knows_here start at a b step widths said fs items copied end st known s group front last in_own l =
+knows_here start at a b step widths said fs items copied end st known s group front all last in_own l =
     let q = queued_one a.ledger.owed (request_of at.rule.depth step.call) s.own (heard fs) s.queued (ap (λ (g : List Group). length g) last) in
-    let groups = subst (AllByRecursion IsGroup) last (own_groups a.ledger.owed at.rule.depth step.call s.own (heard fs) s.queued) in
+    let parts = all_split IsGroup at.groups s.own all in
+    let groups = subst (AllByRecursion IsGroup) last parts.1 in
     let listened = heard-append at.frames fs in
     let main : main_frames at s.own (heard fs) ≡ after_readys (owed at) (heard fs) = main_after start at a (request_of at.rule.depth step.call) s.own (heard fs) st q ∙ ap (λ (n : ℕ). after_readys n (heard fs)) (sym (owed_is start at a st)) in
     let may = subst (λ (g : List Group). MayHear (said_in (at.groups ++ g)) ((heard at.frames ++ heard fs) ++ front ∷ [])) last (subst (λ (h : List Frame). MayHear (said_in (at.groups ++ s.own)) (h ++ front ∷ [])) listened l) in
-    subst (λ (h : List Frame). BeginsKnowing widths group (h ++ front ∷ [])) (sym main) (known group (heard fs) front groups.0 may (ap (λ (h : List Frame). count_by is_ready h) (sym listened) ∙ in_own))
+    subst (λ (h : List Frame). BeginsKnowing widths group (h ++ front ∷ [])) (sym main) (known group (heard fs) front parts.0 groups.0 may (ap (λ (h : List Frame). count_by is_ready h) (sym listened) ∙ in_own))
 
-unlawful_begins : (at next : Place) (widths : Widths) (own : List Group) (slice : List Frame) (tag : ℕ) (front : Frame) → Knows widths at own slice next → IsUnlawful widths at own slice next tag → IsFront next front → MayHear (said_in next.groups) (heard next.frames ++ front ∷ []) → ⊥
-unlawful_begins at next widths own slice tag front k u f l =
+unlawful_begins : (at next : Place) (widths : Widths) (own : List Group) (slice : List Frame) (tag : ℕ) (front : Frame) → Knows widths at own slice next → IsUnlawful widths at own slice next tag → IsFront next front → AllByRecursion IsGroup next.groups → MayHear (said_in next.groups) (heard next.frames ++ front ∷ []) → ⊥
+unlawful_begins at next widths own slice tag front k u f gs l =
     let same = frame_unique backend_tags front u.front f.rest u.is_front.rest f.whole u.is_front.whole (sym f.held ∙ u.is_front.held) in
-    u.none (k u.group u.front u.last u.in_own (subst (λ (x : Frame). MayHear (said_in next.groups) (heard next.frames ++ x ∷ [])) same.0 l))
+    u.none (k u.group u.front gs u.last u.in_own (subst (λ (x : Frame). MayHear (said_in next.groups) (heard next.frames ++ x ∷ [])) same.0 l))
 
 pub never_unlawful : (at next : Place) (step : Step) (out : Outcome) (own : List Group) (slice : List Frame) → Knows (widths_of (request_of at.rule.depth step.call)) at own slice next → HasCause at step own slice next out.end → IsNeverUnlawful at out next
-never_unlawful at next step out own slice k c tag front w e f l =
+never_unlawful at next step out own slice k c tag front gs w e f l =
     elim (subst (λ (z : End). HasCause at step own slice next z) e c) [
       | inl kept ↦ none_kept at.broken (faults.Unlawful tag) w kept
-      | inr shown ↦ unlawful_begins at next (widths_of (request_of at.rule.depth step.call)) own slice tag front k shown f l
+      | inr shown ↦ unlawful_begins at next (widths_of (request_of at.rule.depth step.call)) own slice tag front k shown f gs l
     ]
   where
     none_kept : (o : Option ServerFault) (fault : ServerFault) → o ≡ None → o ≡ Some fault → ⊥
@@ -168,14 +172,16 @@ called_exchange start first old at a b step shown end said fs st later fits p z 
     }
 
 -- an exchange whose call stands behind it, once the connection has settled its end
-unfoldable pub exchanged : (start : StreamSeen) (at mid next : Place) (d : ConnSeen) (step : Step) (told out : Outcome) (one : Plays_call at step told mid) → IsNeverUnlawful at told mid → WaitPlaces at told mid → NoneFalls at.seen.link mid.seen.link → Settles at step told out one.own one.told.response mid next → StandsAt start next d → Plays_exchange at step out next
-exchanged start at mid next d step told out one lawful waits counts s stands = record {
+unfoldable pub exchanged : (start : StreamSeen) (at mid left next : Place) (d : ConnSeen) (step : Step) (told out : Outcome) (one : Plays_call at step told mid) → LeavesCopy step.call one.own told.end mid left → IsNeverUnlawful at told mid → WaitPlaces at told mid → NoneFalls at.seen.link mid.seen.link → Settles at step told out one.own one.told.response left next → StandsAt start next d → Plays_exchange at step out next
+exchanged start at mid left next d step told out one leaves lawful waits counts s stands = record {
   told = told;
   ended_at = mid;
   call = one;
+  left_at = left;
+  leaves = leaves;
   settles = s;
-  waits = settled_waits at step told out one.own mid next s waits;
-  counts = settled_counts at step told out one.own mid next at.seen.link s counts;
+  waits = settled_waits at step told out one.own left next s (left_waits at told step.call one.own told.end mid left leaves waits);
+  counts = settled_counts at step told out one.own left next at.seen.link s (left_counts step.call one.own told.end mid left at.seen.link leaves counts);
   lawful = lawful;
   ledger = owes_requests start next d stands;
 }

@@ -1,5 +1,5 @@
 -- Why a step ended.
-use Rattle.std.proofs.Common.{◌≡◌, ℕ, ◌+◌, ◌^◌, ◌<◌, Bool, true, false, cond, inl, inr, List, [], ◌∷◌, ◌++◌, length, map, refl, sym, ap, ◌∙◌, subst, arith, Option, Some, None, Err}
+use Rattle.std.proofs.Common.{◌≡◌, ℕ, ◌+◌, ◌^◌, ◌<◌, Bool, false, cond, inl, inr, List, [], ◌∷◌, ◌++◌, length, map, refl, sym, ap, ◌∙◌, subst, arith, Option, Some, None, Err}
 use Rattle.pg_wire.specs.declared.status.TransactionStatus.{TransactionStatus}
 use Rattle.std.specs.List.{count_by, AllByRecursion}
 use Rattle.std.proofs.lemmas.List.{length-append, map-append, nil_from_length}
@@ -12,7 +12,7 @@ use Rattle.pg_wire.specs.declared.error.ServerFault.TheVariants as faults
 use Rattle.pg_wire.specs.Frame.{Frame}
 use Rattle.pg_wire.specs.Parts.{heard, is_ready}
 use Rattle.pg_wire.specs.Frontend.{FrontendMessage}
-use Rattle.pg_wire.specs.Backend.{BackendMessage, backend_frame, HasBackendFrame, CopyInResponse, CopyOutResponse, ReadyForQuery}
+use Rattle.pg_wire.specs.Backend.{BackendMessage, backend_frame, HasBackendFrame, ReadyForQuery}
 use Rattle.pg_wire.specs.Refusals.{BeginsCopyResponse}
 use Rattle.pg_stream.specs.Streams.{StreamSeen, HeardCause}
 use Rattle.pg_call.specs.declared.request.Request.{Request}
@@ -20,7 +20,6 @@ use Rattle.pg_call.specs.declared.answer.CallItem.{CallItem}
 use Rattle.pg_call.specs.declared.answer.CallItem.TheVariants as call_items
 use Rattle.pg_call.specs.declared.ledger.Ledger.{Ledger}
 use Rattle.pg_exchanges.specs.Expecting.{Widths, BeginsKnowing}
-use Rattle.pg_call.specs.declared.judging.Part.{Part}
 use Rattle.pg_call.specs.Requests.{Group, groups_of, widths_of, heading_of}
 use Rattle.pg_call.specs.Items.{own_items, rows_in}
 use Rattle.pg_call.specs.Drains.{after_readys}

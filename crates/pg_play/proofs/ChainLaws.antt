@@ -1,5 +1,5 @@
 -- Steps that are calls one behind another.
-use Rattle.std.proofs.Common.{◌≡◌, ◌⊎◌, inl, inr, ℕ, ◌<◌, ◌^◌, false, true, List, [], ◌∷◌, Option, Some, None, Result, Ok, Err, refl}
+use Rattle.std.proofs.Common.{◌≡◌, inl, inr, ℕ, ◌<◌, ◌^◌, false, true, List, [], ◌∷◌, Some, None, Ok, Err, refl}
 use Rattle.pg_wire.specs.declared.error.Error.{Error}
 use Rattle.pg_request.specs.Queries.{QueryText}
 use Rattle.pg_conn.specs.Connections.{ConnSeen}

@@ -32,6 +32,7 @@ use Rattle.pg_play.specs.Complete.{IsFaultless, IsFairError, WasCutShort, IsFair
 use Rattle.pg_script.specs.declared.step.Call.{Call}
 use Rattle.pg_rule.specs.declared.rule.Rule.{Rule}
 use Rattle.pg_play.proofs.ExchangeLaws.{IsOf, first_is_of, next_is_of, wants_so}
+use Rattle.pg_play.proofs.SettleLaws.{left_frames, left_link}
 use Rattle.pg_play.specs.Plays.{Plays_call, Plays_exchange, Plays_exchanges, last_of, FirstIs, Hands, HandsOn, Plays_step, Plays_from, AsksForNoCopy}
 use Rattle.pg_call.specs.Replies.{awaits_first, begins_copy}
 use Rattle.pg_call.proofs.RefusedLaws.{IsPlain, closing_plain, copies_begin, plain_after}
@@ -68,7 +69,7 @@ heard_in : (at : Place) (steps : List Step) (outs : List Outcome) (last : Place)
 heard_in at [] [] last run = heard_still at last run
 heard_in at [] (o ∷ outs) last run = absurd run
 heard_in at (s ∷ steps) [] last run = absurd run
-heard_in at (s ∷ steps) (o ∷ outs) last run = prefix_trans (heard at.frames) (heard run.0.frames) (heard last.frames) (run.1.call.slice, sym run.1.call.queued.taken ∙ sym (ap heard run.1.settles.frames)) (heard_in run.0 steps outs last run.2)
+heard_in at (s ∷ steps) (o ∷ outs) last run = prefix_trans (heard at.frames) (heard run.0.frames) (heard last.frames) (run.1.call.slice, sym run.1.call.queued.taken ∙ sym (ap heard (run.1.settles.frames ∙ left_frames s.call run.1.call.own run.1.told.end run.1.ended_at run.1.left_at run.1.leaves))) (heard_in run.0 steps outs last run.2)
 
 heard_on : (at : Place) (steps : List Step) (outs : List Outcome) (last : Place) → Plays_from at steps outs last → IsPrefixOf (heard at.frames) (heard last.frames)
 heard_on at [] [] last run = heard_still at last run
@@ -91,7 +92,7 @@ header_rest at read rest fault w c h =
     subst (λ (b : List ℕ). HeaderFault b fault) (sym (cut_unique backend_tags at.seen.held t.0 [] rest at.seen.held t.2 none).1) h
 
 refuted : (first : LinkSeen) (last : Place) (sent read : List Frame) (rest : List ℕ) (fault : ServerFault) → IsFaultless first last sent read rest → AllByRecursion (IsWhole backend_tags) last.frames → MayHear (said_in last.groups) (heard read) → Refutes fault last → ⊥
-refuted first last sent read rest (faults.Unlawful tag) g whole may r = unlawful_refuted last read rest tag whole g.cuts may r
+refuted first last sent read rest (faults.Unlawful tag) g whole may r = unlawful_refuted last read rest tag whole g.cuts g.uncopied.1 may r
 refuted first last sent read rest (faults.Malformed tag) g whole may (inl m) =
     let said = at_front (λ frame. is_asynchronous frame ≡ true → IsSaid frame) last.frames m.frame read (front_read last read rest m.frame m.rest whole g.cuts m.whole m.parts) g.asides m.asynchronous in
     m.refused said.0 said.1
@@ -118,6 +119,7 @@ starts _ e = absurd cc
 -- what asks for no copy awaits none
 plays_plain : (d : ℕ) (call : Call) → copies call ≡ false → IsPlain (awaits_first (request_of d call))
 plays_plain d (calls.CopyOut query) n = absurd cc
+plays_plain d (calls.Feed fed) n = absurd cc
 plays_plain zero calls.Commit n = tt
 plays_plain (suc d) calls.Commit n = tt
 plays_plain zero calls.Rollback n = tt
@@ -185,8 +187,8 @@ exchange_fair first at whole step out next last part g a one l e k =
     let call = one.call in
     let mid = one.ended_at in
     let told : one.told.end ≡ ends.Err e = sym (ap (λ (x : Outcome). x.end) one.settles.outcome) ∙ k in
-    fair_error first at whole step call.own call.slice mid last e part g a (subst (λ (x : StreamSeen). NoneFalls x.link last.seen.link) one.settles.seen l.counts)
-    (slice_copies at step one.told mid last call (subst (λ (f : List Frame). IsPrefixOf (heard f) (heard last.frames)) one.settles.frames l.heard_so) g.no_copy)
+    fair_error first at whole step call.own call.slice mid last e part g a (subst (λ (x : LinkSeen). NoneFalls x last.seen.link) (ap (λ (x : StreamSeen). x.link) one.settles.seen ∙ left_link step.call call.own one.told.end mid one.left_at one.leaves) l.counts)
+    (slice_copies at step one.told mid last call (subst (λ (f : List Frame). IsPrefixOf (heard f) (heard last.frames)) (one.settles.frames ∙ left_frames step.call call.own one.told.end mid one.left_at one.leaves) l.heard_so) g.no_copy)
     (λ fault x. l.broken fault (fault_breaks at step out next one fault (k ∙ ap (λ (z : Error). ends.Err z) x)))
     (subst (λ (z : End). HasCause at step call.own call.slice mid z) told call.cause)
 
@@ -243,9 +245,9 @@ all_fair first at (s ∷ steps) (o ∷ outs) last g a run =
     )
 
 pub where_faultless : (first : LinkSeen) (at last : Place) (steps : List Step) (outs : List Outcome) → Plays_from at steps outs last → NoneFalls first at.seen.link → at.broken ≡ None → AllByRecursion HasFrontendFrame last.said → AllByRecursion (IsWhole backend_tags) last.frames
-    → (AsksForNoCopy (heard last.frames) → last.said ≡ said_in last.groups) → WhereFaultless first last steps outs
+    → (AsksForNoCopy (heard last.frames) → last.has_failed ≡ false → last.said ≡ said_in last.groups) → WhereFaultless first last steps outs
 where_faultless first at last steps outs run counts w can whole plain sent read rest g =
-    let may = (hears_groups last sent read rest can whole plain g.sent_first g.cuts g.replies).1 in
+    let may = (hears_groups last sent read rest can whole (λ h. plain h g.uncopied.0) g.sent_first g.cuts g.replies).1 in
     all_fair first at steps outs last (record {
       no_fault = g.no_fault;
       no_end = g.no_end;

@@ -60,7 +60,7 @@ most_by d (Some fault) limits first a b step said hs shown end w m h = within_no
 
 same_place : (at : Place) (seen : StreamSeen) (said : List FrontendMessage) (groups : List Group) (frames : List Frame) (failed : Bool) (broken : Option ServerFault) (seen' : StreamSeen)
     → seen ≡ seen' → said ≡ at.said → groups ≡ at.groups → frames ≡ at.frames → failed ≡ at.is_copy_failed → broken ≡ at.broken
-    → record { seen = seen; said = said; groups = groups; frames = frames; is_copy_failed = failed; broken = broken; rule = at.rule } ≡ record at { seen = seen' }
+    → record { seen = seen; said = said; groups = groups; frames = frames; is_copy_failed = failed; broken = broken; rule = at.rule; has_failed = at.has_failed } ≡ record at { seen = seen' }
 same_place at seen said groups frames failed broken seen' a b c d e f = rw (a, b, c, d, e, f) refl
 
 pub and_true : (b : Bool) → b && true ≡ b

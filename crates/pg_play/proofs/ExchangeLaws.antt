@@ -103,6 +103,7 @@ first_request rule d (calls.FetchOptional query) = first_by_request rule d hows.
 first_request rule d (calls.FetchOne query) = first_by_request rule d hows.FetchOne query query.arguments (calls.FetchOne query) (requests.FetchOne query) refl
 first_request rule d calls.Ping = refl
 first_request rule d (calls.CopyOut query) = refl
+first_request rule d (calls.Feed fed) = refl
 first_request rule d calls.Flush = refl
 first_request rule d (calls.Chain chain) = refl
 first_request rule d calls.Begin = refl
@@ -177,6 +178,7 @@ first_begins_with rule call = kept_first begins_with (record { queries = begins_
 
 copies_none : (call : Call) (how : How) → how_of call ≡ Some how → copies call ≡ false
 copies_none (calls.CopyOut query) how e = absurd cc
+copies_none (calls.Feed fed) how e = absurd cc
 copies_none _ how e = refl
 
 first_copies : (rule : Rule) (call : Call) → copies (first_call rule call) ≡ copies call

@@ -1,5 +1,5 @@
 -- Where nothing is open, the server's session is idle.
-use Rattle.std.proofs.Common.{◌≡◌, ◌≢◌, ℕ, zero, suc, ◌+◌, ◌-◌, ◌^◌, ◌<◌, ◌≤◌, min, Bool, true, false, cond, List, [], ◌∷◌, length, refl, sym, ap, ◌∙◌, subst, arith, length-append, ◌⊎◌, inl, inr, nat_eq, ◌&&◌, not, codes}
+use Rattle.std.proofs.Common.{◌++◌, ◌≡◌, ◌≢◌, ℕ, zero, suc, ◌+◌, ◌-◌, ◌^◌, ◌<◌, ◌≤◌, min, Bool, true, false, cond, List, [], ◌∷◌, length, refl, sym, ap, ◌∙◌, subst, arith, length-append, ◌⊎◌, inl, inr, nat_eq, ◌&&◌, not, codes}
 use Rattle.pg_rule.specs.declared.rule.Rule.{Rule}
 use Rattle.pg_wire.specs.Frontend.{Query}
 use Rattle.std.proofs.lemmas.Bool.{lt-ltb}
@@ -20,6 +20,7 @@ use Rattle.pg_play.specs.Settling.{cleanup_of, depth_after, rollback_at}
 use Rattle.pg_play.specs.Idles.{KeepsOrder}
 use Rattle.pg_play.specs.Plays.{Plays_exchange, Plays_exchanges, Plays_from, AreOrderlyIn, AreOrderly, AreIdleIn, AreIdle}
 use Rattle.pg_play.proofs.StepLaws.{at_most_group}
+use Rattle.pg_play.proofs.SettleLaws.{left_groups}
 use Rattle.pg_play.proofs.SettledLaws.{depth_rule, fine_has}
 
 well_error : (end : End) (step : Step) (out : Outcome) (response : List BackendMessage) (slice : List Frame) (next : Place) → is_fine end ≡ true → WellAtOk end step out response slice next → HasNoError slice
@@ -70,6 +71,8 @@ no_cleanup d calls.Ping end [] o b a = refl
 no_cleanup d calls.Ping end (g ∷ gs) o b a = refl
 no_cleanup d (calls.CopyOut query) end [] o b a = refl
 no_cleanup d (calls.CopyOut query) end (g ∷ gs) o b a = refl
+no_cleanup d (calls.Feed fed) end [] o b a = refl
+no_cleanup d (calls.Feed fed) end (g ∷ gs) o b a = refl
 no_cleanup d calls.Flush end [] o b a = refl
 no_cleanup d calls.Flush end (g ∷ gs) o b a = refl
 no_cleanup d (calls.Chain chain) end [] o b a = refl
@@ -146,6 +149,7 @@ idle_by idle n d (calls.FetchOptional query) end own cleanup owed others commits
 idle_by idle n d (calls.FetchOne query) end own cleanup owed others commits rolls cleans c q l i z = plain_idle idle n own cleanup (few_own d (calls.FetchOne query) end own q) (c ∙ no_cleanup d (calls.FetchOne query) end own owed refl refl) (i z) (others refl)
 idle_by idle n d calls.Ping end own cleanup owed others commits rolls cleans c q l i z = plain_idle idle n own cleanup (few_own d calls.Ping end own q) (c ∙ no_cleanup d calls.Ping end own owed refl refl) (i z) (others refl)
 idle_by idle n d (calls.CopyOut query) end own cleanup owed others commits rolls cleans c q l i z = plain_idle idle n own cleanup (few_own d (calls.CopyOut query) end own q) (c ∙ no_cleanup d (calls.CopyOut query) end own owed refl refl) (i z) (others refl)
+idle_by idle n d (calls.Feed fed) end own cleanup owed others commits rolls cleans c q l i z = plain_idle idle n own cleanup (few_own d (calls.Feed fed) end own q) (c ∙ no_cleanup d (calls.Feed fed) end own owed refl refl) (i z) (others refl)
 idle_by idle n d calls.Flush end own cleanup owed others commits rolls cleans c q l i z = plain_idle idle n own cleanup (few_own d calls.Flush end own q) (c ∙ no_cleanup d calls.Flush end own owed refl refl) (i z) (others refl)
 idle_by idle n d (calls.Chain chain) end own cleanup owed others commits rolls cleans c q l i z = plain_idle idle n own cleanup (few_own d (calls.Chain chain) end own q) (c ∙ no_cleanup d (calls.Chain chain) end own owed refl refl) (i z) (others refl)
 idle_by idle n d calls.Begin end [] cleanup owed others commits rolls cleans c q l i z = unbegun_idle idle n d cleanup (is_fine end) z i c
@@ -188,10 +192,11 @@ idle_exchange idle at step out next one l k i z =
     let call = one.call in
     let settles = one.settles in
     let first : length one.ended_at.groups ≡ length at.groups + length call.own = ap (λ (g : List Group). length g) call.queued.groups ∙ length-append at.groups call.own in
-    let all : length next.groups ≡ length one.ended_at.groups + length settles.cleanup = ap (λ (g : List Group). length g) settles.groups ∙ length-append one.ended_at.groups settles.cleanup in
-    let few : owed one.ended_at < 2 ^ 64 - 1 = omega (arith, all, l) in
+    let left : one.left_at.groups ≡ one.ended_at.groups = left_groups step.call call.own one.told.end one.ended_at one.left_at one.leaves in
+    let all : length next.groups ≡ length one.ended_at.groups + length settles.cleanup = ap (λ (g : List Group). length g) (settles.groups ∙ ap (λ (g : List Group). g ++ settles.cleanup) left) ∙ length-append one.ended_at.groups settles.cleanup in
+    let few : owed one.left_at < 2 ^ 64 - 1 = omega (arith, all, l, ap (λ (g : List Group). length g) left) in
     subst idle (omega (arith, first, all))
-    (idle_by idle (length at.groups) at.rule.depth step.call one.told.end call.own settles.cleanup (owed one.ended_at) k.others (commits_at at step out next one k) k.rolls k.cleans settles.cleans call.queued.asks few i (sym (ap (λ (r : Rule). r.depth) settles.rule ∙ depth_rule at.rule step.call call.own call.told.response one.told.end) ∙ z))
+    (idle_by idle (length at.groups) at.rule.depth step.call one.told.end call.own settles.cleanup (owed one.left_at) k.others (commits_at at step out next one k) k.rolls k.cleans settles.cleans call.queued.asks few i (sym (ap (λ (r : Rule). r.depth) settles.rule ∙ depth_rule at.rule step.call call.own call.told.response one.told.end) ∙ z))
 
 more_in : (at : Place) (steps : List Step) (outs : List Outcome) (last : Place) → Plays_exchanges at steps outs last → length at.groups ≤ length last.groups
 more_in at [] [] last run = omega (arith, ap (λ (p : Place). length p.groups) run)
@@ -201,7 +206,7 @@ more_in at (s ∷ steps) (o ∷ outs) last run =
     let next = run.0 in
     let one = run.1 in
     let rest = more_in next steps outs last run.2 in
-    omega (arith, rest, ap (λ (g : List Group). length g) one.call.queued.groups, length-append at.groups one.call.own, ap (λ (g : List Group). length g) one.settles.groups, length-append one.ended_at.groups one.settles.cleanup)
+    omega (arith, rest, ap (λ (g : List Group). length g) one.call.queued.groups, length-append at.groups one.call.own, ap (λ (g : List Group). length g) (left_groups s.call one.call.own one.told.end one.ended_at one.left_at one.leaves), ap (λ (g : List Group). length g) one.settles.groups, length-append one.left_at.groups one.settles.cleanup)
 
 abbrev IdlesAt : (ℕ → Type 0) → Place → Type 0
 IdlesAt idle at = at.rule.depth ≡ 0 → idle (length at.groups)

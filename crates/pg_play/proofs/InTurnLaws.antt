@@ -6,7 +6,7 @@ use Rattle.pg_wire.specs.Parts.{heard}
 use Rattle.pg_wire.specs.Frontend.{FrontendMessage}
 use Rattle.pg_wire.specs.Backend.{BackendMessage}
 use Rattle.pg_wire.proofs.PartLaws.{heard-append}
-use Rattle.pg_stream.specs.Links.{NoneFalls, GrewBy}
+use Rattle.pg_stream.specs.Links.{LinkSeen, NoneFalls, GrewBy}
 use Rattle.pg_stream.specs.Streams.{StreamSeen}
 use Rattle.pg_stream.proofs.StreamLemmas.{GrewBy-then}
 use Rattle.pg_call.specs.declared.request.Request.{Request}
@@ -23,7 +23,7 @@ use Rattle.pg_report.specs.declared.outcome.Outcome.{Outcome}
 use Rattle.pg_script.specs.declared.step.Call.{Call}
 use Rattle.pg_script.specs.declared.step.Step.{Step}
 use Rattle.pg_play.specs.Shown.{request_of, handed_by, next_call, waits_how, acts_at_once}
-use Rattle.pg_play.specs.Calls.{WaitsFew, HasWaitedFew, Ended, EndsCall, PlaysOne, HandedOn, OfLastIn, Counted, none_counted, asking, behind_end, limits_of, outcome_of, all_groups, asked_from}
+use Rattle.pg_play.specs.Calls.{WaitsFew, HasWaitedFew, Ended, EndsCall, PlaysOne, HandedOn, OfLastIn, Counted, none_counted, asking, behind_end, copy_behind, limits_of, outcome_of, all_groups, asked_from}
 use Rattle.pg_play.specs.Places.{Place, owed, is_fine}
 use Rattle.pg_play.specs.Causes.{AnsweredPending, IsDropped}
 use Rattle.pg_play.specs.Settling.{Settles, handed_at}
@@ -34,6 +34,9 @@ use Rattle.pg_play.proofs.PlaceLaws.{HasSummary, ends_summary, next_place, readi
 use Rattle.pg_play.proofs.ToldLaws.{main_after, queued_one, fine_own, told_of, CountsOn, all_counted}
 use Rattle.pg_play.proofs.CauseLaws.{dropped_step}
 use Rattle.pg_play.proofs.LinkLaws.{sum_more}
+use Rattle.pg_play.specs.Copying.{LeavesCopy}
+use Rattle.pg_play.proofs.SettleLaws.{left_frames, left_groups, left_link}
+use Rattle.pg_play.proofs.CopyLaws.{leaves_to}
 use Rattle.pg_play.proofs.SettledLaws.{SettlesTo, conn_behind, settles_call, cleanup_polled, ok_cleans_none}
 use Rattle.pg_play.proofs.CalledLaws.{KnownAt, Called, called_exchange, exchanged}
 use Rattle.pg_play.proofs.ThroughLaws.{counted_by, held_conn, handed_asking, handed_ended}
@@ -140,15 +143,15 @@ pub record InTurn (start : StreamSeen) (at : Place) (step : Step) (call : Call) 
   pub keeps : Keeps next
 
 -- there is one alone
-pub one_turn : (start : StreamSeen) (at mid next : Place) (d : ConnSeen) (step : Step) (call : Call) (old : Counted) (raw told out : Outcome) (one : Plays_call at (exchange_of step call) raw mid) → IsNeverUnlawful at raw mid → WaitPlaces at raw mid → NoneFalls at.seen.link mid.seen.link → Settles at (exchange_of step call) raw told one.own one.told.response mid next
+pub one_turn : (start : StreamSeen) (at mid left next : Place) (d : ConnSeen) (step : Step) (call : Call) (old : Counted) (raw told out : Outcome) (one : Plays_call at (exchange_of step call) raw mid) → LeavesCopy call one.own raw.end mid left → IsNeverUnlawful at raw mid → WaitPlaces at raw mid → NoneFalls at.seen.link mid.seen.link → Settles at (exchange_of step call) raw told one.own one.told.response left next
     → StandsAt start next d → Keeps next → out.items ≡ told.items → out.end ≡ told.end → AddUp old (told ∷ []) out → out.cache ≡ over old.cache told.cache → (is_fine told.end ≡ true → next_call next.rule call one.told.response ≡ None) → InTurn start at step call old out mid d
 unfolding exchanged
-one_turn start at mid next d step call old raw told out one lawful waits counts s stands keeps items ends adds caches last = record {
+one_turn start at mid left next d step call old raw told out one leaves lawful waits counts s stands keeps items ends adds caches last = record {
   later = [];
   told = told;
   outs = [];
   next = next;
-  run = (next, exchanged start at mid next d (exchange_of step call) raw told one lawful waits counts s stands, refl);
+  run = (next, exchanged start at mid left next d (exchange_of step call) raw told one leaves lawful waits counts s stands, refl);
   limits = tt;
   hands = (last, tt);
   items = items;
@@ -173,7 +176,7 @@ more_turns start at mid stop m c d step call part old out one s comes made t = r
   told = s.out;
   outs = t.told ∷ t.outs;
   next = t.next;
-  run = (s.next, exchanged start at mid s.next c (exchange_of step call) (told_in one) s.out one.one one.lawful one.places one.counts s.settles s.stands, t.run);
+  run = (s.next, exchanged start at mid s.left s.next c (exchange_of step call) (told_in one) s.out one.one s.leaves one.lawful one.places one.counts s.settles s.stands, t.run);
   limits = (refl, t.limits);
   hands = ((ap (λ (x : Outcome). x.end) s.settles.outcome, comes), t.hands);
   items = t.items;
@@ -210,10 +213,27 @@ has_room_at start at a old call b =
     let room = b.stands.room in
     omega (arith, room)
 
+-- the numbers are those of the connection before what was left of a copy
+settles_behind : (start : StreamSeen) (at mid left : Place) (m c : ConnSeen) (step : Step) (told : Outcome) (one : Plays_call at step told mid) → (c.groups ≡ m.groups) × (c.heard ≡ m.heard) × (c.stream.waits ≡ m.stream.waits) × (c.stream.moves ≡ m.stream.moves) × (c.earlier ≡ m.earlier) × (c.cache ≡ m.cache) × (c.keeping ≡ m.keeping)
+    → {d : ConnSeen} → SettlesTo start at step told one.own one.told.response mid c d → SettlesTo start at step told one.own one.told.response mid m d
+settles_behind start at mid left m c step told one same {d} s = record {
+  left = s.left;
+  leaves = s.leaves;
+  next = s.next;
+  out = s.out;
+  settles = s.settles;
+  stands = s.stands;
+  groups = subst (λ (n : ℕ). GrewBy (length s.settles.cleanup) n d.groups) same.0 s.groups;
+  others = (s.others.0 ∙ same.1, s.others.1 ∙ same.2, s.others.2 ∙ same.3, s.others.3 ∙ same.4, s.others.4 ∙ ap (λ (x : CacheStep). over x s.out.cache) same.5);
+}
+
 settles_so : (start : StreamSeen) (at mid : Place) (a m : ConnSeen) (old : Counted) (step : Step) (call : Call) (shown : List Item) (end : End) → BeginsAt start at a old call → (c : Called start at old m (exchange_of step call) shown end mid) → standing m ≡ standing (asking (request_of at.rule.depth call) old a)
-    → SettlesTo start at (exchange_of step call) (told_in c) c.one.own c.one.told.response mid m (conn_behind (handed_at end call c.one.told.response) end m)
+    → SettlesTo start at (exchange_of step call) (told_in c) c.one.own c.one.told.response mid m (conn_behind (handed_at end call c.one.told.response) end (copy_behind end m))
 settles_so start at mid a m old step call shown end b c same =
-    settles_call start at mid m (exchange_of step call) (told_in c) c.one b.polled c.stands c.small (omega (arith, c.grew.groups, c.one.numbers.groups, c.small)) (ap (λ (x : Standing). x.change) same) (ap (λ (x : Standing). x.keeping) same)
+    let groups : m.groups ≡ length c.one.own = omega (arith, c.grew.groups, c.one.numbers.groups, c.small) in
+    let l = leaves_to start call at.rule.depth c.one.own end mid m c.stands groups (ap (λ (x : Standing). x.change) same) in
+    settles_behind start at mid l.left m (copy_behind end m) (exchange_of step call) (told_in c) c.one l.others
+    (settles_call start at mid l.left (copy_behind end m) (exchange_of step call) (told_in c) c.one l.leaves b.polled l.stands c.small (l.others.0 ∙ groups) l.acts (l.others.6 ∙ ap (λ (x : Standing). x.keeping) same))
 
 -- only the groups that an end makes are counted behind it, and what it makes of the statements is told
 pub same_but_groups : (m d : ConnSeen) (items : List Item) (end : End) → (d.heard ≡ m.heard) × (d.stream.waits ≡ m.stream.waits) × (d.stream.moves ≡ m.stream.moves) → outcome_of d items end ≡ record (outcome_of m items end) { groups = all_groups d; cache = d.cache }
@@ -246,29 +266,29 @@ describes_none d call ends.Dropped x l c f = cc
 -- the exchange that ended its call, behind which the groups alone are counted on
 pub last_turn : (start first : StreamSeen) (old : Counted) (at : Place) (a m : ConnSeen) (step : Step) (call : Call) (items : List Item) (end : End) (said : List FrontendMessage) (fs : List Frame) → BeginsAt start at a old call → step.polls < 2 ^ 32 → first.waits ≡ 0 → first.moves ≡ 0 → 0 < step.most
     → Ended (limits_of step) first (asking (request_of at.rule.depth call) old a) m (request_of at.rule.depth call) items end said fs → EndsCall (request_of at.rule.depth call) end → m.call ≡ states.Idle → (found : HasSummary a.ledger (request_of at.rule.depth call) said (heard fs) m.ledger end items)
-    → PlaysInTurn start first at step call old (outcome_of (behind_end end m) items end) (next_place at m said found.1.own fs end) (behind_end end m) × (outcome_of (behind_end end m) items end ≡ record (outcome_of m items end) { groups = all_groups (behind_end end m); cache = (behind_end end m).cache })
+    → PlaysInTurn start first at step call old (outcome_of (behind_end end (copy_behind end m)) items end) (next_place at m said found.1.own fs end) (behind_end end (copy_behind end m)) × (outcome_of (behind_end end (copy_behind end m)) items end ≡ record (outcome_of m items end) { groups = all_groups (behind_end end (copy_behind end m)); cache = (behind_end end (copy_behind end m)).cache })
 last_turn start first old at a m step call items end said fs h p z v l e last idles found =
     let exchange = exchange_of step call in
     let s = found.1 in
     let mid : Place = next_place at m said s.own fs end in
     let c : Called start at old m exchange items end mid = called_exchange start first old at a m exchange items end said fs h.stands h.polled h.fits p z e idles (has_room_at start at a old call h) found h.known in
-    let d : ConnSeen = behind_end end m in
+    let d : ConnSeen = behind_end end (copy_behind end m) in
     let response : List BackendMessage = c.one.told.response in
-    let t : SettlesTo start at exchange (told_in c) c.one.own response mid m d = subst (λ (o : Option Request). SettlesTo start at exchange (told_in c) c.one.own response mid m (conn_behind o end m)) (none_left at.rule.depth call response end last) (settles_so start at mid a m old step call items end h c e.went.started.3) in
+    let t : SettlesTo start at exchange (told_in c) c.one.own response mid m d = subst (λ (o : Option Request). SettlesTo start at exchange (told_in c) c.one.own response mid m (conn_behind o end (copy_behind end m))) (none_left at.rule.depth call response end last) (settles_so start at mid a m old step call items end h c e.went.started.3) in
     let k = t.settles.outcome in
     let raw : Outcome = outcome_of m items end in
     let real : Outcome = outcome_of d items end in
     let same : real ≡ record raw { groups = all_groups d; cache = d.cache } = same_but_groups m d items end (t.others.0, t.others.1, t.others.2) in
-    let keeps : Keeps t.next = keeps_next at mid t.next exchange (told_in c) t.out c.one t.settles h.keeps h.sound (λ x is f. absurd (describes_none at.rule.depth call end x last is f)) in
+    let keeps : Keeps t.next = keeps_next at mid t.left t.next exchange (told_in c) t.out c.one t.leaves t.settles h.keeps h.sound (λ x is f. absurd (describes_none at.rule.depth call end x last is f)) in
     let few : m.stream.waits ≤ step.polls = waited_most (limits_of step) first m end z e.few in
     let plays : PlaysInTurn start first at step call old real mid d = record {
-      turns = one_turn start at mid t.next d step call old (told_in c) t.out real c.one c.lawful c.places c.counts t.settles t.stands keeps (sym (ap (λ (x : Outcome). x.items) k)) (sym (ap (λ (x : Outcome). x.end) k))
+      turns = one_turn start at mid t.left t.next d step call old (told_in c) t.out real c.one t.leaves c.lawful c.places c.counts t.settles t.stands keeps (sym (ap (λ (x : Outcome). x.items) k)) (sym (ap (λ (x : Outcome). x.end) k))
           (add_one old d t.out [] real (counts_settled start old at mid m d exchange (told_in c) c.one t c.grew) (add_none d items end)) (t.others.4 ∙ ap (λ (x : Standing). over x.cache t.out.cache) e.went.started.3) (λ f. last_by t.next.rule at.rule.depth call response end last (sym (ap (λ (x : Outcome). is_fine x.end) k) ∙ f));
       dropped = λ y. dropped_out at step raw real mid same (dropped_step a.broken start first old at a m exchange said fs items end found.0 h.stands z v p y e.ends s);
       few = subst (λ (x : Outcome). (pending : ℕ) × AnsweredPending x pending × WaitsFew step.polls pending x.end) (sym same) (few_of first m step raw z v refl p e.few);
       most = λ w. most_by at.rule.depth a.broken (limits_of step) first (asking (request_of at.rule.depth call) old a) m exchange said (heard fs) items end (shows_how call w) l e.ends;
       waits = omega (arith, t.others.1, few);
-      calls = omega (arith, e.calls, ap (λ (x : StreamSeen). x.link.calls) t.stands.seen, ap (λ (x : StreamSeen). x.link.calls) t.settles.seen);
+      calls = omega (arith, e.calls, ap (λ (x : StreamSeen). x.link.calls) t.stands.seen, ap (λ (x : StreamSeen). x.link.calls) t.settles.seen, ap (λ (x : LinkSeen). x.calls) (left_link call c.one.own end mid t.left t.leaves));
     } in
     (plays, same)
 
@@ -320,11 +340,11 @@ turns_on start first old at a m step call next b p z l h =
     let same : response ≡ f.reply = replies_same response f.reply (sym c.one.told.says.0 ∙ main_after start at a r s.own (heard h.fs) st q ∙ f.replied) c.one.told.says.1 f.reply_has_frames in
     let handed : handed_by call response ≡ Some next = ap (λ (ms : List BackendMessage). handed_by call ms) same ∙ n.handed in
     let t : SettlesTo start at exchange (told_in c) c.one.own response mid m (held_conn m next) = subst (λ (o : Option Request). SettlesTo start at exchange (told_in c) c.one.own response mid m (conn_behind o (ends.Ok AnswersUnit) m)) handed (settles_so start at mid a m old step call [] (ends.Ok AnswersUnit) b c e.went.started.3) in
-    let none : t.settles.cleanup ≡ [] = t.settles.cleans ∙ cleanup_polled at.rule.depth call (ends.Ok AnswersUnit) c.one.own (owed mid) b.polled ∙ sym (ok_cleans_none at.rule.depth call c.one.own) in
-    let groups : t.next.groups ≡ at.groups ++ groups_of r = t.settles.groups ∙ ap (λ (g : List Group). (at.groups ++ s.own) ++ g) none ∙ append-nil (at.groups ++ s.own) ∙ ap (λ (g : List Group). at.groups ++ g) whole in
-    let frames : heard t.next.frames ≡ heard at.frames ++ heard h.fs = ap heard t.settles.frames ∙ heard-append at.frames h.fs in
+    let none : t.settles.cleanup ≡ [] = t.settles.cleans ∙ cleanup_polled at.rule.depth call (ends.Ok AnswersUnit) c.one.own (owed t.left) b.polled ∙ sym (ok_cleans_none at.rule.depth call c.one.own) in
+    let groups : t.next.groups ≡ at.groups ++ groups_of r = t.settles.groups ∙ ap (λ (g : List Group). g ++ t.settles.cleanup) (left_groups call c.one.own (ends.Ok AnswersUnit) mid t.left t.leaves) ∙ ap (λ (g : List Group). (at.groups ++ s.own) ++ g) none ∙ append-nil (at.groups ++ s.own) ∙ ap (λ (g : List Group). at.groups ++ g) whole in
+    let frames : heard t.next.frames ≡ heard at.frames ++ heard h.fs = ap heard (t.settles.frames ∙ left_frames call c.one.own (ends.Ok AnswersUnit) mid t.left t.leaves) ∙ heard-append at.frames h.fs in
     let knows : t.next.rule ≡ held_by rule next = sym t.stands.rule in
-    let keeps : Keeps t.next = keeps_next at mid t.next exchange (told_in c) t.out c.one t.settles b.keeps b.sound
+    let keeps : Keeps t.next = keeps_next at mid t.left t.next exchange (told_in c) t.out c.one t.leaves t.settles b.keeps b.sound
     (λ x is y. described_so start at t.next a m at.rule.depth call x s.own t.settles.cleanup h.said (heard h.fs) response st is whole n.one frames f (sym same) h.can) in
     let asks = n.asks t.next.rule.depth in
     let closed = λ (v : Eviction) (is : call ≡ calls.Evict v). closes_known at t.next call v s.own response is (subst (λ (y : Call). IsSound at.rule y) is b.sound) t.settles.rule in
@@ -355,7 +375,7 @@ turns_through [] start first old at a b step call out h p z v l (m, (said, fs, e
     let turn = last_turn start first old at a m step call out.items out.end said fs h p z v l e last over found in (
       stop,
       subst (λ (x : Outcome). PlaysInTurn start first at step call old x stop b) (sym (outcome ∙ ap (λ (x : ConnSeen). outcome_of x out.items out.end) is))
-          (subst (λ (x : ConnSeen). PlaysInTurn start first at step call old (outcome_of (behind_end out.end m) out.items out.end) stop x) (sym is) turn.0),
+          (subst (λ (x : ConnSeen). PlaysInTurn start first at step call old (outcome_of (behind_end out.end (copy_behind out.end m)) out.items out.end) stop x) (sym is) turn.0),
     )
 turns_through (next ∷ later) start first old at a b step call out h p z v l (m, handed, behind) =
     let r = request_of at.rule.depth call in
@@ -369,7 +389,7 @@ turns_through (next ∷ later) start first old at a b step call out h p z v l (m
       others.0,
       record {
         turns = more_turns start at t.mid others.0 m (held_conn m next) b step call t.part old out t.one t.settles t.comes made o.turns;
-        dropped = λ k. dropped_from at t.settles.next others.0 step out (omega (arith, t.one.counts.write_waits, ap (λ (y : StreamSeen). y.link.write_waits) t.settles.settles.seen)) (o.dropped k);
+        dropped = λ k. dropped_from at t.settles.next others.0 step out (omega (arith, t.one.counts.write_waits, ap (λ (y : StreamSeen). y.link.write_waits) t.settles.settles.seen, ap (λ (y : LinkSeen). y.write_waits) (left_link call t.one.one.own (ends.Ok AnswersUnit) t.mid t.settles.left t.settles.leaves))) (o.dropped k);
         few = o.few;
         most = λ w. o.most (ap waits_how (next_how t.settles.next.rule call t.one.one.told.response t.part t.comes) ∙ w);
         waits = o.waits;

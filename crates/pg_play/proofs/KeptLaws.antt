@@ -6,7 +6,7 @@ use Rattle.std.proofs.lemmas.Slice.Eq.{bytes_eq-Decides}
 use Rattle.std.proofs.lemmas.Option.{same_Some}
 use Rattle.pg_wire.specs.Frame.{Frame}
 use Rattle.pg_wire.specs.Parts.{heard, is_ready}
-use Rattle.pg_wire.specs.Frontend.{FrontendMessage, Bind, ClosePortal, CloseStatement, DescribeStatement, Execute, Parse, Query, Sync, statement_name}
+use Rattle.pg_wire.specs.Frontend.{FrontendMessage, Bind, ClosePortal, CopyData, CopyDone, CloseStatement, DescribeStatement, Execute, Parse, Query, Sync, statement_name}
 use Rattle.pg_wire.specs.Backend.{BackendMessage, backend_frame, HasBackendFrame, FieldDescription}
 use Rattle.pg_wire.specs.Groups.{EndsReady, IsGroup}
 use Rattle.pg_wire.specs.Server.{MayHear}
@@ -40,7 +40,7 @@ use Rattle.pg_call.specs.declared.answer.CallAnswer.TheVariants as answers
 use Rattle.pg_call.specs.Calls.{EndsFine}
 use Rattle.pg_call.proofs.FitLaws.{hands_on_described, next_is}
 use Rattle.pg_request.specs.Texts.{begin_text, commit_text, rollback_text}
-use Rattle.pg_call.specs.Requests.{known as known_under, named_keeping, said_in, widths_of, Group, name_of, groups_of, keeping_of, behind_goal, request_behind, CanBeSaid}
+use Rattle.pg_call.specs.Requests.{ended_by, known as known_under, named_keeping, said_in, widths_of, Group, name_of, groups_of, keeping_of, behind_goal, request_behind, CanBeSaid}
 use Rattle.pg_call.specs.Items.{parameters_after}
 use Rattle.pg_call.specs.Drains.{after_readys}
 use Rattle.pg_conn.specs.Connections.{ConnSeen, rollback, with_depth}
@@ -54,11 +54,13 @@ use Rattle.pg_script.specs.declared.step.Call.{Call}
 use Rattle.pg_script.specs.declared.step.Call.TheVariants as calls
 use Rattle.pg_script.specs.declared.step.Step.{Step}
 use Rattle.pg_play.specs.Shown.{begins, request_of, first_as, first_call, handed_by, exchange_for, acts_at_once}
+use Rattle.pg_play.specs.Copying.{LeavesCopy}
 use Rattle.pg_play.specs.Places.{Place, first_place, is_fine, owed, Queues}
 use Rattle.pg_play.specs.Settling.{Settles, cleanup_of, has_group, has_moved, statements_after, handed_at, held_after, rule_after, depth_after, rollback_at}
 use Rattle.pg_play.specs.Kept.{IsKeptAt, Keeps, named_of}
 use Rattle.pg_play.specs.Plays.{Plays_call, StandsAt}
 use Rattle.pg_play.proofs.PlaceLaws.{all_split, owed_is, readies-append}
+use Rattle.pg_play.proofs.SettleLaws.{left_frames, left_groups}
 use Rattle.pg_play.proofs.PartLaws.{after_more}
 use Rattle.pg_play.proofs.KnownLaws.{lawful_keeps}
 use Rattle.pg_play.proofs.CalledLaws.{KnownAt, known_none}
@@ -321,6 +323,15 @@ ClosesSome _ = ⊥
 query_spares : (n : Named) (sql : List ℕ) → Spares n (Query sql ∷ [])
 query_spares n sql c = none_closes (Query sql) [] n.name (λ e. cc) (λ z. z) c
 
+-- nor is one in a copy from the client
+data_closes : (n : Named) (pieces : List (List ℕ)) (ended : Bool) → IsClosedBy (map CopyData pieces ++ ended_by ended) n.name → ⊥
+data_closes n [] true c = none_closes CopyDone [] n.name (λ e. cc) (λ z. z) c
+data_closes n [] false c = c
+data_closes n (piece ∷ pieces) ended c = none_closes (CopyData piece) (map CopyData pieces ++ ended_by ended) n.name (λ e. cc) (data_closes n pieces ended) c
+
+feed_spares : (n : Named) (sql : List ℕ) (pieces : List (List ℕ)) (ended : Bool) → Spares n (Query sql ∷ (map CopyData pieces ++ ended_by ended))
+feed_spares n sql pieces ended c = none_closes (Query sql) (map CopyData pieces ++ ended_by ended) n.name (λ e. cc) (data_closes n pieces ended) c
+
 spares_asked : (n : Named) (d : ℕ) (call : Call) → (ClosesSome call → ⊥) → AllByRecursion (Spares n) (groups_of (request_of d call))
 spares_asked n d (calls.Execute query) h = (query_spares n query.sql, tt)
 spares_asked n d (calls.ExecuteMany query) h = (query_spares n query.sql, tt)
@@ -331,6 +342,7 @@ spares_asked n d (calls.FetchOptional query) h = (query_spares n query.sql, tt)
 spares_asked n d (calls.FetchOne query) h = (query_spares n query.sql, tt)
 spares_asked n d calls.Ping h = (λ c. none_closes Sync [] n.name (λ e. cc) (λ z. z) c, tt)
 spares_asked n d (calls.CopyOut query) h = (query_spares n query.sql, tt)
+spares_asked n d (calls.Feed fed) h = (feed_spares n fed.sql fed.pieces fed.is_ended, tt)
 spares_asked n d calls.Flush h = tt
 spares_asked n d (calls.Chain chain) h = tt
 spares_asked n d calls.Begin h = (query_spares n (begin_text None d), tt)
@@ -499,6 +511,7 @@ leaves_statements at next call end own cleanup slice rule q cleans sound groups 
     kept_by (calls.FetchOne query) s q = others (calls.FetchOne query) (λ z. z) q
     kept_by calls.Ping s q = others calls.Ping (λ z. z) q
     kept_by (calls.CopyOut query) s q = others (calls.CopyOut query) (λ z. z) q
+    kept_by (calls.Feed fed) s q = others (calls.Feed fed) (λ z. z) q
     kept_by calls.Flush s q = others calls.Flush (λ z. z) q
     kept_by (calls.Chain chain) s q = others (calls.Chain chain) (λ z. z) q
     kept_by calls.Begin s q = others calls.Begin (λ z. z) q
@@ -627,6 +640,7 @@ keeps_by at next call end own cleanup slice response k sound q cleans groups fra
     fine f (calls.FetchOne query) s q e d = none (calls.FetchOne query) s q (fine_handed end (calls.FetchOne query) response f) e
     fine f calls.Ping s q e d = none calls.Ping s q (fine_handed end calls.Ping response f) e
     fine f (calls.CopyOut query) s q e d = none (calls.CopyOut query) s q (fine_handed end (calls.CopyOut query) response f) e
+    fine f (calls.Feed fed) s q e d = none (calls.Feed fed) s q (fine_handed end (calls.Feed fed) response f) e
     fine f calls.Flush s q e d = none calls.Flush s q (fine_handed end calls.Flush response f) e
     fine f (calls.Chain chain) s q e d = none (calls.Chain chain) s q (fine_handed end (calls.Chain chain) response f) e
     fine f calls.Begin s q e d = none calls.Begin s q (fine_handed end calls.Begin response f) e
@@ -645,24 +659,24 @@ keeps_by at next call end own cleanup slice response k sound q cleans groups fra
     by true f = fine f call sound q rule (λ x c. described x c f)
 
 -- the same of an exchange that is told
-pub keeps_next : (at mid next : Place) (step : Step) (told out : Outcome) (one : Plays_call at step told mid) (s : Settles at step told out one.own one.told.response mid next) → Keeps at → IsSound at.rule step.call
+pub keeps_next : (at mid left next : Place) (step : Step) (told out : Outcome) (one : Plays_call at step told mid) → LeavesCopy step.call one.own told.end mid left → (s : Settles at step told out one.own one.told.response left next) → Keeps at → IsSound at.rule step.call
     → ((x : Extended) → step.call ≡ calls.Describe x → is_fine told.end ≡ true → DescribedAt at next x one.own s.cleanup one.slice one.told.response) → Keeps next
-keeps_next at mid next step told out one s k sound described =
+keeps_next at mid left next step told out one leaves s k sound described =
     keeps_by at next step.call told.end one.own s.cleanup one.slice one.told.response k sound one.queued.asks
-    (λ n. subst (AllByRecursion (Spares n)) (sym s.cleans) (cleanup_spares n at.rule.depth step.call told.end one.own (owed mid)))
-    (s.groups ∙ ap (λ (g : List Group). g ++ s.cleanup) one.queued.groups ∙ append_assoc at.groups one.own s.cleanup) (ap heard s.frames ∙ one.queued.taken) s.rule described
+    (λ n. subst (AllByRecursion (Spares n)) (sym s.cleans) (cleanup_spares n at.rule.depth step.call told.end one.own (owed left)))
+    (s.groups ∙ ap (λ (g : List Group). g ++ s.cleanup) (left_groups step.call one.own told.end mid left leaves ∙ one.queued.groups) ∙ append_assoc at.groups one.own s.cleanup) (ap heard (s.frames ∙ left_frames step.call one.own told.end mid left leaves) ∙ one.queued.taken) s.rule described
 
 -- ---- what is known of a statement that is kept
 
 known_kept : (start : StreamSeen) (at : Place) (a : ConnSeen) (e : Entry) → StandsAt start at a → 0 < e.statement → IsKeptAt at e → KnownAt ((name_of e.statement, length e.columns) ∷ []) at
-known_kept start at a e st positive k group slice front g l count =
+known_kept start at a e st positive k group slice front gs g l count =
     let further = after_further (heard at.frames) slice (length k.before) (omega (arith, k.read)) in
     let begun : after_readys (length k.before) (heard at.frames ++ slice) ≡ map backend_frame k.told ++ (k.more ++ slice) = further ∙ ap (λ (f : List Frame). f ++ slice) k.answered ∙ append_assoc (map backend_frame k.told) k.more slice in
     let part : after_readys (length at.groups) (heard at.frames ++ slice) ≡ after_readys (owed at) slice =
     after_more (heard at.frames) slice (length at.groups) a.ledger.owed st.ledger st.between ∙ ap (λ (n : ℕ). after_readys n slice) (sym (owed_is start at a st)) in
     subst (λ (n : ℕ). BeginsKnowing ((name_of e.statement, n) ∷ []) group (after_readys (owed at) slice ++ front ∷ [])) (ap (λ (c : List FieldDescription). length c) k.columns)
     (lawful_keeps k.before (name_of e.statement) e.sql k.types k.later group (heard at.frames ++ slice) (after_readys (owed at) slice) (k.more ++ slice) front k.told
-    (subst (AllByRecursion IsGroup) k.groups st.are_groups) g (named_nothing e.statement positive) k.spared (subst (λ (gs : List Group). MayHear (said_in (gs ++ group ∷ [])) ((heard at.frames ++ slice) ++ front ∷ [])) k.groups l) (count ∙ ap (λ (gs : List Group). length gs) k.groups) begun (ap (λ (gs : List Group). after_readys (length gs) (heard at.frames ++ slice)) (sym k.groups) ∙ part) k.ends k.has_frames k.well)
+    (subst (AllByRecursion IsGroup) k.groups gs) g (named_nothing e.statement positive) k.spared (subst (λ (gs : List Group). MayHear (said_in (gs ++ group ∷ [])) ((heard at.frames ++ slice) ++ front ∷ [])) k.groups l) (count ∙ ap (λ (gs : List Group). length gs) k.groups) begun (ap (λ (gs : List Group). after_readys (length gs) (heard at.frames ++ slice)) (sym k.groups) ∙ part) k.ends k.has_frames k.well)
 
 -- of what is kept there, the columns are known
 pub known_of : (start : StreamSeen) (at : Place) (a : ConnSeen) (e : Entry) → StandsAt start at a → (0 < e.statement) × IsKeptAt at e → KnownAt ((name_of e.statement, length e.columns) ∷ []) at

@@ -1,6 +1,8 @@
 pub mod WaitLaws
 pub mod CallLaws
 pub mod ThroughLaws
+pub mod FeedingLaws
+pub mod CutLaws
 pub mod PartLaws
 pub mod StepLaws
 pub mod PlaceLaws
@@ -13,7 +15,9 @@ pub mod KnownLaws
 pub mod NextLaws
 pub mod RepliesLaws
 pub mod SettleLaws
+pub mod CopyLaws
 pub mod SettledLaws
+pub mod UncopiedLaws
 pub mod LinkLaws
 pub mod CompleteLaws
 pub mod WaitPlaceLaws

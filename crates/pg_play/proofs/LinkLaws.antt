@@ -1,8 +1,11 @@
 -- A play against a server whose frames are replies.
-use Rattle.std.proofs.Common.{◌≡◌, ℕ, ◌+◌, List, [], ◌∷◌, ◌++◌, map, refl, sym, ap, ◌∙◌, subst, append_assoc, append-nil, Option, Some, None, ◌⊎◌, inl, inr, sum_by, arith}
+use Rattle.std.proofs.Common.{false, ◌≡◌, ℕ, ◌+◌, List, [], ◌∷◌, ◌++◌, map, refl, sym, ap, ◌∙◌, subst, append_assoc, append-nil, Option, Some, None, ◌⊎◌, inl, inr, sum_by, arith}
 use Rattle.pg_stream.specs.Links.{LinkSeen, GrewBy}
 use Rattle.pg_play.proofs.SettleLaws.{held_same, front_behind, heard_before}
+use Rattle.pg_play.proofs.PlaceLaws.{all_split}
+use Rattle.pg_play.proofs.SettleLaws.{left_broken, left_link}
 use Rattle.pg_play.specs.Settling.{Settles}
+use Rattle.pg_play.specs.Copying.{LeavesCopy}
 use Rattle.std.specs.List.{AllByRecursion}
 use Rattle.std.proofs.lemmas.List.Sums.{sum_by-append}
 use Rattle.pg_stream.specs.Streams.{HeaderFault, IsMalformedFront, StreamSeen}
@@ -26,6 +29,7 @@ use Rattle.pg_wire.proofs.ReplyLaws.{frames_answer}
 use Rattle.pg_call.specs.Requests.{said_in, Group, widths_of}
 use Rattle.pg_play.specs.Shown.{request_of}
 use Rattle.pg_report.specs.declared.outcome.End.{End}
+use Rattle.pg_script.specs.declared.step.Call.{Call}
 use Rattle.pg_report.specs.declared.outcome.End.TheVariants as ends
 use Rattle.pg_report.specs.declared.outcome.Outcome.{Outcome}
 use Rattle.pg_script.specs.declared.step.Step.{Step}
@@ -43,7 +47,7 @@ use Rattle.pg_play.proofs.RepliesLaws.{StartsNoCopy, all_prefix, replies_start_n
 
 -- what stands in front is nothing that a server might have sent
 abbrev pub Refutes : ServerFault → Place → Type 0
-Refutes (faults.Unlawful tag) at = (front : Frame) × IsFront at front × (MayHear (said_in at.groups) (heard at.frames ++ front ∷ []) → ⊥)
+Refutes (faults.Unlawful tag) at = (front : Frame) × IsFront at front × (AllByRecursion IsGroup at.groups → MayHear (said_in at.groups) (heard at.frames ++ front ∷ []) → ⊥)
 Refutes (faults.Malformed tag) at = IsMalformedFront at.seen.held tag ⊎ ((front : Frame) × IsFront at front × HasNoMessage front)
 Refutes fault at = HeaderFault at.seen.held fault
 
@@ -55,7 +59,7 @@ none_broken None fault x y = absurd cc
 none_broken (Some g) fault x y = absurd cc
 
 shown_refutes : (at : Place) (step : Step) (out : Outcome) (next : Place) (one : Plays_call at step out next) (fault : ServerFault) → IsNeverUnlawful at out next → at.broken ≡ None → out.end ≡ ends.Err (errors.Protocol (protocol.Server fault)) → ShowsFault (widths_of (request_of at.rule.depth step.call)) at one.own one.slice next fault → Refutes fault next
-shown_refutes at step out next one (faults.Unlawful tag) n w e u = (u.front, u.is_front, n tag u.front w e u.is_front)
+shown_refutes at step out next one (faults.Unlawful tag) n w e u = (u.front, u.is_front, λ gs. n tag u.front gs w e u.is_front)
 shown_refutes at step out next one (faults.Malformed tag) n w e (inl m) = inl m
 shown_refutes at step out next one (faults.Malformed tag) n w e (inr m) = inr (m.0, m.1, m.3)
 shown_refutes at step out next one fault n w e h = h
@@ -68,12 +72,23 @@ ends_refute at step out next one fault n w e = elim (subst (λ (z : End). HasCau
 
 -- what stands in front after the call stands there behind its end
 settled_refutes : {response : List BackendMessage} (fault : ServerFault) (at : Place) (step : Step) (told out : Outcome) (own : List Group) (mid next : Place) → Settles at step told out own response mid next → Refutes fault mid → Refutes fault next
-settled_refutes (faults.Unlawful tag) at step told out own mid next s r = (r.0, front_behind mid next r.0 (held_same at step told out own mid next s) r.1, λ l. r.2 (heard_before at step told out own mid next r.0 s l))
+settled_refutes (faults.Unlawful tag) at step told out own mid next s r = (r.0, front_behind mid next r.0 (held_same at step told out own mid next s) r.1, λ gs l. r.2 (all_split IsGroup mid.groups s.cleanup (subst (AllByRecursion IsGroup) s.groups gs)).0 (heard_before at step told out own mid next r.0 s l))
 settled_refutes (faults.Malformed tag) at step told out own mid next s (inl m) = inl (subst (λ (held : List ℕ). IsMalformedFront held tag) (sym (held_same at step told out own mid next s)) m)
 settled_refutes (faults.Malformed tag) at step told out own mid next s (inr r) = inr (r.0, front_behind mid next r.0 (held_same at step told out own mid next s) r.1, r.2)
 settled_refutes (faults.ShortLength tag size) at step told out own mid next s r = subst (λ (held : List ℕ). HeaderFault held (faults.ShortLength tag size)) (sym (held_same at step told out own mid next s)) r
 settled_refutes (faults.UnknownTag tag) at step told out own mid next s r = subst (λ (held : List ℕ). HeaderFault held (faults.UnknownTag tag)) (sym (held_same at step told out own mid next s)) r
 settled_refutes _ at step told out own mid next s r = absurd r
+
+-- and where what is left of a copy is settled
+left_refutes : (fault : ServerFault) (call : Call) (own : List Group) (end : End) (mid left : Place) → LeavesCopy call own end mid left → Refutes fault mid → Refutes fault left
+left_refutes (faults.Unlawful tag) call own end mid left l r =
+    let f = r.1 in
+    subst (Refutes (faults.Unlawful tag)) (sym l) (r.0, record { rest = f.rest; whole = f.whole; answers = f.answers; held = f.held }, r.2)
+left_refutes (faults.Malformed tag) call own end mid left l (inl m) = subst (Refutes (faults.Malformed tag)) (sym l) (inl m)
+left_refutes (faults.Malformed tag) call own end mid left l (inr r) =
+    let f = r.1 in
+    subst (Refutes (faults.Malformed tag)) (sym l) (inr (r.0, record { rest = f.rest; whole = f.whole; answers = f.answers; held = f.held }, r.2))
+left_refutes fault call own end mid left l r = subst (Refutes fault) (sym l) r
 
 -- an exchange on a broken connection keeps what stands in front
 keeps_so : (fault : ServerFault) (at next : Place) (left waits moves : ℕ) → next ≡ record at { seen = record at.seen { left = left; waits = waits; moves = moves } } → Refutes fault at → Refutes fault next
@@ -106,7 +121,8 @@ called_on at step out next one lawful so fault e = by at.broken refl
 breaks_on : (at : Place) (step : Step) (out : Outcome) (next : Place) → Plays_exchange at step out next → BreaksSo at → BreaksSo next
 breaks_on at step out next one so fault e =
     let s = one.settles in
-    settled_refutes fault at step one.told out one.call.own one.ended_at next s (called_on at step one.told one.ended_at one.call one.lawful so fault (sym s.broken ∙ e))
+    settled_refutes fault at step one.told out one.call.own one.left_at next s
+    (left_refutes fault step.call one.call.own one.told.end one.ended_at one.left_at one.leaves (called_on at step one.told one.ended_at one.call one.lawful so fault (sym (s.broken ∙ left_broken step.call one.call.own one.told.end one.ended_at one.left_at one.leaves) ∙ e)))
 
 breaks_in : (at : Place) (steps : List Step) (outs : List Outcome) (last : Place) → Plays_exchanges at steps outs last → BreaksSo at → BreaksSo last
 breaks_in at [] [] last run so = subst BreaksSo (sym run) so
@@ -135,14 +151,14 @@ call_breaks at step out next one fault e = by at.broken refl
     by (Some kept) w = one.queued.broken ∙ ap (λ (x : Option ServerFault). broken_after x out.end) w ∙ ap (λ (x : ServerFault). Some x) (sym ((one.kept kept w).1 fault e))
 
 pub fault_breaks : (at : Place) (step : Step) (out : Outcome) (next : Place) → Plays_exchange at step out next → (fault : ServerFault) → out.end ≡ ends.Err (errors.Protocol (protocol.Server fault)) → next.broken ≡ Some fault
-fault_breaks at step out next one fault e = one.settles.broken ∙ call_breaks at step one.told one.ended_at one.call fault (sym (ap (λ (x : Outcome). x.end) one.settles.outcome) ∙ e)
+fault_breaks at step out next one fault e = one.settles.broken ∙ left_broken step.call one.call.own one.told.end one.ended_at one.left_at one.leaves ∙ call_breaks at step one.told one.ended_at one.call fault (sym (ap (λ (x : Outcome). x.end) one.settles.outcome) ∙ e)
 
 -- what breaks the connection stays
 pub broken_in : (fault : ServerFault) (at : Place) (steps : List Step) (outs : List Outcome) (last : Place) → Plays_exchanges at steps outs last → at.broken ≡ Some fault → last.broken ≡ Some fault
 broken_in fault at [] [] last run w = ap (λ (p : Place). p.broken) run ∙ w
 broken_in fault at [] (o ∷ outs) last run w = absurd run
 broken_in fault at (s ∷ steps) [] last run w = absurd run
-broken_in fault at (s ∷ steps) (o ∷ outs) last run w = broken_in fault run.0 steps outs last run.2 (run.1.settles.broken ∙ run.1.call.queued.broken ∙ ap (λ (x : Option ServerFault). broken_after x run.1.told.end) w)
+broken_in fault at (s ∷ steps) (o ∷ outs) last run w = broken_in fault run.0 steps outs last run.2 (run.1.settles.broken ∙ left_broken s.call run.1.call.own run.1.told.end run.1.ended_at run.1.left_at run.1.leaves ∙ run.1.call.queued.broken ∙ ap (λ (x : Option ServerFault). broken_after x run.1.told.end) w)
 
 pub broken_stays : (fault : ServerFault) (at : Place) (steps : List Step) (outs : List Outcome) (last : Place) → Plays_from at steps outs last → at.broken ≡ Some fault → last.broken ≡ Some fault
 broken_stays fault at [] [] last run w = ap (λ (p : Place). p.broken) run ∙ w
@@ -216,13 +232,13 @@ hears_groups last sent read rest can whole plain p c r =
     let alone = plain (asks_for_none (heard last.frames) none) in
     (alone, subst (λ (x : List FrontendMessage). MayHear x (heard read)) alone may)
 
-pub unlawful_refuted : (last : Place) (read : List Frame) (rest : List ℕ) (tag : ℕ) → AllByRecursion (IsWhole backend_tags) last.frames → Cuts backend_tags (text_of last.frames ++ last.seen.held) read rest → MayHear (said_in last.groups) (heard read) → Refutes (faults.Unlawful tag) last → ⊥
-unlawful_refuted last read rest tag whole c may r = r.2 (hear_fewer (said_in last.groups) _ (heard read) (front_heard last read rest r.0 whole c r.1) may)
+pub unlawful_refuted : (last : Place) (read : List Frame) (rest : List ℕ) (tag : ℕ) → AllByRecursion (IsWhole backend_tags) last.frames → Cuts backend_tags (text_of last.frames ++ last.seen.held) read rest → AllByRecursion IsGroup last.groups → MayHear (said_in last.groups) (heard read) → Refutes (faults.Unlawful tag) last → ⊥
+unlawful_refuted last read rest tag whole c groups may r = r.2 groups (hear_fewer (said_in last.groups) _ (heard read) (front_heard last read rest r.0 whole c r.1) may)
 
-pub where_lawful : (first last : Place) (steps : List Step) (outs : List Outcome) → Plays_from first steps outs last → first.broken ≡ None → AllByRecursion HasFrontendFrame last.said → AllByRecursion IsGroup last.groups → AllByRecursion (IsWhole backend_tags) last.frames
-    → (AsksForNoCopy (heard last.frames) → last.said ≡ said_in last.groups) → Keeps last → WhereLawful last outs
-where_lawful first last steps outs run w can groups whole plain kept sent read rest p c r =
-    let hears = hears_groups last sent read rest can whole plain p c r in
+pub where_lawful : (first last : Place) (steps : List Step) (outs : List Outcome) → Plays_from first steps outs last → first.broken ≡ None → AllByRecursion HasFrontendFrame last.said → AllByRecursion (IsWhole backend_tags) last.frames
+    → (AsksForNoCopy (heard last.frames) → last.has_failed ≡ false → last.said ≡ said_in last.groups) → Keeps last → WhereLawful last outs
+where_lawful first last steps outs run w can whole plain kept unfailed groups sent read rest p c r =
+    let hears = hears_groups last sent read rest can whole (λ h. plain h unfailed) p c r in
     let alone = hears.0 in
     let taken = taken_heard last read rest whole c in
     let can_groups = subst (AllByRecursion HasFrontendFrame) alone can in
@@ -232,7 +248,7 @@ where_lawful first last steps outs run w can groups whole plain kept sent read r
       plain = alone;
       answers = record { responses = answered.0; after = answered.1; answers = answered.2; have_frames = answered.3; pieces = answered.4 };
       keeps = names_kept last answered.0 answered.1 groups kept answered.2 answered.3 answered.4;
-      none_unlawful = none_by first steps outs last run (λ tag e. unlawful_refuted last read rest tag whole c hears.1 (breaks_first first steps outs last run w (faults.Unlawful tag) e));
+      none_unlawful = none_by first steps outs last run (λ tag e. unlawful_refuted last read rest tag whole c groups hears.1 (breaks_first first steps outs last run w (faults.Unlawful tag) e));
     }
 
 -- ---- the numbers of all steps
@@ -290,7 +306,7 @@ sums_in at [] (o ∷ outs) last run = absurd run
 sums_in at (s ∷ steps) [] last run = absurd run
 sums_in at (s ∷ steps) (o ∷ outs) last run =
     let one = run.1 in
-    let link = ap (λ (x : StreamSeen). x.link) one.settles.seen in
+    let link = ap (λ (x : StreamSeen). x.link) one.settles.seen ∙ left_link s.call one.call.own one.told.end one.ended_at one.left_at one.leaves in
     sums_more at last one.ended_at s one.told o outs one.call one.settles.outcome (subst (λ (x : LinkSeen). SumsTo x last.seen.link (sum_by (λ o. o.waits) outs) (sum_by (λ o. o.moved) outs)) link (sums_in run.0 steps outs last run.2))
 
 -- a sum that is told exactly, and one that is counted

@@ -23,6 +23,7 @@ use Rattle.pg_play.specs.Places.{Place, owed}
 use Rattle.pg_play.specs.Told.{HasNoError}
 use Rattle.pg_play.specs.Plays.{StandsAt}
 use Rattle.pg_play.proofs.PartLaws.{count_after, after_more, after_end, no_error}
+use Rattle.pg_play.proofs.PlaceLaws.{all_split}
 use Rattle.pg_play.proofs.PlaceLaws.{owed_is}
 use Rattle.pg_play.proofs.CalledLaws.{KnownAt}
 use Rattle.pg_play.proofs.LawfulLaws.{parted}
@@ -115,10 +116,10 @@ knows_next groups name sql types group owed before slice1 slice2 front told gs g
 -- behind a description that was answered, the columns of the statement are known
 pub described_known : (start : StreamSeen) (at next : Place) (a c : ConnSeen) (x : Extended) (said : List FrontendMessage) (slice : List Frame) (items : List CallItem) → StandsAt start at a → StandsAt start next c → next.groups ≡ at.groups ++ describing (name_of x.statement) x.sql x.arguments.types ∷ [] → heard next.frames ≡ heard at.frames ++ slice
     → (f : IsFine a.ledger (requests.Describe x) said slice items c.ledger) → KnownAt ((name_of x.statement, length (described f.reply)) ∷ []) next
-described_known start at next a c x said slice items st st' groups frames f group more front g l count =
+described_known start at next a c x said slice items st st' groups frames f group more front gs g l count =
     let widths : Widths = (name_of x.statement, length (described f.reply)) ∷ [] in
     let may = subst (λ (h : List Frame). MayHear (said_in ((at.groups ++ describing (name_of x.statement) x.sql x.arguments.types ∷ []) ++ group ∷ [])) ((h ++ more) ++ front ∷ [])) frames (subst (λ (gs : List Group). MayHear (said_in (gs ++ group ∷ [])) ((heard next.frames ++ more) ++ front ∷ [])) groups l) in
     let answered : count_by is_ready ((heard at.frames ++ slice) ++ more) ≡ length at.groups + 1 = ap (λ (h : List Frame). count_by is_ready (h ++ more)) (sym frames) ∙ count ∙ ap (λ (gs : List Group). length gs) groups ∙ length-append at.groups (describing (name_of x.statement) x.sql x.arguments.types ∷ []) in
     let none_owed : owed next ≡ 0 = owed_is start next c st' ∙ f.owes in
     subst (λ (n : ℕ). BeginsKnowing widths group (after_readys n more ++ front ∷ [])) (sym none_owed)
-    (knows_next at.groups (name_of x.statement) x.sql x.arguments.types group a.ledger.owed (heard at.frames) slice more front f.reply st.are_groups g may st.ledger st.between f.counted answered (no_error slice f.well) f.ends f.replied f.reply_has_frames)
+    (knows_next at.groups (name_of x.statement) x.sql x.arguments.types group a.ledger.owed (heard at.frames) slice more front f.reply (all_split IsGroup at.groups (describing (name_of x.statement) x.sql x.arguments.types ∷ []) (subst (AllByRecursion IsGroup) groups gs)).0 g may st.ledger st.between f.counted answered (no_error slice f.well) f.ends f.replied f.reply_has_frames)

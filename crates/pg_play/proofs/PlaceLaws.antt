@@ -11,7 +11,7 @@ use Rattle.pg_wire.specs.declared.error.ProtocolFault.TheVariants as protocol
 use Rattle.pg_wire.specs.declared.error.ServerFault.{ServerFault}
 use Rattle.pg_wire.specs.Frame.{Frame}
 use Rattle.pg_wire.specs.Parts.{heard, is_ready, parts}
-use Rattle.pg_wire.specs.Frontend.{FrontendMessage, HasFrontendFrame, Parse, DescribeStatement, Bind, Execute, ClosePortal, CloseStatement}
+use Rattle.pg_wire.specs.Frontend.{FrontendMessage, HasFrontendFrame, CopyData, Query, Parse, DescribeStatement, Bind, Execute, ClosePortal, CloseStatement}
 use Rattle.pg_wire.specs.Backend.{BackendMessage, backend_frame}
 use Rattle.pg_wire.specs.Groups.{IsGroup, IsInner}
 use Rattle.pg_exchanges.specs.Answering.{closing}
@@ -21,7 +21,7 @@ use Rattle.pg_call.specs.declared.request.Request.{Request}
 use Rattle.pg_call.specs.declared.answer.CallItem.{CallItem}
 use Rattle.pg_call.specs.declared.ledger.Ledger.{Ledger}
 use Rattle.pg_call.specs.declared.calling.Call.TheVariants as states
-use Rattle.pg_call.specs.Requests.{Group, said_in, spelled, kind_of, groups_of, messages_of, copy_fail, name_of}
+use Rattle.pg_call.specs.Requests.{Group, said_in, spelled, kind_of, groups_of, messages_of, copy_fail, ended_by, feeding, name_of}
 use Rattle.pg_call.specs.Items.{shown}
 use Rattle.pg_call.specs.Drains.{is_copy_in, before_readys, after_readys, drain_fails}
 use Rattle.pg_call.specs.Hearing.{fails_of}
@@ -35,10 +35,11 @@ use Rattle.pg_report.specs.declared.outcome.End.TheVariants as ends
 use Rattle.pg_script.specs.declared.step.Call.{Call}
 use Rattle.pg_script.specs.declared.step.Call.TheVariants as calls
 use Rattle.pg_play.specs.declared.tally.Limits.{Limits}
-use Rattle.pg_play.specs.Shown.{request_of, item_of}
+use Rattle.pg_script.specs.declared.step.Fed.{Fed}
+use Rattle.pg_play.specs.Shown.{feed_of, is_fed, request_of, item_of}
 use Rattle.pg_startup.specs.Flows.{Flows}
 use Rattle.pg_play.specs.Calls.{EndsOn, broken_after}
-use Rattle.pg_play.specs.Places.{Place, readies, ended, owed, drained, is_fine, refuses_copy, unfed, queued_by, failed_next}
+use Rattle.pg_play.specs.Places.{Place, IsRequestGroup, readies, ended, owed, drained, is_fine, refuses_copy, unfed, queued_by, failed_next}
 use Rattle.pg_play.specs.Plays.{StandsAt, AsksForNoCopy}
 use Rattle.pg_startup.proofs.FlowLaws.{Flows-then}
 use Rattle.pg_play.proofs.PartLaws.{after_more, fails_count, fails_none}
@@ -130,7 +131,7 @@ said_is_queued start at a r said hs items ledger end st s =
 -- ---- the next place
 
 abbrev pub next_place : Place → ConnSeen → List FrontendMessage → List Group → List Frame → End → Place
-next_place at b said own fs end = record { seen = b.stream; said = at.said ++ said; groups = at.groups ++ own; frames = at.frames ++ fs; is_copy_failed = failed_next at own (heard fs) end; broken = broken_after at.broken end; rule = at.rule }
+next_place at b said own fs end = record { seen = b.stream; said = at.said ++ said; groups = at.groups ++ own; frames = at.frames ++ fs; is_copy_failed = failed_next at own (heard fs) end; broken = broken_after at.broken end; rule = at.rule; has_failed = at.has_failed }
 
 pub readies-append : (xs ys : List Frame) → readies (xs ++ ys) ≡ readies xs + readies ys
 readies-append xs ys = sum_by-append (λ (y : Frame). cond (is_ready y) 1 0) xs ys
@@ -142,7 +143,7 @@ pub all_split : {A : Type 0} (P : A → Type 0) (xs ys : List A) → AllByRecurs
 all_split P [] ys h = (tt, h)
 all_split P (x ∷ xs) ys h = let r = all_split P xs ys h.1 in ((h.0, r.0), r.1)
 
-fails_said : (n : ℕ) → AllByRecursion HasFrontendFrame (replicate n copy_fail)
+pub fails_said : (n : ℕ) → AllByRecursion HasFrontendFrame (replicate n copy_fail)
 fails_said zero = tt
 fails_said (suc n) = (copy_fail_said, fails_said n)
   where
@@ -167,34 +168,50 @@ closing_group names = inr (map CloseStatement names, inner names, refl)
     inner [] = tt
     inner (name ∷ names) = (tt, inner names)
 
-groups_asked : (d : ℕ) (call : Call) → AllByRecursion IsGroup (groups_of (request_of d call))
-groups_asked d (calls.Execute query) = (inl (query.sql, refl), tt)
-groups_asked d (calls.ExecuteMany query) = (inl (query.sql, refl), tt)
-groups_asked d (calls.Fetch query) = (inl (query.sql, refl), tt)
-groups_asked d (calls.FetchMany query) = (inl (query.sql, refl), tt)
-groups_asked d (calls.FetchAll query) = (inl (query.sql, refl), tt)
-groups_asked d (calls.FetchOptional query) = (inl (query.sql, refl), tt)
-groups_asked d (calls.FetchOne query) = (inl (query.sql, refl), tt)
-groups_asked d calls.Ping = (inr ([], tt, refl), tt)
-groups_asked d (calls.CopyOut query) = (inl (query.sql, refl), tt)
-groups_asked d calls.Flush = tt
-groups_asked d (calls.Chain chain) = tt
-groups_asked d calls.Begin = (inl (begin_text None d, refl), tt)
-groups_asked d (calls.BeginWith query) = (inl (query.sql, refl), tt)
-groups_asked zero calls.Commit = tt
-groups_asked (suc left) calls.Commit = (inl (commit_text left, refl), tt)
-groups_asked zero calls.Rollback = tt
-groups_asked (suc left) calls.Rollback = (inl (rollback_text left, refl), tt)
-groups_asked d calls.StartRollback = tt
-groups_asked d (calls.Describe extended) = (inr (Parse (name_of extended.statement) extended.sql extended.arguments.types ∷ DescribeStatement (name_of extended.statement) ∷ [], (tt, (tt, tt)), refl), tt)
-groups_asked d (calls.Run bound) = (inr (Bind (name_of bound.statement) bound.arguments.values ∷ Execute [] 0 ∷ ClosePortal [] ∷ [], (tt, (tt, (tt, tt))), refl), tt)
-groups_asked d (calls.Prepare preparation) = tt
-groups_asked d calls.Clear = tt
-groups_asked d (calls.Evict eviction) = (closing_group (name_of eviction.statement ∷ []), tt)
-groups_asked d (calls.Tell prepared) = tt
-groups_asked d (calls.CloseAll statements) = (closing_group (map name_of statements), tt)
+pub plain_asked : (d : ℕ) (call : Call) → is_fed call ≡ false → AllByRecursion IsGroup (groups_of (request_of d call))
+plain_asked d (calls.Execute query) n = (inl (query.sql, refl), tt)
+plain_asked d (calls.ExecuteMany query) n = (inl (query.sql, refl), tt)
+plain_asked d (calls.Fetch query) n = (inl (query.sql, refl), tt)
+plain_asked d (calls.FetchMany query) n = (inl (query.sql, refl), tt)
+plain_asked d (calls.FetchAll query) n = (inl (query.sql, refl), tt)
+plain_asked d (calls.FetchOptional query) n = (inl (query.sql, refl), tt)
+plain_asked d (calls.FetchOne query) n = (inl (query.sql, refl), tt)
+plain_asked d calls.Ping n = (inr ([], tt, refl), tt)
+plain_asked d (calls.CopyOut query) n = (inl (query.sql, refl), tt)
+plain_asked d calls.Flush n = tt
+plain_asked d (calls.Chain chain) n = tt
+plain_asked d calls.Begin n = (inl (begin_text None d, refl), tt)
+plain_asked d (calls.BeginWith query) n = (inl (query.sql, refl), tt)
+plain_asked zero calls.Commit n = tt
+plain_asked (suc left) calls.Commit n = (inl (commit_text left, refl), tt)
+plain_asked zero calls.Rollback n = tt
+plain_asked (suc left) calls.Rollback n = (inl (rollback_text left, refl), tt)
+plain_asked d calls.StartRollback n = tt
+plain_asked d (calls.Describe extended) n = (inr (Parse (name_of extended.statement) extended.sql extended.arguments.types ∷ DescribeStatement (name_of extended.statement) ∷ [], (tt, (tt, tt)), refl), tt)
+plain_asked d (calls.Run bound) n = (inr (Bind (name_of bound.statement) bound.arguments.values ∷ Execute [] 0 ∷ ClosePortal [] ∷ [], (tt, (tt, (tt, tt))), refl), tt)
+plain_asked d (calls.Prepare preparation) n = tt
+plain_asked d calls.Clear n = tt
+plain_asked d (calls.Evict eviction) n = (closing_group (name_of eviction.statement ∷ []), tt)
+plain_asked d (calls.Tell prepared) n = tt
+plain_asked d (calls.CloseAll statements) n = (closing_group (map name_of statements), tt)
+plain_asked d (calls.Feed fed) n = absurd cc
 
-pub own_groups : (p : ℕ) (d : ℕ) (call : Call) (own : List Group) (hs : List Frame) → (own ≡ []) ⊎ QueuedOwn p (request_of d call) own hs → AllByRecursion IsGroup own
+-- those are request groups, and a copy from the client is one
+widened : (groups : List Group) → AllByRecursion IsGroup groups → AllByRecursion IsRequestGroup groups
+widened [] h = tt
+widened (g ∷ gs) h = (inl h.0, widened gs h.1)
+
+fed_or_plain : (call : Call) → ((fed : Fed) × (call ≡ calls.Feed fed)) ⊎ (is_fed call ≡ false)
+fed_or_plain (calls.Feed fed) = inl (fed, refl)
+fed_or_plain _ = inr refl
+
+groups_asked : (d : ℕ) (call : Call) → AllByRecursion IsRequestGroup (groups_of (request_of d call))
+groups_asked d call = elim (fed_or_plain call) [
+  | inl x ↦ subst (λ (c : Call). AllByRecursion IsRequestGroup (groups_of (request_of d c))) (sym x.1) (inr (feed_of x.0, refl), tt)
+  | inr n ↦ widened (groups_of (request_of d call)) (plain_asked d call n)
+]
+
+pub own_groups : (p : ℕ) (d : ℕ) (call : Call) (own : List Group) (hs : List Frame) → (own ≡ []) ⊎ QueuedOwn p (request_of d call) own hs → AllByRecursion IsRequestGroup own
 own_groups p d call own hs (inl e) = rw e tt
 own_groups p d call own hs (inr q) = rw q.own_is (groups_asked d call)
 
@@ -222,12 +239,12 @@ never_copies None limits first a b r said hs shown ends.Dropped h n = refl
 never_copies (Some fault) limits first a b r said hs shown end h n = rw h.0 refl
 
 plain_next : (start : StreamSeen) (at : Place) (a : ConnSeen) (r : Request) (said : List FrontendMessage) (fs : List Frame) (items : List CallItem) (ledger : Ledger) (end : End) → StandsAt start at a → (s : Summary a.ledger r said (heard fs) items ledger (refuses_copy end))
-    → (AsksForNoCopy (heard fs) → refuses_copy end ≡ false) → AsksForNoCopy (heard (at.frames ++ fs)) → at.said ++ said ≡ said_in (at.groups ++ s.own)
-plain_next start at a r said fs items ledger end st s never h =
+    → (AsksForNoCopy (heard fs) → refuses_copy end ≡ false) → AsksForNoCopy (heard (at.frames ++ fs)) → at.has_failed ≡ false → at.said ++ said ≡ said_in (at.groups ++ s.own)
+plain_next start at a r said fs items ledger end st s never h n =
     let both = all_split (λ frame. is_copy_in frame ≡ false) (heard at.frames) (heard fs) (subst AsksForNoCopy (heard-append at.frames fs) h) in
     let fails = fails_none a.ledger.is_copy_failed a.ledger.owed (heard fs) both.1 in
     let alone : said ≡ said_in s.own = s.said_is ∙ ap (λ (f : List FrontendMessage). (f ++ said_in s.own) ++ fails_of (refuses_copy end)) fails ∙ ap (λ (b : Bool). said_in s.own ++ fails_of b) (never both.1) ∙ append-nil (said_in s.own) in
-    ap (λ (x : List FrontendMessage). x ++ said) (st.plain both.0) ∙ ap (λ (x : List FrontendMessage). said_in at.groups ++ x) alone ∙ sym (flat_map-append (λ g. g) at.groups s.own)
+    ap (λ (x : List FrontendMessage). x ++ said) (st.plain both.0 n) ∙ ap (λ (x : List FrontendMessage). said_in at.groups ++ x) alone ∙ sym (flat_map-append (λ g. g) at.groups s.own)
 
 failed_here : (start : StreamSeen) (at : Place) (a : ConnSeen) (own : List Group) (hs : List Frame) (end : End) (ledger : Ledger) → StandsAt start at a → count_by is_ready hs + ledger.owed ≡ a.ledger.owed + length own → 0 < ledger.owed
     → ledger.is_copy_failed ≡ owner_failed a.ledger hs own (refuses_copy end) → ledger.is_copy_failed ≡ failed_next at own hs end
@@ -252,6 +269,17 @@ requests_closing names = ap (λ (m : List FrontendMessage). count_by ends_reques
     one : (names : List (List ℕ)) → count_by ends_request (closing names) ≡ 1
     one [] = refl
     one (name ∷ names) = omega (arith, counts-append (CloseStatement name ∷ []) (closing names), one names)
+
+requests_data : (pieces : List (List ℕ)) (ended : Bool) → count_by ends_request (map CopyData pieces ++ ended_by ended) ≡ 0
+requests_data [] true = refl
+requests_data [] false = refl
+requests_data (piece ∷ pieces) ended = omega (arith, counts-append (CopyData piece ∷ []) (map CopyData pieces ++ ended_by ended), requests_data pieces ended)
+
+requests_fed : (fed : Fed) → count_by ends_request (said_in (feeding (feed_of fed) ∷ [])) ≡ 1
+requests_fed fed = ap (λ (m : List FrontendMessage). count_by ends_request m) (append-nil (feeding (feed_of fed))) ∙ one
+  where
+    one : count_by ends_request (feeding (feed_of fed)) ≡ 1
+    one = omega (arith, counts-append (Query fed.sql ∷ []) (map CopyData fed.pieces ++ ended_by fed.is_ended), requests_data fed.pieces fed.is_ended)
 
 requests_asked : (d : ℕ) (call : Call) → count_by ends_request (said_in (groups_of (request_of d call))) ≡ length (groups_of (request_of d call))
 requests_asked d (calls.Execute query) = refl
@@ -279,6 +307,7 @@ requests_asked d calls.Clear = refl
 requests_asked d (calls.Evict eviction) = requests_closing (name_of eviction.statement ∷ [])
 requests_asked d (calls.Tell prepared) = refl
 requests_asked d (calls.CloseAll statements) = requests_closing (map name_of statements)
+requests_asked d (calls.Feed fed) = requests_fed fed
 
 pub requests_own : (p : ℕ) (d : ℕ) (call : Call) (own : List Group) (hs : List Frame) → (own ≡ []) ⊎ QueuedOwn p (request_of d call) own hs → count_by ends_request (said_in own) ≡ length own
 requests_own p d call own hs (inl e) = rw e refl
@@ -310,7 +339,7 @@ stands_next start at a b d call said fs items end st s flows broken idle rule ro
   idle = idle;
   sayable = each_join HasFrontendFrame at.said said st.sayable (subst (AllByRecursion HasFrontendFrame) (sym (said_is_queued start at a (request_of d call) said (heard fs) items b.ledger end st s))
       (each_join HasFrontendFrame _ _ (each_join HasFrontendFrame _ _ (fails_said (unfed at.is_copy_failed (drained at (heard fs)))) (own_said a.ledger.owed d call s.own (heard fs) s.queued)) (last_said (refuses_copy end))));
-  are_groups = each_join IsGroup at.groups s.own st.are_groups (own_groups a.ledger.owed d call s.own (heard fs) s.queued);
+  are_groups = each_join IsRequestGroup at.groups s.own st.are_groups (own_groups a.ledger.owed d call s.own (heard fs) s.queued);
   between = λ z. between_next start at a s.own fs st ∙ s.rests z;
   plain = plain_next start at a (request_of d call) said fs items b.ledger end st s never;
   requests = requests_next start at a d call said (heard fs) items b.ledger end st s;

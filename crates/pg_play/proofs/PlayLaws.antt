@@ -26,7 +26,7 @@ use Rattle.pg_call.specs.declared.calling.Call.TheVariants as states
 use Rattle.pg_rule.specs.declared.rule.Rule.{Rule}
 use Rattle.pg_conn.specs.Statements.{asked_by, begun_as, held_by, unmoved}
 use Rattle.pg_conn.specs.Turns.{first_exchange}
-use Rattle.pg_conn.specs.Connections.{ConnSeen, cleaned, counted_anew, rolled_back, ended as ended_conn, with_depth, left}
+use Rattle.pg_conn.specs.Connections.{ConnSeen, ends_copy, cleaned, counted_anew, rolled_back, ended as ended_conn, with_depth, left}
 use Rattle.pg_report.specs.declared.outcome.Item.{Item}
 use Rattle.pg_report.specs.declared.outcome.Answer.TheVariants.{Unit as AnswersUnit}
 use Rattle.pg_report.specs.declared.outcome.End.{End}
@@ -37,7 +37,7 @@ use Rattle.pg_script.specs.declared.step.Call.{Call}
 use Rattle.pg_script.specs.declared.step.Call.TheVariants as calls
 use Rattle.pg_script.specs.declared.step.Step.{Step}
 use Rattle.pg_play.specs.Shown.{request_of, has_query, shown_by, acts_at_once, begins_with}
-use Rattle.pg_play.specs.Calls.{WaitsFew, PlaysCall, PlaysStep, IsUnpolled, limits_of, untouched, outcome_of, rolled_outcome, broken_after, behind_end, none_counted, begun_call, all_groups, first_conn}
+use Rattle.pg_play.specs.Calls.{WaitsFew, PlaysCall, PlaysStep, IsUnpolled, limits_of, untouched, outcome_of, rolled_outcome, broken_after, behind_end, change_fed, change_for, copy_behind, none_counted, begun_call, all_groups, first_conn}
 use Rattle.pg_play.specs.Places.{Place, owed, drained, unfed, queued_by, refuses_copy, Queues, first_place, is_fine}
 use Rattle.pg_play.specs.Told.{Numbers, CountsTo, WellAtOk}
 use Rattle.pg_play.specs.Causes.{AnsweredPending, IsDropped, HasCause, KeepsFault, EndsDuly, OpensSavepoint}
@@ -50,7 +50,11 @@ use Rattle.pg_startup.proofs.FlowLaws.{Flows-none}
 use Rattle.pg_play.proofs.PartLaws.{take_none}
 use Rattle.pg_call.proofs.RefusalLaws.{memory_refuses}
 use Rattle.pg_play.specs.Shown.{asked_of, first_call, next_call, IsWanted}
-use Rattle.pg_play.proofs.CallLaws.{left_idle, asked_changes, begun_changes, wanted_held, wanted_stays}
+use Rattle.pg_play.specs.Copying.{LeavesCopy}
+use Rattle.pg_play.proofs.CopyLaws.{leaves_none, fails_nothing}
+use Rattle.pg_play.proofs.UncopiedLaws.{calls_plain}
+use Rattle.pg_play.proofs.SettleLaws.{left_link}
+use Rattle.pg_play.proofs.CallLaws.{left_idle, first_changes, unqueued_unfed, wanted_held, wanted_stays}
 use Rattle.pg_play.proofs.ExchangeLaws.{first_request, first_acts, first_begins_with, first_waits, asked_wanted}
 use Rattle.pg_play.proofs.KeptLaws.{first_known, first_sound, keeps_first, keeps_next}
 use Rattle.pg_play.specs.Kept.{Keeps}
@@ -132,6 +136,12 @@ plainly_made (ends.Ok answer) m e k = (e, ap (λ (x : Keeping). step_of x m.cach
 plainly_made (ends.Err x) m e k = still_made (ends.Err x) m e refl
 plainly_made ends.Dropped m e k = still_made ends.Dropped m e refl
 
+-- and nothing is left of a copy
+unleft : (end : End) (m : ConnSeen) → all_groups m ≡ 0 → copy_behind end m ≡ m
+unleft (ends.Ok answer) m e = refl
+unleft (ends.Err x) m e = unqueued_unfed (ends_copy x) m (omega (arith, e))
+unleft ends.Dropped m e = unqueued_unfed false m (omega (arith, e))
+
 -- the first exchange of a call begins as any other
 begins_first : (start : StreamSeen) (at : Place) (a : ConnSeen) (step : Step) → StandsAt start at a → Keeps at → acts_at_once step.call ≡ false → BeginsAt start at a none_counted (first_call at.rule step.call)
 begins_first start at a step st k later = record {
@@ -156,15 +166,15 @@ polled_step start at a b step out st k n opens later p ([], (m, (said, fs, e, la
     let call = first_call at.rule step.call in
     let r = request_of at.rule.depth call in
     let begun = begun_call r a in
-    let d : ConnSeen = behind_end out.end m in
+    let d : ConnSeen = behind_end out.end (copy_behind out.end m) in
     let raw : Outcome = outcome_of m out.items out.end in
     let real : Outcome = outcome_of d out.items out.end in
     let found = ends_summary a.broken (limits_of step) begun.stream begun m at.rule.depth call said (heard fs) out.items out.end e.ends in
     let stop : Place = next_place at m said found.1.own fs out.end in
     let turn = last_turn start begun.stream none_counted at a m step call out.items out.end said fs (begins_first start at a step st k later) p refl refl (polled_most step n) e last over found in
     let dues : EndsDuly at step r raw stop = duly_step start at a m step r raw said fs found.0 st n opens p e found.1 refl (λ x. ap (λ (y : Call). request_of at.rule.depth (first_call at.rule y)) x) (λ w. turn.0.most (first_waits at.rule step.call w)) in
-    let steps : StepsTo start at step real d = polled_turns start at a d step real stop st later p turn.0 (duly_out at step r raw real stop turn.1 (λ z f. still_made out.end m z f)
-    (λ z c. plainly_made out.end m z (ap (λ (x : Standing). x.keeping) e.went.started.3 ∙ ap (λ (y : Call). keeping_of (request_of at.rule.depth (first_call at.rule y))) c)) dues) in
+    let steps : StepsTo start at step real d = polled_turns start at a d step real stop st later p turn.0 (duly_out at step r raw real stop turn.1 (λ z f. subst (λ (c : ConnSeen). (all_groups (behind_end out.end c) ≡ 0) × ((behind_end out.end c).cache ≡ m.cache)) (sym (unleft out.end m z)) (still_made out.end m z f))
+    (λ z c. subst (λ (x : ConnSeen). (all_groups (behind_end out.end x) ≡ 0) × ((behind_end out.end x).cache ≡ m.cache)) (sym (unleft out.end m z)) (plainly_made out.end m z (ap (λ (x : Standing). x.keeping) e.went.started.3 ∙ ap (λ (y : Call). keeping_of (request_of at.rule.depth (first_call at.rule y))) c))) dues) in
     subst (λ (x : Outcome). StepsTo start at step x b) (sym (outcome ∙ ap (λ (x : ConnSeen). outcome_of x out.items out.end) is)) (subst (λ (x : ConnSeen). StepsTo start at step real x) (sym is) steps)
 polled_step start at a b step out st k n opens later p (next ∷ more, played) =
     let r = request_of at.rule.depth (first_call at.rule step.call) in
@@ -213,10 +223,10 @@ quiet_well end step out at (inr (inr (inl e))) f a = subst (λ (z : End). WellAt
 quiet_well end step out at (inr (inr (inr e))) f a = let x = sym a ∙ f (ap is_fine e) in absurd cc
 
 quiet_lawful : (at : Place) (out : Outcome) → IsQuiet out.end → IsNeverUnlawful at out at
-quiet_lawful at out (inl e) tag front w x f l = let y = sym e ∙ x in absurd cc
-quiet_lawful at out (inr (inl e)) tag front w x f l = let y = sym e ∙ x in absurd cc
-quiet_lawful at out (inr (inr (inl e))) tag front w x f l = let y = sym e ∙ x in absurd cc
-quiet_lawful at out (inr (inr (inr e))) tag front w x f l = let y = sym e ∙ x in absurd cc
+quiet_lawful at out (inl e) tag front gs w x f l = let y = sym e ∙ x in absurd cc
+quiet_lawful at out (inr (inl e)) tag front gs w x f l = let y = sym e ∙ x in absurd cc
+quiet_lawful at out (inr (inr (inl e))) tag front gs w x f l = let y = sym e ∙ x in absurd cc
+quiet_lawful at out (inr (inr (inr e))) tag front gs w x f l = let y = sym e ∙ x in absurd cc
 
 quiet_numbers : (at : Place) (end : End) → Numbers at (untouched end) [] [] at
 quiet_numbers at end = record {
@@ -257,6 +267,7 @@ quiet_call at step out end k q f c now =
         taken = sym (append-nil (heard at.frames));
         failed = sym (and_true at.is_copy_failed);
         broken = sym (quiet_breaks at.broken out.end quiet);
+        unfailed = refl;
         in_turn = λ n. absurd (n refl);
       };
       sends = ([], Appends-refl at.seen.link.taken, ap (λ (m : List FrontendMessage). at.seen.unsent ++ spelled m) (quiet_said at out.end quiet) ∙ append-nil at.seen.unsent);
@@ -315,12 +326,14 @@ quiet_step start at a step out end st kept later f k q one none dropped duly =
       frames = refl;
       failed = refl;
       broken = refl;
+      unfailed = refl;
       outcome = refl;
       cache = ap (λ (x : Outcome). x.cache) k ∙ ap (λ (b : Bool). step_after (keeping_of (request_of at.rule.depth call)) b) (sym made);
       counted = rw (none, groups) (omega arith);
     } in
     let none_waits : out.waits ≡ 0 = ap (λ (x : Outcome). x.waits) k in
-    let turns = one_turn start at at at a step (first_call at.rule step.call) none_counted out out out one (quiet_lawful at out (subst IsQuiet (sym ends_so) q)) (places_quiet at out (ap (λ (x : Outcome). x.waits) k)) (NoneFalls-refl at.seen.link) settles st kept refl refl (add_alone out) (over_same out.cache)
+    let leaves : LeavesCopy call one.own out.end at at = subst (λ (own : List Group). LeavesCopy call own out.end at at) (sym none) (leaves_none call [] out.end at (fails_nothing call out.end).0 (fails_nothing call out.end).1) in
+    let turns = one_turn start at at at at a step (first_call at.rule step.call) none_counted out out out one leaves (quiet_lawful at out (subst IsQuiet (sym ends_so) q)) (places_quiet at out (ap (λ (x : Outcome). x.waits) k)) (NoneFalls-refl at.seen.link) settles st kept refl refl (add_alone out) (over_same out.cache)
     (λ z. let x = sym (ap is_fine ends_so ∙ f) ∙ z in absurd cc) in
     steps_to start at step out at a turns (omega (arith, none_waits)) (omega (arith, ap (λ (x : StreamSeen). x.link.calls) st.seen)) dropped (λ now. let x = sym later ∙ now in absurd cc) (λ x. duly)
 
@@ -392,16 +405,16 @@ rolled_step start at a b step st kept l c is =
     let rolled_so : rolled_outcome b ≡ record told { groups = all_groups b } = same ∙ ap (λ (x : CacheStep). record told { groups = all_groups b; cache = x }) (settled.others.4 ∙ ap (λ (x : CacheStep). over cache.Same x) (settled.settles.cache ∙ sym (rolls_tells at first rolls))) in
     let adds : AddUp none_counted (settled.out ∷ []) (rolled_outcome b) = add_one none_counted b settled.out [] (rolled_outcome b) (counts_settled start none_counted at at (ended_conn (counted_anew a)) b first told one settled grew) (add_none b [] (ends.Ok AnswersUnit)) in
     let k = settled.settles.outcome in
-    let turns = one_turn start at at settled.next b step (first_call at.rule step.call) none_counted told settled.out (rolled_outcome b) one (quiet_lawful at told (inr (inr (inr refl)))) (places_quiet at told refl) (NoneFalls-refl at.seen.link) settled.settles settled.stands
-    (keeps_next at at settled.next first told settled.out one settled.settles kept (first_sound at.rule step.call) (λ x d f. absurd (rolls_none x rolls d)))
+    let turns = one_turn start at at settled.left settled.next b step (first_call at.rule step.call) none_counted told settled.out (rolled_outcome b) one settled.leaves (quiet_lawful at told (inr (inr (inr refl)))) (places_quiet at told refl) (NoneFalls-refl at.seen.link) settled.settles settled.stands
+    (keeps_next at at settled.left settled.next first told settled.out one settled.leaves settled.settles kept (first_sound at.rule step.call) (λ x d f. absurd (rolls_none x rolls d)))
     (sym (ap (λ (x : Outcome). x.items) k)) (sym (ap (λ (x : Outcome). x.end) k)) adds settled.others.4 (λ f. ap (λ (x : Call). next_call settled.next.rule x []) rolls) in
-    steps_to start at step (rolled_outcome b) at b turns (omega (arith, settled.others.1)) (omega (arith, ap (λ (x : StreamSeen). x.link.calls) settled.stands.seen, ap (λ (x : StreamSeen). x.link.calls) settled.settles.seen)) (λ x. absurd cc) (λ now. (rolled_so, refl)) (λ later. let x = sym later ∙ ap acts_at_once c in absurd cc)
+    steps_to start at step (rolled_outcome b) at b turns (omega (arith, settled.others.1)) (omega (arith, ap (λ (x : StreamSeen). x.link.calls) settled.stands.seen, ap (λ (x : StreamSeen). x.link.calls) settled.settles.seen, ap (λ (x : LinkSeen). x.calls) (left_link first.call [] (ends.Ok AnswersUnit) at settled.left settled.leaves))) (λ x. absurd cc) (λ now. (rolled_so, refl)) (λ later. let x = sym later ∙ ap acts_at_once c in absurd cc)
 
 -- a call on a connection on which none ran begins with the exchange that the place tells
 first_begun : (a : ConnSeen) (request : Request) → a.call ≡ states.Idle → IsWanted request → first_conn request a ≡ begun_call (first_exchange request a) a
 first_begun a request over w =
     let idles : left a ≡ a = left_idle a over in
-    let change : change_of (kind_of request) ≡ change_of (kind_of (first_exchange request a)) = sym (asked_changes (left a).rule (begun_as (left a).rule request) ∙ begun_changes (left a).rule request w) in
+    let change : change_fed request (change_of (kind_of request)) ≡ change_for (first_exchange request a) = first_changes (left a).rule request w in
     let held : held_by (left a).rule (begun_as (left a).rule request) ≡ (left a).rule = wanted_held (left a).rule request w in
     ap₂ (λ (c : Change) (k : Rule). record (first_conn request a) { change = c; rule = k }) change held
     ∙ ap (λ (x : ConnSeen). begun_call (first_exchange request a) x) idles
@@ -507,7 +520,7 @@ stands_first opening polls link a g = rw g.fresh (record {
   sayable = tt;
   are_groups = tt;
   between = λ z. refl;
-  plain = λ h. refl;
+  plain = λ h n. refl;
   requests = refl;
 })
 
@@ -594,7 +607,8 @@ calls_begun opening polls link last a b started steps outs g run s r l =
           (places_last link (first_place opening.options.statement_cache_capacity a.stream) steps outs p.0 p.1 g.begun.given g.counts (subst (λ (c : ConnSeen). Appends link.given c.stream.link.given g.begun.given) (sym g.fresh) g.begun.gave));
       in_time = λ old new x y. in_time opening polls link a steps outs p.0 g p.1 old new x (sym (ap (λ (s : StreamSeen). s.link.given) st.seen) ∙ y);
       idle = λ few first orderly. idles_all (SaysIdle (statuses bytes.session.status (heard p.0.frames))) (first_place opening.options.statement_cache_capacity a.stream) steps outs p.0 p.1 few (λ z. first) orderly;
-      lawful = where_lawful (first_place opening.options.statement_cache_capacity a.stream) p.0 steps outs p.1 refl st.sayable st.are_groups st.flows.read.3 st.plain p.3;
+      uncopied = λ n. calls_plain (first_place opening.options.statement_cache_capacity a.stream) steps outs p.0 p.1 n (refl, tt);
+      lawful = where_lawful (first_place opening.options.statement_cache_capacity a.stream) p.0 steps outs p.1 refl st.sayable st.flows.read.3 st.plain p.3;
       complete = where_faultless link (first_place opening.options.statement_cache_capacity a.stream) p.0 steps outs p.1 g.counts refl st.sayable st.flows.read.3 st.plain;
       plain = st.plain;
     })

@@ -10,8 +10,11 @@ use Rattle.pg_stream.specs.Links.{LinkSeen, NoneFalls}
 use Rattle.pg_stream.specs.Streams.{StreamSeen}
 use Rattle.pg_call.specs.Requests.{Group, said_in}
 use Rattle.pg_report.specs.declared.outcome.Outcome.{Outcome}
+use Rattle.pg_report.specs.declared.outcome.End.{End}
+use Rattle.pg_script.specs.declared.step.Call.{Call}
 use Rattle.pg_script.specs.declared.step.Step.{Step}
 use Rattle.pg_play.specs.Places.{Place}
+use Rattle.pg_play.specs.Copying.{LeavesCopy}
 use Rattle.pg_play.specs.Settling.{Settles}
 use Rattle.pg_play.specs.Causes.{IsFront}
 use Rattle.pg_play.specs.WaitPlaces.{WaitPlaces}
@@ -35,6 +38,43 @@ link_same at step told out own mid next s = ap (λ (x : StreamSeen). x.link) s.s
 
 pub held_same : {response : List BackendMessage} (at : Place) (step : Step) (told out : Outcome) (own : List Group) (mid next : Place) → Settles at step told out own response mid next → next.seen.held ≡ mid.seen.held
 held_same at step told out own mid next s = ap (λ (x : StreamSeen). x.held) s.seen
+
+-- ---- what is left of a copy from the client leaves all but what is said
+
+pub left_link : (call : Call) (own : List Group) (end : End) (mid left : Place) → LeavesCopy call own end mid left → left.seen.link ≡ mid.seen.link
+left_link call own end mid left l = ap (λ (p : Place). p.seen.link) l
+
+pub left_held : (call : Call) (own : List Group) (end : End) (mid left : Place) → LeavesCopy call own end mid left → left.seen.held ≡ mid.seen.held
+left_held call own end mid left l = ap (λ (p : Place). p.seen.held) l
+
+pub left_groups : (call : Call) (own : List Group) (end : End) (mid left : Place) → LeavesCopy call own end mid left → left.groups ≡ mid.groups
+left_groups call own end mid left l = ap (λ (p : Place). p.groups) l
+
+pub left_frames : (call : Call) (own : List Group) (end : End) (mid left : Place) → LeavesCopy call own end mid left → left.frames ≡ mid.frames
+left_frames call own end mid left l = ap (λ (p : Place). p.frames) l
+
+pub left_broken : (call : Call) (own : List Group) (end : End) (mid left : Place) → LeavesCopy call own end mid left → left.broken ≡ mid.broken
+left_broken call own end mid left l = ap (λ (p : Place). p.broken) l
+
+pub left_counts : (call : Call) (own : List Group) (end : End) (mid left : Place) (link : LinkSeen) → LeavesCopy call own end mid left → NoneFalls link mid.seen.link → NoneFalls link left.seen.link
+left_counts call own end mid left link l n = subst (λ (x : LinkSeen). NoneFalls link x) (sym (left_link call own end mid left l)) n
+
+pub left_waits : (at : Place) (out : Outcome) (call : Call) (own : List Group) (end : End) (mid left : Place) → LeavesCopy call own end mid left → WaitPlaces at out mid → WaitPlaces at out left
+left_waits at out call own end mid left l w =
+    let link = left_link call own end mid left l in
+    let held = left_held call own end mid left l in
+    let frames = left_frames call own end mid left l in
+    record {
+      bytes = w.bytes;
+      gave = rw link w.gave;
+      read = rw (frames, held) w.read;
+      places = w.places;
+      told = rw link w.told;
+      write_waits = w.write_waits;
+      all = w.all;
+      writes = rw link w.writes;
+      behind = rw frames w.behind;
+    }
 
 pub settled_counts : {response : List BackendMessage} (at : Place) (step : Step) (told out : Outcome) (own : List Group) (mid next : Place) (link : LinkSeen) → Settles at step told out own response mid next → NoneFalls link mid.seen.link → NoneFalls link next.seen.link
 settled_counts at step told out own mid next link s n = subst (λ (x : LinkSeen). NoneFalls link x) (sym (link_same at step told out own mid next s)) n

@@ -11,13 +11,11 @@ use Rattle.pg_call.specs.declared.request.Request.{Request}
 use Rattle.pg_wire.proofs.Each.{each_join}
 use Rattle.pg_wire.specs.Frame.{Frame}
 use Rattle.pg_wire.specs.Frontend.{FrontendMessage, HasFrontendFrame}
-use Rattle.pg_wire.specs.Groups.{IsGroup}
 use Rattle.pg_stream.specs.Streams.{StreamSeen}
 use Rattle.pg_startup.specs.Flows.{Flows}
 use Rattle.pg_startup.proofs.FlowLaws.{Flows-then}
 use Rattle.pg_request.specs.Texts.{rollback_text}
 use Rattle.pg_request.proofs.TextLaws.{rollback_said}
-use Rattle.pg_call.specs.declared.kind.Change.{Change}
 use Rattle.pg_call.specs.declared.kind.Change.TheVariants as changes
 use Rattle.pg_call.specs.Requests.{Group, said_in, spelled, kind_of, change_of, keeping_of}
 use Rattle.pg_conn.specs.Connections.{ConnSeen, opens, depth_behind, settled, cleaned, ended, may_open, has_room_for, with_group, queued_group, restated, rollback, counted_anew, rolled, rolled_back, left, with_depth}
@@ -31,7 +29,7 @@ use Rattle.pg_script.specs.declared.step.Call.{Call}
 use Rattle.pg_script.specs.declared.step.Call.TheVariants as calls
 use Rattle.pg_script.specs.declared.step.Step.{Step}
 use Rattle.pg_play.specs.Shown.{request_of, begins, acts_at_once, handed_by}
-use Rattle.pg_play.specs.Places.{Place, owed, is_fine, Queues}
+use Rattle.pg_play.specs.Places.{Place, IsRequestGroup, ended as ended_place, owed, is_fine, Queues}
 use Rattle.pg_call.specs.declared.kind.Keeping.{Keeping}
 use Rattle.pg_call.specs.declared.kind.Keeping.TheVariants as keepings
 use Rattle.pg_conn.specs.Statements.{moved, unmoved, step_of}
@@ -42,6 +40,8 @@ use Rattle.pg_report.specs.declared.outcome.Answer.TheVariants.{Unit as AnswersU
 use Rattle.pg_stream.specs.Links.{GrewBy}
 use Rattle.pg_play.specs.Settling.{Settles, cleanup_of, depth_after, rollback_at, has_group, has_moved, statements_after, step_after, handed_at, held_after, rule_after}
 use Rattle.pg_play.specs.Calls.{behind_end, untouched}
+use Rattle.pg_play.specs.Copying.{LeavesCopy}
+use Rattle.pg_play.proofs.CopyLaws.{Acts, leaves_none, fails_nothing}
 use Rattle.pg_play.specs.Plays.{StandsAt, Plays_call, over}
 
 -- as many are open there as on the connection
@@ -102,9 +102,9 @@ stands_group start mid m left rule now st l r room =
       room = room;
       idle = st.idle;
       sayable = each_join HasFrontendFrame mid.said (rollback left) st.sayable (said_rollback left l);
-      are_groups = each_join IsGroup mid.groups (rollback left ∷ []) st.are_groups (inl (rollback_text left, refl), tt);
+      are_groups = each_join IsRequestGroup mid.groups (rollback left ∷ []) st.are_groups (inl (inl (rollback_text left, refl)), tt);
       between = λ z. absurd (omega (arith, z));
-      plain = λ h. plain_group mid left (st.plain h);
+      plain = λ h n. plain_group mid left (st.plain h n);
       requests = omega (arith, st.requests, one, counts-append mid.said (rollback left), length-append mid.groups (rollback left ∷ []));
     }
   where
@@ -140,6 +140,7 @@ opens_begins d (calls.FetchOptional query) = refl
 opens_begins d (calls.FetchOne query) = refl
 opens_begins d calls.Ping = refl
 opens_begins d (calls.CopyOut query) = refl
+opens_begins d (calls.Feed fed) = refl
 opens_begins d calls.Flush = refl
 opens_begins d (calls.Chain chain) = refl
 opens_begins d calls.Begin = refl
@@ -167,6 +168,7 @@ depth_ok d (calls.FetchOptional query) groups end f a b = refl
 depth_ok d (calls.FetchOne query) groups end f a b = refl
 depth_ok d calls.Ping groups end f a b = refl
 depth_ok d (calls.CopyOut query) groups end f a b = refl
+depth_ok d (calls.Feed fed) groups end f a b = refl
 depth_ok d calls.Flush groups end f a b = refl
 depth_ok d (calls.Chain chain) groups end f a b = refl
 depth_ok d calls.Begin groups end f a b = let some = b refl in rw (f, some) refl
@@ -194,6 +196,7 @@ depth_other d (calls.FetchOptional query) end f a = refl
 depth_other d (calls.FetchOne query) end f a = refl
 depth_other d calls.Ping end f a = refl
 depth_other d (calls.CopyOut query) end f a = refl
+depth_other d (calls.Feed fed) end f a = refl
 depth_other d calls.Flush end f a = refl
 depth_other d (calls.Chain chain) end f a = refl
 depth_other d calls.Begin end f a = rw f refl
@@ -233,6 +236,8 @@ cleanup_polled d calls.Ping end [] n a = refl
 cleanup_polled d calls.Ping end (g ∷ gs) n a = refl
 cleanup_polled d (calls.CopyOut query) end [] n a = refl
 cleanup_polled d (calls.CopyOut query) end (g ∷ gs) n a = refl
+cleanup_polled d (calls.Feed fed) end [] n a = refl
+cleanup_polled d (calls.Feed fed) end (g ∷ gs) n a = refl
 cleanup_polled d calls.Flush end [] n a = refl
 cleanup_polled d calls.Flush end (g ∷ gs) n a = refl
 cleanup_polled d (calls.Chain chain) end [] n a = refl
@@ -304,9 +309,11 @@ conn_behind o end m = record (behind_end end m) { rule = held_after o (behind_en
 
 -- The connection stands at the next place, and counts the groups of the cleanup on.
 pub record SettlesTo (start : StreamSeen) (at : Place) (step : Step) (told : Outcome) (own : List Group) (response : List BackendMessage) (mid : Place) (m d : ConnSeen) : Type 0 where
+  pub left : Place
+  pub leaves : LeavesCopy step.call own told.end mid left
   pub next : Place
   pub out : Outcome
-  pub settles : Settles at step told out own response mid next
+  pub settles : Settles at step told out own response left next
   pub stands : StandsAt start next d
   pub groups : GrewBy (length settles.cleanup) m.groups d.groups
   pub others : (d.heard ≡ m.heard) × (d.stream.waits ≡ m.stream.waits) × (d.stream.moves ≡ m.stream.moves) × (d.earlier ≡ m.earlier) × (d.cache ≡ over m.cache out.cache)
@@ -317,11 +324,13 @@ record Makes (at : Place) (step : Step) (told : Outcome) (own : List Group) (res
   tells : now ≡ over m.cache (step_after (keeping_of (request_of at.rule.depth step.call)) (has_moved own told.end))
 
 -- nothing is queued
-settles_plain : (start : StreamSeen) (at mid : Place) (m : ConnSeen) (step : Step) (told : Outcome) (own : List Group) (response : List BackendMessage) (rule : Rule) (now : CacheStep) → StandsAt start mid m → HasAllRoom (with_rule rule now m) → told.groups ≡ length own
-    → [] ≡ cleanup_of at.rule.depth step.call told.end own (owed mid) → Makes at step told own response m rule now → SettlesTo start at step told own response mid m (with_rule rule now m)
-settles_plain start at mid m step told own response rule now st room counts none makes =
+settles_plain : (start : StreamSeen) (at call mid : Place) (m : ConnSeen) (step : Step) (told : Outcome) (own : List Group) (response : List BackendMessage) (rule : Rule) (now : CacheStep) → LeavesCopy step.call own told.end call mid → StandsAt start mid m → HasAllRoom (with_rule rule now m) → told.groups ≡ length own
+    → [] ≡ cleanup_of at.rule.depth step.call told.end own (owed mid) → Makes at step told own response m rule now → SettlesTo start at step told own response call m (with_rule rule now m)
+settles_plain start at call mid m step told own response rule now leaves st room counts none makes =
     let said : CacheStep = step_after (keeping_of (request_of at.rule.depth step.call)) (has_moved own told.end) in
     record {
+      left = mid;
+      leaves = leaves;
       next = record mid { rule = rule };
       out = record told { cache = said };
       settles = record {
@@ -334,6 +343,7 @@ settles_plain start at mid m step told own response rule now st room counts none
         frames = refl;
         failed = refl;
         broken = refl;
+        unfailed = refl;
         outcome = refl;
         cache = refl;
         counted = omega (arith, counts);
@@ -344,12 +354,14 @@ settles_plain start at mid m step told own response rule now st room counts none
     }
 
 -- a rollback is
-settles_rolled : (start : StreamSeen) (at mid : Place) (m : ConnSeen) (step : Step) (told : Outcome) (own : List Group) (response : List BackendMessage) (rule : Rule) (now : CacheStep) → StandsAt start mid m → HasAllRoom (rolled_conn m 0 rule now) → has_room_for (spelled (rollback 0)) m ≡ true → m.groups ≤ 1
-    → rollback 0 ∷ [] ≡ cleanup_of at.rule.depth step.call told.end own (owed mid) → Makes at step told own response m rule now → SettlesTo start at step told own response mid m (rolled_conn m 0 rule now)
-settles_rolled start at mid m step told own response rule now st room r few cleanup makes =
+settles_rolled : (start : StreamSeen) (at call mid : Place) (m : ConnSeen) (step : Step) (told : Outcome) (own : List Group) (response : List BackendMessage) (rule : Rule) (now : CacheStep) → LeavesCopy step.call own told.end call mid → StandsAt start mid m → HasAllRoom (rolled_conn m 0 rule now) → has_room_for (spelled (rollback 0)) m ≡ true → m.groups ≤ 1
+    → rollback 0 ∷ [] ≡ cleanup_of at.rule.depth step.call told.end own (owed mid) → Makes at step told own response m rule now → SettlesTo start at step told own response call m (rolled_conn m 0 rule now)
+settles_rolled start at call mid m step told own response rule now leaves st room r few cleanup makes =
     let d = rolled_conn m 0 rule now in
     let said : CacheStep = step_after (keeping_of (request_of at.rule.depth step.call)) (has_moved own told.end) in
     record {
+      left = mid;
+      leaves = leaves;
       next = rolled_place mid d 0 rule;
       out = record told { groups = length own + 1; cache = said };
       settles = record {
@@ -362,6 +374,7 @@ settles_rolled start at mid m step told own response rule now st room r few clea
         frames = refl;
         failed = refl;
         broken = refl;
+        unfailed = refl;
         outcome = refl;
         cache = refl;
         counted = omega arith;
@@ -490,9 +503,9 @@ restated_stream m = by (nat_eq m.groups 0)
     by true = refl
     by false = refl
 
-pub settles_call : (start : StreamSeen) (at mid : Place) (m : ConnSeen) (step : Step) (told : Outcome) (one : Plays_call at step told mid) → acts_at_once step.call ≡ false → StandsAt start mid m → length one.own ≤ 1 → m.groups ≡ length one.own → m.change ≡ change_of (kind_of (request_of at.rule.depth step.call)) → m.keeping ≡ keeping_of (request_of at.rule.depth step.call)
+pub settles_call : (start : StreamSeen) (at mid left : Place) (m : ConnSeen) (step : Step) (told : Outcome) (one : Plays_call at step told mid) → LeavesCopy step.call one.own told.end mid left → acts_at_once step.call ≡ false → StandsAt start left m → length one.own ≤ 1 → m.groups ≡ length one.own → Acts step.call at.rule.depth m → m.keeping ≡ keeping_of (request_of at.rule.depth step.call)
     → SettlesTo start at step told one.own one.told.response mid m (conn_behind (handed_at told.end step.call one.told.response) told.end m)
-settles_call start at mid m step told one a st small groups change keeping = by (is_fine told.end) refl
+settles_call start at mid left m step told one leaves a st small groups acts keeping = by (is_fine told.end) refl
   where
     response : List BackendMessage
     response = one.told.response
@@ -501,7 +514,7 @@ settles_call start at mid m step told one a st small groups change keeping = by 
     o = handed_at told.end step.call response
 
     same : m.rule ≡ at.rule
-    same = st.rule ∙ one.queued.rule
+    same = st.rule ∙ ap (λ (x : Place). x.rule) leaves ∙ one.queued.rule
 
     depth_is : m.rule.depth ≡ at.rule.depth
     depth_is = ap (λ (r : Rule). r.depth) same
@@ -513,14 +526,14 @@ settles_call start at mid m step told one a st small groups change keeping = by 
     opening_is b e =
         ap (λ (o : Bool). not (nat_eq m.groups 0) && (nat_eq at.rule.depth 0 && o)) (sym (opens_begins at.rule.depth step.call))
         ∙ ap (λ (n : ℕ). not (nat_eq m.groups 0) && (nat_eq n 0 && opens (change_of (kind_of (request_of at.rule.depth step.call))))) (sym depth_is)
-        ∙ ap (λ (c : Change). not (nat_eq m.groups 0) && (nat_eq m.rule.depth 0 && opens c)) (sym change) ∙ e
+        ∙ ap (λ (o : Bool). not (nat_eq m.groups 0) && (nat_eq m.rule.depth 0 && o)) (sym acts.opens_so) ∙ e
 
     fine : is_fine told.end ≡ true → SettlesTo start at step told one.own response mid m (record (settled m) { rule = held_after o (settled m).rule })
     fine f =
-        settles_plain start at mid m step told one.own response (held_after o (settled m).rule) (settled m).cache st (room_held o (settled m) (all_settled m st.room)) counts
-        (ok_cleans_none at.rule.depth step.call one.own ∙ ap (λ (b : Bool). cleanup_by at.rule.depth step.call b one.own) (sym f) ∙ sym (cleanup_polled at.rule.depth step.call told.end one.own (owed mid) a))
+        settles_plain start at mid left m step told one.own response (held_after o (settled m).rule) (settled m).cache leaves st (room_held o (settled m) (all_settled m st.room)) counts
+        (ok_cleans_none at.rule.depth step.call one.own ∙ ap (λ (b : Bool). cleanup_by at.rule.depth step.call b one.own) (sym f) ∙ sym (cleanup_polled at.rule.depth step.call told.end one.own (owed left) a))
         (fine_makes at m step told one.own response same keeping f (
-        ap (λ (c : Change). depth_behind c m.groups m.rule.depth) change
+        acts.depth_so m.rule.depth
         ∙ ap (λ (n : ℕ). depth_behind (change_of (kind_of (request_of at.rule.depth step.call))) m.groups n) depth_is
         ∙ depth_ok at.rule.depth step.call m.groups told.end f a (λ b. some_groups (length one.own) m.groups (length_some one.own (λ n. begins_one at.rule.depth step.call b (sym (fine_has told.end _ one.own f one.queued.asks) ∙ n))) groups)
         ))
@@ -534,14 +547,15 @@ settles_call start at mid m step told one a st small groups change keeping = by 
         let so : record (cleaned m) { rule = held_after o (cleaned m).rule } ≡ with_rule rule now m =
         ap (λ (x : ConnSeen). record x { rule = held_after o x.rule }) (is ∙ ap (λ (x : ConnSeen). ended x) (restated_stream m)) in
         subst (λ (x : ConnSeen). SettlesTo start at step told one.own response mid m x) (sym so)
-        (settles_plain start at mid m step told one.own response rule now st (subst (λ (x : ConnSeen). HasAllRoom x) so (room_held o (cleaned m) (all_cleaned m st.room))) counts
-        (none ∙ ap (λ (b : Bool). cleanup_by at.rule.depth step.call b one.own) (sym f) ∙ sym (cleanup_polled at.rule.depth step.call told.end one.own (owed mid) a))
+        (settles_plain start at mid left m step told one.own response rule now leaves st (subst (λ (x : ConnSeen). HasAllRoom x) so (room_held o (cleaned m) (all_cleaned m st.room))) counts
+        (none ∙ ap (λ (b : Bool). cleanup_by at.rule.depth step.call b one.own) (sym f) ∙ sym (cleanup_polled at.rule.depth step.call told.end one.own (owed left) a))
         (other_makes at m step told one.own response same keeping f (depth_other at.rule.depth step.call told.end f a) (has_some one.own m.groups groups)))
     other f true e =
         let rule : Rule = held_after o (restated m).rule in
         let now : CacheStep = (restated m).cache in
         let cleans = other_cleans at.rule.depth step.call one.own m.groups (λ n. groups ∙ ap (λ (g : List Group). length g) n) (opening_is true e) in
-        let few : m.ledger.owed ≤ 1 = omega (arith, st.ledger, one.queued.in_turn cleans.1) in
+        let turn : length left.groups ≤ ended_place left + 1 = subst (λ (p : Place). length p.groups ≤ ended_place p + 1) (sym leaves) (one.queued.in_turn cleans.1) in
+        let few : m.ledger.owed ≤ 1 = omega (arith, st.ledger, turn) in
         let short = rollback_short 0 (omega arith) in
         let level = opening m.change m.groups m.rule.depth e in
         let room = st.room in
@@ -552,8 +566,8 @@ settles_call start at mid m step told one a st small groups change keeping = by 
         let so : record (cleaned m) { rule = held_after o (cleaned m).rule } ≡ rolled_conn m 0 rule now =
         ap (λ (x : ConnSeen). record x { rule = held_after o x.rule }) (is ∙ ap (λ (x : ConnSeen). ended x) queued) in
         subst (λ (x : ConnSeen). SettlesTo start at step told one.own response mid m x) (sym so)
-        (settles_rolled start at mid m step told one.own response rule now st (subst (λ (x : ConnSeen). HasAllRoom x) so (room_held o (cleaned m) (all_cleaned m st.room))) r (omega (arith, groups, small))
-        (cleans.0 ∙ ap (λ (b : Bool). cleanup_by at.rule.depth step.call b one.own) (sym f) ∙ sym (cleanup_polled at.rule.depth step.call told.end one.own (owed mid) a))
+        (settles_rolled start at mid left m step told one.own response rule now leaves st (subst (λ (x : ConnSeen). HasAllRoom x) so (room_held o (cleaned m) (all_cleaned m st.room))) r (omega (arith, groups, small))
+        (cleans.0 ∙ ap (λ (b : Bool). cleanup_by at.rule.depth step.call b one.own) (sym f) ∙ sym (cleanup_polled at.rule.depth step.call told.end one.own (owed left) a))
         (other_makes at m step told one.own response same keeping f (depth_other at.rule.depth step.call told.end f a) (has_some one.own m.groups groups)))
 
     by : (b : Bool) → is_fine told.end ≡ b → SettlesTo start at step told one.own response mid m (conn_behind o told.end m)
@@ -593,6 +607,8 @@ rolls_tells at step c = ap (λ (call : Call). step_after (keeping_of (request_of
 rolls_none : (start : StreamSeen) (at : Place) (a : ConnSeen) (step : Step) (depth : ℕ) → StandsAt start at a → HasAllRoom (with_rule (with_depth depth a.rule) cache.Same (ended (counted_anew a))) → step.call ≡ calls.StartRollback → [] ≡ rollback_at at.rule.depth (owed at) → depth ≡ at.rule.depth - 1
     → SettlesTo start at step (untouched (ends.Ok AnswersUnit)) [] [] at (ended (counted_anew a)) (with_rule (with_depth depth a.rule) cache.Same (ended (counted_anew a)))
 rolls_none start at a step depth st room c none after = record {
+  left = at;
+  leaves = leaves_none step.call [] (ends.Ok AnswersUnit) at (fails_nothing step.call (ends.Ok AnswersUnit)).0 (fails_nothing step.call (ends.Ok AnswersUnit)).1;
   next = record at { seen = record at.seen { waits = 0; moves = 0 }; rule = with_depth depth a.rule };
   out = untouched (ends.Ok AnswersUnit);
   settles = record {
@@ -605,6 +621,7 @@ rolls_none start at a step depth st room c none after = record {
     frames = refl;
     failed = refl;
     broken = refl;
+    unfailed = refl;
     outcome = refl;
     cache = rolls_tells at step c;
     counted = omega arith;
@@ -623,6 +640,8 @@ rolls_one start at a step left st l r room c some after =
     let d = rolled_conn m left rule cache.Same in
     let mid : Place = record at { seen = record at.seen { waits = 0; moves = 0 } } in
     record {
+      left = at;
+      leaves = leaves_none step.call [] (ends.Ok AnswersUnit) at (fails_nothing step.call (ends.Ok AnswersUnit)).0 (fails_nothing step.call (ends.Ok AnswersUnit)).1;
       next = rolled_place mid d left rule;
       out = record (untouched (ends.Ok AnswersUnit)) { groups = 1 };
       settles = record {
@@ -635,6 +654,7 @@ rolls_one start at a step left st l r room c some after =
         frames = refl;
         failed = refl;
         broken = refl;
+        unfailed = refl;
         outcome = refl;
         cache = rolls_tells at step c;
         counted = omega arith;

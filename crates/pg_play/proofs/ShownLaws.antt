@@ -27,7 +27,7 @@ use Rattle.pg_report.specs.declared.outcome.Item.TheVariants.{Row, Count, Piece}
 use Rattle.pg_report.specs.declared.outcome.Answer.{Answer}
 use Rattle.pg_script.specs.declared.step.Call.{Call}
 use Rattle.pg_script.specs.declared.step.Call.TheVariants as calls
-use Rattle.pg_play.specs.Shown.{request_of, item_in, items_in, is_row, is_count, is_result, is_piece, count_of, shown_as, shown_how, shown_by, how_of, waits_how, waits_to_show, answered_how, answered_by, wants_how, wants_row, item_of, one_row, items_with, answer_of, begins, acts_at_once}
+use Rattle.pg_play.specs.Shown.{request_of, item_in, items_in, is_row, is_count, is_result, is_piece, count_of, shown_as, shown_by, waits_how, waits_to_show, answered_how, answered_by, wants_how, wants_row, item_of, one_row, items_with, answer_of, begins, acts_at_once}
 
 -- the items of a response, told
 pub items_told : (h : Heading) (ms : List BackendMessage) → items_in ms ≡ map item_of (items_of h ms)
@@ -128,6 +128,7 @@ shown_front d (calls.CloseAll statements) xs = rw (none_shown kinds.Clear xs (λ
 shown_front d (calls.Describe extended) xs = rw (none_shown kinds.Describe xs (λ x. refl)) ([], refl)
 shown_front d calls.Ping xs = rw (none_shown kinds.Ping xs (λ x. refl)) ([], refl)
 shown_front d (calls.CopyOut query) xs = ([], append-nil _ ∙ pieces_shown xs)
+shown_front d (calls.Feed fed) xs = rw (none_shown kinds.CopyIn xs (λ x. refl)) ([], refl)
 shown_front d calls.Flush xs = rw (none_shown kinds.Flush xs (λ x. refl)) ([], refl)
 shown_front d (calls.Chain chain) xs = rw (none_shown kinds.Flush xs (λ x. refl)) ([], refl)
 shown_front d calls.Begin xs = rw (none_shown kinds.Begin xs (λ x. refl)) ([], refl)
@@ -191,6 +192,7 @@ all_told d (calls.CloseAll statements) reply status answer e = rw (← the_ok _ 
 all_told d (calls.Describe extended) reply status answer e = rw (← the_ok _ answer e, none_shown kinds.Describe (own_items (request_of d (calls.Describe extended)) reply) (λ x. refl)) refl
 all_told d calls.Ping reply status answer e = rw (← the_ok _ answer e, none_shown kinds.Ping (own_items (request_of d calls.Ping) reply) (λ x. refl)) refl
 all_told d (calls.CopyOut query) reply status answer e = rw (← the_ok _ answer e) (pieces_shown (own_items (request_of d (calls.CopyOut query)) reply))
+all_told d (calls.Feed fed) reply status answer e = rw (← the_ok _ answer e) (rw (none_shown kinds.CopyIn (own_items (request_of d (calls.Feed fed)) reply) (λ x. refl)) refl)
 all_told d calls.Flush reply status answer e = rw (← the_ok _ answer e, none_shown kinds.Flush (own_items (request_of d calls.Flush) reply) (λ x. refl)) refl
 all_told d (calls.Chain chain) reply status answer e = rw (← the_ok _ answer e, none_shown kinds.Flush (own_items (request_of d (calls.Chain chain)) reply) (λ x. refl)) refl
 all_told d calls.Begin reply status answer e = rw (← begun_unit status answer e, none_shown kinds.Begin (own_items (request_of d calls.Begin) reply) (λ x. refl)) refl
@@ -226,6 +228,7 @@ answer_told d (calls.CloseAll statements) reply status answer e = rw (← the_ok
 answer_told d (calls.Describe extended) reply status answer e = rw (← the_ok _ answer e) refl
 answer_told d calls.Ping reply status answer e = rw (← the_ok _ answer e) refl
 answer_told d (calls.CopyOut query) reply status answer e = rw (← the_ok _ answer e) refl
+answer_told d (calls.Feed fed) reply status answer e = how_answers hows.Execute (own_items (request_of d (calls.Feed fed)) reply) status answer e
 answer_told d calls.Flush reply status answer e = rw (← the_ok _ answer e) refl
 answer_told d (calls.Chain chain) reply status answer e = rw (← the_ok _ answer e) refl
 answer_told d calls.Begin reply status answer e = rw (← begun_unit status answer e) refl
@@ -291,6 +294,7 @@ not_found d (calls.CloseAll statements) reply status e = absurd cc
 not_found d (calls.Describe extended) reply status e = absurd cc
 not_found d calls.Ping reply status e = absurd cc
 not_found d (calls.CopyOut query) reply status e = absurd cc
+not_found d (calls.Feed fed) reply status e = absurd cc
 not_found d calls.Flush reply status e = absurd cc
 not_found d (calls.Chain chain) reply status e = absurd cc
 not_found d calls.Begin reply status e = absurd (begun_found status e)
@@ -325,6 +329,7 @@ no_items_come d (calls.CloseAll statements) reply status answer items w e = rw (
 no_items_come d (calls.Describe extended) reply status answer items w e = rw (← the_ok _ answer e) refl
 no_items_come d calls.Ping reply status answer items w e = rw (← the_ok _ answer e) refl
 no_items_come d (calls.CopyOut query) reply status answer items w e = rw (← the_ok _ answer e) refl
+no_items_come d (calls.Feed fed) reply status answer items w e = rw (← the_ok _ answer e) refl
 no_items_come d calls.Flush reply status answer items w e = rw (← the_ok _ answer e) refl
 no_items_come d (calls.Chain chain) reply status answer items w e = rw (← the_ok _ answer e) refl
 no_items_come d calls.Begin reply status answer items w e = rw (← begun_unit status answer e) refl
@@ -370,6 +375,7 @@ begun_failed d (calls.CloseAll statements) reply status other e = absurd cc
 begun_failed d (calls.Describe extended) reply status other e = absurd cc
 begun_failed d calls.Ping reply status other e = absurd cc
 begun_failed d (calls.CopyOut query) reply status other e = absurd cc
+begun_failed d (calls.Feed fed) reply status other e = absurd cc
 begun_failed d calls.Flush reply status other e = absurd cc
 begun_failed d (calls.Chain chain) reply status other e = absurd cc
 begun_failed d calls.Begin reply status other e = let s = status_fails status other e in (refl, s.0, s.1)

@@ -1,5 +1,5 @@
 -- One more poll of a call that is played: of one exchange, or through its end into the next ones.
-use Rattle.std.proofs.Common.{◌≡◌, ℕ, ◌+◌, ◌*◌, ◌<◌, ◌≤◌, inl, inr, Bool, true, false, List, [], ◌∷◌, ◌++◌, length, map, refl, sym, ap, ◌∙◌, subst, arith, Option, Some, None, Ok, Err, ap₂, min, ◌-◌, ◌^◌}
+use Rattle.std.proofs.Common.{nat_eq, cond, ◌≡◌, ℕ, ◌+◌, ◌*◌, ◌<◌, ◌≤◌, inl, inr, Bool, true, false, List, [], ◌∷◌, ◌++◌, length, map, refl, sym, ap, ◌∙◌, subst, arith, Option, Some, None, Ok, Err, ap₂, min, ◌-◌, ◌^◌}
 use Rattle.pg_rule.specs.declared.rule.Rule.{Rule}
 use Rattle.pg_call.specs.declared.statement.After.TheVariants as afters
 use Rattle.pg_call.specs.declared.statement.After.{After}
@@ -18,6 +18,7 @@ use Rattle.pg_wire.specs.Parts.{heard}
 use Rattle.pg_wire.specs.Frontend.{FrontendMessage}
 use Rattle.pg_stream.specs.Streams.{StreamSeen, AllMoved, Moves}
 use Rattle.pg_stream.proofs.StreamLemmas.{Moves-then, AllMoved-then, NoneWaited-then, WriteWaited-after, PendingCause-after}
+use Rattle.pg_wire.specs.declared.message.copy_response.CopyResponseData.{CopyResponseData}
 use Rattle.pg_call.specs.declared.kind.Change.{Change}
 use Rattle.pg_call.specs.declared.kind.Change.TheVariants as changes
 use Rattle.pg_call.specs.declared.kind.Kind.{Kind}
@@ -35,9 +36,15 @@ use Rattle.pg_call.specs.declared.calling.Beat.{Beat}
 use Rattle.pg_call.specs.declared.calling.Beat.TheVariants as beats
 use Rattle.pg_call.specs.Requests.{kind_of, main_kind, change_of, goal_kind, after_kind}
 use Rattle.pg_call.specs.Items.{own_items, shown}
-use Rattle.pg_call.specs.Calls.{EndsFine}
+use Rattle.pg_call.specs.Calls.{CallIs, EndsFine}
+use Rattle.pg_call.specs.Hearing.{IsOpen}
+use Rattle.pg_call.specs.Replies.{part_after}
+use Rattle.pg_call.specs.declared.judging.Part.{Part}
+use Rattle.pg_call.specs.declared.judging.Part.TheVariants.{Feeding, Opening}
+use Rattle.pg_call.proofs.CopyInLaws.{came}
 use Rattle.pg_call.proofs.FitLaws.{hands_on_described, next_is}
 use Rattle.pg_conn.specs.Connections.{ConnSeen, begun_with, handed, settled, runs, left, started_call, cleaned, ended, idle, resolved, resolved_by}
+use Rattle.pg_conn.proofs.StatementLaws.{asked_main}
 use Rattle.pg_conn.specs.Turns.{Polled, PollsThrough, HandsOver, hands_on, PollsBy, HandsOnNone, beat_of, BeatCause, SendCause, TakesBeat, is_flushed, first_exchange}
 use Rattle.pg_report.specs.declared.outcome.Item.{Item}
 use Rattle.pg_report.specs.declared.outcome.Answer.TheVariants.{Unit as AnswersUnit}
@@ -45,10 +52,12 @@ use Rattle.pg_report.specs.declared.outcome.End.{End}
 use Rattle.pg_report.specs.declared.outcome.End.TheVariants as ends
 use Rattle.pg_report.specs.declared.outcome.Outcome.{Outcome}
 use Rattle.pg_play.specs.declared.tally.Limits.{Limits}
+use Rattle.pg_play.specs.declared.tally.Pause.{Pause}
+use Rattle.pg_play.specs.declared.tally.Pause.TheVariants as pauses
 use Rattle.pg_play.specs.declared.tally.Tally.{Tally}
-use Rattle.pg_play.specs.Shown.{item_of, IsWanted}
-use Rattle.pg_play.specs.Calls.{Adds, Finishes, Waited, IsPlayingOn, IsPlaying, Ended, EndsOn, broken_after, Counted, asking, HandedOn, handed_from, OfLastIn, OfLast, IsCallPlaying, StopsBy, PollGives, PlaysOne, PlaysCall, outcome_of, all_groups, asked_from, first_conn}
-use Rattle.pg_play.proofs.CallLaws.{AfterSome, PlayBeat, OverPoll, over_poll, after_beat, fresh_play, playing_one, plays_one, goes_waits, goes_yields, goes_ok, goes_unshown, goes_err, drops_waiting, drops_shown, goes_unkept, asked_changes, begun_changes, wanted_stays}
+use Rattle.pg_play.specs.Shown.{item_of, IsBegun, IsUncopied, IsWanted}
+use Rattle.pg_play.specs.Calls.{Adds, change_fed, change_for, Finishes, again, InCopy, InPlay, IsCopying, Waited, IsPlayingOn, IsPlaying, Ended, EndsOn, broken_after, Counted, asking, HandedOn, handed_from, OfLastIn, OfLast, IsCallPlaying, StopsBy, Pauses, PollGives, PlaysOne, PlaysCall, outcome_of, all_groups, asked_from, first_conn}
+use Rattle.pg_play.proofs.CallLaws.{AfterSome, PlayBeat, OverPoll, over_poll, after_beat, fresh_play, playing_one, plays_one, goes_waits, goes_yields, goes_ok, goes_unshown, goes_err, drops_waiting, drops_shown, goes_unkept, asked_changes, wanted_stays, not_fed, first_changes}
 
 -- what holds of the exchange that came last
 on_last_in : (later : List Request) (polls : ℕ) (first : StreamSeen) (P Q : ConnSeen → Request → Type 0) (a : ConnSeen) (r : Request) → ((at : ConnSeen) (asked : Request) → P at asked → Q at asked) → OfLastIn later polls first P a r → OfLastIn later polls first Q a r
@@ -80,6 +89,11 @@ not_flushed : (f : Bool) (next : Request) → (f ≡ true → answers.Next next 
 not_flushed true next h = let x = h refl in absurd cc
 not_flushed false next h = refl
 
+-- and is no copy
+described_again : (r : Request) → kind_of r ≡ kinds.Describe → again r ≡ 0
+described_again (requests.CopyIn feed) k = absurd cc
+described_again _ k = refl
+
 hands_over : (polls : ℕ) (first : StreamSeen) (a m : ConnSeen) (r next : Request) (waits : ℕ) (items : List CallItem) → waits < polls → a.broken ≡ None → AfterSome first a m r waits items (beats.Ends (Ok (answers.Next next))) → HandedOn polls first a m r next × (items ≡ [])
 hands_over polls first a m r next waits items l e h =
     let after = h.2 in
@@ -98,13 +112,13 @@ hands_over polls first a m r next waits items l e h =
         waits = waits;
         waited = after.over.waited (λ w. absurd cc);
         few = l;
-        calls = omega (arith, after.over.calls, l, ap (λ (x : List CallItem). length x) none);
+        calls = omega (arith, after.over.calls, l, ap (λ (x : List CallItem). length x) none, described_again r (hands_on_described r after.tells.1.0.reply after.tells.1.0.status next after.tells.1.1));
       },
       none,
     )
 
 -- what handed on is a description
-handed_described : (polls : ℕ) (first : StreamSeen) (a m : ConnSeen) (r next : Request) → HandedOn polls first a m r next → kind_of r ≡ kinds.Describe
+pub handed_described : (polls : ℕ) (first : StreamSeen) (a m : ConnSeen) (r next : Request) → HandedOn polls first a m r next → kind_of r ≡ kinds.Describe
 handed_described polls first a m r next h = hands_on_described r h.ends.0.0.reply h.ends.0.0.status next h.ends.0.1
 
 described_stays : (r : Request) → kind_of r ≡ kinds.Describe → change_of (main_kind r) ≡ changes.Stays
@@ -121,9 +135,23 @@ described_stays (requests.Evict eviction) k = by eviction.after
 described_stays (requests.Run bound) k = refl
 described_stays _ k = absurd cc
 
+-- nor is it a copy from the client
+described_main : (r : Request) → kind_of r ≡ kinds.Describe → main_kind r ≡ kinds.CopyIn → ⊥
+described_main (requests.Describe x) k e = by x.goal e
+  where
+    by : (goal : Goal) → goal_kind goal ≡ kinds.CopyIn → ⊥
+    by (goals.Run how) e = cc
+    by goals.Prepare e = cc
+described_main (requests.Evict eviction) k e = by eviction.after e
+  where
+    by : (after : After) → after_kind after ≡ kinds.CopyIn → ⊥
+    by (afters.Run bound) e = cc
+    by (afters.Prepare prepared) e = cc
+described_main _ k e = absurd cc
+
 -- what was handed on opens and closes nothing
-pub handed_stays : (polls : ℕ) (first : StreamSeen) (a m : ConnSeen) (r next : Request) → HandedOn polls first a m r next → change_of (kind_of (asked_from m next)) ≡ changes.Stays
-handed_stays polls first a m r next h = asked_changes (settled m).rule next ∙ ap change_of (next_is r h.ends.0.0.reply h.ends.0.0.status next h.ends.0.1).0 ∙ described_stays r (handed_described polls first a m r next h)
+pub handed_stays : (polls : ℕ) (first : StreamSeen) (a m : ConnSeen) (r next : Request) → HandedOn polls first a m r next → change_for (asked_from m next) ≡ changes.Stays
+handed_stays polls first a m r next h = not_fed (asked_from m next) (λ e. described_main r (handed_described polls first a m r next h) (sym (next_is r h.ends.0.0.reply h.ends.0.0.status next h.ends.0.1).0 ∙ sym (asked_main (settled m).rule next) ∙ e)) ∙ asked_changes (settled m).rule next ∙ ap change_of (next_is r h.ends.0.0.reply h.ends.0.0.status next h.ends.0.1).0 ∙ described_stays r (handed_described polls first a m r next h)
 
 -- what a connection has counted
 abbrev pub counted_by : ConnSeen → Counted
@@ -161,6 +189,7 @@ cause_later : (a b c : ConnSeen) (beat : Beat) → AllMoved a.stream b.stream �
 cause_later a b c beats.More h k l t = AllMoved-then a.stream b.stream c.stream h k t l
 cause_later a b c beats.Waits h k l t = (PendingCause-after a.stream b.stream c.stream h k l t.0, λ s. send_later a b c h k l (t.1 s))
 cause_later a b c (beats.Yields item) h k l t = NoneWaited-then a.stream b.stream c.stream h.2 t
+cause_later a b c (beats.Opens opened) h k l t = NoneWaited-then a.stream b.stream c.stream h.2 t
 cause_later a b c (beats.Ends (Ok answer)) h k l t = AllMoved-then a.stream b.stream c.stream h k t l
 cause_later a b c (beats.Ends (Err e)) h k l t = NoneWaited-then a.stream b.stream c.stream h.2 t
 
@@ -174,14 +203,14 @@ record Begins (first : StreamSeen) (b at : ConnSeen) (r : Request) (waits : ℕ)
   made : b.stream.link.calls ≤ first.link.calls + 256 * waits
   whole : at.broken ≡ None
   asks : at.call ≡ calls.Asked r
-  change : at.change ≡ change_of (kind_of r)
+  change : at.change ≡ change_for r
 
 later_beat : (first : StreamSeen) (b at c : ConnSeen) (r : Request) (waits : ℕ) (beat : Beat) → Begins first b at r waits → (p : Polled at c beat) → AfterSome first at p.stopped r waits [] beat
 later_beat first b at c r waits beat s p =
     let two = p.turns.3 in
     let moves = Moves-then (begun_with 256 b).stream at.stream p.stopped.stream s.queued p.turns.0 s.frames p.turns.1 s.moves two.moves in
     let cause = cause_later (begun_with 256 b) at p.stopped beat s.moved s.moves.left two.moves.left two.cause in
-    let over : OverPoll first at p.stopped waits 0 beat = over_poll first at b p.stopped waits 0 beat (s.queued ++ p.turns.0) (s.frames ++ p.turns.1) (omega (arith, s.moved.2.2.0)) s.waited (omega (arith, s.made)) moves cause in
+    let over : OverPoll first at p.stopped waits (0 + again r) beat = over_poll first at b p.stopped waits (0 + again r) beat (s.queued ++ p.turns.0) (s.frames ++ p.turns.1) (omega (arith, s.moved.2.2.0)) s.waited (omega (arith, s.made)) moves cause in
     after_beat at.stream.left at.stream first at at p.stopped r 0 waits [] beat [] [] (fresh_play at r s.whole s.asks s.change) p.turns p.whole p.says p.flush over
 
 -- the next one begins where it stopped
@@ -243,7 +272,7 @@ turns_through polls most first a b c r waits shown answer l e i t = by t.later t
 
     goes_on : (c : ConnSeen) (beat : Beat) → (p : Polled (begun_with 256 from) c beat) → AfterSome first a p.stopped r waits i.0 beat
     goes_on c beat p =
-        let over = over_poll first a from p.stopped waits (length i.0) beat p.turns.0 p.turns.1 i.5.went.flows.counts.write_waits i.5.waited i.5.calls p.turns.3.moves p.turns.3.cause in
+        let over = over_poll first a from p.stopped waits (length i.0 + again r) beat p.turns.0 p.turns.1 i.5.went.flows.counts.write_waits i.5.waited (omega (arith, i.5.calls)) p.turns.3.moves p.turns.3.cause in
         after_beat 256 first first a from p.stopped r waits waits i.0 beat i.1 i.2 i.5 p.turns p.whole p.says p.flush over
 
     polled_from : (c : ConnSeen) (beat : Beat) → Polled (resolved (begun_with 256 b)) c beat → Polled (begun_with 256 from) c beat
@@ -257,7 +286,7 @@ turns_through polls most first a b c r waits shown answer l e i t = by t.later t
         let one = polled_from h.0 (beat_of (hands_on next)) h.1 in
         let m = one.stopped in
         let over = hands_over polls first a m r next waits i.0 l e (goes_on h.0 (beat_of (hands_on next)) one) in
-        let few : from.stream.link.calls ≤ first.link.calls + 256 * waits = omega (arith, i.5.calls, ap (λ (x : List CallItem). length x) over.1) in
+        let few : from.stream.link.calls ≤ first.link.calls + 256 * waits = omega (arith, i.5.calls, ap (λ (x : List CallItem). length x) over.1, described_again r (handed_described polls first a m r next over.0)) in
         let begins : Begins first from (handed_from m next) (asked_from m next) waits = record {
           queued = one.turns.0;
           frames = one.turns.1;
@@ -304,7 +333,7 @@ poll_goes limits a b c r waits shown l i p =
     on_last limits.polls a.stream (Turned limits.most a.stream c waits shown Pending) (λ at asked. IsPlaying limits.most a.stream at c asked (waits + 1) shown) a r
     (λ at asked h. goes_waits at.broken limits.most a.stream at c asked waits shown h.0) (call_turns limits a b c r waits shown Pending l i p)
 
-pub poll_drops : (limits : Limits) (a b c : ConnSeen) (r : Request) (waits : ℕ) (shown : List Item) → waits + 1 ≡ limits.polls → IsCallPlaying limits a b r waits shown → PollsBy b.broken (begun_with 256 b) b c Pending → PollGives limits a c r (waits + 1) shown (Some ends.Dropped)
+pub poll_drops : (limits : Limits) (a b c : ConnSeen) (r : Request) (waits : ℕ) (shown : List Item) → waits + 1 ≡ limits.polls → IsCallPlaying limits a b r waits shown → PollsBy b.broken (begun_with 256 b) b c Pending → PollGives limits a c r (waits + 1) shown (Some (pauses.Ended ends.Dropped))
 poll_drops limits a b c r waits shown k i p =
     on_last limits.polls a.stream (Turned limits.most a.stream c waits shown Pending) (λ at asked. StopsBy limits a.stream at c asked shown ends.Dropped) a r
     (λ at asked h. drops_waiting limits at.broken a.stream at c asked waits shown k refl h.0) (call_turns limits a b c r waits shown Pending (omega (arith, k)) i p)
@@ -316,12 +345,12 @@ ends_ok limits first a c r old new answer (ends.Err e) l f h = goes_unshown limi
 ends_ok limits first a c r old new answer ends.Dropped l f h = absurd f
 
 pub poll_ok : (limits : Limits) (a b c : ConnSeen) (r : Request) (old new : Tally) (answer : CallAnswer) (end : End) → old.waits < limits.polls → Finishes answer old new end → IsCallPlaying limits a b r old.waits old.items.items → PollsBy b.broken (begun_with 256 b) b c (Ready (turns.Ok answer))
-    → PollGives limits a c r new.waits new.items.items (Some end)
+    → PollGives limits a c r new.waits new.items.items (Some (pauses.Ended end))
 poll_ok limits a b c r old new answer end l f i p =
     on_last limits.polls a.stream (Turned limits.most a.stream c old.waits old.items.items (Ready (turns.Ok answer))) (λ at asked. StopsBy limits a.stream at c asked new.items.items end) a r
     (λ at asked h. ends_ok limits a.stream at c asked old new answer end l f h) (call_turns limits a b c r old.waits old.items.items (Ready (turns.Ok answer)) l i p)
 
-pub poll_err : (limits : Limits) (a b c : ConnSeen) (r : Request) (waits : ℕ) (shown : List Item) (e : Error) → waits < limits.polls → IsCallPlaying limits a b r waits shown → PollsBy b.broken (begun_with 256 b) b c (Ready (turns.Err e)) → PollGives limits a c r waits shown (Some (ends.Err e))
+pub poll_err : (limits : Limits) (a b c : ConnSeen) (r : Request) (waits : ℕ) (shown : List Item) (e : Error) → waits < limits.polls → IsCallPlaying limits a b r waits shown → PollsBy b.broken (begun_with 256 b) b c (Ready (turns.Err e)) → PollGives limits a c r waits shown (Some (pauses.Ended (ends.Err e)))
 poll_err limits a b c r waits shown e l i p =
     on_last limits.polls a.stream (Turned limits.most a.stream c waits shown (Ready (turns.Err e))) (λ at asked. StopsBy limits a.stream at c asked shown (ends.Err e)) a r
     (λ at asked h. goes_err limits at.broken a.stream at c asked waits shown e l refl h.0) (call_turns limits a b c r waits shown (Ready (turns.Err e)) l i p)
@@ -334,19 +363,92 @@ shows limits first a c r old new item g h =
     playing_at a.broken limits.most first a c r old.waits new.waits (old.items.items ++ item_of item ∷ []) new.items.items g.0 g.1 (goes_yields a.broken limits.most first a c r old.waits old.items.items item (rw g.1 at g.2) h.0)
 
 -- the item is the last one that may be shown, or there is no memory for it
-stops_at : (limits : Limits) (first : StreamSeen) (a c : ConnSeen) (r : Request) (old new : Tally) (item : CallItem) (end : End) → old.waits < limits.polls → Adds limits item old new (Some end) → Turned limits.most first c old.waits old.items.items (Ready (turns.Item item)) a r → StopsBy limits first a c r new.items.items end
+stops_at : (limits : Limits) (first : StreamSeen) (a c : ConnSeen) (r : Request) (old new : Tally) (item : CallItem) (end : End) → old.waits < limits.polls → Adds limits item old new (Some (pauses.Ended end)) → Turned limits.most first c old.waits old.items.items (Ready (turns.Item item)) a r → StopsBy limits first a c r new.items.items end
 stops_at limits first a c r old new item ends.Dropped l g h = drops_shown limits a.broken first a c r old.waits old.items.items new.items.items item l g.1 g.2 refl h.0
 stops_at limits first a c r old new item (ends.Err e) l g h = goes_unkept limits a.broken first a c r old.waits old.items.items new.items.items item e l g.1 g.2 refl h.0
 stops_at limits first a c r old new item (ends.Ok told) l g h = absurd g
 
-pub poll_item : (limits : Limits) (a b c : ConnSeen) (r : Request) (old new : Tally) (item : CallItem) (end : Option End) → old.waits < limits.polls → Adds limits item old new end → IsCallPlaying limits a b r old.waits old.items.items → PollsBy b.broken (begun_with 256 b) b c (Ready (turns.Item item))
-    → PollGives limits a c r new.waits new.items.items end
+pub poll_item : (limits : Limits) (a b c : ConnSeen) (r : Request) (old new : Tally) (item : CallItem) (pause : Option Pause) → old.waits < limits.polls → Adds limits item old new pause → IsCallPlaying limits a b r old.waits old.items.items → PollsBy b.broken (begun_with 256 b) b c (Ready (turns.Item item))
+    → PollGives limits a c r new.waits new.items.items pause
 poll_item limits a b c r old new item None l g i p =
     on_last limits.polls a.stream (Turned limits.most a.stream c old.waits old.items.items (Ready (turns.Item item))) (λ at asked. IsPlaying limits.most a.stream at c asked new.waits new.items.items) a r
     (λ at asked h. shows limits a.stream at c asked old new item g h) (call_turns limits a b c r old.waits old.items.items (Ready (turns.Item item)) l i p)
-poll_item limits a b c r old new item (Some end) l g i p =
+poll_item limits a b c r old new item (Some pauses.Opened) l g i p = absurd g
+poll_item limits a b c r old new item (Some (pauses.Ended end)) l g i p =
     on_last limits.polls a.stream (Turned limits.most a.stream c old.waits old.items.items (Ready (turns.Item item))) (λ at asked. StopsBy limits a.stream at c asked new.items.items end) a r
     (λ at asked h. stops_at limits a.stream at c asked old new item end l g h) (call_turns limits a b c r old.waits old.items.items (Ready (turns.Item item)) l i p)
+
+-- what is open wasn't fed to its end
+opened_once : (start : Ledger) (r : Request) (said : List FrontendMessage) (hs : List Frame) (items : List CallItem) (ledger : Ledger) (call : Call) → kind_of r ≡ kinds.CopyIn → IsOpen call → CallIs start r said hs items ledger call → again r ≡ 0
+opened_once start (requests.CopyIn feed) said hs items ledger (calls.Own reply) k o i =
+    let c = i.2 in
+    let at = came feed.is_ended (Feeding false) c.own (subst (λ (p : Part). part_after (Opening feed.is_ended) c.own ≡ Some p) o c.so_far) in
+    ap (λ (b : Bool). cond b 1 0) (sym at.3)
+opened_once start (requests.CopyIn feed) said hs items ledger calls.Idle k o i = absurd o
+opened_once start (requests.CopyIn feed) said hs items ledger (calls.Asked asked) k o i = absurd o
+opened_once start (requests.CopyIn feed) said hs items ledger (calls.Waiting w) k o i = absurd o
+opened_once start (requests.CopyIn feed) said hs items ledger calls.Closing k o i = absurd o
+opened_once start _ said hs items ledger call k o i = refl
+
+-- a copy from the client is open
+opens : (o : Option ServerFault) (most : ℕ) (first : StreamSeen) (a c : ConnSeen) (r : Request) (waits : ℕ) (shown : List Item) (opened : CopyResponseData) → a.broken ≡ o → PlayBeat o most first a c r waits shown (beats.Opens opened) → IsCopying most first a c r waits shown
+opens None most first a c r waits shown opened e h =
+    let after = h.5.2 in
+    let m = h.3 in
+    let in_copy : InCopy first a m r waits h.0 h.5.0 h.5.1 = record {
+      went = after.went;
+      broken = after.broken;
+      call = after.tells.0;
+      kind = after.tells.1;
+      is_open = after.tells.2;
+      asked = after.asked;
+      room = after.room;
+      waited = after.over.waited (λ w. absurd cc);
+      calls = omega (arith, after.over.calls, opened_once a.ledger r h.5.0 (heard h.5.1) h.0 m.ledger m.call after.tells.1 after.tells.2 after.tells.0);
+    } in
+    (e, (h.0, h.5.0, h.5.1, h.1, h.2, subst (λ (x : ConnSeen). InCopy first a x r waits h.0 h.5.0 h.5.1) (sym h.4) in_copy))
+opens (Some fault) most first a c r waits shown opened e h = let x = h.1 in absurd cc
+
+pub poll_opened : (limits : Limits) (a b c : ConnSeen) (r : Request) (waits : ℕ) (shown : List Item) (opened : CopyResponseData) → waits < limits.polls → IsCallPlaying limits a b r waits shown → PollsBy b.broken (begun_with 256 b) b c (Ready (turns.Opened opened)) → PollGives limits a c r waits shown (Some pauses.Opened)
+poll_opened limits a b c r waits shown opened l i p =
+    on_last limits.polls a.stream (Turned limits.most a.stream c waits shown (Ready (turns.Opened opened))) (λ at asked. IsCopying limits.most a.stream at c asked waits shown) a r
+    (λ at asked h. opens at.broken limits.most a.stream at c asked waits shown opened refl h.0) (call_turns limits a b c r waits shown (Ready (turns.Opened opened)) l i p)
+
+kind_main : (r : Request) → kind_of r ≡ kinds.CopyIn → main_kind r ≡ kinds.CopyIn
+kind_main (requests.CopyIn feed) k = refl
+kind_main (requests.Run bound) k = absurd cc
+kind_main _ k = absurd cc
+
+unopened_in : (later : List Request) (polls most : ℕ) (first : StreamSeen) (a b : ConnSeen) (r : Request) (waits : ℕ) (shown : List Item) → (main_kind r ≡ kinds.CopyIn → ⊥) → OfLastIn later polls first (λ at asked. IsCopying most first at b asked waits shown) a r → ⊥
+unopened_in [] polls most first a b r waits shown n p = n (kind_main r p.1.5.kind)
+unopened_in (next ∷ later) polls most first a b r waits shown n (m, h, rest) =
+    unopened_in later polls most first (handed_from m next) b (asked_from m next) waits shown
+    (λ e. described_main r (handed_described polls first a m r next h) (sym (next_is r h.ends.0.0.reply h.ends.0.0.status next h.ends.0.1).0 ∙ sym (asked_main (settled m).rule next) ∙ e)) rest
+
+-- what copies nothing from the client opens no copy
+pub unopened : (limits : Limits) (old b : ConnSeen) (request : Request) (waits : ℕ) (shown : List Item) → IsUncopied request → Pauses limits (first_conn request old) b (first_exchange request old) waits shown pauses.Opened → ⊥
+unopened limits old b request waits shown u p =
+    unopened_in p.0 limits.polls limits.most (first_conn request old).stream (first_conn request old) b (first_exchange request old) waits shown (λ e. other request u (sym (asked_main (left old).rule (begun_as (left old).rule request)) ∙ e)) p.1
+  where
+    clears : (b : Bool) (statements : List ℕ) → main_kind (cond b requests.Flush (requests.Clear statements)) ≡ kinds.CopyIn → ⊥
+    clears true statements e = cc
+    clears false statements e = cc
+
+    goals_other : (goal : Goal) → goal_kind goal ≡ kinds.CopyIn → ⊥
+    goals_other (goals.Run how) e = cc
+    goals_other goals.Prepare e = cc
+
+    after_other : (after : After) → after_kind after ≡ kinds.CopyIn → ⊥
+    after_other (afters.Run bound) e = cc
+    after_other (afters.Prepare prepared) e = cc
+
+    other : (request : Request) → IsUncopied request → main_kind (begun_as (left old).rule request) ≡ kinds.CopyIn → ⊥
+    other (requests.CopyIn feed) u e = u
+    other (requests.Describe x) u e = goals_other x.goal e
+    other (requests.Evict v) u e = after_other v.after e
+    other (requests.Run bound) u e = cc
+    other (requests.Clear statements) u e = clears (nat_eq (length (left old).rule.cache.entries) 0) statements e
+    other _ u e = cc
 
 -- ---- the first poll
 
@@ -358,8 +460,16 @@ playing_runs limits a b r waits shown i = by i.0 a r i.1
     by (next ∷ later) at asked h = by later (handed_from h.0 next) (asked_from h.0 next) h.2
 
 -- a call has begun, and was not polled yet
-pub call_starts : (limits : Limits) (c : ConnSeen) (request : Request) → 0 < limits.most → IsWanted request → IsCallPlaying limits (first_conn request c) (started_call request c) (first_exchange request c) 0 []
-call_starts limits c request m w = ([], starts_on a.broken refl)
+begun_fed : (r : Request) (change : Change) → IsBegun r → change_fed r change ≡ change
+begun_fed (requests.CopyIn feed) change e = ap (λ (b : Bool). cond b changes.Fed change) e
+begun_fed _ change e = refl
+
+pub plain_begins : (r : Request) → IsUncopied r → IsBegun r
+plain_begins (requests.CopyIn feed) u = absurd u
+plain_begins _ u = tt
+
+pub call_starts : (limits : Limits) (c : ConnSeen) (request : Request) → 0 < limits.most → IsWanted request → IsBegun request → IsCallPlaying limits (first_conn request c) (started_call request c) (first_exchange request c) 0 []
+call_starts limits c request m w b = ([], starts_on a.broken refl)
   where
     a : ConnSeen
     a = first_conn request c
@@ -367,8 +477,8 @@ call_starts limits c request m w = ([], starts_on a.broken refl)
     rule : Rule
     rule = (left c).rule
 
-    changes_first : change_of (kind_of request) ≡ change_of (kind_of (first_exchange request c))
-    changes_first = sym (asked_changes rule (begun_as rule request) ∙ begun_changes rule request w)
+    changes_first : a.change ≡ change_for (first_exchange request c)
+    changes_first = first_changes rule request w
 
     none : min (0 + 0) (2 ^ 64 - 1) ≡ 0
     none = omega arith
@@ -376,12 +486,15 @@ call_starts limits c request m w = ([], starts_on a.broken refl)
     same : cleaned (idle a) ≡ ended (idle (started_call request c))
     same = ap₂ (λ (k : Rule) (n : ℕ). record (ended (idle (started_call request c))) { rule = k; earlier = n }) (wanted_stays rule request w) none
 
+    begun : a ≡ resolved (started_call request c)
+    begun = ap (λ (x : Change). record (resolved (started_call request c)) { change = x }) (begun_fed request (change_of (kind_of request)) b)
+
     starts_on : (o : Option ServerFault) → a.broken ≡ o → IsPlayingOn o limits.most a.stream a (started_call request c) (first_exchange request c) 0 []
-    starts_on None e = ([], [], [], refl, m, fresh_play a (first_exchange request c) e refl changes_first)
+    starts_on None e = ([], [], [], refl, m, subst (λ (x : ConnSeen). InPlay a.stream a x (first_exchange request c) 0 [] [] []) begun (fresh_play a (first_exchange request c) e refl changes_first))
     starts_on (Some fault) e = (e, same, refl, refl, refl, refl)
 
 -- ---- the end
 
-pub plays_call : (limits : Limits) (a c d : ConnSeen) (r : Request) (waits : ℕ) (shown : List Item) (end : End) (out : Outcome) → PollGives limits a c r waits shown (Some end) → d ≡ left c → out ≡ outcome_of d shown end → PlaysCall limits a d r out
+pub plays_call : (limits : Limits) (a c d : ConnSeen) (r : Request) (waits : ℕ) (shown : List Item) (end : End) (out : Outcome) → PollGives limits a c r waits shown (Some (pauses.Ended end)) → d ≡ left c → out ≡ outcome_of d shown end → PlaysCall limits a d r out
 plays_call limits a c d r waits shown end out g k e =
     on_last limits.polls a.stream (λ at asked. StopsBy limits a.stream at c asked shown end) (λ at asked. PlaysOne limits a.stream at d asked out) a r (λ at asked h. plays_one limits a.stream at c d asked shown end out h k e) g

@@ -106,6 +106,7 @@ queued_step o limits start first old at a b step out said fs shown items st h s 
   taken = heard-append at.frames fs;
   failed = refl;
   broken = refl;
+  unfailed = refl;
   in_turn = λ n. elim s.queued [
     | inl e ↦ absurd (n e)
     | inr q ↦ omega (arith, st.ledger, q.one, q.read, ended_next at fs, length-append at.groups s.own)

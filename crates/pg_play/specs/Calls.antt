@@ -1,5 +1,5 @@
 -- Internal: what a play of one call says, in the words of the connection.
-use Rattle.std.specs.Prelude.{◌≡◌, ◌≢◌, ℕ, min, ◌+◌, ◌-◌, ◌*◌, ◌^◌, ◌<◌, ◌≤◌, ◌⊎◌, true, false, count_by, List, [], ◌∷◌, ◌++◌, length, map, Option, Some, None, Ok}
+use Rattle.std.specs.Prelude.{◌≡◌, ◌≢◌, ℕ, min, ◌+◌, ◌-◌, ◌*◌, ◌^◌, ◌<◌, ◌≤◌, ◌⊎◌, true, false, count_by, List, [], ◌∷◌, ◌++◌, length, map, Option, Some, None, Ok, if◌then◌else◌}
 use Rattle.pg_script.specs.declared.step.Call.TheVariants as script_calls
 use Rattle.pg_wire.specs.declared.error.Error.{Error}
 use Rattle.pg_wire.specs.declared.error.Error.TheVariants as errors
@@ -13,6 +13,7 @@ use Rattle.pg_request.specs.declared.progress.CacheStep.TheVariants as cache
 use Rattle.pg_stream.specs.Links.{RoseBy, Rose, GrewBy}
 use Rattle.pg_stream.specs.Streams.{StreamSeen, Tallies, HasNone}
 use Rattle.pg_call.specs.declared.request.Request.{Request}
+use Rattle.pg_call.specs.declared.request.Request.TheVariants as requests
 use Rattle.pg_call.specs.declared.answer.CallItem.{CallItem}
 use Rattle.pg_call.specs.declared.answer.CallAnswer.{CallAnswer}
 use Rattle.pg_call.specs.declared.answer.CallAnswer.TheVariants as answers
@@ -20,8 +21,11 @@ use Rattle.pg_call.specs.declared.kind.Kind.TheVariants as kinds
 use Rattle.pg_call.specs.declared.calling.Call.TheVariants as calls
 use Rattle.pg_call.specs.Requests.{spelled, CanBeSaid, IsRefusal, change_of, keeping_of, kind_of}
 use Rattle.pg_call.specs.Drains.{is_error}
+use Rattle.pg_call.specs.Hearing.{IsOpen}
 use Rattle.pg_call.specs.Calls.{CallIs, CallEnds, EndsFine, IsFine, Leaves}
-use Rattle.pg_conn.specs.Connections.{ConnSeen, idle, ended as ended_conn, ConnOf, settled, cleaned, handed, resolved, runs, rolled_back, standing, started_call}
+use Rattle.pg_conn.specs.Connections.{ConnSeen, idle, ends_copy, unfed, ended as ended_conn, ConnOf, settled, cleaned, handed, resolved, runs, rolled_back, standing, started_call}
+use Rattle.pg_call.specs.declared.kind.Change.{Change}
+use Rattle.pg_call.specs.declared.kind.Change.TheVariants as changes
 use Rattle.pg_conn.specs.Statements.{asked_by}
 use Rattle.pg_conn.specs.Turns.{ends_request, first_exchange, EndsBy, is_flushed, HasAllRoom}
 use Rattle.pg_report.specs.declared.outcome.Item.{Item}
@@ -33,17 +37,20 @@ use Rattle.pg_script.specs.declared.step.Step.{Step}
 use Rattle.pg_startup.specs.Flows.{Flows}
 use Rattle.pg_play.specs.declared.tally.Limits.{Limits}
 use Rattle.pg_play.specs.declared.tally.Tally.{Tally}
+use Rattle.pg_play.specs.declared.tally.Pause.{Pause}
+use Rattle.pg_play.specs.declared.tally.Pause.TheVariants as pauses
 use Rattle.pg_play.specs.Shown.{asked_of, has_query, item_of, items_with, has_rows, answer_of, begins_with, acts_at_once}
 use Rattle.pg_play.specs.Waits.{WaitsAt}
 
 -- ---- the tally of a call
 
 -- one more item
-abbrev pub Adds : Limits → CallItem → Tally → Tally → Option End → Type 0
+abbrev pub Adds : Limits → CallItem → Tally → Tally → Option Pause → Type 0
 Adds limits item old new None = (new.waits ≡ old.waits) × (new.items.items ≡ old.items.items ++ item_of item ∷ []) × (length new.items.items ≢ limits.most)
-Adds limits item old new (Some ends.Dropped) = (new.waits ≡ old.waits) × (new.items.items ≡ old.items.items ++ item_of item ∷ []) × (length new.items.items ≡ limits.most)
-Adds limits item old new (Some (ends.Err e)) = (new.waits ≡ old.waits) × (new.items.items ≡ old.items.items) × (e ≡ errors.OutOfMemory)
-Adds limits item old new (Some (ends.Ok answer)) = ⊥
+Adds limits item old new (Some (pauses.Ended ends.Dropped)) = (new.waits ≡ old.waits) × (new.items.items ≡ old.items.items ++ item_of item ∷ []) × (length new.items.items ≡ limits.most)
+Adds limits item old new (Some (pauses.Ended (ends.Err e))) = (new.waits ≡ old.waits) × (new.items.items ≡ old.items.items) × (e ≡ errors.OutOfMemory)
+Adds limits item old new (Some (pauses.Ended (ends.Ok answer))) = ⊥
+Adds limits item old new (Some pauses.Opened) = ⊥
 
 -- the answer, and the items that come with it
 abbrev pub Finishes : CallAnswer → Tally → Tally → End → Type 0
@@ -83,12 +90,17 @@ pub record Counted : Type 0 where
   -- what they made of the statements that are kept
   pub cache : CacheStep
 
+-- what an exchange is to make of the transactions, and of a copy from the client: whether it was fed to its end
+abbrev pub change_for : Request → Change
+change_for (requests.CopyIn feed) = if feed.is_ended then changes.Fed else changes.Copies
+change_for request = change_of (kind_of request)
+
 -- an exchange has begun on a connection on which none ran, and is counted behind these
 abbrev pub asking : Request → Counted → ConnSeen → ConnSeen
 asking request old c = record c {
   stream = record c.stream { waits = old.waits; moves = old.moves };
   call = calls.Asked request;
-  change = change_of (kind_of request);
+  change = change_for request;
   keeping = keeping_of request;
   cache = old.cache;
   groups = 0;
@@ -111,19 +123,39 @@ all_groups c = min (c.earlier + c.groups) (2 ^ 64 - 1)
 abbrev pub IsFresh : ConnSeen → ConnSeen → Request → List Frame → Type 0
 IsFresh a b r fs = (b ≡ a) × (a.call ≡ calls.Asked r) × (fs ≡ [])
 
+-- a copy from the client had one poll more, which told that it was open
+abbrev pub again : Request → ℕ
+again (requests.CopyIn feed) = if feed.is_ended then 1 else 0
+again _ = 0
+
 -- it runs still, and has shown these items
 pub record InPlay (first : StreamSeen) (a b : ConnSeen) (r : Request) (waits : ℕ) (items : List CallItem) (said : List FrontendMessage) (fs : List Frame) : Type 0 where
   pub went : Went a b said fs
   pub broken : b.broken ≡ None
   pub call : CallIs a.ledger r said (heard fs) items b.ledger b.call
-  pub asked : a.change ≡ change_of (kind_of r)
+  pub asked : a.change ≡ change_for r
   pub room : HasAllRoom a → HasAllRoom b
   -- the polls are those of the whole call: each waited or showed an item
   pub waited : Waited waits first b.stream
-  pub calls : b.stream.link.calls ≤ first.link.calls + 256 * (waits + length items)
+  pub calls : b.stream.link.calls ≤ first.link.calls + 256 * (waits + length items + again r)
   -- what the first poll ends was not polled yet
   pub unsaid : (CanBeSaid r → ⊥) → IsFresh a b r fs
   pub unflushed : is_flushed a ≡ true → IsFresh a b r fs
+
+-- it is a copy from the client, whose data is awaited, as its last poll has told
+pub record InCopy (first : StreamSeen) (a b : ConnSeen) (r : Request) (waits : ℕ) (items : List CallItem) (said : List FrontendMessage) (fs : List Frame) : Type 0 where
+  pub went : Went a b said fs
+  pub broken : b.broken ≡ None
+  pub call : CallIs a.ledger r said (heard fs) items b.ledger b.call
+  pub kind : kind_of r ≡ kinds.CopyIn
+  pub is_open : IsOpen b.call
+  pub asked : a.change ≡ change_for r
+  pub room : HasAllRoom a → HasAllRoom b
+  pub waited : Waited waits first b.stream
+  pub calls : b.stream.link.calls ≤ first.link.calls + 256 * (waits + length items + 1)
+
+abbrev pub IsCopying : ℕ → StreamSeen → ConnSeen → ConnSeen → Request → ℕ → List Item → Type 0
+IsCopying most first a b r waits shown = (a.broken ≡ None) × ((items : List CallItem) × (said : List FrontendMessage) × (fs : List Frame) × (shown ≡ map item_of items) × (length shown < most) × InCopy first a b r waits items said fs)
 
 -- on a connection that is whole, or is broken, with fewer items than it may show
 abbrev pub IsPlayingOn : Option ServerFault → ℕ → StreamSeen → ConnSeen → ConnSeen → Request → ℕ → List Item → Type 0
@@ -206,6 +238,12 @@ EndsCall r _ = Unit {0}
 abbrev pub HasEnded : Limits → StreamSeen → ConnSeen → ConnSeen → Request → List Item → End → Type 0
 HasEnded limits first a b r shown end = (said : List FrontendMessage) × (fs : List Frame) × Ended limits first a b r shown end said fs × EndsCall r end
 
+-- what the end of a call makes of a copy from the client that it was: one that is open is failed, and of one that was fed to its end the reply stays owed
+abbrev pub copy_behind : {A : Type 0} → End → ConnOf A → ConnOf A
+copy_behind (ends.Ok answer) c = c
+copy_behind (ends.Err e) c = unfed (ends_copy e) c
+copy_behind ends.Dropped c = unfed false c
+
 -- what is made of a connection on which a call has come to this end
 abbrev pub behind_end : {A : Type 0} → End → ConnOf A → ConnOf A
 behind_end (ends.Ok answer) c = settled c
@@ -214,7 +252,7 @@ behind_end _ c = cleaned c
 -- It stopped at this connection, of which this was made: its call has ended, or it runs still and is to be given up.
 abbrev pub StopsBy : Limits → StreamSeen → ConnSeen → ConnSeen → Request → List Item → End → Type 0
 StopsBy limits first a b r shown end = (stopped : ConnSeen) × HasEnded limits first a stopped r shown end
-    × (((stopped.call ≡ calls.Idle) × (b ≡ behind_end end stopped)) ⊎ ((runs stopped.call ≡ true) × (b ≡ stopped) × (behind_end end stopped ≡ cleaned stopped)))
+    × (((stopped.call ≡ calls.Idle) × (b ≡ behind_end end (copy_behind end stopped))) ⊎ ((runs stopped.call ≡ true) × (b ≡ stopped) × (behind_end end (copy_behind end stopped) ≡ cleaned (unfed false stopped))))
 
 -- ---- a call that is played: exchanges one after another, each handed on by the one before it
 
@@ -224,7 +262,7 @@ pub record HandedOn (polls : ℕ) (first : StreamSeen) (a m : ConnSeen) (r next 
   pub fs : List Frame
   pub went : Went a m said fs
   pub whole : (a.broken ≡ None) × (m.broken ≡ None)
-  pub asked : a.change ≡ change_of (kind_of r)
+  pub asked : a.change ≡ change_for r
   pub room : HasAllRoom a → HasAllRoom m
   pub over : m.call ≡ calls.Idle
   pub ends : EndsFine a.ledger r said (heard fs) [] m.ledger (Ok (answers.Next next)) × (m.stream.unsent ≡ [])
@@ -258,10 +296,15 @@ OfLast polls first P a r = (later : List Request) × OfLastIn later polls first 
 abbrev pub IsCallPlaying : Limits → ConnSeen → ConnSeen → Request → ℕ → List Item → Type 0
 IsCallPlaying limits a b r waits shown = OfLast limits.polls a.stream (λ at asked. IsPlaying limits.most a.stream at b asked waits shown) a r
 
+-- what stops the polls: the call's end, or a copy from the client that is open
+abbrev pub Pauses : Limits → ConnSeen → ConnSeen → Request → ℕ → List Item → Pause → Type 0
+Pauses limits a b r waits shown (pauses.Ended end) = OfLast limits.polls a.stream (λ at asked. StopsBy limits a.stream at b asked shown end) a r
+Pauses limits a b r waits shown pauses.Opened = OfLast limits.polls a.stream (λ at asked. IsCopying limits.most a.stream at b asked waits shown) a r
+
 -- whatever came before, a poll goes on by so much
-abbrev pub PollGives : Limits → ConnSeen → ConnSeen → Request → ℕ → List Item → Option End → Type 0
+abbrev pub PollGives : Limits → ConnSeen → ConnSeen → Request → ℕ → List Item → Option Pause → Type 0
 PollGives limits a b r waits shown None = IsCallPlaying limits a b r waits shown
-PollGives limits a b r waits shown (Some end) = OfLast limits.polls a.stream (λ at asked. StopsBy limits a.stream at b asked shown end) a r
+PollGives limits a b r waits shown (Some pause) = Pauses limits a b r waits shown pause
 
 -- ---- the whole step
 
@@ -284,13 +327,21 @@ IsUnmade step out = (IsUnpolled step × (out ≡ untouched ends.Dropped)) ⊎ ((
 abbrev pub outcome_of : ConnSeen → List Item → End → Outcome
 outcome_of b shown end = record { items = shown; end = end; groups = all_groups b; heard = b.heard; cache = b.cache; waits = b.stream.waits; moved = b.stream.moves }
 
+-- a copy from the client is told as it was fed in the end
+abbrev pub change_fed : Request → Change → Change
+change_fed (requests.CopyIn feed) change = if feed.is_ended then changes.Fed else change
+change_fed request change = change
+
+abbrev pub as_fed : Request → ConnSeen → ConnSeen
+as_fed request c = record c { change = change_fed request c.change }
+
 -- the connection as the first exchange of a call begins
 abbrev pub first_conn : Request → ConnSeen → ConnSeen
-first_conn request a = resolved (started_call request a)
+first_conn request a = as_fed request (resolved (started_call request a))
 
 -- an exchange that ended the call, on the connection as it began
 abbrev pub PlaysOne : Limits → StreamSeen → ConnSeen → ConnSeen → Request → Outcome → Type 0
-PlaysOne limits first a b r out = (stopped : ConnSeen) × HasEnded limits first a stopped r out.items out.end × (stopped.call ≡ calls.Idle) × (b ≡ behind_end out.end stopped) × (out ≡ outcome_of b out.items out.end)
+PlaysOne limits first a b r out = (stopped : ConnSeen) × HasEnded limits first a stopped r out.items out.end × (stopped.call ≡ calls.Idle) × (b ≡ behind_end out.end (copy_behind out.end stopped)) × (out ≡ outcome_of b out.items out.end)
 
 -- a call that was polled, on the connection as it began: what ended it is the exchange that came last
 abbrev pub PlaysCall : Limits → ConnSeen → ConnSeen → Request → Outcome → Type 0

@@ -19,6 +19,9 @@ use Rattle.pg_script.specs.declared.step.Call.{Call}
 use Rattle.pg_script.specs.declared.step.Call.TheVariants as calls
 use Rattle.pg_script.specs.declared.step.Chain.TheVariants as chains
 use Rattle.pg_script.specs.declared.step.Step.{Step}
+use Rattle.pg_script.specs.declared.step.Copying.{Copying}
+use Rattle.pg_script.specs.declared.step.Fed.{Fed}
+use Rattle.pg_play.specs.Feeding.{CameOf}
 
 -- ---- a statement that is described in full: it is prepared, and then the catalog is asked of its columns whether they may be null
 
@@ -78,10 +81,16 @@ IsDescribed step sql out parts told =
     ((first : Outcome) × (end : End) × (parts ≡ preparing step sql ∷ []) × (told ≡ first ∷ []) × EndsAlone first.end end × (out ≡ record first { end = end }))
     ⊎ ((first later : Outcome) × (query : QueryText) × (parts ≡ preparing step sql ∷ asking_nulls step first.waits query ∷ []) × (told ≡ first ∷ later ∷ []) × AsksBehind first.end query × (out ≡ told_both first later))
 
+-- ---- a copy from the client: one call, which is told as it was fed
+
+abbrev pub IsCopied : Step → Copying → Outcome → List Step → List Outcome → Type 0
+IsCopied step copying out parts told = (fed : Fed) × CameOf copying fed × (parts ≡ record step { call = calls.Feed fed } ∷ []) × (told ≡ out ∷ [])
+
 -- ---- the calls of a step, and what came of each
 
 abbrev pub IsChainedAs : Call → Step → Outcome → List Step → List Outcome → Type 0
 IsChainedAs (calls.Chain (chains.Describe sql)) step out parts told = IsDescribed step sql out parts told
+IsChainedAs (calls.Chain (chains.CopyIn copying)) step out parts told = IsCopied step copying out parts told
 IsChainedAs call step out parts told = (parts ≡ step ∷ []) × (told ≡ out ∷ [])
 
 abbrev pub IsChained : Step → Outcome → List Step → List Outcome → Type 0

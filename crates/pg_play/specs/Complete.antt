@@ -1,5 +1,5 @@
 -- How a step may end where nobody failed: neither the link nor the server.
-use Rattle.std.specs.Prelude.{◌≡◌, ◌+◌, ◌*◌, ◌≤◌, ◌⊎◌, ℕ, true, List, [], ◌∷◌, ◌++◌, length, map, ◌≢◌}
+use Rattle.std.specs.Prelude.{◌≡◌, ◌+◌, ◌*◌, ◌≤◌, ◌⊎◌, ℕ, true, false, List, [], ◌∷◌, ◌++◌, length, map, ◌≢◌}
 use Rattle.pg_wire.specs.declared.status.TransactionStatus.TheVariants as statuses
 use Rattle.std.specs.List.{AllByRecursion}
 use Rattle.pg_wire.specs.declared.error.Error.{Error}
@@ -10,6 +10,7 @@ use Rattle.pg_wire.specs.Frame.{Frame, backend_tags, text_of}
 use Rattle.pg_wire.specs.Cut.{Cuts}
 use Rattle.pg_wire.specs.Parts.{heard, is_asynchronous}
 use Rattle.pg_wire.specs.Frontend.{frontend_frame}
+use Rattle.pg_wire.specs.Groups.{IsGroup}
 use Rattle.pg_wire.specs.Server.{IsPrefixOf, AreReplies}
 use Rattle.pg_stream.specs.Links.{LinkSeen, Rose}
 use Rattle.pg_stream.specs.Streams.{HeaderFault}
@@ -34,6 +35,8 @@ pub record IsFaultless (first : LinkSeen) (at : Place) (sent read : List Frame) 
   pub headers : (fault : ServerFault) → HeaderFault rest fault → ⊥
   pub asides : AllByRecursion (λ frame. is_asynchronous frame ≡ true → IsSaid frame) read
   pub replies : AreReplies sent (heard read)
+  -- and nothing was copied from the client
+  pub uncopied : (at.has_failed ≡ false) × AllByRecursion IsGroup at.groups
 
 -- an error that is neither the link's nor the server's fault: want of memory; an error of the database; no row where one is wanted; a text of
 -- the caller's that no frame can carry, or that would open a savepoint; a begin behind which no transaction is open; or a reply without a copy to

@@ -2,6 +2,8 @@ pub mod Shown
 pub mod Waits
 pub mod Calls
 pub mod Places
+pub mod Copying
+pub mod Feeding
 pub mod Told
 pub mod Settling
 pub mod WaitPlaces

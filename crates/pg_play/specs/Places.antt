@@ -1,5 +1,5 @@
 -- Where a play stands, and what a step queues and hears.
-use Rattle.std.specs.Prelude.{◌≡◌, ◌≢◌, ℕ, ◌+◌, ◌-◌, ◌≤◌, Bool, true, false, not, ◌&&◌, ◌==◌, List, [], ◌∷◌, ◌++◌, length, take, drop, replicate, Option, None, unwrap_or, slice_get, count_by, nat_le, if◌then◌else◌, MatchBool}
+use Rattle.std.specs.Prelude.{◌≡◌, ◌≢◌, ℕ, ◌+◌, ◌-◌, ◌≤◌, ◌⊎◌, Bool, true, false, not, ◌&&◌, ◌==◌, List, [], ◌∷◌, ◌++◌, length, take, drop, replicate, Option, None, unwrap_or, slice_get, count_by, nat_le, if◌then◌else◌, MatchBool}
 use Rattle.std.specs.List.{list_any}
 use Rattle.pg_wire.specs.declared.error.Error.TheVariants as errors
 use Rattle.pg_wire.specs.declared.error.ProtocolFault.TheVariants as protocol
@@ -11,7 +11,9 @@ use Rattle.pg_wire.specs.Server.{IsPrefixOf}
 use Rattle.pg_stream.specs.Streams.{StreamSeen}
 use Rattle.pg_rule.specs.declared.rule.Rule.{Rule}
 use Rattle.pg_rule.specs.Rules.{new_rule}
-use Rattle.pg_call.specs.Requests.{Group, said_in, groups_of, CanBeSaid, copy_fail}
+use Rattle.pg_wire.specs.Groups.{IsGroup}
+use Rattle.pg_call.specs.declared.feed.Feed.{Feed}
+use Rattle.pg_call.specs.Requests.{Group, said_in, groups_of, CanBeSaid, copy_fail, feeding}
 use Rattle.pg_call.specs.Drains.{is_copy_in}
 use Rattle.pg_report.specs.declared.outcome.End.{End}
 use Rattle.pg_report.specs.declared.outcome.End.TheVariants as ends
@@ -35,10 +37,16 @@ pub record Place : Type 0 where
   pub broken : Option ServerFault
   -- what is known of the session: how many transactions and savepoints are open, and which statements are kept
   pub rule : Rule
+  -- whether a copy from the client that was open has been failed
+  pub has_failed : Bool
 
 -- behind start-up, where so many statements may be kept
 abbrev pub first_place : ℕ → StreamSeen → Place
-first_place capacity s = record { seen = s; said = []; groups = []; frames = []; is_copy_failed = false; broken = None; rule = new_rule capacity }
+first_place capacity s = record { seen = s; said = []; groups = []; frames = []; is_copy_failed = false; broken = None; rule = new_rule capacity; has_failed = false }
+
+-- a request group is one of the simple or the extended query, or a copy from the client with its data ("COPY Operations")
+abbrev pub IsRequestGroup : Group → Type 0
+IsRequestGroup group = IsGroup group ⊎ ((feed : Feed) × (group ≡ feeding feed))
 
 -- how many ReadyForQuery are among frames
 abbrev pub readies : List Frame → ℕ
@@ -107,5 +115,6 @@ pub record Queued (at : Place) (step : Step) (out : Outcome) (own : List Group) 
   pub taken : heard next.frames ≡ heard at.frames ++ slice
   pub failed : next.is_copy_failed ≡ failed_next at own slice out.end
   pub broken : next.broken ≡ broken_after at.broken out.end
+  pub unfailed : next.has_failed ≡ at.has_failed
   -- a group is queued only where the ReadyForQuery of each group before it was taken
   pub in_turn : own ≢ [] → length next.groups ≤ ended next + 1

@@ -4,8 +4,9 @@ use Rattle.pg_play.specs.Idles.{KeepsOrder, SaysIdle, statuses}
 use Rattle.pg_report.specs.declared.outcome.Answer.TheVariants.{Unit as AnswersUnit}
 use Rattle.pg_play.specs.Calls.{PlaysStep, untouched, limits_of}
 use Rattle.pg_play.specs.Chains.{AreChained, IsChained}
-use Rattle.pg_play.specs.Shown.{acts_at_once, first_call, next_call, request_of}
+use Rattle.pg_play.specs.Shown.{acts_at_once, first_call, is_fed, next_call, request_of}
 use Rattle.pg_play.specs.Settling.{Settles}
+use Rattle.pg_play.specs.Copying.{LeavesCopy}
 use Rattle.std.specs.List.{AllByRecursion}
 use Rattle.pg_wire.specs.declared.error.Error.TheVariants as errors
 use Rattle.pg_wire.specs.declared.error.ProtocolFault.TheVariants as protocol
@@ -42,7 +43,7 @@ use Rattle.pg_startup.specs.Exchange.{client_of}
 use Rattle.pg_startup.specs.Flows.{Flows}
 use Rattle.pg_startup.specs.Handshake.{IsHandshake, IsSecured}
 use Rattle.pg_play.specs.Starts.{Opening, HasWaitedLess}
-use Rattle.pg_play.specs.Places.{Place, Queued, queued_by, ended, owed, first_place, is_fine}
+use Rattle.pg_play.specs.Places.{Place, IsRequestGroup, Queued, queued_by, ended, owed, first_place, is_fine}
 use Rattle.pg_play.specs.Told.{Told, Numbers, CountsTo}
 use Rattle.pg_play.specs.Causes.{HasCause, IsDropped, EndsDuly, KeepsFault, IsFront}
 use Rattle.pg_play.specs.Complete.{WhereFaultless}
@@ -50,9 +51,9 @@ use Rattle.pg_play.specs.Kept.{Keeps, named_of}
 use Rattle.pg_exchanges.specs.Keeping.{Keeps as ServerKeeps}
 use Rattle.pg_play.specs.WaitPlaces.{WaitPlaces, LastPlaces}
 
--- where all that was heard, the frame in front too, are replies of a server to the groups, no exchange is told that they are unlawful
+-- where all that was heard, the frame in front too, are replies of a server to the groups, and none of these is a copy from the client, no exchange is told that they are unlawful
 abbrev pub IsNeverUnlawful : Place → Outcome → Place → Type 0
-IsNeverUnlawful at out next = (tag : ℕ) (front : Frame) → at.broken ≡ None → out.end ≡ ends.Err (errors.Protocol (protocol.Server (faults.Unlawful tag))) → IsFront next front
+IsNeverUnlawful at out next = (tag : ℕ) (front : Frame) → AllByRecursion IsGroup next.groups → at.broken ≡ None → out.end ≡ ends.Err (errors.Protocol (protocol.Server (faults.Unlawful tag))) → IsFront next front
     → MayHear (said_in next.groups) (heard next.frames ++ front ∷ []) → ⊥
 
 -- ---- an exchange: a request group and its response
@@ -78,7 +79,10 @@ pub record Plays_exchange (at : Place) (step : Step) (out : Outcome) (next : Pla
   pub told : Outcome
   pub ended_at : Place
   pub call : Plays_call at step told ended_at
-  pub settles : Settles at step told out call.own call.told.response ended_at next
+  -- what is left of a copy from the client
+  pub left_at : Place
+  pub leaves : LeavesCopy step.call call.own told.end ended_at left_at
+  pub settles : Settles at step told out call.own call.told.response left_at next
   pub lawful : IsNeverUnlawful at told ended_at
   pub waits : WaitPlaces at out next
   pub counts : NoneFalls at.seen.link next.seen.link
@@ -255,10 +259,10 @@ pub record StandsAt (start : StreamSeen) (at : Place) (c : ConnSeen) : Type 0 wh
   pub room : HasAllRoom c
   pub idle : c.call ≡ calls.Idle
   pub sayable : AllByRecursion HasFrontendFrame at.said
-  pub are_groups : AllByRecursion IsGroup at.groups
+  pub are_groups : AllByRecursion IsRequestGroup at.groups
   -- where nothing is owed, nothing was heard behind the last response
   pub between : c.ledger.owed ≡ 0 → after_readys (length at.groups) (heard at.frames) ≡ []
-  pub plain : AsksForNoCopy (heard at.frames) → at.said ≡ said_in at.groups
+  pub plain : AsksForNoCopy (heard at.frames) → at.has_failed ≡ false → at.said ≡ said_in at.groups
   pub requests : count_by ends_request at.said ≡ length at.groups
 
 -- Internal: whatever place it began at, the play stands at a later one.
@@ -339,7 +343,11 @@ pub record IsLawful (at : Place) (outs : List Outcome) : Type 0 where
   pub none_unlawful : NoneUnlawful outs
 
 abbrev pub WhereLawful : Place → List Outcome → Type 0
-WhereLawful at outs = (sent read : List Frame) (rest : List ℕ) → IsPrefixOf sent (map frontend_frame at.said) → Cuts backend_tags (text_of at.frames ++ at.seen.held) read rest → AreReplies sent (heard read) → IsLawful at outs
+WhereLawful at outs = at.has_failed ≡ false → AllByRecursion IsGroup at.groups → (sent read : List Frame) (rest : List ℕ) → IsPrefixOf sent (map frontend_frame at.said) → Cuts backend_tags (text_of at.frames ++ at.seen.held) read rest → AreReplies sent (heard read) → IsLawful at outs
+
+-- no step copies from the client
+abbrev pub CopyNone : List Step → Type 0
+CopyNone steps = AllByRecursion (λ step. is_fed step.call ≡ false) steps
 
 -- These calls were played behind a start-up, from the place where nothing is said and taken yet.
 pub record PlaysCalls (opening : Opening) (polls : ℕ) (first last : LinkSeen) (started : Started) (steps : List Step) (outs : List Outcome) : Type 0 where
@@ -355,7 +363,7 @@ pub record PlaysCalls (opening : Opening) (polls : ℕ) (first last : LinkSeen) 
   pub bytes : TellsBytes opening first last started place
   -- each message queued has a frame, and the groups are closed request groups
   pub can : AllByRecursion HasFrontendFrame place.said
-  pub groups : AllByRecursion IsGroup place.groups
+  pub groups : AllByRecursion IsRequestGroup place.groups
   pub at_link : place.seen.link ≡ last
   pub totals : Totals begins.link last outs
   pub waits : LastPlaces first last outs (places_in (first_place opening.options.statement_cache_capacity begins) steps outs place plays)
@@ -365,10 +373,12 @@ pub record PlaysCalls (opening : Opening) (polls : ℕ) (first last : LinkSeen) 
   -- as the replies owed can be counted.
   pub idle : length place.groups < 2 ^ 64 - 1 → IdlesWhereOrderly (statuses bytes.session.status (heard place.frames)) (first_place opening.options.statement_cache_capacity begins) steps outs place plays
   pub lawful : WhereLawful place outs
+  -- where no step copies from the client, none was failed, and no group is one
+  pub uncopied : CopyNone steps → (place.has_failed ≡ false) × AllByRecursion IsGroup place.groups
   -- where neither the link nor the server failed, no step ends by a fault of theirs
   pub complete : WhereFaultless first place steps outs
-  -- the groups alone are said, where no server asks for a copy
-  pub plain : AsksForNoCopy (heard place.frames) → place.said ≡ said_in place.groups
+  -- the groups alone are said, where no server asks for a copy, and none from the client was failed
+  pub plain : AsksForNoCopy (heard place.frames) → place.has_failed ≡ false → place.said ≡ said_in place.groups
 
 -- The steps were played: each is one call, or a chain of some, and all calls were played in order.
 abbrev pub Plays : Opening → ℕ → LinkSeen → LinkSeen → Started → List Step → List Outcome → Type 0

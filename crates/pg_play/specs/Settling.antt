@@ -89,6 +89,7 @@ pub record Settles (at : Place) (step : Step) (told out : Outcome) (own : List G
   pub frames : next.frames ≡ ended_at.frames
   pub failed : next.is_copy_failed ≡ failed_behind cleanup ended_at
   pub broken : next.broken ≡ ended_at.broken
+  pub unfailed : next.has_failed ≡ ended_at.has_failed
   -- the outcome counts the groups of the cleanup too, and says what was made of the statements
   pub outcome : out ≡ record told { groups = out.groups; cache = out.cache }
   pub cache : out.cache ≡ step_after (keeping_of (request_of at.rule.depth step.call)) (has_moved own told.end)

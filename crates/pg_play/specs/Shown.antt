@@ -3,7 +3,7 @@ use Rattle.std.specs.Prelude.{◌≡◌, ℕ, ◌-◌, ◌^◌, min, Bool, true,
 use Rattle.pg_rows.specs.Rows.{RowSeen}
 use Rattle.pg_wire.specs.Backend.{BackendMessage, DataRow, CommandComplete, BackendCopyData}
 use Rattle.pg_wire.specs.Completion.{rows_affected}
-use Rattle.pg_request.specs.Queries.{QueryText, ArgumentsSeen}
+use Rattle.pg_request.specs.Queries.{QueryText, ArgumentsSeen, plain_text}
 use Rattle.pg_rule.specs.declared.rule.Rule.{Rule}
 use Rattle.pg_rule.specs.Caches.{entry_at}
 use Rattle.pg_conn.specs.States.{to_prepare}
@@ -12,6 +12,7 @@ use Rattle.pg_call.specs.Calls.{next_of}
 use Rattle.pg_call.specs.declared.kind.How.{How}
 use Rattle.pg_call.specs.declared.kind.How.TheVariants as hows
 use Rattle.pg_call.specs.declared.statement.Prepared.{Prepared}
+use Rattle.pg_call.specs.declared.feed.Feed.{Feed}
 use Rattle.pg_call.specs.declared.request.Request.{Request}
 use Rattle.pg_call.specs.declared.request.Request.TheVariants as requests
 use Rattle.pg_call.specs.declared.answer.CallItem.{CallItem}
@@ -23,12 +24,17 @@ use Rattle.pg_report.specs.declared.outcome.Item.TheVariants.{Row, Count, Piece}
 use Rattle.pg_report.specs.declared.outcome.Answer.{Answer}
 use Rattle.pg_report.specs.declared.outcome.Answer.TheVariants.{Unit as AnswersUnit, Total, Described}
 use Rattle.pg_script.specs.declared.step.Call.{Call}
+use Rattle.pg_script.specs.declared.step.Fed.{Fed}
 use Rattle.pg_script.specs.declared.step.Call.TheVariants as calls
 
 -- what ends a transaction or a savepoint where so many are open: nothing is asked where none is
 abbrev pub ending : (ℕ → Request) → ℕ → Request
 ending ends zero = requests.Flush
 ending ends (suc left) = ends left
+
+-- a copy from the client as it was fed
+abbrev pub feed_of : Fed → Feed
+feed_of fed = record { query = plain_text fed.sql; pieces = fed.pieces; is_ended = fed.is_ended }
 
 -- What an exchange asks of a connection on which so many transactions and savepoints are open. A rollback without waiting is no call of the connection, a chain is
 -- some of them, and what to prepare and to clear is no exchange yet: they ask nothing.
@@ -56,6 +62,7 @@ request_of depth (calls.Run bound) = requests.Run bound
 request_of depth (calls.Evict eviction) = requests.Evict eviction
 request_of depth (calls.Tell prepared) = requests.Prepare prepared
 request_of depth (calls.CloseAll statements) = requests.Clear statements
+request_of depth (calls.Feed fed) = requests.CopyIn (feed_of fed)
 
 -- what a step asks: what is but an exchange of a call asks nothing
 abbrev pub asked_of : ℕ → Call → Request
@@ -75,6 +82,16 @@ IsWanted (requests.Run bound) = ⊥
 IsWanted (requests.Evict eviction) = ⊥
 IsWanted (requests.Prepare prepared) = prepared.columns ≡ None
 IsWanted _ = Unit {0}
+
+-- what is asked at first: a copy from the client with none of its data
+abbrev pub IsBegun : Request → Type 0
+IsBegun (requests.CopyIn feed) = feed.is_ended ≡ false
+IsBegun _ = Unit {0}
+
+-- no copy from the client
+abbrev pub IsUncopied : Request → Type 0
+IsUncopied (requests.CopyIn feed) = ⊥
+IsUncopied _ = Unit {0}
 
 -- ---- the exchanges of a call
 
@@ -153,7 +170,13 @@ begins_with _ = false
 -- whether it asks for a copy, and so for another answer than one without
 abbrev pub copies : Call → Bool
 copies (calls.CopyOut query) = true
+copies (calls.Feed fed) = true
 copies _ = false
+
+-- whether it is a copy from the client, as it came
+abbrev pub is_fed : Call → Bool
+is_fed (calls.Feed fed) = true
+is_fed _ = false
 
 -- whether it acts at once, without a poll
 abbrev pub acts_at_once : Call → Bool
@@ -245,6 +268,7 @@ described_as prepared = Described prepared.parameters (unwrap_or prepared.column
 
 abbrev pub answered_by : Call → List Item → Answer
 answered_by (calls.Tell prepared) items = described_as prepared
+answered_by (calls.Feed fed) items = answered_how (Some hows.Execute) items
 answered_by call items = answered_how (how_of call) items
 
 -- whether it must have a row

@@ -1,6 +1,6 @@
 ghost use Rattle.std.specs.Prelude.{◌≡◌, true, IfOk, OnErr};
 ghost use Rattle.pg_conn.specs.States.{to_prepare};
-ghost use Rattle.pg_play.specs.Shown.{asked_of, has_query};
+ghost use Rattle.pg_play.specs.Shown.{IsUncopied, asked_of, has_query};
 
 use pg_call::{Keeping, Prepared};
 use pg_conn::{Preparation, Request};
@@ -22,9 +22,10 @@ fn preparing(alloc: Global, preparation: &Preparation) -> Result<Request, Error>
     }))
 }
 
-/// What the call of a step asks of a connection on which so many transactions and savepoints are open, in a copy of its own.
+/// What the call of a step asks of a connection on which so many transactions and savepoints are open, in a copy of its own. A copy from the client as it came is not asked for.
 pub(crate) fn request_of(alloc: Global, depth: u64, call: &Call) -> Result<Request, Error>
     ensures ok { IfOk result (λ r. r ≡ asked_of depth call.now) }
+    ensures plain { IfOk result IsUncopied }
     ensures err { OnErr result (has_query call.now ≡ true) }
 {
     Ok(match call {
@@ -43,6 +44,7 @@ pub(crate) fn request_of(alloc: Global, depth: u64, call: &Call) -> Result<Reque
         Call::Prepare(preparation) => preparing(alloc, preparation)?,
         Call::Clear => Request::Clear(Sequence::new(alloc)),
         Call::CopyOut(query) => Request::CopyOut(query.to_copy(alloc)?),
+        Call::Feed(_) => return Err(Error::OutOfMemory),
         Call::Commit
         | Call::Rollback
         | Call::Flush

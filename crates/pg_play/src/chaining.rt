@@ -8,6 +8,7 @@ ghost use Rattle.pg_play.specs.Plays.{PlaysChain, PlaysInOrder};
 ghost use Rattle.pg_report.specs.declared.outcome.Outcome as declared_outcome;
 ghost use Rattle.pg_script.specs.declared.step.Step as declared_step;
 
+use crate::copying::copy_in;
 use crate::stepping::{play_step, unmade};
 use pg_conn::{PgConnection, Preparation, Query};
 use pg_nullable::nulls_query;
@@ -135,6 +136,7 @@ pub(crate) fn play_chain<L: Link>(alloc: Global, conn: &mut PgConnection<L>, ste
     match &step.call {
         Call::Chain(chain) => match chain {
             Chain::Describe(sql) => describe(alloc, conn, step, sql),
+            Chain::CopyIn(copying) => copy_in(alloc, conn, step, copying),
         },
         _ => play_step(alloc, conn, step),
     }

@@ -9,6 +9,7 @@ mod asking;
 mod chaining;
 mod command;
 mod connecting;
+mod copying;
 mod ending;
 pub mod laws;
 mod live;

@@ -1,13 +1,13 @@
-ghost use Rattle.std.specs.Prelude.{◌≡◌, ◌<◌, ◌+◌, ◌-◌, ◌^◌, true, List, ℕ, None, length};
+ghost use Rattle.std.specs.Prelude.{◌≡◌, ◌<◌, ◌+◌, ◌-◌, ◌^◌, true, List, ℕ, None, Some, length};
 ghost use Rattle.pg_request.specs.declared.progress.CacheStep.TheVariants as cache;
-ghost use Rattle.pg_conn.specs.Connections.{ConnSeen, seen_by, runs};
+ghost use Rattle.pg_conn.specs.Connections.{ConnSeen, left, seen_by, runs};
 ghost use Rattle.pg_call.specs.declared.request.Request.{Request};
 ghost use Rattle.pg_conn.specs.Turns.{first_exchange};
-ghost use Rattle.pg_play.specs.Calls.{IsCallPlaying, IsUnmade, PollGives, PlaysCall, PlaysPolled, PlaysStep, first_conn, untouched};
-ghost use Rattle.pg_play.specs.Shown.{IsWanted};
+ghost use Rattle.pg_play.specs.Calls.{IsCallPlaying, IsUnmade, Pauses, PollGives, PlaysCall, PlaysPolled, PlaysStep, first_conn, outcome_of, untouched};
+ghost use Rattle.pg_play.specs.Shown.{IsUncopied, IsWanted};
 
 use crate::asking::request_of;
-use crate::tally::{Limits, Tally};
+use crate::tally::{Limits, Pause, Tally};
 use pg_conn::{CacheStep, PgConnection, Progress, Request, Turn};
 use pg_report::{Answer, End, Item, Outcome};
 use pg_script::{Call, Step};
@@ -15,32 +15,55 @@ use pg_stream::Link;
 use pg_wire::{Error, Poll, Sequence};
 use std::alloc::Global;
 
-// One poll of the running call, which ends it where it has waited often enough.
+// One poll of the running call, and whether it stops the polls: at its end, where it has waited often enough, or where a copy from the client is open.
 fn poll_once<L: Link>(
     alloc: Global,
     conn: &mut PgConnection<L>,
     tally: &mut Tally,
     limits: Limits,
-) -> Option<End>
+) -> Option<Pause>
     requires runs { runs conn.old.call ≡ true }
     requires waits { tally.old.waits < limits.polls }
     ensures gives { (a : ConnSeen) (r : Request) → IsCallPlaying limits a (seen_by L.seen conn.old) r tally.old.waits tally.old.items.items
         → PollGives limits a (seen_by L.seen conn.new) r tally.new.waits tally.new.items.items result }
     ensures goes { result ≡ None → tally.new.waits < limits.polls }
+    ensures opens { result ≡ Some Pause.Opened → tally.new.waits < limits.polls }
     ensures falls { result ≡ None → (limits.polls - tally.new.waits) + (2 ^ 64 - length tally.new.items.items) < (limits.polls - tally.old.waits) + (2 ^ 64 - length tally.old.items.items) }
 {
     match conn.poll_call() {
         Poll::Pending => {
             tally.waits += 1;
             if tally.waits == limits.polls {
-                Some(End::Dropped)
+                Some(Pause::Ended(End::Dropped))
             } else {
                 None
             }
         }
         Poll::Ready(Turn::Item(item)) => tally.add(item, limits),
-        Poll::Ready(Turn::Ok(answer)) => Some(tally.finish(alloc, answer)),
-        Poll::Ready(Turn::Err(e)) => Some(End::Err(e)),
+        Poll::Ready(Turn::Ok(answer)) => Some(Pause::Ended(tally.finish(alloc, answer))),
+        Poll::Ready(Turn::Err(e)) => Some(Pause::Ended(End::Err(e))),
+        Poll::Ready(Turn::Opened(_)) => Some(Pause::Opened),
+    }
+}
+
+/// Polls the running call until something stops the polls.
+pub(crate) fn poll_on<L: Link>(
+    alloc: Global,
+    conn: &mut PgConnection<L>,
+    tally: &mut Tally,
+    limits: Limits,
+) -> Pause
+    requires playing { (a : ConnSeen) × (r : Request) × IsCallPlaying limits a (seen_by L.seen conn.old) r tally.old.waits tally.old.items.items }
+    requires waits { tally.old.waits < limits.polls }
+    ensures pauses { (a : ConnSeen) (r : Request) → IsCallPlaying limits a (seen_by L.seen conn.old) r tally.old.waits tally.old.items.items
+        → Pauses limits a (seen_by L.seen conn.new) r tally.new.waits tally.new.items.items result }
+    ensures opens { result ≡ Pause.Opened → tally.new.waits < limits.polls }
+{
+    loop {
+        match poll_once(alloc, conn, tally, limits) {
+            None => {}
+            Some(pause) => return pause,
+        }
     }
 }
 
@@ -59,8 +82,8 @@ fn outcome(items: Vec<Item>, end: End, progress: Progress) -> Outcome
     }
 }
 
-// What came of a step that did nothing.
-fn untouched(alloc: Global, end: End) -> Outcome
+/// What came of a step that did nothing.
+pub(crate) fn untouched(alloc: Global, end: End) -> Outcome
     ensures { result ≡ untouched end }
 {
     let progress = Progress {
@@ -84,7 +107,16 @@ pub(crate) fn unmade(alloc: Global, step: &Step) -> Outcome
     }
 }
 
-// Polls a call until it ends, or is dropped.
+/// What came of a call that came to this end: it is given up, where it runs still.
+pub(crate) fn stop<L: Link>(conn: &mut PgConnection<L>, tally: Tally, end: End) -> Outcome
+    ensures left { conn.new ≡ left conn.old }
+    ensures tells { result ≡ outcome_of (seen_by L.seen conn.new) tally.items.items end }
+{
+    conn.abandon();
+    outcome(tally.items, end, conn.progress())
+}
+
+// Polls a call until it ends, or is dropped. It copies nothing from the client.
 fn play_call<L: Link>(
     alloc: Global,
     conn: &mut PgConnection<L>,
@@ -92,20 +124,16 @@ fn play_call<L: Link>(
     limits: Limits,
 ) -> Outcome
     requires wanted { IsWanted request }
+    requires plain { IsUncopied request }
     requires polls { 0 < limits.polls }
     requires most { 0 < limits.most }
     ensures { PlaysCall limits (first_conn request (seen_by L.seen conn.old)) (seen_by L.seen conn.new) (first_exchange request (seen_by L.seen conn.old)) result }
 {
     conn.start(request);
     let mut tally = Tally::new(alloc);
-    loop {
-        match poll_once(alloc, conn, &mut tally, limits) {
-            None => {}
-            Some(end) => {
-                conn.abandon();
-                return outcome(tally.items, end, conn.progress());
-            }
-        }
+    match poll_on(alloc, conn, &mut tally, limits) {
+        Pause::Ended(end) => stop(conn, tally, end),
+        Pause::Opened => stop(conn, tally, End::Dropped),
     }
 }
 

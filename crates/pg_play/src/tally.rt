@@ -17,6 +17,14 @@ pub(crate) struct Limits {
     pub(crate) most: u32,
 }
 
+/// What stops the polls of a call.
+#[derive(Drop)]
+pub(crate) enum Pause {
+    Ended(End),
+    /// A copy from the client is open: its data is awaited.
+    Opened,
+}
+
 /// What a call has shown so far, and how often it has waited.
 #[derive(Drop)]
 pub(crate) struct Tally {
@@ -46,15 +54,15 @@ impl Tally {
     }
 
     /// One more item, which ends the call where it is the last that it may show, or where there is no memory for it.
-    pub(crate) fn add(&mut self, item: CallItem, limits: Limits) -> Option<End>
+    pub(crate) fn add(&mut self, item: CallItem, limits: Limits) -> Option<Pause>
         ensures adds { Adds limits item self.old self.new result }
         ensures falls { result ≡ None → (2 ^ 64 - length self.new.items.items) < (2 ^ 64 - length self.old.items.items) }
     {
         match self.items.push(item_of(item)) {
-            Err(_) => Some(End::Err(Error::OutOfMemory)),
+            Err(_) => Some(Pause::Ended(End::Err(Error::OutOfMemory))),
             Ok(()) => {
                 if self.items.len() == limits.most as usize {
-                    Some(End::Dropped)
+                    Some(Pause::Ended(End::Dropped))
                 } else {
                     None
                 }

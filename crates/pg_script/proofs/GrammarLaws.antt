@@ -18,9 +18,10 @@ use Rattle.pg_script.specs.declared.line.Line.{Line}
 use Rattle.pg_script.specs.declared.line.Line.TheVariants as lines
 use Rattle.pg_script.specs.Reading.{◌>>=◌}
 use Rattle.pg_script.specs.Arguments.{alone, bytes_arg, text_in, text_arg, nonce_arg, mode_arg, pair_arg, number_arg, last_number, digits_arg}
-use Rattle.pg_script.specs.Asking.{query_arg, asked_arg, prepare_arg}
+use Rattle.pg_script.specs.Asking.{query_arg, asked_arg, prepare_arg, copying_arg}
+use Rattle.pg_script.proofs.CopyingLaws.{copying_takes, copying_again, pieces_apart}
 use Rattle.pg_script.specs.Lines.{call_with, call_arg, take_of, take_line, most_arg, step_line, link_line, line_with, line_from}
-use Rattle.pg_script.specs.Grammar.{Asked, Raw, Kept, Once, query_tokens, asked_tokens, preparation_tokens, tokens_of, call_tokens, IsUnicode, QueryFits, AskedFits, LineFits, CallFits}
+use Rattle.pg_script.specs.Grammar.{Asked, Raw, Kept, Once, query_tokens, asked_tokens, copying_tokens, preparation_tokens, tokens_of, call_tokens, IsUnicode, QueryFits, AskedFits, LineFits, CallFits}
 use Rattle.pg_options.specs.declared.ssl_mode.PgSslMode.{PgSslMode}
 use Rattle.pg_script.specs.Nonces.{IsNonce, is_nonce, nonce_in}
 use Rattle.pg_script.proofs.Found.{bind_some, utf8_takes}
@@ -206,6 +207,7 @@ call_takes call_words.Rollback rest c e = bare IsCall calls.Rollback (words.Call
 call_takes call_words.StartRollback rest c e = bare IsCall calls.StartRollback (words.Call call_words.StartRollback) (nothing, refl, tt) rest c e
 call_takes call_words.Prepare rest c e = made IsCall prepare_arg preparation_tokens PreparationFits (λ p. calls.Prepare p) (words.Call call_words.Prepare) prepare_takes (λ p f. (nothing, refl, f)) rest c e
 call_takes call_words.Clear rest c e = bare IsCall calls.Clear (words.Call call_words.Clear) (nothing, refl, tt) rest c e
+call_takes call_words.CopyIn rest c e = made IsCall copying_arg copying_tokens (λ q. IsUnicode q.sql) (λ q. calls.Chain (chains.CopyIn q)) (words.Call call_words.CopyIn) copying_takes (λ q f. (nothing, refl, f)) rest c e
 call_takes call_words.CopyOut rest c e = made IsCall query_arg (λ q. query_tokens q.sql) QueryFits (λ q. calls.CopyOut q) (words.Call call_words.CopyOut) query_takes (λ q f. (nothing, refl, f)) rest c e
 call_takes call_words.Describe rest c e = made IsCall text_arg text_tokens IsUnicode (λ s. calls.Chain (chains.Describe s)) (words.Call call_words.Describe) text_takes (λ s f. (nothing, refl, f)) rest c e
 
@@ -238,7 +240,9 @@ call_again asked (calls.Prepare p) f = record { read = rw (prepare_again p f) re
 call_again asked calls.Clear f = record { read = refl; plain = refl; parts = refl }
 call_again asked (calls.CopyOut q) f = record { read = rw f.0 (ap (λ (r : QueryText). Some (calls.CopyOut r)) (sym f.1)); plain = refl; parts = refl }
 call_again asked (calls.Chain (chains.Describe s)) f = record { read = rw f refl; plain = refl; parts = refl }
+call_again asked (calls.Chain (chains.CopyIn c)) f = record { read = rw (copying_again c f) refl; plain = refl; parts = pieces_apart (Word words.Finish) c.pieces }
 call_again asked (calls.Describe x) f = absurd f
+call_again asked (calls.Feed x) f = absurd f
 call_again asked (calls.Run b) f = absurd f
 call_again asked (calls.Evict x) f = absurd f
 call_again asked (calls.Tell x) f = absurd f

@@ -2,6 +2,7 @@ pub mod Found
 pub mod BareLaws
 pub mod AskedLaws
 pub mod PrepareLaws
+pub mod CopyingLaws
 pub mod GivenLaws
 pub mod TextLaws
 pub mod LineLaws

@@ -42,10 +42,10 @@ prepare_takes _ p e = absurd cc
 
 -- ---- the turns of the loop
 
-abbrev with_front : List ℕ → Option (List ℕ) → Option (List ℕ)
+abbrev pub with_front : {A : Type 0} → List A → Option (List A) → Option (List A)
 with_front front o = o >>= λ more. Some (front ++ more)
 
-behind_one : (front : List ℕ) (n : ℕ) (o : Option (List ℕ)) → with_front (front ++ n ∷ []) o ≡ with_front front (o >>= λ others. Some (n ∷ others))
+pub behind_one : {A : Type 0} (front : List A) (n : A) (o : Option (List A)) → with_front (front ++ n ∷ []) o ≡ with_front front (o >>= λ others. Some (n ∷ others))
 behind_one front n None = refl
 behind_one front n (Some more) = ap Some (append_assoc front (n ∷ []) more)
 

@@ -51,6 +51,7 @@ word_law words.Most = record { shape = refl; read = refl; no_mode = refl; no_bar
 word_law words.Raw = record { shape = refl; read = refl; no_mode = refl; no_bare = refl }
 word_law words.Query = record { shape = refl; read = refl; no_mode = refl; no_bare = refl }
 word_law words.Once = record { shape = refl; read = refl; no_mode = refl; no_bare = refl }
+word_law words.Finish = record { shape = refl; read = refl; no_mode = refl; no_bare = refl }
 word_law words.Text = record { shape = refl; read = refl; no_mode = refl; no_bare = refl }
 word_law words.Bytea = record { shape = refl; read = refl; no_mode = refl; no_bare = refl }
 word_law words.Texts = record { shape = refl; read = refl; no_mode = refl; no_bare = refl }
@@ -71,5 +72,6 @@ word_law (words.Call call_words.Rollback) = record { shape = refl; read = refl; 
 word_law (words.Call call_words.StartRollback) = record { shape = refl; read = refl; no_mode = refl; no_bare = refl }
 word_law (words.Call call_words.Prepare) = record { shape = refl; read = refl; no_mode = refl; no_bare = refl }
 word_law (words.Call call_words.Clear) = record { shape = refl; read = refl; no_mode = refl; no_bare = refl }
+word_law (words.Call call_words.CopyIn) = record { shape = refl; read = refl; no_mode = refl; no_bare = refl }
 word_law (words.Call call_words.CopyOut) = record { shape = refl; read = refl; no_mode = refl; no_bare = refl }
 word_law (words.Call call_words.Describe) = record { shape = refl; read = refl; no_mode = refl; no_bare = refl }

@@ -4,6 +4,7 @@ use Rattle.pg_request.specs.Queries.{QueryText, plain_text}
 use Rattle.pg_request.specs.declared.preparation.Preparation.{Preparation}
 use Rattle.pg_script.specs.declared.argument.Argument.{Argument}
 use Rattle.pg_script.specs.declared.argument.Argument.TheVariants as given
+use Rattle.pg_script.specs.declared.step.Copying.{Copying}
 use Rattle.pg_script.specs.declared.token.Token.{Token}
 use Rattle.pg_script.specs.declared.token.Token.TheVariants.{Space, Word, Number, Bare, Text}
 use Rattle.pg_script.specs.declared.token.Keyword.TheVariants as words
@@ -87,3 +88,22 @@ prepare_arg (Space ∷ Text s ∷ rest) = do
   oids ← oids_in rest
   Some (record { sql = sql; types = oids })
 prepare_arg _ = None
+
+-- a piece of data, and the tokens behind it
+abbrev pub piece_arg : List Token → Option (List ℕ × List Token)
+piece_arg (Space ∷ Text piece ∷ rest) = Some (piece, rest)
+piece_arg _ = None
+
+-- pieces of data up to the end
+abbrev pub pieces_in : List Token → Option (List (List ℕ))
+pieces_in [] = Some []
+pieces_in (Space ∷ Text piece ∷ rest) = pieces_in rest >>= λ others. Some (piece ∷ others)
+pieces_in _ = None
+
+-- a text of SQL that copies from the client, and its data
+abbrev pub copying_arg : List Token → Option Copying
+copying_arg (Space ∷ Text s ∷ Space ∷ Word words.Finish ∷ rest) = do
+  sql ← text_in s
+  pieces ← pieces_in rest
+  Some (record { sql = sql; pieces = pieces })
+copying_arg _ = None

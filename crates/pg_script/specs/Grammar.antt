@@ -14,6 +14,7 @@ use Rattle.pg_script.specs.declared.token.Token.{Token}
 use Rattle.pg_script.specs.declared.token.Token.TheVariants.{Space, Word, Number, SslMode, Bare as Bareword, Text}
 use Rattle.pg_script.specs.declared.token.Keyword.TheVariants as words
 use Rattle.pg_script.specs.declared.token.CallWord.TheVariants as call_words
+use Rattle.pg_script.specs.declared.step.Copying.{Copying}
 use Rattle.pg_script.specs.declared.step.Call.{Call}
 use Rattle.pg_script.specs.declared.step.Call.TheVariants as calls
 use Rattle.pg_script.specs.declared.step.Chain.TheVariants as chains
@@ -74,6 +75,14 @@ oid_tokens (oid ∷ more) = Space ∷ Number oid ∷ oid_tokens more
 abbrev pub preparation_tokens : Preparation → List Token
 preparation_tokens p = Space ∷ Text p.sql ∷ oid_tokens p.types
 
+-- the data of a copy from the client, in pieces
+abbrev pub piece_tokens : List (List ℕ) → List Token
+piece_tokens [] = []
+piece_tokens (piece ∷ more) = Space ∷ Text piece ∷ piece_tokens more
+
+abbrev pub copying_tokens : Copying → List Token
+copying_tokens copying = Space ∷ Text copying.sql ∷ Space ∷ Word words.Finish ∷ piece_tokens copying.pieces
+
 -- ---- lines as tokens: one row a line
 
 abbrev pub call_tokens : Asked → Call → List Token
@@ -94,6 +103,7 @@ call_tokens asked calls.StartRollback = Word (words.Call call_words.StartRollbac
 call_tokens asked (calls.Prepare preparation) = Word (words.Call call_words.Prepare) ∷ preparation_tokens preparation
 call_tokens asked calls.Clear = Word (words.Call call_words.Clear) ∷ []
 call_tokens asked (calls.CopyOut query) = Word (words.Call call_words.CopyOut) ∷ query_tokens query.sql
+call_tokens asked (calls.Chain (chains.CopyIn copying)) = Word (words.Call call_words.CopyIn) ∷ copying_tokens copying
 call_tokens asked (calls.Chain (chains.Describe sql)) = Word (words.Call call_words.Describe) ∷ query_tokens sql
 call_tokens asked _ = []
 
@@ -163,6 +173,7 @@ CallFits asked calls.StartRollback = Unit {0}
 CallFits asked (calls.Prepare preparation) = IsUnicode preparation.sql
 CallFits asked calls.Clear = Unit {0}
 CallFits asked (calls.CopyOut query) = QueryFits query
+CallFits asked (calls.Chain (chains.CopyIn copying)) = IsUnicode copying.sql
 CallFits asked (calls.Chain (chains.Describe sql)) = IsUnicode sql
 CallFits asked _ = ⊥
 

@@ -15,7 +15,7 @@ use Rattle.pg_script.specs.declared.line.Line.TheVariants as lines
 use Rattle.pg_script.specs.Lexing.{tokens_in}
 use Rattle.pg_script.specs.Reading.{◌>>=◌}
 use Rattle.pg_script.specs.Arguments.{alone, bytes_arg, text_arg, nonce_arg, mode_arg, pair_arg, number_arg, last_number, digits_arg}
-use Rattle.pg_script.specs.Asking.{query_arg, asked_arg, prepare_arg}
+use Rattle.pg_script.specs.Asking.{query_arg, asked_arg, prepare_arg, copying_arg}
 
 -- ---- calls
 
@@ -36,6 +36,7 @@ call_with call_words.Rollback rest = alone calls.Rollback rest
 call_with call_words.StartRollback rest = alone calls.StartRollback rest
 call_with call_words.Prepare rest = prepare_arg rest >>= λ preparation. Some (calls.Prepare preparation)
 call_with call_words.Clear rest = alone calls.Clear rest
+call_with call_words.CopyIn rest = copying_arg rest >>= λ copying. Some (calls.Chain (chains.CopyIn copying))
 call_with call_words.CopyOut rest = query_arg rest >>= λ query. Some (calls.CopyOut query)
 call_with call_words.Describe rest = text_arg rest >>= λ sql. Some (calls.Chain (chains.Describe sql))
 

@@ -1,14 +1,15 @@
 ghost use Rattle.std.specs.Prelude.{◌≡◌, ◌∷◌, [], option_map};
 ghost use Rattle.pg_script.specs.Reading.{Gives};
-ghost use Rattle.pg_script.specs.Asking.{in_front, comma_text, more_texts, texts_at, argument_at, arguments_in, query_arg, given_arg, asked_arg, oids_in, prepare_arg};
+ghost use Rattle.pg_script.specs.Asking.{in_front, comma_text, more_texts, texts_at, argument_at, arguments_in, query_arg, given_arg, asked_arg, oids_in, prepare_arg, piece_arg, pieces_in, copying_arg};
 
 use crate::argument::Argument;
 use crate::arguments::{number_arg, text_arg, text_of};
 use crate::encoding::given_query;
 use crate::error::LineError;
+use crate::step::Copying;
 use crate::token::{Keyword, Token};
 use pg_request::{Preparation, Query};
-use pg_wire::{Oid, Oids, Sequence, Text};
+use pg_wire::{Blob, Oid, Oids, Sequence, Text};
 use std::alloc::Global;
 
 // A text behind a comma, and the tokens behind it.
@@ -169,6 +170,51 @@ pub(crate) fn prepare_arg(alloc: Global, tokens: &[Token]) -> Result<Preparation
             let sql = text_of(alloc, sql.as_bytes())?;
             let types = oids_in(alloc, rest)?;
             Ok(Preparation { sql, types })
+        }
+        _ => Err(LineError::Bad),
+    }
+}
+
+// A piece of data, and the tokens behind it.
+fn piece_arg(tokens: &[Token]) -> Result<(&[u8], &[Token]), LineError>
+    ensures { Gives (λ x. (x.0.now, x.1.now)) result (piece_arg tokens.now) }
+{
+    match tokens {
+        [Token::Space, Token::Text(piece), rest @ ..] => Ok((piece.as_bytes(), rest)),
+        _ => Err(LineError::Bad),
+    }
+}
+
+// Pieces of data, and nothing more.
+fn pieces_in(alloc: Global, tokens: &[Token]) -> Result<Sequence<Blob>, LineError>
+    ensures { Gives (λ p. p) result (pieces_in tokens.now) }
+{
+    let mut pieces = Sequence::new(alloc);
+    let mut rest = tokens;
+    while !rest.is_empty() {
+        let (bytes, behind) = piece_arg(rest)?;
+        let piece = Blob::from_slice(alloc, bytes)?;
+        pieces.push(piece)?;
+        rest = behind;
+    }
+    Ok(pieces)
+}
+
+/// One text of SQL that copies from the client, the word `finish`, and its data in pieces.
+pub(crate) fn copying_arg(alloc: Global, tokens: &[Token]) -> Result<Copying, LineError>
+    ensures { Gives (λ c. c) result (copying_arg tokens.now) }
+{
+    match tokens {
+        [
+            Token::Space,
+            Token::Text(sql),
+            Token::Space,
+            Token::Word(Keyword::Finish),
+            rest @ ..,
+        ] => {
+            let sql = text_of(alloc, sql.as_bytes())?;
+            let pieces = pieces_in(alloc, rest)?;
+            Ok(Copying { sql, pieces })
         }
         _ => Err(LineError::Bad),
     }

@@ -68,4 +68,4 @@ pub use live::LiveScript;
 pub use nonce::Nonce;
 pub use reader::{read_live, read_script};
 pub use script::Script;
-pub use step::{Call, Chain, Step};
+pub use step::{Call, Chain, Copying, Fed, Step};

@@ -6,7 +6,7 @@ use crate::arguments::{
     alone, bytes_arg, digits_arg, is_utf8, last_number, mode_arg, nonce_arg, number_arg, pair_arg,
     text_arg,
 };
-use crate::asking::{asked_arg, prepare_arg, query_arg};
+use crate::asking::{asked_arg, copying_arg, prepare_arg, query_arg};
 use crate::error::LineError;
 use crate::lexer::Lexer;
 use crate::nonce::Nonce;
@@ -74,6 +74,7 @@ fn call_with(alloc: Global, word: CallWord, rest: &[Token]) -> Result<Call, Line
         CallWord::StartRollback => alone(Call::StartRollback, rest),
         CallWord::Prepare => Ok(Call::Prepare(prepare_arg(alloc, rest)?)),
         CallWord::Clear => alone(Call::Clear, rest),
+        CallWord::CopyIn => Ok(Call::Chain(Chain::CopyIn(copying_arg(alloc, rest)?))),
         CallWord::CopyOut => Ok(Call::CopyOut(query_arg(alloc, rest)?)),
         CallWord::Describe => Ok(Call::Chain(Chain::Describe(text_arg(alloc, rest)?))),
     }

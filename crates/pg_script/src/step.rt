@@ -2,14 +2,72 @@ ghost use Rattle.std.specs.Prelude.{◌≡◌, IfOk, IfErr};
 
 use pg_call::{Bound, Eviction, Extended, Prepared};
 use pg_request::{Preparation, Query};
-use pg_wire::{Error, Sequence, StatementId, Text};
+use pg_wire::{Blob, Error, Sequence, StatementId, Text};
 use std::alloc::Global;
+
+/// A copy from the client: its text, and its data in pieces.
+#[derive(Debug, Drop)]
+pub struct Copying {
+    pub sql: Text,
+    pub pieces: Sequence<Blob>,
+}
+
+/// A copy from the client as it came: its text, and the messages of data that were queued.
+#[derive(Debug, Drop)]
+pub struct Fed {
+    pub sql: Text,
+    pub pieces: Sequence<Blob>,
+    /// Whether they were all.
+    pub is_ended: bool,
+}
 
 /// Calls of a connection one behind another, of which a script says all by one word.
 #[derive(Debug, Drop)]
 pub enum Chain {
     /// Prepares a text, and asks of its columns whether they may be null.
     Describe(Text),
+    /// Copies from the client.
+    CopyIn(Copying),
+}
+
+// The same pieces again.
+fn copied_pieces(alloc: Global, pieces: &Sequence<Blob>) -> Result<Sequence<Blob>, Error>
+    ensures copy { IfOk result (λ s. s ≡ pieces.now) }
+    ensures memory { IfErr result (λ e. e ≡ Error.OutOfMemory) }
+{
+    let mut copies = Sequence::new(alloc);
+    for piece in pieces.as_slice() {
+        copies.push(piece.to_copy(alloc)?)?;
+    }
+    Ok(copies)
+}
+
+impl Copying {
+    /// An equal copy. Only want of memory refuses it.
+    pub fn to_copy(&self, alloc: Global) -> Result<Self, Error>
+        ensures copy { IfOk result (λ c. c ≡ self.now) }
+        ensures memory { IfErr result (λ e. e ≡ Error.OutOfMemory) }
+    {
+        let sql = self.sql.to_copy(alloc)?;
+        let pieces = copied_pieces(alloc, &self.pieces)?;
+        Ok(Copying { sql, pieces })
+    }
+}
+
+impl Fed {
+    /// An equal copy. Only want of memory refuses it.
+    pub fn to_copy(&self, alloc: Global) -> Result<Self, Error>
+        ensures copy { IfOk result (λ c. c ≡ self.now) }
+        ensures memory { IfErr result (λ e. e ≡ Error.OutOfMemory) }
+    {
+        let sql = self.sql.to_copy(alloc)?;
+        let pieces = copied_pieces(alloc, &self.pieces)?;
+        Ok(Fed {
+            sql,
+            pieces,
+            is_ended: self.is_ended,
+        })
+    }
 }
 
 impl Chain {
@@ -20,6 +78,7 @@ impl Chain {
     {
         Ok(match self {
             Chain::Describe(text) => Chain::Describe(text.to_copy(alloc)?),
+            Chain::CopyIn(copying) => Chain::CopyIn(copying.to_copy(alloc)?),
         })
     }
 }
@@ -62,6 +121,8 @@ pub enum Call {
     Tell(Prepared),
     /// The one that closes these statements.
     CloseAll(Sequence<StatementId>),
+    /// A copy from the client with what it was fed. No script says it alone.
+    Feed(Fed),
 }
 
 // The same numbers again.
@@ -104,6 +165,7 @@ impl Call {
             Call::Evict(eviction) => Call::Evict(eviction.to_copy(alloc)?),
             Call::Tell(prepared) => Call::Tell(prepared.to_copy(alloc)?),
             Call::CloseAll(statements) => Call::CloseAll(copied(alloc, statements)?),
+            Call::Feed(fed) => Call::Feed(fed.to_copy(alloc)?),
         })
     }
 }

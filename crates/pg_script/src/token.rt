@@ -21,6 +21,7 @@ pub(crate) enum CallWord {
     StartRollback,
     Prepare,
     Clear,
+    CopyIn,
     CopyOut,
     Describe,
 }
@@ -54,6 +55,8 @@ pub(crate) enum Keyword {
     Raw,
     Query,
     Once,
+    /// How the data of a copy ends.
+    Finish,
     /// In front of a text, of bytes and of texts that are arguments.
     Text,
     Bytea,

@@ -10,12 +10,13 @@ use pg_options::PgSslMode;
 use std::alloc::Global;
 
 /// All words of a script, the most usual first.
-const WORDS: [Keyword; 48] = [
+const WORDS: [Keyword; 50] = [
     Keyword::Step,
     Keyword::Server,
     Keyword::Raw,
     Keyword::Query,
     Keyword::Once,
+    Keyword::Finish,
     Keyword::Text,
     Keyword::Bytea,
     Keyword::Texts,
@@ -37,6 +38,7 @@ const WORDS: [Keyword; 48] = [
     Keyword::Call(CallWord::StartRollback),
     Keyword::Call(CallWord::Prepare),
     Keyword::Call(CallWord::Clear),
+    Keyword::Call(CallWord::CopyIn),
     Keyword::Call(CallWord::CopyOut),
     Keyword::Call(CallWord::Describe),
     Keyword::Most,
@@ -82,6 +84,7 @@ fn call_spelling(word: CallWord) -> &'static [u8]
         CallWord::StartRollback => b"start_rollback",
         CallWord::Prepare => b"prepare",
         CallWord::Clear => b"clear",
+        CallWord::CopyIn => b"copyin",
         CallWord::CopyOut => b"copyout",
         CallWord::Describe => b"describe",
     }
@@ -118,6 +121,7 @@ fn spelling_of(word: Keyword) -> &'static [u8]
         Keyword::Raw => b"raw",
         Keyword::Query => b"query",
         Keyword::Once => b"once",
+        Keyword::Finish => b"finish",
         Keyword::Text => b"text:",
         Keyword::Bytea => b"bytea:",
         Keyword::Texts => b"texts:",

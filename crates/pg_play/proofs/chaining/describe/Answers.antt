@@ -1,5 +1,4 @@
-use Rattle.std.proofs.Common.{Ok, Option, subst}
-use Rattle.pg_request.specs.Queries.{QueryText}
+use Rattle.std.proofs.Common.{subst}
 use Rattle.pg_conn.specs.Connections.{ConnSeen, seen_by}
 use Rattle.pg_script.specs.declared.step.Step.{Step}
 use Rattle.pg_play.specs.Calls.{PlaysStep}

@@ -1,4 +1,4 @@
-use Rattle.std.proofs.Common.{◌≡◌, true, [], map, codes, refl, arith, rules}
+use Rattle.std.proofs.Common.{◌≡◌, true, [], map, codes, inl, refl, arith, rules}
 use Rattle.std.specs.List.{AllByRecursion}
 use Rattle.pg_wire.specs.declared.error.ServerFault.{ServerFault}
 use Rattle.pg_wire.specs.declared.error.ServerFault.TheVariants as faults
@@ -53,4 +53,5 @@ returns c link f e = record {
   headers = no_header;
   asides = asides;
   replies = select_is_answered;
+  uncopied = (refl, (inl (codes "SELECT 1", refl), tt));
 }

@@ -1,13 +1,13 @@
 use Rattle.pg_conn.specs.Connections.{seen_by}
-use Rattle.pg_play.proofs.ThroughLaws.{poll_goes, poll_drops, poll_ok, poll_err, poll_item}
+use Rattle.pg_play.proofs.ThroughLaws.{poll_goes, poll_drops, poll_ok, poll_err, poll_item, poll_opened}
 use Rattle.pg_play.proofs.stepping.poll_once.Goals as goal
 
 pub returns-then-tally-limits-clause-gives : goal.returns-then-tally-limits-clause-gives
 returns-then-tally-limits-clause-gives g c a r i =
     poll_drops c.args.limits a (seen_by g.L.Link.seen c.args.conn.now) (seen_by g.L.Link.seen c.poll_call.new.self) r c.args.tally.now.waits c.args.tally.now.items.items c.if-tally-limits.true i c.in-Pending.ensures
 
-pub returns-else-tally-limits-clause-gives : goal.returns-else-tally-limits-clause-gives
-returns-else-tally-limits-clause-gives g c a r i =
+pub returns-in-Pending-clause-gives : goal.returns-in-Pending-clause-gives
+returns-in-Pending-clause-gives g c a r i =
     poll_goes c.args.limits a (seen_by g.L.Link.seen c.args.conn.now) (seen_by g.L.Link.seen c.poll_call.new.self) r c.args.tally.now.waits c.args.tally.now.items.items c.requires.waits i c.in-Pending.ensures
 
 pub returns-in-Ready-Item-clause-gives : goal.returns-in-Ready-Item-clause-gives
@@ -21,3 +21,7 @@ returns-in-Ready-Ok-clause-gives g c a r i =
 pub returns-in-Ready-Err-clause-gives : goal.returns-in-Ready-Err-clause-gives
 returns-in-Ready-Err-clause-gives g c a r i =
     poll_err c.args.limits a (seen_by g.L.Link.seen c.args.conn.now) (seen_by g.L.Link.seen c.poll_call.new.self) r c.args.tally.now.waits c.args.tally.now.items.items c.in-Ready-Err.e c.requires.waits i (rw c.in-Ready-Err.field-0-is at c.in-Ready-Err.ensures)
+
+pub returns-clause-gives : goal.returns-clause-gives
+returns-clause-gives g c a r i =
+    poll_opened c.args.limits a (seen_by g.L.Link.seen c.args.conn.now) (seen_by g.L.Link.seen c.poll_call.new.self) r c.args.tally.now.waits c.args.tally.now.items.items _ c.requires.waits i (rw c.in-Ready-Opened.field-0-is at c.in-Ready-Opened.ensures)

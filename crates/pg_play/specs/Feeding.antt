@@ -1,0 +1,43 @@
+-- The data of a copy from the client, as messages (PostgreSQL manual, "Message Flow", "COPY Operations").
+use Rattle.std.specs.Prelude.{◌≡◌, ℕ, zero, suc, min, true, List, [], ◌∷◌, length, take, drop, map, flat_map, Result, Ok, Err}
+use Rattle.pg_wire.specs.declared.error.Error.{Error}
+use Rattle.pg_wire.specs.declared.error.Error.TheVariants as errors
+use Rattle.pg_wire.specs.Frontend.{CopyData}
+use Rattle.pg_wire.specs.Server.{IsPrefixOf}
+use Rattle.pg_conn.specs.Connections.{ConnOf, copied, with_messages}
+use Rattle.pg_script.specs.declared.step.Copying.{Copying}
+use Rattle.pg_script.specs.declared.step.Fed.{Fed}
+
+-- bytes as parts of so many at most, of which none is empty; so many parts are enough
+abbrev pub cut_in : ℕ → ℕ → List ℕ → List (List ℕ)
+cut_in most zero bytes = []
+cut_in most (suc n) [] = []
+cut_in most (suc n) (b ∷ bs) = take (min (length (b ∷ bs)) most) (b ∷ bs) ∷ cut_in most n (drop (min (length (b ∷ bs)) most) (b ∷ bs))
+
+-- a message of data carries 1073741818 bytes at most
+abbrev pub cut : List ℕ → List (List ℕ)
+cut bytes = cut_in 1073741818 (length bytes) bytes
+
+-- these parts were queued, each as one message
+abbrev pub fed_with : {A : Type 0} → List (List ℕ) → ConnOf A → ConnOf A
+fed_with parts c = with_messages (map CopyData parts) c
+
+-- all of them, or the first ones, where there was no memory for more
+abbrev pub Feeds : {A : Type 0} → ConnOf A → ConnOf A → List (List ℕ) → Result (Unit {0}) Error → Type 0
+Feeds a b parts (Ok u) = b ≡ fed_with parts a
+Feeds a b parts (Err e) = (e ≡ errors.OutOfMemory) × ((front : List (List ℕ)) × IsPrefixOf front parts × (b ≡ fed_with front a))
+
+-- and their end behind them
+abbrev pub FeedsWhole : {A : Type 0} → ConnOf A → ConnOf A → List (List ℕ) → Result (Unit {0}) Error → Type 0
+FeedsWhole a b parts (Ok u) = b ≡ copied (fed_with parts a)
+FeedsWhole a b parts (Err e) = (e ≡ errors.OutOfMemory) × ((front : List (List ℕ)) × IsPrefixOf front parts × (b ≡ fed_with front a))
+
+-- all parts of the data that a script gives
+abbrev pub parts_of : Copying → List (List ℕ)
+parts_of copying = flat_map cut copying.pieces
+
+-- a copy came so: it was fed the first parts of the data, and all of them where it was fed to its end
+pub record CameOf (copying : Copying) (fed : Fed) : Type 0 where
+  pub sql : fed.sql ≡ copying.sql
+  pub pieces : IsPrefixOf fed.pieces (parts_of copying)
+  pub whole : fed.is_ended ≡ true → fed.pieces ≡ parts_of copying
