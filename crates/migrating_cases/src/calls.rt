@@ -5,18 +5,19 @@ ghost use Rattle.pg_migrating.specs.Asking.{CallsQuietly, is_asked};
 
 use crate::telling::{push_applied, push_error};
 use pg_conn::PgConnection;
-use pg_migrate::{AppliedMigration, MemoryClock, MigrateError, Migration};
+use pg_migrate::{AppliedMigration, Clock, MigrateError, Migration};
 use pg_migrating::{Migrate, RunMigration};
-use pg_stream::MemoryLink;
+use pg_stream::Link;
 use pg_wire::{Error, Poll};
 use std::alloc::Global;
 use std::fmt::Write;
 
-type Connection = PgConnection<MemoryLink>;
-
 type Answer<T> = Poll<Result<T, MigrateError>>;
 
 const TABLE: &str = "m";
+
+// How often a flush is polled.
+const FLUSH_POLLS: u32 = 100;
 
 fn push_unit(answer: Answer<()>, told: &mut String) -> Result<(), Error> {
     match answer {
@@ -56,26 +57,29 @@ fn push_list(answer: Answer<Vec<AppliedMigration>>, told: &mut String) -> Result
 }
 
 // Polls a migration, so often at most.
-fn run(mut state: RunMigration<'_, &mut Connection, MemoryClock>, polls: u64) -> Answer<u64>
+fn run<L: Link, K: Clock>(
+    mut state: RunMigration<'_, &mut PgConnection<L>, K>,
+    polls: u64,
+) -> Answer<u64>
     requires over { is_asked state.asking.question state.asking.conn.now.call ≡ true }
     requires calling { CallsQuietly state.asking.question state.asking.conn.now }
 {
-    for _ in 1..polls {
+    for _ in 0..polls {
         match state.poll() {
             Poll::Pending => {}
             answer => return answer,
         }
     }
-    state.poll()
+    Poll::Pending
 }
 
 /// Makes a call, and tells what it answered.
-pub(crate) fn call(
+pub(crate) fn call<L: Link, K: Clock>(
     alloc: Global,
-    conn: &mut Connection,
+    conn: &mut PgConnection<L>,
     word: &str,
     migration: &Migration,
-    clock: &mut MemoryClock,
+    clock: &mut K,
     polls: u64,
     told: &mut String,
 ) -> Result<(), Error> {
@@ -109,10 +113,21 @@ pub(crate) fn call(
     }
 }
 
+// Polls a flush until it ends.
+fn flushed<L: Link>(conn: &mut PgConnection<L>) -> Poll<Result<(), Error>> {
+    let mut state = conn.flush();
+    for _ in 0..FLUSH_POLLS {
+        match state.poll() {
+            Poll::Pending => {}
+            answer => return answer,
+        }
+    }
+    Poll::Pending
+}
+
 // Sends what is unsent, and reads what is owed.
-fn flush(conn: &mut Connection, told: &mut String) -> Result<(), Error> {
-    let answer = conn.flush().poll();
-    match answer {
+fn flush<L: Link>(conn: &mut PgConnection<L>, told: &mut String) -> Result<(), Error> {
+    match flushed(conn) {
         Poll::Pending => told.push_str("waits\n")?,
         Poll::Ready(Ok(())) => told.push_str("ok\n")?,
         Poll::Ready(Err(error)) => {

@@ -34,6 +34,14 @@ pub(crate) fn polls(case: &str) -> u64 {
     }
 }
 
+/// How long a read of a socket waits, in milliseconds.
+pub(crate) fn patience(case: &str) -> u64 {
+    match entry(case, "patience") {
+        Some(digits) => digits.parse::<u64>().unwrap_or(10),
+        None => 10,
+    }
+}
+
 fn bytes(alloc: Global, digits: &str) -> Result<Blob, Error> {
     match hex::decode(alloc, digits.as_bytes()) {
         Ok(bytes) => Ok(Blob::from_vec(bytes)),
@@ -66,13 +74,16 @@ pub(crate) fn times(alloc: Global, case: &str) -> Result<VecDeque<u64>, Error> {
     Ok(times)
 }
 
-/// Migration number 7.
-pub(crate) fn migration(alloc: Global, case: &str) -> Result<Migration, Error> {
-    let sql = Text::from_str(alloc, entry(case, "script").unwrap_or("CREATE"))?;
+/// A migration with these words: its number and its script, or else number 7 and the script of the case.
+pub(crate) fn migration(alloc: Global, case: &str, words: &str) -> Result<Migration, Error> {
+    let (number, script) = words
+        .split_once(' ')
+        .unwrap_or(("7", entry(case, "script").unwrap_or("CREATE")));
+    let sql = Text::from_str(alloc, script)?;
     let description = Text::from_str(alloc, "seven")?;
     let checksum = Blob::from_slice(alloc, b"sum")?;
     Ok(Migration {
-        version: 7,
+        version: number.parse::<i64>().unwrap_or(7),
         description,
         sql,
         checksum,

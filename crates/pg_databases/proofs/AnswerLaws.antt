@@ -16,6 +16,7 @@ use Rattle.pg_databases.specs.declared.session.Session.{Session}
 pub tells_by : {D A X : Type 0} (reads : CallAnswer → X → Type 0) (misreads : CallAnswer → Error → Type 0) (seen : A → LinkSeen) (hands : Handing D A) (counts : D → DialSeen) (asked : Result Errand Error) (first : D) (s t : Session A) (e : D) (turn : Turn) (result : Result X Error)
     → EndsBy reads misreads turn result → Tells seen hands counts asked first s e (Ready turn) → TellsBy reads misreads seen hands counts asked first t e (Ready result)
 tells_by reads misreads seen hands counts asked first s t e (turns.Item item) result h k = absurd h
+tells_by reads misreads seen hands counts asked first s t e (turns.Opened opened) result h k = absurd h
 tells_by reads misreads seen hands counts asked first s t e (turns.Ok answer) (Ok x) h k = (answer, k.0, k.2, h)
 tells_by reads misreads seen hands counts asked first s t e (turns.Ok answer) (Err error) h k = inr (inr (answer, k.0, k.2, h))
 tells_by reads misreads seen hands counts asked first s t e (turns.Err error) (Ok x) h k = absurd h

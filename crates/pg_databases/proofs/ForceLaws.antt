@@ -68,6 +68,7 @@ module _ {D A : Type 0} (seen : A → LinkSeen) (hands : Handing D A) (counts : 
           (p.2, (errand, start, goes, rw (same refl) l))
   version_goes (turns.Err e) database s t last last_now step None p same g l = absurd p.1
   version_goes (turns.Item item) database s t last last_now step None p same g l = absurd p.1
+  version_goes (turns.Opened opened) database s t last last_now step None p same g l = absurd p.1
   version_goes turn database s t last last_now step (Some Pending) p same g l = absurd p
   version_goes turn database s t last last_now step (Some (Ready (Ok u))) p same g l = absurd p
   version_goes turn database s t last last_now step (Some (Ready (Err e))) p same g l = p.1
@@ -90,12 +91,14 @@ module _ {D A : Type 0} (seen : A → LinkSeen) (hands : Handing D A) (counts : 
   version_tells asked first e (turns.Ok answer) database now s t last last_now step None p d l k b = asks_next asked first e answer database now s t last last_now step p (d refl) (l refl) k b
   version_tells asked first e (turns.Err x) database now s t last last_now step None p d l k b = absurd p.1
   version_tells asked first e (turns.Item item) database now s t last last_now step None p d l k b = absurd p.1
+  version_tells asked first e (turns.Opened opened) database now s t last last_now step None p d l k b = absurd p.1
   version_tells asked first e turn database now s t last last_now step (Some Pending) p d l k b = absurd p
   version_tells asked first e turn database now s t last last_now step (Some (Ready (Ok u))) p d l k b = absurd p
   version_tells asked first e (turns.Ok answer) database now s t last last_now step (Some (Ready (Err error))) p d l k b = inl (inr (inr (answer, k.0, k.2, p.0)))
   version_tells asked first e (turns.Err x) database now s t last last_now step (Some (Ready (Err error))) p d l (inl k) b = inl (inl (rw p.0 k))
   version_tells asked first e (turns.Err x) database now s t last last_now step (Some (Ready (Err error))) p d l (inr k) b = inl (inr (inl (rw p.0 k)))
   version_tells asked first e (turns.Item item) database now s t last last_now step (Some (Ready (Err error))) p d l k b = absurd p.0
+  version_tells asked first e (turns.Opened opened) database now s t last last_now step (Some (Ready (Err error))) p d l k b = absurd p.0
 
   -- ---- the other sessions
 
@@ -147,6 +150,7 @@ module _ {D A : Type 0} (seen : A → LinkSeen) (hands : Handing D A) (counts : 
       subst (λ (x : ForceStep). StandsForce seen hands asked first x now u last_now e) (sym q.1) (f, same, (e, done, new))
   terminate_tells asked first e (turns.Err x) database now s t u last last_now step left None few p q l k = absurd q.0
   terminate_tells asked first e (turns.Item item) database now s t u last last_now step left None few p q l k = absurd q.0
+  terminate_tells asked first e (turns.Opened opened) database now s t u last last_now step left None few p q l k = absurd q.0
   terminate_tells asked first e turn database now s t u last last_now step left (Some Pending) few p q l k = absurd q
   terminate_tells asked first e turn database now s t u last last_now step left (Some (Ready (Ok v))) few p q l k = absurd q
   terminate_tells asked first e (turns.Ok answer) database now s t u last last_now step left (Some (Ready (Err error))) few p q l k = absurd q.0
@@ -156,11 +160,13 @@ module _ {D A : Type 0} (seen : A → LinkSeen) (hands : Handing D A) (counts : 
       let failed : IsNotTerminated seen hands f first e error = record { middle = k.middle; conn = w.0; request = k.request; asks = k.asks; called = rw q.0 called } in
       inr (f, same, inl failed)
   terminate_tells asked first e (turns.Item item) database now s t u last last_now step left (Some (Ready (Err error))) few p q l k = absurd q.0
+  terminate_tells asked first e (turns.Opened opened) database now s t u last last_now step left (Some (Ready (Err error))) few p q l k = absurd q.0
 
   -- ---- the drop
 
   pub removed : (asked : Result Forcing Error) (first m e : D) (f : Forcing) (turn : Turn) (step : ForceStep) (now : List ℕ) (s last last_now : Session A) (result : Result (Unit {0}) Error) → asked ≡ Ok f → Terminated seen hands f first m → EndsBy is_done never turn result → Tells seen hands counts (Ok f.last) m last e (Ready turn) → TellsForce seen hands counts asked first step now s last_now e (Ready result)
   removed asked first m e f (turns.Item item) step now s last last_now result same done h k = absurd h
+  removed asked first m e f (turns.Opened opened) step now s last last_now result same done h k = absurd h
   removed asked first m e f (turns.Ok answer) step now s last last_now (Ok u) same done h k =
       (f, same, (m, answer, k.0, done, of_errand (λ (x : Errand). Comes seen hands x m e (turns.Ok answer) k.0) f.last k.2.0 k.2.1 k.2.2))
   removed asked first m e f (turns.Ok answer) step now s last last_now (Err error) same done h k = absurd h

@@ -19,7 +19,7 @@ use Rattle.pg_conn.specs.Connections.{ConnOf, runs, seen_by}
 use Rattle.pg_conn.specs.Dials.{DialSeen}
 use Rattle.pg_conn.specs.States.{IsCalling, PollFits}
 use Rattle.pg_conn.specs.Turns.{PollsWithin}
-use Rattle.pg_migrating.proofs.FitLaws.{within_fits}
+use Rattle.pg_conn.proofs.StateLaws.{poll_fits_within}
 use Rattle.pg_databases.specs.Openings.{Handing, Begun, Opened}
 use Rattle.pg_databases.specs.Sessions.{ConnRuns, ConnectsSession, DialsFirst, Fails, Goes, GoesBy, GoesOn, IsBefore, KeepsConn, PollsSession, Stands, StandsBy, StartGoes, Tells}
 use Rattle.pg_databases.specs.declared.errand.Errand.{Errand}
@@ -144,6 +144,9 @@ module _ {D A : Type 0} (seen : A → LinkSeen) (hands : Handing D A) (counts : 
   waited_on asked first t e a b left (Ready (turns.Item item)) is few p s =
       let k = s.2 in
       (b, rw is refl, (s.0, s.1, record { from = k.from; opened = k.opened; called = record { last = a; waits = k.waits; ends = record { left = left; few = few; polls = p } } }))
+  waited_on asked first t e a b left (Ready (turns.Opened opened)) is few p s =
+      let k = s.2 in
+      (b, rw is refl, (s.0, s.1, record { from = k.from; opened = k.opened; called = record { last = a; waits = k.waits; ends = record { left = left; few = few; polls = p } } }))
   waited_on asked first t e a b left (Ready (turns.Ok answer)) is few p s =
       let k = s.2 in
       (b, rw is refl, (s.0, s.1, record { from = k.from; opened = k.opened; called = record { last = a; waits = k.waits; ends = record { left = left; few = few; polls = p } } }))
@@ -181,6 +184,7 @@ module _ {A : Type 0} (seen : A → LinkSeen) where
 
   kept : (turn : Turn) (b : ConnOf A) → KeepsConn turn (Some b)
   kept (turns.Item item) b = tt
+  kept (turns.Opened opened) b = tt
   kept (turns.Ok answer) b = tt
   kept (turns.Err e) b = tt
 
@@ -190,7 +194,7 @@ module _ {A : Type 0} (seen : A → LinkSeen) where
 
   pub call_fits : (kind : Kind) (errand : Asked) (start : Option (Start A)) (conn : Option (ConnOf A)) (t : Session A) (left : ℕ) (answer : Poll Turn) → errand ≡ None → start ≡ None → PollsSession seen left conn (session_of errand start conn) t answer → GoesBy kind errand start conn → GoesOn kind t answer
   call_fits kind None None None t left answer n m p g = absurd p
-  call_fits kind None None (Some a) t left answer n m p g = stays kind t p.0 answer p.1 (within_fits seen left a p.0 kind answer p.2 g)
+  call_fits kind None None (Some a) t left answer n m p g = stays kind t p.0 answer p.1 (poll_fits_within seen left a p.0 kind answer p.2 g)
   call_fits kind None (Some x) conn t left answer n m p g = absurd cc
   call_fits kind (Some x) start conn t left answer n m p g = absurd cc
 

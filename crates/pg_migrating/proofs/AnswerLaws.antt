@@ -19,6 +19,7 @@ use Rattle.pg_migrating.specs.Answers.{EndsBy, IsTold, TellsBy, IsApplied, AllAp
 pub tells_by : {A X : Type 0} (reads : CallAnswer → X → Type 0) (misreads : CallAnswer → Error → Type 0) (seen : A → LinkSeen) (asked : Result Request Error) (first b : ConnOf A) (turn : Turn) (result : Result X MigrateError)
     → EndsBy reads misreads turn result → Tells seen asked first b (Ready turn) → TellsBy reads misreads seen asked first b (Ready result)
 tells_by reads misreads seen asked first b (turns.Item item) result e t = absurd e
+tells_by reads misreads seen asked first b (turns.Opened opened) result e t = absurd e
 tells_by reads misreads seen asked first b (turns.Ok answer) (Ok x) e t = (answer, t, e)
 tells_by reads misreads seen asked first b (turns.Ok answer) (Err (failed.Execute error)) e t = inr (answer, t, e)
 tells_by reads misreads seen asked first b (turns.Ok answer) (Err (failed.ExecuteMigration error version)) e t = absurd e

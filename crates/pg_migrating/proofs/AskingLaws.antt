@@ -41,16 +41,16 @@ calls_prepared how sql (Ok r) c e = rw e (calls_raw how _ c)
 calls_prepared how sql (Err error) c e = tt
 
 quiet_run : IsQuiet (kinds.Run hows.Execute)
-quiet_run item e = absurd cc
+quiet_run = (λ item e. absurd cc, λ opens. opens)
 
 quiet_begin : IsQuiet kinds.Begin
-quiet_begin item e = absurd cc
+quiet_begin = (λ item e. absurd cc, λ opens. opens)
 
 quiet_commit : IsQuiet kinds.Commit
-quiet_commit item e = absurd cc
+quiet_commit = (λ item e. absurd cc, λ opens. opens)
 
 quiet_flush : IsQuiet kinds.Flush
-quiet_flush item e = absurd cc
+quiet_flush = (λ item e. absurd cc, λ opens. opens)
 
 quietly : {A : Type 0} (depth : ℕ) (s : Statement) (c : ConnOf A) → CallsQuietly (Some (Ok (request_of hows.Execute depth s))) c
 quietly depth Begin c = (kinds.Begin, quiet_begin, started_calling (requests.Begin depth) c refl)
@@ -67,7 +67,8 @@ asks_quietly depth s (Ok r) c e = rw e (quietly depth s c)
 asks_quietly depth s (Err error) c e = (kinds.Flush, quiet_flush, tt)
 
 pub turn_ends : (kind : Kind) (turn : Turn) → IsQuiet kind → TurnFits kind turn → IsEnd turn
-turn_ends kind (turns.Item item) q f = q item f
+turn_ends kind (turns.Item item) q f = q.0 item f
+turn_ends kind (turns.Opened opened) q f = q.1 f
 turn_ends kind (turns.Ok answer) q f = tt
 turn_ends kind (turns.Err e) q f = tt
 
@@ -87,6 +88,7 @@ calls_on kind (Some (Err error)) a c u e r i = absurd cc
 polled : {A : Type 0} (seen : A → LinkSeen) (asked : Result Request Error) (first c b : ConnOf A) (r : Request) (left : ℕ) (answer : Poll Turn) → asked ≡ Ok r → Waits seen r first c → left ≤ 256 → PollsWithin left (seen_by seen c) (seen_by seen b) answer → Tells seen asked first b answer
 polled seen asked first c b r left Pending e w few p = (r, e, record { earlier = c ∷ w.earlier; waited = (record { left = left; few = few; polls = p }, w.waited) })
 polled seen asked first c b r left (Ready (turns.Item item)) e w few p = (r, e, record { last = c; waits = w; ends = record { left = left; few = few; polls = p } })
+polled seen asked first c b r left (Ready (turns.Opened opened)) e w few p = (r, e, record { last = c; waits = w; ends = record { left = left; few = few; polls = p } })
 polled seen asked first c b r left (Ready (turns.Ok answer)) e w few p = (r, e, record { last = c; waits = w; ends = record { left = left; few = few; polls = p } })
 polled seen asked first c b r left (Ready (turns.Err error)) e w few p = inl (r, e, record { last = c; waits = w; ends = record { left = left; few = few; polls = p } })
 
@@ -107,6 +109,7 @@ refused seen asked first a b (Some (Err other)) error e r (is, same) =
 
 pub ends_as : {A : Type 0} (seen : A → LinkSeen) (asked : Result Request Error) (first b : ConnOf A) (turn : Turn) (result : Result (Unit {0}) Error) → EndsAs turn result → Tells seen asked first b (Ready turn) → TellsEnd seen asked first b (Ready result)
 ends_as seen asked first b (turns.Item item) result e t = absurd e
+ends_as seen asked first b (turns.Opened opened) result e t = absurd e
 ends_as seen asked first b (turns.Ok answer) (Ok u) e t = (answer, t)
 ends_as seen asked first b (turns.Ok answer) (Err error) e t = absurd e
 ends_as seen asked first b (turns.Err error) (Ok u) e t = absurd e

@@ -1,5 +1,4 @@
 pub mod BoundLaws
-pub mod FitLaws
 pub mod AskingLaws
 pub mod AnswerLaws
 pub mod CourseLaws

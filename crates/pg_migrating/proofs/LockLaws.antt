@@ -30,11 +30,13 @@ still_asked None call e = absurd cc
 pub lock_asked : {A : Type 0} (seen : A → LinkSeen) (way : LockWay) (first b : ConnOf A) (turn : Turn) (id : ℤ) (name : Result Request Error) (question : Question) → EndsBy IsNamed HidesName turn (Ok id) → IsRequestOf hows.FetchOne 0 (Prepared current_database_text []) name → Tells seen name first b (Ready turn)
     → (asked : Result Request Error) → question ≡ Some asked → IsRequestOf hows.Execute 0 (lock_statement way id) asked → StandsLock seen way first true question b
 lock_asked seen way first b (turns.Item item) id name question e n t asked q asks = absurd e
+lock_asked seen way first b (turns.Opened opened) id name question e n t asked q asks = absurd e
 lock_asked seen way first b (turns.Ok answer) id name question e n t asked q asks = rw q (b, asked, record { name = name; asks_name = n; answer = answer; answered = t; id = id; named = e; asks = asks }, (refl, refl))
 lock_asked seen way first b (turns.Err error) id name question e n t asked q asks = absurd e
 
 hidden : (turn : Turn) (m : MigrateError) → EndsBy {X = ℤ} IsNamed HidesName turn (Err m) → EndsBy {X = Unit {0}} goes_on HidesName turn (Err m)
 hidden (turns.Item item) m e = absurd e
+hidden (turns.Opened opened) m e = absurd e
 hidden (turns.Ok answer) (failed.Execute error) e = e
 hidden (turns.Ok answer) (failed.ExecuteMigration error version) e = absurd e
 hidden (turns.Err error) (failed.Execute other) e = e

@@ -11,6 +11,7 @@ use Rattle.pg_call.specs.declared.answer.CallAnswer.{CallAnswer}
 use Rattle.pg_call.specs.declared.answer.Turn.{Turn}
 use Rattle.pg_call.specs.declared.answer.Turn.TheVariants as turns
 use Rattle.pg_call.specs.declared.request.Request.{Request}
+use Rattle.pg_call.specs.Answers.{OpensFor}
 use Rattle.pg_call.specs.Items.{yields}
 use Rattle.pg_conn.specs.Connections.{ConnOf, left, rolled_back, runs, started_call}
 use Rattle.pg_conn.specs.States.{IsCalling}
@@ -52,13 +53,14 @@ CallsFor kind None c = IsCalling kind c
 CallsFor kind (Some (Ok request)) c = IsCalling kind (started_call request c)
 CallsFor kind (Some (Err e)) c = Unit {0}
 
--- a kind that shows no items
+-- a kind that shows no items, and opens no copy from the client
 abbrev pub IsQuiet : Kind → Type 0
-IsQuiet kind = (item : CallItem) → yields kind item ≡ true → ⊥
+IsQuiet kind = ((item : CallItem) → yields kind item ≡ true → ⊥) × (OpensFor kind → ⊥)
 
 -- so a turn of it is its end
 abbrev pub IsEnd : Turn → Type 0
 IsEnd (turns.Item item) = ⊥
+IsEnd (turns.Opened opened) = ⊥
 IsEnd turn = Unit {0}
 
 abbrev pub EndsAs : Turn → Result (Unit {0}) Error → Type 0

@@ -27,7 +27,7 @@ fn ended(turn: Turn) -> Result<(), Error>
     match turn {
         Turn::Ok(_) => Ok(()),
         Turn::Err(e) => Err(e),
-        Turn::Item(_) => unreachable!(),
+        Turn::Item(_) | Turn::Opened(_) => unreachable!(),
     }
 }
 

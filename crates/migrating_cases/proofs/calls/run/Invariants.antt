@@ -3,7 +3,7 @@ use Rattle.pg_migrating.specs.Asking.{CallsQuietly, is_asked}
 use Rattle.migrating_cases.proofs.calls.run.Given as goal
 
 abbrev pub invariant-loop : goal.invariant-loop
-invariant-loop l = record {
+invariant-loop g l = record {
   over : is_asked l.state.asking.question l.state.asking.conn.now.call ≡ true;
   calling : CallsQuietly l.state.asking.question l.state.asking.conn.now;
 }

@@ -3,6 +3,9 @@ use Rattle.pg_conn.specs.Dials.{HandsOut}
 use Rattle.pg_databases.proofs.ForceLaws.{removed_on}
 use Rattle.pg_databases.proofs.forcing.ForceDropDatabase.poll_remove.Goals as goal
 
+pub returns-in-Pending-clause-tells : goal.returns-in-Pending-clause-tells
+returns-in-Pending-clause-tells g c asked first (f, same, (m, done, k)) = rw c.requires.step (f, same, (m, done, c.in-Pending.ensures.tells (Ok f.last) m k))
+
 pub returns-in-Ready-clause-tells : goal.returns-in-Ready-clause-tells
 returns-in-Ready-clause-tells g c asked first (f, same, (m, done, k)) =
     let new = c.finish.new.self in
