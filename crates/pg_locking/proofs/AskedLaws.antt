@@ -10,7 +10,7 @@ use Rattle.pg_call.specs.declared.kind.Keeping.TheVariants as keepings
 use Rattle.pg_call.specs.declared.request.Request.TheVariants as requests
 use Rattle.pg_call.specs.declared.statement.Goal.TheVariants as goals
 use Rattle.pg_conn.specs.Statements.{asked_by, describe, run_or_describe}
-use Rattle.pg_locking.specs.Keys.{key_arguments}
+use Rattle.pg_locks.specs.Keys.{key_arguments}
 use Rattle.pg_locking.specs.Locking.{lock_request}
 
 pub kept_runs : (key : PgAdvisoryLockKey) (rule : Rule) (e : Entry) → entry_at (lock_statement key) rule.cache.entries ≡ Some e

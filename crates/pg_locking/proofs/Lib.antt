@@ -1,4 +1,3 @@
-pub mod KeyLaws
 pub mod RoomLaws
 pub mod ReleaseLaws
 pub mod HeldLaws

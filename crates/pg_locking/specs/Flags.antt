@@ -19,7 +19,7 @@ use Rattle.pg_conn.specs.Flags.{flag_in}
 use Rattle.pg_conn.specs.Holding.{took_held}
 use Rattle.pg_conn.specs.States.{IsCalling, turn_of}
 use Rattle.pg_conn.specs.Turns.{PollsCall}
-use Rattle.pg_locking.specs.Keys.{with_key}
+use Rattle.pg_locks.specs.Keys.{with_key}
 use Rattle.pg_locking.specs.Rooms.{IsHeldFor, IsUnheld, given_if}
 use Rattle.pg_locking.specs.declared.flag_call.Asking.{Asking}
 use Rattle.pg_locking.specs.declared.flag_call.Asking.TheVariants as askings

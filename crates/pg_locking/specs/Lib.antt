@@ -1,4 +1,3 @@
-pub mod Keys
 pub mod Rooms
 pub mod Held
 pub mod Flags

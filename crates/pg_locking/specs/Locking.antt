@@ -20,7 +20,7 @@ use Rattle.pg_conn.specs.Connections.{ConnOf, left, seen_by, started_call, start
 use Rattle.pg_conn.specs.Holding.{gave_up}
 use Rattle.pg_conn.specs.States.{IsCalling, to_prepare, turn_of, untyped}
 use Rattle.pg_conn.specs.Turns.{PollsCall, PollsMore}
-use Rattle.pg_locking.specs.Keys.{with_key}
+use Rattle.pg_locks.specs.Keys.{with_key}
 use Rattle.pg_locking.specs.Rooms.{IsHeld, IsUnheld}
 use Rattle.pg_locking.specs.declared.lock_call.Stage.{Stage}
 use Rattle.pg_locking.specs.declared.lock_call.Stage.TheVariants as stages

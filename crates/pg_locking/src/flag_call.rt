@@ -9,9 +9,8 @@ ghost use Rattle.pg_locking.specs.Flags.{FitsOne, HearsFlag, IsAsking, PollsFlag
 ghost use Rattle.pg_locking.specs.Rooms.{IsHeldFor, IsUnheld};
 
 use crate::holding::{give_back, hold_for};
-use crate::keys::key_query;
 use pg_conn::{PgConnection, PgRow, Request, Turn, read_flag};
-use pg_locks::PgAdvisoryLockKey;
+use pg_locks::{PgAdvisoryLockKey, key_query};
 use pg_stream::Link;
 use pg_wire::{Error, Poll};
 

@@ -18,7 +18,7 @@ ghost use Rattle.pg_conn.specs.Holding.{IsRelease, gave_up, held_fewer, release,
 ghost use Rattle.pg_conn.specs.Statements.{asked_by, describe};
 ghost use Rattle.pg_conn.specs.Turns.{HasAllRoom};
 ghost use Rattle.pg_locking.specs.Flags.{PollsFlag, forgot_if, left_asking, left_releasing};
-ghost use Rattle.pg_locking.specs.Keys.{key_arguments};
+ghost use Rattle.pg_locks.specs.Keys.{key_arguments};
 ghost use Rattle.pg_locking.specs.Locking.{PollsLock, left_locking, lock_request};
 ghost use Rattle.pg_locking.specs.declared.flag_call.Asking.{Asking};
 ghost use Rattle.pg_locking.specs.declared.lock_call.Stage.{Stage};

@@ -11,7 +11,6 @@ mod force_release;
 mod guard;
 mod held_calls;
 mod holding;
-mod keys;
 pub mod laws;
 mod lock_call;
 mod release_now;

@@ -10,10 +10,9 @@ ghost use Rattle.pg_locking.specs.Locking.{GoesOnLocking, HearsLocked, IsLocking
 ghost use Rattle.pg_locking.specs.Rooms.{IsHeld, IsUnheld};
 
 use crate::holding::{give_up, hold};
-use crate::keys::key_query;
 use pg_call::{Keeping, Prepared};
 use pg_conn::{PgConnection, Request, Turn};
-use pg_locks::PgAdvisoryLockKey;
+use pg_locks::{PgAdvisoryLockKey, key_query};
 use pg_stream::Link;
 use pg_wire::{Error, Oids, Poll, Text};
 

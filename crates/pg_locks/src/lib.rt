@@ -4,10 +4,12 @@
 #![tactic(auto)]
 
 mod key;
+mod keyed;
 mod line;
 mod lock;
 mod queries;
 
 pub use key::PgAdvisoryLockKey;
+pub use keyed::key_query;
 pub use line::key_line;
 pub use lock::PgAdvisoryLock;

@@ -6,7 +6,7 @@ use Rattle.pg_request.specs.Queries.{QueryText}
 use Rattle.pg_request.specs.Asked.{AsksWith, HasBytesOf, bytes_of, kept_query, oids_in, sent_as}
 use Rattle.pg_locks.specs.declared.key.PgAdvisoryLockKey.{PgAdvisoryLockKey}
 use Rattle.pg_locks.specs.declared.key.PgAdvisoryLockKey.TheVariants.{BigInt, IntPair}
-use Rattle.pg_locking.specs.Keys.{HasKey, key_arguments, key_types, key_values, with_key}
+use Rattle.pg_locks.specs.Keys.{HasKey, key_arguments, key_types, key_values, with_key}
 
 types_sent : (key : PgAdvisoryLockKey) → oids_in (key_types key) ≡ (key_arguments key).types
 unfolding builtin_types

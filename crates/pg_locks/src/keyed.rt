@@ -1,10 +1,10 @@
 //! Queries with the numbers of a key as their arguments.
 ghost use Rattle.std.specs.Prelude.{◌≡◌, IfOk, IfErr};
-ghost use Rattle.pg_locking.specs.Keys.{HasKey, with_key};
+ghost use Rattle.pg_locks.specs.Keys.{HasKey, with_key};
 
+use crate::key::PgAdvisoryLockKey;
 use pg_arguments::PgArguments;
-use pg_conn::Query;
-use pg_locks::PgAdvisoryLockKey;
+use pg_request::Query;
 use pg_wire::Error;
 use std::alloc::Global;
 
@@ -48,7 +48,7 @@ fn arguments_of(alloc: Global, key: PgAdvisoryLockKey) -> Result<PgArguments, Er
 }
 
 /// The query of this text with them, whose statement is kept. Their types are built in, so only want of memory refuses it.
-pub(crate) fn key_query(alloc: Global, sql: &str, key: PgAdvisoryLockKey) -> Result<Query, Error>
+pub fn key_query(alloc: Global, sql: &str, key: PgAdvisoryLockKey) -> Result<Query, Error>
     ensures ok { IfOk result (λ query. query ≡ with_key sql.now key) }
     ensures memory { IfErr result (λ e. e ≡ Error.OutOfMemory) }
 {
