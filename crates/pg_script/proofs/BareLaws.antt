@@ -23,7 +23,7 @@ use Rattle.pg_script.specs.declared.argument.Bare.{Bare}
 use Rattle.pg_script.specs.declared.argument.Bare.TheVariants as bare
 use Rattle.pg_script.specs.Reading.{◌>>=◌}
 use Rattle.pg_script.specs.Arguments.{text_in}
-use Rattle.pg_script.specs.Words.{bare_spelling, all_bare_words, behind, begun_by, begun, bool_of, signed_text, magnitude, negative, positive, integer_in, integer_of, each_integer, integers_of, bare_with, bare_of, digits_after, number_of}
+use Rattle.pg_script.specs.Words.{bare_spelling, all_bare_words, behind, begun_by, begun, bool_of, signed_text, magnitude, negative, positive, integer_in, integer_of, each_integer, integers_of, bare_with, bare_of, begins_key, digits_after, number_of}
 use Rattle.pg_script.specs.Grammar.{IsNumber, IsInteger, AreIntegers, SpellsBare}
 use Rattle.pg_script.proofs.Found.{bind_some, utf8_takes}
 use Rattle.pg_script.proofs.SpellingLaws.{none_some, unless, bytes_eq-is, digits_take, digits_again, number_of-takes, number_of-again}
@@ -160,14 +160,14 @@ integer_again limit a z (inr h) = rw (h.1, minus_text h.0 h.2) (minus_again limi
 -- ---- what stands in a word of arguments
 
 -- neither a space, a quote nor a comma
-abbrev part_goes : ℕ → Bool
+abbrev pub part_goes : ℕ → Bool
 part_goes b = goes_on b && not (nat_eq b 44)
 
 digits_go : (ds : List ℕ) → AllDigits 10 ds → list_all part_goes ds ≡ true
 digits_go [] h = refl
 digits_go (b ∷ bs) h = let l = digit_low b h.0 in rw (l.3, l.2) (digits_go bs h.1)
 
-integer_goes : (limit : ℕ) (a : List ℕ) (z : ℤ) → IsInteger limit z a → list_all part_goes a ≡ true
+pub integer_goes : (limit : ℕ) (a : List ℕ) (z : ℤ) → IsInteger limit z a → list_all part_goes a ≡ true
 integer_goes limit a z (inl h) = digits_go a h.0.1
 integer_goes limit a z (inr h) = rw h.1 (digits_go h.0 h.2.1)
 
@@ -177,11 +177,11 @@ part_on b bs h =
     let q = both_true (goes_on b) (not (nat_eq b 44)) p.0 in
     (q.0, negated (nat_eq b 44) q.1, p.1)
 
-word_on : (a : List ℕ) → list_all part_goes a ≡ true → list_all goes_on a ≡ true
+pub word_on : (a : List ℕ) → list_all part_goes a ≡ true → list_all goes_on a ≡ true
 word_on [] h = refl
 word_on (b ∷ bs) h = let p = part_on b bs h in rw p.0 (word_on bs p.2)
 
-joined_on : (a rest : List ℕ) → list_all part_goes a ≡ true → list_all goes_on rest ≡ true → list_all goes_on (a ++ 44 ∷ rest) ≡ true
+pub joined_on : (a rest : List ℕ) → list_all part_goes a ≡ true → list_all goes_on rest ≡ true → list_all goes_on (a ++ 44 ∷ rest) ≡ true
 joined_on [] rest h k = k
 joined_on (b ∷ bs) rest h k = let p = part_on b bs h in rw p.0 (joined_on bs rest p.2 k)
 
@@ -194,14 +194,14 @@ some_more q ps e =
     let clash : y.0 ∷ more.0 ≡ [] = same_Some _ _ more.2 in
     absurd cc
 
-abbrev parts : List ℕ → List (List ℕ)
+abbrev pub parts : List ℕ → List (List ℕ)
 parts a = slice_split (λ c. c == 44) a
 
-last_part : (a : List ℕ) → list_all part_goes a ≡ true → parts a ≡ a ∷ []
+pub last_part : (a : List ℕ) → list_all part_goes a ≡ true → parts a ≡ a ∷ []
 last_part [] h = refl
 last_part (b ∷ bs) h = let p = part_on b bs h in rw (p.1, last_part bs p.2) refl
 
-first_part : (a rest : List ℕ) → list_all part_goes a ≡ true → parts (a ++ 44 ∷ rest) ≡ a ∷ parts rest
+pub first_part : (a rest : List ℕ) → list_all part_goes a ≡ true → parts (a ++ 44 ∷ rest) ≡ a ∷ parts rest
 first_part [] rest h = refl
 first_part (b ∷ bs) rest h = let p = part_on b bs h in rw (p.1, first_part bs rest p.2) refl
 
@@ -346,6 +346,19 @@ bare_is_word b w h = let f = bare_word b w h in rw f.is (by f.word f.rest f.goes
     by bare_words.Int8 d e = e
     by bare_words.Oid d e = e
     by bare_words.Int4s d e = e
+
+-- nor does it begin as a key
+pub bare_begins : (b : Bare) (w : List ℕ) → SpellsBare b w → begins_key w ≡ false
+bare_begins b w h = let f = bare_word b w h in rw f.is (by f.word f.rest)
+  where
+    by : (k : BareWord) (d : List ℕ) → begins_key (bare_spelling k ++ d) ≡ false
+    by bare_words.Null d = refl
+    by bare_words.Bool d = refl
+    by bare_words.Int2 d = refl
+    by bare_words.Int4 d = refl
+    by bare_words.Int8 d = refl
+    by bare_words.Oid d = refl
+    by bare_words.Int4s d = refl
 
 pub bare_begun : (b : Bare) (w : List ℕ) → SpellsBare b w → begun all_bare_words w ≡ None → ⊥
 bare_begun b w h e =

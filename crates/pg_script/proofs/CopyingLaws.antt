@@ -3,6 +3,8 @@ use Rattle.std.proofs.Common.{ℕ, ◌≡◌, ◌<◌, ◌∷◌, ◌++◌, [], 
 use Rattle.std.specs.Str.{is_utf8}
 use Rattle.std.proofs.lemmas.Option.{same_Some}
 use Rattle.pg_script.specs.declared.step.Copying.{Copying}
+use Rattle.pg_script.specs.declared.step.CopyEnd.{CopyEnd}
+use Rattle.pg_script.specs.declared.step.CopyEnd.TheVariants as copy_ends
 use Rattle.pg_script.specs.declared.token.Token.{Token}
 use Rattle.pg_script.specs.declared.token.Token.TheVariants.{Space, Word, Text}
 use Rattle.pg_script.specs.declared.token.Keyword.TheVariants as words
@@ -10,8 +12,8 @@ use Rattle.pg_script.specs.declared.error.LineError.{LineError}
 use Rattle.pg_script.specs.declared.error.LineError.TheVariants as errors
 use Rattle.pg_script.specs.Reading.{◌>>=◌, Fails}
 use Rattle.pg_script.specs.Arguments.{text_in}
-use Rattle.pg_script.specs.Asking.{copying_arg, piece_arg, pieces_in}
-use Rattle.pg_script.specs.Grammar.{copying_tokens, piece_tokens, IsUnicode}
+use Rattle.pg_script.specs.Asking.{copy_end_at, copying_arg, piece_arg, pieces_in}
+use Rattle.pg_script.specs.Grammar.{copying_tokens, end_tokens, piece_tokens, CopyFits, EndFits, IsUnicode}
 use Rattle.pg_script.proofs.Found.{bind_some, utf8_takes}
 use Rattle.pg_script.proofs.Apart.{is_word, apart}
 use Rattle.pg_script.proofs.AskedLaws.{spaced}
@@ -30,16 +32,31 @@ pieces_take (Space ∷ Text s ∷ rest) pieces e =
     ap (λ (ts : List Token). Space ∷ Text s ∷ ts) (pieces_take rest b.0 b.1) ∙ ap piece_tokens (same_Some (s ∷ b.0) pieces b.2)
 pieces_take _ pieces e = absurd cc
 
-abbrev copying : List ℕ → List (List ℕ) → Copying
-copying sql pieces = record { sql = sql; pieces = pieces }
+abbrev copying : List ℕ → List (List ℕ) → CopyEnd → Copying
+copying sql pieces end = record { sql = sql; pieces = pieces; end = end }
 
-pub copying_takes : (ts : List Token) (c : Copying) → copying_arg ts ≡ Some c → (ts ≡ copying_tokens c) × IsUnicode c.sql
-copying_takes (Space ∷ Text s ∷ Space ∷ Word words.Finish ∷ rest) c e =
-    let sql = bind_some (text_in s) (λ (sql : List ℕ). pieces_in rest >>= λ pieces. Some (copying sql pieces)) c e in
-    let pieces = bind_some (pieces_in rest) (λ (pieces : List (List ℕ)). Some (copying sql.0 pieces)) c sql.2 in
+end_takes : (ts : List Token) (x : CopyEnd × List Token) → copy_end_at ts ≡ Some x → (ts ≡ end_tokens x.0 x.1) × EndFits x.0
+end_takes (Word words.Finish ∷ rest) x e =
+    let p : (copy_ends.Finish, rest) ≡ x = cc in
+    subst (λ (y : CopyEnd × List Token). (Word words.Finish ∷ rest ≡ end_tokens y.0 y.1) × EndFits y.0) p (refl, tt)
+end_takes (Word words.Leave ∷ rest) x e =
+    let p : (copy_ends.Leave, rest) ≡ x = cc in
+    subst (λ (y : CopyEnd × List Token). (Word words.Leave ∷ rest ≡ end_tokens y.0 y.1) × EndFits y.0) p (refl, tt)
+end_takes (Word words.Abort ∷ Space ∷ Text s ∷ rest) x e =
+    let message = bind_some (text_in s) (λ (message : List ℕ). Some (copy_ends.Abort message, rest)) x e in
+    let u = utf8_takes (is_utf8 s) s message.0 message.1 in
+    subst (λ (y : CopyEnd × List Token). (Word words.Abort ∷ Space ∷ Text s ∷ rest ≡ end_tokens y.0 y.1) × EndFits y.0) (same_Some (copy_ends.Abort message.0, rest) x message.2) (ap (λ (v : List ℕ). Word words.Abort ∷ Space ∷ Text v ∷ rest) u.1, subst IsUnicode u.1 u.0)
+end_takes _ x e = absurd cc
+
+pub copying_takes : (ts : List Token) (c : Copying) → copying_arg ts ≡ Some c → (ts ≡ copying_tokens c) × CopyFits c
+copying_takes (Space ∷ Text s ∷ Space ∷ rest) c e =
+    let sql = bind_some (text_in s) (λ (sql : List ℕ). copy_end_at rest >>= λ end. pieces_in end.1 >>= λ pieces. Some (copying sql pieces end.0)) c e in
+    let end = bind_some (copy_end_at rest) (λ (end : CopyEnd × List Token). pieces_in end.1 >>= λ pieces. Some (copying sql.0 pieces end.0)) c sql.2 in
+    let pieces = bind_some (pieces_in end.0.1) (λ (pieces : List (List ℕ)). Some (copying sql.0 pieces end.0.0)) c end.2 in
     let u = utf8_takes (is_utf8 s) s sql.0 sql.1 in
-    let tokens = ap (λ (v : List ℕ). Space ∷ Text v ∷ Space ∷ Word words.Finish ∷ rest) u.1 ∙ ap (λ (ts : List Token). Space ∷ Text sql.0 ∷ Space ∷ Word words.Finish ∷ ts) (pieces_take rest pieces.0 pieces.1) in
-    subst (λ (q : Copying). (Space ∷ Text s ∷ Space ∷ Word words.Finish ∷ rest ≡ copying_tokens q) × IsUnicode q.sql) (same_Some (copying sql.0 pieces.0) c pieces.2) (tokens, subst IsUnicode u.1 u.0)
+    let fits = end_takes rest end.0 end.1 in
+    let tokens = ap (λ (v : List ℕ). Space ∷ Text v ∷ Space ∷ rest) u.1 ∙ ap (λ (ts : List Token). Space ∷ Text sql.0 ∷ Space ∷ ts) fits.0 ∙ ap (λ (ts : List Token). Space ∷ Text sql.0 ∷ Space ∷ end_tokens end.0.0 ts) (pieces_take end.0.1 pieces.0 pieces.1) in
+    subst (λ (q : Copying). (Space ∷ Text s ∷ Space ∷ rest ≡ copying_tokens q) × CopyFits q) (same_Some (copying sql.0 pieces.0 end.0.0) c pieces.2) (tokens, (subst IsUnicode u.1 u.0, fits.1))
 copying_takes _ c e = absurd cc
 
 -- ---- the turns of the loop
@@ -62,10 +79,23 @@ pieces_again : (pieces : List (List ℕ)) → pieces_in (piece_tokens pieces) �
 pieces_again [] = refl
 pieces_again (p ∷ more) = rw (pieces_again more) refl
 
-pub copying_again : (c : Copying) → IsUnicode c.sql → copying_arg (copying_tokens c) ≡ Some c
-copying_again c u = rw (u, pieces_again c.pieces) refl
+pub copying_again : (c : Copying) → CopyFits c → copying_arg (copying_tokens c) ≡ Some c
+copying_again c u = by c.end u.1
+  where
+    by : (end : CopyEnd) → EndFits end → copying_arg (copying_tokens (record c { end = end })) ≡ Some (record c { end = end })
+    by copy_ends.Finish f = rw (u.0, pieces_again c.pieces) refl
+    by copy_ends.Leave f = rw (u.0, pieces_again c.pieces) refl
+    by (copy_ends.Abort message) f = rw (u.0, f, pieces_again c.pieces) refl
 
 -- no two words stand side by side
 pub pieces_apart : (t : Token) (pieces : List (List ℕ)) → apart (t ∷ piece_tokens pieces) ≡ true
 pieces_apart t [] = refl
 pieces_apart t (p ∷ more) = spaced (is_word t) _ ∙ pieces_apart (Text p) more
+
+pub copying_apart : (c : Copying) → apart (copying_tokens c) ≡ true
+copying_apart c = by c.end
+  where
+    by : (end : CopyEnd) → apart (Space ∷ Text c.sql ∷ Space ∷ end_tokens end (piece_tokens c.pieces)) ≡ true
+    by copy_ends.Finish = pieces_apart (Word words.Finish) c.pieces
+    by copy_ends.Leave = pieces_apart (Word words.Leave) c.pieces
+    by (copy_ends.Abort message) = pieces_apart (Text message) c.pieces

@@ -6,7 +6,7 @@ use Rattle.std.proofs.lemmas.Bool.Decides.{nat_tests}
 use Rattle.pg_request.specs.Queries.{QueryText, plain_text}
 use Rattle.pg_request.specs.declared.preparation.Preparation.{Preparation}
 use Rattle.pg_script.specs.declared.token.Token.{Token}
-use Rattle.pg_script.specs.declared.token.Token.TheVariants.{Space, Word, Number, SslMode, Text}
+use Rattle.pg_script.specs.declared.token.Token.TheVariants.{Space, Word, Number, SslMode, Key, Text}
 use Rattle.pg_script.specs.declared.token.Keyword.{Keyword}
 use Rattle.pg_script.specs.declared.token.Keyword.TheVariants as words
 use Rattle.pg_script.specs.declared.token.CallWord.{CallWord}
@@ -17,11 +17,13 @@ use Rattle.pg_script.specs.declared.step.Chain.TheVariants as chains
 use Rattle.pg_script.specs.declared.line.Line.{Line}
 use Rattle.pg_script.specs.declared.line.Line.TheVariants as lines
 use Rattle.pg_script.specs.Reading.{◌>>=◌}
-use Rattle.pg_script.specs.Arguments.{alone, bytes_arg, text_in, text_arg, nonce_arg, mode_arg, pair_arg, number_arg, last_number, digits_arg}
+use Rattle.pg_script.specs.Arguments.{alone, bytes_arg, text_in, text_arg, nonce_arg, mode_arg, pair_arg, number_arg, last_number, key_arg, digits_arg}
 use Rattle.pg_script.specs.Asking.{query_arg, asked_arg, prepare_arg, copying_arg}
-use Rattle.pg_script.proofs.CopyingLaws.{copying_takes, copying_again, pieces_apart}
+use Rattle.pg_script.proofs.CopyingLaws.{copying_takes, copying_again, copying_apart}
 use Rattle.pg_script.specs.Lines.{call_with, call_arg, take_of, take_line, most_arg, step_line, link_line, line_with, line_from}
-use Rattle.pg_script.specs.Grammar.{Asked, Raw, Kept, Once, query_tokens, asked_tokens, copying_tokens, preparation_tokens, tokens_of, call_tokens, IsUnicode, QueryFits, AskedFits, LineFits, CallFits}
+use Rattle.pg_script.specs.Grammar.{Asked, Raw, Kept, Once, Short, Long, KeyFits, query_tokens, asked_tokens, copying_tokens, preparation_tokens, tokens_of, call_tokens, IsUnicode, CopyFits, QueryFits, AskedFits, LineFits, CallFits}
+use Rattle.pg_locks.specs.declared.key.PgAdvisoryLockKey.{PgAdvisoryLockKey}
+use Rattle.pg_locks.specs.declared.key.PgAdvisoryLockKey.TheVariants.{BigInt}
 use Rattle.pg_options.specs.declared.ssl_mode.PgSslMode.{PgSslMode}
 use Rattle.pg_script.specs.Nonces.{IsNonce, is_nonce, nonce_in}
 use Rattle.pg_script.proofs.Found.{bind_some, utf8_takes}
@@ -149,11 +151,27 @@ asked_again : (asked : Asked) (q : QueryText) → AskedFits asked q → asked_ar
 asked_again (Raw sql) q f = rw f.0 (ap Some (sym f.1))
 asked_again (Kept sql arguments) q f = given_again true sql arguments f.0 f.1 ∙ f.2
 asked_again (Once sql arguments) q f = given_again false sql arguments f.0 f.1 ∙ f.2
+asked_again (Short n) q f = absurd f
+asked_again (Long k) q f = absurd f
 
 asked_apart : (k : Keyword) (asked : Asked) → apart (Word k ∷ asked_tokens asked) ≡ true
 asked_apart k (Raw sql) = refl
 asked_apart k (Kept sql arguments) = arguments_apart (Text sql) arguments
 asked_apart k (Once sql arguments) = arguments_apart (Text sql) arguments
+asked_apart k (Short n) = refl
+asked_apart k (Long key) = refl
+
+key_takes : (ts : List Token) (k : PgAdvisoryLockKey) → key_arg ts ≡ Some k → (asked : Asked) × (ts ≡ asked_tokens asked) × KeyFits asked k
+key_takes (Space ∷ Number n ∷ []) k e = (Short n, refl, sym (same_Some (BigInt (pos n)) k e))
+key_takes (Space ∷ Key key ∷ []) k e = (Long key, refl, sym (same_Some key k e))
+key_takes _ k e = absurd cc
+
+key_again : (asked : Asked) (k : PgAdvisoryLockKey) → KeyFits asked k → key_arg (asked_tokens asked) ≡ Some k
+key_again (Raw sql) k f = absurd f
+key_again (Kept sql arguments) k f = absurd f
+key_again (Once sql arguments) k f = absurd f
+key_again (Short n) k f = ap Some (sym f)
+key_again (Long key) k f = ap Some (sym f)
 
 alone_takes : {A : Type 0} (x y : A) (ts : List Token) → alone x ts ≡ Some y → (ts ≡ []) × (x ≡ y)
 alone_takes x y [] e = (refl, same_Some x y e)
@@ -190,6 +208,13 @@ queried k make is rest c e =
     let t = asked_takes rest b.0 b.1 in
     subst (IsCall (Word k ∷ rest)) (same_Some (make b.0) c b.2) (subst (λ (ts : List Token). IsCall (Word k ∷ ts) (make b.0)) (sym t.1) (is t.0 b.0 t.2))
 
+keyed : (k : Keyword) (make : PgAdvisoryLockKey → Call) → ((asked : Asked) (key : PgAdvisoryLockKey) → KeyFits asked key → IsCall (Word k ∷ asked_tokens asked) (make key))
+    → (rest : List Token) (c : Call) → (key_arg rest >>= λ key. Some (make key)) ≡ Some c → IsCall (Word k ∷ rest) c
+keyed k make is rest c e =
+    let b = bind_some (key_arg rest) (λ (key : PgAdvisoryLockKey). Some (make key)) c e in
+    let t = key_takes rest b.0 b.1 in
+    subst (IsCall (Word k ∷ rest)) (same_Some (make b.0) c b.2) (subst (λ (ts : List Token). IsCall (Word k ∷ ts) (make b.0)) (sym t.1) (is t.0 b.0 t.2))
+
 call_takes : (k : CallWord) (rest : List Token) (c : Call) → call_with k rest ≡ Some c → IsCall (Word (words.Call k) ∷ rest) c
 call_takes call_words.Execute rest c e = queried (words.Call call_words.Execute) (λ q. calls.Execute q) (λ asked q f. (asked, refl, f)) rest c e
 call_takes call_words.ExecuteMany rest c e = queried (words.Call call_words.ExecuteMany) (λ q. calls.ExecuteMany q) (λ asked q f. (asked, refl, f)) rest c e
@@ -207,9 +232,13 @@ call_takes call_words.Rollback rest c e = bare IsCall calls.Rollback (words.Call
 call_takes call_words.StartRollback rest c e = bare IsCall calls.StartRollback (words.Call call_words.StartRollback) (nothing, refl, tt) rest c e
 call_takes call_words.Prepare rest c e = made IsCall prepare_arg preparation_tokens PreparationFits (λ p. calls.Prepare p) (words.Call call_words.Prepare) prepare_takes (λ p f. (nothing, refl, f)) rest c e
 call_takes call_words.Clear rest c e = bare IsCall calls.Clear (words.Call call_words.Clear) (nothing, refl, tt) rest c e
-call_takes call_words.CopyIn rest c e = made IsCall copying_arg copying_tokens (λ q. IsUnicode q.sql) (λ q. calls.Chain (chains.CopyIn q)) (words.Call call_words.CopyIn) copying_takes (λ q f. (nothing, refl, f)) rest c e
+call_takes call_words.CopyIn rest c e = made IsCall copying_arg copying_tokens CopyFits (λ q. calls.Chain (chains.CopyIn q)) (words.Call call_words.CopyIn) copying_takes (λ q f. (nothing, refl, f)) rest c e
 call_takes call_words.CopyOut rest c e = made IsCall query_arg (λ q. query_tokens q.sql) QueryFits (λ q. calls.CopyOut q) (words.Call call_words.CopyOut) query_takes (λ q f. (nothing, refl, f)) rest c e
 call_takes call_words.Describe rest c e = made IsCall text_arg text_tokens IsUnicode (λ s. calls.Chain (chains.Describe s)) (words.Call call_words.Describe) text_takes (λ s f. (nothing, refl, f)) rest c e
+call_takes call_words.Lock rest c e = keyed (words.Call call_words.Lock) (λ k. calls.Chain (chains.Lock k)) (λ asked k f. (asked, refl, f)) rest c e
+call_takes call_words.TryLock rest c e = keyed (words.Call call_words.TryLock) (λ k. calls.Chain (chains.TryLock k)) (λ asked k f. (asked, refl, f)) rest c e
+call_takes call_words.Unlock rest c e = keyed (words.Call call_words.Unlock) (λ k. calls.Chain (chains.Unlock k)) (λ asked k f. (asked, refl, f)) rest c e
+call_takes call_words.DropLock rest c e = keyed (words.Call call_words.DropLock) (λ k. calls.Chain (chains.DropLock k)) (λ asked k f. (asked, refl, f)) rest c e
 
 behind_takes : (ts : List Token) (c : Call) → call_arg ts ≡ Some c → (asked : Asked) × (ts ≡ Space ∷ call_tokens asked c) × CallFits asked c
 behind_takes (Space ∷ Word (words.Call k) ∷ rest) c e = let t = call_takes k rest c e in (t.0, ap (λ (ts : List Token). Space ∷ ts) t.1, t.2)
@@ -236,11 +265,16 @@ call_again asked (calls.BeginWith q) f = record { read = rw f.0 (ap (λ (r : Que
 call_again asked calls.Commit f = record { read = refl; plain = refl; parts = refl }
 call_again asked calls.Rollback f = record { read = refl; plain = refl; parts = refl }
 call_again asked calls.StartRollback f = record { read = refl; plain = refl; parts = refl }
+call_again asked (calls.Release sql) f = absurd f
 call_again asked (calls.Prepare p) f = record { read = rw (prepare_again p f) refl; plain = refl; parts = oids_apart (Text p.sql) p.types }
 call_again asked calls.Clear f = record { read = refl; plain = refl; parts = refl }
 call_again asked (calls.CopyOut q) f = record { read = rw f.0 (ap (λ (r : QueryText). Some (calls.CopyOut r)) (sym f.1)); plain = refl; parts = refl }
 call_again asked (calls.Chain (chains.Describe s)) f = record { read = rw f refl; plain = refl; parts = refl }
-call_again asked (calls.Chain (chains.CopyIn c)) f = record { read = rw (copying_again c f) refl; plain = refl; parts = pieces_apart (Word words.Finish) c.pieces }
+call_again asked (calls.Chain (chains.CopyIn c)) f = record { read = rw (copying_again c f) refl; plain = refl; parts = copying_apart c }
+call_again asked (calls.Chain (chains.Lock k)) f = record { read = rw (key_again asked k f) refl; plain = refl; parts = asked_apart (words.Call call_words.Lock) asked }
+call_again asked (calls.Chain (chains.TryLock k)) f = record { read = rw (key_again asked k f) refl; plain = refl; parts = asked_apart (words.Call call_words.TryLock) asked }
+call_again asked (calls.Chain (chains.Unlock k)) f = record { read = rw (key_again asked k f) refl; plain = refl; parts = asked_apart (words.Call call_words.Unlock) asked }
+call_again asked (calls.Chain (chains.DropLock k)) f = record { read = rw (key_again asked k f) refl; plain = refl; parts = asked_apart (words.Call call_words.DropLock) asked }
 call_again asked (calls.Describe x) f = absurd f
 call_again asked (calls.Feed x) f = absurd f
 call_again asked (calls.Run b) f = absurd f

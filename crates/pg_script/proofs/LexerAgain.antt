@@ -3,7 +3,7 @@ use Rattle.std.proofs.Common.{ℕ, ◌≡◌, ◌+◌, ◌-◌, ◌*◌, ◌/◌
 use Rattle.std.proofs.lemmas.List.{append-nil}
 use Rattle.std.proofs.lemmas.Bool.Decides.{nat_tests}
 use Rattle.pg_script.specs.declared.token.Token.{Token}
-use Rattle.pg_script.specs.declared.token.Token.TheVariants.{Space, Word, Number, SslMode, Bare as Bareword, Text}
+use Rattle.pg_script.specs.declared.token.Token.TheVariants.{Space, Word, Number, SslMode, Bare as Bareword, Key, Text}
 use Rattle.pg_script.specs.declared.token.Keyword.{Keyword}
 use Rattle.pg_script.specs.declared.argument.Bare.{Bare}
 use Rattle.pg_script.specs.Lexing.{Mode as modes}
@@ -14,11 +14,13 @@ use Rattle.pg_script.specs.Words.{spelling_of, number_of, keyword_of, all_words,
 use Rattle.pg_script.specs.Lexing.{step, finish, tokens_in, at, lexed}
 use Rattle.std.specs.Prelude.{◌&&◌, not}
 use Rattle.std.specs.List.{list_all}
-use Rattle.pg_script.specs.Grammar.{IsCharacter, IsText, IsNumber, SpellsBare, SpellsToken, SpellsAll}
+use Rattle.pg_script.specs.Grammar.{IsCharacter, IsText, IsNumber, IsKey, SpellsBare, SpellsToken, SpellsAll}
 use Rattle.pg_script.proofs.Apart.{is_word, apart}
 use Rattle.pg_script.proofs.WordLaws.{goes_on, is_one_word, word_law}
 use Rattle.pg_script.proofs.LexerTakes.{first_is, mode_is}
-use Rattle.pg_script.proofs.BareLaws.{bare_again, bare_is_word, bare_begun, bare_no_mode}
+use Rattle.pg_script.proofs.BareLaws.{bare_again, bare_is_word, bare_begins, bare_begun, bare_no_mode}
+use Rattle.pg_script.proofs.KeyLaws.{key_goes, key_head, key_token}
+use Rattle.pg_locks.specs.declared.key.PgAdvisoryLockKey.{PgAdvisoryLockKey}
 use Rattle.pg_script.proofs.ModeLaws.{mode_word, mode_utf8}
 use Rattle.pg_script.proofs.SpellingLaws.{none_some, unless, number_of-again, ordinary_tests, hex_value-again, byte_halves}
 use Rattle.pg_wire.proofs.Tests.{both_true, negated, guarded}
@@ -135,9 +137,9 @@ no_mode_in b w (Some m) is h = absurd (bare_no_mode b w m h (mode_is w m is))
 
 bare_token : (w : List ℕ) (b : Bare) → SpellsBare b w → token_of w ≡ Some (Bareword b)
 unfolding token_of
-bare_token w b h = rw (no_number w (word_head w (bare_is_word b w h)), no_word_in b w (keyword_of w) refl h, no_mode_in b w (mode_of w) refl h, bare_again b w h) refl
+bare_token w b h = rw (no_number w (word_head w (bare_is_word b w h)), no_word_in b w (keyword_of w) refl h, no_mode_in b w (mode_of w) refl h, bare_begins b w h, bare_again b w h) refl
 
--- a word, a number, a mode or an argument without quotes at the front of a line
+-- a word, a number, a mode, a key or an argument without quotes at the front of a line
 pub record IsFront (t : Token) (w : List ℕ) : Type 0 where
   pub runs : (ts : List Token) (y : List ℕ) → lexed (at ts [] modes.Word) (w ++ y) ≡ lexed (at ts w modes.Word) y
   pub head : ℕ
@@ -154,11 +156,17 @@ number_front n w h =
     let s = number_shape w n e in
     record { runs = λ ts y. word_runs w ts [] y (digits_go w 0 s.3.0 s.3.1); head = s.0; rest = s.1; is = s.2; token = number_token w n e }
 
+key_front : (k : PgAdvisoryLockKey) (w : List ℕ) → IsKey k w → ((n : ℕ) → IsNumber n w → ⊥) → IsFront (Key k) w
+key_front k w h n =
+    let f = key_head k w h in
+    record { runs = λ ts y. word_runs w ts [] y (key_goes k w h); head = f.0; rest = f.1; is = f.2; token = key_token w k h n }
+
 front : (t : Token) (w : List ℕ) → is_word t ≡ true → SpellsToken t w → IsFront t w
 front (Word k) w i h = subst (IsFront (Word k)) (sym h) (head_front (Word k) (spelling_of k) (word_head (spelling_of k) (word_law k).shape) (word_token k))
 front (Number n) w i h = number_front n w h
 front (SslMode m) w i h = head_front (SslMode m) w (word_head w (mode_word w m h)) (mode_token w m h)
 front (Bareword b) w i h = head_front (Bareword b) w (word_head w (bare_is_word b w h)) (bare_token w b h)
+front (Key k) w i h = key_front k w h.0 h.1
 front _ w i h = absurd cc
 
 -- ---- where a word ends: at the end, a space or a text

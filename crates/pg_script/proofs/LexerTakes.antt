@@ -1,5 +1,5 @@
 -- What the lexer reads is spelling_of so.
-use Rattle.std.proofs.Common.{ℕ, ◌≡◌, ◌+◌, ◌*◌, ◌∷◌, ◌++◌, [], List, Option, Some, None, true, cond, nat_eq, nat_le, refl, sym, ap, ◌∙◌, subst, append_assoc, inl, inr}
+use Rattle.std.proofs.Common.{ℕ, ◌≡◌, ◌+◌, ◌*◌, ◌^◌, ◌∷◌, ◌++◌, [], List, Option, Some, None, true, cond, nat_eq, nat_le, refl, sym, ap, ◌∙◌, subst, append_assoc, inl, inr}
 use Rattle.std.specs.Prelude.{◌&&◌, bytes_eq}
 use Rattle.std.specs.Str.{is_utf8}
 use Rattle.std.proofs.lemmas.List.{append-nil}
@@ -14,14 +14,19 @@ use Rattle.pg_options.specs.declared.ssl_mode.PgSslMode.{PgSslMode}
 use Rattle.pg_options.specs.SslModes.{ssl_mode_from}
 use Rattle.pg_script.specs.Reading.{run}
 use Rattle.pg_script.specs.Arguments.{text_in}
-use Rattle.pg_script.specs.Words.{spelling_of, number_of, first_of, keyword_of, keyword_among, all_words, mode_of, bare_of, token_of}
+use Rattle.pg_script.specs.Words.{spelling_of, number_of, first_of, keyword_of, keyword_among, all_words, mode_of, integer_of, begins_key, key_from, key_of, bare_of, other_of, token_of}
 use Rattle.pg_script.specs.Lexing.{LexerState, start_state, hex_value, word_in, with_byte, with_mode, step_word, step_text, step_escape, step_digit, step_in, step, finish_in, finish, tokens_in, at}
-use Rattle.pg_script.specs.Grammar.{IsCharacter, IsText, SpellsToken, SpellsAll}
-use Rattle.pg_script.proofs.SpellingLaws.{none_some, bytes_eq-is, number_of-takes, ordinary_from, hex_pair-takes}
+use Rattle.pg_script.specs.Grammar.{IsCharacter, IsText, IsKey, SpellsToken, SpellsAll}
+use Rattle.pg_script.proofs.SpellingLaws.{none_some, bytes_eq-is, number_of-takes, number_of-again, ordinary_from, hex_pair-takes}
 use Rattle.pg_wire.proofs.Tests.{chosen, guarded}
 use Rattle.std.proofs.lemmas.Option.{same_Some}
 use Rattle.pg_script.proofs.Found.{bind_some}
-use Rattle.pg_script.proofs.BareLaws.{bare_takes}
+use Rattle.pg_script.proofs.BareLaws.{parts, bare_takes, integer_takes}
+use Rattle.pg_script.specs.Reading.{◌>>=◌}
+use Rattle.std.specs.List.{join_with_byte}
+use Rattle.std.proofs.lemmas.List.Splits.{join_with_byte-slice_split}
+use Rattle.pg_locks.specs.declared.key.PgAdvisoryLockKey.{PgAdvisoryLockKey}
+use Rattle.pg_locks.specs.declared.key.PgAdvisoryLockKey.TheVariants.{BigInt, IntPair}
 
 -- ---- words
 
@@ -40,18 +45,43 @@ mode_is w m e =
     let b = bind_some (text_in w) ssl_mode_from m e in
     ap ssl_mode_from (same_Some w b.0 (guarded (is_utf8 w) (Some w) b.0 b.1).1) ∙ b.2
 
-word_is : (o : Option ℕ) (p : Option Keyword) (q : Option PgSslMode) (r : Option Bare) (w : List ℕ) (t : Token)
-    → number_of w ≡ o → keyword_of w ≡ p → mode_of w ≡ q → bare_of w ≡ r → first_of o p q r ≡ Some t → SpellsToken t w
+from_takes : (ps : List (List ℕ)) (k : PgAdvisoryLockKey) → key_from ps ≡ Some k → IsKey k (join_with_byte 44 ps)
+from_takes [] k e = absurd cc
+from_takes (a ∷ []) k e =
+    let z = bind_some (integer_of (2 ^ 63) a) (λ z. Some (BigInt z)) k e in
+    subst (λ (x : PgAdvisoryLockKey). IsKey x a) (same_Some (BigInt z.0) k z.2) (integer_takes (2 ^ 63) a z.0 z.1)
+from_takes (a ∷ b ∷ []) k e =
+    let y = bind_some (integer_of (2 ^ 31) a) (λ y. integer_of (2 ^ 31) b >>= λ z. Some (IntPair y z)) k e in
+    let z = bind_some (integer_of (2 ^ 31) b) (λ z. Some (IntPair y.0 z)) k y.2 in
+    subst (λ (x : PgAdvisoryLockKey). IsKey x (a ++ 44 ∷ b)) (same_Some (IntPair y.0 z.0) k z.2) (a, b, integer_takes (2 ^ 31) a y.0 y.1, integer_takes (2 ^ 31) b z.0 z.1, refl)
+from_takes (a ∷ b ∷ c ∷ ps) k e = absurd cc
+
+key_takes : (w : List ℕ) (k : PgAdvisoryLockKey) → key_of w ≡ Some k → IsKey k w
+key_takes w k e = subst (IsKey k) (join_with_byte-slice_split 44 w) (from_takes (parts w) k e)
+
+other_is : (w : List ℕ) (t : Token) → number_of w ≡ None → other_of w ≡ Some t → SpellsToken t w
+other_is w t none e = elim (chosen (begins_key w) (key_of w >>= λ k. Some (tokens.Key k)) (bare_of w >>= λ b. Some (tokens.Bare b)) (Some t) e) [
+  | inl c ↦ (
+      let k = bind_some (key_of w) (λ (k : PgAdvisoryLockKey). Some (tokens.Key k)) t c.1 in
+      subst (λ (u : Token). SpellsToken u w) (same_Some (tokens.Key k.0) t k.2) (key_takes w k.0 k.1, λ n h. none_some n (sym none ∙ number_of-again w n h))
+      )
+  | inr c ↦ (
+      let b = bind_some (bare_of w) (λ (b : Bare). Some (tokens.Bare b)) t c.1 in
+      subst (λ (u : Token). SpellsToken u w) (same_Some (tokens.Bare b.0) t b.2) (bare_takes w b.0 b.1)
+      )
+]
+
+word_is : (o : Option ℕ) (p : Option Keyword) (q : Option PgSslMode) (w : List ℕ) (t : Token)
+    → number_of w ≡ o → keyword_of w ≡ p → mode_of w ≡ q → first_of o p q (other_of w) ≡ Some t → SpellsToken t w
 unfolding keyword_of
-word_is (Some n) p q r w t is also mode bare e = subst (λ (u : Token). SpellsToken u w) (same_Some (tokens.Number n) t e) (number_of-takes w n is)
-word_is None (Some k) q r w t is also mode bare e = subst (λ (u : Token). SpellsToken u w) (same_Some (tokens.Word k) t e) (first_is all_words w k also)
-word_is None None (Some m) r w t is also mode bare e = subst (λ (u : Token). SpellsToken u w) (same_Some (tokens.SslMode m) t e) (mode_is w m mode)
-word_is None None None (Some b) w t is also mode bare e = subst (λ (u : Token). SpellsToken u w) (same_Some (tokens.Bare b) t e) (bare_takes w b bare)
-word_is None None None None w t is also mode bare e = absurd cc
+word_is (Some n) p q w t is also mode e = subst (λ (u : Token). SpellsToken u w) (same_Some (tokens.Number n) t e) (number_of-takes w n is)
+word_is None (Some k) q w t is also mode e = subst (λ (u : Token). SpellsToken u w) (same_Some (tokens.Word k) t e) (first_is all_words w k also)
+word_is None None (Some m) w t is also mode e = subst (λ (u : Token). SpellsToken u w) (same_Some (tokens.SslMode m) t e) (mode_is w m mode)
+word_is None None None w t is also mode e = other_is w t is e
 
 token_is : (w : List ℕ) (t : Token) → token_of w ≡ Some t → SpellsToken t w
 unfolding token_of
-token_is w t e = word_is (number_of w) (keyword_of w) (mode_of w) (bare_of w) w t refl refl refl refl e
+token_is w t e = word_is (number_of w) (keyword_of w) (mode_of w) w t refl refl refl e
 
 -- ---- one more at the end
 

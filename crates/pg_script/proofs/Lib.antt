@@ -14,6 +14,7 @@ pub mod GrammarLaws
 pub mod SpellingLaws
 pub mod ModeLaws
 pub mod LexerTakes
+pub mod KeyLaws
 pub mod LexerSteps
 pub mod LexerAgain
 pub mod ScriptLaws

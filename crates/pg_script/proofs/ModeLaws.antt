@@ -19,7 +19,7 @@ use Rattle.pg_wire.proofs.Tests.{both_true, chosen}
 use Rattle.std.proofs.lemmas.Option.{same_Some}
 
 -- a hyphen or a letter, and what stands between them but for digits and a colon
-abbrev is_letter : ℕ → Bool
+abbrev pub is_letter : ℕ → Bool
 is_letter b = (not (is_digit b) && not (nat_eq b 58)) && (nat_le 45 b && nat_le b 122)
 
 named_next : (m : PgSslMode) (ms : List PgSslMode) (name : List ℕ) (k : PgSslMode) → (mode_named name ms ≡ Some k → name ≡ ssl_mode_name k) → cond (bytes_eq name (ssl_mode_name m)) (Some m) (mode_named name ms) ≡ Some k → name ≡ ssl_mode_name k
@@ -49,7 +49,7 @@ all_raised (b ∷ w) e =
     let p = both_true (is_letter (to_ascii_lowercase b)) (list_all is_letter (map to_ascii_lowercase w)) e in
     rw (raised b p.0) (all_raised w p.1)
 
-letters : (w : List ℕ) (m : PgSslMode) → ssl_mode_from w ≡ Some m → list_all is_letter w ≡ true
+pub letters : (w : List ℕ) (m : PgSslMode) → ssl_mode_from w ≡ Some m → list_all is_letter w ≡ true
 unfolding ssl_mode_from
 letters w m e = all_raised w (ap (list_all is_letter) (named_is ssl_modes (map to_ascii_lowercase w) m e) ∙ name_letters m)
 

@@ -37,7 +37,7 @@ is_digit-value b e =
     let v = digit_value_digit b r in
     (omega (arith, v, r.0, r.1), omega (arith, v, r.0, r.1))
 
-is_digit-from : (b : ℕ) → digit_value b < 10 → is_digit b ≡ true
+pub is_digit-from : (b : ℕ) → digit_value b < 10 → is_digit b ≡ true
 is_digit-from b h = let r = digit_from_value b h in grind (arith, nat_tests, r.0, r.1)
 
 pub digits_take : (w : List ℕ) (n m : ℕ) → digits_after n w ≡ Some m → AllDigits 10 w × (digits_value_after 10 n w ≡ m)

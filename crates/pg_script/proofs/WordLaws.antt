@@ -4,9 +4,10 @@ use Rattle.std.specs.Prelude.{◌&&◌, not}
 use Rattle.std.specs.List.{list_all}
 use Rattle.pg_script.specs.declared.token.Keyword.{Keyword}
 use Rattle.pg_script.specs.declared.token.Keyword.TheVariants as words
+use Rattle.pg_script.specs.declared.token.CallWord.{CallWord}
 use Rattle.pg_script.specs.declared.token.CallWord.TheVariants as call_words
 use Rattle.pg_options.specs.SslModes.{ssl_mode_from}
-use Rattle.pg_script.specs.Words.{spelling_of, keyword_of, begun, all_bare_words, is_digit}
+use Rattle.pg_script.specs.Words.{call_spelling, spelling_of, keyword_of, begun, all_bare_words, begins_key, is_digit}
 
 -- a byte that ends no word
 abbrev pub goes_on : ℕ → Bool
@@ -52,6 +53,8 @@ word_law words.Raw = record { shape = refl; read = refl; no_mode = refl; no_bare
 word_law words.Query = record { shape = refl; read = refl; no_mode = refl; no_bare = refl }
 word_law words.Once = record { shape = refl; read = refl; no_mode = refl; no_bare = refl }
 word_law words.Finish = record { shape = refl; read = refl; no_mode = refl; no_bare = refl }
+word_law words.Abort = record { shape = refl; read = refl; no_mode = refl; no_bare = refl }
+word_law words.Leave = record { shape = refl; read = refl; no_mode = refl; no_bare = refl }
 word_law words.Text = record { shape = refl; read = refl; no_mode = refl; no_bare = refl }
 word_law words.Bytea = record { shape = refl; read = refl; no_mode = refl; no_bare = refl }
 word_law words.Texts = record { shape = refl; read = refl; no_mode = refl; no_bare = refl }
@@ -75,3 +78,16 @@ word_law (words.Call call_words.Clear) = record { shape = refl; read = refl; no_
 word_law (words.Call call_words.CopyIn) = record { shape = refl; read = refl; no_mode = refl; no_bare = refl }
 word_law (words.Call call_words.CopyOut) = record { shape = refl; read = refl; no_mode = refl; no_bare = refl }
 word_law (words.Call call_words.Describe) = record { shape = refl; read = refl; no_mode = refl; no_bare = refl }
+word_law (words.Call call_words.Lock) = record { shape = refl; read = refl; no_mode = refl; no_bare = refl }
+word_law (words.Call call_words.TryLock) = record { shape = refl; read = refl; no_mode = refl; no_bare = refl }
+word_law (words.Call call_words.Unlock) = record { shape = refl; read = refl; no_mode = refl; no_bare = refl }
+word_law (words.Call call_words.DropLock) = record { shape = refl; read = refl; no_mode = refl; no_bare = refl }
+
+-- and none begins as a key
+call_begins : (c : CallWord) → begins_key (call_spelling c) ≡ false
+call_begins call_words.Execute = refl
+call_begins _ = refl
+
+pub word_begins : (k : Keyword) → begins_key (spelling_of k) ≡ false
+word_begins (words.Call c) = call_begins c
+word_begins _ = refl

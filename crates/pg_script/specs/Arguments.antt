@@ -2,8 +2,10 @@
 use Rattle.std.specs.Prelude.{◌∷◌, [], List, ℕ, ℤ, pos, Option, Some, None, nat_le, if◌then◌else◌}
 use Rattle.std.specs.Str.{is_utf8}
 use Rattle.pg_script.specs.declared.token.Token.{Token}
-use Rattle.pg_script.specs.declared.token.Token.TheVariants.{Space, Word, Number, SslMode, Text}
+use Rattle.pg_script.specs.declared.token.Token.TheVariants.{Space, Word, Number, SslMode, Key, Text}
 use Rattle.pg_script.specs.declared.token.Keyword.TheVariants as words
+use Rattle.pg_locks.specs.declared.key.PgAdvisoryLockKey.{PgAdvisoryLockKey}
+use Rattle.pg_locks.specs.declared.key.PgAdvisoryLockKey.TheVariants.{BigInt}
 use Rattle.pg_options.specs.declared.ssl_mode.PgSslMode.{PgSslMode}
 use Rattle.pg_script.specs.Reading.{◌>>=◌}
 use Rattle.pg_script.specs.Nonces.{nonce_in}
@@ -46,6 +48,12 @@ number_arg _ = None
 abbrev pub last_number : List Token → Option ℕ
 last_number (Space ∷ Number n ∷ []) = Some n
 last_number _ = None
+
+-- the key of a lock, which may be a number
+abbrev pub key_arg : List Token → Option PgAdvisoryLockKey
+key_arg (Space ∷ Number n ∷ []) = Some (BigInt (pos n))
+key_arg (Space ∷ Key k ∷ []) = Some k
+key_arg _ = None
 
 -- a number up to 3
 abbrev pub digit_in : ℕ → Option ℤ

@@ -5,6 +5,8 @@ use Rattle.pg_request.specs.declared.preparation.Preparation.{Preparation}
 use Rattle.pg_script.specs.declared.argument.Argument.{Argument}
 use Rattle.pg_script.specs.declared.argument.Argument.TheVariants as given
 use Rattle.pg_script.specs.declared.step.Copying.{Copying}
+use Rattle.pg_script.specs.declared.step.CopyEnd.{CopyEnd}
+use Rattle.pg_script.specs.declared.step.CopyEnd.TheVariants as copy_ends
 use Rattle.pg_script.specs.declared.token.Token.{Token}
 use Rattle.pg_script.specs.declared.token.Token.TheVariants.{Space, Word, Number, Bare, Text}
 use Rattle.pg_script.specs.declared.token.Keyword.TheVariants as words
@@ -100,10 +102,18 @@ pieces_in [] = Some []
 pieces_in (Space ∷ Text piece ∷ rest) = pieces_in rest >>= λ others. Some (piece ∷ others)
 pieces_in _ = None
 
--- a text of SQL that copies from the client, and its data
+-- what becomes of a copy, and the tokens behind it
+abbrev pub copy_end_at : List Token → Option (CopyEnd × List Token)
+copy_end_at (Word words.Finish ∷ rest) = Some (copy_ends.Finish, rest)
+copy_end_at (Word words.Leave ∷ rest) = Some (copy_ends.Leave, rest)
+copy_end_at (Word words.Abort ∷ Space ∷ Text s ∷ rest) = text_in s >>= λ message. Some (copy_ends.Abort message, rest)
+copy_end_at _ = None
+
+-- a text of SQL that copies from the client, what becomes of it, and its data
 abbrev pub copying_arg : List Token → Option Copying
-copying_arg (Space ∷ Text s ∷ Space ∷ Word words.Finish ∷ rest) = do
+copying_arg (Space ∷ Text s ∷ Space ∷ rest) = do
   sql ← text_in s
-  pieces ← pieces_in rest
-  Some (record { sql = sql; pieces = pieces })
+  end ← copy_end_at rest
+  pieces ← pieces_in end.1
+  Some (record { sql = sql; pieces = pieces; end = end.0 })
 copying_arg _ = None

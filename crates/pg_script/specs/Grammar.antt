@@ -11,10 +11,12 @@ use Rattle.pg_script.specs.declared.argument.Bare.TheVariants as bare
 use Rattle.pg_script.specs.declared.argument.Argument.{Argument}
 use Rattle.pg_script.specs.declared.argument.Argument.TheVariants as given
 use Rattle.pg_script.specs.declared.token.Token.{Token}
-use Rattle.pg_script.specs.declared.token.Token.TheVariants.{Space, Word, Number, SslMode, Bare as Bareword, Text}
+use Rattle.pg_script.specs.declared.token.Token.TheVariants.{Space, Word, Number, SslMode, Bare as Bareword, Key, Text}
 use Rattle.pg_script.specs.declared.token.Keyword.TheVariants as words
 use Rattle.pg_script.specs.declared.token.CallWord.TheVariants as call_words
 use Rattle.pg_script.specs.declared.step.Copying.{Copying}
+use Rattle.pg_script.specs.declared.step.CopyEnd.{CopyEnd}
+use Rattle.pg_script.specs.declared.step.CopyEnd.TheVariants as copy_ends
 use Rattle.pg_script.specs.declared.step.Call.{Call}
 use Rattle.pg_script.specs.declared.step.Call.TheVariants as calls
 use Rattle.pg_script.specs.declared.step.Chain.TheVariants as chains
@@ -24,6 +26,8 @@ use Rattle.pg_script.specs.declared.kind.Kind.{Kind}
 use Rattle.pg_script.specs.declared.kind.Kind.TheVariants as kinds
 use Rattle.pg_script.specs.declared.script.Script.{Script}
 use Rattle.pg_script.specs.declared.live.LiveScript.{LiveScript}
+use Rattle.pg_locks.specs.declared.key.PgAdvisoryLockKey.{PgAdvisoryLockKey}
+use Rattle.pg_locks.specs.declared.key.PgAdvisoryLockKey.TheVariants.{BigInt, IntPair}
 use Rattle.pg_options.specs.SslModes.{ssl_mode_from}
 use Rattle.pg_script.specs.Words.{spelling_of}
 use Rattle.pg_script.specs.Given.{given_query}
@@ -33,12 +37,14 @@ use Rattle.pg_script.specs.declared.error.ReadError.{ReadError}
 use Rattle.pg_script.specs.declared.error.ReadError.TheVariants as errors
 
 -- ---- what the calls with a query run: a text alone behind the word `raw`, or one with arguments behind the word `query`, or behind `once` where
--- its statement isn't kept
+-- its statement isn't kept; and how the key of a lock is written: as a number, or as a key that is none
 
 pub data Asked : Type 0 where
   Raw : List ℕ → Asked
   Kept : List ℕ → List Argument → Asked
   Once : List ℕ → List Argument → Asked
+  Short : ℕ → Asked
+  Long : PgAdvisoryLockKey → Asked
 
 -- texts between commas
 abbrev pub comma_tokens : List (List ℕ) → List Token
@@ -66,6 +72,8 @@ abbrev pub asked_tokens : Asked → List Token
 asked_tokens (Raw sql) = Space ∷ Word words.Raw ∷ query_tokens sql
 asked_tokens (Kept sql arguments) = Space ∷ Word words.Query ∷ Space ∷ Text sql ∷ arguments_tokens arguments
 asked_tokens (Once sql arguments) = Space ∷ Word words.Once ∷ Space ∷ Text sql ∷ arguments_tokens arguments
+asked_tokens (Short n) = Space ∷ Number n ∷ []
+asked_tokens (Long key) = Space ∷ Key key ∷ []
 
 -- the types of the first parameters of a text, by their OIDs
 abbrev pub oid_tokens : List ℕ → List Token
@@ -80,8 +88,14 @@ abbrev pub piece_tokens : List (List ℕ) → List Token
 piece_tokens [] = []
 piece_tokens (piece ∷ more) = Space ∷ Text piece ∷ piece_tokens more
 
+-- what becomes of a copy, in front of other tokens
+abbrev pub end_tokens : CopyEnd → List Token → List Token
+end_tokens copy_ends.Finish rest = Word words.Finish ∷ rest
+end_tokens (copy_ends.Abort message) rest = Word words.Abort ∷ Space ∷ Text message ∷ rest
+end_tokens copy_ends.Leave rest = Word words.Leave ∷ rest
+
 abbrev pub copying_tokens : Copying → List Token
-copying_tokens copying = Space ∷ Text copying.sql ∷ Space ∷ Word words.Finish ∷ piece_tokens copying.pieces
+copying_tokens copying = Space ∷ Text copying.sql ∷ Space ∷ end_tokens copying.end (piece_tokens copying.pieces)
 
 -- ---- lines as tokens: one row a line
 
@@ -105,6 +119,10 @@ call_tokens asked calls.Clear = Word (words.Call call_words.Clear) ∷ []
 call_tokens asked (calls.CopyOut query) = Word (words.Call call_words.CopyOut) ∷ query_tokens query.sql
 call_tokens asked (calls.Chain (chains.CopyIn copying)) = Word (words.Call call_words.CopyIn) ∷ copying_tokens copying
 call_tokens asked (calls.Chain (chains.Describe sql)) = Word (words.Call call_words.Describe) ∷ query_tokens sql
+call_tokens asked (calls.Chain (chains.Lock key)) = Word (words.Call call_words.Lock) ∷ asked_tokens asked
+call_tokens asked (calls.Chain (chains.TryLock key)) = Word (words.Call call_words.TryLock) ∷ asked_tokens asked
+call_tokens asked (calls.Chain (chains.Unlock key)) = Word (words.Call call_words.Unlock) ∷ asked_tokens asked
+call_tokens asked (calls.Chain (chains.DropLock key)) = Word (words.Call call_words.DropLock) ∷ asked_tokens asked
 call_tokens asked _ = []
 
 -- digits below 0 have no spelling (`LineFits` has none of them)
@@ -154,6 +172,20 @@ abbrev pub AskedFits : Asked → QueryText → Type 0
 AskedFits (Raw sql) query = IsUnicode sql × (query ≡ plain_text sql)
 AskedFits (Kept sql arguments) query = IsUnicode sql × AllByRecursion ArgumentFits arguments × (given_query true sql arguments ≡ Some query)
 AskedFits (Once sql arguments) query = IsUnicode sql × AllByRecursion ArgumentFits arguments × (given_query false sql arguments ≡ Some query)
+AskedFits _ query = ⊥
+
+-- the key is the one that is written
+abbrev pub KeyFits : Asked → PgAdvisoryLockKey → Type 0
+KeyFits (Short n) key = key ≡ BigInt (pos n)
+KeyFits (Long other) key = key ≡ other
+KeyFits _ key = ⊥
+
+abbrev pub EndFits : CopyEnd → Type 0
+EndFits (copy_ends.Abort message) = IsUnicode message
+EndFits _ = Unit {0}
+
+abbrev pub CopyFits : Copying → Type 0
+CopyFits copying = IsUnicode copying.sql × EndFits copying.end
 
 abbrev pub CallFits : Asked → Call → Type 0
 CallFits asked (calls.Execute query) = AskedFits asked query
@@ -173,8 +205,12 @@ CallFits asked calls.StartRollback = Unit {0}
 CallFits asked (calls.Prepare preparation) = IsUnicode preparation.sql
 CallFits asked calls.Clear = Unit {0}
 CallFits asked (calls.CopyOut query) = QueryFits query
-CallFits asked (calls.Chain (chains.CopyIn copying)) = IsUnicode copying.sql
+CallFits asked (calls.Chain (chains.CopyIn copying)) = CopyFits copying
 CallFits asked (calls.Chain (chains.Describe sql)) = IsUnicode sql
+CallFits asked (calls.Chain (chains.Lock key)) = KeyFits asked key
+CallFits asked (calls.Chain (chains.TryLock key)) = KeyFits asked key
+CallFits asked (calls.Chain (chains.Unlock key)) = KeyFits asked key
+CallFits asked (calls.Chain (chains.DropLock key)) = KeyFits asked key
 CallFits asked _ = ⊥
 
 abbrev pub LineFits : Asked → Line → Type 0
@@ -234,12 +270,18 @@ SpellsBare (bare.Int8 z) a = (d : List ℕ) × (a ≡ codes "int8:" ++ d) × IsI
 SpellsBare (bare.Oid n) a = (d : List ℕ) × (a ≡ codes "oid:" ++ d) × IsNumber n d
 SpellsBare (bare.Int4s zs) a = (d : List ℕ) × (a ≡ codes "int4s:" ++ d) × AreIntegers (2 ^ 31) zs d
 
+-- a number of 64 bits with a sign, or two of 32 bits that a comma joins
+abbrev pub IsKey : PgAdvisoryLockKey → List ℕ → Type 0
+IsKey (BigInt z) a = IsInteger (2 ^ 63) z a
+IsKey (IntPair y z) a = (d e : List ℕ) × IsInteger (2 ^ 31) y d × IsInteger (2 ^ 31) z e × (a ≡ d ++ 44 ∷ e)
+
 abbrev pub SpellsToken : Token → List ℕ → Type 0
 SpellsToken Space a = a ≡ 32 ∷ []
 SpellsToken (Word k) a = a ≡ spelling_of k
 SpellsToken (Number n) a = IsNumber n a
 SpellsToken (SslMode mode) a = ssl_mode_from a ≡ Some mode
 SpellsToken (Bareword b) a = SpellsBare b a
+SpellsToken (Key key) a = IsKey key a × ((n : ℕ) → IsNumber n a → ⊥)
 SpellsToken (Text s) a = (q : List ℕ) × IsText s q × (a ≡ 34 ∷ q ++ 34 ∷ [])
 
 abbrev pub SpellsAll : List Token → List ℕ → Type 0

@@ -14,7 +14,7 @@ use Rattle.pg_script.specs.declared.line.Line.{Line}
 use Rattle.pg_script.specs.declared.line.Line.TheVariants as lines
 use Rattle.pg_script.specs.Lexing.{tokens_in}
 use Rattle.pg_script.specs.Reading.{◌>>=◌}
-use Rattle.pg_script.specs.Arguments.{alone, bytes_arg, text_arg, nonce_arg, mode_arg, pair_arg, number_arg, last_number, digits_arg}
+use Rattle.pg_script.specs.Arguments.{alone, bytes_arg, text_arg, nonce_arg, mode_arg, pair_arg, number_arg, last_number, key_arg, digits_arg}
 use Rattle.pg_script.specs.Asking.{query_arg, asked_arg, prepare_arg, copying_arg}
 
 -- ---- calls
@@ -39,6 +39,10 @@ call_with call_words.Clear rest = alone calls.Clear rest
 call_with call_words.CopyIn rest = copying_arg rest >>= λ copying. Some (calls.Chain (chains.CopyIn copying))
 call_with call_words.CopyOut rest = query_arg rest >>= λ query. Some (calls.CopyOut query)
 call_with call_words.Describe rest = text_arg rest >>= λ sql. Some (calls.Chain (chains.Describe sql))
+call_with call_words.Lock rest = key_arg rest >>= λ key. Some (calls.Chain (chains.Lock key))
+call_with call_words.TryLock rest = key_arg rest >>= λ key. Some (calls.Chain (chains.TryLock key))
+call_with call_words.Unlock rest = key_arg rest >>= λ key. Some (calls.Chain (chains.Unlock key))
+call_with call_words.DropLock rest = key_arg rest >>= λ key. Some (calls.Chain (chains.DropLock key))
 
 abbrev pub call_arg : List Token → Option Call
 call_arg (Space ∷ Word (words.Call word) ∷ rest) = call_with word rest

@@ -1,5 +1,5 @@
 -- The words of a script, and its numbers.
-use Rattle.std.specs.Prelude.{◌+◌, ◌*◌, ◌-◌, ◌^◌, ◌∷◌, ◌&&◌, ◌==◌, [], List, ℕ, ℤ, pos, neg_ℤ, Bool, true, false, Option, Some, None, codes, bytes_eq, nat_lt, nat_le, length, take, drop, if◌then◌else◌}
+use Rattle.std.specs.Prelude.{◌+◌, ◌*◌, ◌-◌, ◌^◌, ◌∷◌, ◌&&◌, ◌||◌, ◌==◌, [], List, ℕ, ℤ, pos, neg_ℤ, Bool, true, false, Option, Some, None, codes, bytes_eq, nat_lt, nat_le, length, take, drop, if◌then◌else◌}
 use Rattle.std.specs.List.{slice_split}
 use Rattle.pg_script.specs.declared.token.Keyword.{Keyword}
 use Rattle.pg_script.specs.declared.token.Keyword.TheVariants as words
@@ -11,6 +11,8 @@ use Rattle.pg_script.specs.declared.argument.Bare.{Bare}
 use Rattle.pg_script.specs.declared.argument.Bare.TheVariants as bare
 use Rattle.pg_script.specs.declared.token.Token.{Token}
 use Rattle.pg_script.specs.declared.token.Token.TheVariants as tokens
+use Rattle.pg_locks.specs.declared.key.PgAdvisoryLockKey.{PgAdvisoryLockKey}
+use Rattle.pg_locks.specs.declared.key.PgAdvisoryLockKey.TheVariants.{BigInt, IntPair}
 use Rattle.pg_options.specs.declared.ssl_mode.PgSslMode.{PgSslMode}
 use Rattle.pg_options.specs.SslModes.{ssl_mode_from}
 use Rattle.pg_script.specs.Reading.{◌>>=◌}
@@ -37,6 +39,10 @@ call_spelling call_words.Clear = codes "clear"
 call_spelling call_words.CopyIn = codes "copyin"
 call_spelling call_words.CopyOut = codes "copyout"
 call_spelling call_words.Describe = codes "describe"
+call_spelling call_words.Lock = codes "lock"
+call_spelling call_words.TryLock = codes "trylock"
+call_spelling call_words.Unlock = codes "unlock"
+call_spelling call_words.DropLock = codes "droplock"
 
 -- how a word is spelled
 abbrev pub spelling_of : Keyword → List ℕ
@@ -67,6 +73,8 @@ spelling_of words.Raw = codes "raw"
 spelling_of words.Query = codes "query"
 spelling_of words.Once = codes "once"
 spelling_of words.Finish = codes "finish"
+spelling_of words.Abort = codes "abort"
+spelling_of words.Leave = codes "leave"
 spelling_of words.Text = codes "text:"
 spelling_of words.Bytea = codes "bytea:"
 spelling_of words.Texts = codes "texts:"
@@ -74,9 +82,9 @@ spelling_of words.Comma = codes ","
 spelling_of (words.Call word) = call_spelling word
 
 abbrev pub all_words : List Keyword
-all_words = words.Step ∷ words.Server ∷ words.Raw ∷ words.Query ∷ words.Once ∷ words.Finish ∷ words.Text ∷ words.Bytea ∷ words.Texts ∷ words.Comma ∷ words.Wait ∷ words.Call call_words.Execute ∷ words.Call call_words.Fetch ∷ words.Call call_words.FetchAll ∷ words.Call call_words.FetchOne
+all_words = words.Step ∷ words.Server ∷ words.Raw ∷ words.Query ∷ words.Once ∷ words.Finish ∷ words.Abort ∷ words.Leave ∷ words.Text ∷ words.Bytea ∷ words.Texts ∷ words.Comma ∷ words.Wait ∷ words.Call call_words.Execute ∷ words.Call call_words.Fetch ∷ words.Call call_words.FetchAll ∷ words.Call call_words.FetchOne
     ∷ words.Call call_words.FetchOptional ∷ words.Call call_words.FetchMany ∷ words.Call call_words.ExecuteMany ∷ words.Call call_words.Ping ∷ words.Call call_words.Flush ∷ words.Call call_words.Begin
-    ∷ words.Call call_words.BeginWith ∷ words.Call call_words.Commit ∷ words.Call call_words.Rollback ∷ words.Call call_words.StartRollback ∷ words.Call call_words.Prepare ∷ words.Call call_words.Clear ∷ words.Call call_words.CopyIn ∷ words.Call call_words.CopyOut ∷ words.Call call_words.Describe ∷ words.Most ∷ words.Take ∷ words.Hold ∷ words.End
+    ∷ words.Call call_words.BeginWith ∷ words.Call call_words.Commit ∷ words.Call call_words.Rollback ∷ words.Call call_words.StartRollback ∷ words.Call call_words.Prepare ∷ words.Call call_words.Clear ∷ words.Call call_words.CopyIn ∷ words.Call call_words.CopyOut ∷ words.Call call_words.Describe ∷ words.Call call_words.Lock ∷ words.Call call_words.TryLock ∷ words.Call call_words.Unlock ∷ words.Call call_words.DropLock ∷ words.Most ∷ words.Take ∷ words.Hold ∷ words.End
     ∷ words.Fail ∷ words.Break ∷ words.Start ∷ words.User ∷ words.Password ∷ words.Database ∷ words.Application ∷ words.Option ∷ words.SslMode ∷ words.Cache ∷ words.Digits ∷ words.None ∷ words.Link ∷ words.Upgrade
     ∷ words.Local ∷ words.Nonce ∷ []
 
@@ -184,14 +192,36 @@ bare_with bare_words.Int4s bytes = integers_of bytes >>= λ zs. Some (bare.Int4s
 unfoldable pub bare_of : List ℕ → Option Bare
 bare_of word = begun all_bare_words word >>= λ x. bare_with x.0 x.1
 
+-- ---- keys of locks
+
+-- a digit or a minus stands first
+abbrev pub begins_key : List ℕ → Bool
+begins_key [] = false
+begins_key (b ∷ bs) = b == 45 || is_digit b
+
+abbrev pub key_from : List (List ℕ) → Option PgAdvisoryLockKey
+key_from (a ∷ []) = integer_of (2 ^ 63) a >>= λ z. Some (BigInt z)
+key_from (a ∷ b ∷ []) = do
+  y ← integer_of (2 ^ 31) a
+  z ← integer_of (2 ^ 31) b
+  Some (IntPair y z)
+key_from _ = None
+
+-- one number, or two that a comma joins
+abbrev pub key_of : List ℕ → Option PgAdvisoryLockKey
+key_of word = key_from (slice_split (λ c. c == 44) word)
+
 -- ---- tokens
 
-abbrev pub first_of : Option ℕ → Option Keyword → Option PgSslMode → Option Bare → Option Token
-first_of (Some n) word mode found = Some (tokens.Number n)
-first_of None (Some k) mode found = Some (tokens.Word k)
-first_of None None (Some m) found = Some (tokens.SslMode m)
-first_of None None None found = found >>= λ b. Some (tokens.Bare b)
+abbrev pub other_of : List ℕ → Option Token
+other_of word = if begins_key word then key_of word >>= (λ k. Some (tokens.Key k)) else bare_of word >>= (λ b. Some (tokens.Bare b))
 
--- a number, a word, the name of a mode or an argument
+abbrev pub first_of : Option ℕ → Option Keyword → Option PgSslMode → Option Token → Option Token
+first_of (Some n) word mode other = Some (tokens.Number n)
+first_of None (Some k) mode other = Some (tokens.Word k)
+first_of None None (Some m) other = Some (tokens.SslMode m)
+first_of None None None other = other
+
+-- a number, a word, the name of a mode, the key of a lock or an argument
 unfoldable pub token_of : List ℕ → Option Token
-token_of word = first_of (number_of word) (keyword_of word) (mode_of word) (bare_of word)
+token_of word = first_of (number_of word) (keyword_of word) (mode_of word) (other_of word)

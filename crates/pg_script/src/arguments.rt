@@ -1,11 +1,12 @@
 ghost use Rattle.std.specs.Prelude.{◌≡◌, option_map};
 ghost use Rattle.std.specs.Str.{is_utf8};
 ghost use Rattle.pg_script.specs.Reading.{Gives};
-ghost use Rattle.pg_script.specs.Arguments.{text_in, alone, bytes_arg, text_arg, nonce_arg, mode_arg, pair_arg, number_arg, last_number, digit_in, digits_arg};
+ghost use Rattle.pg_script.specs.Arguments.{text_in, alone, bytes_arg, text_arg, nonce_arg, mode_arg, pair_arg, number_arg, last_number, key_arg, digit_in, digits_arg};
 
 use crate::error::LineError;
 use crate::nonce::Nonce;
 use crate::token::{Keyword, Token};
+use pg_locks::PgAdvisoryLockKey;
 use pg_options::PgSslMode;
 use pg_wire::Text;
 use std::alloc::Global;
@@ -120,6 +121,19 @@ pub(crate) fn last_number(tokens: &[Token]) -> Result<u32, LineError>
 {
     match tokens {
         [Token::Space, Token::Number(number)] => Ok(*number),
+        _ => Err(LineError::Bad),
+    }
+}
+
+/// The key of a lock, and nothing more.
+pub(crate) fn key_arg(tokens: &[Token]) -> Result<PgAdvisoryLockKey, LineError>
+    ensures { Gives (λ k. k) result (key_arg tokens.now) }
+{
+    match tokens {
+        [Token::Space, Token::Number(number)] => {
+            Ok(PgAdvisoryLockKey::BigInt(i64::from(*number)))
+        }
+        [Token::Space, Token::Key(key)] => Ok(*key),
         _ => Err(LineError::Bad),
     }
 }

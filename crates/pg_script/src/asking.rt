@@ -1,12 +1,12 @@
 ghost use Rattle.std.specs.Prelude.{◌≡◌, ◌∷◌, [], option_map};
 ghost use Rattle.pg_script.specs.Reading.{Gives};
-ghost use Rattle.pg_script.specs.Asking.{in_front, comma_text, more_texts, texts_at, argument_at, arguments_in, query_arg, given_arg, asked_arg, oids_in, prepare_arg, piece_arg, pieces_in, copying_arg};
+ghost use Rattle.pg_script.specs.Asking.{in_front, comma_text, more_texts, texts_at, argument_at, arguments_in, query_arg, given_arg, asked_arg, oids_in, prepare_arg, piece_arg, pieces_in, copy_end_at, copying_arg};
 
 use crate::argument::Argument;
 use crate::arguments::{number_arg, text_arg, text_of};
 use crate::encoding::given_query;
 use crate::error::LineError;
-use crate::step::Copying;
+use crate::step::{CopyEnd, Copying};
 use crate::token::{Keyword, Token};
 use pg_request::{Preparation, Query};
 use pg_wire::{Blob, Oid, Oids, Sequence, Text};
@@ -200,21 +200,36 @@ fn pieces_in(alloc: Global, tokens: &[Token]) -> Result<Sequence<Blob>, LineErro
     Ok(pieces)
 }
 
-/// One text of SQL that copies from the client, the word `finish`, and its data in pieces.
+// The word for what becomes of a copy, with its message, and the tokens behind it.
+fn copy_end_at(alloc: Global, tokens: &[Token]) -> Result<(CopyEnd, &[Token]), LineError>
+    ensures { Gives (λ x. (x.0, x.1.now)) result (copy_end_at tokens.now) }
+{
+    match tokens {
+        [Token::Word(Keyword::Finish), rest @ ..] => Ok((CopyEnd::Finish, rest)),
+        [Token::Word(Keyword::Leave), rest @ ..] => Ok((CopyEnd::Leave, rest)),
+        [
+            Token::Word(Keyword::Abort),
+            Token::Space,
+            Token::Text(message),
+            rest @ ..,
+        ] => {
+            let message = text_of(alloc, message.as_bytes())?;
+            Ok((CopyEnd::Abort(message), rest))
+        }
+        _ => Err(LineError::Bad),
+    }
+}
+
+/// One text of SQL that copies from the client, what becomes of the copy, and its data in pieces.
 pub(crate) fn copying_arg(alloc: Global, tokens: &[Token]) -> Result<Copying, LineError>
     ensures { Gives (λ c. c) result (copying_arg tokens.now) }
 {
     match tokens {
-        [
-            Token::Space,
-            Token::Text(sql),
-            Token::Space,
-            Token::Word(Keyword::Finish),
-            rest @ ..,
-        ] => {
+        [Token::Space, Token::Text(sql), Token::Space, rest @ ..] => {
             let sql = text_of(alloc, sql.as_bytes())?;
+            let (end, rest) = copy_end_at(alloc, rest)?;
             let pieces = pieces_in(alloc, rest)?;
-            Ok(Copying { sql, pieces })
+            Ok(Copying { sql, pieces, end })
         }
         _ => Err(LineError::Bad),
     }

@@ -82,22 +82,22 @@ fn int2_of(bytes: &[u8]) -> Option<i16>
     text.parse::<i16>().ok()
 }
 
-fn int4_of(bytes: &[u8]) -> Option<i32>
+pub(crate) fn int4_of(bytes: &[u8]) -> Option<i32>
     ensures { result ≡ integer_of (2 ^ 31) bytes.now }
 {
     let text = signed_text(bytes)?;
     text.parse::<i32>().ok()
 }
 
-fn int8_of(bytes: &[u8]) -> Option<i64>
+pub(crate) fn int8_of(bytes: &[u8]) -> Option<i64>
     ensures { result ≡ integer_of (2 ^ 63) bytes.now }
 {
     let text = signed_text(bytes)?;
     text.parse::<i64>().ok()
 }
 
-// The parts between commas.
-fn parts<'b>(alloc: Global, bytes: &'b [u8]) -> Result<Vec<&'b [u8]>, AllocError>
+/// The parts between commas.
+pub(crate) fn parts<'b>(alloc: Global, bytes: &'b [u8]) -> Result<Vec<&'b [u8]>, AllocError>
     ensures { IfOk result (λ v. map (λ x. x.now) v.items ≡ slice_split (λ b. b == 44) bytes.now) }
 {
     bytes.split(|byte| *byte == b',').collect(alloc)
@@ -128,7 +128,7 @@ fn integers_of(alloc: Global, bytes: &[u8]) -> Result<Sequence<i32>, LineError>
     each_integer(alloc, &parts)
 }
 
-fn found<T: Drop>(value: Option<T>) -> Result<T, LineError>
+pub(crate) fn found<T: Drop>(value: Option<T>) -> Result<T, LineError>
     ensures { Gives (λ x. x) result value }
 {
     match value {

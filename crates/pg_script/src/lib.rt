@@ -22,7 +22,8 @@
 //! behind it, a text of SQL, or with `query TEXT` and any number of ARG, each behind a space: one statement with arguments, which is kept,
 //! or with `once` in place of `query`, whose statement isn't kept; `begin_with TEXT` and `copyout TEXT`, where the text is one of SQL as well;
 //! `prepare TEXT` and any number of N, each behind a space: the OIDs of the types of its first parameters; `describe TEXT`, which prepares a text
-//! of SQL and asks of its columns whether they may be null; or `ping`, `flush`, `begin`, `commit`, `rollback`, `start_rollback` or `clear`, which
+//! of SQL and asks of its columns whether they may be null; `lock KEY`, `trylock KEY`, `unlock KEY` and `droplock KEY`, where a KEY is a Z of eight
+//! bytes, or two Z of four bytes with a comma between; or `ping`, `flush`, `begin`, `commit`, `rollback`, `start_rollback` or `clear`, which
 //! closes all statements that are kept.
 //!
 //! | ARG | Its type and value |
@@ -52,6 +53,7 @@ mod asking;
 mod bare;
 mod encoding;
 mod error;
+mod keys;
 mod kind;
 mod lexer;
 mod line;
@@ -68,4 +70,4 @@ pub use live::LiveScript;
 pub use nonce::Nonce;
 pub use reader::{read_live, read_script};
 pub use script::Script;
-pub use step::{Call, Chain, Copying, Fed, Step};
+pub use step::{Call, Chain, CopyEnd, Copying, Fed, Parting, Step};

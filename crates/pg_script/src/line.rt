@@ -3,8 +3,8 @@ ghost use Rattle.pg_script.specs.Reading.{Gives};
 ghost use Rattle.pg_script.specs.Lines.{call_with, call_arg, take_line, most_arg, step_line, link_line, line_with, line_from, line_in};
 
 use crate::arguments::{
-    alone, bytes_arg, digits_arg, is_utf8, last_number, mode_arg, nonce_arg, number_arg, pair_arg,
-    text_arg,
+    alone, bytes_arg, digits_arg, is_utf8, key_arg, last_number, mode_arg, nonce_arg, number_arg,
+    pair_arg, text_arg,
 };
 use crate::asking::{asked_arg, copying_arg, prepare_arg, query_arg};
 use crate::error::LineError;
@@ -77,6 +77,10 @@ fn call_with(alloc: Global, word: CallWord, rest: &[Token]) -> Result<Call, Line
         CallWord::CopyIn => Ok(Call::Chain(Chain::CopyIn(copying_arg(alloc, rest)?))),
         CallWord::CopyOut => Ok(Call::CopyOut(query_arg(alloc, rest)?)),
         CallWord::Describe => Ok(Call::Chain(Chain::Describe(text_arg(alloc, rest)?))),
+        CallWord::Lock => Ok(Call::Chain(Chain::Lock(key_arg(rest)?))),
+        CallWord::TryLock => Ok(Call::Chain(Chain::TryLock(key_arg(rest)?))),
+        CallWord::Unlock => Ok(Call::Chain(Chain::Unlock(key_arg(rest)?))),
+        CallWord::DropLock => Ok(Call::Chain(Chain::DropLock(key_arg(rest)?))),
     }
 }
 

@@ -1,15 +1,41 @@
 ghost use Rattle.std.specs.Prelude.{◌≡◌, IfOk, IfErr};
 
 use pg_call::{Bound, Eviction, Extended, Prepared};
+use pg_locks::PgAdvisoryLockKey;
 use pg_request::{Preparation, Query};
 use pg_wire::{Blob, Error, Sequence, StatementId, Text};
 use std::alloc::Global;
 
-/// A copy from the client: its text, and its data in pieces.
+/// What becomes of a copy from the client once its data is queued.
+#[derive(Debug, Drop)]
+pub enum CopyEnd {
+    /// Its data is ended, and the server counts its rows.
+    Finish,
+    /// It is failed by this message.
+    Abort(Text),
+    /// Its data is sent, and it is left as it stands.
+    Leave,
+}
+
+/// A copy from the client: its text, its data in pieces, and what becomes of it.
 #[derive(Debug, Drop)]
 pub struct Copying {
     pub sql: Text,
     pub pieces: Sequence<Blob>,
+    pub end: CopyEnd,
+}
+
+/// How a copy from the client that was open was given up, all of its data being queued.
+#[derive(Debug, Drop)]
+pub enum Parting {
+    /// It wasn't, or for another cause.
+    None,
+    /// It was left as it stood, once all was sent.
+    Left,
+    /// It was left since the message that was to fail it can't be said.
+    Unsaid,
+    /// It was failed by this message.
+    Failed(Text),
 }
 
 /// A copy from the client as it came: its text, and the messages of data that were queued.
@@ -17,8 +43,9 @@ pub struct Copying {
 pub struct Fed {
     pub sql: Text,
     pub pieces: Sequence<Blob>,
-    /// Whether they were all.
+    /// Whether their end was queued behind them.
     pub is_ended: bool,
+    pub parting: Parting,
 }
 
 /// Calls of a connection one behind another, of which a script says all by one word.
@@ -28,6 +55,14 @@ pub enum Chain {
     Describe(Text),
     /// Copies from the client.
     CopyIn(Copying),
+    /// Takes the advisory lock of a key, waits for it, and has a guard of it from then on.
+    Lock(PgAdvisoryLockKey),
+    /// Takes it where nobody else holds it, with a guard as well, and tells whether it did.
+    TryLock(PgAdvisoryLockKey),
+    /// Releases it, and tells whether it was held. A guard of it stays.
+    Unlock(PgAdvisoryLockKey),
+    /// Gives the first guard of that key up, where there is one, and releases its lock without waiting for it.
+    DropLock(PgAdvisoryLockKey),
 }
 
 // The same pieces again.
@@ -42,6 +77,35 @@ fn copied_pieces(alloc: Global, pieces: &Sequence<Blob>) -> Result<Sequence<Blob
     Ok(copies)
 }
 
+impl CopyEnd {
+    /// An equal end. Only want of memory refuses it.
+    pub fn to_copy(&self, alloc: Global) -> Result<Self, Error>
+        ensures copy { IfOk result (λ e. e ≡ self.now) }
+        ensures memory { IfErr result (λ e. e ≡ Error.OutOfMemory) }
+    {
+        Ok(match self {
+            CopyEnd::Finish => CopyEnd::Finish,
+            CopyEnd::Abort(message) => CopyEnd::Abort(message.to_copy(alloc)?),
+            CopyEnd::Leave => CopyEnd::Leave,
+        })
+    }
+}
+
+impl Parting {
+    /// An equal one. Only want of memory refuses it.
+    pub fn to_copy(&self, alloc: Global) -> Result<Self, Error>
+        ensures copy { IfOk result (λ p. p ≡ self.now) }
+        ensures memory { IfErr result (λ e. e ≡ Error.OutOfMemory) }
+    {
+        Ok(match self {
+            Parting::None => Parting::None,
+            Parting::Left => Parting::Left,
+            Parting::Unsaid => Parting::Unsaid,
+            Parting::Failed(message) => Parting::Failed(message.to_copy(alloc)?),
+        })
+    }
+}
+
 impl Copying {
     /// An equal copy. Only want of memory refuses it.
     pub fn to_copy(&self, alloc: Global) -> Result<Self, Error>
@@ -50,7 +114,8 @@ impl Copying {
     {
         let sql = self.sql.to_copy(alloc)?;
         let pieces = copied_pieces(alloc, &self.pieces)?;
-        Ok(Copying { sql, pieces })
+        let end = self.end.to_copy(alloc)?;
+        Ok(Copying { sql, pieces, end })
     }
 }
 
@@ -62,10 +127,12 @@ impl Fed {
     {
         let sql = self.sql.to_copy(alloc)?;
         let pieces = copied_pieces(alloc, &self.pieces)?;
+        let parting = self.parting.to_copy(alloc)?;
         Ok(Fed {
             sql,
             pieces,
             is_ended: self.is_ended,
+            parting,
         })
     }
 }
@@ -79,6 +146,10 @@ impl Chain {
         Ok(match self {
             Chain::Describe(text) => Chain::Describe(text.to_copy(alloc)?),
             Chain::CopyIn(copying) => Chain::CopyIn(copying.to_copy(alloc)?),
+            Chain::Lock(key) => Chain::Lock(*key),
+            Chain::TryLock(key) => Chain::TryLock(*key),
+            Chain::Unlock(key) => Chain::Unlock(*key),
+            Chain::DropLock(key) => Chain::DropLock(*key),
         })
     }
 }
@@ -103,6 +174,8 @@ pub enum Call {
     Rollback,
     /// Queues a rollback without waiting for it.
     StartRollback,
+    /// Queues this text of SQL, which releases a lock, without waiting for it. No script says it alone.
+    Release(Text),
     /// The first exchange of a query with arguments, which describes it. No script says it alone.
     Describe(Extended),
     /// The one that runs what was described, or what is kept.
@@ -156,6 +229,7 @@ impl Call {
             Call::Commit => Call::Commit,
             Call::Rollback => Call::Rollback,
             Call::StartRollback => Call::StartRollback,
+            Call::Release(text) => Call::Release(text.to_copy(alloc)?),
             Call::Describe(extended) => Call::Describe(extended.to_copy(alloc)?),
             Call::Run(bound) => Call::Run(bound.to_copy(alloc)?),
             Call::Prepare(preparation) => Call::Prepare(preparation.to_copy(alloc)?),

@@ -1,4 +1,5 @@
 use crate::argument::Bare;
+use pg_locks::PgAdvisoryLockKey;
 use pg_options::PgSslMode;
 use pg_wire::Blob;
 
@@ -24,6 +25,10 @@ pub(crate) enum CallWord {
     CopyIn,
     CopyOut,
     Describe,
+    Lock,
+    TryLock,
+    Unlock,
+    DropLock,
 }
 
 /// The words of a script.
@@ -55,8 +60,10 @@ pub(crate) enum Keyword {
     Raw,
     Query,
     Once,
-    /// How the data of a copy ends.
+    /// How a copy is to end behind its data.
     Finish,
+    Abort,
+    Leave,
     /// In front of a text, of bytes and of texts that are arguments.
     Text,
     Bytea,
@@ -88,6 +95,8 @@ pub(crate) enum Token {
     SslMode(PgSslMode),
     /// An argument that stands without quotes.
     Bare(Bare),
+    /// The key of a lock that isn't such a number.
+    Key(PgAdvisoryLockKey),
     /// The bytes that a quoted text means.
     Text(Blob),
 }

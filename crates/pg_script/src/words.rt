@@ -1,22 +1,25 @@
 ghost use Rattle.std.specs.Prelude.{◌≡◌};
 ghost use Rattle.pg_script.specs.Reading.{Gives};
-ghost use Rattle.pg_script.specs.Words.{call_spelling, spelling_of, number_of, keyword_among, keyword_of, mode_of, token_of};
+ghost use Rattle.pg_script.specs.Words.{call_spelling, spelling_of, number_of, keyword_among, keyword_of, mode_of, other_of, token_of};
 
 use crate::arguments::text_in;
 use crate::bare::bare_of;
 use crate::error::LineError;
+use crate::keys::{begins_key, key_of};
 use crate::token::{CallWord, Keyword, Token};
 use pg_options::PgSslMode;
 use std::alloc::Global;
 
 /// All words of a script, the most usual first.
-const WORDS: [Keyword; 50] = [
+const WORDS: [Keyword; 56] = [
     Keyword::Step,
     Keyword::Server,
     Keyword::Raw,
     Keyword::Query,
     Keyword::Once,
     Keyword::Finish,
+    Keyword::Abort,
+    Keyword::Leave,
     Keyword::Text,
     Keyword::Bytea,
     Keyword::Texts,
@@ -41,6 +44,10 @@ const WORDS: [Keyword; 50] = [
     Keyword::Call(CallWord::CopyIn),
     Keyword::Call(CallWord::CopyOut),
     Keyword::Call(CallWord::Describe),
+    Keyword::Call(CallWord::Lock),
+    Keyword::Call(CallWord::TryLock),
+    Keyword::Call(CallWord::Unlock),
+    Keyword::Call(CallWord::DropLock),
     Keyword::Most,
     Keyword::Take,
     Keyword::Hold,
@@ -87,6 +94,10 @@ fn call_spelling(word: CallWord) -> &'static [u8]
         CallWord::CopyIn => b"copyin",
         CallWord::CopyOut => b"copyout",
         CallWord::Describe => b"describe",
+        CallWord::Lock => b"lock",
+        CallWord::TryLock => b"trylock",
+        CallWord::Unlock => b"unlock",
+        CallWord::DropLock => b"droplock",
     }
 }
 
@@ -122,6 +133,8 @@ fn spelling_of(word: Keyword) -> &'static [u8]
         Keyword::Query => b"query",
         Keyword::Once => b"once",
         Keyword::Finish => b"finish",
+        Keyword::Abort => b"abort",
+        Keyword::Leave => b"leave",
         Keyword::Text => b"text:",
         Keyword::Bytea => b"bytea:",
         Keyword::Texts => b"texts:",
@@ -174,7 +187,18 @@ fn mode_of(word: &[u8]) -> Option<PgSslMode>
     PgSslMode::from_name(name)
 }
 
-/// A number, a word, the name of a mode or an argument.
+// A word of another kind: the key of a lock, or an argument.
+fn other_of(alloc: Global, word: &[u8]) -> Result<Token, LineError>
+    ensures { Gives (λ t. t) result (other_of word.now) }
+{
+    if begins_key(word) {
+        Ok(Token::Key(key_of(alloc, word)?))
+    } else {
+        Ok(Token::Bare(bare_of(alloc, word)?))
+    }
+}
+
+/// A number, a word, the name of a mode, the key of a lock or an argument.
 #[tactic(auto, unfolding(crate::specs::Words::token_of))]
 pub(crate) fn token_of(alloc: Global, word: &[u8]) -> Result<Token, LineError>
     ensures { Gives (λ t. t) result (token_of word.now) }
@@ -185,7 +209,7 @@ pub(crate) fn token_of(alloc: Global, word: &[u8]) -> Result<Token, LineError>
             Some(keyword) => Ok(Token::Word(keyword)),
             None => match mode_of(word) {
                 Some(mode) => Ok(Token::SslMode(mode)),
-                None => Ok(Token::Bare(bare_of(alloc, word)?)),
+                None => other_of(alloc, word),
             },
         },
     }
