@@ -66,11 +66,13 @@ use Rattle.pg_report.specs.declared.outcome.Outcome.{Outcome}
 use Rattle.pg_call.proofs.FitLaws.{the_ok}
 use Rattle.pg_call.specs.declared.query_result.PgQueryResult.{PgQueryResult}
 use Rattle.pg_play.specs.declared.tally.Limits.{Limits}
+use Rattle.pg_script.specs.declared.step.Parting.{Parting}
+use Rattle.pg_script.specs.declared.step.Parting.TheVariants as partings
 use Rattle.pg_play.specs.Shown.{item_of, items_with, has_rows, answer_of, IsWanted}
 use Rattle.pg_startup.specs.Flows.{Flows}
 use Rattle.pg_startup.proofs.FlowLaws.{Flows-then, Flows-none, flows_begun}
 use Rattle.pg_play.proofs.WaitLaws.{still_grown, waits_none, waits_on}
-use Rattle.pg_play.specs.Calls.{again, change_fed, change_for, copy_behind, Waited, Went, InPlay, IsPlayingOn, IsPlaying, EndsStarved, IsDropped, broken_after, HasWaitedFew, IsFresh, EndsAtOnce, EndsOn, HasEnded, IsLast, EndsCall, PlaysOne, outcome_of, Ended, StopsBy, behind_end}
+use Rattle.pg_play.specs.Calls.{Bounds, bounds, parted, failed_by, again, change_fed, change_for, copy_behind, Waited, Went, InPlay, IsPlayingOn, IsPlaying, EndsStarved, IsDropped, IsDroppedAs, broken_after, HasWaitedFew, IsFresh, EndsAtOnce, EndsOn, HasEnded, IsLast, EndsCall, PlaysOne, outcome_of, Ended, StopsBy, behind_end}
 use Rattle.pg_conn.proofs.TurnLaws.{tells_from, spelled-append, counts-append, seen_cleaned, seen_unfed, cleaned_call, kept}
 
 -- ---- the stream, over any number of polls
@@ -81,7 +83,7 @@ count-append t xs ys = sum_by-append (λ (y : FrontendMessage). cond (t y) 1 0) 
 -- ---- one poll more
 
 -- a poll that waits has one more cause
-waited_more : (n : ℕ) (a b c : StreamSeen) → NoneFalls b.link c.link → b.moves ≤ c.moves → Waited n a b → PendingCause (record b { left = 256 }) c → Waited (n + 1) a c
+pub waited_more : (n : ℕ) (a b c : StreamSeen) → NoneFalls b.link c.link → b.moves ≤ c.moves → Waited n a b → PendingCause (record b { left = 256 }) c → Waited (n + 1) a c
 waited_more n a b c m v h p = elim p [
   | inl x ↦ record {
     write_waits = h.write_waits + 1;
@@ -120,7 +122,7 @@ waited_more n a b c m v h p = elim p [
   ]
 ]
 
-waited_after : (n : ℕ) (a b c : StreamSeen) → NoneFalls b.link c.link → NoneWaited b c → b.moves ≤ c.moves → Waited n a b → Waited n a c
+pub waited_after : (n : ℕ) (a b c : StreamSeen) → NoneFalls b.link c.link → NoneWaited b c → b.moves ≤ c.moves → Waited n a b → Waited n a c
 waited_after n a b c m w v h = record {
   write_waits = h.write_waits;
   read_waits = h.read_waits;
@@ -168,7 +170,7 @@ pub record AfterBeat (first : StreamSeen) (a c : ConnSeen) (r : Request) (waits 
   pub unsaid : (CanBeSaid r → ⊥) → BeatRefuses a c r items fs beat
   pub unflushed : is_flushed a ≡ true → BeatFlushes a c items fs beat
 
-heard_cause : (a b c : StreamSeen) (e : Error) → NoneFalls a.link b.link → HeardCause (record b { left = 256 }) c e → HeardCause a c e
+pub heard_cause : (a b c : StreamSeen) (e : Error) → NoneFalls a.link b.link → HeardCause (record b { left = 256 }) c e → HeardCause a c e
 heard_cause a b c errors.OutOfMemory m h = tt
 heard_cause a b c (errors.Io io.Fault) m h = omega (arith, h, m.faults)
 heard_cause a b c (errors.Io io.End) m h = (omega (arith, h.0, m.ends), h.1)
@@ -228,7 +230,7 @@ waits_freely left b c (inr (inl x)) = inr (inl x)
 waits_freely left b c (inr (inr (inl x))) = inr (inr (inl x))
 waits_freely left b c (inr (inr (inr x))) = inl x.1.2
 
-went_on : (left : ℕ) (a b c : ConnSeen) (said more : List FrontendMessage) (q : List ℕ) (fs gs : List Frame) → Went a b said fs → Moves (record b.stream { left = left }) c.stream q gs → spelled more ≡ q → GrewBy (count_by ends_request more) b.groups c.groups
+pub went_on : (left : ℕ) (a b c : ConnSeen) (said more : List FrontendMessage) (q : List ℕ) (fs gs : List Frame) → Went a b said fs → Moves (record b.stream { left = left }) c.stream q gs → spelled more ≡ q → GrewBy (count_by ends_request more) b.groups c.groups
     → GrewBy (length (heard gs)) b.heard c.heard → (c.sent ≡ b.sent) × (c.read ≡ b.read) × (c.rule ≡ b.rule) × (standing c ≡ standing b) → NoneWaited b.stream c.stream ⊎ PendingCause (record b.stream { left = left }) c.stream → Went a c (said ++ more) (fs ++ gs)
 went_on left a b c said more q fs gs w m e g h s waited = record {
   flows = subst (λ (t : List ℕ). Flows a.stream c.stream t (fs ++ gs)) (ap (λ (t : List ℕ). spelled said ++ t) (sym e) ∙ sym (spelled-append said more)) (Flows-then a.stream b.stream c.stream (spelled said) q fs gs w.flows (flows_begun b.stream c.stream left q gs m));
@@ -382,7 +384,7 @@ pub not_at_once : (a c : ConnSeen) (r : Request) (shown : List Item) (end : End)
 not_at_once a c r shown end fs n m = record { refused = λ u. absurd (n u); flushed = λ f. absurd (m f) }
 
 -- an end on a connection that was whole
-pub ended_whole : (limits : Limits) (first : StreamSeen) (a c : ConnSeen) (r : Request) (shown : List Item) (end : End) (said : List FrontendMessage) (fs : List Frame) → a.broken ≡ None → Went a c said fs
+pub ended_whole : (limits : Bounds) (first : StreamSeen) (a c : ConnSeen) (r : Request) (shown : List Item) (end : End) (said : List FrontendMessage) (fs : List Frame) → a.broken ≡ None → Went a c said fs
     → c.broken ≡ broken_after None end → HasWaitedFew limits.polls first c.stream end → (HasAllRoom a → HasAllRoom c) → c.stream.link.calls ≤ first.link.calls + 256 * (limits.polls + limits.most) → EndsAtOnce a c r shown end fs → EndsOn None limits first a c r said (heard fs) shown end → EndsCall r end → HasEnded limits first a c r shown end
 ended_whole limits first a c r shown end said fs e w k few room made once n call = (
   said,
@@ -426,7 +428,7 @@ pub unqueued_unfed : (over : Bool) (c : ConnSeen) → c.groups ≡ 0 → unfed o
 unqueued_unfed over c e = stays_unfed over c (ap (λ (n : ℕ). not (nat_eq n 0) && begins_copy c.change) e) (ap (λ (n : ℕ). not (nat_eq n 0) && is_fed c.change) e)
 
 -- an end on one that was broken, where nothing was queued
-ended_broken : (limits : Limits) (first : StreamSeen) (a c : ConnSeen) (r : Request) (fault : ServerFault) → 0 < limits.polls → a.broken ≡ Some fault → c ≡ cleaned (idle a) → a.groups ≡ 0 → first ≡ a.stream → StopsBy limits first a c r [] (ends.Err (errors.Protocol (protocol.Server fault)))
+ended_broken : (limits : Bounds) (first : StreamSeen) (a c : ConnSeen) (r : Request) (fault : ServerFault) → 0 < limits.polls → a.broken ≡ Some fault → c ≡ cleaned (idle a) → a.groups ≡ 0 → first ≡ a.stream → StopsBy limits first a c r [] (ends.Err (errors.Protocol (protocol.Server fault)))
 ended_broken limits first a c r fault l e k g same = (idle a, ([], [], stays, tt), inl (refl, k ∙ sym (ap (λ (x : ConnSeen). cleaned x) (unqueued_unfed false (idle a) g))))
   where
     stays : Ended limits first a (idle a) r [] (ends.Err (errors.Protocol (protocol.Server fault))) [] []
@@ -463,11 +465,11 @@ again_once (requests.CopyIn feed) = by feed.is_ended
     by false = omega arith
 again_once _ = omega arith
 
-pub few_calls : (first : StreamSeen) (c : ConnSeen) (r : Request) (waits items : ℕ) (limits : Limits) → waits < limits.polls → items < limits.most → c.stream.link.calls ≤ first.link.calls + 256 * (waits + (items + again r) + 1) → c.stream.link.calls ≤ first.link.calls + 256 * (limits.polls + limits.most)
+pub few_calls : (first : StreamSeen) (c : ConnSeen) (r : Request) (waits items : ℕ) (limits : Bounds) → waits < limits.polls → items < limits.most → c.stream.link.calls ≤ first.link.calls + 256 * (waits + (items + again r) + 1) → c.stream.link.calls ≤ first.link.calls + 256 * (limits.polls + limits.most)
 few_calls first c r waits items limits l m k = omega (arith, l, m, k, again_once r)
 
 -- an end that isn't a drop
-pub ends_few : (limits : Limits) (a c : StreamSeen) (waits : ℕ) (end : End) → waits < limits.polls → Waited waits a c → HasWaitedFew limits.polls a c end
+pub ends_few : (limits : Bounds) (a c : StreamSeen) (waits : ℕ) (end : End) → waits < limits.polls → Waited waits a c → HasWaitedFew limits.polls a c end
 ends_few limits a c waits end l w = (waits, w, (λ d. l, omega (arith, l)))
 
 unleft : (a m : ConnSeen) → m.broken ≡ None → record m { broken = None; stream = record m.stream { left = a.stream.left } } ≡ record m { stream = record m.stream { left = a.stream.left } }
@@ -480,7 +482,7 @@ ends_last (requests.Evict eviction) reply status answer e n d = n _ (sym (the_ok
 ends_last (requests.Run bound) reply status answer e n d = cc
 ends_last _ reply status answer e n d = cc
 
-pub goes_ok : (limits : Limits) (o : Option ServerFault) (first : StreamSeen) (a c : ConnSeen) (r : Request) (waits : ℕ) (old new : List Item) (answer : CallAnswer) (told : Answer) → waits < limits.polls → a.broken ≡ o → new ≡ items_with old answer → told ≡ answer_of answer
+pub goes_ok : (limits : Bounds) (o : Option ServerFault) (first : StreamSeen) (a c : ConnSeen) (r : Request) (waits : ℕ) (old new : List Item) (answer : CallAnswer) (told : Answer) → waits < limits.polls → a.broken ≡ o → new ≡ items_with old answer → told ≡ answer_of answer
     → ((next : Request) → answer ≡ answers.Next next → ⊥) → PlayBeat o limits.most first a c r waits old (beats.Ends (Ok answer)) → StopsBy limits first a c r new (ends.Ok told)
 goes_ok limits None first a c r waits old new answer told l e n t none h =
     let m = h.3 in
@@ -575,7 +577,7 @@ not_none n l = by (nat_eq n 0) refl
     by true e = let z = eqb-true n 0 e in absurd (omega (arith, z, l))
 
 -- without memory for the items of the answer
-pub goes_unshown : (limits : Limits) (o : Option ServerFault) (first : StreamSeen) (a c : ConnSeen) (r : Request) (waits : ℕ) (old new : List Item) (answer : CallAnswer) (f : Error) → waits < limits.polls → a.broken ≡ o → new ≡ [] → f ≡ errors.OutOfMemory → has_rows answer ≡ true
+pub goes_unshown : (limits : Bounds) (o : Option ServerFault) (first : StreamSeen) (a c : ConnSeen) (r : Request) (waits : ℕ) (old new : List Item) (answer : CallAnswer) (f : Error) → waits < limits.polls → a.broken ≡ o → new ≡ [] → f ≡ errors.OutOfMemory → has_rows answer ≡ true
     → PlayBeat o limits.most first a c r waits old (beats.Ends (Ok answer)) → StopsBy limits first a c r new (ends.Err f)
 goes_unshown limits None first a c r waits old new answer f l e n t b h =
     let m = h.3 in
@@ -597,7 +599,7 @@ broken_same _ = refl
 same_error : (e e' : Error) → beats.Ends (Err e) ≡ beats.Ends (Err e') → e ≡ e'
 same_error e e' h = cc
 
-pub goes_err : (limits : Limits) (o : Option ServerFault) (first : StreamSeen) (a c : ConnSeen) (r : Request) (waits : ℕ) (shown : List Item) (err : Error) → waits < limits.polls → a.broken ≡ o → PlayBeat o limits.most first a c r waits shown (beats.Ends (Err err)) → StopsBy limits first a c r shown (ends.Err err)
+pub goes_err : (limits : Bounds) (o : Option ServerFault) (first : StreamSeen) (a c : ConnSeen) (r : Request) (waits : ℕ) (shown : List Item) (err : Error) → waits < limits.polls → a.broken ≡ o → PlayBeat o limits.most first a c r waits shown (beats.Ends (Err err)) → StopsBy limits first a c r shown (ends.Err err)
 goes_err limits None first a c r waits shown err l e h =
     let m = h.3 in
     let after = h.5.2 in
@@ -617,26 +619,26 @@ call_runs start r said hs items ledger calls.Closing i = refl
 call_runs start r said hs items ledger calls.Idle i = absurd i
 
 drops : (limits : Limits) (o : Option ServerFault) (most : ℕ) (first : StreamSeen) (a c : ConnSeen) (r : Request) (waits : ℕ) (items : List CallItem) (shown : List Item) (said : List FrontendMessage) (fs : List Frame) → a.broken ≡ None → shown ≡ map item_of items → InPlay first a c r waits items said fs
-    → ((CanBeSaid r → ⊥) → ⊥) → (is_flushed a ≡ true → ⊥) → waits ≤ limits.polls → IsDropped limits first a c shown → length shown ≤ limits.most → length items + again r ≤ limits.most → StopsBy limits first a c r shown ends.Dropped
+    → ((CanBeSaid r → ⊥) → ⊥) → (is_flushed a ≡ true → ⊥) → waits ≤ limits.polls → IsDropped (bounds limits) first a c [] [] shown → length shown ≤ limits.most → length items + again r ≤ limits.most → StopsBy (bounds limits) first a c r shown ends.Dropped
 drops limits o most first a c r waits items shown said fs e k i n m l d b x =
-    let ended = ended_whole limits first a c r shown ends.Dropped said fs e i.went i.broken (waits, i.waited, (λ n. absurd (n refl), l)) i.room (omega (arith, i.calls, l, x)) (not_at_once a c r shown ends.Dropped fs n m)
+    let ended = ended_whole (bounds limits) first a c r shown ends.Dropped said fs e i.went i.broken (waits, i.waited, (λ n. absurd (n refl), l)) i.room (omega (arith, i.calls, l, x)) (not_at_once a c r shown ends.Dropped fs n m)
     (items, k, leaves_call a.ledger r said (heard fs) items c.ledger c.call i.call, call_well a.ledger r said (heard fs) items c.ledger c.call i.call, d, b) tt in
-    (c, ended, inr (call_runs a.ledger r said (heard fs) items c.ledger c.call i.call, refl, refl))
+    (c, ended, inr (call_runs a.ledger r said (heard fs) items c.ledger c.call i.call, refl, λ x. refl, refl))
 
-pub drops_waiting : (limits : Limits) (o : Option ServerFault) (first : StreamSeen) (a c : ConnSeen) (r : Request) (waits : ℕ) (shown : List Item) → waits + 1 ≡ limits.polls → a.broken ≡ o → PlayBeat o limits.most first a c r waits shown beats.Waits → StopsBy limits first a c r shown ends.Dropped
+pub drops_waiting : (limits : Limits) (o : Option ServerFault) (first : StreamSeen) (a c : ConnSeen) (r : Request) (waits : ℕ) (shown : List Item) → waits + 1 ≡ limits.polls → a.broken ≡ o → PlayBeat o limits.most first a c r waits shown beats.Waits → StopsBy (bounds limits) first a c r shown ends.Dropped
 drops_waiting limits None first a c r waits shown k e h =
     let m = h.3 in
     let after = h.5.2 in
     let call = after.tells.0 in
-    subst (λ (x : ConnSeen). StopsBy limits first a x r shown ends.Dropped) (sym h.4) (drops limits None limits.most first a m r (waits + 1) h.0 shown h.5.0 h.5.1 e h.1 (record { went = after.went; broken = after.broken; asked = after.asked; room = after.room; call = call; waited = after.over.waits_more refl; calls = omega (arith, after.over.calls); unsaid = λ u. absurd (after.unsaid u); unflushed = λ f. absurd (after.unflushed f) }) after.unsaid after.unflushed (omega (arith, k))
+    subst (λ (x : ConnSeen). StopsBy (bounds limits) first a x r shown ends.Dropped) (sym h.4) (drops limits None limits.most first a m r (waits + 1) h.0 shown h.5.0 h.5.1 e h.1 (record { went = after.went; broken = after.broken; asked = after.asked; room = after.room; call = call; waited = after.over.waits_more refl; calls = omega (arith, after.over.calls); unsaid = λ u. absurd (after.unsaid u); unflushed = λ f. absurd (after.unflushed f) }) after.unsaid after.unflushed (omega (arith, k))
     (inl (subst (λ (n : ℕ). Waited n first m.stream) k (after.over.waits_more refl), after.over.starved refl after.tells.1)) (omega (arith, h.2)) (omega (arith, h.2, again_once r, ap (λ (x : List Item). length x) h.1, length-map h.0 item_of)))
 drops_waiting limits (Some fault) first a c r waits shown k e h = let x = h.1 in absurd cc
 
 pub drops_shown : (limits : Limits) (o : Option ServerFault) (first : StreamSeen) (a c : ConnSeen) (r : Request) (waits : ℕ) (old new : List Item) (item : CallItem) → waits < limits.polls → new ≡ old ++ item_of item ∷ [] → length new ≡ limits.most → a.broken ≡ o → PlayBeat o limits.most first a c r waits old (beats.Yields item)
-    → StopsBy limits first a c r new ends.Dropped
+    → StopsBy (bounds limits) first a c r new ends.Dropped
 drops_shown limits None first a c r waits old new item l k m e h =
     let after = h.5.2 in
-    subst (λ (x : ConnSeen). StopsBy limits first a x r new ends.Dropped) (sym h.4) (drops limits None limits.most first a h.3 r waits (h.0 ++ item ∷ []) new h.5.0 h.5.1 e (k ∙ more_shown old h.0 item h.1) (record { went = after.went; broken = after.broken; asked = after.asked; room = after.room; call = after.tells; waited = after.over.waited (λ d. absurd cc); calls = omega (arith, after.over.calls, length-append h.0 (item ∷ [])); unsaid = λ u. absurd (after.unsaid u); unflushed = λ f. absurd (after.unflushed f) }) after.unsaid after.unflushed (omega (arith, l)) (inr m) (omega (arith, m)) (omega (arith, m, fed_shows_none a.ledger r h.5.0 (heard h.5.1) h.0 item h.3.ledger h.3.call after.tells, ap (λ (x : List Item). length x) (k ∙ more_shown old h.0 item h.1), length-map (h.0 ++ item ∷ []) item_of)))
+    subst (λ (x : ConnSeen). StopsBy (bounds limits) first a x r new ends.Dropped) (sym h.4) (drops limits None limits.most first a h.3 r waits (h.0 ++ item ∷ []) new h.5.0 h.5.1 e (k ∙ more_shown old h.0 item h.1) (record { went = after.went; broken = after.broken; asked = after.asked; room = after.room; call = after.tells; waited = after.over.waited (λ d. absurd cc); calls = omega (arith, after.over.calls, length-append h.0 (item ∷ [])); unsaid = λ u. absurd (after.unsaid u); unflushed = λ f. absurd (after.unflushed f) }) after.unsaid after.unflushed (omega (arith, l)) (inr m) (omega (arith, m)) (omega (arith, m, fed_shows_none a.ledger r h.5.0 (heard h.5.1) h.0 item h.3.ledger h.3.call after.tells, ap (λ (x : List Item). length x) (k ∙ more_shown old h.0 item h.1), length-map (h.0 ++ item ∷ []) item_of)))
 drops_shown limits (Some fault) first a c r waits old new item l k m e h = let x = h.1 in absurd cc
 
 -- the items before the last one are the first ones
@@ -662,7 +664,7 @@ leaves_fewer start r said hs items item ledger l = record {
     some_end (i ∷ is) item h = absurd cc
 
 -- without memory for an item
-pub goes_unkept : (limits : Limits) (o : Option ServerFault) (first : StreamSeen) (a c : ConnSeen) (r : Request) (waits : ℕ) (old new : List Item) (item : CallItem) (f : Error) → waits < limits.polls → new ≡ old → f ≡ errors.OutOfMemory → a.broken ≡ o → PlayBeat o limits.most first a c r waits old (beats.Yields item)
+pub goes_unkept : (limits : Bounds) (o : Option ServerFault) (first : StreamSeen) (a c : ConnSeen) (r : Request) (waits : ℕ) (old new : List Item) (item : CallItem) (f : Error) → waits < limits.polls → new ≡ old → f ≡ errors.OutOfMemory → a.broken ≡ o → PlayBeat o limits.most first a c r waits old (beats.Yields item)
     → StopsBy limits first a c r new (ends.Err f)
 goes_unkept limits None first a c r waits old new item f l k t e h =
     let m = h.3 in
@@ -670,7 +672,7 @@ goes_unkept limits None first a c r waits old new item f l k t e h =
     let more = leaves_call a.ledger r h.5.0 (heard h.5.1) (h.0 ++ item ∷ []) m.ledger m.call after.tells in
     let ended = ended_whole limits first a m r old (ends.Err errors.OutOfMemory) h.5.0 h.5.1 e after.went after.broken (ends_few limits first m.stream waits (ends.Err errors.OutOfMemory) l (after.over.waited (λ d. absurd cc))) after.room (few_calls first m r waits (length h.0) limits l (below_items old h.0 limits.most h.1 h.2) after.over.calls) (not_at_once a m r old (ends.Err errors.OutOfMemory) h.5.1 after.unsaid after.unflushed)
     (inl (h.0, h.1, h.2, inr (leaves_fewer a.ledger r h.5.0 (heard h.5.1) h.0 item m.ledger more, call_well a.ledger r h.5.0 (heard h.5.1) (h.0 ++ item ∷ []) m.ledger m.call after.tells, inl (tt, tt)))) tt in
-    rw (k, t) (m, ended, inr (call_runs a.ledger r h.5.0 (heard h.5.1) (h.0 ++ item ∷ []) m.ledger m.call after.tells, h.4, refl))
+    rw (k, t) (m, ended, inr (call_runs a.ledger r h.5.0 (heard h.5.1) (h.0 ++ item ∷ []) m.ledger m.call after.tells, h.4, λ x. refl, refl))
 goes_unkept limits (Some fault) first a c r waits old new item f l k t e h = let x = h.1 in absurd cc
 
 -- ---- the first poll
@@ -837,10 +839,16 @@ wanted_stays rule _ w = refl
 
 -- ---- the end
 
-ends_idle : (o : Option ServerFault) (limits : Limits) (first : StreamSeen) (a c : ConnSeen) (r : Request) (said : List FrontendMessage) (hs : List Frame) (shown : List Item) (end : End) → EndsOn o limits first a c r said hs shown end → EndsOn o limits first a (idle c) r said hs shown end
+ends_idle : (o : Option ServerFault) (limits : Bounds) (first : StreamSeen) (a c : ConnSeen) (r : Request) (said : List FrontendMessage) (hs : List Frame) (shown : List Item) (end : End) → EndsOn o limits first a c r said hs shown end → EndsOn o limits first a (idle c) r said hs shown end
 ends_idle None limits first a c r said hs shown (ends.Ok told) h = h
 ends_idle None limits first a c r said hs shown (ends.Err e) h = h
-ends_idle None limits first a c r said hs shown ends.Dropped h = h
+ends_idle None limits first a c r said hs shown ends.Dropped h = (h.0, h.1, h.2, h.3, by limits.parting h.4, h.5)
+  where
+    by : (parting : Parting) → IsDroppedAs parting limits first a c h.2.own h.2.reply shown → IsDroppedAs parting limits first a (idle c) h.2.own h.2.reply shown
+    by partings.None d = d
+    by partings.Left d = d
+    by partings.Unsaid d = d
+    by (partings.Failed message) d = d
 ends_idle (Some fault) limits first a c r said hs shown end h = h
 
 once_idle : (a c : ConnSeen) (r : Request) (shown : List Item) (end : End) (fs : List Frame) → EndsAtOnce a c r shown end fs → EndsAtOnce a (idle c) r shown end fs
@@ -850,7 +858,7 @@ once_idle a c r shown end fs h = record {
 }
 
 -- the call is given up, or was over
-pub given_up : (limits : Limits) (first : StreamSeen) (a c : ConnSeen) (r : Request) (shown : List Item) (end : End) → HasEnded limits first a c r shown end → HasEnded limits first a (idle c) r shown end
+pub given_up : (limits : Bounds) (first : StreamSeen) (a c : ConnSeen) (r : Request) (shown : List Item) (end : End) → HasEnded limits first a c r shown end → HasEnded limits first a (idle c) r shown end
 given_up limits first a c r shown end h =
     let w = h.2.went in
     (h.0, h.1, record { went = record { flows = w.flows; tallies = w.tallies; waits = w.waits; groups = w.groups; heard = w.heard; started = w.started }; broken = h.2.broken; kept = h.2.kept; few = h.2.few; room = λ x. let y = h.2.room x in omega (arith, y); calls = h.2.calls; at_once = λ o. once_idle a c r shown end h.1 (h.2.at_once o); ends = ends_idle a.broken limits first a c r h.0 (heard h.1) shown end h.2.ends }, h.3)
@@ -895,7 +903,7 @@ idle_left over c = idle_cleaned (unfed over c) ∙ ap (λ (x : ConnSeen). cleane
 left_running : (c : ConnSeen) → runs c.call ≡ true → left c ≡ cleaned (unfed false (idle c))
 left_running c e = ap (λ (b : Bool). cond b (idle (cleaned (unfed false c))) c) e ∙ idle_left false c
 
-behind_other : (end : End) (c : ConnSeen) → behind_end end (copy_behind end c) ≡ cleaned (unfed false c) → behind_end end (copy_behind end (idle c)) ≡ cleaned (unfed false (idle c))
+behind_other : (end : End) (c : ConnSeen) → behind_end end (copy_behind partings.None end c) ≡ cleaned (unfed false c) → behind_end end (copy_behind partings.None end (idle c)) ≡ cleaned (unfed false (idle c))
 behind_other (ends.Err e) c h = sym (idle_left (ends_copy e) c) ∙ ap idle h ∙ idle_left false c
 behind_other ends.Dropped c h = refl
 behind_other (ends.Ok answer) c h = ap idle h ∙ idle_left false c
@@ -907,20 +915,27 @@ unfed_call over c = by (copies c.change c.groups && (not over && leb (length (sp
     by true = refl
     by false = refl
 
-copy_call : (end : End) (c : ConnSeen) → (copy_behind end c).call ≡ c.call
-copy_call (ends.Ok answer) c = refl
-copy_call (ends.Err e) c = unfed_call (ends_copy e) c
-copy_call ends.Dropped c = unfed_call false c
+copy_call : (parting : Parting) (end : End) (c : ConnSeen) → (copy_behind parting end c).call ≡ c.call
+copy_call parting (ends.Ok answer) c = refl
+copy_call parting (ends.Err e) c = unfed_call (ends_copy e) c
+copy_call partings.None ends.Dropped c = unfed_call false c
+copy_call partings.Left ends.Dropped c = unfed_call false c
+copy_call partings.Unsaid ends.Dropped c = unfed_call false c
+copy_call (partings.Failed message) ends.Dropped c = by (begins_copy c.change)
+  where
+    by : (b : Bool) → (cond b (failed_by message c) (unfed false c)).call ≡ c.call
+    by true = refl
+    by false = unfed_call false c
 
-pub plays_one : (limits : Limits) (first : StreamSeen) (a c d : ConnSeen) (r : Request) (shown : List Item) (end : End) (out : Outcome) → StopsBy limits first a c r shown end → d ≡ left c → out ≡ outcome_of d shown end → PlaysOne limits first a d r out
+pub plays_one : (limits : Bounds) (first : StreamSeen) (a c d : ConnSeen) (r : Request) (shown : List Item) (end : End) (out : Outcome) → StopsBy limits first a c r shown end → d ≡ left c → out ≡ outcome_of d shown end → PlaysOne limits first a d r out
 plays_one limits first a c d r shown end out g k e = rw e (by g.2)
   where
-    by : ((g.0.call ≡ calls.Idle) × (c ≡ behind_end end (copy_behind end g.0))) ⊎ ((runs g.0.call ≡ true) × (c ≡ g.0) × (behind_end end (copy_behind end g.0) ≡ cleaned (unfed false g.0))) → PlaysOne limits first a d r (outcome_of d shown end)
+    by : ((g.0.call ≡ calls.Idle) × (c ≡ behind_end end (copy_behind limits.parting end g.0))) ⊎ ((runs g.0.call ≡ true) × (c ≡ g.0) × ((x : ConnSeen) → copy_behind limits.parting end x ≡ copy_behind partings.None end x) × (behind_end end (copy_behind partings.None end g.0) ≡ cleaned (unfed false g.0))) → PlaysOne limits first a d r (outcome_of d shown end)
     by (inl (over, is)) =
-        let rests : c.call ≡ calls.Idle = ap (λ (x : ConnSeen). x.call) is ∙ behind_idle end (copy_behind end g.0) ∙ copy_call end g.0 ∙ over in
+        let rests : c.call ≡ calls.Idle = ap (λ (x : ConnSeen). x.call) is ∙ behind_idle end (copy_behind limits.parting end g.0) ∙ copy_call limits.parting end g.0 ∙ over in
         (g.0, g.1, over, k ∙ left_idle c rests ∙ is, refl)
-    by (inr (running, is, other)) =
-        (idle g.0, given_up limits first a g.0 r shown end g.1, refl, k ∙ ap left is ∙ left_running g.0 running ∙ sym (behind_other end g.0 other), refl)
+    by (inr (running, is, same, other)) =
+        (idle g.0, given_up limits first a g.0 r shown end g.1, refl, k ∙ ap left is ∙ left_running g.0 running ∙ sym (behind_other end g.0 other) ∙ ap (λ (x : ConnSeen). behind_end end x) (sym (same (idle g.0))), refl)
 
 -- ---- over a link
 

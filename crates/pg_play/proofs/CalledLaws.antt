@@ -139,7 +139,7 @@ called_exchange start first old at a b step shown end said fs st later fits p z 
     let went = e.went in
     let told : Outcome = told_of shown end (length s.own) (length (heard fs)) (went.tallies.write_waits + went.tallies.read_waits) went.tallies.moved in
     let at_place = subst (λ (o : Option ServerFault). EndsOn o (limits_of step) first begun b r said (heard fs) shown end) st.broken e.ends in
-    let cause = cause_step at.broken (limits_of step) start first old at a b step said fs shown end found.0 st refl at_place s in
+    let cause = cause_step at.broken start first old at a b step said fs shown end found.0 st refl at_place s in
     let grew = counts_on start old at a b at.rule.depth step.call said fs shown end found.0 st fits went s in
     let stands = stands_next start at a b at.rule.depth step.call said fs found.0 end st s (record { counts = went.flows.counts; secured = went.flows.secured; sent = went.flows.sent; read = went.flows.read }) e.broken idles went.started.2 (e.room space)
     (never_copies a.broken (limits_of step) first begun b r said (heard fs) shown end e.ends) in

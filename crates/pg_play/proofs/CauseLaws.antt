@@ -32,11 +32,12 @@ use Rattle.pg_report.specs.declared.outcome.Item.{Item}
 use Rattle.pg_report.specs.declared.outcome.End.{End}
 use Rattle.pg_report.specs.declared.outcome.End.TheVariants as ends
 use Rattle.pg_script.specs.declared.step.Step.{Step}
-use Rattle.pg_play.specs.Shown.{request_of, is_row, item_of}
-use Rattle.pg_play.specs.declared.tally.Limits.{Limits}
-use Rattle.pg_play.specs.Calls.{Waited, EndsOn, EndsStarved, limits_of, outcome_of, Counted, asking}
+use Rattle.pg_play.specs.Shown.{parting_of, request_of, is_row, item_of}
+use Rattle.pg_script.specs.declared.step.Parting.{Parting}
+use Rattle.pg_script.specs.declared.step.Parting.TheVariants as partings
+use Rattle.pg_play.specs.Calls.{IsDroppedAs as HasDroppedAs, IsOpened, Waited, EndsOn, EndsStarved, limits_of, outcome_of, Counted, asking}
 use Rattle.pg_play.specs.Places.{Place, readies, refuses_copy}
-use Rattle.pg_play.specs.Causes.{IsFront, IsUnlawful, ShowsFault, IsAskedToCopy, HasNoRow, Causes, IsStarved, AnsweredPending, IsDropped, HasCause, BeginsNone}
+use Rattle.pg_play.specs.Causes.{IsFront, IsUnlawful, ShowsFault, IsAskedToCopy, HasNoRow, Causes, IsStarved, AnsweredPending, HasOpened, IsDropped, IsDroppedAs, IsParted, HasCause, BeginsNone}
 use Rattle.pg_play.specs.Plays.{StandsAt}
 use Rattle.pg_play.proofs.PartLaws.{no_error}
 use Rattle.pg_play.proofs.StepLaws.{Summary, QueuedOwn, begins_one}
@@ -194,19 +195,36 @@ call_cause start at a b step said fs items items' copied end _ st s h = absurd h
 
 -- ---- an end, of whatever kind
 
-pub cause_step : (o : Option ServerFault) (limits : Limits) (start first : StreamSeen) (old : Counted) (at : Place) (a b : ConnSeen) (step : Step) (said : List FrontendMessage) (fs : List Frame) (shown : List Item) (end : End) (items : List CallItem) → StandsAt start at a → at.broken ≡ o
-    → EndsOn o limits first (asking (request_of at.rule.depth step.call) old a) b (request_of at.rule.depth step.call) said (heard fs) shown end → (s : Summary a.ledger (request_of at.rule.depth step.call) said (heard fs) items b.ledger (refuses_copy end)) → HasCause at step s.own (heard fs) (next_place at b said s.own fs end) end
-cause_step None limits start first old at a b step said fs shown (ends.Ok told) items st w h s = tt
-cause_step None limits start first old at a b step said fs shown (ends.Err e) items st w (inl (xs, k, l, inl h)) s = call_cause start at a b step said fs xs items (refuses_copy (ends.Err e)) (ends.Err e) e st s h
-cause_step None limits start first old at a b step said fs shown (ends.Err e) items st w (inl (xs, k, l, inr (left, well, inl (heard_so, missed)))) s = stream_cause start old at a b step said fs items (refuses_copy (ends.Err e)) (ends.Err e) e st s heard_so missed
-cause_step None limits start first old at a b step said fs shown (ends.Err e) items st w (inl (xs, k, l, inr (left, well, inr front))) s = front_cause start at a b step said fs items xs (refuses_copy (ends.Err e)) (ends.Err e) e st s left front
-cause_step None limits start first old at a b step said fs shown (ends.Err e) items st w (inr (xs, k, z, f)) s = subst (λ (x : Error). Causes at step s.own (heard fs) (next_place at b said s.own fs (ends.Err e)) x) (sym z) tt
-cause_step None limits start first old at a b step said fs shown ends.Dropped items st w h s = tt
-cause_step (Some fault) limits start first old at a b step said fs shown end items st w h s = by end h.0 s
+-- a copy from the client that was given up is open
+pub parted_step : (start first : StreamSeen) (old : Counted) (at : Place) (a b : ConnSeen) (step : Step) (said : List FrontendMessage) (fs : List Frame) (shown : List Item) (items : List CallItem) → StandsAt start at a
+    → EndsOn None (limits_of step) first (asking (request_of at.rule.depth step.call) old a) b (request_of at.rule.depth step.call) said (heard fs) shown ends.Dropped → (s : Summary a.ledger (request_of at.rule.depth step.call) said (heard fs) items b.ledger false) → IsParted (parting_of step.call) at s.own (heard fs) (next_place at b said s.own fs ends.Dropped)
+parted_step start first old at a b step said fs shown items st h s = by (parting_of step.call) h.4
+  where
+    opened : IsOpened h.2.own h.2.reply → HasOpened at s.own (heard fs)
+    opened o =
+        let one : length s.own ≡ 1 = omega (arith, o.0, h.2.counted, s.counted) in
+        let main = main_after start at a (request_of at.rule.depth step.call) s.own (heard fs) st (queued_one a.ledger.owed (request_of at.rule.depth step.call) s.own (heard fs) s.queued one) in
+        (λ e. absurd (omega (arith, one, ap (λ (g : List Group). length g) e)), (o.1, o.2, main ∙ h.2.replied ∙ ap (λ (ms : List BackendMessage). map backend_frame ms) o.3))
+
+    by : (q : Parting) → HasDroppedAs q (limits_of step) first (asking (request_of at.rule.depth step.call) old a) b h.2.own h.2.reply shown → IsParted q at s.own (heard fs) (next_place at b said s.own fs ends.Dropped)
+    by partings.None d = tt
+    by partings.Left d = (opened d.0, d.1)
+    by partings.Unsaid d = opened d
+    by (partings.Failed message) d = (opened d.0, d.1)
+
+pub cause_step : (o : Option ServerFault) (start first : StreamSeen) (old : Counted) (at : Place) (a b : ConnSeen) (step : Step) (said : List FrontendMessage) (fs : List Frame) (shown : List Item) (end : End) (items : List CallItem) → StandsAt start at a → at.broken ≡ o
+    → EndsOn o (limits_of step) first (asking (request_of at.rule.depth step.call) old a) b (request_of at.rule.depth step.call) said (heard fs) shown end → (s : Summary a.ledger (request_of at.rule.depth step.call) said (heard fs) items b.ledger (refuses_copy end)) → HasCause at step s.own (heard fs) (next_place at b said s.own fs end) end
+cause_step None start first old at a b step said fs shown (ends.Ok told) items st w h s = tt
+cause_step None start first old at a b step said fs shown (ends.Err e) items st w (inl (xs, k, l, inl h)) s = call_cause start at a b step said fs xs items (refuses_copy (ends.Err e)) (ends.Err e) e st s h
+cause_step None start first old at a b step said fs shown (ends.Err e) items st w (inl (xs, k, l, inr (left, well, inl (heard_so, missed)))) s = stream_cause start old at a b step said fs items (refuses_copy (ends.Err e)) (ends.Err e) e st s heard_so missed
+cause_step None start first old at a b step said fs shown (ends.Err e) items st w (inl (xs, k, l, inr (left, well, inr front))) s = front_cause start at a b step said fs items xs (refuses_copy (ends.Err e)) (ends.Err e) e st s left front
+cause_step None start first old at a b step said fs shown (ends.Err e) items st w (inr (xs, k, z, f)) s = subst (λ (x : Error). Causes at step s.own (heard fs) (next_place at b said s.own fs (ends.Err e)) x) (sym z) tt
+cause_step None start first old at a b step said fs shown ends.Dropped items st w h s = inr (parted_step start first old at a b step said fs shown items st h s)
+cause_step (Some fault) start first old at a b step said fs shown end items st w h s = by end h.0 s
   where
     by : (end : End) → end ≡ ends.Err (errors.Protocol (protocol.Server fault)) → (s : Summary a.ledger (request_of at.rule.depth step.call) said (heard fs) items b.ledger (refuses_copy end)) → HasCause at step s.own (heard fs) (next_place at b said s.own fs end) end
     by (ends.Ok told) e s = tt
-    by ends.Dropped e s = tt
+    by ends.Dropped e s = absurd cc
     by (ends.Err x) e s = kept x (same x e) s
       where
         same : (x : Error) → ends.Err x ≡ ends.Err (errors.Protocol (protocol.Server fault)) → x ≡ errors.Protocol (protocol.Server fault)
@@ -230,10 +248,14 @@ starved_at start first old at a b step said fs items copied shown end st v s (in
 pub dropped_step : (o : Option ServerFault) (start first : StreamSeen) (old : Counted) (at : Place) (a b : ConnSeen) (step : Step) (said : List FrontendMessage) (fs : List Frame) (shown : List Item) (end : End) (items : List CallItem) → StandsAt start at a → first.waits ≡ 0 → first.moves ≡ 0 → step.polls < 2 ^ 32 → end ≡ ends.Dropped
     → EndsOn o (limits_of step) first (asking (request_of at.rule.depth step.call) old a) b (request_of at.rule.depth step.call) said (heard fs) shown end → (s : Summary a.ledger (request_of at.rule.depth step.call) said (heard fs) items b.ledger (refuses_copy end))
     → IsDropped at step (outcome_of b shown end) (next_place at b said s.own fs end)
-dropped_step None start first old at a b step said fs shown ends.Dropped items st z v p k h s = elim h.4 [
-  | inl waited ↦ inr (inl (pending_in first b step.polls shown ends.Dropped z v p waited.0, starved_at start first old at a b step said fs items false shown ends.Dropped st v s waited.1))
-  | inr most ↦ inr (inr most)
-]
+dropped_step None start first old at a b step said fs shown ends.Dropped items st z v p k h s = by (parting_of step.call) h.4
+  where
+    by : (q : Parting) → HasDroppedAs q (limits_of step) first (asking (request_of at.rule.depth step.call) old a) b h.2.own h.2.reply shown → IsDroppedAs q at step (outcome_of b shown ends.Dropped) (next_place at b said s.own fs ends.Dropped)
+    by partings.None (inl waited) = inr (inl (pending_in first b step.polls shown ends.Dropped z v p waited.0, starved_at start first old at a b step said fs items false shown ends.Dropped st v s waited.1))
+    by partings.None (inr most) = inr (inr most)
+    by partings.Left d = tt
+    by partings.Unsaid d = tt
+    by (partings.Failed message) d = tt
 dropped_step None start first old at a b step said fs shown (ends.Ok told) items st z v p k h s = absurd cc
 dropped_step None start first old at a b step said fs shown (ends.Err e) items st z v p k h s = absurd cc
 dropped_step (Some fault) start first old at a b step said fs shown end items st z v p k h s = let x = sym k ∙ h.0 in absurd cc

@@ -1,5 +1,5 @@
 -- Steps that are calls one behind another.
-use Rattle.std.proofs.Common.{◌≡◌, inl, inr, ℕ, ◌<◌, ◌^◌, false, true, List, [], ◌∷◌, Some, None, Ok, Err, refl}
+use Rattle.std.proofs.Common.{◌≡◌, inl, inr, ℕ, ◌<◌, ◌^◌, false, true, List, [], ◌∷◌, Some, None, Ok, Err, refl, subst, sym}
 use Rattle.pg_wire.specs.declared.error.Error.{Error}
 use Rattle.pg_request.specs.Queries.{QueryText}
 use Rattle.pg_conn.specs.Connections.{ConnSeen}
@@ -12,7 +12,9 @@ use Rattle.pg_script.specs.declared.step.Call.TheVariants as calls
 use Rattle.pg_script.specs.declared.step.Chain.{Chain}
 use Rattle.pg_script.specs.declared.step.Step.{Step}
 use Rattle.pg_play.specs.Calls.{IsUnmade, PlaysStep}
-use Rattle.pg_play.specs.Chains.{AsksBehind, EndsAlone, GoesOn, IsChainedAs, IsDescribed, asking_nulls, preparing, told_both}
+use Rattle.pg_play.specs.Chained.{IsChainedAs}
+use Rattle.pg_play.specs.Chains.{AsksBehind, EndsAlone, GoesOn, IsDescribed, asking_nulls, preparing, told_both}
+use Rattle.pg_play.specs.Locks.{Guards}
 use Rattle.pg_play.specs.Plays.{PlaysInOrder}
 
 -- what came of a call that no other one comes behind
@@ -44,7 +46,7 @@ asked ends.Dropped query g = absurd cc
 abbrev pub Describes : ConnSeen → ConnSeen → Step → List ℕ → Outcome → Type 0
 Describes a b step sql out = (calls : List Step) × (told : List Outcome) × IsDescribed step sql out calls told × PlaysInOrder a b calls told
 
-unmade_alone : (a : ConnSeen) (step : Step) (sql : List ℕ) (out : Outcome) → IsUnmade step out → PlaysStep a a (preparing step sql) out
+pub unmade_alone : (a : ConnSeen) (step : Step) (sql : List ℕ) (out : Outcome) → IsUnmade step out → PlaysStep a a (preparing step sql) out
 unmade_alone a step sql out (inl (unpolled, is)) = inr (refl, inl (unpolled, refl, is))
 unmade_alone a step sql out (inr (polled, few, is)) = inr (refl, inr (polled, few, inr ((λ b. let e : false ≡ true = b.0 in cc), inl (refl, is, refl))))
 
@@ -70,6 +72,11 @@ describes_both a m b step sql first later query run d g behind e = (
 )
 
 -- a call that is no chain
-pub is_alone : (call : Call) (step : Step) (out : Outcome) → ((chain : Chain) → call ≡ calls.Chain chain → ⊥) → IsChainedAs call step out (step ∷ []) (out ∷ [])
-is_alone (calls.Chain chain) step out n = absurd (n chain refl)
-is_alone _ step out n = (refl, refl)
+pub is_alone : (call : Call) (guards : Guards) (step : Step) (out : Outcome) → ((chain : Chain) → call ≡ calls.Chain chain → ⊥) → ((text : List ℕ) → call ≡ calls.Release text → ⊥) → IsChainedAs call guards guards step out (step ∷ []) (out ∷ [])
+is_alone (calls.Chain chain) guards step out n r = absurd (n chain refl)
+is_alone (calls.Release text) guards step out n r = absurd (r text refl)
+is_alone _ guards step out n r = (refl, refl, refl)
+
+-- an act alone asks nothing
+pub is_flush : (call : Call) (text : List ℕ) (guards : Guards) (step : Step) (out : Outcome) → call ≡ calls.Release text → IsChainedAs call guards guards step out (record step { call = calls.Flush } ∷ []) (out ∷ [])
+is_flush call text guards step out e = subst (λ (c : Call). IsChainedAs c guards guards step out (record step { call = calls.Flush } ∷ []) (out ∷ [])) (sym e) (refl, refl, refl)

@@ -1,5 +1,5 @@
 -- Where neither the link nor the server failed, no step ends by a failure of theirs.
-use Rattle.std.proofs.Common.{◌≡◌, ℕ, zero, suc, Bool, true, false, inl, inr, List, [], ◌∷◌, ◌++◌, length, refl, sym, ap, ◌∙◌, subst, append_assoc, append-nil, Some, None, arith}
+use Rattle.std.proofs.Common.{◌≡◌, ◌⊎◌, ℕ, zero, suc, Bool, true, false, inl, inr, List, [], ◌∷◌, ◌++◌, length, refl, sym, ap, ◌∙◌, subst, append_assoc, append-nil, Some, None, arith}
 use Rattle.std.specs.List.{AllByRecursion}
 use Rattle.pg_wire.specs.declared.error.Error.{Error}
 use Rattle.pg_wire.specs.declared.error.Error.TheVariants as errors
@@ -27,8 +27,8 @@ use Rattle.pg_report.specs.declared.outcome.End.TheVariants as ends
 use Rattle.pg_report.specs.declared.outcome.Outcome.{Outcome}
 use Rattle.pg_script.specs.declared.step.Step.{Step}
 use Rattle.pg_play.specs.Places.{Place}
-use Rattle.pg_play.specs.Causes.{IsAskedToCopy, Causes, IsDropped, HasCause}
-use Rattle.pg_play.specs.Complete.{IsFaultless, IsFairError, WasCutShort, IsFairEnd, EndFairly, WhereFaultless}
+use Rattle.pg_play.specs.Causes.{IsAskedToCopy, Causes, IsDropped, IsDroppedAs, HasCause}
+use Rattle.pg_play.specs.Complete.{IsFaultless, IsFairError, WasCutShort, IsGivenUp, IsFairEnd, EndFairly, WhereFaultless}
 use Rattle.pg_script.specs.declared.step.Call.{Call}
 use Rattle.pg_rule.specs.declared.rule.Rule.{Rule}
 use Rattle.pg_play.proofs.ExchangeLaws.{IsOf, first_is_of, next_is_of, wants_so}
@@ -37,7 +37,9 @@ use Rattle.pg_play.specs.Plays.{Plays_call, Plays_exchange, Plays_exchanges, las
 use Rattle.pg_call.specs.Replies.{awaits_first, begins_copy}
 use Rattle.pg_call.proofs.RefusedLaws.{IsPlain, closing_plain, copies_begin, plain_after}
 use Rattle.pg_script.specs.declared.step.Call.TheVariants as calls
-use Rattle.pg_play.specs.Shown.{request_of, copies}
+use Rattle.pg_script.specs.declared.step.Parting.{Parting}
+use Rattle.pg_script.specs.declared.step.Parting.TheVariants as partings
+use Rattle.pg_play.specs.Shown.{parting_of, request_of, copies}
 use Rattle.pg_play.proofs.RepliesLaws.{starts_copy, StartsNoCopy, all_prefix, replies_start_no_copy, replies_are_said}
 use Rattle.pg_play.proofs.LinkLaws.{Refutes, breaks_first, fault_breaks, broken_in, broken_stays, some_first, front_read, front_heard, taken_heard, hears_groups, unlawful_refuted}
 use Rattle.pg_wire.proofs.Each.{each_last}
@@ -154,11 +156,17 @@ fair_error first at call step own slice next last (errors.Protocol _) part g a b
 fair_error first at call step own slice next last errors.RowNotFound part g a b n k c = part.wants (wants_so step.call c.wants)
 fair_error first at call step own slice next last _ part g a b n k c = absurd c
 
-cut_short : (at : Place) (step : Step) (out : Outcome) (next : Place) → IsDropped at step out next → WasCutShort step out
-cut_short at step out next (inl (inl none)) = inl (omega (arith, none))
-cut_short at step out next (inl (inr none)) = inr (omega (arith, none))
-cut_short at step out next (inr (inl w)) = let often = w.0 in inl (omega (arith, often.1, often.2))
-cut_short at step out next (inr (inr most)) = inr (omega (arith, most))
+cut_short : (at : Place) (step : Step) (out : Outcome) (next : Place) → IsDropped at step out next → WasCutShort step out ⊎ IsGivenUp (parting_of step.call)
+cut_short at step out next = by (parting_of step.call)
+  where
+    by : (q : Parting) → IsDroppedAs q at step out next → WasCutShort step out ⊎ IsGivenUp q
+    by partings.None (inl (inl none)) = inl (inl (omega (arith, none)))
+    by partings.None (inl (inr none)) = inl (inr (omega (arith, none)))
+    by partings.None (inr (inl w)) = let often = w.0 in inl (inl (omega (arith, often.1, often.2)))
+    by partings.None (inr (inr most)) = inl (inr (omega (arith, most)))
+    by partings.Left d = inr tt
+    by partings.Unsaid d = inr tt
+    by (partings.Failed message) d = inr tt
 
 -- ---- all steps
 

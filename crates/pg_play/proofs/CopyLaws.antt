@@ -1,16 +1,16 @@
 -- Where a play stands once what is left of a copy from the client is settled.
-use Rattle.std.proofs.Common.{◌≡◌, ◌⊎◌, ℕ, zero, suc, ◌≤◌, inl, inr, cond, Bool, true, false, not, ◌&&◌, ◌||◌, nat_eq, leb, List, [], ◌∷◌, ◌++◌, length, refl, sym, ap, ap₂, ◌∙◌, subst, arith, append-nil, ne_eqb}
+use Rattle.std.proofs.Common.{◌≡◌, ◌≢◌, ◌⊎◌, ℕ, zero, suc, ◌≤◌, inl, inr, cond, Bool, true, false, not, ◌&&◌, ◌||◌, nat_eq, leb, List, [], ◌∷◌, ◌++◌, length, refl, sym, ap, ap₂, ◌∙◌, subst, arith, append-nil, ne_eqb}
 use Rattle.std.specs.List.{count_by}
 use Rattle.std.proofs.lemmas.Bool.{le-leb}
 use Rattle.pg_wire.specs.declared.error.Error.{Error}
 use Rattle.pg_wire.specs.declared.error.Error.TheVariants as errors
 use Rattle.pg_wire.specs.declared.error.ProtocolFault.TheVariants as protocol
 use Rattle.pg_wire.specs.Frame.{Frame}
-use Rattle.pg_wire.specs.Frontend.{FrontendMessage, HasFrontendFrame}
+use Rattle.pg_wire.specs.Frontend.{CopyFail, FrontendMessage, HasFrontendFrame}
 use Rattle.pg_wire.proofs.Each.{each_join}
 use Rattle.pg_stream.specs.Streams.{StreamSeen}
 use Rattle.pg_stream.specs.Links.{LinkSeen}
-use Rattle.pg_stream.proofs.StreamLemmas.{cleans}
+use Rattle.pg_stream.proofs.StreamLemmas.{cleans, queues}
 use Rattle.pg_call.specs.declared.kind.Change.{Change}
 use Rattle.pg_call.specs.declared.kind.Change.TheVariants as changes
 use Rattle.pg_call.specs.Requests.{Group, copy_fail, kind_of, change_of, spelled}
@@ -25,17 +25,19 @@ use Rattle.pg_report.specs.declared.outcome.End.TheVariants as ends
 use Rattle.pg_script.specs.declared.step.Call.{Call}
 use Rattle.pg_script.specs.declared.step.Call.TheVariants as calls
 use Rattle.pg_script.specs.declared.step.Fed.{Fed}
-use Rattle.pg_play.specs.Shown.{request_of}
-use Rattle.pg_play.specs.Calls.{change_for, copy_behind}
+use Rattle.pg_script.specs.declared.step.Parting.{Parting}
+use Rattle.pg_script.specs.declared.step.Parting.TheVariants as partings
+use Rattle.pg_play.specs.Shown.{parting_of, request_of}
+use Rattle.pg_play.specs.Calls.{change_for, copy_behind, failed_by, parted}
 use Rattle.pg_play.specs.Places.{Place}
-use Rattle.pg_play.specs.Copying.{is_over, fails, failing, is_failed_by, LeavesCopy}
+use Rattle.pg_play.specs.Copying.{is_over, fails, failing, failing_by, is_failed_by, LeavesCopy}
 use Rattle.pg_play.specs.Plays.{StandsAt}
 use Rattle.pg_play.proofs.PlaceLaws.{fails_said}
 
 -- what leaves nothing of a copy leaves the place
 pub leaves_none : (call : Call) (own : List Group) (end : End) (mid : Place) → fails call own end ≡ false → is_failed_by call own end ≡ false → LeavesCopy call own end mid mid
 leaves_none call own end mid f g =
-    let none : failing call own end ≡ [] = ap (λ (b : Bool). cond b (copy_fail ∷ []) []) f in
+    let none : failing call own end ≡ [] = ap (λ (b : Bool). cond b (failing_by (parting_of call) end ∷ []) []) f in
     ap₂ (λ (said : List FrontendMessage) (unsent : List ℕ). record mid { said = said; seen = record mid.seen { unsent = unsent } }) (sym (ap (λ (x : List FrontendMessage). mid.said ++ x) none ∙ append-nil mid.said)) (sym (ap (λ (x : List FrontendMessage). mid.seen.unsent ++ spelled x) none ∙ append-nil mid.seen.unsent))
     ∙ ap₂ (λ (c h : Bool). record mid { said = mid.said ++ failing call own end; seen = record mid.seen { unsent = mid.seen.unsent ++ spelled (failing call own end) }; is_copy_failed = c; has_failed = h }) (sym (ap (λ (b : Bool). b || mid.is_copy_failed) g)) (sym (ap (λ (b : Bool). b || mid.has_failed) f))
 
@@ -142,10 +144,42 @@ some_group : (g : Group) (gs : List Group) (n : ℕ) → n ≡ length (g ∷ gs)
 some_group g gs zero e = absurd (omega (arith, e))
 some_group g gs (suc n) e = ne_eqb (suc n) 0 (λ z. omega (arith, z))
 
+-- or by a message of its own, which is queued as its data was
+named_place : Place → ConnSeen → List ℕ → Place
+named_place mid m message = record mid { said = mid.said ++ CopyFail message ∷ []; seen = (failed_by message m).stream; is_copy_failed = true; has_failed = true }
+
+stands_named : (start : StreamSeen) (mid : Place) (m : ConnSeen) (message : List ℕ) → StandsAt start mid m → HasFrontendFrame (CopyFail message) → StandsAt start (named_place mid m message) (failed_by message m)
+unfolding named_place
+stands_named start mid m message st can =
+    let room = st.room in
+    let moves = (queues (λ (link : LinkSeen). link) m.stream (failed_by message m).stream (spelled (CopyFail message ∷ [])) refl).0 in
+    let one : Flows m.stream (failed_by message m).stream (spelled (CopyFail message ∷ [])) [] = record { counts = moves.counts; secured = moves.secured; sent = moves.sent; read = moves.read } in
+    let all = Flows-then start m.stream (failed_by message m).stream (spelled mid.said) (spelled (CopyFail message ∷ [])) mid.frames [] st.flows one in
+    record {
+      flows = subst (λ (q : List ℕ). Flows start (failed_by message m).stream q mid.frames) (sym (spelled-append mid.said (CopyFail message ∷ [])))
+          (subst (λ (f : List Frame). Flows start (failed_by message m).stream (spelled mid.said ++ spelled (CopyFail message ∷ [])) f) (append-nil mid.frames) all);
+      ledger = st.ledger;
+      failed = λ o. refl;
+      broken = st.broken;
+      seen = refl;
+      rule = st.rule;
+      room = omega (arith, room, level_none m.groups);
+      idle = st.idle;
+      sayable = each_join HasFrontendFrame mid.said (CopyFail message ∷ []) st.sayable (can, tt);
+      are_groups = st.are_groups;
+      between = st.between;
+      plain = λ h n. absurd cc;
+      requests = let none : count_by ends_request (CopyFail message ∷ []) ≡ 0 = refl in omega (arith, st.requests, none, counts-append mid.said (CopyFail message ∷ []));
+    }
+
+-- where a copy is failed by a message of its own, its group was queued, and the message has a frame
+abbrev pub CanFail : Parting → List Group → End → Type 0
+CanFail parting own end = end ≡ ends.Dropped → (message : List ℕ) → parting ≡ partings.Failed message → (own ≢ []) × HasFrontendFrame (CopyFail message)
+
 -- behind the end of a copy from the client
-feed_leaves : (start : StreamSeen) (fed : Fed) (d : ℕ) (own : List Group) (end : End) (mid : Place) (m : ConnSeen) → StandsAt start mid m → m.groups ≡ length own → m.change ≡ cond fed.is_ended changes.Fed changes.Copies → LeavesTo start (calls.Feed fed) d own end mid m (copy_behind end m)
-unfolding failed_place
-feed_leaves start fed d own end mid m st groups change = by own end groups
+feed_leaves : (start : StreamSeen) (fed : Fed) (d : ℕ) (own : List Group) (end : End) (mid : Place) (m : ConnSeen) → StandsAt start mid m → m.groups ≡ length own → m.change ≡ cond fed.is_ended changes.Fed changes.Copies → CanFail fed.parting own end → LeavesTo start (calls.Feed fed) d own end mid m (copy_behind fed.parting end m)
+unfolding failed_place named_place
+feed_leaves start fed d own end mid m st groups change can = by own end groups can
   where
     acts : Acts (calls.Feed fed) d m
     acts = record { opens_so = ap opens change ∙ one fed.is_ended; depth_so = λ n. ap (λ (c : Change). depth_behind c m.groups n) change ∙ two fed.is_ended n }
@@ -161,17 +195,23 @@ feed_leaves start fed d own end mid m st groups change = by own end groups
     none_unfed : (over : Bool) → m.groups ≡ 0 → unfed over m ≡ m
     none_unfed over e = stays_unfed over m (ap (λ (n : ℕ). not (nat_eq n 0) && begins_copy m.change) e) (ap (λ (n : ℕ). not (nat_eq n 0) && is_fed m.change) e)
 
-    nothing : (end : End) → m.groups ≡ 0 → copy_behind end m ≡ m
-    nothing (ends.Ok answer) e = refl
-    nothing (ends.Err x) e = none_unfed (ends_copy x) e
-    nothing ends.Dropped e = none_unfed false e
+    nothing : (end : End) → m.groups ≡ 0 → CanFail fed.parting [] end → copy_behind fed.parting end m ≡ m
+    nothing (ends.Ok answer) e can = refl
+    nothing (ends.Err x) e can = none_unfed (ends_copy x) e
+    nothing ends.Dropped e can = at fed.parting refl
+      where
+        at : (q : Parting) → fed.parting ≡ q → parted q m ≡ m
+        at partings.None p = none_unfed false e
+        at partings.Left p = none_unfed false e
+        at partings.Unsaid p = none_unfed false e
+        at (partings.Failed message) p = absurd ((can refl message p).0 refl)
 
     -- it was fed to its end
     whole : (g : Group) (gs : List Group) (end : End) (over : Bool) → nat_eq m.groups 0 ≡ false → fed.is_ended ≡ true → fails (calls.Feed fed) (g ∷ gs) end ≡ false → is_failed_by (calls.Feed fed) (g ∷ gs) end ≡ true → LeavesTo start (calls.Feed fed) d (g ∷ gs) end mid m (unfed over m)
     whole g gs end over some e f k =
         let fed_change : m.change ≡ changes.Fed = change ∙ ap (λ (b : Bool). cond b changes.Fed changes.Copies) e in
         let is : unfed over m ≡ record m { ledger = record m.ledger { is_copy_failed = true } } = rw (fed_change, some) refl in
-        let none : failing (calls.Feed fed) (g ∷ gs) end ≡ [] = ap (λ (b : Bool). cond b (copy_fail ∷ []) []) f in
+        let none : failing (calls.Feed fed) (g ∷ gs) end ≡ [] = ap (λ (b : Bool). cond b (failing_by fed.parting end ∷ []) []) f in
         subst (λ (c : ConnSeen). LeavesTo start (calls.Feed fed) d (g ∷ gs) end mid m c) (sym is) (record {
           left = record mid { is_copy_failed = true };
           leaves = rw (none, f, k) (ap₂ (λ (said : List FrontendMessage) (unsent : List ℕ). record mid { said = said; seen = record mid.seen { unsent = unsent }; is_copy_failed = true }) (sym (append-nil mid.said)) (sym (append-nil mid.seen.unsent)));
@@ -188,14 +228,14 @@ feed_leaves start fed d own end mid m st groups change = by own end groups
         leaves_so start (calls.Feed fed) d (g ∷ gs) end mid m (unfed true m) is st acts (f, k)
 
     -- it was open
-    is_open : (g : Group) (gs : List Group) (end : End) → nat_eq m.groups 0 ≡ false → fed.is_ended ≡ false → fails (calls.Feed fed) (g ∷ gs) end ≡ true → is_failed_by (calls.Feed fed) (g ∷ gs) end ≡ true → LeavesTo start (calls.Feed fed) d (g ∷ gs) end mid m (unfed false m)
-    is_open g gs end some e f k =
+    is_open : (g : Group) (gs : List Group) (end : End) → nat_eq m.groups 0 ≡ false → fed.is_ended ≡ false → failing_by fed.parting end ≡ copy_fail → fails (calls.Feed fed) (g ∷ gs) end ≡ true → is_failed_by (calls.Feed fed) (g ∷ gs) end ≡ true → LeavesTo start (calls.Feed fed) d (g ∷ gs) end mid m (unfed false m)
+    is_open g gs end some e by_own f k =
         let open_change : m.change ≡ changes.Copies = change ∙ ap (λ (b : Bool). cond b changes.Fed changes.Copies) e in
         let level : level_of m.change m.groups ≡ 64 = rw (open_change, some) refl in
         let room = st.room in
         let fits : leb (length (spelled (copy_fail ∷ []))) m.stream.spare ≡ true = le-leb _ _ (omega (arith, room, level)) in
         let is : unfed false m ≡ with_copy_fail m = rw (open_change, some, fits) refl in
-        let said : failing (calls.Feed fed) (g ∷ gs) end ≡ copy_fail ∷ [] = ap (λ (b : Bool). cond b (copy_fail ∷ []) []) f in
+        let said : failing (calls.Feed fed) (g ∷ gs) end ≡ copy_fail ∷ [] = ap (λ (b : Bool). cond b (failing_by fed.parting end ∷ []) []) f ∙ ap (λ (x : FrontendMessage). x ∷ []) by_own in
         subst (λ (c : ConnSeen). LeavesTo start (calls.Feed fed) d (g ∷ gs) end mid m c) (sym is) (record {
           left = failed_place mid m;
           leaves = rw (said, f, k) (ap (λ (s : StreamSeen). record mid { said = mid.said ++ copy_fail ∷ []; seen = record s { unsent = s.unsent ++ spelled (copy_fail ∷ []); spare = (with_copy_fail m).stream.spare }; is_copy_failed = true; has_failed = true }) st.seen);
@@ -204,9 +244,9 @@ feed_leaves start fed d own end mid m st groups change = by own end groups
           others = (refl, refl, refl, refl, refl, refl, refl);
         })
 
-    by_over : (g : Group) (gs : List Group) (end : End) (over : Bool) → nat_eq m.groups 0 ≡ false → fed.is_ended ≡ false → over ≡ is_over end → is_failed_by (calls.Feed fed) (g ∷ gs) end ≡ fed.is_ended || not (is_over end) → LeavesTo start (calls.Feed fed) d (g ∷ gs) end mid m (unfed over m)
-    by_over g gs end true some e o k = over_open g gs end some e (ap₂ (λ (a b : Bool). not (a || b)) e (sym o)) (k ∙ ap₂ (λ (a b : Bool). a || not b) e (sym o))
-    by_over g gs end false some e o k = is_open g gs end some e (ap₂ (λ (a b : Bool). not (a || b)) e (sym o)) (k ∙ ap₂ (λ (a b : Bool). a || not b) e (sym o))
+    by_over : (g : Group) (gs : List Group) (end : End) (over : Bool) → nat_eq m.groups 0 ≡ false → fed.is_ended ≡ false → failing_by fed.parting end ≡ copy_fail → over ≡ is_over end → is_failed_by (calls.Feed fed) (g ∷ gs) end ≡ fed.is_ended || not (is_over end) → LeavesTo start (calls.Feed fed) d (g ∷ gs) end mid m (unfed over m)
+    by_over g gs end true some e by_own o k = over_open g gs end some e (ap₂ (λ (a b : Bool). not (a || b)) e (sym o)) (k ∙ ap₂ (λ (a b : Bool). a || not b) e (sym o))
+    by_over g gs end false some e by_own o k = is_open g gs end some e by_own (ap₂ (λ (a b : Bool). not (a || b)) e (sym o)) (k ∙ ap₂ (λ (a b : Bool). a || not b) e (sym o))
 
     same_over : (x : Error) → ends_copy x ≡ is_over (ends.Err x)
     same_over (errors.Database details) = refl
@@ -214,29 +254,67 @@ feed_leaves start fed d own end mid m st groups change = by own end groups
     same_over (errors.Protocol _) = refl
     same_over _ = refl
 
-    by : (own : List Group) (end : End) → m.groups ≡ length own → LeavesTo start (calls.Feed fed) d own end mid m (copy_behind end m)
-    by [] end e = leaves_so start (calls.Feed fed) d [] end mid m (copy_behind end m) (nothing end e) st acts (refl, refl)
-    by (g ∷ gs) (ends.Ok answer) e = leaves_so start (calls.Feed fed) d (g ∷ gs) (ends.Ok answer) mid m m refl st acts (none fed.is_ended, refl)
+    -- it was open, and is failed by a message of its own
+    is_named : (g : Group) (gs : List Group) (message : List ℕ) → fed.is_ended ≡ false → fed.parting ≡ partings.Failed message → HasFrontendFrame (CopyFail message) → LeavesTo start (calls.Feed fed) d (g ∷ gs) ends.Dropped mid m (parted fed.parting m)
+    is_named g gs message e p can =
+        let open_change : m.change ≡ changes.Copies = change ∙ ap (λ (b : Bool). cond b changes.Fed changes.Copies) e in
+        let is : parted fed.parting m ≡ failed_by message m = rw (p, open_change) refl in
+        let f : fails (calls.Feed fed) (g ∷ gs) ends.Dropped ≡ true = ap (λ (b : Bool). not (b || false)) e in
+        let k : is_failed_by (calls.Feed fed) (g ∷ gs) ends.Dropped ≡ true = ap (λ (b : Bool). b || true) e in
+        let said : failing (calls.Feed fed) (g ∷ gs) ends.Dropped ≡ CopyFail message ∷ [] = ap (λ (b : Bool). cond b (failing_by fed.parting ends.Dropped ∷ []) []) f ∙ ap (λ (q : Parting). failing_by q ends.Dropped ∷ []) p in
+        subst (λ (c : ConnSeen). LeavesTo start (calls.Feed fed) d (g ∷ gs) ends.Dropped mid m c) (sym is) (record {
+          left = named_place mid m message;
+          leaves = rw (said, f, k) (ap (λ (s : StreamSeen). record mid { said = mid.said ++ CopyFail message ∷ []; seen = record s { unsent = s.unsent ++ spelled (CopyFail message ∷ []); spare = (failed_by message m).stream.spare }; is_copy_failed = true; has_failed = true }) st.seen);
+          stands = stands_named start mid m message st can;
+          acts = record { opens_so = refl; depth_so = λ n. refl };
+          others = (refl, refl, refl, refl, refl, refl, refl);
+        })
+
+    by : (own : List Group) (end : End) → m.groups ≡ length own → CanFail fed.parting own end → LeavesTo start (calls.Feed fed) d own end mid m (copy_behind fed.parting end m)
+    by [] end e can = leaves_so start (calls.Feed fed) d [] end mid m (copy_behind fed.parting end m) (nothing end e can) st acts (refl, refl)
+    by (g ∷ gs) (ends.Ok answer) e can = leaves_so start (calls.Feed fed) d (g ∷ gs) (ends.Ok answer) mid m m refl st acts (none fed.is_ended, refl)
       where
         none : (b : Bool) → not (b || true) ≡ false
         none true = refl
         none false = refl
-    by (g ∷ gs) (ends.Err x) e = at fed.is_ended refl
+    by (g ∷ gs) (ends.Err x) e can = at fed.is_ended refl
       where
         at : (b : Bool) → fed.is_ended ≡ b → LeavesTo start (calls.Feed fed) d (g ∷ gs) (ends.Err x) mid m (unfed (ends_copy x) m)
         at true w = whole g gs (ends.Err x) (ends_copy x) (some_group g gs m.groups e) w (ap (λ (b : Bool). not (b || is_over (ends.Err x))) w) (ap (λ (b : Bool). b || not (is_over (ends.Err x))) w)
-        at false w = by_over g gs (ends.Err x) (ends_copy x) (some_group g gs m.groups e) w (same_over x) refl
-    by (g ∷ gs) ends.Dropped e = at fed.is_ended refl
+        at false w = by_over g gs (ends.Err x) (ends_copy x) (some_group g gs m.groups e) w (own_none fed.parting) (same_over x) refl
+          where
+            own_none : (q : Parting) → failing_by q (ends.Err x) ≡ copy_fail
+            own_none partings.None = refl
+            own_none partings.Left = refl
+            own_none partings.Unsaid = refl
+            own_none (partings.Failed message) = refl
+    by (g ∷ gs) ends.Dropped e can = at fed.is_ended refl fed.parting refl
       where
-        at : (b : Bool) → fed.is_ended ≡ b → LeavesTo start (calls.Feed fed) d (g ∷ gs) ends.Dropped mid m (unfed false m)
-        at true w = whole g gs ends.Dropped false (some_group g gs m.groups e) w (ap (λ (b : Bool). not (b || is_over ends.Dropped)) w) (ap (λ (b : Bool). b || not (is_over ends.Dropped)) w)
-        at false w = by_over g gs ends.Dropped false (some_group g gs m.groups e) w refl refl
+        whole_so : (q : Parting) → fed.is_ended ≡ true → parted q m ≡ unfed false m
+        whole_so partings.None w = refl
+        whole_so partings.Left w = refl
+        whole_so partings.Unsaid w = refl
+        whole_so (partings.Failed message) w = let fed_change : m.change ≡ changes.Fed = change ∙ ap (λ (b : Bool). cond b changes.Fed changes.Copies) w in rw fed_change refl
+
+        open_so : (q : Parting) → parted q m ≡ unfed false m → failing_by q ends.Dropped ≡ copy_fail → fed.parting ≡ q → fed.is_ended ≡ false → LeavesTo start (calls.Feed fed) d (g ∷ gs) ends.Dropped mid m (parted fed.parting m)
+        open_so q same own p w = subst (λ (c : ConnSeen). LeavesTo start (calls.Feed fed) d (g ∷ gs) ends.Dropped mid m c) (sym (ap (λ (x : Parting). parted x m) p ∙ same)) (by_over g gs ends.Dropped false (some_group g gs m.groups e) w (ap (λ (x : Parting). failing_by x ends.Dropped) p ∙ own) refl refl)
+
+        at : (b : Bool) → fed.is_ended ≡ b → (q : Parting) → fed.parting ≡ q → LeavesTo start (calls.Feed fed) d (g ∷ gs) ends.Dropped mid m (parted fed.parting m)
+        at false w partings.None p = open_so partings.None refl refl p w
+        at false w partings.Left p = open_so partings.Left refl refl p w
+        at false w partings.Unsaid p = open_so partings.Unsaid refl refl p w
+        at false w (partings.Failed message) p = is_named g gs message w p (can refl message p).1
+        at true w q p = subst (λ (c : ConnSeen). LeavesTo start (calls.Feed fed) d (g ∷ gs) ends.Dropped mid m c) (sym (whole_so fed.parting w)) (whole g gs ends.Dropped false (some_group g gs m.groups e) w (ap (λ (b : Bool). not (b || is_over ends.Dropped)) w) (ap (λ (b : Bool). b || not (is_over ends.Dropped)) w))
 
 -- behind the end of another call
-plain_leaves : (start : StreamSeen) (call : Call) (d : ℕ) (own : List Group) (end : End) (mid : Place) (m : ConnSeen) → StandsAt start mid m → m.change ≡ change_for (request_of d call) → ((fed : Fed) → call ≡ calls.Feed fed → ⊥) → LeavesTo start call d own end mid m (copy_behind end m)
-plain_leaves start call d own end mid m st change no_feed = leaves_so start call d own end mid m (copy_behind end m) (plain end) st (record { opens_so = ap opens change ∙ ap opens (is call no_feed); depth_so = λ n. ap (λ (c : Change). depth_behind c m.groups n) (change ∙ is call no_feed) }) (fails_so call no_feed)
+plain_leaves : (start : StreamSeen) (call : Call) (d : ℕ) (own : List Group) (end : End) (mid : Place) (m : ConnSeen) → StandsAt start mid m → m.change ≡ change_for (request_of d call) → ((fed : Fed) → call ≡ calls.Feed fed → ⊥) → LeavesTo start call d own end mid m (copy_behind (parting_of call) end m)
+plain_leaves start call d own end mid m st change no_feed = leaves_so start call d own end mid m (copy_behind (parting_of call) end m) (ap (λ (q : Parting). copy_behind q end m) (no_parting call no_feed) ∙ plain end) st (record { opens_so = ap opens change ∙ ap opens (is call no_feed); depth_so = λ n. ap (λ (c : Change). depth_behind c m.groups n) (change ∙ is call no_feed) }) (fails_so call no_feed)
   where
-    plain : (end : End) → copy_behind end m ≡ m
+    no_parting : (call : Call) → ((fed : Fed) → call ≡ calls.Feed fed → ⊥) → parting_of call ≡ partings.None
+    no_parting (calls.Feed fed) n = absurd (n fed refl)
+    no_parting _ n = refl
+
+    plain : (end : End) → copy_behind partings.None end m ≡ m
     plain (ends.Ok answer) = refl
     plain (ends.Err x) = copies_none (ends_copy x) m d call change no_feed
     plain ends.Dropped = copies_none false m d call change no_feed
@@ -264,8 +342,8 @@ feeds_or_not (calls.Feed fed) = inl (fed, refl)
 feeds_or_not _ = inr (λ fed e. cc)
 
 -- behind the end of any call
-pub leaves_to : (start : StreamSeen) (call : Call) (d : ℕ) (own : List Group) (end : End) (mid : Place) (m : ConnSeen) → StandsAt start mid m → m.groups ≡ length own → m.change ≡ change_for (request_of d call) → LeavesTo start call d own end mid m (copy_behind end m)
-leaves_to start call d own end mid m st groups change = elim (feeds_or_not call) [
-  | inl x ↦ subst (λ (c : Call). m.change ≡ change_for (request_of d c) → LeavesTo start c d own end mid m (copy_behind end m)) (sym x.1) (λ k. feed_leaves start x.0 d own end mid m st groups k) change
+pub leaves_to : (start : StreamSeen) (call : Call) (d : ℕ) (own : List Group) (end : End) (mid : Place) (m : ConnSeen) → StandsAt start mid m → m.groups ≡ length own → m.change ≡ change_for (request_of d call) → CanFail (parting_of call) own end → LeavesTo start call d own end mid m (copy_behind (parting_of call) end m)
+leaves_to start call d own end mid m st groups change can = elim (feeds_or_not call) [
+  | inl x ↦ subst (λ (c : Call). m.change ≡ change_for (request_of d c) → CanFail (parting_of c) own end → LeavesTo start c d own end mid m (copy_behind (parting_of c) end m)) (sym x.1) (λ k f. feed_leaves start x.0 d own end mid m st groups k f) change can
   | inr n ↦ plain_leaves start call d own end mid m st change n
 ]

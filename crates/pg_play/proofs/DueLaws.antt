@@ -27,11 +27,12 @@ use Rattle.pg_report.specs.declared.outcome.End.TheVariants as ends
 use Rattle.pg_report.specs.declared.outcome.Outcome.{Outcome}
 use Rattle.pg_script.specs.declared.step.Call.TheVariants as calls
 use Rattle.pg_script.specs.declared.step.Step.{Step}
-use Rattle.pg_play.specs.declared.tally.Limits.{Limits}
-use Rattle.pg_play.specs.Shown.{request_of, waits_to_show, item_of}
-use Rattle.pg_play.specs.Calls.{WaitsFew, HasWaitedFew, StaysIdle, EndsOn, Ended, IsUnpolled, limits_of, HandedOn, untouched, outcome_of, broken_after, begun_call, all_groups}
+use Rattle.pg_script.specs.declared.step.Parting.{Parting}
+use Rattle.pg_script.specs.declared.step.Parting.TheVariants as partings
+use Rattle.pg_play.specs.Shown.{parting_of, request_of, waits_to_show, item_of}
+use Rattle.pg_play.specs.Calls.{Bounds, bounds, WaitsFew, HasWaitedFew, StaysIdle, EndsOn, Ended, IsUnpolled, limits_of, HandedOn, untouched, outcome_of, broken_after, begun_call, all_groups}
 use Rattle.pg_play.specs.Places.{Place, ended, owed, is_fine, refuses_copy}
-use Rattle.pg_play.specs.Causes.{AnsweredPending, IsDropped, StaysAt, EndsDuly, OpensSavepoint}
+use Rattle.pg_play.specs.Causes.{AnsweredPending, IsDropped, IsDroppedAs, StaysAt, EndsDuly, OpensSavepoint}
 use Rattle.pg_play.specs.Plays.{StandsAt}
 use Rattle.pg_play.proofs.StepLaws.{Summary, QueuedOwn}
 use Rattle.pg_call.proofs.RefusalLaws.{IsCallers, refusal_is}
@@ -47,7 +48,7 @@ WithinMost end shown most = (end ≢ ends.Dropped → length shown < most) × (l
 within_none : (end : End) (shown : List Item) (most : ℕ) → shown ≡ [] → 0 < most → WithinMost end shown most
 within_none end shown most e m = let z : length shown ≡ 0 = ap (λ (x : List Item). length x) e in (λ n. omega (arith, z, m), omega (arith, z))
 
-pub most_by : (d : ℕ) (o : Option ServerFault) (limits : Limits) (first : StreamSeen) (a b : ConnSeen) (step : Step) (said : List FrontendMessage) (hs : List Frame) (shown : List Item) (end : End) → waits_to_show step.call ≡ false → 0 < limits.most → EndsOn o limits first a b (request_of d step.call) said hs shown end
+pub most_by : (d : ℕ) (o : Option ServerFault) (limits : Bounds) (first : StreamSeen) (a b : ConnSeen) (step : Step) (said : List FrontendMessage) (hs : List Frame) (shown : List Item) (end : End) → waits_to_show step.call ≡ false → 0 < limits.most → EndsOn o limits first a b (request_of d step.call) said hs shown end
     → WithinMost end shown limits.most
 most_by d None limits first a b step said hs shown (ends.Ok told) w m h =
     let plain = h.2 ∙ no_items_come d step.call h.5.0.reply h.5.0.status h.1 (map item_of h.0) w h.5.1 in
@@ -246,11 +247,23 @@ duly_out at step r raw out stop e g f d = record {
     other end n k = untouched_out raw out end e (g (ap (λ (y : Outcome). y.groups) k) (ap (λ (y : Outcome). is_fine y.end) k ∙ n)) k
 
 pub dropped_out : (at : Place) (step : Step) (raw out : Outcome) (stop : Place) → out ≡ record raw { groups = out.groups; cache = out.cache } → IsDropped at step raw stop → IsDropped at step out stop
-dropped_out at step raw out stop e d = subst (λ (x : Outcome). IsDropped at step x stop) (sym e) d
+dropped_out at step raw out stop e d = subst (λ (x : Outcome). IsDropped at step x stop) (sym e) (by (parting_of step.call) d)
+  where
+    by : (q : Parting) → IsDroppedAs q at step raw stop → IsDroppedAs q at step (record raw { groups = out.groups; cache = out.cache }) stop
+    by partings.None k = k
+    by partings.Left k = tt
+    by partings.Unsaid k = tt
+    by (partings.Failed message) k = tt
 
 -- where exchanges lie behind one another, what starved the last of them starved from the first on
 pub dropped_from : (at next stop : Place) (step : Step) (out : Outcome) → at.seen.link.write_waits ≤ next.seen.link.write_waits → IsDropped next step out stop → IsDropped at step out stop
-dropped_from at next stop step out l (inl u) = inl u
-dropped_from at next stop step out l (inr (inl (p, inl w))) = inr (inl (p, inl (omega (arith, l, w))))
-dropped_from at next stop step out l (inr (inl (p, inr s))) = inr (inl (p, inr s))
-dropped_from at next stop step out l (inr (inr most)) = inr (inr most)
+dropped_from at next stop step out l = by (parting_of step.call)
+  where
+    by : (q : Parting) → IsDroppedAs q next step out stop → IsDroppedAs q at step out stop
+    by partings.None (inl u) = inl u
+    by partings.None (inr (inl (p, inl w))) = inr (inl (p, inl (omega (arith, l, w))))
+    by partings.None (inr (inl (p, inr s))) = inr (inl (p, inr s))
+    by partings.None (inr (inr most)) = inr (inr most)
+    by partings.Left d = tt
+    by partings.Unsaid d = tt
+    by (partings.Failed message) d = tt

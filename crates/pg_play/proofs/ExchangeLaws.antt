@@ -33,7 +33,8 @@ use Rattle.pg_call.specs.Calls.{answer_by}
 use Rattle.pg_script.specs.declared.step.Call.{Call}
 use Rattle.pg_script.specs.declared.step.Call.TheVariants as calls
 use Rattle.pg_call.proofs.FitLaws.{next_is, hands_on_described}
-use Rattle.pg_play.specs.Shown.{request_of, asked_of, first_as, first_call, next_call, handed_by, exchange_for, IsPartOf, how_of, IsWanted, waits_how, waits_to_show, wants_row, wants_how, acts_at_once, begins, begins_with, copies}
+use Rattle.pg_script.specs.declared.step.Parting.TheVariants as partings
+use Rattle.pg_play.specs.Shown.{parting_of, request_of, asked_of, first_as, first_call, next_call, handed_by, exchange_for, IsPartOf, how_of, IsWanted, waits_how, waits_to_show, wants_row, wants_how, acts_at_once, begins, begins_with, copies}
 use Rattle.pg_play.specs.Calls.{IsLast}
 
 -- ---- what an exchange stands for
@@ -113,6 +114,7 @@ first_request rule (suc left) calls.Commit = refl
 first_request rule zero calls.Rollback = refl
 first_request rule (suc left) calls.Rollback = refl
 first_request rule d calls.StartRollback = refl
+first_request rule d (calls.Release text) = refl
 first_request rule d (calls.Prepare p) = exchange_asks d (asked_by rule (to_prepare p)) (prepared_exchange rule p)
 first_request rule d calls.Clear = exchange_asks d (asked_by rule (begun_as rule (requests.Clear []))) (cleared_exchange rule)
 first_request rule d _ = refl
@@ -156,6 +158,7 @@ kept_first f n rule _ = refl
 
 acts_none : (call : Call) (how : How) → how_of call ≡ Some how → acts_at_once call ≡ false
 acts_none calls.StartRollback how e = absurd cc
+acts_none (calls.Release text) how e = absurd cc
 acts_none _ how e = refl
 
 begins_none : (call : Call) (how : How) → how_of call ≡ Some how → begins call ≡ false
@@ -183,6 +186,31 @@ copies_none _ how e = refl
 
 first_copies : (rule : Rule) (call : Call) → copies (first_call rule call) ≡ copies call
 first_copies rule call = kept_first copies (record { queries = copies_none; exchanges = λ r. (exchange_polled r).3; prepares = λ p. refl; clears = refl; evicts = λ e. refl }) rule call
+
+exchange_parts : (r : Request) → parting_of (exchange_for r) ≡ partings.None
+exchange_parts (requests.Describe x) = refl
+exchange_parts (requests.Run bound) = refl
+exchange_parts (requests.Evict eviction) = refl
+exchange_parts (requests.Prepare prepared) = refl
+exchange_parts (requests.Clear statements) = refl
+exchange_parts _ = refl
+
+as_parts : (rule : Rule) (how : How) (query : QueryText) (o : Option ArgumentsSeen) (call : Call) → parting_of call ≡ partings.None → parting_of (first_as rule how query o call) ≡ partings.None
+as_parts rule how query None call e = e
+as_parts rule how query (Some arguments) call e = exchange_parts (run_or_describe rule how query.sql arguments query.persistent (entry_at query.sql rule.cache.entries))
+
+-- how a copy is given up is said of its exchange too
+pub first_parts : (rule : Rule) (call : Call) → parting_of (first_call rule call) ≡ parting_of call
+first_parts rule (calls.Execute query) = as_parts rule hows.Execute query query.arguments (calls.Execute query) refl
+first_parts rule (calls.ExecuteMany query) = as_parts rule hows.ExecuteMany query query.arguments (calls.ExecuteMany query) refl
+first_parts rule (calls.Fetch query) = as_parts rule hows.Fetch query query.arguments (calls.Fetch query) refl
+first_parts rule (calls.FetchMany query) = as_parts rule hows.FetchMany query query.arguments (calls.FetchMany query) refl
+first_parts rule (calls.FetchAll query) = as_parts rule hows.FetchAll query query.arguments (calls.FetchAll query) refl
+first_parts rule (calls.FetchOptional query) = as_parts rule hows.FetchOptional query query.arguments (calls.FetchOptional query) refl
+first_parts rule (calls.FetchOne query) = as_parts rule hows.FetchOne query query.arguments (calls.FetchOne query) refl
+first_parts rule (calls.Prepare p) = exchange_parts (asked_by rule (to_prepare p))
+first_parts rule calls.Clear = exchange_parts (asked_by rule (begun_as rule (requests.Clear [])))
+first_parts rule _ = refl
 
 -- how the query is run that an exchange is of
 abbrev goal_how : Goal → Option How
@@ -421,6 +449,12 @@ next_how rule _ response part e = absurd cc
 some_next : (rule : Rule) (o : Option Request) (part : Call) → option_map (λ (r : Request). exchange_for (asked_by rule r)) o ≡ Some part → (r : Request) × (exchange_for r ≡ part)
 some_next rule None part e = absurd cc
 some_next rule (Some r) part e = (asked_by rule r, same_Some (exchange_for (asked_by rule r)) part e)
+
+-- no exchange of a copy from the client comes behind another
+pub next_parts : (rule : Rule) (call : Call) (response : List BackendMessage) (part : Call) → next_call rule call response ≡ Some part → parting_of part ≡ parting_of call
+next_parts rule (calls.Describe x) response part e = let is = some_next rule (handed_by (calls.Describe x) response) part e in ap parting_of (sym is.1) ∙ exchange_parts is.0
+next_parts rule (calls.Evict v) response part e = let is = some_next rule (handed_by (calls.Evict v) response) part e in ap parting_of (sym is.1) ∙ exchange_parts is.0
+next_parts rule _ response part e = absurd cc
 
 next_begins : (rule : Rule) (call : Call) (response : List BackendMessage) (part : Call) → next_call rule call response ≡ Some part → (begins part ≡ false) × (begins_with part ≡ false) × (copies part ≡ false)
 next_begins rule call response part e =

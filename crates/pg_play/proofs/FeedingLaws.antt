@@ -37,7 +37,7 @@ use Rattle.pg_play.specs.Shown.{item_of}
 use Rattle.pg_wire.specs.declared.error.ServerFault.{ServerFault}
 use Rattle.pg_play.specs.declared.tally.Pause.TheVariants as pauses
 use Rattle.pg_play.proofs.ThroughLaws.{handed_described, plays_call}
-use Rattle.pg_play.specs.Calls.{first_conn, InCopy, InPlay, IsCallPlaying, IsCopying, IsPlayingOn, OfLast, Pauses, PlaysCall, StopsBy, IsUnpolled, limits_of, outcome_of, untouched, Waited, Went, change_for}
+use Rattle.pg_play.specs.Calls.{Bounds, bounds, first_conn, InCopy, InPlay, IsCallPlaying, IsCopying, IsPlayingOn, OfLast, Pauses, PlaysCall, StopsBy, IsUnpolled, limits_of, outcome_of, untouched, Waited, Went, change_for}
 use Rattle.pg_play.proofs.CallLaws.{below_items, call_runs, ended_whole, ends_few, few_calls, not_at_once, unasked_stays}
 use Rattle.pg_wire.specs.Server.{IsPrefixOf}
 use Rattle.pg_report.specs.declared.outcome.End.{End}
@@ -45,8 +45,9 @@ use Rattle.pg_report.specs.declared.outcome.Outcome.{Outcome}
 use Rattle.pg_script.specs.declared.step.Step.{Step}
 use Rattle.pg_script.specs.declared.step.Call.TheVariants as calls
 use Rattle.pg_script.specs.declared.step.Copying.{Copying}
-use Rattle.pg_play.specs.Chains.{IsCopied}
-use Rattle.pg_play.specs.Plays.{PlaysInOrder}
+use Rattle.pg_script.specs.declared.step.CopyEnd.TheVariants as copy_ends
+use Rattle.pg_script.specs.declared.step.Parting.TheVariants as partings
+use Rattle.pg_play.specs.Opened.{PlaysCopy, asked_of_fed, fed_of}
 use Rattle.pg_script.specs.declared.step.Fed.{Fed}
 use Rattle.pg_play.specs.Shown.{feed_of}
 use Rattle.pg_play.specs.Feeding.{CameOf, fed_with, parts_of}
@@ -84,7 +85,7 @@ went_fed a b said new fs call now change none w =
     }
 
 -- what is open was not fed to its end
-unended : (start : Ledger) (feed : Feed) (said : List FrontendMessage) (hs : List Frame) (items : List CallItem) (ledger : Ledger) (call : Call) → IsOpen call → CallIs start (requests.CopyIn feed) said hs items ledger call → feed.is_ended ≡ false
+pub unended : (start : Ledger) (feed : Feed) (said : List FrontendMessage) (hs : List Frame) (items : List CallItem) (ledger : Ledger) (call : Call) → IsOpen call → CallIs start (requests.CopyIn feed) said hs items ledger call → feed.is_ended ≡ false
 unended start feed said hs items ledger (states.Own reply) o i =
     let c = i.2 in
     sym (came feed.is_ended (Feeding false) c.own (subst (λ (p : Part). part_after (Opening feed.is_ended) c.own ≡ Some p) o c.so_far)).3
@@ -93,7 +94,7 @@ unended start feed said hs items ledger (states.Asked asked) o i = absurd o
 unended start feed said hs items ledger (states.Waiting w) o i = absurd o
 unended start feed said hs items ledger states.Closing o i = absurd o
 
-unended_changes : (feed : Feed) → feed.is_ended ≡ false → change_for (requests.CopyIn feed) ≡ changes.Copies
+pub unended_changes : (feed : Feed) → feed.is_ended ≡ false → change_for (requests.CopyIn feed) ≡ changes.Copies
 unended_changes feed e = ap (λ (b : Bool). cond b changes.Fed changes.Copies) e
 
 -- ---- what the relation says of the request that it was fed to
@@ -253,7 +254,7 @@ no_level groups = by (nat_eq groups 0)
     by true = refl
     by false = refl
 
-said_can : (start : Ledger) (r : Request) (said : List FrontendMessage) (hs : List Frame) (items : List CallItem) (ledger : Ledger) (call : Call) → IsOpen call → CallIs start r said hs items ledger call → CanBeSaid r
+pub said_can : (start : Ledger) (r : Request) (said : List FrontendMessage) (hs : List Frame) (items : List CallItem) (ledger : Ledger) (call : Call) → IsOpen call → CallIs start r said hs items ledger call → CanBeSaid r
 said_can start r said hs items ledger (states.Own reply) o i = i.1
 said_can start r said hs items ledger states.Idle o i = absurd o
 said_can start r said hs items ledger (states.Asked asked) o i = absurd o
@@ -284,33 +285,31 @@ copy_ended first c b feed waits items said fs g i =
 
 -- without memory for a part the copy is given up where it stands
 pub copy_stops : (limits : Limits) (c b : ConnSeen) (feed : Feed) (waits : ℕ) (shown : List Item) (items : List CallItem) (said : List FrontendMessage) (fs : List Frame) → waits < limits.polls → shown ≡ map item_of items → length shown < limits.most → c.broken ≡ None
-    → InCopy c.stream (asked_with feed c) b (requests.CopyIn feed) waits items said fs → StopsBy limits c.stream (asked_with feed c) b (requests.CopyIn feed) shown (ends.Err errors.OutOfMemory)
+    → InCopy c.stream (asked_with feed c) b (requests.CopyIn feed) waits items said fs → StopsBy (bounds limits) c.stream (asked_with feed c) b (requests.CopyIn feed) shown (ends.Err errors.OutOfMemory)
 copy_stops limits c b feed waits shown items said fs l s m w i =
     let can = said_can c.ledger (requests.CopyIn feed) said (heard fs) items b.ledger b.call i.is_open i.call in
     let e = unended c.ledger feed said (heard fs) items b.ledger b.call i.is_open i.call in
-    let ended = ended_whole limits c.stream (asked_with feed c) b (requests.CopyIn feed) shown (ends.Err errors.OutOfMemory) said fs w i.went i.broken (ends_few limits c.stream b.stream waits (ends.Err errors.OutOfMemory) l i.waited) i.room
-    (few_calls c.stream b (requests.CopyIn feed) waits (length items) limits l (below_items shown items limits.most s m) (omega (arith, i.calls)))
+    let ended = ended_whole (bounds limits) c.stream (asked_with feed c) b (requests.CopyIn feed) shown (ends.Err errors.OutOfMemory) said fs w i.went i.broken (ends_few (bounds limits) c.stream b.stream waits (ends.Err errors.OutOfMemory) l i.waited) i.room
+    (few_calls c.stream b (requests.CopyIn feed) waits (length items) (bounds limits) l (below_items shown items limits.most s m) (omega (arith, i.calls)))
     (not_at_once (asked_with feed c) b (requests.CopyIn feed) shown (ends.Err errors.OutOfMemory) fs (λ u. u can) (λ f. absurd cc))
     (inl (items, s, m, inr (leaves_call c.ledger (requests.CopyIn feed) said (heard fs) items b.ledger b.call i.call, call_well c.ledger (requests.CopyIn feed) said (heard fs) items b.ledger b.call i.call, inl (tt, tt)))) tt in
-    (b, ended, inr (call_runs c.ledger (requests.CopyIn feed) said (heard fs) items b.ledger b.call i.call, refl, refl))
+    (b, ended, inr (call_runs c.ledger (requests.CopyIn feed) said (heard fs) items b.ledger b.call i.call, refl, λ x. refl, refl))
 
 -- a copy is one exchange
-of_copy : (polls : ℕ) (first : StreamSeen) (P : ConnSeen → Request → Type 0) (a : ConnSeen) (feed : Feed) → OfLast polls first P a (requests.CopyIn feed) → P a (requests.CopyIn feed)
+pub of_copy : (polls : ℕ) (first : StreamSeen) (P : ConnSeen → Request → Type 0) (a : ConnSeen) (feed : Feed) → OfLast polls first P a (requests.CopyIn feed) → P a (requests.CopyIn feed)
 of_copy polls first P a feed ([], p) = p
 of_copy polls first P a feed (next ∷ later, (m, h, rest)) = let k = handed_described polls first a m (requests.CopyIn feed) next h in absurd cc
 
--- Where it was open and was fed these parts, and there was no memory for more, it is told as it was fed.
-pub copy_fails : (limits : Limits) (c b d : ConnSeen) (feed : Feed) (waits : ℕ) (shown : List Item) (front : List (List ℕ)) → waits < limits.polls → Pauses limits (asked_with feed c) b (requests.CopyIn feed) waits shown pauses.Opened → d ≡ fed_with front b
-    → Pauses limits (asked_with (fed_parts front feed) c) d (requests.CopyIn (fed_parts front feed)) waits shown (pauses.Ended (ends.Err errors.OutOfMemory))
-copy_fails limits c b d feed waits shown front l p e =
+-- it is open still where it was fed these parts
+pub copy_feeds : (limits : Limits) (c b d : ConnSeen) (feed : Feed) (waits : ℕ) (shown : List Item) (front : List (List ℕ)) → Pauses limits (asked_with feed c) b (requests.CopyIn feed) waits shown pauses.Opened → d ≡ fed_with front b
+    → Pauses limits (asked_with (fed_parts front feed) c) d (requests.CopyIn (fed_parts front feed)) waits shown pauses.Opened
+copy_feeds limits c b d feed waits shown front p e =
     let i = of_copy limits.polls c.stream (λ at asked. IsCopying limits.most c.stream at b asked waits shown) (asked_with feed c) feed p in
-    let h = i.1 in (
-      [],
-      subst (λ (x : ConnSeen). StopsBy limits c.stream (asked_with (fed_parts front feed) c) x (requests.CopyIn (fed_parts front feed)) shown (ends.Err errors.OutOfMemory)) (sym e)
-          (copy_stops limits c (fed_with front b) (fed_parts front feed) waits shown h.0 (h.1 ++ map CopyData front) h.2 l h.3 h.4 i.0 (copy_fed_with front c.stream c b feed waits h.0 h.1 h.2 h.5)),
-    )
+    let h = i.1 in
+    subst (λ (x : ConnSeen). Pauses limits (asked_with (fed_parts front feed) c) x (requests.CopyIn (fed_parts front feed)) waits shown pauses.Opened) (sym e)
+    ([], (i.0, (h.0, h.1 ++ map CopyData front, h.2, h.3, h.4, copy_fed_with front c.stream c b feed waits h.0 h.1 h.2 h.5)))
 
-open_stays : (c : ConnSeen) → IsOpen c.call → resolved (copied c) ≡ copied c
+pub open_stays : (c : ConnSeen) → IsOpen c.call → resolved (copied c) ≡ copied c
 open_stays c o = unasked_stays (copied c) (by c.call o)
   where
     by : (call : Call) → IsOpen call → IsAsked (fed_whole call) → ⊥
@@ -320,59 +319,8 @@ open_stays c o = unasked_stays (copied c) (by c.call o)
     by (states.Waiting w) o a = absurd o
     by states.Closing o a = absurd o
 
--- And where all of its data was queued, it goes on as if it had been asked for so.
-pub copy_goes : (limits : Limits) (c b d : ConnSeen) (feed : Feed) (waits : ℕ) (shown : List Item) (parts : List (List ℕ)) → c.groups ≡ 0 → Pauses limits (asked_with feed c) b (requests.CopyIn feed) waits shown pauses.Opened → d ≡ copied (fed_with parts b)
-    → IsCallPlaying limits (asked_with (fed_all (fed_parts parts feed)) c) d (requests.CopyIn (fed_all (fed_parts parts feed))) waits shown
-copy_goes limits c b d feed waits shown parts g p e =
-    let i = of_copy limits.polls c.stream (λ at asked. IsCopying limits.most c.stream at b asked waits shown) (asked_with feed c) feed p in
-    let h = i.1 in
-    let fed = copy_fed_with parts c.stream c b feed waits h.0 h.1 h.2 h.5 in
-    let goes = copy_ended c.stream c (fed_with parts b) (fed_parts parts feed) waits h.0 (h.1 ++ map CopyData parts) h.2 g fed in
-    let same : copied (fed_with parts b) ≡ resolved d = sym (open_stays (fed_with parts b) fed.is_open) ∙ ap (λ (x : ConnSeen). resolved x) (sym e) in
-    let at = asked_with (fed_all (fed_parts parts feed)) c in
-    let r = requests.CopyIn (fed_all (fed_parts parts feed)) in (
-      [],
-      subst (λ (o : Option ServerFault). IsPlayingOn o limits.most c.stream at d r waits shown) (sym i.0)
-          (h.0, (h.1 ++ map CopyData parts) ++ CopyDone ∷ [], h.2, h.3, h.4, subst (λ (x : ConnSeen). InPlay c.stream at x r waits h.0 ((h.1 ++ map CopyData parts) ++ CopyDone ∷ []) h.2) same goes),
-    )
-
--- a copy that has begun is asked for with none of its data
-pub copy_begins : (feed feed' : Feed) (old : ConnSeen) → feed.is_ended ≡ false → (first_conn (requests.CopyIn feed') old ≡ asked_with feed' (first_conn (requests.CopyIn feed) old)) × (first_exchange (requests.CopyIn feed') old ≡ requests.CopyIn feed')
-copy_begins feed feed' old e = (refl, refl)
-
--- ---- what a step tells of it
-
-abbrev pub fed_of : Copying → List (List ℕ) → Bool → Fed
-fed_of copying parts ended = record { sql = copying.sql; pieces = parts; is_ended = ended }
-
-abbrev pub asked_of_fed : Fed → Request
-asked_of_fed fed = requests.CopyIn (feed_of fed)
-
--- the call of a copy was played, and came as this
-abbrev pub TellsCopy : Limits → Copying → ConnSeen → ConnSeen → Outcome → Type 0
-TellsCopy limits copying old b out = (fed : Fed) × CameOf copying fed × PlaysCall limits (first_conn (asked_of_fed fed) old) b (first_exchange (asked_of_fed fed) old) out
-
--- it ended before it was open
-pub copy_unopened : (limits : Limits) (copying : Copying) (old c d : ConnSeen) (waits : ℕ) (shown : List Item) (end : End) (out : Outcome) → Pauses limits (first_conn (asked_of_fed (fed_of copying [] false)) old) c (requests.CopyIn (feed_of (fed_of copying [] false))) waits shown (pauses.Ended end)
-    → d ≡ left c → out ≡ outcome_of d shown end → TellsCopy limits copying old d out
-copy_unopened limits copying old c d waits shown end out p e k =
-    (fed_of copying [] false, record { sql = refl; pieces = (parts_of copying, refl); whole = λ w. absurd cc }, plays_call limits (first_conn (asked_of_fed (fed_of copying [] false)) old) c d (requests.CopyIn (feed_of (fed_of copying [] false))) waits shown end out p e k)
-
--- there was no memory for all of its data
-pub copy_unfed : (limits : Limits) (copying : Copying) (old b c d : ConnSeen) (waits : ℕ) (shown : List Item) (front : List (List ℕ)) (out : Outcome) → waits < limits.polls → Pauses limits (first_conn (asked_of_fed (fed_of copying [] false)) old) b (requests.CopyIn (feed_of (fed_of copying [] false))) waits shown pauses.Opened
-    → IsPrefixOf front (parts_of copying) → c ≡ fed_with front b → d ≡ left c → out ≡ outcome_of d shown (ends.Err errors.OutOfMemory) → TellsCopy limits copying old d out
-copy_unfed limits copying old b c d waits shown front out l p f e k t =
-    let fed : Fed = fed_of copying front false in
-    let stops = copy_fails limits (first_conn (asked_of_fed (fed_of copying [] false)) old) b c (feed_of (fed_of copying [] false)) waits shown front l p e in
-    (fed, record { sql = refl; pieces = f; whole = λ w. absurd cc }, plays_call limits (first_conn (asked_of_fed fed) old) c d (asked_of_fed fed) waits shown (ends.Err errors.OutOfMemory) out stops k t)
-
--- and where there was, it goes on
-pub copy_fed_whole : (limits : Limits) (copying : Copying) (old b c : ConnSeen) (waits : ℕ) (shown : List Item) → Pauses limits (first_conn (asked_of_fed (fed_of copying [] false)) old) b (requests.CopyIn (feed_of (fed_of copying [] false))) waits shown pauses.Opened
-    → c ≡ copied (fed_with (parts_of copying) b) → IsCallPlaying limits (first_conn (asked_of_fed (fed_of copying (parts_of copying) true)) old) c (asked_of_fed (fed_of copying (parts_of copying) true)) waits shown
-copy_fed_whole limits copying old b c waits shown p e = copy_goes limits (first_conn (asked_of_fed (fed_of copying [] false)) old) b c (feed_of (fed_of copying [] false)) waits shown (parts_of copying) refl p e
-
-pub copy_told : (limits : Limits) (copying : Copying) (old d : ConnSeen) (out : Outcome) → PlaysCall limits (first_conn (asked_of_fed (fed_of copying (parts_of copying) true)) old) d (asked_of_fed (fed_of copying (parts_of copying) true)) out → TellsCopy limits copying old d out
-copy_told limits copying old d out p = (fed_of copying (parts_of copying) true, record { sql = refl; pieces = ([], append-nil (parts_of copying)); whole = λ w. refl }, p)
+pub came_none : (copying : Copying) → CameOf copying (fed_of copying [] false)
+came_none copying = record { sql = refl; pieces = (parts_of copying, refl); whole = λ w. absurd cc; parts = tt }
 
 -- a copy that was fed to its end isn't open again
 pub ended_unopened : (limits : Limits) (a b : ConnSeen) (feed : Feed) (waits : ℕ) (shown : List Item) → feed.is_ended ≡ true → Pauses limits a b (requests.CopyIn feed) waits shown pauses.Opened → ⊥
@@ -384,26 +332,14 @@ ended_unopened limits a b feed waits shown e p =
 
 -- ---- a step that copies
 
-abbrev CopiesIn : ConnSeen → ConnSeen → Step → Copying → Outcome → Type 0
-CopiesIn a b step copying out = (calls : List Step) × (told : List Outcome) × IsCopied step copying out calls told × PlaysInOrder a b calls told
-
-came_none : (copying : Copying) → CameOf copying (fed_of copying [] false)
-came_none copying = record { sql = refl; pieces = (parts_of copying, refl); whole = λ w. absurd cc }
-
 -- it isn't polled
-pub copies_unpolled : (a : ConnSeen) (step : Step) (copying : Copying) (out : Outcome) → IsUnpolled step → a.rule.depth < 2 ^ 64 → out ≡ untouched ends.Dropped → CopiesIn a a step copying out
+pub copies_unpolled : (a : ConnSeen) (step : Step) (copying : Copying) (out : Outcome) → IsUnpolled step → a.rule.depth < 2 ^ 64 → out ≡ untouched ends.Dropped → PlaysCopy a a step copying out
 copies_unpolled a step copying out u d e =
     let part : Step = record step { call = calls.Feed (fed_of copying [] false) } in
-    (part ∷ [], out ∷ [], (fed_of copying [] false, came_none copying, refl, refl), (a, inr (refl, inl (u, refl, e)), d, refl))
+    (part ∷ [], out ∷ [], (fed_of copying [] false, came_none copying, (refl, refl)), (a, inr (refl, inl (u, refl, e)), d, refl))
 
 -- there was no memory for its text
-pub copies_unmade : (a : ConnSeen) (step : Step) (copying : Copying) (out : Outcome) → (IsUnpolled step → ⊥) → step.polls < 2 ^ 32 → a.rule.depth < 2 ^ 64 → out ≡ untouched (ends.Err errors.OutOfMemory) → CopiesIn a a step copying out
+pub copies_unmade : (a : ConnSeen) (step : Step) (copying : Copying) (out : Outcome) → (IsUnpolled step → ⊥) → step.polls < 2 ^ 32 → a.rule.depth < 2 ^ 64 → out ≡ untouched (ends.Err errors.OutOfMemory) → PlaysCopy a a step copying out
 copies_unmade a step copying out n p d e =
     let part : Step = record step { call = calls.Feed (fed_of copying [] false) } in
-    (part ∷ [], out ∷ [], (fed_of copying [] false, came_none copying, refl, refl), (a, inr (refl, inr (n, p, inr (λ x. let y = x.0 in absurd cc, inl (refl, e, refl)))), d, refl))
-
--- it was played
-pub copies_played : (a b : ConnSeen) (step : Step) (copying : Copying) (out : Outcome) → (IsUnpolled step → ⊥) → step.polls < 2 ^ 32 → a.rule.depth < 2 ^ 64 → TellsCopy (limits_of step) copying a b out → CopiesIn a b step copying out
-copies_played a b step copying out n p d (fed, came, played) =
-    let part : Step = record step { call = calls.Feed fed } in
-    (part ∷ [], out ∷ [], (fed, came, refl, refl), (b, inr (refl, inr (n, p, inr (λ x. let y = x.0 in absurd cc, inr played))), d, refl))
+    (part ∷ [], out ∷ [], (fed_of copying [] false, came_none copying, (refl, refl)), (a, inr (refl, inr (n, p, inr (λ x. let y = x.0 in absurd cc, inl (refl, e, refl)))), d, refl))

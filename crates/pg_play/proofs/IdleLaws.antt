@@ -7,6 +7,7 @@ use Rattle.pg_wire.specs.Frame.{Frame}
 use Rattle.pg_wire.specs.Backend.{BackendMessage}
 use Rattle.pg_call.specs.Requests.{Group, groups_of}
 use Rattle.pg_conn.specs.Connections.{rollback}
+use Rattle.pg_conn.specs.Holding.{release}
 use Rattle.pg_report.specs.declared.outcome.End.{End}
 use Rattle.pg_report.specs.declared.outcome.End.TheVariants as ends
 use Rattle.pg_report.specs.declared.outcome.Outcome.{Outcome}
@@ -16,7 +17,7 @@ use Rattle.pg_script.specs.declared.step.Step.{Step}
 use Rattle.pg_play.specs.Shown.{request_of, begins, acts_at_once}
 use Rattle.pg_play.specs.Places.{Place, owed, ended, is_fine, Queues}
 use Rattle.pg_play.specs.Told.{WellAtOk, HasNoError}
-use Rattle.pg_play.specs.Settling.{cleanup_of, depth_after, rollback_at}
+use Rattle.pg_play.specs.Settling.{cleanup_of, depth_after, rollback_at, release_at}
 use Rattle.pg_play.specs.Idles.{KeepsOrder}
 use Rattle.pg_play.specs.Plays.{Plays_exchange, Plays_exchanges, Plays_from, AreOrderlyIn, AreOrderly, AreIdleIn, AreIdle}
 use Rattle.pg_play.proofs.StepLaws.{at_most_group}
@@ -84,6 +85,7 @@ no_cleanup d calls.Commit end (g ∷ gs) o b a = refl
 no_cleanup d calls.Rollback end [] o b a = refl
 no_cleanup d calls.Rollback end (g ∷ gs) o b a = refl
 no_cleanup d calls.StartRollback end own o b a = absurd cc
+no_cleanup d (calls.Release text) end own o b a = absurd cc
 no_cleanup d (calls.Describe extended) end [] o b a = refl
 no_cleanup d (calls.Describe extended) end (g ∷ gs) o b a = refl
 no_cleanup d (calls.Run bound) end [] o b a = refl
@@ -138,7 +140,16 @@ rolled_idle idle n (suc zero) own cleanup owed o l z i cleans c =
     subst idle (omega (arith, ap (λ (x : List Group). length x) one)) (cleans one)
 rolled_idle idle n (suc (suc k)) own cleanup owed o l z i cleans c = absurd (omega (arith, z))
 
-idle_by : (idle : ℕ → Type 0) (n d : ℕ) (call : Call) (end : End) (own cleanup : List Group) (owed : ℕ) → (begins call ≡ false → own ≢ [] → idle n → idle (n + 1)) → (call ≡ calls.Commit → is_fine end ≡ true → own ≡ (Query (codes "COMMIT") ∷ []) ∷ [] → idle (n + 1)) → (call ≡ calls.Rollback → own ≡ rollback 0 ∷ [] → idle (n + 1)) → (cleanup ≡ rollback 0 ∷ [] → idle (n + length own + 1))
+-- what the groups of a cleanup leave
+abbrev Cleans : (idle : ℕ → Type 0) (n : ℕ) (call : Call) (own cleanup : List Group) → Type 0
+Cleans idle n call own cleanup = (cleanup ≡ rollback 0 ∷ [] → idle (n + length own + 1)) × ((text : List ℕ) → call ≡ calls.Release text → cleanup ≢ [] → idle n → idle (n + 1))
+
+released_idle : (idle : ℕ → Type 0) (n : ℕ) (text : List ℕ) (own cleanup : List Group) (owed : ℕ) → length own ≡ 0 → owed < 2 ^ 64 - 1 → idle n → (cleanup ≢ [] → idle n → idle (n + 1)) → cleanup ≡ release_at text owed → idle (n + length own + length cleanup)
+released_idle idle n text own cleanup owed o l i stays c =
+    let one : cleanup ≡ release text ∷ [] = c ∙ ap (λ (b : Bool). cond b (release text ∷ []) []) (lt-ltb _ _ l) in
+    subst idle (omega (arith, o, ap (λ (x : List Group). length x) one)) (stays (λ e. let x = sym one ∙ e in cc) i)
+
+idle_by : (idle : ℕ → Type 0) (n d : ℕ) (call : Call) (end : End) (own cleanup : List Group) (owed : ℕ) → (begins call ≡ false → own ≢ [] → idle n → idle (n + 1)) → (call ≡ calls.Commit → is_fine end ≡ true → own ≡ (Query (codes "COMMIT") ∷ []) ∷ [] → idle (n + 1)) → (call ≡ calls.Rollback → own ≡ rollback 0 ∷ [] → idle (n + 1)) → Cleans idle n call own cleanup
     → cleanup ≡ cleanup_of d call end own owed → Queues end (groups_of (request_of d call)) own → owed < 2 ^ 64 - 1 → (d ≡ 0 → idle n) → depth_after d call end ≡ 0 → idle (n + length own + length cleanup)
 idle_by idle n d (calls.Execute query) end own cleanup owed others commits rolls cleans c q l i z = plain_idle idle n own cleanup (few_own d (calls.Execute query) end own q) (c ∙ no_cleanup d (calls.Execute query) end own owed refl refl) (i z) (others refl)
 idle_by idle n d (calls.ExecuteMany query) end own cleanup owed others commits rolls cleans c q l i z = plain_idle idle n own cleanup (few_own d (calls.ExecuteMany query) end own q) (c ∙ no_cleanup d (calls.ExecuteMany query) end own owed refl refl) (i z) (others refl)
@@ -153,9 +164,9 @@ idle_by idle n d (calls.Feed fed) end own cleanup owed others commits rolls clea
 idle_by idle n d calls.Flush end own cleanup owed others commits rolls cleans c q l i z = plain_idle idle n own cleanup (few_own d calls.Flush end own q) (c ∙ no_cleanup d calls.Flush end own owed refl refl) (i z) (others refl)
 idle_by idle n d (calls.Chain chain) end own cleanup owed others commits rolls cleans c q l i z = plain_idle idle n own cleanup (few_own d (calls.Chain chain) end own q) (c ∙ no_cleanup d (calls.Chain chain) end own owed refl refl) (i z) (others refl)
 idle_by idle n d calls.Begin end [] cleanup owed others commits rolls cleans c q l i z = unbegun_idle idle n d cleanup (is_fine end) z i c
-idle_by idle n d calls.Begin end (g ∷ gs) cleanup owed others commits rolls cleans c q l i z = begun_idle idle n d end g gs cleanup (is_fine end) refl z cleans c
+idle_by idle n d calls.Begin end (g ∷ gs) cleanup owed others commits rolls cleans c q l i z = begun_idle idle n d end g gs cleanup (is_fine end) refl z cleans.0 c
 idle_by idle n d (calls.BeginWith query) end [] cleanup owed others commits rolls cleans c q l i z = unbegun_idle idle n d cleanup (is_fine end) z i c
-idle_by idle n d (calls.BeginWith query) end (g ∷ gs) cleanup owed others commits rolls cleans c q l i z = begun_idle idle n d end g gs cleanup (is_fine end) refl z cleans c
+idle_by idle n d (calls.BeginWith query) end (g ∷ gs) cleanup owed others commits rolls cleans c q l i z = begun_idle idle n d end g gs cleanup (is_fine end) refl z cleans.0 c
 idle_by idle n d calls.Commit end own cleanup owed others commits rolls cleans c q l i z =
     let none = c ∙ no_cleanup d calls.Commit end own owed refl refl in
     elim (closes_to_none (is_fine end) d (z)) [
@@ -168,7 +179,8 @@ idle_by idle n d calls.Rollback end own cleanup owed others commits rolls cleans
       | inl e ↦ plain_idle idle n own cleanup (few_own d calls.Rollback end own q) none (i e) (others refl)
       | inr (e, f) ↦ let last = own_at d 1 calls.Rollback end own e f q in own_last idle n own cleanup (rollback 0) last none (rolls refl last)
     ]
-idle_by idle n d calls.StartRollback end own cleanup owed others commits rolls cleans c q l i z = rolled_idle idle n d own cleanup owed (none_own end own q) l z i cleans c
+idle_by idle n d calls.StartRollback end own cleanup owed others commits rolls cleans c q l i z = rolled_idle idle n d own cleanup owed (none_own end own q) l z i cleans.0 c
+idle_by idle n d (calls.Release text) end own cleanup owed others commits rolls cleans c q l i z = released_idle idle n text own cleanup owed (none_own end own q) l (i z) (cleans.1 text refl) c
 idle_by idle n d (calls.Describe extended) end own cleanup owed others commits rolls cleans c q l i z = plain_idle idle n own cleanup (few_own d (calls.Describe extended) end own q) (c ∙ no_cleanup d (calls.Describe extended) end own owed refl refl) (i z) (others refl)
 idle_by idle n d (calls.Run bound) end own cleanup owed others commits rolls cleans c q l i z = plain_idle idle n own cleanup (few_own d (calls.Run bound) end own q) (c ∙ no_cleanup d (calls.Run bound) end own owed refl refl) (i z) (others refl)
 idle_by idle n d (calls.Prepare preparation) end own cleanup owed others commits rolls cleans c q l i z = plain_idle idle n own cleanup (few_own d (calls.Prepare preparation) end own q) (c ∙ no_cleanup d (calls.Prepare preparation) end own owed refl refl) (i z) (others refl)
@@ -196,7 +208,7 @@ idle_exchange idle at step out next one l k i z =
     let all : length next.groups ≡ length one.ended_at.groups + length settles.cleanup = ap (λ (g : List Group). length g) (settles.groups ∙ ap (λ (g : List Group). g ++ settles.cleanup) left) ∙ length-append one.ended_at.groups settles.cleanup in
     let few : owed one.left_at < 2 ^ 64 - 1 = omega (arith, all, l, ap (λ (g : List Group). length g) left) in
     subst idle (omega (arith, first, all))
-    (idle_by idle (length at.groups) at.rule.depth step.call one.told.end call.own settles.cleanup (owed one.left_at) k.others (commits_at at step out next one k) k.rolls k.cleans settles.cleans call.queued.asks few i (sym (ap (λ (r : Rule). r.depth) settles.rule ∙ depth_rule at.rule step.call call.own call.told.response one.told.end) ∙ z))
+    (idle_by idle (length at.groups) at.rule.depth step.call one.told.end call.own settles.cleanup (owed one.left_at) k.others (commits_at at step out next one k) k.rolls (k.cleans, k.releases) settles.cleans call.queued.asks few i (sym (ap (λ (r : Rule). r.depth) settles.rule ∙ depth_rule at.rule step.call call.own call.told.response one.told.end) ∙ z))
 
 more_in : (at : Place) (steps : List Step) (outs : List Outcome) (last : Place) → Plays_exchanges at steps outs last → length at.groups ≤ length last.groups
 more_in at [] [] last run = omega (arith, ap (λ (p : Place). length p.groups) run)

@@ -1,5 +1,5 @@
 -- The exchanges of a step, one behind another: an induction over those that were handed on.
-use Rattle.std.proofs.Common.{◌≡◌, ℕ, ◌+◌, ◌-◌, ◌*◌, ◌^◌, ◌≤◌, ◌<◌, true, false, List, [], ◌∷◌, ◌++◌, length, refl, sym, ap, ◌∙◌, subst, arith, append-nil, Option, Some, None, sum_by}
+use Rattle.std.proofs.Common.{◌≡◌, ◌≢◌, ℕ, ◌+◌, ◌-◌, ◌*◌, ◌^◌, ◌≤◌, ◌<◌, true, false, List, [], ◌∷◌, ◌++◌, length, refl, sym, ap, ◌∙◌, subst, arith, append-nil, Option, Some, None, sum_by}
 use Rattle.std.specs.List.{AllByRecursion}
 use Rattle.pg_wire.specs.Frame.{Frame}
 use Rattle.pg_wire.specs.Parts.{heard}
@@ -22,25 +22,25 @@ use Rattle.pg_report.specs.declared.outcome.End.TheVariants as ends
 use Rattle.pg_report.specs.declared.outcome.Outcome.{Outcome}
 use Rattle.pg_script.specs.declared.step.Call.{Call}
 use Rattle.pg_script.specs.declared.step.Step.{Step}
-use Rattle.pg_play.specs.Shown.{request_of, handed_by, next_call, waits_how, acts_at_once}
-use Rattle.pg_play.specs.Calls.{WaitsFew, HasWaitedFew, Ended, EndsCall, PlaysOne, HandedOn, OfLastIn, Counted, none_counted, asking, behind_end, copy_behind, limits_of, outcome_of, all_groups, asked_from}
-use Rattle.pg_play.specs.Places.{Place, owed, is_fine}
-use Rattle.pg_play.specs.Causes.{AnsweredPending, IsDropped}
+use Rattle.pg_script.specs.declared.step.Parting.TheVariants as partings
+use Rattle.pg_play.specs.Shown.{parting_of, request_of, handed_by, next_call, waits_how, acts_at_once}
+use Rattle.pg_play.specs.Calls.{Bounds, EndsOn, parted, WaitsFew, HasWaitedFew, Ended, EndsCall, PlaysOne, HandedOn, OfLastIn, Counted, none_counted, asking, behind_end, copy_behind, limits_of, outcome_of, all_groups, asked_from}
+use Rattle.pg_play.specs.Places.{refuses_copy, Place, owed, is_fine}
+use Rattle.pg_play.specs.Causes.{AnsweredPending, IsParted, IsDropped, IsDroppedAs}
 use Rattle.pg_play.specs.Settling.{Settles, handed_at}
 use Rattle.pg_play.specs.WaitPlaces.{WaitPlaces}
 use Rattle.pg_play.specs.Plays.{IsNeverUnlawful, Plays_call, Plays_exchanges, HandsOn, stopped_at, last_of, over, cache_behind, StandsAt}
-use Rattle.pg_play.specs.declared.tally.Limits.{Limits}
 use Rattle.pg_play.proofs.PlaceLaws.{HasSummary, ends_summary, next_place, readies-append}
 use Rattle.pg_play.proofs.ToldLaws.{main_after, queued_one, fine_own, told_of, CountsOn, all_counted}
-use Rattle.pg_play.proofs.CauseLaws.{dropped_step}
+use Rattle.pg_play.proofs.CauseLaws.{dropped_step, parted_step}
 use Rattle.pg_play.proofs.LinkLaws.{sum_more}
 use Rattle.pg_play.specs.Copying.{LeavesCopy}
 use Rattle.pg_play.proofs.SettleLaws.{left_frames, left_groups, left_link}
-use Rattle.pg_play.proofs.CopyLaws.{leaves_to}
+use Rattle.pg_play.proofs.CopyLaws.{CanFail, leaves_to}
 use Rattle.pg_play.proofs.SettledLaws.{SettlesTo, conn_behind, settles_call, cleanup_polled, ok_cleans_none}
 use Rattle.pg_play.proofs.CalledLaws.{KnownAt, Called, called_exchange, exchanged}
 use Rattle.pg_play.proofs.ThroughLaws.{counted_by, held_conn, handed_asking, handed_ended}
-use Rattle.pg_play.proofs.ExchangeLaws.{runs_how, shows_how, next_how, last_next, NextIs, what_is_next}
+use Rattle.pg_play.proofs.ExchangeLaws.{runs_how, shows_how, next_how, next_parts, last_next, NextIs, what_is_next}
 use Rattle.pg_play.proofs.NextLaws.{good_after, good_messages, replies_same, whole_behind}
 use Rattle.pg_play.proofs.KeptLaws.{DescribedAt, IsSound, closes_known, keeps_next, known_next, next_sound}
 use Rattle.pg_play.proofs.PartLaws.{after_more, no_error}
@@ -51,8 +51,14 @@ use Rattle.pg_rule.specs.Rules.{IsOrderly}
 use Rattle.pg_call.specs.declared.statement.Extended.{Extended}
 use Rattle.pg_call.specs.declared.statement.Eviction.{Eviction}
 use Rattle.pg_script.specs.declared.step.Call.TheVariants as calls
+use Rattle.pg_script.specs.declared.step.Parting.{Parting}
 use Rattle.pg_request.specs.declared.progress.CacheStep.{CacheStep}
+use Rattle.pg_wire.specs.declared.error.ServerFault.{ServerFault}
+use Rattle.pg_call.specs.declared.answer.CallItem.{CallItem}
+use Rattle.pg_conn.specs.Connections.{ends_copy}
 use Rattle.pg_wire.specs.Parts.{is_ready}
+use Rattle.pg_play.proofs.CallLaws.{unqueued_unfed}
+use Rattle.pg_play.proofs.StepLaws.{Summary}
 use Rattle.std.specs.List.{count_by}
 use Rattle.pg_call.specs.Drains.{after_readys}
 use Rattle.pg_call.specs.Calls.{IsFine}
@@ -132,7 +138,7 @@ pub record InTurn (start : StreamSeen) (at : Place) (step : Step) (call : Call) 
   pub outs : List Outcome
   pub next : Place
   pub run : Plays_exchanges at (exchange_of step call ∷ later) (told ∷ outs) next
-  pub limits : AllByRecursion (λ exchange. limits_of exchange ≡ limits_of step) later
+  pub limits : AllByRecursion (λ exchange. (exchange.polls ≡ step.polls) × (exchange.most ≡ step.most)) later
   pub hands : HandsOn at (exchange_of step call ∷ later) (told ∷ outs) next run
   pub items : out.items ≡ (last_of told outs).items
   pub ends : out.end ≡ (last_of told outs).end
@@ -177,7 +183,7 @@ more_turns start at mid stop m c d step call part old out one s comes made t = r
   outs = t.told ∷ t.outs;
   next = t.next;
   run = (s.next, exchanged start at mid s.left s.next c (exchange_of step call) (told_in one) s.out one.one s.leaves one.lawful one.places one.counts s.settles s.stands, t.run);
-  limits = (refl, t.limits);
+  limits = ((refl, refl), t.limits);
   hands = ((ap (λ (x : Outcome). x.end) s.settles.outcome, comes), t.hands);
   items = t.items;
   ends = t.ends;
@@ -227,19 +233,45 @@ settles_behind start at mid left m c step told one same {d} s = record {
   others = (s.others.0 ∙ same.1, s.others.1 ∙ same.2, s.others.2 ∙ same.3, s.others.3 ∙ same.4, s.others.4 ∙ ap (λ (x : CacheStep). over x s.out.cache) same.5);
 }
 
-settles_so : (start : StreamSeen) (at mid : Place) (a m : ConnSeen) (old : Counted) (step : Step) (call : Call) (shown : List Item) (end : End) → BeginsAt start at a old call → (c : Called start at old m (exchange_of step call) shown end mid) → standing m ≡ standing (asking (request_of at.rule.depth call) old a)
-    → SettlesTo start at (exchange_of step call) (told_in c) c.one.own c.one.told.response mid m (conn_behind (handed_at end call c.one.told.response) end (copy_behind end m))
-settles_so start at mid a m old step call shown end b c same =
+-- what was failed by a message of its own had queued its group
+has_own : (o : Option ServerFault) (start first : StreamSeen) (old : Counted) (at : Place) (a b : ConnSeen) (step : Step) (said : List FrontendMessage) (fs : List Frame) (shown : List Item) (end : End) (items : List CallItem) → StandsAt start at a
+    → EndsOn o (limits_of step) first (asking (request_of at.rule.depth step.call) old a) b (request_of at.rule.depth step.call) said (heard fs) shown end → (s : Summary a.ledger (request_of at.rule.depth step.call) said (heard fs) items b.ledger (refuses_copy end)) → CanFail (parting_of step.call) s.own end
+has_own None start first old at a b step said fs shown ends.Dropped items st h s e message p =
+    let k = subst (λ (q : Parting). IsParted q at s.own (heard fs) (next_place at b said s.own fs ends.Dropped)) p (parted_step start first old at a b step said fs shown items st h s) in
+    (k.0.0, k.1)
+has_own None start first old at a b step said fs shown (ends.Ok answer) items st h s e message p = absurd cc
+has_own None start first old at a b step said fs shown (ends.Err x) items st h s e message p = absurd cc
+has_own (Some fault) start first old at a b step said fs shown end items st h s e message p = let x = sym e ∙ h.0 in absurd cc
+
+-- so where no group was queued nothing is left of a copy
+unleft : (call : Call) (own : List Group) (end : End) (m : ConnSeen) → m.groups ≡ length own → CanFail (parting_of call) own end → all_groups m ≡ 0 → copy_behind (parting_of call) end m ≡ m
+unleft call own (ends.Ok answer) m groups some e = refl
+unleft call own (ends.Err x) m groups some e = unqueued_unfed (ends_copy x) m (omega (arith, e))
+unleft call own ends.Dropped m groups some e = by (parting_of call) refl
+  where
+    none : (own : List Group) → m.groups ≡ length own → own ≡ []
+    none [] k = refl
+    none (g ∷ gs) k = absurd (omega (arith, k, e))
+
+    by : (q : Parting) → parting_of call ≡ q → parted q m ≡ m
+    by partings.None p = unqueued_unfed false m (omega (arith, e))
+    by partings.Left p = unqueued_unfed false m (omega (arith, e))
+    by partings.Unsaid p = unqueued_unfed false m (omega (arith, e))
+    by (partings.Failed message) p = absurd ((some refl message p).0 (none own groups))
+
+settles_so : (start : StreamSeen) (at mid : Place) (a m : ConnSeen) (old : Counted) (step : Step) (call : Call) (shown : List Item) (end : End) → BeginsAt start at a old call → (c : Called start at old m (exchange_of step call) shown end mid) → standing m ≡ standing (asking (request_of at.rule.depth call) old a) → CanFail (parting_of call) c.one.own end
+    → SettlesTo start at (exchange_of step call) (told_in c) c.one.own c.one.told.response mid m (conn_behind (handed_at end call c.one.told.response) end (copy_behind (parting_of call) end m))
+settles_so start at mid a m old step call shown end b c same can =
     let groups : m.groups ≡ length c.one.own = omega (arith, c.grew.groups, c.one.numbers.groups, c.small) in
-    let l = leaves_to start call at.rule.depth c.one.own end mid m c.stands groups (ap (λ (x : Standing). x.change) same) in
-    settles_behind start at mid l.left m (copy_behind end m) (exchange_of step call) (told_in c) c.one l.others
-    (settles_call start at mid l.left (copy_behind end m) (exchange_of step call) (told_in c) c.one l.leaves b.polled l.stands c.small (l.others.0 ∙ groups) l.acts (l.others.6 ∙ ap (λ (x : Standing). x.keeping) same))
+    let l = leaves_to start call at.rule.depth c.one.own end mid m c.stands groups (ap (λ (x : Standing). x.change) same) can in
+    settles_behind start at mid l.left m (copy_behind (parting_of call) end m) (exchange_of step call) (told_in c) c.one l.others
+    (settles_call start at mid l.left (copy_behind (parting_of call) end m) (exchange_of step call) (told_in c) c.one l.leaves b.polled l.stands c.small (l.others.0 ∙ groups) l.acts (l.others.6 ∙ ap (λ (x : Standing). x.keeping) same))
 
 -- only the groups that an end makes are counted behind it, and what it makes of the statements is told
 pub same_but_groups : (m d : ConnSeen) (items : List Item) (end : End) → (d.heard ≡ m.heard) × (d.stream.waits ≡ m.stream.waits) × (d.stream.moves ≡ m.stream.moves) → outcome_of d items end ≡ record (outcome_of m items end) { groups = all_groups d; cache = d.cache }
 same_but_groups m d items end o = rw (o.0, o.1, o.2) refl
 
-waited_most : (limits : Limits) (first : StreamSeen) (b : ConnSeen) (end : End) → first.waits ≡ 0 → HasWaitedFew limits.polls first b.stream end → b.stream.waits ≤ limits.polls
+waited_most : (limits : Bounds) (first : StreamSeen) (b : ConnSeen) (end : End) → first.waits ≡ 0 → HasWaitedFew limits.polls first b.stream end → b.stream.waits ≤ limits.polls
 waited_most limits first b end z few = omega (arith, z, few.1.all, few.1.waits.1, few.2.1)
 
 -- what ended hands on nothing where neither a description nor a close ended it
@@ -263,34 +295,43 @@ describes_none d call (ends.Ok told) x l c f = l (ap (λ (y : Call). kind_of (re
 describes_none d call (ends.Err e) x l c f = cc
 describes_none d call ends.Dropped x l c f = cc
 
+-- what is said of an exchange's polls is said of the step's
+of_exchange : (q : Parting) (at : Place) (step : Step) (call : Call) (out : Outcome) (stop : Place) → IsDroppedAs q at (exchange_of step call) out stop → IsDroppedAs q at step out stop
+of_exchange partings.None at step call out stop d = d
+of_exchange partings.Left at step call out stop d = tt
+of_exchange partings.Unsaid at step call out stop d = tt
+of_exchange (partings.Failed message) at step call out stop d = tt
+
 -- the exchange that ended its call, behind which the groups alone are counted on
 pub last_turn : (start first : StreamSeen) (old : Counted) (at : Place) (a m : ConnSeen) (step : Step) (call : Call) (items : List Item) (end : End) (said : List FrontendMessage) (fs : List Frame) → BeginsAt start at a old call → step.polls < 2 ^ 32 → first.waits ≡ 0 → first.moves ≡ 0 → 0 < step.most
-    → Ended (limits_of step) first (asking (request_of at.rule.depth call) old a) m (request_of at.rule.depth call) items end said fs → EndsCall (request_of at.rule.depth call) end → m.call ≡ states.Idle → (found : HasSummary a.ledger (request_of at.rule.depth call) said (heard fs) m.ledger end items)
-    → PlaysInTurn start first at step call old (outcome_of (behind_end end (copy_behind end m)) items end) (next_place at m said found.1.own fs end) (behind_end end (copy_behind end m)) × (outcome_of (behind_end end (copy_behind end m)) items end ≡ record (outcome_of m items end) { groups = all_groups (behind_end end (copy_behind end m)); cache = (behind_end end (copy_behind end m)).cache })
-last_turn start first old at a m step call items end said fs h p z v l e last idles found =
+    → parting_of call ≡ parting_of step.call → Ended (limits_of (exchange_of step call)) first (asking (request_of at.rule.depth call) old a) m (request_of at.rule.depth call) items end said fs → EndsCall (request_of at.rule.depth call) end → m.call ≡ states.Idle → (found : HasSummary a.ledger (request_of at.rule.depth call) said (heard fs) m.ledger end items)
+    → PlaysInTurn start first at step call old (outcome_of (behind_end end (copy_behind (parting_of call) end m)) items end) (next_place at m said found.1.own fs end) (behind_end end (copy_behind (parting_of call) end m)) × (outcome_of (behind_end end (copy_behind (parting_of call) end m)) items end ≡ record (outcome_of m items end) { groups = all_groups (behind_end end (copy_behind (parting_of call) end m)); cache = (behind_end end (copy_behind (parting_of call) end m)).cache }) × (all_groups m ≡ 0 → copy_behind (parting_of call) end m ≡ m)
+unfolding called_exchange
+last_turn start first old at a m step call items end said fs h p z v l parts e last idles found =
     let exchange = exchange_of step call in
     let s = found.1 in
     let mid : Place = next_place at m said s.own fs end in
     let c : Called start at old m exchange items end mid = called_exchange start first old at a m exchange items end said fs h.stands h.polled h.fits p z e idles (has_room_at start at a old call h) found h.known in
-    let d : ConnSeen = behind_end end (copy_behind end m) in
+    let d : ConnSeen = behind_end end (copy_behind (parting_of call) end m) in
+    let can : CanFail (parting_of call) c.one.own end = has_own a.broken start first old at a m exchange said fs items end found.0 h.stands e.ends s in
     let response : List BackendMessage = c.one.told.response in
-    let t : SettlesTo start at exchange (told_in c) c.one.own response mid m d = subst (λ (o : Option Request). SettlesTo start at exchange (told_in c) c.one.own response mid m (conn_behind o end (copy_behind end m))) (none_left at.rule.depth call response end last) (settles_so start at mid a m old step call items end h c e.went.started.3) in
+    let t : SettlesTo start at exchange (told_in c) c.one.own response mid m d = subst (λ (o : Option Request). SettlesTo start at exchange (told_in c) c.one.own response mid m (conn_behind o end (copy_behind (parting_of call) end m))) (none_left at.rule.depth call response end last) (settles_so start at mid a m old step call items end h c e.went.started.3 can) in
     let k = t.settles.outcome in
     let raw : Outcome = outcome_of m items end in
     let real : Outcome = outcome_of d items end in
     let same : real ≡ record raw { groups = all_groups d; cache = d.cache } = same_but_groups m d items end (t.others.0, t.others.1, t.others.2) in
     let keeps : Keeps t.next = keeps_next at mid t.left t.next exchange (told_in c) t.out c.one t.leaves t.settles h.keeps h.sound (λ x is f. absurd (describes_none at.rule.depth call end x last is f)) in
-    let few : m.stream.waits ≤ step.polls = waited_most (limits_of step) first m end z e.few in
+    let few : m.stream.waits ≤ step.polls = waited_most (limits_of exchange) first m end z e.few in
     let plays : PlaysInTurn start first at step call old real mid d = record {
       turns = one_turn start at mid t.left t.next d step call old (told_in c) t.out real c.one t.leaves c.lawful c.places c.counts t.settles t.stands keeps (sym (ap (λ (x : Outcome). x.items) k)) (sym (ap (λ (x : Outcome). x.end) k))
           (add_one old d t.out [] real (counts_settled start old at mid m d exchange (told_in c) c.one t c.grew) (add_none d items end)) (t.others.4 ∙ ap (λ (x : Standing). over x.cache t.out.cache) e.went.started.3) (λ f. last_by t.next.rule at.rule.depth call response end last (sym (ap (λ (x : Outcome). is_fine x.end) k) ∙ f));
-      dropped = λ y. dropped_out at step raw real mid same (dropped_step a.broken start first old at a m exchange said fs items end found.0 h.stands z v p y e.ends s);
+      dropped = λ y. dropped_out at step raw real mid same (subst (λ (q : Parting). IsDroppedAs q at step raw mid) parts (of_exchange (parting_of call) at step call raw mid (dropped_step a.broken start first old at a m exchange said fs items end found.0 h.stands z v p y e.ends s)));
       few = subst (λ (x : Outcome). (pending : ℕ) × AnsweredPending x pending × WaitsFew step.polls pending x.end) (sym same) (few_of first m step raw z v refl p e.few);
-      most = λ w. most_by at.rule.depth a.broken (limits_of step) first (asking (request_of at.rule.depth call) old a) m exchange said (heard fs) items end (shows_how call w) l e.ends;
+      most = λ w. most_by at.rule.depth a.broken (limits_of exchange) first (asking (request_of at.rule.depth call) old a) m exchange said (heard fs) items end (shows_how call w) l e.ends;
       waits = omega (arith, t.others.1, few);
       calls = omega (arith, e.calls, ap (λ (x : StreamSeen). x.link.calls) t.stands.seen, ap (λ (x : StreamSeen). x.link.calls) t.settles.seen, ap (λ (x : LinkSeen). x.calls) (left_link call c.one.own end mid t.left t.leaves));
     } in
-    (plays, same)
+    (plays, same, unleft call c.one.own end m (omega (arith, c.grew.groups, c.one.numbers.groups, c.small)) can)
 
 -- an exchange that handed on another: it is told, and the next one begins behind it
 record TurnsOn (start : StreamSeen) (at : Place) (m : ConnSeen) (old : Counted) (step : Step) (call : Call) (next : Request) : Type 0 where
@@ -325,8 +366,8 @@ turns_on start first old at a m step call next b p z l h =
     let exchange = exchange_of step call in
     let r = request_of at.rule.depth call in
     let begun = asking r old a in
-    let e = handed_ended (limits_of step) first begun m r next l h in
-    let found = ends_summary a.broken (limits_of step) first begun m at.rule.depth call h.said (heard h.fs) [] (ends.Ok AnswersUnit) e.ends in
+    let e = handed_ended (limits_of exchange) first begun m r next l h in
+    let found = ends_summary a.broken (limits_of exchange) first begun m at.rule.depth call h.said (heard h.fs) [] (ends.Ok AnswersUnit) e.ends in
     let s = found.1 in
     let st = b.stands in
     let mid : Place = next_place at m h.said s.own h.fs (ends.Ok AnswersUnit) in
@@ -339,7 +380,7 @@ turns_on start first old at a m step call next b p z l h =
     let q = queued_one a.ledger.owed r s.own (heard h.fs) s.queued (ap (λ (g : List Group). length g) whole ∙ n.one) in
     let same : response ≡ f.reply = replies_same response f.reply (sym c.one.told.says.0 ∙ main_after start at a r s.own (heard h.fs) st q ∙ f.replied) c.one.told.says.1 f.reply_has_frames in
     let handed : handed_by call response ≡ Some next = ap (λ (ms : List BackendMessage). handed_by call ms) same ∙ n.handed in
-    let t : SettlesTo start at exchange (told_in c) c.one.own response mid m (held_conn m next) = subst (λ (o : Option Request). SettlesTo start at exchange (told_in c) c.one.own response mid m (conn_behind o (ends.Ok AnswersUnit) m)) handed (settles_so start at mid a m old step call [] (ends.Ok AnswersUnit) b c e.went.started.3) in
+    let t : SettlesTo start at exchange (told_in c) c.one.own response mid m (held_conn m next) = subst (λ (o : Option Request). SettlesTo start at exchange (told_in c) c.one.own response mid m (conn_behind o (ends.Ok AnswersUnit) m)) handed (settles_so start at mid a m old step call [] (ends.Ok AnswersUnit) b c e.went.started.3 (λ x. absurd cc)) in
     let none : t.settles.cleanup ≡ [] = t.settles.cleans ∙ cleanup_polled at.rule.depth call (ends.Ok AnswersUnit) c.one.own (owed t.left) b.polled ∙ sym (ok_cleans_none at.rule.depth call c.one.own) in
     let groups : t.next.groups ≡ at.groups ++ groups_of r = t.settles.groups ∙ ap (λ (g : List Group). g ++ t.settles.cleanup) (left_groups call c.one.own (ends.Ok AnswersUnit) mid t.left t.leaves) ∙ ap (λ (g : List Group). (at.groups ++ s.own) ++ g) none ∙ append-nil (at.groups ++ s.own) ∙ ap (λ (g : List Group). at.groups ++ g) whole in
     let frames : heard t.next.frames ≡ heard at.frames ++ heard h.fs = ap heard (t.settles.frames ∙ left_frames call c.one.own (ends.Ok AnswersUnit) mid t.left t.leaves) ∙ heard-append at.frames h.fs in
@@ -367,24 +408,26 @@ turns_on start first old at a m step call next b p z l h =
     }
 
 -- Any number of exchanges, each handed on by the one before it, is told from the place on at which the first begins.
-pub turns_through : (later : List Request) (start first : StreamSeen) (old : Counted) (at : Place) (a b : ConnSeen) (step : Step) (call : Call) (out : Outcome) → BeginsAt start at a old call → step.polls < 2 ^ 32 → first.waits ≡ 0 → first.moves ≡ 0 → 0 < step.most
+pub turns_through : (later : List Request) (start first : StreamSeen) (old : Counted) (at : Place) (a b : ConnSeen) (step : Step) (call : Call) (out : Outcome) → BeginsAt start at a old call → step.polls < 2 ^ 32 → first.waits ≡ 0 → first.moves ≡ 0 → 0 < step.most → parting_of call ≡ parting_of step.call
     → OfLastIn later step.polls first (λ x asked. PlaysOne (limits_of step) first x b asked out) (asking (request_of at.rule.depth call) old a) (request_of at.rule.depth call) → (stop : Place) × PlaysInTurn start first at step call old out stop b
-turns_through [] start first old at a b step call out h p z v l (m, (said, fs, e, last), over, is, outcome) =
-    let found = ends_summary a.broken (limits_of step) first (asking (request_of at.rule.depth call) old a) m at.rule.depth call said (heard fs) out.items out.end e.ends in
+turns_through [] start first old at a b step call out h p z v l parts (m, (said, fs, ends, last), over, so, outcome) =
+    let e = subst (λ (q : Parting). Ended (record { polls = step.polls; most = step.most; parting = q }) first (asking (request_of at.rule.depth call) old a) m (request_of at.rule.depth call) out.items out.end said fs) (sym parts) ends in
+    let is : b ≡ behind_end out.end (copy_behind (parting_of call) out.end m) = so ∙ ap (λ (q : Parting). behind_end out.end (copy_behind q out.end m)) (sym parts) in
+    let found = ends_summary a.broken (limits_of (exchange_of step call)) first (asking (request_of at.rule.depth call) old a) m at.rule.depth call said (heard fs) out.items out.end e.ends in
     let stop : Place = next_place at m said found.1.own fs out.end in
-    let turn = last_turn start first old at a m step call out.items out.end said fs h p z v l e last over found in (
+    let turn = last_turn start first old at a m step call out.items out.end said fs h p z v l parts e last over found in (
       stop,
       subst (λ (x : Outcome). PlaysInTurn start first at step call old x stop b) (sym (outcome ∙ ap (λ (x : ConnSeen). outcome_of x out.items out.end) is))
-          (subst (λ (x : ConnSeen). PlaysInTurn start first at step call old (outcome_of (behind_end out.end (copy_behind out.end m)) out.items out.end) stop x) (sym is) turn.0),
+          (subst (λ (x : ConnSeen). PlaysInTurn start first at step call old (outcome_of (behind_end out.end (copy_behind (parting_of call) out.end m)) out.items out.end) stop x) (sym is) turn.0),
     )
-turns_through (next ∷ later) start first old at a b step call out h p z v l (m, handed, behind) =
+turns_through (next ∷ later) start first old at a b step call out h p z v l parts (m, handed, behind) =
     let r = request_of at.rule.depth call in
     let t = turns_on start first old at a m step call next h p z l handed in
     let stood = handed.went.started.3 in
     let made : (held_conn m next).cache ≡ over old.cache t.settles.out.cache = t.settles.others.4 ∙ ap (λ (x : Standing). over x.cache t.settles.out.cache) stood in
     let further = subst (λ (q : Request). OfLastIn later step.polls first (λ x asked. PlaysOne (limits_of step) first x b asked out) (asking q (counted_by (held_conn m next)) (held_conn m next)) q) (sym t.asks)
     (subst (λ (x : ConnSeen). OfLastIn later step.polls first (λ x asked. PlaysOne (limits_of step) first x b asked out) x (asked_from m next)) (handed_asking step.polls first (asking r old a) m r next handed) behind) in
-    let others = turns_through later start first (counted_by (held_conn m next)) t.settles.next (held_conn m next) b step t.part out t.begins p z v l further in
+    let others = turns_through later start first (counted_by (held_conn m next)) t.settles.next (held_conn m next) b step t.part out t.begins p z v l (next_parts t.settles.next.rule call t.one.one.told.response t.part t.comes ∙ parts) further in
     let o = others.1 in (
       others.0,
       record {

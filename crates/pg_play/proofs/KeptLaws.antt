@@ -44,6 +44,7 @@ use Rattle.pg_call.specs.Requests.{ended_by, known as known_under, named_keeping
 use Rattle.pg_call.specs.Items.{parameters_after}
 use Rattle.pg_call.specs.Drains.{after_readys}
 use Rattle.pg_conn.specs.Connections.{ConnSeen, rollback, with_depth}
+use Rattle.pg_conn.specs.Holding.{release}
 use Rattle.pg_conn.specs.Statements.{asked_by, begun_as, by_leaving, entry_of, held_by, is_named, is_numbered, number_for, leaving, moved, unmoved, prepare_by, run_or_describe, tell_or_describe}
 use Rattle.pg_conn.specs.States.{to_prepare}
 use Rattle.pg_report.specs.declared.outcome.Answer.TheVariants.{Unit as AnswersUnit}
@@ -56,7 +57,7 @@ use Rattle.pg_script.specs.declared.step.Step.{Step}
 use Rattle.pg_play.specs.Shown.{begins, request_of, first_as, first_call, handed_by, exchange_for, acts_at_once}
 use Rattle.pg_play.specs.Copying.{LeavesCopy}
 use Rattle.pg_play.specs.Places.{Place, first_place, is_fine, owed, Queues}
-use Rattle.pg_play.specs.Settling.{Settles, cleanup_of, has_group, has_moved, statements_after, handed_at, held_after, rule_after, depth_after, rollback_at}
+use Rattle.pg_play.specs.Settling.{Settles, cleanup_of, has_group, has_moved, statements_after, handed_at, held_after, rule_after, depth_after, rollback_at, release_at}
 use Rattle.pg_play.specs.Kept.{IsKeptAt, Keeps, named_of}
 use Rattle.pg_play.specs.Plays.{Plays_call, StandsAt}
 use Rattle.pg_play.proofs.PlaceLaws.{all_split, owed_is, readies-append}
@@ -352,6 +353,7 @@ spares_asked n (suc left) calls.Commit h = (query_spares n (commit_text left), t
 spares_asked n zero calls.Rollback h = tt
 spares_asked n (suc left) calls.Rollback h = (query_spares n (rollback_text left), tt)
 spares_asked n d calls.StartRollback h = tt
+spares_asked n d (calls.Release text) h = tt
 spares_asked n d (calls.Describe x) h =
     (λ c. none_closes (Parse (name_of x.statement) x.sql x.arguments.types) (DescribeStatement (name_of x.statement) ∷ Sync ∷ []) n.name (λ e. cc) (λ z. none_closes (DescribeStatement (name_of x.statement)) (Sync ∷ []) n.name (λ e. cc) (λ y. none_closes Sync [] n.name (λ e. cc) (λ w. w) y) z) c, tt)
 spares_asked n d (calls.Run bound) h =
@@ -370,10 +372,6 @@ front_each_group P ends.Dropped whole own q h = (all_split P own q.0 (subst (All
 
 rolls_spare : (n : Named) (left : ℕ) → AllByRecursion (Spares n) (rollback left ∷ [])
 rolls_spare n left = (query_spares n (rollback_text left), tt)
-
-acts_alone : (call : Call) → acts_at_once call ≡ true → call ≡ calls.StartRollback
-acts_alone calls.StartRollback e = refl
-acts_alone _ e = absurd cc
 
 -- no cleanup closes one
 cleanup_spares : (n : Named) (d : ℕ) (call : Call) (end : End) (own : List Group) (owed : ℕ) → AllByRecursion (Spares n) (cleanup_of d call end own owed)
@@ -395,9 +393,21 @@ cleanup_spares n d call end own owed = by (acts_at_once call) refl
         one true = rolls_spare n left
         one false = tt
 
+    released : (text : List ℕ) → AllByRecursion (Spares n) (release_at text owed)
+    released text = one (ltb owed (2 ^ 64 - 1))
+      where
+        one : (b : Bool) → AllByRecursion (Spares n) (cond b (release text ∷ []) [])
+        one true = (query_spares n text, tt)
+        one false = tt
+
+    acts : (c : Call) → acts_at_once c ≡ true → AllByRecursion (Spares n) (cleanup_of d c end own owed)
+    acts calls.StartRollback e = rolled d
+    acts (calls.Release text) e = released text
+    acts _ e = absurd cc
+
     by : (b : Bool) → acts_at_once call ≡ b → AllByRecursion (Spares n) (cleanup_of d call end own owed)
     by false e = subst (AllByRecursion (Spares n)) (sym (cleanup_polled d call end own owed e)) (polled own)
-    by true e = subst (λ (c : Call). AllByRecursion (Spares n) (cleanup_of d c end own owed)) (sym (acts_alone call e)) (rolled d)
+    by true e = acts call e
 
 -- ---- from one place to the next
 
@@ -519,6 +529,7 @@ leaves_statements at next call end own cleanup slice rule q cleans sound groups 
     kept_by calls.Commit s q = others calls.Commit (λ z. z) q
     kept_by calls.Rollback s q = others calls.Rollback (λ z. z) q
     kept_by calls.StartRollback s q = others calls.StartRollback (λ z. z) q
+    kept_by (calls.Release text) s q = others (calls.Release text) (λ z. z) q
     kept_by (calls.Describe x) s q = others (calls.Describe x) (λ z. z) q
     kept_by (calls.Run bound) s q = others (calls.Run bound) (λ z. z) q
     kept_by (calls.Prepare p) s q = others (calls.Prepare p) (λ z. z) q
@@ -648,6 +659,7 @@ keeps_by at next call end own cleanup slice response k sound q cleans groups fra
     fine f calls.Commit s q e d = none calls.Commit s q (fine_handed end calls.Commit response f) e
     fine f calls.Rollback s q e d = none calls.Rollback s q (fine_handed end calls.Rollback response f) e
     fine f calls.StartRollback s q e d = none calls.StartRollback s q (fine_handed end calls.StartRollback response f) e
+    fine f (calls.Release text) s q e d = none (calls.Release text) s q (fine_handed end (calls.Release text) response f) e
     fine f (calls.Run bound) s q e d = none (calls.Run bound) s q (fine_handed end (calls.Run bound) response f) e
     fine f (calls.Prepare p) s q e d = none (calls.Prepare p) s q (fine_handed end (calls.Prepare p) response f) e
     fine f calls.Clear s q e d = none calls.Clear s q (fine_handed end calls.Clear response f) e

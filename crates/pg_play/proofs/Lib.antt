@@ -4,6 +4,7 @@ pub mod ThroughLaws
 pub mod FeedingLaws
 pub mod CutLaws
 pub mod PartLaws
+pub mod PartingLaws
 pub mod StepLaws
 pub mod PlaceLaws
 pub mod ShownLaws
@@ -32,3 +33,4 @@ pub mod RefutedLaws
 mod KeptLaws
 mod NameLaws
 mod ChainLaws
+mod LockLaws

@@ -34,11 +34,10 @@ use Rattle.pg_report.specs.declared.outcome.End.{End}
 use Rattle.pg_report.specs.declared.outcome.End.TheVariants as ends
 use Rattle.pg_script.specs.declared.step.Call.{Call}
 use Rattle.pg_script.specs.declared.step.Call.TheVariants as calls
-use Rattle.pg_play.specs.declared.tally.Limits.{Limits}
 use Rattle.pg_script.specs.declared.step.Fed.{Fed}
 use Rattle.pg_play.specs.Shown.{feed_of, is_fed, request_of, item_of}
 use Rattle.pg_startup.specs.Flows.{Flows}
-use Rattle.pg_play.specs.Calls.{EndsOn, broken_after}
+use Rattle.pg_play.specs.Calls.{Bounds, bounds, EndsOn, broken_after}
 use Rattle.pg_play.specs.Places.{Place, IsRequestGroup, readies, ended, owed, drained, is_fine, refuses_copy, unfed, queued_by, failed_next}
 use Rattle.pg_play.specs.Plays.{StandsAt, AsksForNoCopy}
 use Rattle.pg_startup.proofs.FlowLaws.{Flows-then}
@@ -90,7 +89,7 @@ end_summary start d call said hs items ledger shown (errors.Protocol (protocol.C
 end_summary start d call said hs items ledger shown (errors.Protocol _) k h = absurd h
 end_summary start d call said hs items ledger shown _ k h = absurd h
 
-pub ends_summary : (o : Option ServerFault) (limits : Limits) (first : StreamSeen) (a b : ConnSeen) (d : ℕ) (call : Call) (said : List FrontendMessage) (hs : List Frame) (shown : List Item) (end : End) → EndsOn o limits first a b (request_of d call) said hs shown end
+pub ends_summary : (o : Option ServerFault) (limits : Bounds) (first : StreamSeen) (a b : ConnSeen) (d : ℕ) (call : Call) (said : List FrontendMessage) (hs : List Frame) (shown : List Item) (end : End) → EndsOn o limits first a b (request_of d call) said hs shown end
     → HasSummary a.ledger (request_of d call) said hs b.ledger end shown
 ends_summary None limits first a b d call said hs shown (ends.Ok told) h = (h.0, (fine_summary a.ledger d call said hs h.0 b.ledger h.5.0).0, tt)
 ends_summary None limits first a b d call said hs shown (ends.Err e) (inl (items, k, l, inl h)) = end_summary a.ledger d call said hs items b.ledger shown e k h
@@ -187,6 +186,7 @@ plain_asked (suc left) calls.Commit n = (inl (commit_text left, refl), tt)
 plain_asked zero calls.Rollback n = tt
 plain_asked (suc left) calls.Rollback n = (inl (rollback_text left, refl), tt)
 plain_asked d calls.StartRollback n = tt
+plain_asked d (calls.Release text) n = tt
 plain_asked d (calls.Describe extended) n = (inr (Parse (name_of extended.statement) extended.sql extended.arguments.types ∷ DescribeStatement (name_of extended.statement) ∷ [], (tt, (tt, tt)), refl), tt)
 plain_asked d (calls.Run bound) n = (inr (Bind (name_of bound.statement) bound.arguments.values ∷ Execute [] 0 ∷ ClosePortal [] ∷ [], (tt, (tt, (tt, tt))), refl), tt)
 plain_asked d (calls.Prepare preparation) n = tt
@@ -230,7 +230,7 @@ end_copies start r said hs items ledger (errors.Protocol (protocol.Reply tag)) h
 end_copies start r said hs items ledger (errors.Protocol _) h n = refl
 end_copies start r said hs items ledger _ h n = refl
 
-pub never_copies : (o : Option ServerFault) (limits : Limits) (first : StreamSeen) (a b : ConnSeen) (r : Request) (said : List FrontendMessage) (hs : List Frame) (shown : List Item) (end : End) → EndsOn o limits first a b r said hs shown end → AsksForNoCopy hs → refuses_copy end ≡ false
+pub never_copies : (o : Option ServerFault) (limits : Bounds) (first : StreamSeen) (a b : ConnSeen) (r : Request) (said : List FrontendMessage) (hs : List Frame) (shown : List Item) (end : End) → EndsOn o limits first a b r said hs shown end → AsksForNoCopy hs → refuses_copy end ≡ false
 never_copies None limits first a b r said hs shown (ends.Ok told) h n = refl
 never_copies None limits first a b r said hs shown (ends.Err e) (inl (items, k, l, inl h)) n = end_copies a.ledger r said hs items b.ledger e h n
 never_copies None limits first a b r said hs shown (ends.Err e) (inl (items, k, l, inr (left, well, fails))) n = fails_plainly a b a.ledger r left.own hs e fails
@@ -300,6 +300,7 @@ requests_asked (suc left) calls.Commit = refl
 requests_asked zero calls.Rollback = refl
 requests_asked (suc left) calls.Rollback = refl
 requests_asked d calls.StartRollback = refl
+requests_asked d (calls.Release text) = refl
 requests_asked d (calls.Describe extended) = refl
 requests_asked d (calls.Run bound) = refl
 requests_asked d (calls.Prepare preparation) = refl

@@ -2,7 +2,7 @@
 use Rattle.std.proofs.Common.{◌≡◌, ◌≢◌, ℕ, ◌+◌, ◌*◌, ◌^◌, ◌≤◌, ◌<◌, Bool, true, false, cond, ◌⊎◌, inl, inr, List, [], ◌∷◌, ◌++◌, length, replicate, refl, sym, ap, ap₂, ◌∙◌, subst, arith, append_assoc, append-nil, Option, Some, None, sum_by}
 use Rattle.pg_play.proofs.IdleLaws.{idles_all}
 use Rattle.pg_play.specs.Idles.{SaysIdle, statuses}
-use Rattle.pg_play.proofs.SettledLaws.{settles_rollback, cleanup_polled, depth_other, depth_stands, moved_other, none_handed, rolls_tells}
+use Rattle.pg_play.proofs.SettledLaws.{SettlesTo, settles_rollback, acts_tell, cleanup_polled, depth_other, depth_stands, moved_other, none_handed}
 use Rattle.std.specs.Io.KnownBytes.{Appends}
 use Rattle.pg_wire.specs.declared.error.Error.TheVariants as errors
 use Rattle.pg_wire.specs.declared.error.Error.{Error}
@@ -11,7 +11,7 @@ use Rattle.pg_wire.specs.Frame.{Frame, text_of, backend_tags}
 use Rattle.pg_wire.specs.Parts.{heard}
 use Rattle.pg_wire.specs.Frontend.{FrontendMessage}
 use Rattle.pg_wire.proofs.CutLaws.{cut_after_taken}
-use Rattle.pg_stream.specs.Links.{LinkSeen, GrewBy}
+use Rattle.pg_stream.specs.Links.{LinkSeen, GrewBy, NoneFalls}
 use Rattle.pg_stream.specs.Streams.{StreamSeen}
 use Rattle.pg_stream.proofs.Known.{Appends-then, Appends-refl, NoneFalls-refl, NoneFalls-then}
 use Rattle.pg_stream.specs.declared.link.TlsWish.{TlsWish}
@@ -26,7 +26,7 @@ use Rattle.pg_call.specs.declared.calling.Call.TheVariants as states
 use Rattle.pg_rule.specs.declared.rule.Rule.{Rule}
 use Rattle.pg_conn.specs.Statements.{asked_by, begun_as, held_by, unmoved}
 use Rattle.pg_conn.specs.Turns.{first_exchange}
-use Rattle.pg_conn.specs.Connections.{ConnSeen, ends_copy, cleaned, counted_anew, rolled_back, ended as ended_conn, with_depth, left}
+use Rattle.pg_conn.specs.Connections.{ConnSeen, ends_copy, cleaned, counted_anew, ended as ended_conn, fresh_connection, with_depth, with_spare, left}
 use Rattle.pg_report.specs.declared.outcome.Item.{Item}
 use Rattle.pg_report.specs.declared.outcome.Answer.TheVariants.{Unit as AnswersUnit}
 use Rattle.pg_report.specs.declared.outcome.End.{End}
@@ -36,16 +36,20 @@ use Rattle.pg_report.specs.declared.outcome.Started.{Started}
 use Rattle.pg_script.specs.declared.step.Call.{Call}
 use Rattle.pg_script.specs.declared.step.Call.TheVariants as calls
 use Rattle.pg_script.specs.declared.step.Step.{Step}
-use Rattle.pg_play.specs.Shown.{request_of, has_query, shown_by, acts_at_once, begins_with}
-use Rattle.pg_play.specs.Calls.{WaitsFew, PlaysCall, PlaysStep, IsUnpolled, limits_of, untouched, outcome_of, rolled_outcome, broken_after, behind_end, change_fed, change_for, copy_behind, none_counted, begun_call, all_groups, first_conn}
+use Rattle.pg_script.specs.declared.step.Parting.{Parting}
+use Rattle.pg_script.specs.declared.step.Parting.TheVariants as partings
+use Rattle.pg_play.specs.Shown.{parting_of, request_of, has_query, shown_by, acts_at_once, begins_with}
+use Rattle.pg_play.specs.Calls.{Ended, WaitsFew, PlaysCall, PlaysStep, IsUnpolled, limits_of, untouched, outcome_of, rolled_outcome, broken_after, behind_end, change_fed, change_for, copy_behind, none_counted, begun_call, all_groups, first_conn}
 use Rattle.pg_play.specs.Places.{Place, owed, drained, unfed, queued_by, refuses_copy, Queues, first_place, is_fine}
 use Rattle.pg_play.specs.Told.{Numbers, CountsTo, WellAtOk}
-use Rattle.pg_play.specs.Causes.{AnsweredPending, IsDropped, HasCause, KeepsFault, EndsDuly, OpensSavepoint}
+use Rattle.pg_play.specs.Causes.{AnsweredPending, IsDropped, IsDroppedAs, HasCause, KeepsFault, EndsDuly, OpensSavepoint}
 use Rattle.pg_play.specs.Settling.{Settles, depth_after, has_moved, held_after, statements_after, step_after}
 use Rattle.pg_play.specs.WaitPlaces.{LastPlaces}
-use Rattle.pg_play.specs.Chains.{AreChained, IsChained}
-use Rattle.pg_play.specs.Plays.{IsNeverUnlawful, Plays_call, ActsAtOnce, Plays_step, Plays_from, places_in, TakesInTime, StandsAt, PlaysOn, PlaysInOrder, PlaysChain, PlaysAll, TellsBytes, PlaysCalls, Plays, Totals, over}
-use Rattle.pg_play.specs.Starts.{Opening, IsOf, HasOpened}
+use Rattle.pg_play.specs.Chained.{AreChained, IsChained}
+use Rattle.pg_play.specs.Locks.{Guards}
+use Rattle.pg_play.proofs.LockLaws.{settles_release}
+use Rattle.pg_play.specs.Plays.{IsNeverUnlawful, Plays_call, ActsAtOnce, Plays_step, Plays_from, places_in, TakesInTime, StandsAt, PlaysOn, PlaysInOrder, PlaysChain, PlaysAll, TellsBytes, PlaysCalls, Plays, Totals, KeepsRoom, over}
+use Rattle.pg_play.specs.Starts.{Opening, IsOf, HasOpened, HasWaitedLess}
 use Rattle.pg_startup.proofs.FlowLaws.{Flows-none}
 use Rattle.pg_play.proofs.PartLaws.{take_none}
 use Rattle.pg_call.proofs.RefusalLaws.{memory_refuses}
@@ -55,7 +59,7 @@ use Rattle.pg_play.proofs.CopyLaws.{leaves_none, fails_nothing}
 use Rattle.pg_play.proofs.UncopiedLaws.{calls_plain}
 use Rattle.pg_play.proofs.SettleLaws.{left_link}
 use Rattle.pg_play.proofs.CallLaws.{left_idle, first_changes, unqueued_unfed, wanted_held, wanted_stays}
-use Rattle.pg_play.proofs.ExchangeLaws.{first_request, first_acts, first_begins_with, first_waits, asked_wanted}
+use Rattle.pg_play.proofs.ExchangeLaws.{first_parts, first_request, first_acts, first_begins_with, first_waits, asked_wanted}
 use Rattle.pg_play.proofs.KeptLaws.{first_known, first_sound, keeps_first, keeps_next}
 use Rattle.pg_play.specs.Kept.{Keeps}
 use Rattle.pg_call.specs.declared.kind.Keeping.{Keeping}
@@ -71,7 +75,7 @@ use Rattle.pg_play.proofs.PlaceLaws.{ends_summary, next_place}
 use Rattle.pg_play.proofs.ToldLaws.{CountsOn}
 use Rattle.pg_play.proofs.LinkLaws.{where_lawful, totals_all}
 use Rattle.pg_play.proofs.CompleteLaws.{where_faultless}
-use Rattle.pg_play.proofs.InTurnLaws.{AddUp, add_none, add_one, add_alone, counts_settled, InTurn, one_turn, BeginsAt, PlaysInTurn, same_but_groups, last_turn, turns_through}
+use Rattle.pg_play.proofs.InTurnLaws.{AddUp, exchange_of, add_none, add_one, add_alone, counts_settled, InTurn, one_turn, BeginsAt, PlaysInTurn, same_but_groups, last_turn, turns_through}
 use Rattle.pg_play.proofs.WaitPlaceLaws.{places_quiet, places_last, given_next, takes_all}
 
 -- ---- one step
@@ -96,7 +100,7 @@ steps_to start at step out stop d t few calls dropped now duly = (
     outs = t.told ∷ t.outs;
     run = t.run;
     first = refl;
-    limits = (refl, t.limits);
+    limits = ((refl, refl), t.limits);
     hands = t.hands;
     tells = record {
       items = t.items;
@@ -136,12 +140,6 @@ plainly_made (ends.Ok answer) m e k = (e, ap (λ (x : Keeping). step_of x m.cach
 plainly_made (ends.Err x) m e k = still_made (ends.Err x) m e refl
 plainly_made ends.Dropped m e k = still_made ends.Dropped m e refl
 
--- and nothing is left of a copy
-unleft : (end : End) (m : ConnSeen) → all_groups m ≡ 0 → copy_behind end m ≡ m
-unleft (ends.Ok answer) m e = refl
-unleft (ends.Err x) m e = unqueued_unfed (ends_copy x) m (omega (arith, e))
-unleft ends.Dropped m e = unqueued_unfed false m (omega (arith, e))
-
 -- the first exchange of a call begins as any other
 begins_first : (start : StreamSeen) (at : Place) (a : ConnSeen) (step : Step) → StandsAt start at a → Keeps at → acts_at_once step.call ≡ false → BeginsAt start at a none_counted (first_call at.rule step.call)
 begins_first start at a step st k later = record {
@@ -162,23 +160,26 @@ polled_turns start at a b step out stop st later p o duly =
 
 polled_step : (start : StreamSeen) (at : Place) (a b : ConnSeen) (step : Step) (out : Outcome) → StandsAt start at a → Keeps at → (IsUnpolled step → ⊥) → (OpensSavepoint at step → ⊥) → acts_at_once step.call ≡ false → step.polls < 2 ^ 32
     → PlaysCall (limits_of step) (begun_call (request_of at.rule.depth (first_call at.rule step.call)) a) b (request_of at.rule.depth (first_call at.rule step.call)) out → StepsTo start at step out b
-polled_step start at a b step out st k n opens later p ([], (m, (said, fs, e, last), over, is, outcome)) =
+polled_step start at a b step out st k n opens later p ([], (m, (said, fs, ends, last), over, so, outcome)) =
     let call = first_call at.rule step.call in
+    let parts = first_parts at.rule step.call in
+    let e = subst (λ (q : Parting). Ended (record { polls = step.polls; most = step.most; parting = q }) (begun_call (request_of at.rule.depth call) a).stream (begun_call (request_of at.rule.depth call) a) m (request_of at.rule.depth call) out.items out.end said fs) (sym parts) ends in
+    let is : b ≡ behind_end out.end (copy_behind (parting_of call) out.end m) = so ∙ ap (λ (q : Parting). behind_end out.end (copy_behind q out.end m)) (sym parts) in
     let r = request_of at.rule.depth call in
     let begun = begun_call r a in
-    let d : ConnSeen = behind_end out.end (copy_behind out.end m) in
+    let d : ConnSeen = behind_end out.end (copy_behind (parting_of call) out.end m) in
     let raw : Outcome = outcome_of m out.items out.end in
     let real : Outcome = outcome_of d out.items out.end in
-    let found = ends_summary a.broken (limits_of step) begun.stream begun m at.rule.depth call said (heard fs) out.items out.end e.ends in
+    let found = ends_summary a.broken (limits_of (exchange_of step call)) begun.stream begun m at.rule.depth call said (heard fs) out.items out.end e.ends in
     let stop : Place = next_place at m said found.1.own fs out.end in
-    let turn = last_turn start begun.stream none_counted at a m step call out.items out.end said fs (begins_first start at a step st k later) p refl refl (polled_most step n) e last over found in
-    let dues : EndsDuly at step r raw stop = duly_step start at a m step r raw said fs found.0 st n opens p e found.1 refl (λ x. ap (λ (y : Call). request_of at.rule.depth (first_call at.rule y)) x) (λ w. turn.0.most (first_waits at.rule step.call w)) in
-    let steps : StepsTo start at step real d = polled_turns start at a d step real stop st later p turn.0 (duly_out at step r raw real stop turn.1 (λ z f. subst (λ (c : ConnSeen). (all_groups (behind_end out.end c) ≡ 0) × ((behind_end out.end c).cache ≡ m.cache)) (sym (unleft out.end m z)) (still_made out.end m z f))
-    (λ z c. subst (λ (x : ConnSeen). (all_groups (behind_end out.end x) ≡ 0) × ((behind_end out.end x).cache ≡ m.cache)) (sym (unleft out.end m z)) (plainly_made out.end m z (ap (λ (x : Standing). x.keeping) e.went.started.3 ∙ ap (λ (y : Call). keeping_of (request_of at.rule.depth (first_call at.rule y))) c))) dues) in
+    let turn = last_turn start begun.stream none_counted at a m step call out.items out.end said fs (begins_first start at a step st k later) p refl refl (polled_most step n) parts e last over found in
+    let dues : EndsDuly at step r raw stop = duly_step start at a m step r raw said fs found.0 st n opens p ends found.1 refl (λ x. ap (λ (y : Call). request_of at.rule.depth (first_call at.rule y)) x) (λ w. turn.0.most (first_waits at.rule step.call w)) in
+    let steps : StepsTo start at step real d = polled_turns start at a d step real stop st later p turn.0 (duly_out at step r raw real stop turn.1 (λ z f. subst (λ (c : ConnSeen). (all_groups (behind_end out.end c) ≡ 0) × ((behind_end out.end c).cache ≡ m.cache)) (sym (turn.2 z)) (still_made out.end m z f))
+    (λ z c. subst (λ (x : ConnSeen). (all_groups (behind_end out.end x) ≡ 0) × ((behind_end out.end x).cache ≡ m.cache)) (sym (turn.2 z)) (plainly_made out.end m z (ap (λ (x : Standing). x.keeping) e.went.started.3 ∙ ap (λ (y : Call). keeping_of (request_of at.rule.depth (first_call at.rule y))) c))) dues) in
     subst (λ (x : Outcome). StepsTo start at step x b) (sym (outcome ∙ ap (λ (x : ConnSeen). outcome_of x out.items out.end) is)) (subst (λ (x : ConnSeen). StepsTo start at step real x) (sym is) steps)
 polled_step start at a b step out st k n opens later p (next ∷ more, played) =
     let r = request_of at.rule.depth (first_call at.rule step.call) in
-    let t = turns_through (next ∷ more) start (begun_call r a).stream none_counted at a b step (first_call at.rule step.call) out (begins_first start at a step st k later) p refl refl (polled_most step n) played in
+    let t = turns_through (next ∷ more) start (begun_call r a).stream none_counted at a b step (first_call at.rule step.call) out (begins_first start at a step st k later) p refl refl (polled_most step n) (first_parts at.rule step.call) played in
     polled_turns start at a b step out t.0 st later p t.1
     (duly_handed start at t.0 a played.0 step r next out st n opens played.1 (λ x. ap (λ (y : Call). request_of at.rule.depth (first_call at.rule y)) x) t.1.few (λ w. t.1.most (first_waits at.rule step.call w)))
 
@@ -287,6 +288,7 @@ quiet_call at step out end k q f c now =
   where
     at_once_asks : (d : ℕ) (call : Call) → acts_at_once call ≡ true → groups_of (request_of d call) ≡ []
     at_once_asks d calls.StartRollback e = refl
+    at_once_asks d (calls.Release text) e = refl
     at_once_asks d _ e = absurd cc
 
 -- what a step asks first makes nothing of the statements, where it isn't asked
@@ -343,8 +345,17 @@ quiet_most step out end k m = let z : length out.items ≡ 0 = ap (λ (x : Outco
 quiet_few : (step : Step) (out : Outcome) (end : End) → out ≡ untouched end → (out.end ≢ ends.Dropped → 0 < step.polls) → (pending : ℕ) × AnsweredPending out pending × WaitsFew step.polls pending out.end
 quiet_few step out end k m = let z : out.waits ≡ 0 = ap (λ (x : Outcome). x.waits) k in (0, (0, omega (arith, z), omega arith), (m, omega arith))
 
-unpolled_call : (at : Place) (step : Step) (out : Outcome) → acts_at_once step.call ≡ false → out ≡ untouched ends.Dropped → Plays_call at step out at
-unpolled_call at step out later k = quiet_call at step out ends.Dropped k (inl refl) (λ f. absurd cc) tt (λ now. let x = sym later ∙ now in absurd cc)
+unpolled_call : (at : Place) (step : Step) (out : Outcome) → IsUnpolled step → acts_at_once step.call ≡ false → out ≡ untouched ends.Dropped → Plays_call at step out at
+unpolled_call at step out u later k = quiet_call at step out ends.Dropped k (inl refl) (λ f. absurd cc) (inl u) (λ now. let x = sym later ∙ now in absurd cc)
+
+unpolled_drops : (at : Place) (step : Step) (out : Outcome) (stop : Place) → IsUnpolled step → IsDropped at step out stop
+unpolled_drops at step out stop u = by (parting_of step.call)
+  where
+    by : (q : Parting) → IsDroppedAs q at step out stop
+    by partings.None = inl u
+    by partings.Left = tt
+    by partings.Unsaid = tt
+    by (partings.Failed message) = tt
 
 unpolled_duly : (at : Place) (step : Step) (r : Request) (out : Outcome) → IsUnpolled step → out ≡ untouched ends.Dropped → EndsDuly at step r out at
 unpolled_duly at step r out u k = record {
@@ -386,29 +397,42 @@ refused_duly at step r out n opens k = record {
   most = λ w. quiet_most step out (ends.Err errors.InvalidSavePointStatement) k (λ z. polled_most step n);
 }
 
-rolled_call : (at : Place) (step : Step) → step.call ≡ calls.StartRollback → Plays_call at step (untouched (ends.Ok AnswersUnit)) at
-rolled_call at step c = quiet_call at step (untouched (ends.Ok AnswersUnit)) (ends.Ok AnswersUnit) refl (inr (inr (inr refl))) (λ f. ap acts_at_once c) tt (λ now. (refl, refl))
+-- ---- what acts at once
 
-rolls_none : {call : Call} (x : Extended) → call ≡ calls.StartRollback → call ≡ calls.Describe x → ⊥
-rolls_none {call} x c d = let y : calls.StartRollback ≡ calls.Describe x = sym c ∙ d in cc
+acted_call : (at : Place) (step : Step) → acts_at_once step.call ≡ true → Plays_call at step (untouched (ends.Ok AnswersUnit)) at
+acted_call at step acts = quiet_call at step (untouched (ends.Ok AnswersUnit)) (ends.Ok AnswersUnit) refl (inr (inr (inr refl))) (λ f. acts) tt (λ now. (refl, refl))
 
-rolled_step : (start : StreamSeen) (at : Place) (a b : ConnSeen) (step : Step) → StandsAt start at a → Keeps at → a.rule.depth < 2 ^ 64 → step.call ≡ calls.StartRollback → b ≡ rolled_back a → StepsTo start at step (rolled_outcome b) b
-unfolding quiet_call rolled_call
-rolled_step start at a b step st kept l c is =
+acts_none : (call : Call) (x : Extended) → acts_at_once call ≡ true → call ≡ calls.Describe x → ⊥
+acts_none calls.StartRollback x acts d = cc
+acts_none (calls.Release text) x acts d = cc
+acts_none _ x acts d = absurd cc
+
+acts_first : (rule : Rule) (call : Call) → acts_at_once call ≡ true → first_call rule call ≡ call
+acts_first rule calls.StartRollback acts = refl
+acts_first rule (calls.Release text) acts = refl
+acts_first rule _ acts = absurd cc
+
+acts_last : (rule : Rule) (call : Call) → acts_at_once call ≡ true → next_call rule call [] ≡ None
+acts_last rule calls.StartRollback acts = refl
+acts_last rule (calls.Release text) acts = refl
+acts_last rule _ acts = absurd cc
+
+acted_step : (start : StreamSeen) (at : Place) (a b : ConnSeen) (step : Step) → StandsAt start at a → Keeps at → acts_at_once step.call ≡ true → SettlesTo start at (first_step at.rule step) (untouched (ends.Ok AnswersUnit)) [] [] at (ended_conn (counted_anew a)) b → StepsTo start at step (rolled_outcome b) b
+unfolding quiet_call acted_call
+acted_step start at a b step st kept acts settled =
     let told : Outcome = untouched (ends.Ok AnswersUnit) in
     let first : Step = first_step at.rule step in
-    let rolls : first.call ≡ calls.StartRollback = ap (first_call at.rule) c in
-    let one : Plays_call at first told at = rolled_call at first rolls in
-    let settled = settles_rollback start at a b first st l rolls is in
+    let now : acts_at_once first.call ≡ true = first_acts at.rule step.call ∙ acts in
+    let one : Plays_call at first told at = acted_call at first now in
     let grew : CountsOn none_counted (ended_conn (counted_anew a)) told = record { groups = omega arith; behind = refl; fits = omega arith; heard = omega arith; waits = omega arith; moved = omega arith } in
     let same : rolled_outcome b ≡ record told { groups = all_groups b; cache = b.cache } = same_but_groups (ended_conn (counted_anew a)) b [] (ends.Ok AnswersUnit) (settled.others.0, settled.others.1, settled.others.2) in
-    let rolled_so : rolled_outcome b ≡ record told { groups = all_groups b } = same ∙ ap (λ (x : CacheStep). record told { groups = all_groups b; cache = x }) (settled.others.4 ∙ ap (λ (x : CacheStep). over cache.Same x) (settled.settles.cache ∙ sym (rolls_tells at first rolls))) in
+    let rolled_so : rolled_outcome b ≡ record told { groups = all_groups b } = same ∙ ap (λ (x : CacheStep). record told { groups = all_groups b; cache = x }) (settled.others.4 ∙ ap (λ (x : CacheStep). over cache.Same x) (settled.settles.cache ∙ sym (acts_tell at.rule.depth first.call now))) in
     let adds : AddUp none_counted (settled.out ∷ []) (rolled_outcome b) = add_one none_counted b settled.out [] (rolled_outcome b) (counts_settled start none_counted at at (ended_conn (counted_anew a)) b first told one settled grew) (add_none b [] (ends.Ok AnswersUnit)) in
     let k = settled.settles.outcome in
     let turns = one_turn start at at settled.left settled.next b step (first_call at.rule step.call) none_counted told settled.out (rolled_outcome b) one settled.leaves (quiet_lawful at told (inr (inr (inr refl)))) (places_quiet at told refl) (NoneFalls-refl at.seen.link) settled.settles settled.stands
-    (keeps_next at at settled.left settled.next first told settled.out one settled.leaves settled.settles kept (first_sound at.rule step.call) (λ x d f. absurd (rolls_none x rolls d)))
-    (sym (ap (λ (x : Outcome). x.items) k)) (sym (ap (λ (x : Outcome). x.end) k)) adds settled.others.4 (λ f. ap (λ (x : Call). next_call settled.next.rule x []) rolls) in
-    steps_to start at step (rolled_outcome b) at b turns (omega (arith, settled.others.1)) (omega (arith, ap (λ (x : StreamSeen). x.link.calls) settled.stands.seen, ap (λ (x : StreamSeen). x.link.calls) settled.settles.seen, ap (λ (x : LinkSeen). x.calls) (left_link first.call [] (ends.Ok AnswersUnit) at settled.left settled.leaves))) (λ x. absurd cc) (λ now. (rolled_so, refl)) (λ later. let x = sym later ∙ ap acts_at_once c in absurd cc)
+    (keeps_next at at settled.left settled.next first told settled.out one settled.leaves settled.settles kept (first_sound at.rule step.call) (λ x d f. absurd (acts_none first.call x now d)))
+    (sym (ap (λ (x : Outcome). x.items) k)) (sym (ap (λ (x : Outcome). x.end) k)) adds settled.others.4 (λ f. acts_last settled.next.rule first.call now) in
+    steps_to start at step (rolled_outcome b) at b turns (omega (arith, settled.others.1)) (omega (arith, ap (λ (x : StreamSeen). x.link.calls) settled.stands.seen, ap (λ (x : StreamSeen). x.link.calls) settled.settles.seen, ap (λ (x : LinkSeen). x.calls) (left_link first.call [] (ends.Ok AnswersUnit) at settled.left settled.leaves))) (λ x. absurd cc) (λ w. (rolled_so, refl)) (λ later. let x = sym later ∙ acts in absurd cc)
 
 -- a call on a connection on which none ran begins with the exchange that the place tells
 first_begun : (a : ConnSeen) (request : Request) → a.call ≡ states.Idle → IsWanted request → first_conn request a ≡ begun_call (first_exchange request a) a
@@ -434,9 +458,12 @@ undropped {P} out e k d = let x : ends.Err e ≡ ends.Dropped = sym (ap (λ (z :
 
 pub plays_step : (start : StreamSeen) (at : Place) (a b : ConnSeen) (step : Step) (out : Outcome) → StandsAt start at a → Keeps at → a.rule.depth < 2 ^ 64 → PlaysStep a b step out → StepsTo start at step out b
 unfolding quiet_call unpolled_call unmade_call refused_call
-plays_step start at a b step out st kept l (inl (c, is, k)) = subst (λ (x : Outcome). StepsTo start at step x b) (sym k) (rolled_step start at a b step st kept l c is)
+plays_step start at a b step out st kept l (inl (inl (c, is, k))) =
+    subst (λ (x : Outcome). StepsTo start at step x b) (sym k) (acted_step start at a b step st kept (ap acts_at_once c) (settles_rollback start at a b (first_step at.rule step) st l (ap (first_call at.rule) c) is))
+plays_step start at a b step out st kept l (inl (inr r)) =
+    subst (λ (x : Outcome). StepsTo start at step x b) (sym r.tells) (acted_step start at a b step st kept (ap acts_at_once r.asks) (settles_release start at a b (first_step at.rule step) r.text st (ap (first_call at.rule) r.asks) r.lawful r.held r.behind))
 plays_step start at a b step out st kept l (inr (later, inl (u, is, k))) =
-    subst (λ (x : ConnSeen). StepsTo start at step out x) (sym is) (quiet_step start at a step out ends.Dropped st kept later refl k (inl refl) (unpolled_call at (first_step at.rule step) out (first_acts at.rule step.call ∙ later) k) refl (λ x. inl u) (unpolled_duly at step (request_of at.rule.depth (first_call at.rule step.call)) out u k))
+    subst (λ (x : ConnSeen). StepsTo start at step out x) (sym is) (quiet_step start at a step out ends.Dropped st kept later refl k (inl refl) (unpolled_call at (first_step at.rule step) out u (first_acts at.rule step.call ∙ later) k) refl (λ x. unpolled_drops at step out at u) (unpolled_duly at step (request_of at.rule.depth (first_call at.rule step.call)) out u k))
 plays_step start at a b step out st kept l (inr (later, inr (n, p, inl (opens, is, k)))) =
     let asked : OpensSavepoint at step = (opens.0, omega (arith, opens.1, depth_stands start at a st)) in
     subst (λ (x : ConnSeen). StepsTo start at step out x) (sym is) (quiet_step start at a step out (ends.Err errors.InvalidSavePointStatement) st kept later refl k (inr (inr (inl refl))) (refused_call at (first_step at.rule step) out (first_acts at.rule step.call ∙ later) (first_begins_with at.rule step.call ∙ asked.0, asked.1) k) refl (undropped out errors.InvalidSavePointStatement k)
@@ -479,31 +506,43 @@ plays_behind a b c steps outs (s ∷ calls) (o ∷ told) on run =
     let more : PlaysOn a c ((steps ++ s ∷ []) ++ calls) ((outs ++ o ∷ []) ++ told) = plays_behind a run.0 c (steps ++ s ∷ []) (outs ++ o ∷ []) calls told one run.3 in
     subst (λ (x : List Step). PlaysOn a c x (outs ++ o ∷ told)) (append_assoc steps (s ∷ []) calls) (subst (λ (y : List Outcome). PlaysOn a c ((steps ++ s ∷ []) ++ calls) y) (append_assoc outs (o ∷ []) told) more)
 
-chained_more : (steps : List Step) (outs : List Outcome) (calls : List Step) (told : List Outcome) (step : Step) (out : Outcome) (own : List Step) (ones : List Outcome) → AreChained steps outs calls told → IsChained step out own ones → AreChained (steps ++ step ∷ []) (outs ++ out ∷ []) (calls ++ own) (told ++ ones)
-chained_more [] [] calls told step out own ones all one = (own, [], ones, [], one, (refl, refl), ap (λ (x : List Step). x ++ own) all.0 ∙ sym (append-nil own), ap (λ (x : List Outcome). x ++ ones) all.1 ∙ sym (append-nil ones))
-chained_more [] (o ∷ outs) calls told step out own ones all one = absurd all
-chained_more (s ∷ steps) [] calls told step out own ones all one = absurd all
-chained_more (s ∷ steps) (o ∷ outs) calls told step out own ones (first, later, firsts, others, chained, rest, c, t) one = (
+chained_more : (before : Guards) (steps : List Step) (outs : List Outcome) (calls : List Step) (told : List Outcome) (guards after : Guards) (step : Step) (out : Outcome) (own : List Step) (ones : List Outcome) → AreChained before steps outs calls told guards → IsChained guards after step out own ones
+    → AreChained before (steps ++ step ∷ []) (outs ++ out ∷ []) (calls ++ own) (told ++ ones) after
+chained_more before [] [] calls told guards after step out own ones all one = (
+  own,
+  [],
+  ones,
+  [],
+  after,
+  subst (λ (g : Guards). IsChained g after step out own ones) all.2 one,
+  (refl, refl, refl),
+  ap (λ (x : List Step). x ++ own) all.0 ∙ sym (append-nil own),
+  ap (λ (x : List Outcome). x ++ ones) all.1 ∙ sym (append-nil ones),
+)
+chained_more before [] (o ∷ outs) calls told guards after step out own ones all one = absurd all
+chained_more before (s ∷ steps) [] calls told guards after step out own ones all one = absurd all
+chained_more before (s ∷ steps) (o ∷ outs) calls told guards after step out own ones (first, later, firsts, others, mid, chained, rest, c, t) one = (
   first,
   later ++ own,
   firsts,
   others ++ ones,
+  mid,
   chained,
-  chained_more steps outs later others step out own ones rest one,
+  chained_more mid steps outs later others guards after step out own ones rest one,
   ap (λ (x : List Step). x ++ own) c ∙ append_assoc first later own,
   ap (λ (x : List Outcome). x ++ ones) t ∙ append_assoc firsts others ones,
 )
 
-pub plays_step_on : (a b c : ConnSeen) (steps : List Step) (outs : List Outcome) (step : Step) (out : Outcome) → PlaysAll a b steps outs → PlaysChain b c step out → PlaysAll a c (steps ++ step ∷ []) (outs ++ out ∷ [])
-plays_step_on a b c steps outs step out (calls, told, chained, on) (own, ones, one, run) =
-    (calls ++ own, told ++ ones, chained_more steps outs calls told step out own ones chained one, plays_behind a b c calls told own ones on run)
+pub plays_step_on : (a b c : ConnSeen) (steps : List Step) (outs : List Outcome) (guards after : Guards) (step : Step) (out : Outcome) → PlaysAll a b steps outs guards → PlaysChain b c guards after step out → PlaysAll a c (steps ++ step ∷ []) (outs ++ out ∷ []) after
+plays_step_on a b c steps outs guards after step out (calls, told, chained, on) (own, ones, one, run) =
+    (calls ++ own, told ++ ones, chained_more [] steps outs calls told guards after step out own ones chained one, plays_behind a b c calls told own ones on run)
 
-pub plays_no_step : (a : ConnSeen) → PlaysAll a a [] []
-plays_no_step a = ([], [], (refl, refl), plays_none a)
+pub plays_no_step : (a : ConnSeen) → PlaysAll a a [] [] []
+plays_no_step a = ([], [], (refl, refl, refl), plays_none a)
 
 -- a step that is one call
-pub plays_alone : (a b : ConnSeen) (step : Step) (out : Outcome) → IsChained step out (step ∷ []) (out ∷ []) → a.rule.depth < 2 ^ 64 → PlaysStep a b step out → PlaysChain a b step out
-plays_alone a b step out one d run = (step ∷ [], out ∷ [], one, (b, run, d, refl))
+pub plays_alone : (a b : ConnSeen) (guards : Guards) (step played : Step) (out : Outcome) → IsChained guards guards step out (played ∷ []) (out ∷ []) → a.rule.depth < 2 ^ 64 → PlaysStep a b played out → PlaysChain a b guards guards step out
+plays_alone a b guards step played out one d run = (played ∷ [], out ∷ [], one, (b, run, d, refl))
 
 -- ---- from the end of start-up on
 
@@ -515,7 +554,7 @@ stands_first opening polls link a g = rw g.fresh (record {
   broken = refl;
   seen = refl;
   rule = refl;
-  room = omega arith;
+  room = rw g.fresh at g.room;
   idle = refl;
   sayable = tt;
   are_groups = tt;
@@ -613,5 +652,28 @@ calls_begun opening polls link last a b started steps outs g run s r l =
       plain = st.plain;
     })
 
-pub plays_begun : (opening : Opening) (polls : ℕ) (link last : LinkSeen) (a b : ConnSeen) (started : Started) (steps : List Step) (outs : List Outcome) → HasOpened opening polls link a → PlaysAll a b steps outs → started.sent ≡ a.sent → started.read ≡ a.read → last ≡ b.stream.link → Plays opening polls link last started steps outs
-plays_begun opening polls link last a b started steps outs g (calls, told, chained, on) s r l = (calls, told, chained, calls_begun opening polls link last a b started calls told g on s r l)
+-- room that is kept for guards is no matter
+opened_kept : (opening : Opening) (polls : ℕ) (link : LinkSeen) (a b : ConnSeen) → HasOpened opening polls link a → KeepsRoom a b → HasOpened opening polls link b
+opened_kept opening polls link a b g k = record {
+  e = g.e;
+  of = g.of;
+  ready = record g.ready { stream = b.stream };
+  begun = subst (λ (s : StreamSeen). HasBegun g.e.client g.e.plan g.e.message link (record g.ready { stream = s })) (sym same) (begun_kept b.stream.spare g.begun);
+  counts = subst (λ (s : StreamSeen). NoneFalls link s.link) (sym stream) g.counts;
+  waited = subst (λ (s : StreamSeen). HasWaitedLess polls link s.link) (sym stream) g.waited;
+  held = b.held;
+  fresh = k.0 ∙ ap (λ (c : ConnSeen). record (with_spare b.stream.spare c) { held = b.held }) g.fresh ∙ ap (λ (s : StreamSeen). record (fresh_connection opening.options.statement_cache_capacity s g.ready.sent g.ready.read) { held = b.held }) (sym same);
+  room = k.1 g.room;
+}
+  where
+    stream : b.stream ≡ record a.stream { spare = b.stream.spare }
+    stream = ap (λ (c : ConnSeen). c.stream) k.0
+
+    same : b.stream ≡ record g.ready.stream { spare = b.stream.spare }
+    same = stream ∙ ap (λ (c : ConnSeen). record c.stream { spare = b.stream.spare }) g.fresh
+
+    begun_kept : (n : ℕ) → HasBegun g.e.client g.e.plan g.e.message link g.ready → HasBegun g.e.client g.e.plan g.e.message link (record g.ready { stream = record g.ready.stream { spare = n } })
+    begun_kept n h = record { said = h.said; read = h.read; handshake = h.handshake; secured = h.secured; taken = h.taken; took = h.took; unsent = h.unsent; given = h.given; gave = h.gave; held = h.held; sent_counted = h.sent_counted; read_counted = h.read_counted }
+
+pub plays_begun : (opening : Opening) (polls : ℕ) (link last : LinkSeen) (a k b : ConnSeen) (started : Started) (steps : List Step) (outs : List Outcome) (guards : Guards) → HasOpened opening polls link a → KeepsRoom a k → PlaysAll k b steps outs guards → started.sent ≡ k.sent → started.read ≡ k.read → last ≡ b.stream.link → Plays opening polls link last started steps outs
+plays_begun opening polls link last a k b started steps outs guards g keeps (calls, told, chained, on) s r l = (calls, told, guards, chained, calls_begun opening polls link last k b started calls told (opened_kept opening polls link a k g keeps) on s r l)

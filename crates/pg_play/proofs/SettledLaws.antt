@@ -1,6 +1,6 @@
 -- Where the connection stands once it has settled the end of a step's call.
 use Rattle.std.proofs.Common.{◌≡◌, ◌≢◌, ℕ, zero, suc, ◌+◌, ◌-◌, ◌^◌, ◌<◌, ◌≤◌, Bool, true, false, not, ◌&&◌, ◌||◌, cond, Option, Some, None, nat_eq, ltb, List, [], ◌∷◌, ◌++◌, length, refl, sym, ap, ◌∙◌, subst, arith, append-nil, length-append, inl, ne_eqb, ap₂}
-use Rattle.std.specs.List.{AllByRecursion, count_by}
+use Rattle.std.specs.List.{count_by}
 use Rattle.std.proofs.lemmas.Bool.{ltb-true}
 use Rattle.std.proofs.lemmas.List.Concat.{flat_map-append}
 use Rattle.pg_rule.specs.declared.rule.Rule.{Rule}
@@ -10,7 +10,7 @@ use Rattle.pg_wire.specs.Backend.{BackendMessage}
 use Rattle.pg_call.specs.declared.request.Request.{Request}
 use Rattle.pg_wire.proofs.Each.{each_join}
 use Rattle.pg_wire.specs.Frame.{Frame}
-use Rattle.pg_wire.specs.Frontend.{FrontendMessage, HasFrontendFrame}
+use Rattle.pg_wire.specs.Frontend.{FrontendMessage, HasFrontendFrame, Query}
 use Rattle.pg_stream.specs.Streams.{StreamSeen}
 use Rattle.pg_startup.specs.Flows.{Flows}
 use Rattle.pg_startup.proofs.FlowLaws.{Flows-then}
@@ -19,6 +19,7 @@ use Rattle.pg_request.proofs.TextLaws.{rollback_said}
 use Rattle.pg_call.specs.declared.kind.Change.TheVariants as changes
 use Rattle.pg_call.specs.Requests.{Group, said_in, spelled, kind_of, change_of, keeping_of}
 use Rattle.pg_conn.specs.Connections.{ConnSeen, opens, depth_behind, settled, cleaned, ended, may_open, has_room_for, with_group, queued_group, restated, rollback, counted_anew, rolled, rolled_back, left, with_depth}
+use Rattle.pg_conn.specs.Holding.{release}
 use Rattle.pg_conn.specs.Turns.{HasAllRoom, ends_request}
 use Rattle.pg_conn.proofs.TurnLaws.{spelled-append, counts-append}
 use Rattle.pg_conn.proofs.CleanupLaws.{fits_room, has_room, group_moves, rollback_short, opening, all_settled, all_cleaned, all_rolled}
@@ -50,11 +51,19 @@ depth_stands start at a st = ap (λ (r : Rule). r.depth) st.rule
 
 -- ---- places behind it
 
+-- behind a group of one text, which is queued out of the room that is kept
+abbrev pub text_place : Place → ConnSeen → List ℕ → Rule → Place
+text_place mid d text rule = record mid { seen = d.stream; said = mid.said ++ release text; groups = mid.groups ++ release text ∷ []; is_copy_failed = not (nat_eq (owed mid) 0) && mid.is_copy_failed; rule = rule }
+
+abbrev pub text_conn : ConnSeen → List ℕ → Rule → CacheStep → ConnSeen
+text_conn m text rule now = record (with_group (spelled (release text)) m) { rule = rule; cache = now; change = changes.Stays; keeping = keepings.Stays }
+
+-- such as that of a rollback
 abbrev rolled_place : Place → ConnSeen → ℕ → Rule → Place
-rolled_place mid d left rule = record mid { seen = d.stream; said = mid.said ++ rollback left; groups = mid.groups ++ rollback left ∷ []; is_copy_failed = not (nat_eq (owed mid) 0) && mid.is_copy_failed; rule = rule }
+rolled_place mid d left rule = text_place mid d (rollback_text left) rule
 
 abbrev rolled_conn : ConnSeen → ℕ → Rule → CacheStep → ConnSeen
-rolled_conn m left rule now = record (with_group (spelled (rollback left)) m) { rule = rule; cache = now; change = changes.Stays; keeping = keepings.Stays }
+rolled_conn m left rule now = text_conn m (rollback_text left) rule now
 
 -- the connection where this is known of the session
 abbrev with_rule_only : Rule → CacheStep → ConnSeen → ConnSeen
@@ -64,17 +73,14 @@ with_rule_only rule now m = record m { rule = rule; cache = now }
 abbrev with_rule : Rule → CacheStep → ConnSeen → ConnSeen
 with_rule rule now m = record m { rule = rule; cache = now; change = changes.Stays; keeping = keepings.Stays }
 
-said_rollback : (left : ℕ) → left < 2 ^ 64 → AllByRecursion HasFrontendFrame (rollback left)
-said_rollback left l = (rollback_said left l, tt)
-
-flows_group : (start : StreamSeen) (mid : Place) (m : ConnSeen) (left : ℕ) (rule : Rule) (now : CacheStep) → StandsAt start mid m → has_room_for (spelled (rollback left)) m ≡ true
-    → Flows start (rolled_conn m left rule now).stream (spelled (mid.said ++ rollback left)) mid.frames
-flows_group start mid m left rule now st r =
-    let moves = group_moves (spelled (rollback left)) m (fits_room (spelled (rollback left)) m r).0 in
-    let one : Flows m.stream (rolled_conn m left rule now).stream (spelled (rollback left)) [] = record { counts = moves.counts; secured = moves.secured; sent = moves.sent; read = moves.read } in
-    let all = Flows-then start m.stream (rolled_conn m left rule now).stream (spelled mid.said) (spelled (rollback left)) mid.frames [] st.flows one in
-    subst (λ (q : List ℕ). Flows start (rolled_conn m left rule now).stream q mid.frames) (sym (spelled-append mid.said (rollback left)))
-    (subst (λ (f : List Frame). Flows start (rolled_conn m left rule now).stream (spelled mid.said ++ spelled (rollback left)) f) (append-nil mid.frames) all)
+flows_group : (start : StreamSeen) (mid : Place) (m : ConnSeen) (text : List ℕ) (rule : Rule) (now : CacheStep) → StandsAt start mid m → has_room_for (spelled (release text)) m ≡ true
+    → Flows start (text_conn m text rule now).stream (spelled (mid.said ++ release text)) mid.frames
+flows_group start mid m text rule now st r =
+    let moves = group_moves (spelled (release text)) m (fits_room (spelled (release text)) m r).0 in
+    let one : Flows m.stream (text_conn m text rule now).stream (spelled (release text)) [] = record { counts = moves.counts; secured = moves.secured; sent = moves.sent; read = moves.read } in
+    let all = Flows-then start m.stream (text_conn m text rule now).stream (spelled mid.said) (spelled (release text)) mid.frames [] st.flows one in
+    subst (λ (q : List ℕ). Flows start (text_conn m text rule now).stream q mid.frames) (sym (spelled-append mid.said (release text)))
+    (subst (λ (f : List Frame). Flows start (text_conn m text rule now).stream (spelled mid.said ++ spelled (release text)) f) (append-nil mid.frames) all)
 
 failed_group : (n : ℕ) (x y : Bool) → (0 < n → x ≡ y) → not (nat_eq n 0) && x ≡ not (nat_eq n 0) && y
 failed_group n x y f = by (nat_eq n 0) refl
@@ -87,31 +93,31 @@ failed_group n x y f = by (nat_eq n 0) refl
     by true e = refl
     by false e = f (some n e)
 
-stands_group : (start : StreamSeen) (mid : Place) (m : ConnSeen) (left : ℕ) (rule : Rule) (now : CacheStep) → StandsAt start mid m → left < 2 ^ 64 → has_room_for (spelled (rollback left)) m ≡ true → HasAllRoom (rolled_conn m left rule now)
-    → StandsAt start (rolled_place mid (rolled_conn m left rule now) left rule) (rolled_conn m left rule now)
-stands_group start mid m left rule now st l r room =
+pub stands_group : (start : StreamSeen) (mid : Place) (m : ConnSeen) (text : List ℕ) (rule : Rule) (now : CacheStep) → StandsAt start mid m → HasFrontendFrame (Query text) → has_room_for (spelled (release text)) m ≡ true → HasAllRoom (text_conn m text rule now)
+    → StandsAt start (text_place mid (text_conn m text rule now) text rule) (text_conn m text rule now)
+stands_group start mid m text rule now st l r room =
     let owes = owed_is start mid m st in
-    let one : count_by ends_request (rollback left) ≡ 1 = refl in
+    let one : count_by ends_request (release text) ≡ 1 = refl in
     record {
-      flows = flows_group start mid m left rule now st r;
-      ledger = omega (arith, st.ledger, length-append mid.groups (rollback left ∷ []));
+      flows = flows_group start mid m text rule now st r;
+      ledger = omega (arith, st.ledger, length-append mid.groups (release text ∷ []));
       failed = λ o. failed_group m.ledger.owed m.ledger.is_copy_failed mid.is_copy_failed st.failed ∙ ap (λ (n : ℕ). not (nat_eq n 0) && mid.is_copy_failed) (sym owes);
       broken = st.broken;
       seen = refl;
       rule = refl;
       room = room;
       idle = st.idle;
-      sayable = each_join HasFrontendFrame mid.said (rollback left) st.sayable (said_rollback left l);
-      are_groups = each_join IsRequestGroup mid.groups (rollback left ∷ []) st.are_groups (inl (inl (rollback_text left, refl)), tt);
+      sayable = each_join HasFrontendFrame mid.said (release text) st.sayable (l, tt);
+      are_groups = each_join IsRequestGroup mid.groups (release text ∷ []) st.are_groups (inl (inl (text, refl)), tt);
       between = λ z. absurd (omega (arith, z));
-      plain = λ h n. plain_group mid left (st.plain h n);
-      requests = omega (arith, st.requests, one, counts-append mid.said (rollback left), length-append mid.groups (rollback left ∷ []));
+      plain = λ h n. plain_group mid text (st.plain h n);
+      requests = omega (arith, st.requests, one, counts-append mid.said (release text), length-append mid.groups (release text ∷ []));
     }
   where
-    plain_group : (mid : Place) (left : ℕ) → mid.said ≡ said_in mid.groups → mid.said ++ rollback left ≡ said_in (mid.groups ++ rollback left ∷ [])
-    plain_group mid left e = ap (λ (x : List FrontendMessage). x ++ rollback left) e ∙ sym (flat_map-append (λ g. g) mid.groups (rollback left ∷ []))
+    plain_group : (mid : Place) (text : List ℕ) → mid.said ≡ said_in mid.groups → mid.said ++ release text ≡ said_in (mid.groups ++ release text ∷ [])
+    plain_group mid text e = ap (λ (x : List FrontendMessage). x ++ release text) e ∙ sym (flat_map-append (λ g. g) mid.groups (release text ∷ []))
 
-stands_rule : (start : StreamSeen) (mid : Place) (m : ConnSeen) (rule : Rule) (now : CacheStep) → StandsAt start mid m → HasAllRoom (with_rule rule now m) → StandsAt start (record mid { rule = rule }) (with_rule rule now m)
+pub stands_rule : (start : StreamSeen) (mid : Place) (m : ConnSeen) (rule : Rule) (now : CacheStep) → StandsAt start mid m → HasAllRoom (with_rule rule now m) → StandsAt start (record mid { rule = rule }) (with_rule rule now m)
 stands_rule start mid m rule now st room = record {
   flows = st.flows;
   ledger = st.ledger;
@@ -150,6 +156,7 @@ opens_begins (suc left) calls.Commit = refl
 opens_begins zero calls.Rollback = refl
 opens_begins (suc left) calls.Rollback = refl
 opens_begins d calls.StartRollback = refl
+opens_begins d (calls.Release text) = refl
 opens_begins d (calls.Describe extended) = refl
 opens_begins d (calls.Run bound) = refl
 opens_begins d (calls.Prepare preparation) = refl
@@ -178,6 +185,7 @@ depth_ok (suc left) calls.Commit groups end f a b = rw f refl
 depth_ok zero calls.Rollback groups end f a b = rw f refl
 depth_ok (suc left) calls.Rollback groups end f a b = rw f refl
 depth_ok d calls.StartRollback groups end f a b = absurd cc
+depth_ok d (calls.Release text) groups end f a b = absurd cc
 depth_ok d (calls.Describe extended) groups end f a b = refl
 depth_ok d (calls.Run bound) groups end f a b = refl
 depth_ok d (calls.Prepare preparation) groups end f a b = refl
@@ -204,6 +212,7 @@ depth_other d (calls.BeginWith query) end f a = rw f refl
 depth_other d calls.Commit end f a = rw f refl
 depth_other d calls.Rollback end f a = rw f refl
 depth_other d calls.StartRollback end f a = absurd cc
+depth_other d (calls.Release text) end f a = absurd cc
 depth_other d (calls.Describe extended) end f a = refl
 depth_other d (calls.Run bound) end f a = refl
 depth_other d (calls.Prepare preparation) end f a = refl
@@ -251,6 +260,7 @@ cleanup_polled d calls.Commit end (g ∷ gs) n a = refl
 cleanup_polled d calls.Rollback end [] n a = refl
 cleanup_polled d calls.Rollback end (g ∷ gs) n a = refl
 cleanup_polled d calls.StartRollback end own n a = absurd cc
+cleanup_polled d (calls.Release text) end own n a = absurd cc
 cleanup_polled d (calls.Describe extended) end [] n a = refl
 cleanup_polled d (calls.Describe extended) end (g ∷ gs) n a = refl
 cleanup_polled d (calls.Run bound) end [] n a = refl
@@ -379,7 +389,7 @@ settles_rolled start at call mid m step told own response rule now leaves st roo
         cache = refl;
         counted = omega arith;
       };
-      stands = stands_group start mid m 0 rule now st (omega arith) r room;
+      stands = stands_group start mid m (rollback_text 0) rule now st (rollback_said 0 (omega arith)) r room;
       groups = omega (arith, few);
       others = (refl, refl, refl, refl, makes.tells);
     }
@@ -576,7 +586,7 @@ settles_call start at mid left m step told one leaves a st small groups acts kee
 
 -- ---- a rollback without waiting
 
-stands_anew : (start : StreamSeen) (at : Place) (a : ConnSeen) → StandsAt start at a → StandsAt start (record at { seen = record at.seen { waits = 0; moves = 0 } }) (ended (counted_anew a))
+pub stands_anew : (start : StreamSeen) (at : Place) (a : ConnSeen) → StandsAt start at a → StandsAt start (record at { seen = record at.seen { waits = 0; moves = 0 } }) (ended (counted_anew a))
 stands_anew start at a st =
     let f = st.flows in
     let room = st.room in
@@ -600,8 +610,13 @@ stands_anew start at a st =
 rolls_knows : (start : StreamSeen) (at : Place) (a : ConnSeen) (step : Step) (depth : ℕ) → StandsAt start at a → step.call ≡ calls.StartRollback → depth ≡ at.rule.depth - 1 → with_depth depth a.rule ≡ rule_after at.rule step.call [] [] (ends.Ok AnswersUnit)
 rolls_knows start at a step depth st c after = ap₂ with_depth after st.rule ∙ ap (λ (call : Call). rule_after at.rule call [] [] (ends.Ok AnswersUnit)) (sym c)
 
-pub rolls_tells : (at : Place) (step : Step) → step.call ≡ calls.StartRollback → cache.Same ≡ step_after (keeping_of (request_of at.rule.depth step.call)) (has_moved [] (ends.Ok AnswersUnit))
-rolls_tells at step c = ap (λ (call : Call). step_after (keeping_of (request_of at.rule.depth call)) (has_moved [] (ends.Ok AnswersUnit))) (sym c)
+pub acts_tell : (depth : ℕ) (call : Call) → acts_at_once call ≡ true → cache.Same ≡ step_after (keeping_of (request_of depth call)) (has_moved [] (ends.Ok AnswersUnit))
+acts_tell depth calls.StartRollback a = refl
+acts_tell depth (calls.Release text) a = refl
+acts_tell depth _ a = absurd cc
+
+rolls_tells : (at : Place) (step : Step) → step.call ≡ calls.StartRollback → cache.Same ≡ step_after (keeping_of (request_of at.rule.depth step.call)) (has_moved [] (ends.Ok AnswersUnit))
+rolls_tells at step c = acts_tell at.rule.depth step.call (ap acts_at_once c)
 
 -- nothing is open, or no reply more can be counted
 rolls_none : (start : StreamSeen) (at : Place) (a : ConnSeen) (step : Step) (depth : ℕ) → StandsAt start at a → HasAllRoom (with_rule (with_depth depth a.rule) cache.Same (ended (counted_anew a))) → step.call ≡ calls.StartRollback → [] ≡ rollback_at at.rule.depth (owed at) → depth ≡ at.rule.depth - 1
@@ -659,19 +674,19 @@ rolls_one start at a step left st l r room c some after =
         cache = rolls_tells at step c;
         counted = omega arith;
       };
-      stands = stands_group start mid m left rule cache.Same (stands_anew start at a st) l r room;
+      stands = stands_group start mid m (rollback_text left) rule cache.Same (stands_anew start at a st) (rollback_said left l) r room;
       groups = omega arith;
       others = (refl, refl, refl, refl, refl);
     }
 
-and_false : (b : Bool) → b && false ≡ false
+pub and_false : (b : Bool) → b && false ≡ false
 and_false true = refl
 and_false false = refl
 
-one_group : (frame : List ℕ) (c : ConnSeen) → has_room_for frame c ≡ true → queued_group frame c ≡ with_group frame c
+pub one_group : (frame : List ℕ) (c : ConnSeen) → has_room_for frame c ≡ true → queued_group frame c ≡ with_group frame c
 one_group frame c r = rw r refl
 
-no_group : (frame : List ℕ) (c : ConnSeen) → has_room_for frame c ≡ false → queued_group frame c ≡ c
+pub no_group : (frame : List ℕ) (c : ConnSeen) → has_room_for frame c ≡ false → queued_group frame c ≡ c
 no_group frame c r = rw r refl
 
 -- one is open no more

@@ -27,7 +27,8 @@ use Rattle.pg_report.specs.declared.outcome.Item.TheVariants.{Row, Count, Piece}
 use Rattle.pg_report.specs.declared.outcome.Answer.{Answer}
 use Rattle.pg_script.specs.declared.step.Call.{Call}
 use Rattle.pg_script.specs.declared.step.Call.TheVariants as calls
-use Rattle.pg_play.specs.Shown.{request_of, item_in, items_in, is_row, is_count, is_result, is_piece, count_of, shown_as, shown_by, waits_how, waits_to_show, answered_how, answered_by, wants_how, wants_row, item_of, one_row, items_with, answer_of, begins, acts_at_once}
+use Rattle.pg_script.specs.declared.step.Parting.TheVariants as partings
+use Rattle.pg_play.specs.Shown.{request_of, item_in, items_in, is_row, is_count, is_result, is_piece, count_of, shown_as, shown_by, waits_how, waits_to_show, answered_how, answered_by, wants_how, wants_row, item_of, one_row, items_with, answer_of, begins, acts_at_once, is_release, IsUncopied, asked_of, parting_of}
 
 -- the items of a response, told
 pub items_told : (h : Heading) (ms : List BackendMessage) → items_in ms ≡ map item_of (items_of h ms)
@@ -138,6 +139,7 @@ shown_front (suc left) calls.Commit xs = rw (none_shown kinds.Commit xs (λ x. r
 shown_front zero calls.Rollback xs = rw (none_shown kinds.Flush xs (λ x. refl)) ([], refl)
 shown_front (suc left) calls.Rollback xs = rw (none_shown kinds.Rollback xs (λ x. refl)) ([], refl)
 shown_front d calls.StartRollback xs = rw (none_shown kinds.Flush xs (λ x. refl)) ([], refl)
+shown_front d (calls.Release text) xs = rw (none_shown kinds.Flush xs (λ x. refl)) ([], refl)
 
 sum-told : (xs : List CallItem) → sum_by count_in xs ≡ sum_by count_of (map item_of xs)
 sum-told [] = refl
@@ -202,6 +204,7 @@ all_told (suc left) calls.Commit reply status answer e = rw (← the_ok _ answer
 all_told zero calls.Rollback reply status answer e = rw (← the_ok _ answer e, none_shown kinds.Flush (own_items (request_of zero calls.Rollback) reply) (λ x. refl)) refl
 all_told (suc left) calls.Rollback reply status answer e = rw (← the_ok _ answer e, none_shown kinds.Rollback (own_items (request_of (suc left) calls.Rollback) reply) (λ x. refl)) refl
 all_told d calls.StartRollback reply status answer e = rw (← the_ok _ answer e, none_shown kinds.Flush (own_items (request_of d calls.StartRollback) reply) (λ x. refl)) refl
+all_told d (calls.Release text) reply status answer e = rw (← the_ok _ answer e, none_shown kinds.Flush (own_items (request_of d (calls.Release text)) reply) (λ x. refl)) refl
 
 abbrev answered_total : ℕ → Answer
 answered_total n = answer_of (call_answers.Total (record { rows = min n (2 ^ 64 - 1) }))
@@ -238,6 +241,7 @@ answer_told (suc left) calls.Commit reply status answer e = rw (← the_ok _ ans
 answer_told zero calls.Rollback reply status answer e = rw (← the_ok _ answer e) refl
 answer_told (suc left) calls.Rollback reply status answer e = rw (← the_ok _ answer e) refl
 answer_told d calls.StartRollback reply status answer e = rw (← the_ok _ answer e) refl
+answer_told d (calls.Release text) reply status answer e = rw (← the_ok _ answer e) refl
 
 how_has : (how : How) (xs : List CallItem) (status : TransactionStatus) (answer : CallAnswer) (items : List Item) → answer_to (kinds.Run how) xs status ≡ Ok answer → wants_how (Some how) ≡ true → items_with items answer ≢ []
 how_has hows.FetchOne xs status answer items e w = λ z.
@@ -304,6 +308,7 @@ not_found (suc left) calls.Commit reply status e = absurd cc
 not_found zero calls.Rollback reply status e = absurd cc
 not_found (suc left) calls.Rollback reply status e = absurd cc
 not_found d calls.StartRollback reply status e = absurd cc
+not_found d (calls.Release text) reply status e = absurd cc
 
 how_comes : (how : How) (xs : List CallItem) (status : TransactionStatus) (answer : CallAnswer) (items : List Item) → waits_how (Some how) ≡ false → answer_to (kinds.Run how) xs status ≡ Ok answer → items_with items answer ≡ items
 how_comes hows.FetchAll xs status answer items w e = absurd cc
@@ -339,6 +344,7 @@ no_items_come (suc left) calls.Commit reply status answer items w e = rw (← th
 no_items_come zero calls.Rollback reply status answer items w e = rw (← the_ok _ answer e) refl
 no_items_come (suc left) calls.Rollback reply status answer items w e = rw (← the_ok _ answer e) refl
 no_items_come d calls.StartRollback reply status answer items w e = rw (← the_ok _ answer e) refl
+no_items_come d (calls.Release text) reply status answer items w e = rw (← the_ok _ answer e) refl
 
 status_fails : (status other : TransactionStatus) → raw.begun status ≡ Err (errors.BeginFailed other) → (status ≡ other) × (other ≢ statuses.Transaction)
 status_fails statuses.Transaction other e = absurd cc
@@ -385,7 +391,14 @@ begun_failed (suc left) calls.Commit reply status other e = absurd cc
 begun_failed zero calls.Rollback reply status other e = absurd cc
 begun_failed (suc left) calls.Rollback reply status other e = absurd cc
 begun_failed d calls.StartRollback reply status other e = absurd cc
+begun_failed d (calls.Release text) reply status other e = absurd cc
 
-pub acts_later : (call : Call) → (call ≡ calls.StartRollback → ⊥) → acts_at_once call ≡ false
-acts_later calls.StartRollback n = absurd (n refl)
-acts_later _ n = refl
+pub acts_later : (call : Call) → (call ≡ calls.StartRollback → ⊥) → is_release call ≡ false → acts_at_once call ≡ false
+acts_later calls.StartRollback n r = absurd (n refl)
+acts_later (calls.Release text) n r = absurd cc
+acts_later _ n r = refl
+
+-- what copies nothing from the client gives none up
+pub plain_parts : (d : ℕ) (call : Call) → IsUncopied (asked_of d call) → parting_of call ≡ partings.None
+plain_parts d (calls.Feed fed) u = absurd u
+plain_parts d _ u = refl

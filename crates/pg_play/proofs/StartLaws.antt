@@ -98,7 +98,9 @@ starts_by seen opening first last n now a b (Ready (Ok ready)) i p =
       begun = on.3;
       counts = NoneFalls-then first last (seen ready.stream.link) i.counts on.2.counts;
       waited = waited_after n first last (seen ready.stream.link) i.waited on.2.counts on.4;
+      held = 0;
       fresh = refl;
+      room = omega arith;
     }
 starts_by seen opening first last n now a b (Ready (Err error)) i p =
     let on = p.on first last i.starting i.kept in
@@ -150,7 +152,7 @@ same_link {A} seen (phases.Greeting greeting) link last e h = h ∙ ap seen (som
 same_link seen phases.Gone link last e h = absurd h
 
 opened_within : (opening : Opening) (polls n : ℕ) (first : LinkSeen) (a : ConnSeen) → n < polls → HasOpened opening (n + 1) first a → HasOpened opening polls first a
-opened_within opening polls n first a l h = record { e = h.e; of = h.of; ready = h.ready; begun = h.begun; counts = h.counts; waited = waited_within n polls first a.stream.link l h.waited; fresh = h.fresh }
+opened_within opening polls n first a l h = record { e = h.e; of = h.of; ready = h.ready; begun = h.begun; counts = h.counts; waited = waited_within n polls first a.stream.link l h.waited; held = h.held; fresh = h.fresh; room = h.room }
 
 failed_within : (opening : Opening) (polls n : ℕ) (first last : LinkSeen) (e : EstablishSeen) (error : Error) → n < polls → HasFailed opening (n + 1) first last e error → HasFailed opening polls first last e error
 failed_within opening polls n first last e error l h = record { of = h.of; kept = h.kept; counts = h.counts; waited = waited_within n polls first last l h.waited; fails = h.fails; lawful = h.lawful }

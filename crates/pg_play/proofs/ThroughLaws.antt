@@ -56,7 +56,7 @@ use Rattle.pg_play.specs.declared.tally.Pause.{Pause}
 use Rattle.pg_play.specs.declared.tally.Pause.TheVariants as pauses
 use Rattle.pg_play.specs.declared.tally.Tally.{Tally}
 use Rattle.pg_play.specs.Shown.{item_of, IsBegun, IsUncopied, IsWanted}
-use Rattle.pg_play.specs.Calls.{Adds, change_fed, change_for, Finishes, again, InCopy, InPlay, IsCopying, Waited, IsPlayingOn, IsPlaying, Ended, EndsOn, broken_after, Counted, asking, HandedOn, handed_from, OfLastIn, OfLast, IsCallPlaying, StopsBy, Pauses, PollGives, PlaysOne, PlaysCall, outcome_of, all_groups, asked_from, first_conn}
+use Rattle.pg_play.specs.Calls.{Bounds, bounds, Adds, change_fed, change_for, Finishes, again, InCopy, InPlay, IsCopying, Waited, IsPlayingOn, IsPlaying, Ended, EndsOn, broken_after, Counted, asking, HandedOn, handed_from, OfLastIn, OfLast, IsCallPlaying, StopsBy, Pauses, PollGives, PlaysOne, PlaysCall, outcome_of, all_groups, asked_from, first_conn}
 use Rattle.pg_play.proofs.CallLaws.{AfterSome, PlayBeat, OverPoll, over_poll, after_beat, fresh_play, playing_one, plays_one, goes_waits, goes_yields, goes_ok, goes_unshown, goes_err, drops_waiting, drops_shown, goes_unkept, asked_changes, wanted_stays, not_fed, first_changes}
 
 -- what holds of the exchange that came last
@@ -166,7 +166,7 @@ pub handed_asking : (polls : ℕ) (first : StreamSeen) (a m : ConnSeen) (r next 
 handed_asking polls first a m r next h = ap (λ (x : Change). record (handed_from m next) { change = x }) (sym (handed_stays polls first a m r next h))
 
 -- The exchange that handed on is told of as any that ended. It ends no call.
-pub handed_ended : (limits : Limits) (first : StreamSeen) (a m : ConnSeen) (r next : Request) → 0 < limits.most → (h : HandedOn limits.polls first a m r next) → Ended limits first a m r [] (ends.Ok AnswersUnit) h.said h.fs
+pub handed_ended : (limits : Bounds) (first : StreamSeen) (a m : ConnSeen) (r next : Request) → 0 < limits.most → (h : HandedOn limits.polls first a m r next) → Ended limits first a m r [] (ends.Ok AnswersUnit) h.said h.fs
 handed_ended limits first a m r next l h = record {
   went = h.went;
   broken = h.whole.1 ∙ sym (ap (λ (o : Option ServerFault). broken_after o (ends.Ok AnswersUnit)) h.whole.0);
@@ -335,25 +335,25 @@ poll_goes limits a b c r waits shown l i p =
 
 pub poll_drops : (limits : Limits) (a b c : ConnSeen) (r : Request) (waits : ℕ) (shown : List Item) → waits + 1 ≡ limits.polls → IsCallPlaying limits a b r waits shown → PollsBy b.broken (begun_with 256 b) b c Pending → PollGives limits a c r (waits + 1) shown (Some (pauses.Ended ends.Dropped))
 poll_drops limits a b c r waits shown k i p =
-    on_last limits.polls a.stream (Turned limits.most a.stream c waits shown Pending) (λ at asked. StopsBy limits a.stream at c asked shown ends.Dropped) a r
+    on_last limits.polls a.stream (Turned limits.most a.stream c waits shown Pending) (λ at asked. StopsBy (bounds limits) a.stream at c asked shown ends.Dropped) a r
     (λ at asked h. drops_waiting limits at.broken a.stream at c asked waits shown k refl h.0) (call_turns limits a b c r waits shown Pending (omega (arith, k)) i p)
 
 -- an exchange whose end is the call's
-ends_ok : (limits : Limits) (first : StreamSeen) (a c : ConnSeen) (r : Request) (old new : Tally) (answer : CallAnswer) (end : End) → old.waits < limits.polls → Finishes answer old new end → Turned limits.most first c old.waits old.items.items (Ready (turns.Ok answer)) a r → StopsBy limits first a c r new.items.items end
-ends_ok limits first a c r old new answer (ends.Ok told) l f h = goes_ok limits a.broken first a c r old.waits old.items.items new.items.items answer told l refl f.1 f.2 (λ next e. h.1 next (ap (λ (x : CallAnswer). Ready (turns.Ok x)) e)) h.0
-ends_ok limits first a c r old new answer (ends.Err e) l f h = goes_unshown limits a.broken first a c r old.waits old.items.items new.items.items answer e l refl f.1 f.2 f.3 h.0
+ends_ok : (limits : Limits) (first : StreamSeen) (a c : ConnSeen) (r : Request) (old new : Tally) (answer : CallAnswer) (end : End) → old.waits < limits.polls → Finishes answer old new end → Turned limits.most first c old.waits old.items.items (Ready (turns.Ok answer)) a r → StopsBy (bounds limits) first a c r new.items.items end
+ends_ok limits first a c r old new answer (ends.Ok told) l f h = goes_ok (bounds limits) a.broken first a c r old.waits old.items.items new.items.items answer told l refl f.1 f.2 (λ next e. h.1 next (ap (λ (x : CallAnswer). Ready (turns.Ok x)) e)) h.0
+ends_ok limits first a c r old new answer (ends.Err e) l f h = goes_unshown (bounds limits) a.broken first a c r old.waits old.items.items new.items.items answer e l refl f.1 f.2 f.3 h.0
 ends_ok limits first a c r old new answer ends.Dropped l f h = absurd f
 
 pub poll_ok : (limits : Limits) (a b c : ConnSeen) (r : Request) (old new : Tally) (answer : CallAnswer) (end : End) → old.waits < limits.polls → Finishes answer old new end → IsCallPlaying limits a b r old.waits old.items.items → PollsBy b.broken (begun_with 256 b) b c (Ready (turns.Ok answer))
     → PollGives limits a c r new.waits new.items.items (Some (pauses.Ended end))
 poll_ok limits a b c r old new answer end l f i p =
-    on_last limits.polls a.stream (Turned limits.most a.stream c old.waits old.items.items (Ready (turns.Ok answer))) (λ at asked. StopsBy limits a.stream at c asked new.items.items end) a r
+    on_last limits.polls a.stream (Turned limits.most a.stream c old.waits old.items.items (Ready (turns.Ok answer))) (λ at asked. StopsBy (bounds limits) a.stream at c asked new.items.items end) a r
     (λ at asked h. ends_ok limits a.stream at c asked old new answer end l f h) (call_turns limits a b c r old.waits old.items.items (Ready (turns.Ok answer)) l i p)
 
 pub poll_err : (limits : Limits) (a b c : ConnSeen) (r : Request) (waits : ℕ) (shown : List Item) (e : Error) → waits < limits.polls → IsCallPlaying limits a b r waits shown → PollsBy b.broken (begun_with 256 b) b c (Ready (turns.Err e)) → PollGives limits a c r waits shown (Some (pauses.Ended (ends.Err e)))
 poll_err limits a b c r waits shown e l i p =
-    on_last limits.polls a.stream (Turned limits.most a.stream c waits shown (Ready (turns.Err e))) (λ at asked. StopsBy limits a.stream at c asked shown (ends.Err e)) a r
-    (λ at asked h. goes_err limits at.broken a.stream at c asked waits shown e l refl h.0) (call_turns limits a b c r waits shown (Ready (turns.Err e)) l i p)
+    on_last limits.polls a.stream (Turned limits.most a.stream c waits shown (Ready (turns.Err e))) (λ at asked. StopsBy (bounds limits) a.stream at c asked shown (ends.Err e)) a r
+    (λ at asked h. goes_err (bounds limits) at.broken a.stream at c asked waits shown e l refl h.0) (call_turns limits a b c r waits shown (Ready (turns.Err e)) l i p)
 
 playing_at : (o : Option ServerFault) (most : ℕ) (first : StreamSeen) (a c : ConnSeen) (r : Request) (w w' : ℕ) (is is' : List Item) → w' ≡ w → is' ≡ is → IsPlayingOn o most first a c r w is → IsPlayingOn o most first a c r w' is'
 playing_at o most first a c r w w' is is' x y h = subst (λ (n : ℕ). IsPlayingOn o most first a c r n is') (sym x) (subst (λ (t : List Item). IsPlayingOn o most first a c r w t) (sym y) h)
@@ -363,9 +363,9 @@ shows limits first a c r old new item g h =
     playing_at a.broken limits.most first a c r old.waits new.waits (old.items.items ++ item_of item ∷ []) new.items.items g.0 g.1 (goes_yields a.broken limits.most first a c r old.waits old.items.items item (rw g.1 at g.2) h.0)
 
 -- the item is the last one that may be shown, or there is no memory for it
-stops_at : (limits : Limits) (first : StreamSeen) (a c : ConnSeen) (r : Request) (old new : Tally) (item : CallItem) (end : End) → old.waits < limits.polls → Adds limits item old new (Some (pauses.Ended end)) → Turned limits.most first c old.waits old.items.items (Ready (turns.Item item)) a r → StopsBy limits first a c r new.items.items end
+stops_at : (limits : Limits) (first : StreamSeen) (a c : ConnSeen) (r : Request) (old new : Tally) (item : CallItem) (end : End) → old.waits < limits.polls → Adds limits item old new (Some (pauses.Ended end)) → Turned limits.most first c old.waits old.items.items (Ready (turns.Item item)) a r → StopsBy (bounds limits) first a c r new.items.items end
 stops_at limits first a c r old new item ends.Dropped l g h = drops_shown limits a.broken first a c r old.waits old.items.items new.items.items item l g.1 g.2 refl h.0
-stops_at limits first a c r old new item (ends.Err e) l g h = goes_unkept limits a.broken first a c r old.waits old.items.items new.items.items item e l g.1 g.2 refl h.0
+stops_at limits first a c r old new item (ends.Err e) l g h = goes_unkept (bounds limits) a.broken first a c r old.waits old.items.items new.items.items item e l g.1 g.2 refl h.0
 stops_at limits first a c r old new item (ends.Ok told) l g h = absurd g
 
 pub poll_item : (limits : Limits) (a b c : ConnSeen) (r : Request) (old new : Tally) (item : CallItem) (pause : Option Pause) → old.waits < limits.polls → Adds limits item old new pause → IsCallPlaying limits a b r old.waits old.items.items → PollsBy b.broken (begun_with 256 b) b c (Ready (turns.Item item))
@@ -375,7 +375,7 @@ poll_item limits a b c r old new item None l g i p =
     (λ at asked h. shows limits a.stream at c asked old new item g h) (call_turns limits a b c r old.waits old.items.items (Ready (turns.Item item)) l i p)
 poll_item limits a b c r old new item (Some pauses.Opened) l g i p = absurd g
 poll_item limits a b c r old new item (Some (pauses.Ended end)) l g i p =
-    on_last limits.polls a.stream (Turned limits.most a.stream c old.waits old.items.items (Ready (turns.Item item))) (λ at asked. StopsBy limits a.stream at c asked new.items.items end) a r
+    on_last limits.polls a.stream (Turned limits.most a.stream c old.waits old.items.items (Ready (turns.Item item))) (λ at asked. StopsBy (bounds limits) a.stream at c asked new.items.items end) a r
     (λ at asked h. stops_at limits a.stream at c asked old new item end l g h) (call_turns limits a b c r old.waits old.items.items (Ready (turns.Item item)) l i p)
 
 -- what is open wasn't fed to its end
@@ -495,6 +495,6 @@ call_starts limits c request m w b = ([], starts_on a.broken refl)
 
 -- ---- the end
 
-pub plays_call : (limits : Limits) (a c d : ConnSeen) (r : Request) (waits : ℕ) (shown : List Item) (end : End) (out : Outcome) → PollGives limits a c r waits shown (Some (pauses.Ended end)) → d ≡ left c → out ≡ outcome_of d shown end → PlaysCall limits a d r out
+pub plays_call : (limits : Limits) (a c d : ConnSeen) (r : Request) (waits : ℕ) (shown : List Item) (end : End) (out : Outcome) → PollGives limits a c r waits shown (Some (pauses.Ended end)) → d ≡ left c → out ≡ outcome_of d shown end → PlaysCall (bounds limits) a d r out
 plays_call limits a c d r waits shown end out g k e =
-    on_last limits.polls a.stream (λ at asked. StopsBy limits a.stream at c asked shown end) (λ at asked. PlaysOne limits a.stream at d asked out) a r (λ at asked h. plays_one limits a.stream at c d asked shown end out h k e) g
+    on_last limits.polls a.stream (λ at asked. StopsBy (bounds limits) a.stream at c asked shown end) (λ at asked. PlaysOne (bounds limits) a.stream at d asked out) a r (λ at asked h. plays_one (bounds limits) a.stream at c d asked shown end out h k e) g

@@ -33,9 +33,8 @@ use Rattle.pg_report.specs.declared.outcome.End.TheVariants as ends
 use Rattle.pg_report.specs.declared.outcome.Outcome.{Outcome}
 use Rattle.pg_script.specs.declared.step.Call.{Call}
 use Rattle.pg_script.specs.declared.step.Step.{Step}
-use Rattle.pg_play.specs.declared.tally.Limits.{Limits}
 use Rattle.pg_play.specs.Shown.{request_of, items_in, shown_by, answered_by, waits_to_show, item_of, items_with, answer_of}
-use Rattle.pg_play.specs.Calls.{Went, EndsOn, Counted, asking, all_groups}
+use Rattle.pg_play.specs.Calls.{Bounds, bounds, Went, EndsOn, Counted, asking, all_groups}
 use Rattle.pg_request.specs.declared.progress.CacheStep.TheVariants as cache
 use Rattle.pg_play.specs.Places.{Place, ended, main_frames, response_within, drained, unfed, is_fine, refuses_copy, Queues, queued_by, Queued}
 use Rattle.pg_play.specs.Told.{Carry, HasNoError, IsWell, WellAtOk, AnswersError, Told, Numbers}
@@ -85,14 +84,14 @@ prefix_queued : (p : ℕ) (r : Request) (own : List Group) (hs : List Frame) →
 prefix_queued p r own hs (inl e) = (groups_of r, ap (λ (g : List Group). g ++ groups_of r) e)
 prefix_queued p r own hs (inr q) = ([], append-nil own ∙ q.own_is)
 
-asks_by : (o : Option ServerFault) (limits : Limits) (first : StreamSeen) (a b : ConnSeen) (r : Request) (said : List FrontendMessage) (hs : List Frame) (shown : List Item) (end : End) (items : List CallItem) (copied : Bool) → EndsOn o limits first a b r said hs shown end
+asks_by : (o : Option ServerFault) (limits : Bounds) (first : StreamSeen) (a b : ConnSeen) (r : Request) (said : List FrontendMessage) (hs : List Frame) (shown : List Item) (end : End) (items : List CallItem) (copied : Bool) → EndsOn o limits first a b r said hs shown end
     → (s : Summary a.ledger r said hs items b.ledger copied) → Queues end (groups_of r) s.own
 asks_by None limits first a b r said hs shown (ends.Ok told) items copied h s = fine_own a.ledger r said hs h.0 items b.ledger copied s h.5.0
 asks_by None limits first a b r said hs shown (ends.Err e) items copied h s = prefix_queued a.ledger.owed r s.own hs s.queued
 asks_by None limits first a b r said hs shown ends.Dropped items copied h s = prefix_queued a.ledger.owed r s.own hs s.queued
 asks_by (Some fault) limits first a b r said hs shown end items copied h s = rw h.0 (prefix_queued a.ledger.owed r s.own hs s.queued)
 
-pub queued_step : (o : Option ServerFault) (limits : Limits) (start first : StreamSeen) (old : Counted) (at : Place) (a b : ConnSeen) (step : Step) (out : Outcome) (said : List FrontendMessage) (fs : List Frame) (shown : List Item) (items : List CallItem) → StandsAt start at a
+pub queued_step : (o : Option ServerFault) (limits : Bounds) (start first : StreamSeen) (old : Counted) (at : Place) (a b : ConnSeen) (step : Step) (out : Outcome) (said : List FrontendMessage) (fs : List Frame) (shown : List Item) (items : List CallItem) → StandsAt start at a
     → EndsOn o limits first (asking (request_of at.rule.depth step.call) old a) b (request_of at.rule.depth step.call) said (heard fs) shown out.end → (s : Summary a.ledger (request_of at.rule.depth step.call) said (heard fs) items b.ledger (refuses_copy out.end)) → Queued at step out s.own (heard fs) (next_place at b said s.own fs out.end)
 queued_step o limits start first old at a b step out said fs shown items st h s = record {
   asks = asks_by o limits first (asking (request_of at.rule.depth step.call) old a) b (request_of at.rule.depth step.call) said (heard fs) shown out.end items (refuses_copy out.end) h s;
@@ -181,7 +180,7 @@ answers_error a b r said hs items o (errors.Protocol (protocol.Caller fault)) h 
 answers_error a b r said hs items o (errors.Protocol _) h = absurd h
 answers_error a b r said hs items o _ h = absurd h
 
-error_by : (o : Option ServerFault) (limits : Limits) (first : StreamSeen) (a b : ConnSeen) (r : Request) (said : List FrontendMessage) (hs : List Frame) (shown : List Item) (end : End) → EndsOn o limits first a b r said hs shown end → AnswersError end hs
+error_by : (o : Option ServerFault) (limits : Bounds) (first : StreamSeen) (a b : ConnSeen) (r : Request) (said : List FrontendMessage) (hs : List Frame) (shown : List Item) (end : End) → EndsOn o limits first a b r said hs shown end → AnswersError end hs
 error_by None limits first a b r said hs shown (ends.Ok told) h = inl (no_error hs h.5.0.well)
 error_by None limits first a b r said hs shown (ends.Err e) (inl (items, k, l, inl h)) = answers_error a b r said hs items b.ledger e h
 error_by None limits first a b r said hs shown (ends.Err e) (inl (items, k, l, inr (left, well, fails))) = inl (no_error hs well)
@@ -221,7 +220,7 @@ well_by start at a b step out said fs items items' answer told response copied s
       sent = sent;
     }
 
-told_ok : (limits : Limits) (start first : StreamSeen) (old : Counted) (at : Place) (a b : ConnSeen) (step : Step) (out : Outcome) (said : List FrontendMessage) (fs : List Frame) (items' : List CallItem) (told : Answer) (copied : Bool) → StandsAt start at a → out.end ≡ ends.Ok told
+told_ok : (limits : Bounds) (start first : StreamSeen) (old : Counted) (at : Place) (a b : ConnSeen) (step : Step) (out : Outcome) (said : List FrontendMessage) (fs : List Frame) (items' : List CallItem) (told : Answer) (copied : Bool) → StandsAt start at a → out.end ≡ ends.Ok told
     → EndsOn None limits first (asking (request_of at.rule.depth step.call) old a) b (request_of at.rule.depth step.call) said (heard fs) out.items (ends.Ok told) → (s : Summary a.ledger (request_of at.rule.depth step.call) said (heard fs) items' b.ledger copied) → Told at step out s.own (heard fs) (next_place at b said s.own fs out.end)
 told_ok limits start first old at a b step out said fs items' told copied st e h s =
     let f = h.5.0 in
@@ -258,7 +257,7 @@ shows_by d call out_items items reply p (inl e) =
     first_none [] ys e = refl
     first_none (x ∷ xs) ys e = absurd cc
 
-told_other : (o : Option ServerFault) (limits : Limits) (start first : StreamSeen) (old : Counted) (at : Place) (a b : ConnSeen) (step : Step) (out : Outcome) (said : List FrontendMessage) (fs : List Frame) (items : List CallItem) → StandsAt start at a → is_fine out.end ≡ false
+told_other : (o : Option ServerFault) (limits : Bounds) (start first : StreamSeen) (old : Counted) (at : Place) (a b : ConnSeen) (step : Step) (out : Outcome) (said : List FrontendMessage) (fs : List Frame) (items : List CallItem) → StandsAt start at a → is_fine out.end ≡ false
     → EndsOn o limits first (asking (request_of at.rule.depth step.call) old a) b (request_of at.rule.depth step.call) said (heard fs) out.items out.end → (s : Summary a.ledger (request_of at.rule.depth step.call) said (heard fs) items b.ledger (refuses_copy out.end)) → ShowsItems out.end out.items items → Told at step out s.own (heard fs) (next_place at b said s.own fs out.end)
 told_other o limits start first old at a b step out said fs items st n h s k =
     let shows = shows_by at.rule.depth step.call out.items items s.reply s.shows (subst (λ (t : Bool). MatchBool t (Unit {0}) ((out.items ≡ map item_of items) ⊎ (out.items ≡ []))) n k) in
@@ -271,7 +270,7 @@ told_other o limits start first old at a b step out said fs items st n h s k =
       error = error_by o limits first (asking (request_of at.rule.depth step.call) old a) b (request_of at.rule.depth step.call) said (heard fs) out.items out.end h;
     }
 
-pub told_step : (o : Option ServerFault) (limits : Limits) (start first : StreamSeen) (old : Counted) (at : Place) (a b : ConnSeen) (step : Step) (out : Outcome) (said : List FrontendMessage) (fs : List Frame) (items : List CallItem) → StandsAt start at a
+pub told_step : (o : Option ServerFault) (limits : Bounds) (start first : StreamSeen) (old : Counted) (at : Place) (a b : ConnSeen) (step : Step) (out : Outcome) (said : List FrontendMessage) (fs : List Frame) (items : List CallItem) → StandsAt start at a
     → EndsOn o limits first (asking (request_of at.rule.depth step.call) old a) b (request_of at.rule.depth step.call) said (heard fs) out.items out.end → (s : Summary a.ledger (request_of at.rule.depth step.call) said (heard fs) items b.ledger (refuses_copy out.end)) → ShowsItems out.end out.items items → Told at step out s.own (heard fs) (next_place at b said s.own fs out.end)
 told_step o limits start first old at a b step out said fs items st h s k = by o out.end refl h refl
   where

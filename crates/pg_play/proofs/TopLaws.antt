@@ -42,7 +42,7 @@ plays_by opening polls first last (Err e) steps outs h k = k
 
 -- the link is the one that was made
 same_plan : (opening : Opening) (polls : ℕ) (first last : LinkSeen) (start : Result Started Error) (steps : List Step) (outs : List Outcome) → PlaysSteps opening polls steps start outs first last → last.plan ≡ first.plan
-same_plan opening polls first last (Ok started) steps outs h = h.3.counts.plan
+same_plan opening polls first last (Ok started) steps outs h = h.4.counts.plan
 same_plan opening polls first last (Err e) steps outs (inl (is, (s, h))) = h.counts.plan
 same_plan opening polls first last (Err e) steps outs (inr (inl (same, h))) = ap (λ (x : LinkSeen). x.plan) same
 same_plan opening polls first last (Err e) steps outs (inr (inr (s, h))) = h.counts.plan

@@ -11,6 +11,7 @@ use Rattle.pg_call.specs.declared.request.Request.{Request}
 use Rattle.pg_call.specs.declared.request.Request.TheVariants as requests
 use Rattle.pg_call.specs.Requests.{Group, groups_of}
 use Rattle.pg_conn.specs.Connections.{rollback}
+use Rattle.pg_conn.specs.Holding.{release}
 use Rattle.pg_conn.specs.Statements.{asked_by}
 use Rattle.pg_request.specs.Queries.{QueryText, ArgumentsSeen}
 use Rattle.pg_rule.specs.declared.rule.Rule.{Rule}
@@ -23,7 +24,7 @@ use Rattle.pg_script.specs.declared.step.Step.{Step}
 use Rattle.pg_play.specs.Shown.{exchange_for, first_as, first_call, handed_by, is_fed, next_call, request_of}
 use Rattle.pg_play.specs.Places.{Place, Queues, owed}
 use Rattle.pg_play.specs.Copying.{fails}
-use Rattle.pg_play.specs.Settling.{cleanup_of, rollback_at}
+use Rattle.pg_play.specs.Settling.{cleanup_of, release_at, rollback_at}
 use Rattle.pg_play.specs.Plays.{CopyNone, FirstIs, HandsOn, Plays_exchange, Plays_exchanges, Plays_from, Plays_step}
 use Rattle.pg_play.proofs.PlaceLaws.{all_split, plain_asked}
 
@@ -80,28 +81,32 @@ rolled_plain (suc left) owed = by (ltb owed (2 ^ 64 - 1))
     by true = (inl (rollback_text left, refl), tt)
     by false = tt
 
+released_plain : (text : List ℕ) (n : ℕ) → AllByRecursion IsGroup (release_at text n)
+released_plain text n = by (ltb n (2 ^ 64 - 1))
+  where
+    by : (b : Bool) → AllByRecursion IsGroup (cond b (release text ∷ []) [])
+    by true = (inl (text, refl), tt)
+    by false = tt
+
 begun_plain : (b : Bool) → AllByRecursion IsGroup (cond b (rollback 0 ∷ []) [])
 begun_plain true = (inl (rollback_text 0, refl), tt)
 begun_plain false = tt
 
+cleaned_none : (d : ℕ) (call : Call) (end : End) (n : ℕ) → AllByRecursion IsGroup (cleanup_of d call end [] n)
+cleaned_none d calls.StartRollback end n = rolled_plain d n
+cleaned_none d (calls.Release text) end n = released_plain text n
+cleaned_none d _ end n = tt
+
+cleaned_some : (d : ℕ) (call : Call) (end : End) (group : Group) (own : List Group) (n : ℕ) → AllByRecursion IsGroup (cleanup_of d call end (group ∷ own) n)
+cleaned_some d calls.StartRollback end group own n = rolled_plain d n
+cleaned_some d (calls.Release text) end group own n = released_plain text n
+cleaned_some d calls.Begin end group own n = begun_plain _
+cleaned_some d (calls.BeginWith query) end group own n = begun_plain _
+cleaned_some d _ end group own n = tt
+
 cleaned_plain : (d : ℕ) (call : Call) (end : End) (own : List Group) (n : ℕ) → AllByRecursion IsGroup (cleanup_of d call end own n)
-cleaned_plain d calls.StartRollback end own n = rolled_plain d n
-cleaned_plain d call end own n = by call own
-  where
-    by : (call : Call) (own : List Group) → AllByRecursion IsGroup (cleanup_of d call end own n)
-    by calls.StartRollback own = rolled_plain d n
-    by call [] = none call
-      where
-        none : (call : Call) → AllByRecursion IsGroup (cleanup_of d call end [] n)
-        none calls.StartRollback = rolled_plain d n
-        none _ = tt
-    by call (g ∷ gs) = some call
-      where
-        some : (call : Call) → AllByRecursion IsGroup (cleanup_of d call end (g ∷ gs) n)
-        some calls.StartRollback = rolled_plain d n
-        some calls.Begin = begun_plain _
-        some (calls.BeginWith query) = begun_plain _
-        some _ = tt
+cleaned_plain d call end [] n = cleaned_none d call end n
+cleaned_plain d call end (group ∷ own) n = cleaned_some d call end group own n
 
 -- what holds of a place where nothing was copied from the client
 abbrev pub IsPlain : Place → Type 0

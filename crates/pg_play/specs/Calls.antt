@@ -1,5 +1,5 @@
 -- Internal: what a play of one call says, in the words of the connection.
-use Rattle.std.specs.Prelude.{◌≡◌, ◌≢◌, ℕ, min, ◌+◌, ◌-◌, ◌*◌, ◌^◌, ◌<◌, ◌≤◌, ◌⊎◌, true, false, count_by, List, [], ◌∷◌, ◌++◌, length, map, Option, Some, None, Ok, if◌then◌else◌}
+use Rattle.std.specs.Prelude.{◌≡◌, ◌≢◌, ℕ, ℤ, min, ◌+◌, ◌-◌, ◌*◌, ◌^◌, ◌<◌, ◌≤◌, ◌⊎◌, true, false, count_by, List, [], ◌∷◌, ◌++◌, length, map, Option, Some, None, Ok, if◌then◌else◌}
 use Rattle.pg_script.specs.declared.step.Call.TheVariants as script_calls
 use Rattle.pg_wire.specs.declared.error.Error.{Error}
 use Rattle.pg_wire.specs.declared.error.Error.TheVariants as errors
@@ -7,7 +7,8 @@ use Rattle.pg_wire.specs.declared.error.ProtocolFault.TheVariants as protocol
 use Rattle.pg_wire.specs.declared.error.ServerFault.{ServerFault}
 use Rattle.pg_wire.specs.Frame.{Frame}
 use Rattle.pg_wire.specs.Parts.{heard}
-use Rattle.pg_wire.specs.Frontend.{FrontendMessage}
+use Rattle.pg_wire.specs.Backend.{BackendMessage, CopyInResponse}
+use Rattle.pg_wire.specs.Frontend.{FrontendMessage, CopyFail, HasFrontendFrame}
 use Rattle.pg_request.specs.declared.progress.CacheStep.{CacheStep}
 use Rattle.pg_request.specs.declared.progress.CacheStep.TheVariants as cache
 use Rattle.pg_stream.specs.Links.{RoseBy, Rose, GrewBy}
@@ -19,13 +20,14 @@ use Rattle.pg_call.specs.declared.answer.CallAnswer.{CallAnswer}
 use Rattle.pg_call.specs.declared.answer.CallAnswer.TheVariants as answers
 use Rattle.pg_call.specs.declared.kind.Kind.TheVariants as kinds
 use Rattle.pg_call.specs.declared.calling.Call.TheVariants as calls
-use Rattle.pg_call.specs.Requests.{spelled, CanBeSaid, IsRefusal, change_of, keeping_of, kind_of}
+use Rattle.pg_call.specs.Requests.{Group, spelled, CanBeSaid, IsRefusal, change_of, keeping_of, kind_of}
 use Rattle.pg_call.specs.Drains.{is_error}
 use Rattle.pg_call.specs.Hearing.{IsOpen}
 use Rattle.pg_call.specs.Calls.{CallIs, CallEnds, EndsFine, IsFine, Leaves}
-use Rattle.pg_conn.specs.Connections.{ConnSeen, idle, ends_copy, unfed, ended as ended_conn, ConnOf, settled, cleaned, handed, resolved, runs, rolled_back, standing, started_call}
+use Rattle.pg_conn.specs.Connections.{ConnSeen, idle, begins_copy, ends_copy, unfed, ended as ended_conn, ConnOf, settled, cleaned, handed, resolved, runs, rolled_back, standing, started_call, with_messages}
 use Rattle.pg_call.specs.declared.kind.Change.{Change}
 use Rattle.pg_call.specs.declared.kind.Change.TheVariants as changes
+use Rattle.pg_conn.specs.Holding.{IsRelease, took_held}
 use Rattle.pg_conn.specs.Statements.{asked_by}
 use Rattle.pg_conn.specs.Turns.{ends_request, first_exchange, EndsBy, is_flushed, HasAllRoom}
 use Rattle.pg_report.specs.declared.outcome.Item.{Item}
@@ -34,13 +36,27 @@ use Rattle.pg_report.specs.declared.outcome.End.{End}
 use Rattle.pg_report.specs.declared.outcome.End.TheVariants as ends
 use Rattle.pg_report.specs.declared.outcome.Outcome.{Outcome}
 use Rattle.pg_script.specs.declared.step.Step.{Step}
+use Rattle.pg_script.specs.declared.step.Parting.{Parting}
+use Rattle.pg_script.specs.declared.step.Parting.TheVariants as partings
 use Rattle.pg_startup.specs.Flows.{Flows}
 use Rattle.pg_play.specs.declared.tally.Limits.{Limits}
 use Rattle.pg_play.specs.declared.tally.Tally.{Tally}
 use Rattle.pg_play.specs.declared.tally.Pause.{Pause}
 use Rattle.pg_play.specs.declared.tally.Pause.TheVariants as pauses
-use Rattle.pg_play.specs.Shown.{asked_of, has_query, item_of, items_with, has_rows, answer_of, begins_with, acts_at_once}
+use Rattle.pg_play.specs.Shown.{asked_of, has_query, item_of, items_with, has_rows, answer_of, begins_with, acts_at_once, parting_of}
 use Rattle.pg_play.specs.Waits.{WaitsAt}
+
+-- ---- when a call stops
+
+-- after so many polls that waited, or with so many items; and how a copy from the client that is open is given up
+pub record Bounds : Type 0 where
+  pub polls : ℕ
+  pub most : ℕ
+  pub parting : Parting
+
+-- it isn't
+abbrev pub bounds : Limits → Bounds
+bounds limits = record { polls = limits.polls; most = limits.most; parting = partings.None }
 
 -- ---- the tally of a call
 
@@ -172,9 +188,19 @@ EndsStarved first a b =
     ⊎ (RoseBy 256 first.moves b.stream.moves
     ⊎ ((b.stream.unsent ≡ []) × HasNone b.stream.held × (0 < b.ledger.owed)))
 
--- why a call was dropped
-abbrev pub IsDropped : Limits → StreamSeen → ConnSeen → ConnSeen → List Item → Type 0
-IsDropped limits first a b shown = (Waited limits.polls first b.stream × EndsStarved first a b) ⊎ (length shown ≡ limits.most)
+-- the response to its group begins a copy from the client, and no more of it was heard
+abbrev pub IsOpened : List Group → List BackendMessage → Type 0
+IsOpened own reply = (length own ≡ 1) × (format : ℤ) × (columns : List ℤ) × (reply ≡ CopyInResponse format columns ∷ [])
+
+-- why a call was dropped: so many polls waited, or so many items were shown; or a copy that was open was given up, and all was sent where it was left as it stood
+abbrev pub IsDroppedAs : Parting → Bounds → StreamSeen → ConnSeen → ConnSeen → List Group → List BackendMessage → List Item → Type 0
+IsDroppedAs partings.None limits first a b own reply shown = (Waited limits.polls first b.stream × EndsStarved first a b) ⊎ (length shown ≡ limits.most)
+IsDroppedAs partings.Left limits first a b own reply shown = IsOpened own reply × (b.stream.unsent ≡ [])
+IsDroppedAs partings.Unsaid limits first a b own reply shown = IsOpened own reply
+IsDroppedAs (partings.Failed message) limits first a b own reply shown = IsOpened own reply × HasFrontendFrame (CopyFail message)
+
+abbrev pub IsDropped : Bounds → StreamSeen → ConnSeen → ConnSeen → List Group → List BackendMessage → List Item → Type 0
+IsDropped limits first a b own reply shown = IsDroppedAs limits.parting limits first a b own reply shown
 
 -- the fault that broke the connection is kept
 abbrev pub broken_after : Option ServerFault → End → Option ServerFault
@@ -188,12 +214,12 @@ EndsByError most a b r said hs shown e =
     ⊎ ((items : List CallItem) × (shown ≡ []) × (e ≡ errors.OutOfMemory) × IsFine a.ledger r said hs items b.ledger)
 
 -- what the end of an exchange says of all that it queued, heard and showed
-abbrev pub EndsOn : Option ServerFault → Limits → StreamSeen → ConnSeen → ConnSeen → Request → List FrontendMessage → List Frame → List Item → End → Type 0
+abbrev pub EndsOn : Option ServerFault → Bounds → StreamSeen → ConnSeen → ConnSeen → Request → List FrontendMessage → List Frame → List Item → End → Type 0
 EndsOn None limits first a b r said hs shown (ends.Ok told) =
     (items : List CallItem) × (answer : CallAnswer) × (shown ≡ items_with (map item_of items) answer) × (length items < limits.most) × (told ≡ answer_of answer) × CallEnds a.ledger r said hs items b.ledger (Ok answer) × (b.stream.unsent ≡ [])
 EndsOn None limits first a b r said hs shown (ends.Err e) = EndsByError limits.most a b r said hs shown e
 EndsOn None limits first a b r said hs shown ends.Dropped =
-    (items : List CallItem) × (shown ≡ map item_of items) × Leaves a.ledger r said hs items b.ledger false × (count_by is_error hs ≡ 0) × IsDropped limits first a b shown × (length shown ≤ limits.most)
+    (items : List CallItem) × (shown ≡ map item_of items) × (l : Leaves a.ledger r said hs items b.ledger false) × (count_by is_error hs ≡ 0) × IsDropped limits first a b l.own l.reply shown × (length shown ≤ limits.most)
 EndsOn (Some fault) limits first a b r said hs shown end =
     (end ≡ ends.Err (errors.Protocol (protocol.Server fault))) × (said ≡ []) × (hs ≡ []) × (shown ≡ []) × (idle b ≡ idle a)
 
@@ -215,7 +241,7 @@ pub record EndsAtOnce (a b : ConnSeen) (r : Request) (shown : List Item) (end : 
   pub flushed : is_flushed a ≡ true → (end ≡ ends.Ok AnswersUnit) × StaysIdle a b fs shown
 
 -- it was played to this end
-pub record Ended (limits : Limits) (first : StreamSeen) (a b : ConnSeen) (r : Request) (shown : List Item) (end : End) (said : List FrontendMessage) (fs : List Frame) : Type 0 where
+pub record Ended (limits : Bounds) (first : StreamSeen) (a b : ConnSeen) (r : Request) (shown : List Item) (end : End) (said : List FrontendMessage) (fs : List Frame) : Type 0 where
   pub went : Went a b said fs
   pub broken : b.broken ≡ broken_after a.broken end
   pub kept : (fault : ServerFault) → a.broken ≡ Some fault → fs ≡ []
@@ -235,14 +261,23 @@ EndsCall r (ends.Ok told) = IsLast r
 EndsCall r _ = Unit {0}
 
 -- it was played to this end, which is the call's
-abbrev pub HasEnded : Limits → StreamSeen → ConnSeen → ConnSeen → Request → List Item → End → Type 0
+abbrev pub HasEnded : Bounds → StreamSeen → ConnSeen → ConnSeen → Request → List Item → End → Type 0
 HasEnded limits first a b r shown end = (said : List FrontendMessage) × (fs : List Frame) × Ended limits first a b r shown end said fs × EndsCall r end
 
+-- a copy that is open is failed by this message
+abbrev pub failed_by : {A : Type 0} → List ℕ → ConnOf A → ConnOf A
+failed_by message c = record (with_messages (CopyFail message ∷ []) c) { ledger = record c.ledger { is_copy_failed = true }; change = changes.Stays }
+
+-- or as any other, where it has no message of its own
+abbrev pub parted : {A : Type 0} → Parting → ConnOf A → ConnOf A
+parted (partings.Failed message) c = if begins_copy c.change then failed_by message c else unfed false c
+parted parting c = unfed false c
+
 -- what the end of a call makes of a copy from the client that it was: one that is open is failed, and of one that was fed to its end the reply stays owed
-abbrev pub copy_behind : {A : Type 0} → End → ConnOf A → ConnOf A
-copy_behind (ends.Ok answer) c = c
-copy_behind (ends.Err e) c = unfed (ends_copy e) c
-copy_behind ends.Dropped c = unfed false c
+abbrev pub copy_behind : {A : Type 0} → Parting → End → ConnOf A → ConnOf A
+copy_behind parting (ends.Ok answer) c = c
+copy_behind parting (ends.Err e) c = unfed (ends_copy e) c
+copy_behind parting ends.Dropped c = parted parting c
 
 -- what is made of a connection on which a call has come to this end
 abbrev pub behind_end : {A : Type 0} → End → ConnOf A → ConnOf A
@@ -250,9 +285,9 @@ behind_end (ends.Ok answer) c = settled c
 behind_end _ c = cleaned c
 
 -- It stopped at this connection, of which this was made: its call has ended, or it runs still and is to be given up.
-abbrev pub StopsBy : Limits → StreamSeen → ConnSeen → ConnSeen → Request → List Item → End → Type 0
+abbrev pub StopsBy : Bounds → StreamSeen → ConnSeen → ConnSeen → Request → List Item → End → Type 0
 StopsBy limits first a b r shown end = (stopped : ConnSeen) × HasEnded limits first a stopped r shown end
-    × (((stopped.call ≡ calls.Idle) × (b ≡ behind_end end (copy_behind end stopped))) ⊎ ((runs stopped.call ≡ true) × (b ≡ stopped) × (behind_end end (copy_behind end stopped) ≡ cleaned (unfed false stopped))))
+    × (((stopped.call ≡ calls.Idle) × (b ≡ behind_end end (copy_behind limits.parting end stopped))) ⊎ ((runs stopped.call ≡ true) × (b ≡ stopped) × ((c : ConnSeen) → copy_behind limits.parting end c ≡ copy_behind partings.None end c) × (behind_end end (copy_behind partings.None end stopped) ≡ cleaned (unfed false stopped))))
 
 -- ---- a call that is played: exchanges one after another, each handed on by the one before it
 
@@ -298,7 +333,7 @@ IsCallPlaying limits a b r waits shown = OfLast limits.polls a.stream (λ at ask
 
 -- what stops the polls: the call's end, or a copy from the client that is open
 abbrev pub Pauses : Limits → ConnSeen → ConnSeen → Request → ℕ → List Item → Pause → Type 0
-Pauses limits a b r waits shown (pauses.Ended end) = OfLast limits.polls a.stream (λ at asked. StopsBy limits a.stream at b asked shown end) a r
+Pauses limits a b r waits shown (pauses.Ended end) = OfLast limits.polls a.stream (λ at asked. StopsBy (bounds limits) a.stream at b asked shown end) a r
 Pauses limits a b r waits shown pauses.Opened = OfLast limits.polls a.stream (λ at asked. IsCopying limits.most a.stream at b asked waits shown) a r
 
 -- whatever came before, a poll goes on by so much
@@ -312,8 +347,8 @@ PollGives limits a b r waits shown (Some pause) = Pauses limits a b r waits show
 abbrev pub IsUnpolled : Step → Type 0
 IsUnpolled step = (step.polls ≡ 0) ⊎ (step.most ≡ 0)
 
-abbrev pub limits_of : Step → Limits
-limits_of step = record { polls = step.polls; most = step.most }
+abbrev pub limits_of : Step → Bounds
+limits_of step = record { polls = step.polls; most = step.most; parting = parting_of step.call }
 
 -- nothing was done
 abbrev pub untouched : End → Outcome
@@ -340,14 +375,14 @@ abbrev pub first_conn : Request → ConnSeen → ConnSeen
 first_conn request a = as_fed request (resolved (started_call request a))
 
 -- an exchange that ended the call, on the connection as it began
-abbrev pub PlaysOne : Limits → StreamSeen → ConnSeen → ConnSeen → Request → Outcome → Type 0
-PlaysOne limits first a b r out = (stopped : ConnSeen) × HasEnded limits first a stopped r out.items out.end × (stopped.call ≡ calls.Idle) × (b ≡ behind_end out.end (copy_behind out.end stopped)) × (out ≡ outcome_of b out.items out.end)
+abbrev pub PlaysOne : Bounds → StreamSeen → ConnSeen → ConnSeen → Request → Outcome → Type 0
+PlaysOne limits first a b r out = (stopped : ConnSeen) × HasEnded limits first a stopped r out.items out.end × (stopped.call ≡ calls.Idle) × (b ≡ behind_end out.end (copy_behind limits.parting out.end stopped)) × (out ≡ outcome_of b out.items out.end)
 
 -- a call that was polled, on the connection as it began: what ended it is the exchange that came last
-abbrev pub PlaysCall : Limits → ConnSeen → ConnSeen → Request → Outcome → Type 0
+abbrev pub PlaysCall : Bounds → ConnSeen → ConnSeen → Request → Outcome → Type 0
 PlaysCall limits a b r out = OfLast limits.polls a.stream (λ at asked. PlaysOne limits a.stream at b asked out) a r
 
--- the outcome of a rollback without waiting
+-- the outcome of what acts at once
 abbrev pub rolled_outcome : ConnSeen → Outcome
 rolled_outcome b = record { items = []; end = ends.Ok AnswersUnit; groups = all_groups b; heard = b.heard; cache = b.cache; waits = b.stream.waits; moved = b.stream.moves }
 
@@ -361,8 +396,19 @@ PlaysPolled a b step out =
     × (((b ≡ a) × (out ≡ untouched (ends.Err errors.OutOfMemory)) × (has_query step.call ≡ true))
     ⊎ PlaysCall (limits_of step) (first_conn (asked_of a.rule.depth step.call) a) b (first_exchange (asked_of a.rule.depth step.call) a) out))))
 
--- a step: a rollback without waiting, or one whose call is polled
+-- a lock is released without waiting, out of the room that is kept for that
+pub record Releases (a b : ConnSeen) (step : Step) (out : Outcome) : Type 0 where
+  pub text : List ℕ
+  pub asks : step.call ≡ script_calls.Release text
+  pub lawful : IsRelease text
+  pub held : 0 < a.held
+  pub behind : b ≡ took_held (Some text) a
+  pub tells : out ≡ rolled_outcome b
+
+-- what acts at once: a rollback without waiting, or such a release
+abbrev pub PlaysAct : ConnSeen → ConnSeen → Step → Outcome → Type 0
+PlaysAct a b step out = ((step.call ≡ script_calls.StartRollback) × (b ≡ rolled_back a) × (out ≡ rolled_outcome b)) ⊎ Releases a b step out
+
+-- a step: one that acts at once, or one whose call is polled
 abbrev pub PlaysStep : ConnSeen → ConnSeen → Step → Outcome → Type 0
-PlaysStep a b step out =
-    ((step.call ≡ script_calls.StartRollback) × (b ≡ rolled_back a) × (out ≡ rolled_outcome b))
-    ⊎ ((acts_at_once step.call ≡ false) × PlaysPolled a b step out)
+PlaysStep a b step out = PlaysAct a b step out ⊎ ((acts_at_once step.call ≡ false) × PlaysPolled a b step out)

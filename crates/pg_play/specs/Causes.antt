@@ -1,5 +1,5 @@
 -- Each end other than Ok has its cause, and some ends are due.
-use Rattle.std.specs.Prelude.{◌≡◌, ◌≢◌, ℕ, ◌+◌, ◌*◌, ◌≤◌, ◌<◌, ◌⊎◌, true, false, List, [], ◌∷◌, ◌++◌, length, Some, None}
+use Rattle.std.specs.Prelude.{◌≡◌, ◌≢◌, ℕ, ℤ, ◌+◌, ◌*◌, ◌≤◌, ◌<◌, ◌⊎◌, true, false, List, [], ◌∷◌, ◌++◌, length, Some, None}
 use Rattle.pg_wire.specs.declared.status.TransactionStatus.TheVariants as statuses
 use Rattle.pg_wire.specs.declared.status.TransactionStatus.{TransactionStatus}
 use Rattle.std.specs.List.{AllByRecursion}
@@ -11,7 +11,8 @@ use Rattle.pg_wire.specs.declared.error.ServerFault.{ServerFault}
 use Rattle.pg_wire.specs.declared.error.ServerFault.TheVariants as faults
 use Rattle.pg_wire.specs.Frame.{Frame, bytes_of, backend_tags, IsWhole}
 use Rattle.pg_wire.specs.Parts.{is_asynchronous}
-use Rattle.pg_wire.specs.Backend.{BackendMessage, backend_frame, HasBackendFrame, ErrorResponse, ReadyForQuery}
+use Rattle.pg_wire.specs.Backend.{BackendMessage, backend_frame, HasBackendFrame, CopyInResponse, ErrorResponse, ReadyForQuery}
+use Rattle.pg_wire.specs.Frontend.{CopyFail, HasFrontendFrame}
 use Rattle.pg_wire.specs.Refusals.{BeginsCopyResponse}
 use Rattle.pg_exchanges.specs.Expecting.{Widths, BeginsKnowing}
 use Rattle.pg_stream.specs.Links.{Rose}
@@ -27,7 +28,9 @@ use Rattle.pg_report.specs.declared.outcome.End.TheVariants as ends
 use Rattle.pg_report.specs.declared.outcome.Outcome.{Outcome}
 use Rattle.pg_script.specs.declared.step.Call.TheVariants as calls
 use Rattle.pg_script.specs.declared.step.Step.{Step}
-use Rattle.pg_play.specs.Shown.{request_of, items_in, is_row, wants_row, waits_to_show, begins, begins_with}
+use Rattle.pg_script.specs.declared.step.Parting.{Parting}
+use Rattle.pg_script.specs.declared.step.Parting.TheVariants as partings
+use Rattle.pg_play.specs.Shown.{request_of, items_in, is_row, wants_row, waits_to_show, begins, begins_with, parting_of}
 use Rattle.pg_play.specs.Calls.{IsUnpolled, WaitsFew, untouched}
 use Rattle.pg_play.specs.Places.{Place, ended, owed, main_frames}
 use Rattle.pg_play.specs.Told.{HasNoError, Carry}
@@ -129,15 +132,30 @@ IsStarved at out next =
 abbrev pub AnsweredPending : Outcome → ℕ → Type 0
 AnsweredPending out polls = (spent : ℕ) × (out.waits + spent ≡ polls) × (256 * spent ≤ out.moved)
 
--- a step is dropped unpolled, after so many polls that answered `Pending`, or with so many items
-abbrev pub IsDropped : Place → Step → Outcome → Place → Type 0
-IsDropped at step out next = IsUnpolled step ⊎ ((AnsweredPending out step.polls × IsStarved at out next) ⊎ (length out.items ≡ step.most))
+-- a step is dropped unpolled, after so many polls that answered `Pending`, or with so many items; why a copy from the client that is open is given up, its exchange says
+abbrev pub IsDroppedAs : Parting → Place → Step → Outcome → Place → Type 0
+IsDroppedAs partings.None at step out next = IsUnpolled step ⊎ ((AnsweredPending out step.polls × IsStarved at out next) ⊎ (length out.items ≡ step.most))
+IsDroppedAs parting at step out next = Unit {0}
 
--- an exchange's end has its cause; why a step is dropped, all of its polls say
+abbrev pub IsDropped : Place → Step → Outcome → Place → Type 0
+IsDropped at step out next = IsDroppedAs (parting_of step.call) at step out next
+
+-- the response to the own group begins a copy from the client, and no more of it was heard
+abbrev pub HasOpened : Place → List Group → List Frame → Type 0
+HasOpened at own slice = (own ≢ []) × ((format : ℤ) × (columns : List ℤ) × (main_frames at own slice ≡ backend_frame (CopyInResponse format columns) ∷ []))
+
+-- a copy from the client is given up while it is open: where it is left as it stands all is sent, and what fails it has a frame
+abbrev pub IsParted : Parting → Place → List Group → List Frame → Place → Type 0
+IsParted partings.None at own slice next = Unit {0}
+IsParted partings.Left at own slice next = HasOpened at own slice × (next.seen.unsent ≡ [])
+IsParted partings.Unsaid at own slice next = HasOpened at own slice
+IsParted (partings.Failed message) at own slice next = HasOpened at own slice × HasFrontendFrame (CopyFail message)
+
+-- an exchange's end has its cause; why a step is dropped otherwise, all of its polls say
 abbrev pub HasCause : Place → Step → List Group → List Frame → Place → End → Type 0
 HasCause at step own slice next (ends.Ok answer) = Unit {0}
 HasCause at step own slice next (ends.Err e) = Causes at step own slice next e
-HasCause at step own slice next ends.Dropped = Unit {0}
+HasCause at step own slice next ends.Dropped = IsUnpolled step ⊎ IsParted (parting_of step.call) at own slice next
 
 -- ---- ends that are due
 

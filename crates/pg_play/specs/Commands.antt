@@ -24,6 +24,7 @@ argued_command word =
     if bytes_eq word (codes "options") then argued.Options
     else if bytes_eq word (codes "live") then argued.Live
     else if bytes_eq word (codes "sample") then argued.Sample
+    else if bytes_eq word (codes "key") then argued.Key
     else argued.Unknown
 
 -- the lines of options with their URL, or why they have none

@@ -21,7 +21,9 @@ use Rattle.pg_report.specs.declared.outcome.End.TheVariants as ends
 use Rattle.pg_report.specs.declared.outcome.Outcome.{Outcome}
 use Rattle.pg_script.specs.declared.step.Call.{Call}
 use Rattle.pg_script.specs.declared.step.Step.{Step}
-use Rattle.pg_play.specs.Shown.{request_of, IsPartOf, wants_row, begins, begins_with, copies}
+use Rattle.pg_script.specs.declared.step.Parting.{Parting}
+use Rattle.pg_script.specs.declared.step.Parting.TheVariants as partings
+use Rattle.pg_play.specs.Shown.{parting_of, request_of, IsPartOf, wants_row, begins, begins_with, copies}
 use Rattle.pg_play.specs.Places.{Place}
 
 -- From this link up to this place no read or write failed, and no read told the end. In all that was read the server kept the protocol: no
@@ -55,9 +57,14 @@ IsFairError call _ = ⊥
 abbrev pub WasCutShort : Step → Outcome → Type 0
 WasCutShort step out = (256 * step.polls ≤ 256 * out.waits + out.moved) ⊎ (step.most ≤ length out.items)
 
+-- or a copy from the client was given up while it was open
+abbrev pub IsGivenUp : Parting → Type 0
+IsGivenUp partings.None = ⊥
+IsGivenUp parting = Unit {0}
+
 abbrev pub IsFairEnd : Step → Outcome → End → Type 0
 IsFairEnd step out (ends.Ok answer) = Unit {0}
-IsFairEnd step out ends.Dropped = WasCutShort step out
+IsFairEnd step out ends.Dropped = WasCutShort step out ⊎ IsGivenUp (parting_of step.call)
 IsFairEnd step out (ends.Err e) = IsFairError step.call e
 
 -- each step ends so

@@ -29,3 +29,5 @@ pub record KeepsOrder (idle : ℕ → Type 0) (at : Place) (step : Step) (own cl
   pub commits : step.call ≡ calls.Commit → own ≡ (Query (codes "COMMIT") ∷ []) ∷ [] → HasNoError slice → ended ended_at ≡ length ended_at.groups → idle (length at.groups + 1)
   pub rolls : step.call ≡ calls.Rollback → own ≡ rollback 0 ∷ [] → idle (length at.groups + 1)
   pub cleans : cleanup ≡ rollback 0 ∷ [] → idle (length at.groups + length own + 1)
+  -- nor does what releases a lock open one
+  pub releases : (text : List ℕ) → step.call ≡ calls.Release text → cleanup ≢ [] → idle (length at.groups) → idle (length at.groups + 1)

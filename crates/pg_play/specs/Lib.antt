@@ -11,11 +11,14 @@ pub mod Causes
 pub mod Complete
 pub mod Idles
 pub mod Chains
+pub mod Locks
+pub mod Chained
 pub mod Plays
 pub mod Starts
 pub mod Top
 pub mod Refuted
 pub mod Noticed
+pub mod Opened
 pub mod Commands
 pub mod Connecting
 pub mod Kept

@@ -2,8 +2,9 @@
 use Rattle.std.specs.Prelude.{◌≡◌, ◌≢◌, ℕ, ◌+◌, ◌*◌, ◌<◌, false, List, [], ◌∷◌, ◌++◌, length, map, flat_map, Some, None, Ok, sum_by, count_by, ◌≤◌, true, ◌-◌, ◌^◌}
 use Rattle.pg_play.specs.Idles.{KeepsOrder, SaysIdle, statuses}
 use Rattle.pg_report.specs.declared.outcome.Answer.TheVariants.{Unit as AnswersUnit}
-use Rattle.pg_play.specs.Calls.{PlaysStep, untouched, limits_of}
-use Rattle.pg_play.specs.Chains.{AreChained, IsChained}
+use Rattle.pg_play.specs.Calls.{PlaysStep, untouched}
+use Rattle.pg_play.specs.Chained.{AreChained, IsChained}
+use Rattle.pg_play.specs.Locks.{Guards}
 use Rattle.pg_play.specs.Shown.{acts_at_once, first_call, is_fed, next_call, request_of}
 use Rattle.pg_play.specs.Settling.{Settles}
 use Rattle.pg_play.specs.Copying.{LeavesCopy}
@@ -28,7 +29,7 @@ use Rattle.pg_call.specs.declared.calling.Call.TheVariants as calls
 use Rattle.pg_call.specs.Requests.{Group, said_in, spelled}
 use Rattle.pg_call.specs.Drains.{is_copy_in, after_readys}
 use Rattle.pg_rule.specs.declared.rule.Rule.{Rule}
-use Rattle.pg_conn.specs.Connections.{ConnSeen}
+use Rattle.pg_conn.specs.Connections.{ConnSeen, with_spare}
 use Rattle.pg_conn.specs.Turns.{ends_request, HasAllRoom}
 use Rattle.pg_report.specs.declared.outcome.End.{End}
 use Rattle.pg_report.specs.declared.outcome.End.TheVariants as ends
@@ -69,7 +70,7 @@ pub record Plays_call (at : Place) (step : Step) (out : Outcome) (next : Place) 
   pub told : Told at step out own slice next
   pub numbers : Numbers at out own slice next
   pub cause : HasCause at step own slice next out.end
-  -- a rollback without waiting is no call
+  -- what acts at once is no call
   pub at_once : acts_at_once step.call ≡ true → (out ≡ untouched (ends.Ok AnswersUnit)) × (next ≡ at)
   -- nor does a broken connection do anything
   pub kept : (fault : ServerFault) → at.broken ≡ Some fault → KeepsFault fault at out.end next
@@ -146,7 +147,7 @@ pub record TellsAll (outs : List Outcome) (out : Outcome) : Type 0 where
   pub moved : CountsTo (sum_by (λ one. one.moved) outs) out.moved
   pub cache : out.cache ≡ cache_behind cache.Same outs
 
--- a rollback without waiting counts its group, and no call was made for it
+-- what acts at once counts its group, and no call was made for it
 abbrev pub ActsAtOnce : Place → Outcome → Place → Type 0
 ActsAtOnce at out stop = (out ≡ record (untouched (ends.Ok AnswersUnit)) { groups = out.groups }) × (stop ≡ at)
 
@@ -156,7 +157,7 @@ pub record Plays_step (at : Place) (step : Step) (out : Outcome) (next : Place) 
   pub outs : List Outcome
   pub run : Plays_exchanges at exchanges outs next
   pub first : FirstIs at.rule step exchanges
-  pub limits : AllByRecursion (λ exchange. limits_of exchange ≡ limits_of step) exchanges
+  pub limits : AllByRecursion (λ exchange. (exchange.polls ≡ step.polls) × (exchange.most ≡ step.most)) exchanges
   pub hands : HandsOn at exchanges outs next run
   pub tells : TellsAll outs out
   -- the call of the last exchange stopped here
@@ -276,13 +277,21 @@ PlaysInOrder a b (step ∷ steps) (out ∷ outs) = (m : ConnSeen) × PlaysStep a
 PlaysInOrder a b [] (out ∷ outs) = ⊥
 PlaysInOrder a b (step ∷ steps) [] = ⊥
 
+-- Internal: some calls were played of which this is said
+abbrev pub PlaysAs : ConnSeen → ConnSeen → (List Step → List Outcome → Type 0) → Type 0
+PlaysAs a b Are = (calls : List Step) × (told : List Outcome) × Are calls told × PlaysInOrder a b calls told
+
 -- Internal: a step was played, as the calls of its chain
-abbrev pub PlaysChain : ConnSeen → ConnSeen → Step → Outcome → Type 0
-PlaysChain a b step out = (calls : List Step) × (told : List Outcome) × IsChained step out calls told × PlaysInOrder a b calls told
+abbrev pub PlaysChain : ConnSeen → ConnSeen → Guards → Guards → Step → Outcome → Type 0
+PlaysChain a b guards after step out = PlaysAs a b (IsChained guards after step out)
 
 -- Internal: so were these steps
-abbrev pub PlaysAll : ConnSeen → ConnSeen → List Step → List Outcome → Type 0
-PlaysAll a b steps outs = (calls : List Step) × (told : List Outcome) × AreChained steps outs calls told × PlaysOn a b calls told
+abbrev pub PlaysAll : ConnSeen → ConnSeen → List Step → List Outcome → Guards → Type 0
+PlaysAll a b steps outs guards = (calls : List Step) × (told : List Outcome) × AreChained [] steps outs calls told guards × PlaysOn a b calls told
+
+-- Internal: room was kept for the guards that a play may have
+abbrev pub KeepsRoom : ConnSeen → ConnSeen → Type 0
+KeepsRoom a b = (b ≡ record (with_spare b.stream.spare a) { held = b.held }) × (HasAllRoom a → HasAllRoom b)
 
 -- ---- the headline
 
@@ -380,6 +389,6 @@ pub record PlaysCalls (opening : Opening) (polls : ℕ) (first last : LinkSeen) 
   -- the groups alone are said, where no server asks for a copy, and none from the client was failed
   pub plain : AsksForNoCopy (heard place.frames) → place.has_failed ≡ false → place.said ≡ said_in place.groups
 
--- The steps were played: each is one call, or a chain of some, and all calls were played in order.
+-- The steps were played: each is one call, or a chain of some, and all calls were played in order. The guards that there are at last are leaked.
 abbrev pub Plays : Opening → ℕ → LinkSeen → LinkSeen → Started → List Step → List Outcome → Type 0
-Plays opening polls first last started steps outs = (calls : List Step) × (told : List Outcome) × AreChained steps outs calls told × PlaysCalls opening polls first last started calls told
+Plays opening polls first last started steps outs = (calls : List Step) × (told : List Outcome) × (guards : Guards) × AreChained [] steps outs calls told guards × PlaysCalls opening polls first last started calls told

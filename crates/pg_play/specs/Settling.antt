@@ -8,6 +8,7 @@ use Rattle.pg_call.specs.declared.request.Request.{Request}
 use Rattle.pg_call.specs.Requests.{Group, said_in, spelled, keeping_of}
 use Rattle.pg_rule.specs.declared.rule.Rule.{Rule}
 use Rattle.pg_conn.specs.Connections.{rollback, with_depth}
+use Rattle.pg_conn.specs.Holding.{release}
 use Rattle.pg_conn.specs.Statements.{moved, unmoved, held_by, step_of}
 use Rattle.pg_report.specs.declared.outcome.End.{End}
 use Rattle.pg_report.specs.declared.outcome.Outcome.{Outcome}
@@ -66,9 +67,14 @@ abbrev pub rollback_at : ℕ → ℕ → List Group
 rollback_at zero owed = []
 rollback_at (suc left) owed = if ltb owed (2 ^ 64 - 1) then rollback left ∷ [] else []
 
+-- the group of a release without waiting, where one reply more can be counted
+abbrev pub release_at : List ℕ → ℕ → List Group
+release_at text owed = if ltb owed (2 ^ 64 - 1) then release text ∷ [] else []
+
 -- The groups of its cleanup. A begin outside of any transaction that isn't Ok, and whose group was queued, is rolled back.
 abbrev pub cleanup_of : ℕ → Call → End → List Group → ℕ → List Group
 cleanup_of depth calls.StartRollback end own owed = rollback_at depth owed
+cleanup_of depth (calls.Release text) end own owed = release_at text owed
 cleanup_of depth call end [] owed = []
 cleanup_of depth call end (group ∷ own) owed = if begins call && (nat_eq depth 0 && not (is_fine end)) then rollback 0 ∷ [] else []
 

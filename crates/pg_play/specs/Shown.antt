@@ -26,18 +26,25 @@ use Rattle.pg_report.specs.declared.outcome.Answer.TheVariants.{Unit as AnswersU
 use Rattle.pg_script.specs.declared.step.Call.{Call}
 use Rattle.pg_script.specs.declared.step.Fed.{Fed}
 use Rattle.pg_script.specs.declared.step.Call.TheVariants as calls
+use Rattle.pg_script.specs.declared.step.Parting.{Parting}
+use Rattle.pg_script.specs.declared.step.Parting.TheVariants as partings
 
 -- what ends a transaction or a savepoint where so many are open: nothing is asked where none is
 abbrev pub ending : (ℕ → Request) → ℕ → Request
 ending ends zero = requests.Flush
 ending ends (suc left) = ends left
 
+-- how a copy from the client that was open was given up
+abbrev pub parting_of : Call → Parting
+parting_of (calls.Feed fed) = fed.parting
+parting_of call = partings.None
+
 -- a copy from the client as it was fed
 abbrev pub feed_of : Fed → Feed
 feed_of fed = record { query = plain_text fed.sql; pieces = fed.pieces; is_ended = fed.is_ended }
 
--- What an exchange asks of a connection on which so many transactions and savepoints are open. A rollback without waiting is no call of the connection, a chain is
--- some of them, and what to prepare and to clear is no exchange yet: they ask nothing.
+-- What an exchange asks of a connection on which so many transactions and savepoints are open. A rollback without waiting, and the release of a lock, is no call of the
+-- connection, a chain is some of them, and what to prepare and to clear is no exchange yet: they ask nothing.
 abbrev pub request_of : ℕ → Call → Request
 request_of depth (calls.Execute query) = requests.Execute query
 request_of depth (calls.ExecuteMany query) = requests.ExecuteMany query
@@ -53,6 +60,7 @@ request_of depth (calls.BeginWith query) = requests.BeginWith query
 request_of depth calls.Commit = ending requests.Commit depth
 request_of depth calls.Rollback = ending requests.Rollback depth
 request_of depth calls.StartRollback = requests.Flush
+request_of depth (calls.Release text) = requests.Flush
 request_of depth (calls.Prepare preparation) = requests.Flush
 request_of depth calls.Clear = requests.Flush
 request_of depth (calls.CopyOut query) = requests.CopyOut query
@@ -173,6 +181,11 @@ copies (calls.CopyOut query) = true
 copies (calls.Feed fed) = true
 copies _ = false
 
+-- whether it releases a lock, without waiting
+abbrev pub is_release : Call → Bool
+is_release (calls.Release text) = true
+is_release _ = false
+
 -- whether it is a copy from the client, as it came
 abbrev pub is_fed : Call → Bool
 is_fed (calls.Feed fed) = true
@@ -181,6 +194,7 @@ is_fed _ = false
 -- whether it acts at once, without a poll
 abbrev pub acts_at_once : Call → Bool
 acts_at_once calls.StartRollback = true
+acts_at_once (calls.Release text) = true
 acts_at_once _ = false
 
 -- ---- the answer rule

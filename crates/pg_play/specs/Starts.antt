@@ -15,6 +15,7 @@ use Rattle.pg_startup.specs.Establishing.{EstablishOf, EstablishSeen, establish_
 use Rattle.pg_startup.specs.Lawful.{HearsLawful, Works}
 use Rattle.pg_conn.specs.Connections.{ConnOf, ConnSeen, seen_by, fresh_connection}
 use Rattle.pg_conn.specs.Connecting.{ConnectingOf}
+use Rattle.pg_conn.specs.Turns.{HasAllRoom}
 
 -- What a start-up is to do: the options and the nonce of the client, and what its link is made of.
 pub record Opening : Type 0 where
@@ -80,7 +81,10 @@ pub record HasOpened (opening : Opening) (polls : ℕ) (first : LinkSeen) (a : C
   pub begun : HasBegun e.client e.plan e.message first ready
   pub counts : NoneFalls first a.stream.link
   pub waited : HasWaitedLess polls first a.stream.link
-  pub fresh : a ≡ fresh_connection opening.options.statement_cache_capacity ready.stream ready.sent ready.read
+  -- so many locks may be held
+  pub held : ℕ
+  pub fresh : a ≡ record (fresh_connection opening.options.statement_cache_capacity ready.stream ready.sent ready.read) { held = held }
+  pub room : HasAllRoom a
 
 -- its connection is to keep as many statements as the options say
 abbrev pub KeepsAsMany : {A : Type 0} → Opening → ConnectingOf A → Type 0

@@ -23,6 +23,7 @@ use Rattle.pg_sample.specs.Sample.{sample_script}
 use Rattle.pg_report.specs.Errors.{error_text}
 use Rattle.pg_options.specs.Options.{ConnectOptions, no_settings}
 use Rattle.pg_options.specs.FromUrl.{options_of_text}
+use Rattle.pg_locks.specs.Locks.{key_line}
 use Rattle.pg_auth.specs.Nonce.{nonce_of}
 use Rattle.pg_conn.specs.Dials.{DialSeen, IsUncalled, failed_by, one_more}
 use Rattle.pg_conn.specs.declared.dial.DialFailed.{DialFailed}
@@ -133,6 +134,12 @@ OptionsIs url (endings.Refused e) = lines_of_url url ≡ Err e
 OptionsIs url endings.NoMemory = Unit {0}
 OptionsIs url _ = ⊥
 
+-- the line that tells the key of a text
+abbrev pub KeyIs : {A : Type 0} → List ℕ → Ending A → Type 0
+KeyIs text (endings.Shown line) = string_bytes line ≡ key_line text
+KeyIs text endings.NoMemory = Unit {0}
+KeyIs text _ = ⊥
+
 -- ---- a play over a link that is dialled
 
 -- what a dial has handed out: a link for these options, and behind it these words
@@ -200,6 +207,7 @@ abbrev pub ArgumentIs : {A : Type 0} → (A → LinkSeen) → Handing A → Argu
 ArgumentIs seen hands argued.Options argument a b f g e = OptionsIs argument e × (b ≡ a) × (g ≡ f)
 ArgumentIs seen hands argued.Live argument a b f g e = LiveUrlIs seen hands (options_of_text no_settings argument) a b f g e
 ArgumentIs seen hands argued.Sample argument a b f g e = SampleIs (count_of argument) e × (b ≡ a) × (g ≡ f)
+ArgumentIs seen hands argued.Key argument a b f g e = KeyIs argument e × (b ≡ a) × (g ≡ f)
 ArgumentIs seen hands argued.Unknown argument a b f g e = (e ≡ endings.BadWords) × (b ≡ a) × (g ≡ f)
 
 -- what the words, the source and the dial made of it

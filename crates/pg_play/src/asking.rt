@@ -49,6 +49,7 @@ pub(crate) fn request_of(alloc: Global, depth: u64, call: &Call) -> Result<Reque
         | Call::Rollback
         | Call::Flush
         | Call::StartRollback
+        | Call::Release(_)
         | Call::Chain(_)
         | Call::Describe(_)
         | Call::Run(_)

@@ -1,16 +1,18 @@
 //! Steps that are calls of a connection one behind another.
-ghost use Rattle.std.specs.Prelude.{◌≡◌, ◌<◌, ◌^◌, List, IfSome};
+ghost use Rattle.std.specs.Prelude.{◌≡◌, ◌<◌, ◌≤◌, ◌-◌, ◌^◌, IfSome, length};
 ghost use Rattle.std.specs.List.{list_all};
 ghost use Rattle.pg_conn.specs.Connections.{seen_by};
-ghost use Rattle.pg_play.specs.Calls.{IsUnmade};
+ghost use Rattle.pg_play.specs.Calls.{IsUnmade, PlaysStep};
+ghost use Rattle.pg_play.specs.Chained.{IsChainedAs};
 ghost use Rattle.pg_play.specs.Chains.{GoesOn, IsDescribed, asking_nulls, end_behind, has_flag, preparing, told_both};
-ghost use Rattle.pg_play.specs.Plays.{PlaysChain, PlaysInOrder};
-ghost use Rattle.pg_report.specs.declared.outcome.Outcome as declared_outcome;
-ghost use Rattle.pg_script.specs.declared.step.Step as declared_step;
+ghost use Rattle.pg_play.specs.Plays.{PlaysAs, PlaysChain};
 
 use crate::copying::copy_in;
+use crate::flags::ask;
+use crate::locking::{drop_lock, lock, try_lock};
 use crate::stepping::{play_step, unmade};
 use pg_conn::{PgConnection, Preparation, Query};
+use pg_locks::PgAdvisoryLockKey;
 use pg_nullable::nulls_query;
 use pg_report::{Answer, End, Item, Outcome};
 use pg_script::{Call, Chain, Step};
@@ -19,8 +21,8 @@ use pg_wire::{Error, Oids, Sequence, Text};
 use std::alloc::Global;
 use std::mem;
 
-// The step of a preparation, in a copy of its own.
-fn preparing(alloc: Global, step: &Step, sql: &Text) -> Option<Step>
+/// The step of a preparation, in a copy of its own.
+pub(crate) fn preparing(alloc: Global, step: &Step, sql: &Text) -> Option<Step>
     ensures { IfSome result (λ first. first ≡ preparing step.now sql.now) }
 {
     let sql = sql.to_copy(alloc).ok()?;
@@ -42,14 +44,21 @@ fn query_behind(alloc: Global, end: &End) -> Result<Option<Query>, Error>
     }
 }
 
+/// The polls that are left to a step behind so many that waited.
+pub(crate) fn polls_behind(step: &Step, waits: u64) -> u32
+    ensures { result ≡ step.now.polls - waits }
+{
+    let waits = u32::try_from(waits).unwrap_or(u32::MAX);
+    step.polls.saturating_sub(waits)
+}
+
 // The step of that query, behind a preparation that has waited in so many polls.
 fn asking_nulls(step: &Step, waits: u64, query: Query) -> Step
     ensures { result ≡ asking_nulls step.now waits query }
 {
-    let waits = u32::try_from(waits).unwrap_or(u32::MAX);
     Step {
         call: Call::FetchAll(query),
-        polls: step.polls.saturating_sub(waits),
+        polls: polls_behind(step, waits),
         most: step.most,
     }
 }
@@ -96,8 +105,8 @@ fn both(alloc: Global, mut first: Outcome, mut later: Outcome) -> Outcome
     first
 }
 
-// A statement that wasn't even prepared, for want of memory.
-fn unprepared<L: Link>(alloc: Global, conn: &PgConnection<L>, step: &Step) -> Outcome
+/// What comes of a step whose first call there was no memory for.
+pub(crate) fn unprepared<L: Link>(alloc: Global, conn: &PgConnection<L>, step: &Step) -> Outcome
     ensures unmade { IsUnmade step.now result }
     ensures counts { conn.now.rule.depth < 2 ^ 64 }
 {
@@ -107,7 +116,8 @@ fn unprepared<L: Link>(alloc: Global, conn: &PgConnection<L>, step: &Step) -> Ou
 
 // A statement that is described in full.
 fn describe<L: Link>(alloc: Global, conn: &mut PgConnection<L>, step: &Step, sql: &Text) -> Outcome
-    ensures { (calls : List declared_step.Step) × (told : List declared_outcome.Outcome) × IsDescribed step.now sql.now result calls told × PlaysInOrder (seen_by L.seen conn.old) (seen_by L.seen conn.new) calls told }
+    ensures plays { PlaysAs (seen_by L.seen conn.old) (seen_by L.seen conn.new) (IsDescribed step.now sql.now result) }
+    ensures held { conn.new.held ≡ conn.old.held }
 {
     let Some(first) = preparing(alloc, step, sql) else {
         return unprepared(alloc, conn, step);
@@ -129,15 +139,56 @@ fn describe<L: Link>(alloc: Global, conn: &mut PgConnection<L>, step: &Step, sql
     }
 }
 
-/// Plays one step, as one call or as some.
-pub(crate) fn play_chain<L: Link>(alloc: Global, conn: &mut PgConnection<L>, step: &Step) -> Outcome
-    ensures { PlaysChain (seen_by L.seen conn.old) (seen_by L.seen conn.new) step.now result }
+// Plays a step that asks nothing.
+fn play_flush<L: Link>(alloc: Global, conn: &mut PgConnection<L>, step: &Step) -> Outcome
+    ensures plays { PlaysStep (seen_by L.seen conn.old) (seen_by L.seen conn.new) (record step.now { call = Call.Flush }) result }
+    ensures counts { conn.old.rule.depth < 2 ^ 64 }
+    ensures held { conn.new.held ≡ conn.old.held }
+{
+    let flush = Step {
+        call: Call::Flush,
+        polls: step.polls,
+        most: step.most,
+    };
+    play_step(alloc, conn, &flush)
+}
+
+// Plays a step that is some calls.
+fn play_calls<L: Link>(
+    alloc: Global,
+    conn: &mut PgConnection<L>,
+    guards: &mut Vec<PgAdvisoryLockKey>,
+    step: &Step,
+    chain: &Chain,
+) -> Outcome
+    requires { length guards.old.items ≤ conn.old.held }
+    ensures plays { PlaysAs (seen_by L.seen conn.old) (seen_by L.seen conn.new) (IsChainedAs (Call.Chain chain.now) guards.old.items guards.new.items step.now result) }
+    ensures held { length guards.new.items ≤ conn.new.held }
+{
+    match chain {
+        Chain::Describe(sql) => describe(alloc, conn, step, sql),
+        Chain::CopyIn(copying) => copy_in(alloc, conn, step, copying),
+        Chain::Lock(key) => lock(alloc, conn, guards, step, *key),
+        Chain::TryLock(key) => try_lock(alloc, conn, guards, step, *key),
+        Chain::Unlock(key) => ask(alloc, conn, step, key.unlock_statement(), *key),
+        Chain::DropLock(key) => drop_lock(alloc, conn, guards, step, *key),
+    }
+}
+
+/// Plays one step, as one call or as some, where there are these guards of locks.
+pub(crate) fn play_chain<L: Link>(
+    alloc: Global,
+    conn: &mut PgConnection<L>,
+    guards: &mut Vec<PgAdvisoryLockKey>,
+    step: &Step,
+) -> Outcome
+    requires { length guards.old.items ≤ conn.old.held }
+    ensures plays { PlaysChain (seen_by L.seen conn.old) (seen_by L.seen conn.new) guards.old.items guards.new.items step.now result }
+    ensures held { length guards.new.items ≤ conn.new.held }
 {
     match &step.call {
-        Call::Chain(chain) => match chain {
-            Chain::Describe(sql) => describe(alloc, conn, step, sql),
-            Chain::CopyIn(copying) => copy_in(alloc, conn, step, copying),
-        },
+        Call::Chain(chain) => play_calls(alloc, conn, guards, step, chain),
+        Call::Release(_) => play_flush(alloc, conn, step),
         _ => play_step(alloc, conn, step),
     }
 }

@@ -16,6 +16,7 @@ pub(crate) enum Argued {
     Options,
     Live,
     Sample,
+    Key,
     Unknown,
 }
 
@@ -29,6 +30,8 @@ impl Argued {
             Argued::Live
         } else if word == "sample" {
             Argued::Sample
+        } else if word == "key" {
+            Argued::Key
         } else {
             Argued::Unknown
         }

@@ -14,6 +14,7 @@ script       reads a script from standard input, plays it in memory and writes t
 live URL     dials the server of a URL, plays the steps of a script there and writes the report
 sample N     plays a made script of N steps in memory, from 1 to 100000, and writes one line that sums it up
 options URL  writes the connect options that a URL says
+key TEXT     writes the key of the advisory lock of a text
 --help       writes this text
 --version    writes the name and the version
 ";
@@ -29,7 +30,7 @@ pub(crate) enum Ending<L> {
     Live(Played<L>),
     /// What was played of a script that was made and not read.
     Sampled(Played<MemoryLink>),
-    /// The lines of connect options.
+    /// The lines of connect options, or the one of a key.
     Shown(String),
     Help,
     Version,

@@ -7,6 +7,7 @@ ghost use Rattle.pg_play.specs.Starts.{Opening, HasOpened, StartEnds, opening_of
 ghost use Rattle.pg_play.specs.Top.{HasOutcomes};
 
 use crate::chaining::play_chain;
+use crate::guards::keep_room;
 use crate::played::Played;
 use crate::starting::start_up;
 use pg_conn::PgConnection;
@@ -43,9 +44,11 @@ fn play_steps<L: Link>(
     ensures started { IfErr result.start (λ e. ⊥) }
     ensures plays { (opening : Opening) (polls : ℕ) (link : LinkSeen) → HasOpened opening polls link (seen_by L.seen conn) → IfOk result.start (λ started. Plays opening polls link (L.seen result.link) started steps.now result.outcomes) }
 {
+    keep_room(&mut conn, steps);
     let (sent, read) = conn.started();
+    let mut guards = Vec::new(alloc);
     for step in steps {
-        let outcome = play_chain(alloc, &mut conn, step);
+        let outcome = play_chain(alloc, &mut conn, &mut guards, step);
         outcomes.push(outcome).unwrap();
     }
     Played {

@@ -12,6 +12,7 @@ use crate::live::run_live;
 use crate::played::{Played, Ran};
 use crate::playing::play;
 use crate::sampling::run_sample;
+use crate::showing_key::show_key;
 use crate::showing_options::show_options;
 use pg_conn::Dial;
 use pg_options::PgConnectOptions;
@@ -121,6 +122,7 @@ where
         Argued::Options => show_options(alloc, argument),
         Argued::Live => run_live(alloc, argument, source, dial),
         Argued::Sample => run_sample(alloc, argument),
+        Argued::Key => show_key(alloc, argument),
         Argued::Unknown => Ending::BadWords,
     }
 }
@@ -167,7 +169,7 @@ fn ran<L: Drop>(ending: Ending<L>, status: u8) -> Ran<L>
 }
 
 /// The whole program. By its words it plays a script over a link in memory, or its steps over a link that it dials, and writes the
-/// report; shows the connect options that a URL says; or tells how it is called. For other words, a bad script or URL, a source or a
+/// report; shows the connect options that a URL says, or the key of a text; or tells how it is called. For other words, a bad script or URL, a source or a
 /// dial that fails and want of memory it writes a line that says so.
 pub fn top<S: Source, K: Sink, D: Dial>(
     alloc: Global,

@@ -1,10 +1,10 @@
-ghost use Rattle.std.specs.Prelude.{◌≡◌, ◌<◌, ◌+◌, ◌-◌, ◌^◌, true, List, ℕ, None, Some, length};
+ghost use Rattle.std.specs.Prelude.{◌≡◌, ◌<◌, ◌+◌, ◌-◌, ◌^◌, false, true, List, ℕ, None, Some, length};
 ghost use Rattle.pg_request.specs.declared.progress.CacheStep.TheVariants as cache;
 ghost use Rattle.pg_conn.specs.Connections.{ConnSeen, left, seen_by, runs};
 ghost use Rattle.pg_call.specs.declared.request.Request.{Request};
 ghost use Rattle.pg_conn.specs.Turns.{first_exchange};
-ghost use Rattle.pg_play.specs.Calls.{IsCallPlaying, IsUnmade, Pauses, PollGives, PlaysCall, PlaysPolled, PlaysStep, first_conn, outcome_of, untouched};
-ghost use Rattle.pg_play.specs.Shown.{IsUncopied, IsWanted};
+ghost use Rattle.pg_play.specs.Calls.{IsCallPlaying, IsUnmade, Pauses, PollGives, PlaysCall, PlaysPolled, PlaysStep, bounds, first_conn, outcome_of, untouched};
+ghost use Rattle.pg_play.specs.Shown.{IsUncopied, IsWanted, is_release};
 
 use crate::asking::request_of;
 use crate::tally::{Limits, Pause, Tally};
@@ -67,8 +67,8 @@ pub(crate) fn poll_on<L: Link>(
     }
 }
 
-// What came of a step, with the numbers of its call.
-fn outcome(items: Vec<Item>, end: End, progress: Progress) -> Outcome
+/// What came of a step, with the numbers of its call.
+pub(crate) fn outcome(items: Vec<Item>, end: End, progress: Progress) -> Outcome
     ensures { result ≡ record { items = items.items; end = end; groups = progress.groups; heard = progress.heard; cache = progress.cache; waits = progress.waits; moved = progress.moved } }
 {
     Outcome {
@@ -127,7 +127,7 @@ fn play_call<L: Link>(
     requires plain { IsUncopied request }
     requires polls { 0 < limits.polls }
     requires most { 0 < limits.most }
-    ensures { PlaysCall limits (first_conn request (seen_by L.seen conn.old)) (seen_by L.seen conn.new) (first_exchange request (seen_by L.seen conn.old)) result }
+    ensures { PlaysCall (bounds limits) (first_conn request (seen_by L.seen conn.old)) (seen_by L.seen conn.new) (first_exchange request (seen_by L.seen conn.old)) result }
 {
     conn.start(request);
     let mut tally = Tally::new(alloc);
@@ -166,6 +166,8 @@ fn play_polled<L: Link>(
 
 /// Plays one step: a rollback without waiting, which is done at once, or a call that is polled.
 pub(crate) fn play_step<L: Link>(alloc: Global, conn: &mut PgConnection<L>, step: &Step) -> Outcome
+    requires { is_release step.now.call ≡ false }
+    ensures held { conn.new.held ≡ conn.old.held }
     ensures plays { PlaysStep (seen_by L.seen conn.old) (seen_by L.seen conn.new) step.now result }
     ensures counts { conn.old.rule.depth < 2 ^ 64 }
 {
