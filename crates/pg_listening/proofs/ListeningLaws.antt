@@ -7,18 +7,20 @@ use Rattle.pg_wire.specs.declared.error.Error.TheVariants as errors
 use Rattle.pg_wire.specs.declared.error.IoCause.TheVariants as io
 use Rattle.pg_wire.specs.declared.error.ServerFault.{ServerFault}
 use Rattle.pg_wire.specs.declared.message.notification_response.Notification.{Notification}
-use Rattle.pg_stream.specs.Links.{LinkSeen}
+use Rattle.pg_stream.specs.Links.{LinkSeen, NoneFalls}
 use Rattle.pg_stream.specs.Notifications.{TakesOldest}
 use Rattle.pg_stream.specs.Streams.{StreamSeen, stream_by}
 use Rattle.pg_call.specs.declared.kind.How.TheVariants as hows
 use Rattle.pg_call.specs.declared.kind.Kind.TheVariants as kinds
 use Rattle.pg_call.specs.declared.request.Request.{Request}
+use Rattle.pg_call.specs.declared.request.Request.TheVariants as requests
 use Rattle.pg_conn.specs.Connections.{ConnOf, ConnSeen, seen_by, started_call}
 use Rattle.pg_conn.specs.News.{NewsFails, PollsNews, flushing, ReadsNews, given, with_kept}
 use Rattle.pg_conn.specs.States.{IsCalling}
+use Rattle.pg_stream.proofs.StreamLemmas.{Rose-after}
 use Rattle.pg_conn.proofs.NewsLaws.{reads_started}
 use Rattle.pg_conn.proofs.ViewLaws.{seen_started}
-use Rattle.pg_listening.specs.Buffers.{BuffersSeen, HasFailed, Hears}
+use Rattle.pg_listening.specs.Buffers.{BuffersSeen, FailsBy, Hears}
 use Rattle.pg_listening.specs.Listening.{FailsOn, IsAsked}
 use Rattle.pg_listening.proofs.BufferLaws.{hears_at, hears_earlier, hears_gives, hears_none, hears_oldest, hears_reads, hears_saved}
 
@@ -65,19 +67,20 @@ starts_keeping {A} seen a b r s k =
     ap (λ (x : ConnSeen). x.stream.notifications.keeping) same ∙ (reads_started r (seen_by seen a) k).keeping
 
 -- where a poll fails by its link
-failed_link : (o : Option ServerFault) (a b : StreamSeen) (cause : _) → NewsFails o a b (errors.Io cause) → HasFailed b.link
-failed_link None a b io.Fault f = inr (omega (arith, f))
-failed_link None a b io.End f = inl (omega (arith, f.0))
-failed_link None a b io.Source f = absurd f
-failed_link (Some fault) a b cause f = absurd cc
+failed_link : (o : Option ServerFault) (a m b : StreamSeen) (cause : _) → NoneFalls a.link m.link → NewsFails o m b (errors.Io cause) → FailsBy a.link b.link
+failed_link None a m b io.Fault n f = inr (Rose-after _ _ _ n.faults f)
+failed_link None a m b io.End n f = inl (Rose-after _ _ _ n.ends f.0)
+failed_link None a m b io.Source n f = absurd f
+failed_link (Some fault) a m b cause n f = absurd cc
 
-pub fails_held : {A : Type 0} (seen : A → LinkSeen) (l n : ℕ) (a b : ConnOf A) (answer : Poll (Result Notification Error)) → PollsNews l n (seen_by seen a) (seen_by seen b) answer → FailsOn answer (Some (stream_by seen b.stream))
-fails_held seen l n a b Pending p = tt
-fails_held seen l n a b (Ready (Ok news)) p = tt
-fails_held {A} seen l n a b (Ready (Err e)) p = by e p.finds.cause
+pub fails_held : {A : Type 0} (seen : A → LinkSeen) (l n : ℕ) (a b : ConnOf A) (answer : Poll (Result Notification Error)) → a.stream.notifications.keeping ≡ true → PollsNews l n (seen_by seen a) (seen_by seen b) answer
+    → FailsOn answer (Some (stream_by seen a.stream)) (Some (stream_by seen b.stream))
+fails_held seen l n a b Pending k p = tt
+fails_held seen l n a b (Ready (Ok news)) k p = tt
+fails_held {A} seen l n a b (Ready (Err e)) k p = by e p.finds.cause
   where
-    by : (e : Error) → NewsFails a.broken (flushing l (seen_by seen a)).stream (stream_by seen b.stream) e → FailsOn (Ready (Err e)) (Some (stream_by seen b.stream))
-    by (errors.Io cause) f = failed_link a.broken (flushing l (seen_by seen a)).stream (stream_by seen b.stream) cause f
+    by : (e : Error) → NewsFails a.broken (flushing l (seen_by seen a)).stream (stream_by seen b.stream) e → FailsOn (Ready (Err e)) (Some (stream_by seen a.stream)) (Some (stream_by seen b.stream))
+    by (errors.Io cause) f = failed_link a.broken (stream_by seen a.stream) (flushing l (seen_by seen a)).stream (stream_by seen b.stream) cause (reads_started requests.Flush (seen_by seen a) k).counts f
     by _ f = tt
 
 pub polls_heard : {A : Type 0} (seen : A → LinkSeen) (l n : ℕ) (a b : ConnOf A) (answer : Poll (Result Notification Error)) → PollsNews l n (seen_by seen a) (seen_by seen b) answer

@@ -1,9 +1,9 @@
 -- What a listener has read of notifications, over one connection after another, and what it has given of them
 -- (PostgreSQL manual, "SQL Commands": LISTEN; "Message Flow", "Asynchronous Operations": NotificationResponse).
-use Rattle.std.specs.Prelude.{◌≡◌, ◌⊎◌, ◌<◌, true, List, [], ◌∷◌, ◌++◌, Option, Some, None}
+use Rattle.std.specs.Prelude.{◌≡◌, ◌⊎◌, true, List, [], ◌∷◌, ◌++◌, Option, Some, None}
 use Rattle.pg_wire.specs.declared.message.notification_response.Notification.{Notification}
 use Rattle.pg_wire.specs.Frame.{Frame}
-use Rattle.pg_stream.specs.Links.{LinkSeen, NoneFalls}
+use Rattle.pg_stream.specs.Links.{LinkSeen, NoneFalls, Rose}
 use Rattle.pg_stream.specs.Notifications.{KeptSeen, NotifiesAll}
 use Rattle.pg_stream.specs.Streams.{StreamSeen, Takes}
 
@@ -57,6 +57,6 @@ pub record Hears (lost : List LinkSeen) (a b : BuffersSeen) (gave : List Notific
   pub over : ReadsOver lost a.stream b.stream news
   pub told : gave ++ buffered b ≡ buffered a ++ news
 
--- a link whose bytes have ended, or that has failed
-abbrev pub HasFailed : LinkSeen → Type 0
-HasFailed link = (0 < link.ends) ⊎ (0 < link.faults)
+-- between two states of a link its bytes have ended, or it has failed
+abbrev pub FailsBy : LinkSeen → LinkSeen → Type 0
+FailsBy a b = Rose a.ends b.ends ⊎ Rose a.faults b.faults

@@ -16,12 +16,13 @@ use Rattle.pg_call.specs.declared.query_result.PgQueryResult.{PgQueryResult}
 use Rattle.pg_call.specs.declared.request.Request.{Request}
 use Rattle.pg_call.specs.declared.request.Request.TheVariants as requests
 use Rattle.pg_conn.specs.Connections.{ConnOf, ConnSeen, seen_by, started_call}
+use Rattle.pg_conn.specs.News.{with_kept}
 use Rattle.pg_conn.specs.States.{IsCalling, turn_of}
 use Rattle.pg_conn.specs.Turns.{PollsWithin}
 use Rattle.pg_listener.specs.declared.changing.ChannelChange.{ChannelChange}
 use Rattle.pg_listener.specs.declared.changing.ChannelChange.TheVariants as changes
 use Rattle.pg_listener.specs.Changes.{changed, statement_of}
-use Rattle.pg_listening.specs.Buffers.{BuffersSeen, HasFailed}
+use Rattle.pg_listening.specs.Buffers.{BuffersSeen, FailsBy}
 
 -- What holds the connection, where one is held; what was read on those that are lost, and not given yet; the channels, and those that an Ok of the
 -- statement that is asked makes of them; and whether one is asked.
@@ -62,6 +63,12 @@ StaysHeld conn with_conn None None = Unit {0}
 StaysHeld conn with_conn (Some c) (Some d) = d ≡ with_conn c (conn d)
 StaysHeld conn with_conn _ _ = ⊥
 
+-- only what is kept of notifications on it has changed
+abbrev pub OnlyKept : {C A : Type 0} → (C → ConnOf A) → Option C → Option C → Type 0
+OnlyKept conn None None = Unit {0}
+OnlyKept conn (Some c) (Some d) = conn d ≡ with_kept (conn d).stream.notifications (conn c)
+OnlyKept conn _ _ = ⊥
+
 -- this was done with it
 abbrev pub OnHeld : {C A : Type 0} → (ConnSeen → ConnSeen → Type 0) → (C → ConnOf A) → (A → LinkSeen) → Option C → Option C → Type 0
 OnHeld P conn seen (Some c) (Some d) = P (seen_by seen (conn c)) (seen_by seen (conn d))
@@ -72,10 +79,10 @@ abbrev pub Starts : {C A : Type 0} → (C → ConnOf A) → (C → ConnOf A → 
 Starts conn with_conn request (Some c) held = held ≡ Some (with_conn c (started_call request (conn c)))
 Starts conn with_conn request None held = ⊥
 
--- where a poll fails by its link, the link's bytes have ended, or it has failed
-abbrev pub FailsOn : Poll (Result Notification Error) → Option StreamSeen → Type 0
-FailsOn (Ready (Err (errors.Io cause))) (Some s) = HasFailed s.link
-FailsOn answer held = Unit {0}
+-- where a poll fails by its link, the link's bytes have ended in it, or it has failed
+abbrev pub FailsOn : Poll (Result Notification Error) → Option StreamSeen → Option StreamSeen → Type 0
+FailsOn (Ready (Err (errors.Io cause))) (Some a) (Some b) = FailsBy a.link b.link
+FailsOn answer before behind = Unit {0}
 
 -- what is kept on a connection goes behind what is kept of earlier ones: all of it, or for want of memory a front of it
 abbrev pub Saves : KeptSeen → KeptSeen → List Notification → List Notification → Result (Unit {0}) Error → Type 0

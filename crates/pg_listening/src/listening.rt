@@ -9,7 +9,7 @@ ghost use Rattle.pg_conn.specs.News.{PollsNews, given, with_kept};
 ghost use Rattle.pg_listener.specs.Changes.{changed};
 ghost use Rattle.pg_listener.specs.Channels.{listen_each_text};
 ghost use Rattle.pg_listening.specs.Buffers.{Hears, kept_on, buffered, news_begun};
-ghost use Rattle.pg_listening.specs.Listening.{FailsOn, OnHeld, PollsStatement, Starts, StaysHeld, behind_after, buffers_by, channels_behind, query_of, stored_behind, stream_in, waits};
+ghost use Rattle.pg_listening.specs.Listening.{FailsOn, OnHeld, OnlyKept, PollsStatement, Starts, StaysHeld, behind_after, buffers_by, channels_behind, query_of, stored_behind, stream_in, waits};
 
 use crate::ChannelChange;
 use crate::holding::{begin, end, poll_news, poll_statement, save, start_statement, take_oldest};
@@ -108,6 +108,7 @@ impl<C: PgExecutor> Listening<C> {
     pub fn save(&mut self) -> Result<(), Error>
         ensures hears { Hears [] (buffers_by C.conn C.L.seen self.old) (buffers_by C.conn C.L.seen self.new) [] }
         ensures holder { StaysHeld C.conn C.with_conn self.old.conn self.new.conn }
+        ensures same { OnlyKept C.conn self.old.conn self.new.conn }
         ensures channels { self.new.channels ≡ self.old.channels }
         ensures saved { OnOk result (kept_on (stream_in C.conn C.L.seen self.new.conn) ≡ []) }
         ensures err { OnErr result (result ≡ Err Error.OutOfMemory) }
@@ -157,7 +158,7 @@ impl<C: PgExecutor> Listening<C> {
         ensures left { left.new ≤ left.old }
         ensures oldest { (oldest : told.Notification) (later : List told.Notification) → self.old.earlier ≡ oldest ∷ later → result ≡ Ready (Ok oldest) }
         ensures polls { self.old.earlier ≡ [] → OnHeld (λ a b. PollsNews left.old left.new a b result) C.conn C.L.seen self.old.conn self.new.conn }
-        ensures fails { FailsOn result (stream_in C.conn C.L.seen self.new.conn) }
+        ensures fails { FailsOn result (stream_in C.conn C.L.seen self.old.conn) (stream_in C.conn C.L.seen self.new.conn) }
         ensures holder { StaysHeld C.conn C.with_conn self.old.conn self.new.conn }
         ensures channels { self.new.channels ≡ self.old.channels }
         ensures asking { self.new.is_asking ≡ false }
