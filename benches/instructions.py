@@ -2,7 +2,7 @@
 
   instructions.py PROGRAM [UNIT ..]
 
-Each unit (`steps`, `queries`, `execute`, `fetch`, `fetch_all`, and each of the last three with `4` behind for rows of four int columns) is
+Each unit (`steps`, `queries`, `copyout`, `execute`, `fetch`, `fetch_all`, and each of the last three with `4` behind for rows of four int columns) is
 played at two sizes under valgrind's callgrind, and what is printed is the slope: instructions for each step or row more. `script`
 is that of reading the script, for each byte of it, over the script of `steps`. Below each unit stand the crates, each with what it
 calls in the standard library and the C library, and then the functions that take most by themselves.
@@ -17,9 +17,9 @@ import tempfile
 sys.dont_write_bytecode = True
 import scripts
 
-SIZES = {'steps': (1000, 2000), 'queries': (1000, 2000)}
+SIZES = {'steps': (1000, 2000), 'queries': (1000, 2000), 'copyout': (4000, 8000)}
 ROWS = (4000, 8000)
-UNITS = ['steps', 'queries', 'execute', 'fetch', 'fetch_all', 'execute4', 'fetch4', 'fetch_all4']
+UNITS = ['steps', 'queries', 'copyout', 'execute', 'fetch', 'fetch_all', 'execute4', 'fetch4', 'fetch_all4']
 
 
 def text_of(unit, size):

@@ -4,6 +4,7 @@
   scripts.py queries N                one call that prepares a text, and N that find its statement kept, with the reply of `steps`
   scripts.py rows N [CALL [COLUMNS]]  one call, `execute` if none is said, whose reply has N rows of so many int columns, one if
                                       no number is said, each row a piece of its own
+  scripts.py copyout N                a copy of N rows to the client, each row a message of its own, and 400 of them a piece
 """
 import struct
 import sys
@@ -56,8 +57,15 @@ def rows(count, call='execute', columns='1'):
             + f'step 4000000000 {call} raw "SELECT 1"\n')
 
 
+def copyout(count):
+    messages = [message(b'd', b'%d\n' % n) for n in range(1, count + 1)]
+    pieces = ''.join(server(b''.join(messages[first:first + 400])) for first in range(0, count, 400))
+    return (server(message(b'H', b'\0\0\0')) + pieces + server(message(b'c', b'') + message(b'C', b'COPY %d\0' % count) + READY)
+            + 'step 4000000000 copyout "COPY t TO STDOUT"\n')
+
+
 def script(kind, count, *more):
-    return 'user "u"\n' + server(GREETING) + {'steps': steps, 'queries': queries, 'rows': rows}[kind](count, *more)
+    return 'user "u"\n' + server(GREETING) + {'steps': steps, 'queries': queries, 'rows': rows, 'copyout': copyout}[kind](count, *more)
 
 
 if __name__ == '__main__':

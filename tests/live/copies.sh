@@ -1,7 +1,7 @@
 #!/usr/bin/env bash
 # Copies a table to the client and from it against a PostgreSQL server of its own: whole, with as many pieces as rows to the client, and dropped at each of its first
 # polls and behind each of its first pieces. Behind each copy a query asks for a row of its own, and must have it. What went in comes out again. Copies that fail in
-# their middle, and those that are none, come besides.
+# their middle, those that are none, and those that are aborted by a message or left as they stand, come besides.
 #
 #     tests/live/copies.sh PROGRAM [PORT]
 #
@@ -75,6 +75,33 @@ step('step 1 start_rollback', ('ends', 'ok'))
 row(9)
 step('step 1000 fetch_all raw "SELECT count(*) FROM fed"', ('row', '1'))
 
+
+def given_up(polls, how, want, *pieces, of='COPY fed FROM STDIN'):
+    texts = ' '.join('"' + piece.replace('\n', '\\x0a') + '"' for piece in pieces)
+    step(f'step {polls} copyin "{of}" {how} {texts}'.rstrip(), want)
+
+
+# A copy that is aborted or left adds no row: the one is over by itself, of the other the next call is told. Dropped at each poll it is one or the other.
+given_up(1000, 'abort "no more"', ('ends', 'ok'), '12\n', '', '13\n')
+row(10)
+given_up(1000, 'abort "no more"', ('ends', 'ok'))
+given_up(1000, 'abort "no more"', ('ends', 'error Protocol reply 54'), '1\n', of='SELECT 1')
+row(11)
+given_up(1000, 'abort "no\\x00more"', ('ends', 'error Protocol caller Nul'), '14\n')
+step('step 1000 ping', ('fails', '57014'))
+row(12)
+given_up(1000, 'leave', ('ends', 'ok'), *(f'{n}\n' for n in range(1000, 2000)))
+step('step 1000 ping', ('fails', '57014'))
+row(13)
+for polls in range(11):
+    given_up(polls, 'abort "no more"', ('given', None), '17\n', '18\n')
+    step('step 1000 fetch_all raw "SELECT 1"', ('told', '1'))
+    row(400 + polls)
+    given_up(polls, 'leave', ('given', None), '19\n', '20\n')
+    step('step 1000 fetch_all raw "SELECT 1"', ('told', '1'))
+    row(500 + polls)
+step('step 1000 fetch_all raw "SELECT count(*) FROM fed"', ('row', '1'))
+
 report = subprocess.run([program, 'live', url], input='\n'.join(steps) + '\n', capture_output=True, text=True).stdout
 items, bad, told = {}, 0, 0
 for line in report.splitlines():
@@ -96,6 +123,8 @@ for line in report.splitlines():
         'pieces': lambda: end == 'ok' and len(shown) == value and pieces,
         'front': lambda: pieces and (end == 'dropped' or len(shown) == ROWS),
         'fed': lambda: end in ('dropped', f'ok total {value}'),
+        'given': lambda: end in ('dropped', 'ok'),
+        'told': lambda: (end == 'ok' and shown == [value]) or (end.startswith('error Database') and '"57014"' in end and not shown),
         'most': lambda: pieces and len(shown) == value and end == 'dropped',
     }[kind]()
     if not so:

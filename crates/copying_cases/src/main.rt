@@ -1,0 +1,68 @@
+//! Cases of copies, most of them from the client, over links in memory and over a server.
+//!
+//! Each line of standard input is a row: its name, what is done on a connection, and what its link does behind the start-up. What is done stands with commas, each with
+//! what it takes behind a dash:
+//!
+//!     copy-N      a copy to the table `t` begins, and is polled so often at most; where it isn't open by then its state is dropped
+//!     send-HEX    bytes are sent to it, in hexadecimal, by one poll
+//!     push-HEX    the same by as many polls as it takes
+//!     read-HEX    the same by one poll from a source that gives three bytes at a time
+//!     fail-HEX    the same from one that fails behind its first three bytes
+//!     pipe-HEX    the same from one that gives as many as are asked for, by as many polls as it takes
+//!     tell        how its data is formatted
+//!     finish-N    it is finished, by so many polls at most
+//!     abort-N     it is given up by the message `no`
+//!     null-N      it is given up by a message with a zero byte
+//!     leave       it is dropped
+//!     out-N       a copy of so many rows to the client, of which the pieces are counted
+//!     ping-N      a ping, by so many polls at most
+//!
+//! What the link does: bytes in hexadecimal that a read gives, `wait`, `end`, `fail`; and of its writes `take` for one that takes all, and `block` for one that takes nothing yet.
+//!
+//! The name is written with each answer, behind each call how far it came (groups, frames heard, waits and moves), and last the bytes that were sent. With a URL as
+//! argument, `postgres://USER@HOST:PORT/DATABASE`, each row is done on a connection to that server.
+#![tactic(auto)]
+
+mod acting;
+mod dialling;
+mod opening;
+mod polling;
+mod telling;
+
+use crate::telling::push_sent;
+use pg_wire::Error;
+use std::alloc::Global;
+use std::{env, io};
+
+fn in_memory(alloc: Global, acts: &str, events: &str) -> Result<String, Error> {
+    let mut conn = opening::open(alloc, events)?;
+    let mut told = acting::play(alloc, &mut conn, acts)?;
+    push_sent(&mut told, &conn)?;
+    Ok(told)
+}
+
+fn on_server(rt: &HostRuntime, url: &str, acts: &str) -> Result<String, Error> {
+    let mut conn = dialling::connect(rt, url)?;
+    acting::play(rt.alloc(), &mut conn, acts)
+}
+
+fn told(rt: &HostRuntime, url: Option<&str>, row: &str) -> Result<String, Error> {
+    let (acts, events) = row.split_once(' ').unwrap_or((row, ""));
+    match url {
+        Some(url) => on_server(rt, url, acts),
+        None => in_memory(rt.alloc(), acts, events),
+    }
+}
+
+fn main(rt: HostRuntime) -> io::Result<()> {
+    let url = env::args(&rt)?.nth(1);
+    for row in rt.lines(rt.alloc()) {
+        let row = row?;
+        let (name, case) = row.as_str().split_once(' ').unwrap_or((row.as_str(), ""));
+        match told(&rt, url.as_deref(), case) {
+            Ok(told) => println!(rt; "{name}:{told}")?,
+            Err(error) => println!(rt; "{name}: {error:?}")?,
+        }
+    }
+    Ok(())
+}
