@@ -4,6 +4,7 @@
 //! two codes, the OIDs of element, base and subtype, its labels and its attributes; a minus stands for none. `forget` forgets all rows.
 //! `take` takes the rows with these OIDs in this order. `serve` asks for a type and answers each lookup by the rows that it asks. `text`
 //! writes a lookup, and `columns` a column lookup. `names` takes rows of a column lookup, behind a semicolon each, and tells names of columns.
+//! `type_row` and `column_row` read a row of a lookup from its values, which have a bar between them; a minus stands for a null.
 //! `nullable` writes the query that asks of so many columns whether they may be null, and `plan` marks a query's outputs by its plan. The line is
 //! written with what came of it behind it.
 #![tactic(auto)]
@@ -11,6 +12,7 @@
 mod columns;
 mod described;
 mod kinds;
+mod lookups;
 mod plans;
 mod rows;
 mod types;
@@ -34,6 +36,8 @@ fn played(alloc: Global, rows: &mut Vec<Text>, verb: &str, rest: &str) -> Result
         "text" => types::lookup(alloc, rest),
         "columns" => columns::lookup(alloc, rest),
         "names" => columns::names(alloc, rest),
+        "type_row" => lookups::read_type(alloc, rest),
+        "column_row" => lookups::read_columns(alloc, rest),
         "nullable" => described::nullable(alloc, rest),
         "plan" => plans::walk(alloc, rest),
         _ => Ok(String::from_str(alloc, "no such case")?),

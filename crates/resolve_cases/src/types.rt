@@ -41,7 +41,8 @@ fn take_all(alloc: Global, cache: &mut TypeCache, rows: &[Text], oids: &str) -> 
     resolver.ended(alloc)
 }
 
-fn oid_or_minus(alloc: Global, oid: Option<Oid>) -> Result<String, AllocError> {
+/// A number, or a minus where there is none.
+pub fn oid_or_minus(alloc: Global, oid: Option<Oid>) -> Result<String, AllocError> {
     match oid {
         Some(oid) => format!(in alloc; "{}", oid.0),
         None => String::from_str(alloc, "-"),
@@ -71,6 +72,7 @@ pub fn tell_error(alloc: Global, error: &Error) -> Result<String, AllocError> {
             }
             Ok(told)
         }
+        Error::ColumnDecode { index } => format!(in alloc; "column {index}"),
         _ => String::from_str(alloc, "another error"),
     }
 }

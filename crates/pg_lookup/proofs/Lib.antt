@@ -1,0 +1,4 @@
+pub mod RowLaws
+pub mod ReadLaws
+pub mod UniqueLaws
+pub mod CauseLaws
