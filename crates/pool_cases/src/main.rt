@@ -4,6 +4,8 @@
 #![tactic(auto)]
 
 mod calling;
+mod copies;
+mod copying;
 mod live;
 mod opening;
 mod rows;
@@ -24,6 +26,7 @@ fn told<R: Threads + Wait + Sync>(rt: &R, alloc: Global, row: &str) -> Result<St
         "one" => rows::one(rt, alloc),
         "two" => rows::two(rt, alloc),
         "leave" => rows::leave(rt, alloc),
+        "copies" => copies::copies(rt, alloc),
         "threads" => sharing::threads(rt, alloc),
         _ => Ok(String::from_str(alloc, "no such case")?),
     }

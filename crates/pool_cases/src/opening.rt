@@ -123,8 +123,8 @@ fn dialled<L: Link + Drop, D: Dial<L = L>>(
     }
 }
 
-// The connection that is made with this leave.
-fn fill<G: PoolLedger, L: Link + Drop, D: Dial<L = L>, R: Wait>(
+/// The connection that is made with this leave.
+pub(crate) fn fill<G: PoolLedger, L: Link + Drop, D: Dial<L = L>, R: Wait>(
     rt: &R,
     alloc: Global,
     pool: &PgPool<G, L>,

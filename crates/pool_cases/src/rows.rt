@@ -98,7 +98,7 @@ fn crowd<G: PoolLedger, R: Wait>(
     }
 }
 
-fn close<G: PoolLedger, R: Wait>(
+pub(crate) fn close<G: PoolLedger, R: Wait>(
     rt: &R,
     alloc: Global,
     pool: &Pool<G>,

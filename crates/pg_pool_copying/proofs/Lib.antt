@@ -1,0 +1,2 @@
+mod LeavingLaws
+mod OwingLaws

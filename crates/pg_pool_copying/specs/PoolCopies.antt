@@ -1,0 +1,66 @@
+-- What a copy over a pool makes of what an acquire answered, and what is left of it for the pool.
+use Rattle.std.specs.Prelude.{ℕ, ◌≡◌, List, Option, Some, None, IfSome, Result, Ok, Err}
+use Rattle.pg_wire.specs.declared.error.Error.{Error}
+use Rattle.pg_request.specs.Queries.{plain_text}
+use Rattle.pg_call.specs.declared.request.Request.{Request}
+use Rattle.pg_call.specs.declared.request.Request.TheVariants as requests
+use Rattle.pg_conn.specs.Connections.{left_by}
+use Rattle.pg_conn.specs.Cleanliness.{is_clean}
+use Rattle.pg_guards.specs.declared.copy_out.CopyOut.{CopyOut}
+use Rattle.pg_copying.specs.declared.copy_in.BeginCopyIn.{BeginCopyIn}
+use Rattle.pg_copying.specs.Copies.{unfed_copy}
+use Rattle.pg_pool.specs.Seats.{SeatSeen}
+use Rattle.pg_pool.specs.Sections.{Acquires, Releases}
+use Rattle.pg_listen.specs.declared.handed.Acquired.{Acquired}
+use Rattle.pg_listen.specs.declared.handed.Acquired.TheVariants as acquired
+use Rattle.pg_listen.specs.declared.handed.Released.{Released}
+use Rattle.pg_listen.specs.Handed.{HeldOf}
+use Rattle.pg_listen.specs.Pools.{Section, acquired_as, released_as}
+use Rattle.pg_pool_copying.specs.declared.pool_copy.PoolCopy.{PoolCopy}
+use Rattle.pg_pool_copying.specs.declared.pool_copy.PoolCopy.TheVariants as copies
+
+-- a copy by this text over what holds a connection, before its first poll
+abbrev pub new_copy_in : {C A : Type 0} → List ℕ → C → BeginCopyIn C A
+new_copy_in sql c = record { conn = Some c; request = Some (requests.CopyIn (unfed_copy sql)) }
+
+abbrev pub new_copy_out : {C A : Type 0} → List ℕ → C → CopyOut C A
+new_copy_out sql c = record { conn = c; request = Some (requests.CopyOut (plain_text sql)) }
+
+-- what is made of what was acquired: a copy begins over the connection, and leave is handed on
+abbrev pub begun_over : {A S : Type 0} → (HeldOf A → S) → Acquired A → PoolCopy S
+begun_over begins (acquired.Idle held) = copies.Started (begins held)
+begun_over begins (acquired.New ticket) = copies.New ticket
+
+-- and so is a refusal
+abbrev pub copied_over : {A S : Type 0} → (HeldOf A → S) → Result (Acquired A) Error → Result (PoolCopy S) Error
+copied_over begins (Ok got) = Ok (begun_over begins got)
+copied_over begins (Err e) = Err e
+
+-- The lock is taken once, for an acquire, and the answer is made of what that one was answered. So a refusal has the place of the entry that this acquire added.
+abbrev pub AcquiresFor : {A S : Type 0} → ℕ → SeatSeen → SeatSeen → (HeldOf A → S) → Result (PoolCopy S) Error → Type 0
+AcquiresFor {A} most s t begins result = (answer : Result (Acquired A) Error) × Section most (λ a b. Acquires is_clean s t a b (acquired_as answer)) × (result ≡ copied_over begins answer)
+
+-- the connection that it begins over is of the pool of this name, or it is leave of that pool
+abbrev pub IsOfPool : {A S : Type 0} → ℕ → (S → Option (HeldOf A)) → PoolCopy S → Type 0
+IsOfPool name conn (copies.Started state) = IfSome (conn state) (λ held. held.name ≡ name)
+IsOfPool name conn (copies.New ticket) = ticket.name ≡ name
+
+abbrev pub IfStarted : {S : Type 0} → (S → Type 0) → PoolCopy S → Type 0
+IfStarted holds (copies.Started state) = holds state
+IfStarted holds (copies.New ticket) = Unit {0}
+
+-- ---- one that is given up
+
+-- a connection of a pool, as the drop of a call's state leaves it
+abbrev pub left_held : {A : Type 0} → Option Request → HeldOf A → HeldOf A
+left_held request held = record held { conn = left_by request held.conn }
+
+-- a release of what is left
+abbrev pub ReleasesLeft : {A : Type 0} → ℕ → SeatSeen → SeatSeen → Option Request → HeldOf A → Released A → Type 0
+ReleasesLeft most s t request held released = Section most (λ a b. Releases is_clean s t a b (left_held request held) (released_as released))
+
+-- or nothing was held any more
+abbrev pub ReleasesIfHeld : {A : Type 0} → ℕ → SeatSeen → SeatSeen → Option Request → Option (HeldOf A) → Option (Released A) → Type 0
+ReleasesIfHeld most s t request (Some held) (Some released) = ReleasesLeft most s t request held released
+ReleasesIfHeld most s t request None None = t ≡ s
+ReleasesIfHeld most s t request _ _ = ⊥

@@ -1,0 +1,122 @@
+ghost use Rattle.std.specs.Prelude.{◌≡◌, Some, IfOk};
+ghost use Rattle.pg_call.specs.declared.kind.Kind.TheVariants as kinds;
+ghost use Rattle.pg_conn.specs.Connections.{begun_by};
+ghost use Rattle.pg_conn.specs.States.{IsCalling};
+ghost use Rattle.pg_copying.specs.Copies.{IsOpening};
+ghost use Rattle.pg_pool_copying.specs.PoolCopies.{AcquiresFor, IfStarted, IsOfPool, begun_over, new_copy_in, new_copy_out};
+
+use pg_copying::{BeginCopyIn, copy_in_raw};
+use pg_guards::{CopyOut, copy_out_raw};
+use pg_listen::{Acquired, PgPool, PoolConnection, PoolLedger, PoolSeat, Ticket};
+use pg_stream::Link;
+use pg_wire::{Error, Text};
+use std::sync::Wait;
+
+/// A copy over a pool.
+pub enum PoolCopy<S> {
+    /// Its state, over a connection that was idle, and is clean. It must be spent, by its `into_conn`.
+    Started(S),
+    /// Leave to make a connection, on which the copy may then begin.
+    New(Ticket),
+}
+
+/// Copies that take their connection out of a pool.
+pub trait PgPoolCopyExt {
+    ghost use Rattle.std.specs.Prelude.{ℕ};
+
+    /// The ledger of the pool.
+    type G: PoolLedger;
+
+    /// The link under its connections.
+    type L: Link;
+
+    /// The name of the pool.
+    ghost name: { Self → ℕ };
+
+    /// Acquires as `PgPool::acquire` does, with its refusals and in one critical section. Where a connection is idle it is handed to `copy_in_raw` of `pg_copying`,
+    /// whose state does nothing before its first poll.
+    fn copy_in_raw(
+        &self,
+        rt: &impl Wait,
+        seat: &mut PoolSeat<Self::G>,
+        statement: Text,
+    ) -> Result<PoolCopy<BeginCopyIn<PoolConnection<Self::L>>>, Error>
+        requires { seat.old.name ≡ name self.now }
+        ensures named { IfOk result (IsOfPool (name self.now) (λ s. s.conn)) }
+        ensures calling { IfOk result (IfStarted (λ s. IsOpening (λ p. p.conn) s.request s.conn)) }
+        ensures seat { seat.new.name ≡ seat.old.name }
+        ensures acquires { AcquiresFor Self.G.most seat.old seat.new (new_copy_in statement) result };
+
+    /// The same with `copy_out_raw` of `pg_guards`.
+    fn copy_out_raw(
+        &self,
+        rt: &impl Wait,
+        seat: &mut PoolSeat<Self::G>,
+        statement: Text,
+    ) -> Result<PoolCopy<CopyOut<PoolConnection<Self::L>>>, Error>
+        requires { seat.old.name ≡ name self.now }
+        ensures named { IfOk result (IsOfPool (name self.now) (λ s. Some s.conn)) }
+        ensures calling { IfOk result (IfStarted (λ s. IsCalling kinds.CopyOut (begun_by s.request s.conn.conn))) }
+        ensures seat { seat.new.name ≡ seat.old.name }
+        ensures acquires { AcquiresFor Self.G.most seat.old seat.new (new_copy_out statement) result };
+}
+
+// A copy from the client over a connection that was idle, or leave.
+fn begin_in<L: Link>(
+    acquired: Acquired<L>,
+    statement: Text,
+) -> PoolCopy<BeginCopyIn<PoolConnection<L>>>
+    ensures over { result ≡ begun_over (new_copy_in statement) acquired }
+    ensures calling { IfStarted (λ s. IsOpening (λ p. p.conn) s.request s.conn) result }
+{
+    match acquired {
+        Acquired::Idle(held) => PoolCopy::Started(copy_in_raw(held, statement)),
+        Acquired::New(ticket) => PoolCopy::New(ticket),
+    }
+}
+
+// The same to the client.
+fn begin_out<L: Link>(
+    acquired: Acquired<L>,
+    statement: Text,
+) -> PoolCopy<CopyOut<PoolConnection<L>>>
+    ensures over { result ≡ begun_over (new_copy_out statement) acquired }
+    ensures calling { IfStarted (λ s. IsCalling kinds.CopyOut (begun_by s.request s.conn.conn)) result }
+{
+    match acquired {
+        Acquired::Idle(held) => PoolCopy::Started(copy_out_raw(held, statement)),
+        Acquired::New(ticket) => PoolCopy::New(ticket),
+    }
+}
+
+impl<G: PoolLedger, L: Link> PgPoolCopyExt for PgPool<G, L> {
+    type G = G;
+
+    type L = L;
+
+    ghost name = { λ p. p.name };
+
+    fn copy_in_raw(
+        &self,
+        rt: &impl Wait,
+        seat: &mut PoolSeat<G>,
+        statement: Text,
+    ) -> Result<PoolCopy<BeginCopyIn<PoolConnection<L>>>, Error> {
+        match self.acquire(rt, seat) {
+            Ok(acquired) => Ok(begin_in(acquired, statement)),
+            Err(e) => Err(e),
+        }
+    }
+
+    fn copy_out_raw(
+        &self,
+        rt: &impl Wait,
+        seat: &mut PoolSeat<G>,
+        statement: Text,
+    ) -> Result<PoolCopy<CopyOut<PoolConnection<L>>>, Error> {
+        match self.acquire(rt, seat) {
+            Ok(acquired) => Ok(begin_out(acquired, statement)),
+            Err(e) => Err(e),
+        }
+    }
+}
