@@ -1,0 +1,8 @@
+use Rattle.std.proofs.Common.{sym, subst}
+use Rattle.pg_pool.specs.Seats.{SeatSeen}
+use Rattle.pg_reconnect.specs.Waiting.{NotesBy}
+use Rattle.pg_listeners.proofs.listener.PgListener.poll_recv.Goals as goal
+
+pub returns-clause-closed : goal.returns-clause-closed
+returns-clause-closed g c =
+    rw c.told_one.ensures (subst (λ (s : SeatSeen). NotesBy g.row.D-L.Denot g.G.PoolLedger.most s c.poll_recv.result) (sym (g.met.S.SeatHolder.written c.self.inside.seat c.poll_recv.new.seat)) c.poll_recv.ensures.closed)

@@ -1,0 +1,140 @@
+//! The calls of a listener that change its channels.
+ghost use Rattle.std.specs.Prelude.{◌≡◌, true, false, [], None, Some};
+ghost use Rattle.pg_reconnect.specs.Hearing.{HearsBy};
+ghost use Rattle.pg_reconnect.specs.Waiting.{OnPending};
+ghost use Rattle.pg_listeners.specs.Listeners.{MakesChange, WaitsBegun, goes_on, is_answered};
+
+use crate::answering::is_answered;
+use crate::{ChannelChange, PgListener, PoolHolder, SeatHolder};
+use pg_conn::Dial;
+use pg_listen::{PoolLedger, PoolSeat};
+use pg_wire::{Error, Poll, Sequence, Text};
+use std::sync::Wait;
+
+/// The state of `PgListener::listen`, `listen_all`, `unlisten` and `unlisten_all`. It does nothing before its first poll; dropped before its end it leaves
+/// the channels as they stand, and a statement that was sent is given up.
+pub struct ChangeChannels<
+    'l,
+    G: PoolLedger,
+    P: PoolHolder<G, D::L>,
+    S: SeatHolder<Seat = PoolSeat<G>>,
+    D: Dial,
+    C = ChannelChange,
+> {
+    listener: &'l mut PgListener<G, P, S, D>,
+    change: Option<C>,
+    is_over: bool,
+}
+
+impl<
+    G: PoolLedger,
+    P: PoolHolder<G, D::L>,
+    S: SeatHolder<Seat = PoolSeat<G>>,
+    D: Dial,
+    C: Drop,
+> Drop for ChangeChannels<'_, G, P, S, D, C> {
+    fn drop(self)
+        ensures { self.exit.0.now ≡ self.entry.listener.now }
+    {
+        let ChangeChannels {
+            listener: _,
+            change,
+            is_over: _,
+        } = self;
+        drop(change);
+    }
+}
+
+impl<G: PoolLedger, P: PoolHolder<G, D::L>, S: SeatHolder<Seat = PoolSeat<G>>, D: Dial> PgListener<
+    G,
+    P,
+    S,
+    D,
+> {
+    fn change(&mut self, change: ChannelChange) -> ChangeChannels<'_, G, P, S, D>
+        ensures same { result.listener.ghost_name ≡ self.entry.ghost_name }
+        ensures listener { result.listener.now ≡ self.old }
+        ensures change { result.change ≡ Some change }
+        ensures over { result.is_over ≡ false }
+    {
+        ChangeChannels {
+            listener: self,
+            change: Some(change),
+            is_over: false,
+        }
+    }
+
+    /// Listens to a channel, which is stored once its statement has succeeded.
+    pub fn listen(&mut self, channel: Text) -> ChangeChannels<'_, G, P, S, D>
+        ensures same { result.listener.ghost_name ≡ self.entry.ghost_name }
+        ensures listener { result.listener.now ≡ self.old }
+        ensures change { result.change ≡ Some (ChannelChange.Listen channel) }
+        ensures over { result.is_over ≡ false }
+    {
+        self.change(ChannelChange::Listen(channel))
+    }
+
+    /// Listens to several channels, which are stored before their statement is asked.
+    pub fn listen_all(&mut self, channels: Sequence<Text>) -> ChangeChannels<'_, G, P, S, D>
+        ensures same { result.listener.ghost_name ≡ self.entry.ghost_name }
+        ensures listener { result.listener.now ≡ self.old }
+        ensures change { result.change ≡ Some (ChannelChange.ListenAll channels) }
+        ensures over { result.is_over ≡ false }
+    {
+        self.change(ChannelChange::ListenAll(channels))
+    }
+
+    /// Listens to a channel no longer. It asks nothing where no connection is held.
+    pub fn unlisten(&mut self, channel: Text) -> ChangeChannels<'_, G, P, S, D>
+        ensures same { result.listener.ghost_name ≡ self.entry.ghost_name }
+        ensures listener { result.listener.now ≡ self.old }
+        ensures change { result.change ≡ Some (ChannelChange.Unlisten channel) }
+        ensures over { result.is_over ≡ false }
+    {
+        self.change(ChannelChange::Unlisten(channel))
+    }
+
+    /// Listens to no channel any longer. It asks nothing where no connection is held.
+    pub fn unlisten_all(&mut self) -> ChangeChannels<'_, G, P, S, D>
+        ensures same { result.listener.ghost_name ≡ self.entry.ghost_name }
+        ensures listener { result.listener.now ≡ self.old }
+        ensures change { result.change ≡ Some ChannelChange.UnlistenAll }
+        ensures over { result.is_over ≡ false }
+    {
+        self.change(ChannelChange::UnlistenAll)
+    }
+}
+
+impl<
+    G: PoolLedger,
+    P: PoolHolder<G, D::L>,
+    S: SeatHolder<Seat = PoolSeat<G>>,
+    D: Dial,
+> ChangeChannels<'_, G, P, S, D>
+where
+    D::L: Drop,
+{
+    /// Whether a poll has ended the call.
+    pub fn is_finished(&self) -> bool
+        ensures { result ≡ self.now.is_over }
+    {
+        self.is_over
+    }
+
+    /// Moves the call on, by at most 256 calls of the link.
+    pub fn poll<R: Wait>(&mut self, rt: &R) -> Poll<Result<(), Error>>
+        requires over { self.old.is_over ≡ false }
+        requires goes { goes_on self.old.change self.old.listener.now.hearing ≡ true }
+        ensures over { self.new.is_over ≡ is_answered result }
+        ensures same { self.new.listener.ghost_name ≡ self.old.listener.ghost_name }
+        ensures hears { HearsBy D.L.seen self.old.listener.now.hearing self.new.listener.now.hearing [] }
+        ensures changes { MakesChange self.old.change self.old.listener.now.hearing self.new.listener.now.hearing result }
+        ensures begun { self.new.change ≡ None }
+        ensures pending { OnPending result (WaitsBegun D.L.seen self.old.listener.now.hearing self.new.listener.now.hearing) }
+    {
+        let mut left = 256;
+        let answer = self.listener.poll_asking(rt, &mut self.change, &mut left);
+        self.is_over = is_answered(&answer);
+        answer
+    }
+}

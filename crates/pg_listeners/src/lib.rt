@@ -1,0 +1,22 @@
+//! A listener: it hears what other sessions tell its channels, over one connection of its pool after another.
+//!
+//! Begin with `connect_with`, and with the calls `listen`, `recv`, `try_recv` and `release` of `PgListener`. Each call is a state, which is polled.
+#![tactic(auto)]
+
+mod answering;
+mod change;
+mod connect;
+mod holders;
+mod listener;
+mod receive;
+mod release;
+mod stream;
+
+pub use change::ChangeChannels;
+pub use connect::{Connect, connect_with};
+pub use holders::{PoolHolder, SeatHolder};
+pub use listener::PgListener;
+pub use pg_listening::{ChannelChange, PgNotification};
+pub use receive::{Recv, TryRecv};
+pub use release::Release;
+pub use stream::NotificationStream;

@@ -1,0 +1,292 @@
+//! A listener with what holds its pool and its participant, and with its dial.
+ghost use Rattle.std.specs.Prelude.{◌≡◌, ◌⊎◌, ◌≤◌, ◌++◌, true, false, [], None, Err, IsSome, OnErr, OnOk, is_some, option_to_list};
+ghost use Rattle.pg_conn.specs.News.{given};
+ghost use Rattle.pg_listening.specs.Buffers.{buffered};
+ghost use Rattle.pg_reconnect.specs.Hearing.{Changes, GivesOldest, HearsBy, OnReady, TellsLoss, buffers_of, channels_at_ok, fresh_hearing, gave_by, is_changing};
+ghost use Rattle.pg_reconnect.specs.Waiting.{AsksClosed, NotesBy, OnNone, OnPending, ReadiesBy, WaitsBy};
+ghost use Rattle.pg_listeners.specs.Listeners.{MakesChange, WaitsBehind, goes_on, stored_by, wanted_by};
+
+use crate::{ChannelChange, PgNotification, PoolHolder, SeatHolder};
+use pg_conn::Dial;
+use pg_listen::{PoolLedger, PoolSeat, Released};
+use pg_reconnect::Hearing;
+use pg_wire::{Error, Notification, Poll, Text};
+use std::alloc::Global;
+use std::marker::{Model, PhantomData};
+use std::sync::Wait;
+
+// What was told, as notifications of a listener.
+fn told(
+    answer: Poll<Result<Option<Notification>, Error>>,
+) -> Poll<Result<Option<PgNotification>, Error>>
+    ensures { result ≡ answer }
+{
+    match answer {
+        Poll::Pending => Poll::Pending,
+        Poll::Ready(Err(e)) => Poll::Ready(Err(e)),
+        Poll::Ready(Ok(None)) => Poll::Ready(Ok(None)),
+        Poll::Ready(Ok(Some(told))) => Poll::Ready(Ok(Some(PgNotification::over(told)))),
+    }
+}
+
+// The same of a call that gives one.
+fn told_one(answer: Poll<Result<Notification, Error>>) -> Poll<Result<PgNotification, Error>>
+    ensures { result ≡ answer }
+{
+    match answer {
+        Poll::Pending => Poll::Pending,
+        Poll::Ready(Err(e)) => Poll::Ready(Err(e)),
+        Poll::Ready(Ok(told)) => Poll::Ready(Ok(PgNotification::over(told))),
+    }
+}
+
+/// It hears what other sessions tell the channels that it listens to, over one connection of its pool after another. It must be spent, by
+/// `into_released`. (PostgreSQL manual, "SQL Commands", LISTEN, NOTIFY.)
+pub struct PgListener<
+    G: PoolLedger,
+    P: PoolHolder<G, D::L>,
+    S: SeatHolder<Seat = PoolSeat<G>>,
+    D: Dial,
+> {
+    pool: P,
+    seat: S,
+    dial: D,
+    hearing: Hearing<D::L>,
+    ledger: PhantomData<G>,
+}
+
+impl<G: PoolLedger, P: PoolHolder<G, D::L>, S: SeatHolder<Seat = PoolSeat<G>>, D: Dial> Model
+    for PgListener<G, P, S, D> {
+    ghost use Rattle.pg_listeners.specs.Listeners.{IsOfPool, ListenerOf};
+
+    ghost Value = { ListenerOf P S D D.L };
+
+    ghost view = { λ l. record { pool = l.pool; seat = l.seat; dial = l.dial; hearing = l.hearing } };
+
+    ghost invariant = { λ l. IsOfPool l.hearing.name (S.seat l.seat).name (P.pool l.pool).name };
+}
+
+impl<G: PoolLedger, P: PoolHolder<G, D::L>, S: SeatHolder<Seat = PoolSeat<G>>, D: Dial> PgListener<
+    G,
+    P,
+    S,
+    D,
+> {
+    /// A listener over this pool, which has no connection yet.
+    pub(crate) fn over(alloc: Global, pool: P, seat: S, dial: D, ignores_close: bool) -> Self
+        requires { (S.seat seat).name ≡ (P.pool pool).name }
+        ensures hearing { result.hearing ≡ fresh_hearing (P.pool pool).name ignores_close }
+        ensures holders { (result.pool ≡ pool) × (result.seat ≡ seat) × (result.dial ≡ dial) }
+    {
+        let name = pool.pool_ref().name();
+        PgListener {
+            pool,
+            seat,
+            dial,
+            hearing: Hearing::new(alloc, name, ignores_close),
+            ledger: PhantomData,
+        }
+    }
+
+    /// The channels that it listens to, in the order in which they were asked for.
+    pub fn channels(&self) -> &[Text]
+        ensures { result.now ≡ self.now.hearing.listening.channels }
+    {
+        self.hearing.channels()
+    }
+
+    /// Whether a loss is told behind a reconnect, or else before it.
+    pub fn eager_reconnect(&mut self, yes: bool)
+        ensures hearing { self.new.hearing ≡ record self.old.hearing { is_eager = yes } }
+    {
+        self.hearing.eager_reconnect(yes);
+    }
+
+    /// Whether it listens on where its pool was closed.
+    pub fn ignore_pool_close_event(&mut self, yes: bool)
+        ensures hearing { self.new.hearing ≡ record self.old.hearing { ignores_close = yes } }
+    {
+        self.hearing.ignore_pool_close_event(yes);
+    }
+
+    /// The links of lost connections and of failed reconnects, in order.
+    pub fn lost(&self) -> &[D::L]
+        ensures { result.now ≡ self.now.hearing.lost }
+    {
+        self.hearing.lost()
+    }
+
+    /// Takes them.
+    pub fn take_lost(&mut self) -> Vec<D::L>
+        ensures lost { result.items ≡ self.old.hearing.lost }
+        ensures rest { self.new.hearing ≡ record self.old.hearing { lost = [] } }
+    {
+        self.hearing.take_lost()
+    }
+
+    /// Takes the oldest notification that is buffered. It asks nothing of the link.
+    pub fn next_buffered(&mut self) -> Option<PgNotification>
+        ensures hears { HearsBy D.L.seen self.old.hearing self.new.hearing (option_to_list result) }
+        ensures channels { self.new.hearing.listening.channels ≡ self.old.hearing.listening.channels }
+        ensures oldest { option_to_list result ++ buffered (buffers_of D.L.seen self.new.hearing) ≡ buffered (buffers_of D.L.seen self.old.hearing) }
+    {
+        match self.hearing.next_buffered() {
+            Some(told) => Some(PgNotification::over(told)),
+            None => None,
+        }
+    }
+
+    // A call of `try_recv` or `recv` begins.
+    pub(crate) fn begin_recv(&mut self)
+        ensures { self.new ≡ record self.old { hearing = record self.old.hearing { is_lost = false } } }
+    {
+        self.hearing.begin_recv();
+    }
+
+    // A change of the channels that has not begun begins.
+    fn begin_asked(&mut self, change: &mut Option<ChannelChange>) -> Result<(), Error>
+        requires changing { goes_on change.old self.old.hearing ≡ true }
+        ensures hears { HearsBy D.L.seen self.old.hearing self.new.hearing [] }
+        ensures channels { OnOk result (self.new.hearing.listening.channels ≡ stored_by change.old self.old.hearing) }
+        ensures next { OnOk result (channels_at_ok self.new.hearing ≡ wanted_by change.old self.old.hearing) }
+        ensures changing { OnOk result (is_changing self.new.hearing ≡ true) }
+        ensures begun { change.new ≡ None }
+        ensures err { OnErr result ((self.new ≡ self.old) × (result ≡ Err Error.OutOfMemory)) }
+    {
+        match change.take() {
+            Some(change) => self.hearing.begin_change(change),
+            None => Ok(()),
+        }
+    }
+
+    /// Lets its connection go as it stands, or gives the leave to make one back. There is no answer exactly where no connection is held.
+    pub fn into_released<R: Wait>(self, rt: &R) -> Option<Released<D::L>>
+    where
+        P: Drop,
+        S: Drop,
+        D: Drop,
+        D::L: Drop,
+        ensures { is_some result ≡ is_some self.hearing.listening.conn }
+    {
+        let PgListener {
+            pool,
+            seat,
+            dial,
+            hearing,
+            ledger: _,
+        } = self;
+        drop(dial);
+        let mut seat = seat;
+        hearing.into_released(rt, pool.pool_ref(), seat.seat_mut())
+    }
+}
+
+impl<G: PoolLedger, P: PoolHolder<G, D::L>, S: SeatHolder<Seat = PoolSeat<G>>, D: Dial> PgListener<
+    G,
+    P,
+    S,
+    D,
+>
+where
+    D::L: Drop,
+{
+    // Moves a change of the channels on.
+    pub(crate) fn poll_change<R: Wait>(&mut self, rt: &R, left: &mut u16) -> Poll<Result<(), Error>>
+        requires left { left.old ≤ 256 }
+        requires changing { is_changing self.old.hearing ≡ true }
+        ensures hears { HearsBy D.L.seen self.old.hearing self.new.hearing [] }
+        ensures changes { Changes self.old.hearing.listening.channels (channels_at_ok self.old.hearing) self.new.hearing result }
+        ensures left { left.new ≤ left.old }
+        ensures pending { OnPending result (WaitsBy D.L.seen left.old left.new self.old.hearing self.new.hearing) }
+    {
+        let pool = self.pool.pool_ref();
+        let seat = self.seat.seat_mut();
+        self.hearing
+            .poll_change(rt, pool, seat, &mut self.dial, left)
+    }
+
+    // Begins a change of the channels in its first poll, and moves it on.
+    pub(crate) fn poll_asking<R: Wait>(
+        &mut self,
+        rt: &R,
+        change: &mut Option<ChannelChange>,
+        left: &mut u16,
+    ) -> Poll<Result<(), Error>>
+        requires left { left.old ≤ 256 }
+        requires changing { goes_on change.old self.old.hearing ≡ true }
+        ensures hears { HearsBy D.L.seen self.old.hearing self.new.hearing [] }
+        ensures changes { MakesChange change.old self.old.hearing self.new.hearing result }
+        ensures begun { change.new ≡ None }
+        ensures left { left.new ≤ left.old }
+        ensures pending { OnPending result (WaitsBehind D.L.seen left.old left.new self.old.hearing self.new.hearing) }
+    {
+        match self.begin_asked(change) {
+            Ok(()) => {}
+            Err(e) => return Poll::Ready(Err(e)),
+        }
+        self.poll_change(rt, left)
+    }
+
+    // Goes on until a first connection is held.
+    pub(crate) fn poll_connect<R: Wait>(
+        &mut self,
+        rt: &R,
+        left: &mut u16,
+    ) -> Poll<Result<(), Error>>
+        requires left { left.old ≤ 256 }
+        ensures hears { HearsBy D.L.seen self.old.hearing self.new.hearing [] }
+        ensures channels { self.new.hearing.listening.channels ≡ self.old.hearing.listening.channels }
+        ensures left { left.new ≤ left.old }
+        ensures held { OnReady result (IsSome self.new.hearing.listening.conn) }
+        ensures pending { OnPending result (WaitsBy D.L.seen left.old left.new self.old.hearing self.new.hearing) }
+        ensures closed { NotesBy D.L G.most (S.seat self.new.seat) result }
+    {
+        let pool = self.pool.pool_ref();
+        let seat = self.seat.seat_mut();
+        self.hearing
+            .poll_connect(rt, pool, seat, &mut self.dial, left)
+    }
+
+    // Gives a notification, or tells a loss.
+    pub(crate) fn poll_try_recv<R: Wait>(
+        &mut self,
+        rt: &R,
+        left: &mut u16,
+    ) -> Poll<Result<Option<PgNotification>, Error>>
+        requires left { left.old ≤ 256 }
+        ensures hears { HearsBy D.L.seen self.old.hearing self.new.hearing (gave_by result) }
+        ensures channels { self.new.hearing.listening.channels ≡ self.old.hearing.listening.channels }
+        ensures left { left.new ≤ left.old }
+        ensures loss { TellsLoss D.L.seen self.old.hearing self.new.hearing result }
+        ensures oldest { self.old.hearing.is_lost ≡ false → GivesOldest (buffered (buffers_of D.L.seen self.old.hearing)) result }
+        ensures again { OnNone result (self.old.hearing.is_eager ≡ true → ReadiesBy D.L.seen self.old.hearing self.new.hearing) }
+        ensures pending { OnPending result (WaitsBy D.L.seen left.old left.new self.old.hearing self.new.hearing) }
+        ensures closed { NotesBy D.L G.most (S.seat self.new.seat) result }
+        ensures asks { self.old.hearing.is_lost ≡ false → buffered (buffers_of D.L.seen self.old.hearing) ≡ [] → self.old.hearing.ignores_close ≡ false → AsksClosed D.L G.most (S.seat self.old.seat) result }
+    {
+        let pool = self.pool.pool_ref();
+        let seat = self.seat.seat_mut();
+        told(
+            self.hearing
+                .poll_try_recv(rt, pool, seat, &mut self.dial, left),
+        )
+    }
+
+    // Gives a notification, over lost connections.
+    pub(crate) fn poll_recv<R: Wait>(
+        &mut self,
+        rt: &R,
+        left: &mut u16,
+    ) -> Poll<Result<PgNotification, Error>>
+        requires left { left.old ≤ 256 }
+        ensures hears { HearsBy D.L.seen self.old.hearing self.new.hearing (given result) }
+        ensures channels { self.new.hearing.listening.channels ≡ self.old.hearing.listening.channels }
+        ensures left { left.new ≤ left.old }
+        ensures pending { OnPending result (WaitsBy D.L.seen left.old left.new self.old.hearing self.new.hearing ⊎ (left.new ≡ 0)) }
+        ensures closed { NotesBy D.L G.most (S.seat self.new.seat) result }
+    {
+        let pool = self.pool.pool_ref();
+        let seat = self.seat.seat_mut();
+        told_one(self.hearing.poll_recv(rt, pool, seat, &mut self.dial, left))
+    }
+}

@@ -1,0 +1,167 @@
+//! The calls `recv` and `try_recv` of a listener.
+ghost use Rattle.std.specs.Prelude.{◌≡◌, true, false, []};
+ghost use Rattle.pg_conn.specs.News.{given};
+ghost use Rattle.pg_listening.specs.Buffers.{buffered};
+ghost use Rattle.pg_reconnect.specs.Hearing.{GivesOldest, HearsBy, TellsLoss, buffers_of, gave_by};
+ghost use Rattle.pg_reconnect.specs.Waiting.{AsksClosed, NotesBy, OnNone, OnPending, ReadiesBy};
+ghost use Rattle.pg_listeners.specs.Listeners.{Waits, WaitsOrSpent, is_answered};
+
+use crate::answering::is_answered;
+use crate::{PgListener, PgNotification, PoolHolder, SeatHolder};
+use pg_conn::Dial;
+use pg_listen::{PoolLedger, PoolSeat};
+use pg_wire::{Error, Poll};
+use std::sync::Wait;
+
+/// The state of `PgListener::try_recv`. Dropped before its end it leaves the listener as it stands, and what was read is buffered.
+pub struct TryRecv<
+    'l,
+    G: PoolLedger,
+    P: PoolHolder<G, D::L>,
+    S: SeatHolder<Seat = PoolSeat<G>>,
+    D: Dial,
+> {
+    listener: &'l mut PgListener<G, P, S, D>,
+    is_over: bool,
+}
+
+/// The state of `PgListener::recv`. Dropped before its end it leaves the listener as it stands, and what was read is buffered.
+pub struct Recv<
+    'l,
+    G: PoolLedger,
+    P: PoolHolder<G, D::L>,
+    S: SeatHolder<Seat = PoolSeat<G>>,
+    D: Dial,
+> {
+    listener: &'l mut PgListener<G, P, S, D>,
+    is_over: bool,
+}
+
+impl<G: PoolLedger, P: PoolHolder<G, D::L>, S: SeatHolder<Seat = PoolSeat<G>>, D: Dial> Drop
+    for TryRecv<'_, G, P, S, D> {
+    fn drop(self)
+        ensures { self.exit.0.now ≡ self.entry.listener.now }
+    {
+        let TryRecv {
+            listener: _,
+            is_over: _,
+        } = self;
+    }
+}
+
+impl<G: PoolLedger, P: PoolHolder<G, D::L>, S: SeatHolder<Seat = PoolSeat<G>>, D: Dial> Drop
+    for Recv<'_, G, P, S, D> {
+    fn drop(self)
+        ensures { self.exit.0.now ≡ self.entry.listener.now }
+    {
+        let Recv {
+            listener: _,
+            is_over: _,
+        } = self;
+    }
+}
+
+impl<G: PoolLedger, P: PoolHolder<G, D::L>, S: SeatHolder<Seat = PoolSeat<G>>, D: Dial> PgListener<
+    G,
+    P,
+    S,
+    D,
+> {
+    /// Waits for a notification, or for a loss of the connection, which is told once.
+    pub fn try_recv(&mut self) -> TryRecv<'_, G, P, S, D>
+        ensures same { result.listener.ghost_name ≡ self.entry.ghost_name }
+        ensures listener { result.listener.now ≡ record self.old { hearing = record self.old.hearing { is_lost = false } } }
+        ensures over { result.is_over ≡ false }
+    {
+        self.begin_recv();
+        TryRecv {
+            listener: self,
+            is_over: false,
+        }
+    }
+
+    /// Waits for a notification, over lost connections.
+    pub fn recv(&mut self) -> Recv<'_, G, P, S, D>
+        ensures same { result.listener.ghost_name ≡ self.entry.ghost_name }
+        ensures listener { result.listener.now ≡ record self.old { hearing = record self.old.hearing { is_lost = false } } }
+        ensures over { result.is_over ≡ false }
+    {
+        self.begin_recv();
+        Recv {
+            listener: self,
+            is_over: false,
+        }
+    }
+}
+
+impl<G: PoolLedger, P: PoolHolder<G, D::L>, S: SeatHolder<Seat = PoolSeat<G>>, D: Dial> TryRecv<
+    '_,
+    G,
+    P,
+    S,
+    D,
+>
+where
+    D::L: Drop,
+{
+    /// Whether a poll has ended the call.
+    pub fn is_finished(&self) -> bool
+        ensures { result ≡ self.now.is_over }
+    {
+        self.is_over
+    }
+
+    /// Moves the call on, by at most 256 calls of links. `None` tells that the connection was lost in this call.
+    pub fn poll<R: Wait>(&mut self, rt: &R) -> Poll<Result<Option<PgNotification>, Error>>
+        requires over { self.old.is_over ≡ false }
+        ensures over { self.new.is_over ≡ is_answered result }
+        ensures same { self.new.listener.ghost_name ≡ self.old.listener.ghost_name }
+        ensures hears { HearsBy D.L.seen self.old.listener.now.hearing self.new.listener.now.hearing (gave_by result) }
+        ensures channels { self.new.listener.now.hearing.listening.channels ≡ self.old.listener.now.hearing.listening.channels }
+        ensures loss { TellsLoss D.L.seen self.old.listener.now.hearing self.new.listener.now.hearing result }
+        ensures oldest { self.old.listener.now.hearing.is_lost ≡ false → GivesOldest (buffered (buffers_of D.L.seen self.old.listener.now.hearing)) result }
+        ensures again { OnNone result (self.old.listener.now.hearing.is_eager ≡ true → ReadiesBy D.L.seen self.old.listener.now.hearing self.new.listener.now.hearing) }
+        ensures pending { OnPending result (Waits D.L.seen self.old.listener.now.hearing self.new.listener.now.hearing) }
+        ensures closed { NotesBy D.L G.most (S.seat self.new.listener.now.seat) result }
+        ensures asks { self.old.listener.now.hearing.is_lost ≡ false → buffered (buffers_of D.L.seen self.old.listener.now.hearing) ≡ [] → self.old.listener.now.hearing.ignores_close ≡ false → AsksClosed D.L G.most (S.seat self.old.listener.now.seat) result }
+    {
+        let mut left = 256;
+        let answer = self.listener.poll_try_recv(rt, &mut left);
+        self.is_over = is_answered(&answer);
+        answer
+    }
+}
+
+impl<G: PoolLedger, P: PoolHolder<G, D::L>, S: SeatHolder<Seat = PoolSeat<G>>, D: Dial> Recv<
+    '_,
+    G,
+    P,
+    S,
+    D,
+>
+where
+    D::L: Drop,
+{
+    /// Whether a poll has ended the call.
+    pub fn is_finished(&self) -> bool
+        ensures { result ≡ self.now.is_over }
+    {
+        self.is_over
+    }
+
+    /// Moves the call on, by at most 256 calls of links.
+    pub fn poll<R: Wait>(&mut self, rt: &R) -> Poll<Result<PgNotification, Error>>
+        requires over { self.old.is_over ≡ false }
+        ensures over { self.new.is_over ≡ is_answered result }
+        ensures same { self.new.listener.ghost_name ≡ self.old.listener.ghost_name }
+        ensures hears { HearsBy D.L.seen self.old.listener.now.hearing self.new.listener.now.hearing (given result) }
+        ensures channels { self.new.listener.now.hearing.listening.channels ≡ self.old.listener.now.hearing.listening.channels }
+        ensures pending { OnPending result (WaitsOrSpent D.L.seen self.old.listener.now.hearing self.new.listener.now.hearing) }
+        ensures closed { NotesBy D.L G.most (S.seat self.new.listener.now.seat) result }
+    {
+        let mut left = 256;
+        let answer = self.listener.poll_recv(rt, &mut left);
+        self.is_over = is_answered(&answer);
+        answer
+    }
+}

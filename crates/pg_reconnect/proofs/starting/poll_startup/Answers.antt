@@ -1,0 +1,15 @@
+use Rattle.std.proofs.Common.{refl, rules}
+use Rattle.pg_reconnect.proofs.ClosedLaws.{fills_ended, fills_waits}
+use Rattle.pg_reconnect.proofs.starting.poll_startup.Goals as goal
+
+pub returns-in-Pending-clause-fills : goal.returns-in-Pending-clause-fills
+returns-in-Pending-clause-fills g c =
+    let fills = rw c.in-Some.is at c.requires.mine in
+    let told = c.in-Pending.ensures in
+    (c.poll_within.new.self, refl, fills_waits g.L.Link.seen _ _ _ _ c.poll_within.new.self fills told.ticket told.left.0 told.polls)
+
+pub returns-in-Ready-clause-fills : goal.returns-in-Ready-clause-fills
+returns-in-Ready-clause-fills g c =
+    let fills = rw c.in-Some.is at c.requires.mine in
+    let told = c.in-Ready.ensures in
+    rw c.with_link.ensures (fills_ended g.L.Link.seen _ _ _ _ c.poll_within.new.self c.in-Ready.answer c.give_up-link.result _ fills (search rules) told.ticket told.polls)

@@ -1,0 +1,437 @@
+//! How a listener comes by a connection, and how it loses one.
+ghost use Rattle.std.specs.Prelude.{◌≡◌, ◌≤◌, ◌<◌, ◌++◌, true, false, [], None, Some, IfErr, IsSome, OnErr, OnOk, option_to_list, vec_capacity, vec_len};
+ghost use Rattle.pg_reconnect.specs.Hearing.{AsksAgain, HearsBy, LosesHeld, OnReady};
+ghost use Rattle.pg_reconnect.specs.Leaving.{Fills, IsOpenPool, NotesClosed};
+ghost use Rattle.pg_reconnect.specs.Waiting.{EndsWell, NoneClosed, NotesBy, OnPending, ReadiesBy, StartsFrom, WaitsBy};
+
+use crate::Hearing;
+use crate::dialling::{Found, find};
+use crate::leaving::close;
+use crate::starting::poll_startup;
+use pg_conn::Dial;
+use pg_listen::{EstablishPooled, PgPool, PoolConnection, PoolLedger, PoolSeat};
+use pg_stream::Link;
+use pg_wire::{Error, Poll};
+use std::sync::Wait;
+
+// An error of a connection: none of them tells of a pool.
+fn of_connection(e: Error) -> Error
+    ensures { IsOpenPool result }
+{
+    match e {
+        Error::PoolClosed { place: _ } => Error::OutOfMemory,
+        e => e,
+    }
+}
+
+// Keeps a link that was lost, if there is one, in room for it.
+fn keep_lost<L>(lost: &mut Vec<L>, link: Option<L>)
+    requires { vec_len lost.old < vec_capacity lost.old }
+    ensures { lost.new.items ≡ lost.old.items ++ option_to_list link }
+{
+    match link {
+        Some(link) => lost.push_reserved(link),
+        None => {}
+    }
+}
+
+impl<L: Link> Hearing<L> {
+    // The connection is lost: what it keeps goes behind what is kept of earlier ones, its pool keeps it no longer, and its link is kept.
+    #[tactic(auto, using(crate::proofs::HearingLaws::hears_nothing, crate::proofs::HearingLaws::hears_without, crate::proofs::BufferingLaws::hears_behind, crate::proofs::BufferingLaws::at_once))]
+    pub(crate) fn lose<G: PoolLedger, R: Wait>(
+        &mut self,
+        rt: &R,
+        pool: &PgPool<G, L>,
+        seat: &mut PoolSeat<G>,
+    ) -> Result<(), Error>
+        requires held { IsSome self.old.listening.conn }
+        requires mine { self.old.name ≡ pool.now.name }
+        requires theirs { seat.old.name ≡ pool.now.name }
+        ensures hears { HearsBy L.seen self.old self.new [] }
+        ensures channels { self.new.listening.channels ≡ self.old.listening.channels }
+        ensures seat { seat.new.name ≡ seat.old.name }
+        ensures loss { self.new.is_lost ≡ self.old.is_lost }
+        ensures link { OnOk result (LosesHeld self.old.listening.conn self.old.lost self.new.lost) }
+        ensures lost { OnErr result (self.new.lost ≡ self.old.lost) }
+        ensures startup { self.new.startup ≡ self.old.startup }
+        ensures ready { self.new.is_ready ≡ false }
+        ensures open { IfErr result IsOpenPool }
+    {
+        self.is_again = false;
+        self.is_ready = false;
+        self.listening.save()?;
+        self.lost.reserve(1)?;
+        match self.listening.let_go() {
+            Some(held) => {
+                self.lost.push_reserved(close(rt, held, pool, seat));
+                Ok(())
+            }
+            None => unreachable!(),
+        }
+    }
+
+    // Takes up a connection.
+    #[tactic(auto, using(crate::proofs::HearingLaws::hears_nothing, crate::proofs::HearingLaws::hears_without, crate::proofs::BufferingLaws::hears_behind, crate::proofs::BufferingLaws::at_once))]
+    fn hold(&mut self, held: PoolConnection<L>)
+        requires none { self.old.listening.conn ≡ None }
+        requires mine { held.name ≡ self.old.name }
+        ensures hears { HearsBy L.seen self.old self.new [] }
+        ensures channels { self.new.listening.channels ≡ self.old.listening.channels }
+        ensures held { IsSome self.new.listening.conn }
+        ensures startup { self.new.startup ≡ self.old.startup }
+        ensures lost { self.new.lost ≡ self.old.lost }
+        ensures loss { self.new.is_lost ≡ self.old.is_lost }
+        ensures ready { self.new.is_ready ≡ false }
+    {
+        self.is_again = false;
+        self.is_ready = false;
+        self.listening.hold(held);
+    }
+
+    fn start(&mut self, state: EstablishPooled<L>)
+        requires none { self.old.startup ≡ None }
+        requires fills { Fills L.seen self.old.name state }
+        ensures { self.new ≡ record self.old { startup = Some state } }
+    {
+        match self.startup.replace(state) {
+            None => {}
+            Some(_before) => unreachable!(),
+        }
+    }
+
+    // Finds a connection, or begins a start-up. Room for a link that is lost in this is made before.
+    #[tactic(auto, using(crate::proofs::HearingLaws::hears_nothing, crate::proofs::HearingLaws::hears_without, crate::proofs::BufferingLaws::hears_behind, crate::proofs::BufferingLaws::at_once))]
+    fn connect<G: PoolLedger, D: Dial<L = L>, R: Wait>(
+        &mut self,
+        rt: &R,
+        pool: &PgPool<G, L>,
+        seat: &mut PoolSeat<G>,
+        dial: &mut D,
+    ) -> Result<(), Error>
+        requires none { self.old.listening.conn ≡ None }
+        requires idle { self.old.startup ≡ None }
+        requires mine { self.old.name ≡ pool.now.name }
+        requires theirs { seat.old.name ≡ pool.now.name }
+        ensures hears { HearsBy L.seen self.old self.new [] }
+        ensures channels { self.new.listening.channels ≡ self.old.listening.channels }
+        ensures seat { seat.new.name ≡ seat.old.name }
+        ensures loss { self.new.is_lost ≡ self.old.is_lost }
+        ensures lost { OnOk result (self.new.lost ≡ self.old.lost) }
+        ensures found { OnOk result (self.new.listening.conn ≡ None → IsSome self.new.startup) }
+        ensures startup { OnOk result (StartsFrom L.seen self.old.startup self.new.startup) }
+        ensures ready { self.new.is_ready ≡ false }
+        ensures closed { IfErr result (NotesClosed L G.most seat.new) }
+    {
+        self.lost.reserve(1)?;
+        match find(rt, self.alloc, pool, seat, dial) {
+            Ok(Found::Held(held)) => {
+                self.hold(held);
+                Ok(())
+            }
+            Ok(Found::Starting(state)) => {
+                self.start(state);
+                Ok(())
+            }
+            Err((e, link)) => {
+                keep_lost(&mut self.lost, link);
+                Err(e)
+            }
+        }
+    }
+}
+
+impl<L: Link + Drop> Hearing<L> {
+    // Moves the start-up on. Where it has failed its link is kept.
+    #[tactic(auto, using(crate::proofs::HearingLaws::hears_nothing, crate::proofs::HearingLaws::hears_without, crate::proofs::BufferingLaws::hears_behind, crate::proofs::BufferingLaws::at_once))]
+    fn poll_start_up<G: PoolLedger, R: Wait>(
+        &mut self,
+        rt: &R,
+        pool: &PgPool<G, L>,
+        seat: &mut PoolSeat<G>,
+        left: &mut u16,
+    ) -> Poll<Result<(), Error>>
+        requires none { self.old.listening.conn ≡ None }
+        requires starts { IsSome self.old.startup }
+        requires mine { self.old.name ≡ pool.now.name }
+        requires theirs { seat.old.name ≡ pool.now.name }
+        requires left { left.old ≤ 256 }
+        ensures hears { HearsBy L.seen self.old self.new [] }
+        ensures channels { self.new.listening.channels ≡ self.old.listening.channels }
+        ensures seat { seat.new.name ≡ seat.old.name }
+        ensures loss { self.new.is_lost ≡ self.old.is_lost }
+        ensures left { left.new ≤ left.old }
+        ensures lost { OnReady result (self.new.lost ≡ self.old.lost) }
+        ensures held { OnReady result (IsSome self.new.listening.conn) }
+        ensures startup { OnReady result (StartsFrom L.seen self.old.startup self.new.startup) }
+        ensures ready { OnReady result (self.new.is_ready ≡ false) }
+        ensures pending { OnPending result (WaitsBy L.seen left.old left.new self.old self.new) }
+        ensures open { NoneClosed result }
+    {
+        match self.lost.reserve(1) {
+            Ok(()) => {}
+            Err(_) => return Poll::Ready(Err(Error::OutOfMemory)),
+        }
+        match poll_startup(rt, &mut self.startup, pool, seat, left) {
+            Poll::Pending => Poll::Pending,
+            Poll::Ready(Err((e, link))) => {
+                keep_lost(&mut self.lost, link);
+                Poll::Ready(Err(e))
+            }
+            Poll::Ready(Ok(held)) => {
+                self.hold(held);
+                Poll::Ready(Ok(()))
+            }
+        }
+    }
+
+    // Moves a start-up on that has begun, where the pool had no connection.
+    #[tactic(auto, using(crate::proofs::HearingLaws::hears_nothing, crate::proofs::HearingLaws::hears_without, crate::proofs::BufferingLaws::hears_behind, crate::proofs::BufferingLaws::at_once))]
+    fn poll_begun<G: PoolLedger, R: Wait>(
+        &mut self,
+        rt: &R,
+        pool: &PgPool<G, L>,
+        seat: &mut PoolSeat<G>,
+        left: &mut u16,
+    ) -> Poll<Result<(), Error>>
+        requires starts { self.old.listening.conn ≡ None → IsSome self.old.startup }
+        requires mine { self.old.name ≡ pool.now.name }
+        requires theirs { seat.old.name ≡ pool.now.name }
+        requires left { left.old ≤ 256 }
+        ensures hears { HearsBy L.seen self.old self.new [] }
+        ensures channels { self.new.listening.channels ≡ self.old.listening.channels }
+        ensures seat { seat.new.name ≡ seat.old.name }
+        ensures loss { self.new.is_lost ≡ self.old.is_lost }
+        ensures left { left.new ≤ left.old }
+        ensures lost { OnReady result (self.new.lost ≡ self.old.lost) }
+        ensures held { OnReady result (IsSome self.new.listening.conn) }
+        ensures startup { OnReady result (StartsFrom L.seen self.old.startup self.new.startup) }
+        ensures ready { OnReady result (self.new.is_ready ≡ true → self.new ≡ self.old) }
+        ensures pending { OnPending result (WaitsBy L.seen left.old left.new self.old self.new) }
+        ensures open { NoneClosed result }
+    {
+        if self.listening.is_held() {
+            return Poll::Ready(Ok(()));
+        }
+        self.poll_start_up(rt, pool, seat, left)
+    }
+
+    /// Goes on until a connection is held. It is one that is idle in the pool, or a new one over a link that the dial opens. Where this fails the leave
+    /// to make it is given back, and the next poll begins anew.
+    #[tactic(auto, using(crate::proofs::HearingLaws::hears_nothing, crate::proofs::HearingLaws::hears_without, crate::proofs::BufferingLaws::hears_behind, crate::proofs::BufferingLaws::at_once))]
+    pub fn poll_held<G: PoolLedger, D: Dial<L = L>, R: Wait>(
+        &mut self,
+        rt: &R,
+        pool: &PgPool<G, L>,
+        seat: &mut PoolSeat<G>,
+        dial: &mut D,
+        left: &mut u16,
+    ) -> Poll<Result<(), Error>>
+        requires mine { self.old.name ≡ pool.now.name }
+        requires theirs { seat.old.name ≡ pool.now.name }
+        requires left { left.old ≤ 256 }
+        ensures hears { HearsBy L.seen self.old self.new [] }
+        ensures channels { self.new.listening.channels ≡ self.old.listening.channels }
+        ensures seat { seat.new.name ≡ seat.old.name }
+        ensures loss { self.new.is_lost ≡ self.old.is_lost }
+        ensures left { left.new ≤ left.old }
+        ensures lost { OnReady result (self.new.lost ≡ self.old.lost) }
+        ensures held { OnReady result (IsSome self.new.listening.conn) }
+        ensures startup { OnReady result (StartsFrom L.seen self.old.startup self.new.startup) }
+        ensures ready { OnReady result (self.new.is_ready ≡ true → self.new ≡ self.old) }
+        ensures pending { OnPending result (WaitsBy L.seen left.old left.new self.old self.new) }
+        ensures closed { NotesBy L G.most seat.new result }
+    {
+        if self.listening.is_held() {
+            return Poll::Ready(Ok(()));
+        }
+        if self.startup.is_some() {
+            return self.poll_start_up(rt, pool, seat, left);
+        }
+        match self.connect(rt, pool, seat, dial) {
+            Ok(()) => self.poll_begun(rt, pool, seat, left),
+            Err(e) => Poll::Ready(Err(e)),
+        }
+    }
+
+    /// The same of a first connection, which has nothing to listen to again where no channel is asked for yet.
+    #[tactic(auto, using(crate::proofs::HearingLaws::hears_nothing, crate::proofs::HearingLaws::hears_without, crate::proofs::BufferingLaws::hears_behind, crate::proofs::BufferingLaws::at_once))]
+    pub fn poll_connect<G: PoolLedger, D: Dial<L = L>, R: Wait>(
+        &mut self,
+        rt: &R,
+        pool: &PgPool<G, L>,
+        seat: &mut PoolSeat<G>,
+        dial: &mut D,
+        left: &mut u16,
+    ) -> Poll<Result<(), Error>>
+        requires mine { self.old.name ≡ pool.now.name }
+        requires theirs { seat.old.name ≡ pool.now.name }
+        requires left { left.old ≤ 256 }
+        ensures hears { HearsBy L.seen self.old self.new [] }
+        ensures channels { self.new.listening.channels ≡ self.old.listening.channels }
+        ensures seat { seat.new.name ≡ seat.old.name }
+        ensures loss { self.new.is_lost ≡ self.old.is_lost }
+        ensures left { left.new ≤ left.old }
+        ensures held { OnReady result (IsSome self.new.listening.conn) }
+        ensures startup { OnReady result (StartsFrom L.seen self.old.startup self.new.startup) }
+        ensures pending { OnPending result (WaitsBy L.seen left.old left.new self.old self.new) }
+        ensures closed { NotesBy L G.most seat.new result }
+    {
+        match self.poll_held(rt, pool, seat, dial, left) {
+            Poll::Pending => Poll::Pending,
+            Poll::Ready(Err(e)) => Poll::Ready(Err(e)),
+            Poll::Ready(Ok(())) => {
+                self.is_ready = self.channels().is_empty();
+                Poll::Ready(Ok(()))
+            }
+        }
+    }
+
+    // A statement that listens again has failed: so has the reconnect.
+    #[tactic(auto, using(crate::proofs::HearingLaws::hears_nothing, crate::proofs::HearingLaws::hears_without, crate::proofs::BufferingLaws::hears_behind, crate::proofs::BufferingLaws::at_once))]
+    fn fail<G: PoolLedger, R: Wait>(
+        &mut self,
+        e: Error,
+        rt: &R,
+        pool: &PgPool<G, L>,
+        seat: &mut PoolSeat<G>,
+    ) -> Error
+        requires held { IsSome self.old.listening.conn }
+        requires mine { self.old.name ≡ pool.now.name }
+        requires theirs { seat.old.name ≡ pool.now.name }
+        ensures hears { HearsBy L.seen self.old self.new [] }
+        ensures channels { self.new.listening.channels ≡ self.old.listening.channels }
+        ensures seat { seat.new.name ≡ seat.old.name }
+        ensures loss { self.new.is_lost ≡ self.old.is_lost }
+        ensures open { IsOpenPool result }
+    {
+        match self.lose(rt, pool, seat) {
+            Ok(()) => of_connection(e),
+            Err(wanting) => wanting,
+        }
+    }
+
+    // Begins to listen to all of the channels again, where this is not asked yet.
+    #[tactic(auto, using(crate::proofs::HearingLaws::hears_nothing, crate::proofs::HearingLaws::hears_without, crate::proofs::BufferingLaws::hears_behind, crate::proofs::BufferingLaws::at_once))]
+    fn ask_again(&mut self) -> Result<(), Error>
+        requires held { IsSome self.old.listening.conn }
+        ensures hears { HearsBy L.seen self.old self.new [] }
+        ensures channels { self.new.listening.channels ≡ self.old.listening.channels }
+        ensures held { IsSome self.new.listening.conn }
+        ensures asks { OnOk result ((self.new.listening.is_asking ≡ true) × (self.new.listening.behind ≡ None)) }
+        ensures starts { OnOk result (AsksAgain self.old self.new) }
+        ensures lost { self.new.lost ≡ self.old.lost }
+        ensures loss { self.new.is_lost ≡ self.old.is_lost }
+        ensures startup { self.new.startup ≡ self.old.startup }
+        ensures open { IfErr result IsOpenPool }
+    {
+        if self.is_again && self.listening.is_asking() {
+            return Ok(());
+        }
+        self.is_again = false;
+        self.listening.listen_again()?;
+        self.is_again = true;
+        Ok(())
+    }
+
+    // Moves the statement on that listens to all of them.
+    #[tactic(auto, using(crate::proofs::HearingLaws::hears_nothing, crate::proofs::HearingLaws::hears_without, crate::proofs::BufferingLaws::hears_behind, crate::proofs::BufferingLaws::at_once))]
+    fn poll_again(&mut self, left: &mut u16) -> Poll<Result<(), Error>>
+        requires held { IsSome self.old.listening.conn }
+        requires asks { (self.old.listening.is_asking ≡ true) × (self.old.listening.behind ≡ None) }
+        requires left { left.old ≤ 256 }
+        ensures hears { HearsBy L.seen self.old self.new [] }
+        ensures channels { self.new.listening.channels ≡ self.old.listening.channels }
+        ensures loss { self.new.is_lost ≡ self.old.is_lost }
+        ensures left { left.new ≤ left.old }
+        ensures lost { self.new.lost ≡ self.old.lost }
+        ensures held { IsSome self.new.listening.conn }
+        ensures startup { self.new.startup ≡ self.old.startup }
+        ensures ends { OnReady result (EndsWell L.seen left.old self.old self.new) }
+        ensures pending { OnPending result (WaitsBy L.seen left.old left.new self.old self.new) }
+    {
+        match self.lost.reserve(1) {
+            Ok(()) => {}
+            Err(_) => return Poll::Ready(Err(Error::OutOfMemory)),
+        }
+        match self.listening.poll_change(left) {
+            Poll::Pending => Poll::Pending,
+            Poll::Ready(Ok(())) => {
+                self.is_ready = true;
+                Poll::Ready(Ok(()))
+            }
+            Poll::Ready(Err(e)) => Poll::Ready(Err(e)),
+        }
+    }
+
+    // Goes on until the connection listens to all of the channels.
+    #[tactic(auto, using(crate::proofs::HearingLaws::hears_nothing, crate::proofs::HearingLaws::hears_without, crate::proofs::BufferingLaws::hears_behind, crate::proofs::BufferingLaws::at_once))]
+    fn poll_ready<G: PoolLedger, R: Wait>(
+        &mut self,
+        rt: &R,
+        pool: &PgPool<G, L>,
+        seat: &mut PoolSeat<G>,
+        left: &mut u16,
+    ) -> Poll<Result<(), Error>>
+        requires held { IsSome self.old.listening.conn }
+        requires mine { self.old.name ≡ pool.now.name }
+        requires theirs { seat.old.name ≡ pool.now.name }
+        requires left { left.old ≤ 256 }
+        ensures hears { HearsBy L.seen self.old self.new [] }
+        ensures channels { self.new.listening.channels ≡ self.old.listening.channels }
+        ensures seat { seat.new.name ≡ seat.old.name }
+        ensures loss { self.new.is_lost ≡ self.old.is_lost }
+        ensures left { left.new ≤ left.old }
+        ensures lost { OnReady result (self.new.lost ≡ self.old.lost) }
+        ensures held { OnReady result (IsSome self.new.listening.conn) }
+        ensures startup { OnReady result (self.new.startup ≡ self.old.startup) }
+        ensures ready { OnReady result (ReadiesBy L.seen self.old self.new) }
+        ensures pending { OnPending result (WaitsBy L.seen left.old left.new self.old self.new) }
+        ensures open { NoneClosed result }
+    {
+        if self.is_ready {
+            return Poll::Ready(Ok(()));
+        }
+        match self.ask_again() {
+            Ok(()) => {}
+            Err(e) => return Poll::Ready(Err(e)),
+        }
+        match self.poll_again(left) {
+            Poll::Pending => Poll::Pending,
+            Poll::Ready(Ok(())) => Poll::Ready(Ok(())),
+            Poll::Ready(Err(e)) => Poll::Ready(Err(self.fail(e, rt, pool, seat))),
+        }
+    }
+
+    /// Goes on until a connection is held that listens to all of the channels. Where this fails the leave to make it is given back, or the connection let
+    /// go, and the next poll begins anew.
+    #[tactic(auto, using(crate::proofs::HearingLaws::hears_nothing, crate::proofs::HearingLaws::hears_without, crate::proofs::BufferingLaws::hears_behind, crate::proofs::BufferingLaws::at_once))]
+    pub fn poll_connected<G: PoolLedger, D: Dial<L = L>, R: Wait>(
+        &mut self,
+        rt: &R,
+        pool: &PgPool<G, L>,
+        seat: &mut PoolSeat<G>,
+        dial: &mut D,
+        left: &mut u16,
+    ) -> Poll<Result<(), Error>>
+        requires mine { self.old.name ≡ pool.now.name }
+        requires theirs { seat.old.name ≡ pool.now.name }
+        requires left { left.old ≤ 256 }
+        ensures hears { HearsBy L.seen self.old self.new [] }
+        ensures channels { self.new.listening.channels ≡ self.old.listening.channels }
+        ensures seat { seat.new.name ≡ seat.old.name }
+        ensures loss { self.new.is_lost ≡ self.old.is_lost }
+        ensures left { left.new ≤ left.old }
+        ensures lost { OnReady result (self.new.lost ≡ self.old.lost) }
+        ensures held { OnReady result (IsSome self.new.listening.conn) }
+        ensures startup { OnReady result (StartsFrom L.seen self.old.startup self.new.startup) }
+        ensures ready { OnReady result (ReadiesBy L.seen self.old self.new) }
+        ensures pending { OnPending result (WaitsBy L.seen left.old left.new self.old self.new) }
+        ensures closed { NotesBy L G.most seat.new result }
+    {
+        match self.poll_held(rt, pool, seat, dial, left) {
+            Poll::Pending => Poll::Pending,
+            Poll::Ready(Err(e)) => Poll::Ready(Err(e)),
+            Poll::Ready(Ok(())) => self.poll_ready(rt, pool, seat, left),
+        }
+    }
+}
