@@ -1,13 +1,12 @@
 #!/usr/bin/env bash
 # Runs migrations, and calls that make and drop databases, against a PostgreSQL server of its own. Behind each the server is asked what came of it.
 #
-#     tests/live/migrations.sh MIGRATIONS DATABASES [PORT]
+#     tests/live/migrations.sh PROGRAM [PORT]
 #
-# MIGRATIONS and DATABASES are the built programs `migrating_cases` and `database_cases`. Where this is run by root the server runs as the user `postgres`.
+# PROGRAM is the built program of `migrating_cases`. Where this is run by root the server runs as the user `postgres`.
 set -u
-databases=$2
 port=54338
-set -- "$1" "${3:-$port}"
+set -- "$1" "${2:-$port}"
 . "$(dirname "$0")/session.sh"
 admin() { psql -h "$folder" -p "$port" -U postgres -d "${2:-played}" -Atq -c "$1"; }
 admin 'ALTER USER trusted CREATEDB' postgres
@@ -33,8 +32,8 @@ calls() {
 
 # the answers to calls on databases
 asks() {
-    printf '%s\n' 'case live' live 'polls 1000' "$@" > "$folder/case"
-    "$databases" "$folder/case" | tail -n +2 | sed 's/^  //' | tr '\n' ','
+    printf '%s\n' 'database live' live 'polls 1000' "$@" > "$folder/case"
+    "$program" "$folder/case" | tail -n +2 | sed 's/^  //' | tr '\n' ','
 }
 
 locks() { admin "SELECT count(*) FROM pg_locks WHERE locktype = 'advisory'"; }

@@ -3,7 +3,8 @@
 ghost use Rattle.pg_conn.specs.Feeding.{IsFed};
 
 use crate::polling;
-use crate::telling::{push_answer, push_error, push_formats, push_number, push_progress};
+use crate::telling::{push_answer, push_formats, push_number, push_progress};
+use case_tools::push_error;
 use pg_conn::PgConnection;
 use pg_copying::{PgCopyIn, copy_in_raw};
 use pg_guards::{PgExecutor, copy_out_raw};
@@ -183,7 +184,7 @@ fn copy_out<C: PgExecutor>(
 }
 
 fn ping<L: Link>(conn: &mut PgConnection<L>, polls: u64, out: &mut String) -> Result<(), Error> {
-    let answer = polling::ping(conn, polls);
+    let answer = case_tools::ping(conn, polls);
     let pushed = push_answer(out, "ok", &answer);
     drop(answer);
     pushed
@@ -213,14 +214,14 @@ pub(crate) fn play<C: PgExecutor>(
     alloc: Global,
     conn: &mut C,
     acts: &str,
-) -> Result<String, Error> {
-    let mut out = String::new(alloc);
+    out: &mut String,
+) -> Result<(), Error> {
     let mut rest = acts;
     for _ in 0..MOST {
         if rest.is_empty() {
             break;
         }
-        rest = step(alloc, conn, rest, &mut out)?;
+        rest = step(alloc, conn, rest, out)?;
     }
-    Ok(out)
+    Ok(())
 }

@@ -1,4 +1,4 @@
-//! Cases of copies, most of them from the client, over links in memory and over a server.
+//! Cases of copies, most of them from the client, and of notifications, over links in memory and over a server.
 //!
 //! Each line of standard input is a row: its name, what is done on a connection, and what its link does behind the start-up. What is done stands with commas, each with
 //! what it takes behind a dash:
@@ -17,33 +17,58 @@
 //!     out-N       a copy of so many rows to the client, of which the pieces are counted
 //!     ping-N      a ping, by so many polls at most
 //!
+//! In place of these stands `idle` for five polls for a notification, and `owed` for the same behind a query that is polled once and dropped.
+//!
 //! What the link does: bytes in hexadecimal that a read gives, `wait`, `end`, `fail`; and of its writes `take` for one that takes all, and `block` for one that takes nothing yet.
 //!
-//! The name is written with each answer, behind each call how far it came (groups, frames heard, waits and moves), and last the bytes that were sent. With a URL as
+//! The name is written with each answer; of copies behind each call how far it came (groups, frames heard, waits and moves), and last the bytes that were sent. With a URL as
 //! argument, `postgres://USER@HOST:PORT/DATABASE`, each row is done on a connection to that server.
 #![tactic(auto)]
 
 mod acting;
-mod dialling;
-mod opening;
+mod news;
 mod polling;
 mod telling;
 
 use crate::telling::push_sent;
+use case_tools::{connect_to, open};
+use pg_conn::PgConnection;
+use pg_stream::MemoryLink;
 use pg_wire::Error;
 use std::alloc::Global;
 use std::{env, io};
 
+fn play(
+    alloc: Global,
+    conn: &mut PgConnection<MemoryLink>,
+    acts: &str,
+    told: &mut String,
+) -> Result<(), Error> {
+    match acts {
+        "idle" | "owed" => news::play(alloc, conn, acts == "owed", told),
+        acts => {
+            acting::play(alloc, conn, acts, told)?;
+            push_sent(told, conn)
+        }
+    }
+}
+
 fn in_memory(alloc: Global, acts: &str, events: &str) -> Result<String, Error> {
-    let mut conn = opening::open(alloc, events)?;
-    let mut told = acting::play(alloc, &mut conn, acts)?;
-    push_sent(&mut told, &conn)?;
+    let mut conn = open(alloc, events)?;
+    let mut told = String::new(alloc);
+    let played = play(alloc, &mut conn, acts, &mut told);
+    drop(conn);
+    played?;
     Ok(told)
 }
 
 fn on_server(rt: &HostRuntime, url: &str, acts: &str) -> Result<String, Error> {
-    let mut conn = dialling::connect(rt, url)?;
-    acting::play(rt.alloc(), &mut conn, acts)
+    let mut conn = connect_to(rt, rt.alloc(), url)?;
+    let mut told = String::new(rt.alloc());
+    let played = acting::play(rt.alloc(), &mut conn, acts, &mut told);
+    drop(conn);
+    played?;
+    Ok(told)
 }
 
 fn told(rt: &HostRuntime, url: Option<&str>, row: &str) -> Result<String, Error> {

@@ -7,10 +7,9 @@ ghost use Rattle.pg_conn.specs.States.{IsCalling};
 ghost use Rattle.pg_copying.specs.Aborts.{IsAborting};
 ghost use Rattle.pg_copying.specs.Copies.{HandsOpen, IsFinishing, IsOpening};
 
-use pg_conn::PgConnection;
 use pg_copying::{BeginCopyIn, CopyAbort, CopyFinish, PgCopyIn};
 use pg_guards::{CopyOut, PgExecutor};
-use pg_stream::{Link, Source};
+use pg_stream::Source;
 use pg_wire::{Error, Poll};
 
 type Answer<T> = Poll<Result<T, Error>>;
@@ -49,18 +48,6 @@ pub(crate) fn finish<C: PgExecutor + Drop>(mut state: CopyFinish<C>, polls: u64)
 pub(crate) fn abort<C: PgExecutor + Drop>(mut state: CopyAbort<C>, polls: u64) -> Answer<()>
     requires { IsAborting state.stage (C.conn state.conn) }
 {
-    for _ in 0..polls {
-        match state.poll() {
-            Poll::Pending => {}
-            answer => return answer,
-        }
-    }
-    Poll::Pending
-}
-
-/// Polls a ping.
-pub(crate) fn ping<L: Link>(conn: &mut PgConnection<L>, polls: u64) -> Answer<()> {
-    let mut state = conn.ping();
     for _ in 0..polls {
         match state.poll() {
             Poll::Pending => {}

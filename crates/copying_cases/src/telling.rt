@@ -1,20 +1,12 @@
 //! What is written of answers.
 
+use case_tools::{push_error, sent};
 use pg_conn::PgConnection;
 use pg_copying::PgCopyIn;
 use pg_guards::PgExecutor;
 use pg_stream::MemoryLink;
 use pg_wire::{Error, Poll};
 use std::fmt::Write;
-
-/// What an error says.
-pub(crate) fn push_error(out: &mut String, error: &Error) -> Result<(), Error> {
-    match error {
-        Error::Database(error) => write!(out, " Database({})", error.code())?,
-        error => write!(out, " {error:?}")?,
-    }
-    Ok(())
-}
 
 /// What a call has come to that answers by this word.
 pub(crate) fn push_answer(
@@ -75,9 +67,8 @@ pub(crate) fn push_progress<L>(out: &mut String, conn: &PgConnection<L>) -> Resu
 
 /// The bytes that were sent behind the start-up.
 pub(crate) fn push_sent(out: &mut String, conn: &PgConnection<MemoryLink>) -> Result<(), Error> {
-    let (started, _) = conn.started();
     write!(out, " | ")?;
-    for byte in conn.link().taken().iter().skip(started as usize) {
+    for byte in sent(conn) {
         write!(out, "{byte:02x}")?;
     }
     Ok(())

@@ -5,7 +5,8 @@ ghost use Rattle.pg_locking.specs.Flags.{IsAsking};
 ghost use Rattle.pg_locking.specs.Held.{OnHeld};
 ghost use Rattle.pg_locking.specs.Locking.{IsLocking};
 
-use crate::telling::{push_progress, word};
+use crate::telling::push_progress;
+use case_tools::{flush, ping, word};
 use either::Either;
 use pg_conn::PgConnection;
 use pg_guards::PgExecutor;
@@ -27,13 +28,13 @@ pub(crate) fn take<C: PgExecutor + Drop>(
 ) -> Answer<PgAdvisoryLockGuard<C>>
     requires { OnHeld C.conn (IsLocking state.call.stage) state.conn }
 {
-    for _ in 1..polls {
+    for _ in 0..polls {
         match state.poll() {
             Poll::Pending => {}
             answer => return answer,
         }
     }
-    state.poll()
+    Poll::Pending
 }
 
 /// The same of a lock that is asked for.
@@ -43,26 +44,26 @@ pub(crate) fn try_take<C: PgExecutor + Drop>(
 ) -> Answer<Either<PgAdvisoryLockGuard<C>, C>>
     requires { OnHeld C.conn (IsAsking state.call.asking) state.conn }
 {
-    for _ in 1..polls {
+    for _ in 0..polls {
         match state.poll() {
             Poll::Pending => {}
             answer => return answer,
         }
     }
-    state.poll()
+    Poll::Pending
 }
 
 // Of one that is released by its guard.
 fn release<C: PgExecutor + Drop>(mut state: ReleaseNow<C>, polls: u64) -> Answer<C>
     requires { OnHeld C.conn (IsAsking state.call.asking) state.conn }
 {
-    for _ in 1..polls {
+    for _ in 0..polls {
         match state.poll() {
             Poll::Pending => {}
             answer => return answer,
         }
     }
-    state.poll()
+    Poll::Pending
 }
 
 /// And of one that is released without it.
@@ -72,33 +73,29 @@ pub(crate) fn force<C: PgExecutor + Drop>(
 ) -> Answer<(C, bool)>
     requires { OnHeld C.conn (IsAsking state.call.asking) state.conn }
 {
-    for _ in 1..polls {
+    for _ in 0..polls {
         match state.poll() {
             Poll::Pending => {}
             answer => return answer,
         }
     }
-    state.poll()
+    Poll::Pending
 }
 
-// What a call that hands nothing on has come to.
-fn short<T: Drop>(answer: Answer<T>) -> &'static str {
+// What a call has come to.
+fn short<T>(answer: &Answer<T>) -> &'static str {
     match answer {
         Poll::Pending => "waits",
-        Poll::Ready(Ok(value)) => {
-            drop(value);
-            "ok"
-        }
-        Poll::Ready(Err(error)) => {
-            let short = word(&error);
-            drop(error);
-            short
-        }
+        Poll::Ready(Ok(_)) => "ok",
+        Poll::Ready(Err(error)) => word(error),
     }
 }
 
+// The same of one that hands nothing on.
 fn push_short<T: Drop>(answer: Answer<T>, told: &mut String) -> Result<(), Error> {
-    Ok(told.push_str(short(answer))?)
+    let short = short(&answer);
+    drop(answer);
+    Ok(told.push_str(short)?)
 }
 
 // What is done with a guard that was taken.
@@ -167,8 +164,7 @@ fn try_and_drop(
     match try_take(PgAdvisoryLockGuard::try_acquire(lock, conn), polls) {
         Poll::Ready(Ok(Either::Left(guard))) => spend(guard, "drop", polls, told),
         Poll::Ready(Ok(Either::Right(_))) => Ok(told.push_str("somebody has it")?),
-        Poll::Ready(Err(error)) => Ok(told.push_str(crate::telling::word(&error))?),
-        Poll::Pending => Ok(told.push_str("waits")?),
+        answer => push_short(answer, told),
     }
 }
 
@@ -181,8 +177,7 @@ fn force_and_tell(
     match force(PgAdvisoryLockGuard::force_release(lock, conn), polls) {
         Poll::Ready(Ok((_, true))) => Ok(told.push_str("was held")?),
         Poll::Ready(Ok((_, false))) => Ok(told.push_str("was not held")?),
-        Poll::Ready(Err(error)) => Ok(told.push_str(crate::telling::word(&error))?),
-        Poll::Pending => Ok(told.push_str("waits")?),
+        answer => push_short(answer, told),
     }
 }
 
@@ -202,8 +197,8 @@ pub(crate) fn call(
         "unasked" => ask_not(conn, &lock),
         "try" => try_and_drop(conn, &lock, polls, told)?,
         "force" => force_and_tell(conn, &lock, polls, told)?,
-        "ping" => push_short(conn.ping().poll(), told)?,
-        "flush" => push_short(conn.flush().poll(), told)?,
+        "ping" => push_short(ping(conn, 1), told)?,
+        "flush" => push_short(flush(conn, 1), told)?,
         _ => take_and(conn, &lock, word, polls, told)?,
     }
     push_progress(conn, told)?;

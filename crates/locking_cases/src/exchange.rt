@@ -1,7 +1,8 @@
 //! A guard whose connection is exchanged for another one.
 
 use crate::calls::take;
-use crate::telling::{push_progress, push_sent};
+use crate::telling::push_progress;
+use case_tools::push_sent;
 use pg_conn::PgConnection;
 use pg_guards::PgExecutor;
 use pg_locking::{PgAdvisoryLock, PgAdvisoryLockGuard, PgAdvisoryLockKey};
@@ -15,11 +16,11 @@ fn push_both(first: &Connection, second: &Connection, told: &mut String) -> Resu
     told.push_str("  first")?;
     push_progress(first, told)?;
     told.push_str("\n")?;
-    push_sent(first, told)?;
+    push_sent(told, first)?;
     told.push_str("  other")?;
     push_progress(second, told)?;
     told.push_str("\n")?;
-    push_sent(second, told)
+    push_sent(told, second)
 }
 
 /// Takes the lock, puts the other connection in its place, and drops the guard there.

@@ -23,14 +23,7 @@ fn lock() -> PgAdvisoryLock {
 
 // The next call on a connection: it sends what is unsent, and reads what is owed.
 fn ping(conn: &mut Connection) -> Result<(), Error> {
-    let mut call = conn.ping();
-    for _ in 0..POLLS {
-        match call.poll() {
-            Poll::Pending => {}
-            Poll::Ready(answer) => return answer,
-        }
-    }
-    Err(Error::StartupPending)
+    ready(case_tools::ping(conn, POLLS))
 }
 
 fn row(conn: &mut Connection, query: Query) -> Result<PgRow, Error> {

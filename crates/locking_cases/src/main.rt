@@ -18,18 +18,14 @@
 
 mod calls;
 mod case;
-mod dialling;
 mod exchange;
 mod live;
-mod opening;
 mod telling;
 
 use crate::calls::call;
-use crate::case::{behind, entry};
 use crate::exchange::exchange;
 use crate::live::live;
-use crate::opening::connect;
-use crate::telling::push_sent;
+use case_tools::{behind, connect_to, entry, number, push_sent};
 use pg_conn::PgConnection;
 use pg_stream::MemoryLink;
 use pg_wire::Error;
@@ -43,7 +39,7 @@ fn make_calls(
     told: &mut String,
 ) -> Result<(), Error> {
     let key = case::key(case);
-    let polls = case::polls(case);
+    let polls = number(case, "polls", 1);
     for line in case.lines() {
         if let Some(word) = behind(line, "call") {
             call(conn, word, key, polls, told)?;
@@ -58,7 +54,7 @@ fn play_calls(
     told: &mut String,
 ) -> Result<(), Error> {
     let made = make_calls(case, &mut conn, told);
-    let sent = push_sent(&conn, told);
+    let sent = push_sent(told, &conn);
     drop(conn);
     made?;
     sent
@@ -74,21 +70,25 @@ fn play_on(
     if entry(case, "exchange").is_none() {
         return play_calls(case, conn, told);
     }
-    let Some(other) = case::other(alloc, case) else {
-        drop(conn);
-        return Err(Error::OutOfMemory);
-    };
-    exchange(conn, other, case::key(case), told)
+    match case::connect(alloc, case, "other") {
+        Ok(other) => exchange(conn, other, case::key(case), told),
+        Err(error) => {
+            drop(conn);
+            Err(error)
+        }
+    }
 }
 
 fn play(alloc: Global, case: &str) -> Result<String, Error> {
     let mut told = String::new(alloc);
     told.push_str(entry(case, "case").unwrap_or(""))?;
     told.push_str("\n")?;
-    let reads = case::reads(alloc, case, "server")?;
-    match connect(alloc, case::url(case), reads) {
-        Some(conn) => play_on(alloc, case, conn, &mut told)?,
-        None => told.push_str("  no connection\n")?,
+    match case::connect(alloc, case, "server") {
+        Ok(conn) => play_on(alloc, case, conn, &mut told)?,
+        Err(error) => {
+            drop(error);
+            told.push_str("  no connection\n")?;
+        }
     }
     Ok(told)
 }
@@ -106,9 +106,12 @@ fn play_file(rt: &HostRuntime, file: &str) -> io::Result<()> {
 
 fn contend(rt: &HostRuntime, url: &str) -> Result<String, Error> {
     let mut told = String::new(rt.alloc());
-    let mut first = dialling::connect(rt, url)?;
-    let mut other = dialling::connect(rt, url)?;
-    live(&mut first, &mut other, &mut told)?;
+    let mut first = connect_to(rt, rt.alloc(), url)?;
+    let mut other = connect_to(rt, rt.alloc(), url)?;
+    let played = live(&mut first, &mut other, &mut told);
+    drop(first);
+    drop(other);
+    played?;
     Ok(told)
 }
 

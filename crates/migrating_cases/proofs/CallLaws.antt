@@ -7,10 +7,8 @@ use Rattle.pg_call.specs.declared.calling.Call.{Call}
 use Rattle.pg_call.specs.declared.calling.Call.TheVariants as calls
 use Rattle.pg_call.specs.declared.ledger.Ledger.{Ledger}
 use Rattle.pg_call.specs.declared.request.Request.{Request}
-use Rattle.pg_call.specs.declared.kind.Kind.TheVariants as kinds
 use Rattle.pg_call.specs.Calls.{CallIs}
-use Rattle.pg_conn.specs.Connections.{ConnOf, is_over, runs}
-use Rattle.pg_conn.specs.States.{IsCalling}
+use Rattle.pg_conn.specs.Connections.{ConnOf, runs}
 use Rattle.pg_migrating.specs.Asking.{CallsQuietly, Question, is_asked}
 
 runs_on : (start : Ledger) (r : Request) (said : List FrontendMessage) (hs : List Frame) (items : List CallItem) (ledger : Ledger) (call : Call) → CallIs start r said hs items ledger call → runs call ≡ true
@@ -23,7 +21,3 @@ runs_on start r said hs items ledger calls.Idle i = absurd i
 -- it is still to be polled
 pub still_asked : {A : Type 0} (question : Question) (c : ConnOf A) → question ≡ None → CallsQuietly None c → is_asked question c.call ≡ true
 still_asked question c e q = let i = q.2 in rw e (runs_on i.0 i.1 i.2 i.3 i.4 c.ledger c.call i.6)
-
--- the same of a flush
-pub still_flushed : {A : Type 0} (request : Option Request) (c : ConnOf A) → request ≡ None → IsCalling kinds.Flush c → is_over request c.call ≡ false
-still_flushed request c e i = rw (e, runs_on i.0 i.1 i.2 i.3 i.4 c.ledger c.call i.6) refl

@@ -1,6 +1,6 @@
 use Rattle.pg_call.specs.declared.kind.How.TheVariants as hows
 use Rattle.pg_call.specs.declared.kind.Kind.TheVariants as kinds
-use Rattle.locking_cases.proofs.CallLaws.{goes_on}
+use Rattle.case_tools.proofs.CallLaws.{goes_on}
 use Rattle.locking_cases.proofs.live.row.Goals as goal
 
 pub loop-preserved : goal.loop-preserved

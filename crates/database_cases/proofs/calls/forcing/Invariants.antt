@@ -1,5 +1,0 @@
-use Rattle.pg_databases.specs.Forcing.{GoesForce}
-use Rattle.database_cases.proofs.calls.forcing.Given as goal
-
-abbrev pub invariant-loop : goal.invariant-loop
-invariant-loop g l = GoesForce l.state.step l.state.session l.state.last

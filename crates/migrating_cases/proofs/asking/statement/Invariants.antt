@@ -1,0 +1,7 @@
+use Rattle.pg_call.specs.declared.kind.How.TheVariants as hows
+use Rattle.pg_call.specs.declared.kind.Kind.TheVariants as kinds
+use Rattle.pg_databases.specs.Sessions.{Goes}
+use Rattle.migrating_cases.proofs.asking.statement.Given as goal
+
+abbrev pub invariant-loop : goal.invariant-loop
+invariant-loop g l = Goes (kinds.Run hows.Execute) l.state.session
