@@ -5,9 +5,9 @@ use Rattle.std.proofs.lemmas.Bool.{eqb-true}
 use Rattle.std.proofs.lemmas.List.{map-append}
 use Rattle.std.proofs.lemmas.Option.{same_Some}
 use Rattle.pg_wire.specs.declared.status.TransactionStatus.TheVariants as statuses
-use Rattle.pg_wire.specs.Frontend.{Query}
-use Rattle.pg_wire.specs.Backend.{Values, BackendMessage, backend_frame, HasBackendFrame, RowDescription, DataRow, CommandComplete, ErrorResponse, EmptyQueryResponse, ReadyForQuery, BindComplete, CloseComplete, CopyInResponse, CopyOutResponse, BackendCopyDone}
-use Rattle.pg_wire.specs.Server.{Server, Statement, AreWide, StepsBind, fresh_server, statement_at}
+use Rattle.pg_wire.specs.Frontend.{Query, Parse}
+use Rattle.pg_wire.specs.Backend.{Values, BackendMessage, backend_frame, HasBackendFrame, RowDescription, DataRow, CommandComplete, ErrorResponse, EmptyQueryResponse, ReadyForQuery, ParseComplete, BindComplete, CloseComplete, CopyInResponse, CopyOutResponse, BackendCopyDone}
+use Rattle.pg_wire.specs.Server.{Server, Statement, AreWide, IsFree, StepsBind, fresh_server, statement_at, with_statement}
 use Rattle.pg_wire.specs.Acceptor.{Awaits, FirstSegment, FurtherSegment, RowsOf, AfterError, NothingMore, begins, next, accepts}
 use Rattle.pg_wire.specs.Copying.{CopyServer, CopyStep, CopyRun, IsCopySegment, NotCopying, QueryCopies, ExecuteCopies, fresh_copy_server}
 use Rattle.pg_wire.specs.Refusals.{BeginsCopyResponse, BeginsCopy, MayBeginCopy}
@@ -202,3 +202,80 @@ copy_begins_run name values (CopyOutResponse format columns) h c =
       ),
     ) refl (tt, (h, (tt, (refl, (tt, (tt, tt))))))
 copy_begins_run name values _ h c = absurd c
+
+-- ---- a statement that is prepared once more, and copies
+
+abbrev made_by : List ℕ → Statement
+made_by sql = record { sql = sql; fields = [] }
+
+-- a server that has prepared it: one of its names stands for this statement
+abbrev stands : List (List ℕ × Statement) → Option Statement → Server
+stands named unnamed = record fresh_server { named = named; unnamed = unnamed }
+
+abbrev stands_bound : List (List ℕ × Statement) → Option Statement → Server
+stands_bound named unnamed = record (stands named unnamed) { portal = Some [] }
+
+parsed_begins : (name sql types : List ℕ) (values : List (Option (List ℕ))) (m : BackendMessage) (tail : List BackendMessage) (rss : List (List BackendMessage)) (after : CopyServer) → CopyRun fresh_copy_server (Parse name sql types ∷ running name values 0) rss after
+    → flat_map (λ rs. rs) rss ≡ ParseComplete ∷ BindComplete ∷ m ∷ tail → AllByRecursion HasBackendFrame (ParseComplete ∷ BindComplete ∷ m ∷ tail)
+    → BeginsCopyResponse (Parse name sql types ∷ running name values 0) (backend_frame ParseComplete ∷ backend_frame BindComplete ∷ backend_frame m ∷ [])
+parsed_begins name sql types values m tail rss after run e have = record {
+  before = fresh_copy_server;
+  after = after;
+  replies = rss;
+  between = (refl, (refl, refl));
+  run = run;
+  replies_have_frames = subst (AllByRecursion HasBackendFrame) (sym e) have;
+  begins = (map backend_frame tail, ap (map backend_frame) (sym e));
+}
+
+copies_at : (name sql types : List ℕ) (values : List (Option (List ℕ))) (named : List (List ℕ × Statement)) (unnamed : Option Statement) (m : BackendMessage) → HasBackendFrame m → MayBeginCopy FirstSegment m
+    → IsFree fresh_server name → stands named unnamed ≡ with_statement fresh_server name (made_by sql) → StepsBind (stands named unnamed) (statement_at (stands named unnamed) name) (BindComplete ∷ []) (stands_bound named unnamed)
+    → BeginsCopyResponse (Parse name sql types ∷ running name values 0) (backend_frame ParseComplete ∷ backend_frame BindComplete ∷ backend_frame m ∷ [])
+copies_at name sql types values named unnamed (CopyInResponse format columns) h c free is binds =
+    let m = CopyInResponse format columns in
+    let bound = stands_bound named unnamed in
+    let failed : Server = record bound { skip = true } in
+    parsed_begins name sql types values m (ErrorResponse [] ∷ ReadyForQuery statuses.Transaction ∷ []) ((ParseComplete ∷ []) ∷ (BindComplete ∷ []) ∷ (m ∷ []) ∷ (ErrorResponse [] ∷ []) ∷ (ReadyForQuery statuses.Transaction ∷ []) ∷ []) (record { server = bound; mode = NotCopying }) (
+      record { server = stands named unnamed; mode = NotCopying },
+      (stands named unnamed, inl (free, [], refl, is), refl),
+      (
+        record { server = bound; mode = NotCopying },
+        (bound, binds, refl),
+        (
+          record { server = bound; mode = ExecuteCopies },
+          inr (inr (m, (format, columns, refl), refl, refl)),
+          (
+            record { server = failed; mode = NotCopying },
+            ([], refl, refl),
+            (record { server = bound; mode = NotCopying }, (bound, (statuses.Transaction, refl, inl refl), refl), refl),
+          ),
+        ),
+      ),
+    ) refl (tt, (tt, (h, (tt, (tt, tt)))))
+copies_at name sql types values named unnamed (CopyOutResponse format columns) h c free is binds =
+    let m = CopyOutResponse format columns in
+    let bound = stands_bound named unnamed in
+    let last : Server = record bound { portal = None } in
+    parsed_begins name sql types values m (BackendCopyDone ∷ CommandComplete [] ∷ CloseComplete ∷ ReadyForQuery statuses.Transaction ∷ []) ((ParseComplete ∷ []) ∷ (BindComplete ∷ []) ∷ (m ∷ BackendCopyDone ∷ CommandComplete [] ∷ []) ∷ (CloseComplete ∷ []) ∷ (ReadyForQuery statuses.Transaction ∷ []) ∷ []) (record { server = last; mode = NotCopying }) (
+      record { server = stands named unnamed; mode = NotCopying },
+      (stands named unnamed, inl (free, [], refl, is), refl),
+      (
+        record { server = bound; mode = NotCopying },
+        (bound, binds, refl),
+        (
+          record { server = bound; mode = NotCopying },
+          inl (inr (format, columns, [], [], refl), refl),
+          (
+            record { server = last; mode = NotCopying },
+            (last, inl (refl, refl), refl),
+            (record { server = last; mode = NotCopying }, (last, (statuses.Transaction, refl, inl refl), refl), refl),
+          ),
+        ),
+      ),
+    ) refl (tt, (tt, (h, (tt, (refl, (tt, (tt, tt)))))))
+copies_at name sql types values named unnamed _ h c free is binds = absurd c
+
+pub copy_begins_parsed : (name sql types : List ℕ) (values : List (Option (List ℕ))) (m : BackendMessage) → HasBackendFrame m → MayBeginCopy FirstSegment m
+    → BeginsCopyResponse (Parse name sql types ∷ running name values 0) (backend_frame ParseComplete ∷ backend_frame BindComplete ∷ backend_frame m ∷ [])
+copy_begins_parsed [] sql types values m h c = copies_at [] sql types values [] (Some (made_by sql)) m h c tt refl (inl (refl, refl))
+copy_begins_parsed (b ∷ bs) sql types values m h c = copies_at (b ∷ bs) sql types values ((b ∷ bs, made_by sql) ∷ []) None m h c refl refl (rw (found_first (b ∷ bs) (made_by sql) []) (inl (refl, refl)))

@@ -7,6 +7,7 @@ use Rattle.pg_call.specs.contracts.statement.Bound as Bound
 use Rattle.pg_call.specs.contracts.statement.Prepared as Prepared
 use Rattle.pg_call.specs.contracts.statement.After as After
 use Rattle.pg_call.specs.contracts.statement.Eviction as Eviction
+use Rattle.pg_call.specs.contracts.statement.Lookup as Lookup
 use Rattle.pg_call.specs.contracts.statement.Rest as Rest
 use Rattle.pg_call.specs.contracts.feed.Feed as Feed
 use Rattle.pg_call.specs.contracts.request.Request as Request
@@ -47,6 +48,9 @@ after_send = search (bound_send, prepared_send, sendable, crosses) depth 20
 eviction_send : IsSend Eviction.the_field.row
 eviction_send = search (after_send, wire, sendable, crosses) depth 20
 
+lookup_send : IsSend Lookup.the_field.row
+lookup_send = search (extended_send, wire, sendable, crosses) depth 20
+
 rest_send : IsSend Rest.the_field.row
 rest_send = search (extended_send, after_send, prepared_send, sendable, crosses) depth 20
 
@@ -54,7 +58,7 @@ feed_send : IsSend Feed.the_field.row
 feed_send = search (plain, wire, sendable, crosses) depth 20
 
 pub request_send : IsSend Request.the_field.row
-request_send = search (extended_send, bound_send, eviction_send, prepared_send, feed_send, plain, wire, sendable, crosses) depth 30
+request_send = search (extended_send, bound_send, lookup_send, eviction_send, prepared_send, feed_send, plain, wire, sendable, crosses) depth 30 fits 3000
 
 waiting_send : IsSend Waiting.the_field.row
 waiting_send = search (rest_send, heading_send, plain, wire, sendable, crosses) depth 20

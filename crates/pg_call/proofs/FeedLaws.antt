@@ -37,14 +37,14 @@ data_said [] true = (tt, tt)
 data_said [] false = tt
 data_said (p ∷ ps) ended = (tt, data_said ps ended)
 
-feed_said : (feed feed' : Feed) → feed'.query ≡ feed.query → CanBeSaid (requests.CopyIn feed) → CanBeSaid (requests.CopyIn feed')
+pub feed_said : (feed feed' : Feed) → feed'.query ≡ feed.query → CanBeSaid (requests.CopyIn feed) → CanBeSaid (requests.CopyIn feed')
 feed_said feed feed' e can = ((subst (λ (q : QueryText). HasFrontendFrame (Query q.sql)) (sym e) can.0.0, data_said feed'.pieces feed'.is_ended), tt)
 
-one_more : (pieces : List (List ℕ)) (piece : List ℕ) → (map CopyData pieces ++ []) ++ CopyData piece ∷ [] ≡ map CopyData (pieces ++ piece ∷ []) ++ []
+pub one_more : (pieces : List (List ℕ)) (piece : List ℕ) → (map CopyData pieces ++ []) ++ CopyData piece ∷ [] ≡ map CopyData (pieces ++ piece ∷ []) ++ []
 one_more pieces piece = ap (λ (t : List FrontendMessage). t ++ CopyData piece ∷ []) (append-nil (map CopyData pieces)) ∙ sym (map-append CopyData pieces (piece ∷ [])) ∙ sym (append-nil (map CopyData (pieces ++ piece ∷ [])))
 
 -- what is said of it, with one message more
-said_more : (before said : List FrontendMessage) (whole whole' : List FrontendMessage) (m : FrontendMessage) → said ≡ before ++ (whole ++ []) → whole ++ m ∷ [] ≡ whole' → said ++ m ∷ [] ≡ before ++ (whole' ++ [])
+pub said_more : (before said : List FrontendMessage) (whole whole' : List FrontendMessage) (m : FrontendMessage) → said ≡ before ++ (whole ++ []) → whole ++ m ∷ [] ≡ whole' → said ++ m ∷ [] ≡ before ++ (whole' ++ [])
 said_more before said whole whole' m s e =
     ap (λ (t : List FrontendMessage). t ++ m ∷ []) s
     ∙ append_assoc before (whole ++ []) (m ∷ [])
@@ -57,7 +57,7 @@ fed_said feed piece e = ap (λ (t : List FrontendMessage). Query feed.query.sql 
     by false e = one_more feed.pieces piece
     by true e = absurd cc
 
-ended_said : (feed : Feed) → feed.is_ended ≡ false → feeding feed ++ CopyDone ∷ [] ≡ feeding (fed_all feed)
+pub ended_said : (feed : Feed) → feed.is_ended ≡ false → feeding feed ++ CopyDone ∷ [] ≡ feeding (fed_all feed)
 ended_said feed e = ap (λ (t : List FrontendMessage). Query feed.query.sql ∷ t) (by feed.is_ended e)
   where
     by : (ended : Bool) → ended ≡ false → (map CopyData feed.pieces ++ ended_by ended) ++ CopyDone ∷ [] ≡ map CopyData feed.pieces ++ CopyDone ∷ []

@@ -132,6 +132,7 @@ call_well start r said hs items ledger calls.Idle i = absurd i
 no_groups_flush : (r : Request) → is_flush (kind_of r) ≡ true → (groups_of r ≡ []) × (messages_of r ≡ [])
 no_groups_flush requests.Flush e = (refl, refl)
 no_groups_flush (requests.Prepare prepared) e = (refl, refl)
+no_groups_flush (requests.Look lookup) e = absurd cc
 no_groups_flush (requests.Evict eviction) e = absurd cc
 no_groups_flush (requests.Clear statements) e = absurd cc
 no_groups_flush requests.Ping e = absurd cc
@@ -212,7 +213,8 @@ one_of (requests.CopyIn feed) f c = (refl, sym (append-nil (said_in (groups_of (
 one_of (requests.Commit left) f c = (refl, refl)
 one_of (requests.Rollback left) f c = (refl, refl)
 one_of (requests.Describe extended) f c = (refl, refl)
-one_of (requests.Run bound) f c = (refl, refl)
+one_of (requests.Run bound) f c = (refl, sym (append-nil (said_in (groups_of (requests.Run bound)))))
+one_of (requests.Look lookup) f c = (refl, refl)
 one_of (requests.Evict eviction) f c = (refl, refl)
 one_of (requests.Clear statements) f c = (refl, sym (append-nil (said_in (groups_of (requests.Clear statements)))))
 one_of (requests.Prepare prepared) f c = absurd cc
@@ -223,6 +225,7 @@ one_of requests.Close f c = absurd cc
 close_kind : (r : Request) → is_close (kind_of r) ≡ true → kind_of r ≡ kinds.Close
 close_kind requests.Close e = refl
 close_kind requests.Flush e = absurd cc
+close_kind (requests.Look lookup) e = absurd cc
 close_kind (requests.Evict eviction) e = absurd cc
 close_kind (requests.Clear statements) e = absurd cc
 close_kind (requests.Prepare prepared) e = absurd cc

@@ -9,8 +9,8 @@ use Rattle.pg_wire.specs.Backend.{FieldDescription, Values, BackendMessage, back
 use Rattle.pg_wire.specs.Decoding.{Says}
 use Rattle.pg_wire.proofs.Unique.{backend_frame_unique}
 use Rattle.pg_call.specs.declared.judging.Part.{Part}
-use Rattle.pg_call.specs.declared.judging.Part.TheVariants.{First, Further, Rows, Synced, Parsing, Typing, Describing, Described, Binding, Running, RunningOn, Closing, CopyFirst, CopyData, CopyEnd, Copied, Opening, Feeding}
-use Rattle.pg_call.specs.Replies.{goes_on, goes_plainly, may_stray, may_close, after_row, after_bind, after_close, after_columns, after_end, after_opening, stray_tags, tags_of, MayNotCome, IsAny, IsFault, Judges}
+use Rattle.pg_call.specs.declared.judging.Part.TheVariants.{First, Further, Rows, Synced, Parsing, Typing, Describing, Described, Reparsing, Binding, Running, RunningOn, Closing, CopyFirst, CopyData, CopyEnd, Copied, Opening, Feeding}
+use Rattle.pg_call.specs.Replies.{goes_on, goes_plainly, may_stray, may_close, after_row, after_bind, after_close, after_columns, after_end, after_opening, stray_tags, tags_of, MayNotCome, IsAny, IsFault, Judges, after_parse}
 use Rattle.pg_call.specs.declared.judging.Verdict.{Verdict}
 use Rattle.pg_call.specs.declared.judging.News.TheVariants.{Nothing}
 use Rattle.pg_call.specs.Items.{news_of}
@@ -44,8 +44,9 @@ types_at (Feeding true) types k = absurd cc
 types_at (Feeding false) types k = absurd cc
 types_at _ types k = absurd cc
 
-pub parses_at : (part : Part) → is_known (tags_of part) 49 ≡ true → goes_on part ParseComplete ≡ Some Typing
+pub parses_at : (part : Part) → is_known (tags_of part) 49 ≡ true → goes_on part ParseComplete ≡ Some (after_parse part)
 parses_at Parsing k = refl
+parses_at Reparsing k = refl
 parses_at (Feeding true) k = absurd cc
 parses_at (Feeding false) k = absurd cc
 parses_at _ k = absurd cc
@@ -170,6 +171,10 @@ untold Parsing ParseComplete k s = absurd cc
 untold Parsing (ErrorResponse details) k s = absurd cc
 untold Parsing (ReadyForQuery status) k s = refl
 untold Parsing _ k s = (refl, refl)
+untold Reparsing ParseComplete k s = absurd cc
+untold Reparsing (ErrorResponse details) k s = absurd cc
+untold Reparsing (ReadyForQuery status) k s = refl
+untold Reparsing _ k s = (refl, refl)
 untold Typing (ParameterDescription types) k s = absurd cc
 untold Typing (ErrorResponse details) k s = absurd cc
 untold Typing (ReadyForQuery status) k s = refl
@@ -271,6 +276,7 @@ row_goes Parsing next values e = absurd cc
 row_goes Typing next values e = absurd cc
 row_goes Describing next values e = absurd cc
 row_goes (Described columns) next values e = absurd cc
+row_goes Reparsing next values e = absurd cc
 row_goes (Binding width) next values e = absurd cc
 row_goes (Closing more) next values e = absurd cc
 row_goes CopyFirst next values e = absurd cc
@@ -292,6 +298,7 @@ unfitting Parsing values e = (refl, refl)
 unfitting Typing values e = (refl, refl)
 unfitting Describing values e = (refl, refl)
 unfitting (Described columns) values e = (refl, refl)
+unfitting Reparsing values e = (refl, refl)
 unfitting (Binding width) values e = (refl, refl)
 unfitting (Closing more) values e = (refl, refl)
 unfitting CopyFirst values e = (refl, refl)

@@ -6,10 +6,11 @@ use Rattle.pg_wire.specs.declared.error.CallerFault.{CallerFault}
 use Rattle.pg_wire.specs.declared.error.ProtocolFault.TheVariants as protocol
 use Rattle.pg_wire.specs.Encoding.{Refuses}
 use Rattle.pg_request.specs.Queries.{QueryText}
+use Rattle.pg_call.specs.declared.statement.Bound.{Bound}
 use Rattle.pg_call.specs.declared.statement.Extended.{Extended}
 use Rattle.pg_call.specs.declared.request.Request.{Request}
 use Rattle.pg_call.specs.declared.request.Request.TheVariants as requests
-use Rattle.pg_call.specs.Requests.{query_of, RefusesPieces, RefusesQuery, RefusesExtended, IsRefusal}
+use Rattle.pg_call.specs.Requests.{query_of, RefusesAgain, RefusesPieces, RefusesQuery, RefusesExtended, IsRefusal}
 
 abbrev pub IsCallers : Error → Type 0
 IsCallers e = (e ≡ errors.OutOfMemory) ⊎ ((fault : CallerFault) × (e ≡ errors.Protocol (protocol.Caller fault)))
@@ -33,9 +34,15 @@ pieces_is [] e h = inl h
 pieces_is (piece ∷ pieces) e (inl h) = refuses_is 0 _ _ e h
 pieces_is (piece ∷ pieces) e (inr h) = pieces_is pieces e h
 
+again_is : (bound : Bound) (again : Option (List ℕ)) (e : Error) → RefusesAgain bound again e → IsCallers e
+again_is bound None e h = absurd h
+again_is bound (Some sql) e h = refuses_is _ _ _ e h
+
 pub refusal_is : (r : Request) (e : Error) → IsRefusal r e → IsCallers e
 refusal_is (requests.Describe extended) e h = extended_is extended e h
-refusal_is (requests.Run bound) e h = refuses_is _ _ _ e h
+refusal_is (requests.Run bound) e (inl h) = again_is bound bound.again e h
+refusal_is (requests.Run bound) e (inr h) = refuses_is _ _ _ e h
+refusal_is (requests.Look lookup) e h = query_is (query_of (requests.Look lookup)) e h
 refusal_is (requests.Execute query) e h = query_is (Some query) e h
 refusal_is (requests.ExecuteMany query) e h = query_is (Some query) e h
 refusal_is (requests.Fetch query) e h = query_is (Some query) e h
@@ -60,7 +67,7 @@ refusal_is requests.Close e h = query_is None e h
 -- want of memory may refuse each
 pub memory_refuses : (r : Request) → IsRefusal r errors.OutOfMemory
 memory_refuses (requests.Describe extended) = tt
-memory_refuses (requests.Run bound) = tt
+memory_refuses (requests.Run bound) = inr tt
 memory_refuses (requests.Evict eviction) = refl
 memory_refuses (requests.Prepare prepared) = refl
 memory_refuses (requests.Clear statements) = refl

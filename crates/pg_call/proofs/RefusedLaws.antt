@@ -1,5 +1,5 @@
 -- A message that may not come begins no response of any server, and a copy that may come begins one.
-use Rattle.std.proofs.Common.{◌≡◌, ◌∙◌, ℕ, zero, suc, ◌-◌, nat_eq, arith, replicate, Bool, true, false, cond, ◌==◌, inl, inr, List, [], ◌∷◌, ◌++◌, length, map, refl, sym, ap, subst, Option, Some, None, option_and_then}
+use Rattle.std.proofs.Common.{◌≡◌, ◌∙◌, ℕ, zero, suc, ◌-◌, nat_eq, arith, replicate, Bool, true, false, cond, ◌==◌, inl, inr, List, [], ◌∷◌, ◌++◌, length, map, refl, sym, ap, subst, Option, Some, None, option_and_then, option_map}
 use Rattle.std.specs.List.{AllByRecursion}
 use Rattle.std.proofs.lemmas.Bool.{eqb-true}
 use Rattle.std.proofs.lemmas.Option.{same_Some}
@@ -7,7 +7,7 @@ use Rattle.std.proofs.lemmas.Slice.Eq.{bytes_eq-Decides}
 use Rattle.pg_wire.specs.declared.status.TransactionStatus.{TransactionStatus}
 use Rattle.pg_wire.specs.Frame.{Frame}
 use Rattle.pg_wire.specs.Frontend.{Query, Parse, DescribeStatement, Bind, Execute, CloseStatement, ClosePortal}
-use Rattle.pg_wire.specs.Backend.{BackendMessage, backend_frame, HasBackendFrame, ReadyForQuery, RowDescription, DataRow, CommandComplete, ErrorResponse, EmptyQueryResponse, ParameterDescription, ParseComplete, BindComplete, CloseComplete, NoData, CopyInResponse, CopyOutResponse}
+use Rattle.pg_wire.specs.Backend.{FieldDescription, BackendMessage, backend_frame, HasBackendFrame, ReadyForQuery, RowDescription, DataRow, CommandComplete, ErrorResponse, EmptyQueryResponse, ParameterDescription, ParseComplete, BindComplete, CloseComplete, NoData, CopyInResponse, CopyOutResponse}
 use Rattle.pg_wire.specs.Acceptor.{Awaits, FirstSegment, FurtherSegment, RowsOf, next, accepts}
 use Rattle.pg_wire.specs.Groups.{IsGroup, IsInner}
 use Rattle.pg_wire.specs.Refusals.{BeginsCopyResponse, MayBeginCopy}
@@ -15,7 +15,7 @@ use Rattle.pg_exchanges.specs.Expecting.{Step, Closes, Expected, steps_of, InQue
 use Rattle.pg_exchanges.specs.Answering.{described, running}
 use Rattle.pg_exchanges.specs.Answering.{closing as closing_group}
 use Rattle.pg_exchanges.proofs.ExpectingLaws.{refused_begins_no_group_response}
-use Rattle.pg_call.proofs.CopyBegun.{copy_begins_response, copy_begins_run}
+use Rattle.pg_call.proofs.CopyBegun.{copy_begins_response, copy_begins_run, copy_begins_parsed}
 use Rattle.pg_call.proofs.CopyOutLaws.{copy_refused, copy_strays, copied_parts}
 use Rattle.pg_call.proofs.CopyInLaws.{feed_refused, feed_strays}
 use Rattle.pg_call.specs.declared.kind.Kind.TheVariants as kinds
@@ -25,11 +25,11 @@ use Rattle.pg_call.specs.declared.reply.Heard.TheVariants as heards
 use Rattle.pg_call.specs.declared.request.Request.{Request}
 use Rattle.pg_call.specs.declared.request.Request.TheVariants as requests
 use Rattle.pg_call.specs.declared.judging.Part.{Part}
-use Rattle.pg_call.specs.declared.judging.Part.TheVariants.{First, Further, Rows, Synced, Parsing, Typing, Describing, Described, Binding, Running, RunningOn, Closing, CopyFirst, CopyData, CopyEnd, Copied, Opening, Feeding}
+use Rattle.pg_call.specs.declared.judging.Part.TheVariants.{First, Further, Rows, Synced, Parsing, Typing, Describing, Described, Reparsing, Binding, Running, RunningOn, Closing, CopyFirst, CopyData, CopyEnd, Copied, Opening, Feeding}
 use Rattle.pg_rows.specs.declared.heading.Heading.{Heading}
-use Rattle.pg_call.specs.Requests.{Group, groups_of, kind_of, known, name_of, width_of, widths_of}
+use Rattle.pg_call.specs.Requests.{Group, groups_of, kind_of, known, name_of, parsing_by, width_by, width_of, widths_of}
 use Rattle.pg_call.specs.Items.{heading_after, news_of}
-use Rattle.pg_call.specs.Replies.{awaited, awaits_first, begins, begins_copy, closing, goes_on, part_after, may_stray, MayNotCome}
+use Rattle.pg_call.specs.Replies.{awaited, awaits_first, awaits_run, begins, begins_copy, closing, goes_on, part_after, may_stray, MayNotCome}
 
 -- ---- the reply goes on as the protocol says
 
@@ -118,6 +118,8 @@ goes_plain Describing (RowDescription fields) i = tt
 goes_plain Describing NoData i = tt
 goes_plain Describing _ i = tt
 goes_plain (Described columns) m i = tt
+goes_plain Reparsing ParseComplete i = tt
+goes_plain Reparsing _ i = tt
 goes_plain (Binding width) BindComplete i = tt
 goes_plain (Binding width) _ i = tt
 goes_plain (Running None) (DataRow values) i = tt
@@ -156,6 +158,8 @@ gone Describing (RowDescription fields) i = refl
 gone Describing NoData i = refl
 gone Describing _ i = tt
 gone (Described columns) m i = tt
+gone Reparsing ParseComplete i = refl
+gone Reparsing _ i = tt
 gone (Binding width) BindComplete i = refl
 gone (Binding width) _ i = tt
 gone (Running None) (DataRow values) i = refl
@@ -236,6 +240,9 @@ refused Describing _ i h = (refl, λ x. x)
 refused (Described columns) (ErrorResponse details) i h = absurd h
 refused (Described columns) (ReadyForQuery status) i h = absurd cc
 refused (Described columns) _ i h = (refl, λ x. x)
+refused Reparsing ParseComplete i h = absurd cc
+refused Reparsing (ErrorResponse details) i h = absurd h
+refused Reparsing _ i h = (refl, λ x. x)
 refused (Binding width) BindComplete i h = absurd cc
 refused (Binding width) (ErrorResponse details) i h = absurd h
 refused (Binding width) _ i h = (refl, λ x. x)
@@ -283,6 +290,10 @@ plain_start : (r : Request) → IsPlain (awaits_first r) → IsPlainStart r
 plain_start (requests.CopyIn feed) i = absurd i
 plain_start _ i = tt
 
+run_group : (name types : List ℕ) (values : List (Option (List ℕ))) (again : Option (List ℕ)) → IsGroup (parsing_by name types again ++ running name values 0)
+run_group name types values None = inr (Bind name values ∷ Execute [] 0 ∷ ClosePortal [] ∷ [], (tt, (tt, (tt, tt))), refl)
+run_group name types values (Some sql) = inr (Parse name sql types ∷ Bind name values ∷ Execute [] 0 ∷ ClosePortal [] ∷ [], (tt, (tt, (tt, (tt, tt)))), refl)
+
 pub groups_are : (r : Request) → IsPlainStart r → AllByRecursion IsGroup (groups_of r)
 groups_are (requests.Execute query) i = (inl (query.sql, refl), tt)
 groups_are (requests.ExecuteMany query) i = (inl (query.sql, refl), tt)
@@ -298,7 +309,8 @@ groups_are (requests.CopyIn feed) i = absurd i
 groups_are (requests.Commit left) i = (inl (_, refl), tt)
 groups_are (requests.Rollback left) i = (inl (_, refl), tt)
 groups_are (requests.Describe x) i = (inr (Parse (name_of x.statement) x.sql x.arguments.types ∷ DescribeStatement (name_of x.statement) ∷ [], (tt, (tt, tt)), refl), tt)
-groups_are (requests.Run bound) i = (inr (Bind (name_of bound.statement) bound.arguments.values ∷ Execute [] 0 ∷ ClosePortal [] ∷ [], (tt, (tt, (tt, tt))), refl), tt)
+groups_are (requests.Run bound) i = (run_group (name_of bound.statement) bound.arguments.types bound.arguments.values bound.again, tt)
+groups_are (requests.Look lookup) i = (inl (lookup.text, refl), tt)
 groups_are (requests.Evict eviction) i = (inr (CloseStatement (name_of eviction.statement) ∷ [], (tt, tt), refl), tt)
 groups_are (requests.Clear statements) i = (inr (map CloseStatement (map name_of statements), closes_end (map name_of statements), refl), tt)
 groups_are (requests.Prepare prepared) i = tt
@@ -314,6 +326,11 @@ known_at name (Some columns) = ap (λ (b : Bool). cond b (Some columns) None) ((
 -- so the first row of what is run has this width
 run_awaits : (name : List ℕ) (values : List (Option (List ℕ))) (width : Option ℕ) → expected (known name width) (running name values 0) ≡ awaited (Binding width)
 run_awaits name values width = ap (λ (w : Option ℕ). awaited (Binding w)) (known_at name width)
+
+-- of one that is prepared once more any width is awaited
+bound_awaits : (name types : List ℕ) (values : List (Option (List ℕ))) (columns : Option (List FieldDescription)) (again : Option (List ℕ)) → expected (known name (width_by again columns)) (parsing_by name types again ++ running name values 0) ≡ awaited (awaits_run (width_by again columns) again)
+bound_awaits name types values columns None = run_awaits name values (option_map length columns)
+bound_awaits name types values columns (Some sql) = refl
 
 -- so many closes are awaited as there are statements to close
 closes_steps : (statements : List ℕ) → steps_of [] None (closing_group (map name_of statements)) ≡ replicate (length statements) Closes
@@ -340,7 +357,8 @@ first_awaits (requests.CopyIn feed) group i e = absurd i
 first_awaits (requests.Commit left) group i e = rw (← the_first _ _ e) refl
 first_awaits (requests.Rollback left) group i e = rw (← the_first _ _ e) refl
 first_awaits (requests.Describe extended) group i e = rw (← the_first _ _ e) refl
-first_awaits (requests.Run bound) group i e = rw (← the_first _ _ e) (run_awaits (name_of bound.statement) bound.arguments.values (width_of bound))
+first_awaits (requests.Run bound) group i e = rw (← the_first _ _ e) (bound_awaits (name_of bound.statement) bound.arguments.types bound.arguments.values bound.columns bound.again)
+first_awaits (requests.Look lookup) group i e = rw (← the_first _ _ e) refl
 first_awaits (requests.Evict eviction) group i e = rw (← the_first _ _ e) refl
 first_awaits (requests.Clear statements) group i e = rw (← the_first _ _ e) (closes_awaited statements)
 first_awaits (requests.Prepare prepared) group i e = absurd (none_first group e)
@@ -356,11 +374,16 @@ plain_refused r group own part f i g have e out b =
     let came = ap (λ (x : Expected). behind x own) (first_awaits r group i g) ∙ on.0 in
     refused_begins_no_group_response (widths_of r) group own (awaited part) f is.0 have came (λ m h k. refused part m on.1 (out m h k)) b
 
+pub run_plain : (width : Option ℕ) (again : Option (List ℕ)) → IsPlain (awaits_run width again)
+run_plain width None = tt
+run_plain width (Some sql) = tt
+
 pub group_refused : (r : Request) (group : Group) (own : List BackendMessage) (part : Part) (f : Frame) → groups_of r ≡ group ∷ [] → AllByRecursion HasBackendFrame own → part_after (awaits_first r) own ≡ Some part
     → ((m : BackendMessage) → HasBackendFrame m → backend_frame m ≡ f → MayNotCome part m) → BeginsKnowing (widths_of r) group (map backend_frame own ++ f ∷ []) → ⊥
 group_refused (requests.CopyOut query) group own part f g have e out b = copy_refused query.sql own part f have e out (subst (λ (x : Group). BeginsCopyResponse x (map backend_frame own ++ f ∷ [])) (sym (the_first _ _ g)) b.0)
 group_refused (requests.CopyIn feed) group own part f g have e out b = feed_refused feed own part f have e out (subst (λ (x : Group). BeginsCopyResponse x (map backend_frame own ++ f ∷ [])) (sym (the_first _ _ g)) b.0)
 group_refused (requests.Clear statements) group own part f g have e out b = plain_refused (requests.Clear statements) group own part f (closing_plain (length statements)) g have e out b
+group_refused (requests.Run bound) group own part f g have e out b = plain_refused (requests.Run bound) group own part f (run_plain (width_of bound) bound.again) g have e out b
 group_refused r group own part f g have e out b = plain_refused r group own part f tt g have e out b
 
 -- behind a part of no copy comes another
@@ -516,17 +539,31 @@ synced_alone (m ∷ ms) part e = absurd cc
 no_copy_synced : (own : List BackendMessage) (part : Part) (m : BackendMessage) → part_after Synced own ≡ Some part → may_stray part m ≡ true → ⊥
 no_copy_synced own part m e may = let k : may_stray Synced m ≡ true = subst (λ (p : Part). may_stray p m ≡ true) (synced_alone own part e) may in absurd cc
 
+begins_run : (width : Option ℕ) (m : BackendMessage) → may_stray (Running width) m ≡ true → MayBeginCopy FirstSegment m
+begins_run width (CopyInResponse format columns) h = tt
+begins_run width (CopyOutResponse format columns) h = tt
+begins_run width _ h = absurd cc
+
 run_copies : (name : List ℕ) (values : List (Option (List ℕ))) (width : Option ℕ) (group : Group) (own : List BackendMessage) (part : Part) (m : BackendMessage) → running name values 0 ∷ [] ≡ group ∷ [] → HasBackendFrame m → part_after (Binding width) own ≡ Some part → may_stray part m ≡ true
     → BeginsCopyResponse group (map backend_frame own ++ backend_frame m ∷ [])
 run_copies name values width group own part m g h e may =
     let alone = bound_copies width own part m e may in
     let runs : Running width ≡ part = same_Some (Running width) part (subst (λ (ms : List BackendMessage). part_after (Binding width) ms ≡ Some part) alone e) in
-    rw (alone, ← the_first _ _ g) (copy_begins_run name values m h (begins_it m (subst (λ (p : Part). may_stray p m ≡ true) (sym runs) may)))
-  where
-    begins_it : (m : BackendMessage) → may_stray (Running width) m ≡ true → MayBeginCopy FirstSegment m
-    begins_it (CopyInResponse format columns) h = tt
-    begins_it (CopyOutResponse format columns) h = tt
-    begins_it _ h = absurd cc
+    rw (alone, ← the_first _ _ g) (copy_begins_run name values m h (begins_run width m (subst (λ (p : Part). may_stray p m ≡ true) (sym runs) may)))
+
+-- the same where it is prepared once more: a copy begins behind ParseComplete and BindComplete
+reparsed_copies : (own : List BackendMessage) (part : Part) (m : BackendMessage) → part_after Reparsing own ≡ Some part → may_stray part m ≡ true → own ≡ ParseComplete ∷ BindComplete ∷ []
+reparsed_copies [] part m e may = let k : may_stray Reparsing m ≡ true = subst (λ (p : Part). may_stray p m ≡ true) (sym (same_Some Reparsing part e)) may in absurd cc
+reparsed_copies (ParseComplete ∷ xs) part m e may = ap (λ (ms : List BackendMessage). ParseComplete ∷ ms) (bound_copies None xs part m e may)
+reparsed_copies (_ ∷ xs) part m e may = absurd cc
+
+again_copies : (name types : List ℕ) (values : List (Option (List ℕ))) (width : Option ℕ) (again : Option (List ℕ)) (group : Group) (own : List BackendMessage) (part : Part) (m : BackendMessage) → (parsing_by name types again ++ running name values 0) ∷ [] ≡ group ∷ [] → HasBackendFrame m
+    → part_after (awaits_run width again) own ≡ Some part → may_stray part m ≡ true → BeginsCopyResponse group (map backend_frame own ++ backend_frame m ∷ [])
+again_copies name types values width None group own part m g h e may = run_copies name values width group own part m g h e may
+again_copies name types values width (Some sql) group own part m g h e may =
+    let alone = reparsed_copies own part m e may in
+    let runs : Running None ≡ part = same_Some (Running None) part (subst (λ (ms : List BackendMessage). part_after Reparsing ms ≡ Some part) alone e) in
+    rw (alone, ← the_first _ _ g) (copy_begins_parsed name sql types values m h (begins_run None m (subst (λ (p : Part). may_stray p m ≡ true) (sym runs) may)))
 
 pub group_copies : (r : Request) (group : Group) (own : List BackendMessage) (part : Part) (m : BackendMessage) → groups_of r ≡ group ∷ [] → AllByRecursion HasBackendFrame own → HasBackendFrame m → part_after (awaits_first r) own ≡ Some part → may_stray part m ≡ true
     → BeginsCopyResponse group (map backend_frame own ++ backend_frame m ∷ [])
@@ -546,7 +583,8 @@ group_copies (requests.CopyIn feed) group own part m g have h e may =
 group_copies (requests.Commit left) group own part m g have h e may = query_copies _ group own part m g have h e may
 group_copies (requests.Rollback left) group own part m g have h e may = query_copies _ group own part m g have h e may
 group_copies (requests.Describe extended) group own part m g have h e may = absurd (describes_copies_none part m (describes_after Parsing part own tt e) may)
-group_copies (requests.Run bound) group own part m g have h e may = run_copies (name_of bound.statement) bound.arguments.values (width_of bound) group own part m g h e may
+group_copies (requests.Run bound) group own part m g have h e may = again_copies (name_of bound.statement) bound.arguments.types bound.arguments.values (width_of bound) bound.again group own part m g h e may
+group_copies (requests.Look lookup) group own part m g have h e may = query_copies lookup.text group own part m g have h e may
 group_copies (requests.Evict eviction) group own part m g have h e may = absurd (past_copies_none part m (past_after (Closing 0) part own tt e) may)
 group_copies (requests.Clear statements) group own part m g have h e may = absurd (past_copies_none part m (past_after (closing (length statements)) part own (closing_past (length statements)) e) may)
 group_copies (requests.Prepare prepared) group own part m g have h e may = absurd (none_first group g)
@@ -586,6 +624,7 @@ opens_for r own part next m opened came goes opens =
     by (requests.CopyIn feed) ended e = refl
     by (requests.CopyOut query) ended e = absurd (copied_parts own (Opening ended) e)
     by (requests.Clear statements) ended e = absurd (plain_after (closing (length statements)) (Opening ended) own (closing_plain (length statements)) e)
+    by (requests.Run bound) ended e = absurd (plain_after (awaits_first (requests.Run bound)) (Opening ended) own (run_plain (width_of bound) bound.again) e)
     by r ended e = absurd (plain_after (awaits_first r) (Opening ended) own tt e)
 
 -- ---- which columns were described

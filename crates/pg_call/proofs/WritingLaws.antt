@@ -83,3 +83,19 @@ closes_out (Err x) statements a b c e k = tt
 pub closes_said : {X E : Type 0} (result : Result X E) (statements : List ℕ) → AllByRecursion HasFrontendFrame (map close_of statements) → OnOk result (AllByRecursion HasFrontendFrame (closing (map name_of statements)))
 closes_said (Ok x) statements all = subst (λ (ms : List FrontendMessage). AllByRecursion HasFrontendFrame (ms ++ Sync ∷ [])) (sym (closes_are statements)) (each_last (map close_of statements) Sync all tt)
 closes_said (Err x) statements all = tt
+
+spelled_both : (xs ys : List FrontendMessage) → spelled (xs ++ ys) ≡ spelled xs ++ spelled ys
+spelled_both xs ys = ap text_of (map-append frontend_frame xs ys) ∙ text_append (map frontend_frame xs) (map frontend_frame ys)
+
+-- messages, and more behind them
+pub both_out : {X E : Type 0} (result : Result X E) (xs ys : List FrontendMessage) (a b c : List ℕ) → b ≡ a ++ spelled xs → OnOk result (c ≡ b ++ spelled ys) → OnOk result (c ≡ a ++ spelled (xs ++ ys))
+both_out (Ok x) xs ys a b c p q = rw (q, p, spelled_both xs ys) (append_assoc a (spelled xs) (spelled ys))
+both_out (Err e) xs ys a b c p q = tt
+
+each_both : (xs ys : List FrontendMessage) → AllByRecursion HasFrontendFrame xs → AllByRecursion HasFrontendFrame ys → AllByRecursion HasFrontendFrame (xs ++ ys)
+each_both [] ys h k = k
+each_both (x ∷ xs) ys h k = (h.0, each_both xs ys h.1 k)
+
+pub both_said : {X E : Type 0} (result : Result X E) (xs ys : List FrontendMessage) → AllByRecursion HasFrontendFrame xs → OnOk result (AllByRecursion HasFrontendFrame ys) → OnOk result (AllByRecursion HasFrontendFrame (xs ++ ys))
+both_said (Ok x) xs ys h k = each_both xs ys h k
+both_said (Err e) xs ys h k = tt

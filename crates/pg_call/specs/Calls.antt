@@ -143,10 +143,11 @@ pub record IsFine (start : Ledger) (r : Request) (said : List FrontendMessage) (
   pub ends : EndsByReady hs
   pub last : (groups_of r ≡ []) ⊎ EndsByStatus hs status
 
--- What is asked behind a description and behind a close: what the statement was described for, and what the other one was closed for. What every other call answers is told by its
+-- What is asked behind a description, behind a lookup and behind a close: what the statement was described for, and what the other one was closed for. What every other call answers is told by its
 -- items and by the status behind them.
 abbrev pub next_of : Request → List BackendMessage → Option Request
 next_of (requests.Describe extended) reply = Some (requests.Describe (told (parameters_after [] reply) (Some (described reply)) extended))
+next_of (requests.Look lookup) reply = Some (requests.Describe lookup.extended)
 next_of (requests.Evict eviction) reply = Some (request_behind eviction.after)
 next_of _ reply = None
 

@@ -154,11 +154,21 @@ abbrev pub keeps_now : Call → Bool
 keeps_now (calls.Own reply) = keeps_row reply.kind reply.tally.first
 keeps_now _ = false
 
+-- whether it is the reply to a lookup
+abbrev pub is_look : Rest → Bool
+is_look (rests.Look extended) = true
+is_look _ = false
+
+abbrev pub looks_up : Call → Bool
+looks_up (calls.Own reply) = is_look reply.rest
+looks_up _ = false
+
 -- what comes of it at its end, where that is not its answer
 abbrev pub handed_on : Rest → List ℕ → Option (List FieldDescription) → Result CallAnswer Error → Result CallAnswer Error
 handed_on rests.Nothing parameters columns answer = answer
 handed_on (rests.Describe extended) parameters columns answer = Ok (answers.Next (requests.Describe (told parameters columns extended)))
 handed_on (rests.After after) parameters columns answer = Ok (answers.Next (request_behind after))
+handed_on (rests.Look extended) parameters columns answer = Ok (answers.Next (requests.Describe extended))
 handed_on (rests.Tell prepared) parameters columns answer = Ok (answers.Statement prepared)
 
 -- the answer where nothing is left but to send: a statement is told, where it is asked for

@@ -16,7 +16,7 @@ use Rattle.pg_call.specs.declared.request.Request.TheVariants as requests
 use Rattle.pg_call.specs.Requests.{kind_of, width_of}
 use Rattle.pg_call.specs.declared.answer.CallItem.{CallItem}
 use Rattle.pg_call.specs.declared.judging.Part.{Part}
-use Rattle.pg_call.specs.declared.judging.Part.TheVariants.{First, Further, Rows, Synced, Parsing, Typing, Describing, Described, Binding, Running, RunningOn, Closing, CopyFirst, CopyData, CopyEnd, Copied, Opening, Feeding}
+use Rattle.pg_call.specs.declared.judging.Part.TheVariants.{First, Further, Rows, Synced, Parsing, Typing, Describing, Described, Reparsing, Binding, Running, RunningOn, Closing, CopyFirst, CopyData, CopyEnd, Copied, Opening, Feeding}
 use Rattle.pg_call.specs.declared.judging.News.TheVariants.{Nothing}
 use Rattle.pg_call.specs.declared.judging.Verdict.{Verdict}
 use Rattle.pg_call.specs.declared.judging.Verdict.TheVariants as verdicts
@@ -35,9 +35,15 @@ first_part _ = Synced
 abbrev pub closing : ℕ → Part
 closing count = if nat_eq count 0 then Synced else Closing (count - 1)
 
+-- that a statement is prepared once more, or that it is bound
+abbrev pub awaits_run : Option ℕ → Option (List ℕ) → Part
+awaits_run width None = Binding width
+awaits_run width (Some sql) = Reparsing
+
 abbrev pub awaits_first : Request → Part
 awaits_first (requests.Describe extended) = Parsing
-awaits_first (requests.Run bound) = Binding (width_of bound)
+awaits_first (requests.Look lookup) = First
+awaits_first (requests.Run bound) = awaits_run (width_of bound) bound.again
 awaits_first (requests.Evict eviction) = Closing 0
 awaits_first (requests.Clear statements) = closing (length statements)
 awaits_first (requests.CopyIn feed) = Opening feed.is_ended
@@ -65,6 +71,11 @@ after_row _ width = None
 abbrev pub after_columns : Part → ℕ → Part
 after_columns Describing columns = Described columns
 after_columns _ columns = Rows columns
+
+-- behind ParseComplete
+abbrev pub after_parse : Part → Part
+after_parse Reparsing = Binding None
+after_parse part = Typing
 
 -- behind BindComplete
 abbrev pub after_bind : Part → Part
@@ -96,6 +107,7 @@ goes_on Further m = begins m
 goes_on (Rows columns) (DataRow values) = after_row (Rows columns) (length values)
 goes_on (Rows columns) (CommandComplete tag) = Some Further
 goes_on Parsing ParseComplete = Some Typing
+goes_on Reparsing ParseComplete = Some (Binding None)
 goes_on Typing (ParameterDescription types) = Some Describing
 goes_on Describing (RowDescription fields) = Some (Described (length fields))
 goes_on Describing NoData = Some (Described 0)
@@ -160,6 +172,7 @@ tags_of Further = codes "TCIEZ"
 tags_of (Rows columns) = codes "DCE"
 tags_of Synced = codes "EZ"
 tags_of Parsing = codes "1E"
+tags_of Reparsing = codes "1E"
 tags_of Typing = codes "tE"
 tags_of Describing = codes "TnE"
 tags_of (Described columns) = codes "EZ"
@@ -194,6 +207,7 @@ awaited Parsing = InSteps (Parses ∷ Types ∷ Columns ∷ [])
 awaited Typing = InSteps (Types ∷ Columns ∷ [])
 awaited Describing = InSteps (Columns ∷ [])
 awaited (Described columns) = InSteps []
+awaited Reparsing = InSteps (Parses ∷ Binds ∷ Runs None ∷ Closes ∷ [])
 awaited (Binding width) = InSteps (Binds ∷ Runs width ∷ Closes ∷ [])
 awaited (Running width) = InSteps (Runs width ∷ Closes ∷ [])
 awaited (RunningOn columns) = InSteps (RunsOn columns ∷ Closes ∷ [])

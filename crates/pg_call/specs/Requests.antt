@@ -1,5 +1,5 @@
 -- The request rule: which messages a call sends (PostgreSQL manual, "Message Flow", "Simple Query").
-use Rattle.std.specs.Prelude.{◌≡◌, ℕ, nat_eq, option_map, unwrap_or, ◌<◌, ◌≤◌, ◌⊎◌, List, [], ◌∷◌, ◌++◌, length, map, flat_map, codes, Bool, true, false, Option, Some, None, if◌then◌else◌}
+use Rattle.std.specs.Prelude.{◌≡◌, ◌&&◌, ℕ, nat_eq, option_map, unwrap_or, ◌<◌, ◌≤◌, ◌⊎◌, List, [], ◌∷◌, ◌++◌, length, map, flat_map, codes, Bool, true, false, Option, Some, None, if◌then◌else◌}
 use Rattle.std.specs.List.{AllByRecursion}
 use Rattle.pg_wire.specs.declared.error.Error.{Error}
 use Rattle.pg_wire.specs.declared.error.Error.TheVariants as errors
@@ -65,6 +65,7 @@ kind_of (requests.Commit left) = kinds.Commit
 kind_of (requests.Rollback left) = kinds.Rollback
 kind_of (requests.Describe extended) = kinds.Describe
 kind_of (requests.Run bound) = kinds.Run bound.how
+kind_of (requests.Look lookup) = kinds.Describe
 kind_of (requests.Evict eviction) = kinds.Describe
 kind_of (requests.Prepare prepared) = kinds.Prepare
 kind_of (requests.Clear statements) = kinds.Clear
@@ -88,6 +89,7 @@ query_of (requests.BeginWith query) = Some query
 query_of (requests.Commit left) = Some (plain_text (commit_text left))
 query_of (requests.Rollback left) = Some (plain_text (rollback_text left))
 query_of (requests.CopyOut query) = Some query
+query_of (requests.Look lookup) = Some (plain_text lookup.text)
 query_of _ = None
 
 -- the groups of a call: one Query for a query, for what opens or ends a transaction and for a copy, one Sync for a ping, and none for a flush and a close
@@ -112,18 +114,34 @@ ended_by ended = if ended then CopyDone ∷ [] else []
 abbrev pub feeding : Feed → List FrontendMessage
 feeding feed = Query feed.query.sql ∷ map CopyData feed.pieces ++ ended_by feed.is_ended
 
+-- a statement is prepared once more, where it is
+abbrev pub parsing_by : List ℕ → List ℕ → Option (List ℕ) → List FrontendMessage
+parsing_by name types None = []
+parsing_by name types (Some sql) = Parse name sql types ∷ []
+
+abbrev pub parsing_again : Bound → List FrontendMessage
+parsing_again bound = parsing_by (name_of bound.statement) bound.arguments.types bound.again
+
+-- and run
+abbrev pub running_bound : Bound → List FrontendMessage
+running_bound bound = parsing_again bound ++ running (name_of bound.statement) bound.arguments.values 0
+
 -- A statement is prepared and described, what is so prepared is run with its arguments, and statements are closed ("Extended Query").
 abbrev pub groups_of : Request → List Group
 groups_of (requests.Describe extended) = describing (name_of extended.statement) extended.sql extended.arguments.types ∷ []
-groups_of (requests.Run bound) = running (name_of bound.statement) bound.arguments.values 0 ∷ []
+groups_of (requests.Run bound) = running_bound bound ∷ []
 groups_of (requests.Evict eviction) = closing (name_of eviction.statement ∷ []) ∷ []
 groups_of (requests.Clear statements) = closing (map name_of statements) ∷ []
 groups_of (requests.CopyIn feed) = feeding feed ∷ []
 groups_of request = groups_by (kind_of request) (query_of request)
 
--- how many columns a statement has, where that is known
+-- how many columns a statement has, where that is known: of one that is prepared once more it isn't
+abbrev pub width_by : Option (List ℕ) → Option (List FieldDescription) → Option ℕ
+width_by None columns = option_map length columns
+width_by (Some sql) columns = None
+
 abbrev pub width_of : Bound → Option ℕ
-width_of bound = option_map length bound.columns
+width_of bound = width_by bound.again bound.columns
 
 -- the same under its name
 abbrev pub known : List ℕ → Option ℕ → Widths
@@ -174,9 +192,16 @@ sort_of (requests.Prepare prepared) = sorts.Prepare prepared
 sort_of (requests.Clear statements) = sorts.Clear
 sort_of request = sorts.Plain request
 
+-- a Query makes an end of the statement without a name ("Extended Query"), so where one came behind its Parse, it is parsed once more
+abbrev pub is_parsed_again : Extended → Bool
+is_parsed_again x = x.is_looked_up && nat_eq x.statement 0
+
+abbrev pub parsed_again : Bool → List ℕ → Option (List ℕ)
+parsed_again again sql = if again then Some sql else None
+
 -- what a statement was described for, which makes this of the statements that are kept
 abbrev pub behind_goal : Goal → Extended → Described → Keeping → After
-behind_goal (goals.Run how) x d keeping = afters.Run (record { how = how; statement = x.statement; arguments = x.arguments; columns = d.columns; keeping = keeping })
+behind_goal (goals.Run how) x d keeping = afters.Run (record { how = how; statement = x.statement; again = parsed_again (is_parsed_again x) x.sql; arguments = x.arguments; columns = d.columns; keeping = keeping })
 behind_goal goals.Prepare x d keeping = afters.Prepare (record { sql = x.sql; parameters = d.parameters; columns = d.columns; keeping = keeping })
 
 -- a statement that was described so
@@ -186,6 +211,7 @@ told parameters columns x = record x { described = Some (record { parameters = p
 -- what an exchange hands on, or answers: the statement that it describes, what comes behind a close, or the statement that it tells of
 abbrev pub rest_of : Request → Rest
 rest_of (requests.Describe extended) = rests.Describe extended
+rest_of (requests.Look lookup) = rests.Look lookup.extended
 rest_of (requests.Evict eviction) = rests.After eviction.after
 rest_of (requests.Prepare prepared) = rests.Tell prepared
 rest_of _ = rests.Nothing
@@ -223,6 +249,7 @@ heading_of request = heading_for (kind_of request) [] formats.Text
 -- the kind of the call: that of its last exchange, whose response is the call's own
 abbrev pub main_kind : Request → Kind
 main_kind (requests.Describe extended) = goal_kind extended.goal
+main_kind (requests.Look lookup) = goal_kind lookup.extended.goal
 main_kind (requests.Evict eviction) = after_kind eviction.after
 main_kind request = kind_of request
 
@@ -298,6 +325,14 @@ RefusesExtended x _ = ⊥
 abbrev pub RefusesBind : Bound → Error → Type 0
 RefusesBind bound e = Refuses (length bound.arguments.values) (Unit {0}) (bind_size bound.statement bound.arguments) e
 
+-- the same of what is prepared once more before it
+abbrev pub RefusesAgain : Bound → Option (List ℕ) → Error → Type 0
+RefusesAgain bound None e = ⊥
+RefusesAgain bound (Some sql) e = Refuses (length bound.arguments.types) (HasNoNul sql) (length (frontend_frame (Parse (name_of bound.statement) sql bound.arguments.types)).body) e
+
+abbrev pub RefusesRun : Bound → Error → Type 0
+RefusesRun bound e = RefusesAgain bound bound.again e ⊎ RefusesBind bound e
+
 -- a piece that is too long for a frame
 abbrev pub RefusesPieces : List (List ℕ) → Error → Type 0
 RefusesPieces [] e = e ≡ errors.OutOfMemory
@@ -308,7 +343,7 @@ RefusesFeed feed e = RefusesQuery (Some feed.query) e ⊎ RefusesPieces feed.pie
 
 abbrev pub IsRefusal : Request → Error → Type 0
 IsRefusal (requests.Describe extended) e = RefusesExtended extended e
-IsRefusal (requests.Run bound) e = RefusesBind bound e
+IsRefusal (requests.Run bound) e = RefusesRun bound e
 IsRefusal (requests.CopyIn feed) e = RefusesFeed feed e
 IsRefusal request e = RefusesQuery (query_of request) e
 

@@ -3,7 +3,7 @@ ghost use Rattle.pg_wire.specs.Backend as backend;
 ghost use Rattle.pg_wire.specs.Backend.{Values};
 ghost use Rattle.pg_wire.specs.Decoding.{Says};
 ghost use Rattle.pg_wire.specs.Frame.{is_known};
-ghost use Rattle.pg_call.specs.Replies.{Judges, PassesColumns, PassesRow, after_bind, after_close, after_columns, after_end, after_row, awaits_first, closing, after_opening, goes_plainly, stray_tags, tags_of};
+ghost use Rattle.pg_call.specs.Replies.{Judges, PassesColumns, PassesRow, after_parse, after_bind, after_close, after_columns, after_end, after_row, awaits_first, closing, after_opening, goes_plainly, stray_tags, tags_of};
 
 use crate::format::{check_message, refuse};
 use crate::{PgQueryResult, Request};
@@ -27,6 +27,7 @@ use std::alloc::Global;
 /// | `Parsing` | 1: `Typing` |
 /// | `Typing` | t: `Describing` |
 /// | `Describing` | T, n: `Described(n)` |
+/// | `Reparsing` | 1: `Binding(None)` |
 /// | `Binding(width)` | 2: `Running(width)` |
 /// | `Running(width)` | D of this width, or of any: `RunningOn(n)`; C, I: `Closing(0)` |
 /// | `RunningOn(n)` | D of n values; C, I: `Closing(0)` |
@@ -58,6 +59,8 @@ pub enum Part {
     Describing,
     /// The end; so many columns were described.
     Described(usize),
+    /// That the statement is prepared once more, which is run then.
+    Reparsing,
     /// That the statement is bound. Its rows have so many values, where that is known.
     Binding(Option<usize>),
     /// The first row, or the end of the rows.
@@ -97,7 +100,10 @@ impl Part {
     {
         match request {
             Request::Describe(_) => Part::Parsing,
-            Request::Run(bound) => Part::Binding(bound.width()),
+            Request::Run(bound) => match &bound.again {
+                Some(_) => Part::Reparsing,
+                None => Part::Binding(bound.width()),
+            },
             Request::Evict(_) => Part::Closing(0),
             Request::Clear(statements) => closing(statements.len()),
             Request::Prepare(_) | Request::Ping | Request::Flush | Request::Close => Part::Synced,
@@ -116,7 +122,7 @@ impl Part {
             Part::Further => matches!(tag, b'T' | b'C' | b'I' | b'E' | b'Z'),
             Part::Rows(_) => matches!(tag, b'D' | b'C' | b'E'),
             Part::Synced | Part::Described(_) | Part::Copied => matches!(tag, b'E' | b'Z'),
-            Part::Parsing => matches!(tag, b'1' | b'E'),
+            Part::Parsing | Part::Reparsing => matches!(tag, b'1' | b'E'),
             Part::Typing => matches!(tag, b't' | b'E'),
             Part::Describing => matches!(tag, b'T' | b'n' | b'E'),
             Part::Binding(_) => matches!(tag, b'2' | b'E'),
@@ -173,6 +179,16 @@ impl Part {
         match self {
             Part::Describing => Part::Described(columns),
             _ => Part::Rows(columns),
+        }
+    }
+
+    // Behind ParseComplete.
+    fn after_parse(self) -> Part
+        ensures { result ≡ after_parse self }
+    {
+        match self {
+            Part::Reparsing => Part::Binding(None),
+            _ => Part::Typing,
         }
     }
 
@@ -295,7 +311,7 @@ fn parse(part: Part, body: &[u8]) -> Result<Verdict, Error>
     ensures { Judges part 49 body.now result }
 {
     let _ = decode_parse_complete(body)?;
-    Ok(go_on(Part::Typing))
+    Ok(go_on(part.after_parse()))
 }
 
 fn bind(part: Part, body: &[u8]) -> Result<Verdict, Error>

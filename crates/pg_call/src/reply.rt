@@ -225,6 +225,7 @@ impl Reply {
                 Ok(CallAnswer::Next(Request::Describe(next)))
             }
             Rest::After(after) => Ok(CallAnswer::Next(after.request())),
+            Rest::Look(extended) => Ok(CallAnswer::Next(Request::Describe(extended))),
             Rest::Tell(prepared) => Ok(CallAnswer::Statement(prepared)),
         }
     }

@@ -1,17 +1,20 @@
 ghost use Rattle.std.specs.Prelude.{◌≡◌, ◌++◌, [], IfOk, OnOk, IfErr};
 ghost use Rattle.pg_call.specs.Requests.{kind_of, keeping_of, messages_of, raw, sort_of, spelled, CanBeSaid, IsRefusal, heading_of, rest_of};
 ghost use Rattle.pg_call.specs.Hearing.{sent_rest};
+ghost use Rattle.pg_call.specs.declared.statement.Extended.{Extended as ExtendedOf};
 
 use crate::heading::raw_heading;
 use crate::writing::{encode_closing, encode_description, encode_feed, encode_run};
-use crate::{Bound, CallAnswer, Eviction, Extended, Feed, How, Keeping, Kind, Prepared, Rest};
+use crate::{
+    Bound, CallAnswer, Eviction, Extended, Feed, How, Keeping, Kind, Lookup, Prepared, Rest,
+};
 use pg_request::{Query, begin_text, commit_text, rollback_text};
 use pg_rows::Heading;
 use pg_wire::{Blob, Error, Sequence, StatementId, encode_query, encode_sync, encode_terminate};
 use std::alloc::Global;
 
 /// What is asked of a connection. A query with arguments is asked in exchanges of their own: `Describe` and then `Run`, or `Run` alone where its statement is
-/// kept, and `Evict` between them where another statement is closed for it. (PostgreSQL manual, "Message Flow", "Extended Query".)
+/// kept, `Look` behind what is described where types or columns are to be looked up, and `Evict` before it is run where another statement is closed for it. (PostgreSQL manual, "Message Flow", "Extended Query".)
 pub enum Request {
     Execute(Query),
     ExecuteMany(Query),
@@ -32,6 +35,8 @@ pub enum Request {
     Describe(Extended),
     /// Runs a statement that is prepared.
     Run(Bound),
+    /// Looks up types, or the names of columns.
+    Look(Lookup),
     /// Closes a statement that is kept.
     Evict(Eviction),
     /// Tells of a statement, which is described before where it has to be. It asks nothing of the server.
@@ -67,6 +72,7 @@ impl Drop for Request {
             | Request::Rollback(_)
             | Request::Describe(_)
             | Request::Run(_)
+            | Request::Look(_)
             | Request::Evict(_)
             | Request::Prepare(_)
             | Request::Clear(_)
@@ -109,6 +115,17 @@ impl Request {
         }
     }
 
+    /// The statement that is described by it, or else the same request.
+    pub fn into_extended(self) -> Result<Extended, Self>
+        ensures ok { IfOk result (λ x. self ≡ Request.Describe x) }
+        ensures err { IfErr result (λ same. (same ≡ self) × ((x : ExtendedOf) → self ≡ Request.Describe x → ⊥)) }
+    {
+        match self {
+            Request::Describe(extended) => Ok(extended),
+            other => Err(other),
+        }
+    }
+
     /// A query without arguments, in this way.
     pub fn raw(how: How, query: Query) -> Self
         ensures { result ≡ raw how query }
@@ -141,7 +158,7 @@ impl Request {
             Request::Rollback(_) => Kind::Rollback,
             Request::Describe(_) => Kind::Describe,
             Request::Run(bound) => Kind::Run(bound.how),
-            Request::Evict(_) => Kind::Describe,
+            Request::Look(_) | Request::Evict(_) => Kind::Describe,
             Request::Prepare(_) => Kind::Prepare,
             Request::Clear(_) => Kind::Clear,
             Request::Ping => Kind::Ping,
@@ -174,6 +191,7 @@ impl Request {
         match self {
             Request::Describe(extended) => (Rest::Describe(extended), raw_heading(kind)),
             Request::Run(bound) => (Rest::Nothing, bound.into_heading()),
+            Request::Look(lookup) => (Rest::Look(lookup.extended), raw_heading(kind)),
             Request::Evict(eviction) => (Rest::After(eviction.after), raw_heading(kind)),
             Request::Prepare(prepared) => (Rest::Tell(prepared), raw_heading(kind)),
             _ => (Rest::Nothing, raw_heading(kind)),
@@ -212,6 +230,7 @@ impl Request {
             Request::Commit(left) => encode_query(&mut frames, commit_text(*left).as_str())?,
             Request::Rollback(left) => encode_query(&mut frames, rollback_text(*left).as_str())?,
             Request::Describe(extended) => encode_description(&mut frames, extended)?,
+            Request::Look(lookup) => encode_query(&mut frames, lookup.text.as_str())?,
             Request::Run(bound) => encode_run(&mut frames, bound)?,
             Request::Evict(eviction) => encode_closing(&mut frames, &[eviction.statement])?,
             Request::Clear(statements) => encode_closing(&mut frames, statements.as_slice())?,

@@ -1,10 +1,10 @@
 ghost use Rattle.std.specs.Prelude.{◌≡◌, ◌≢◌, ◌<◌, true, false, IfOk, IfErr, OnErr};
 ghost use Rattle.pg_wire.specs.Decoding.{IsRefused};
 ghost use Rattle.pg_call.specs.Calls.{owes_own, IsAwaiting, StaysIn, TakesMessage, RefusesMessage};
-ghost use Rattle.pg_call.specs.Hearing.{Drains, Closes, RefusesCopy, Follows, IsOpen, IsReplied, fed_whole, asked_in, awaits, keeps_now, marked, sent_answer, waits, without_asked};
+ghost use Rattle.pg_call.specs.Hearing.{Drains, Closes, RefusesCopy, Follows, IsOpen, IsReplied, fed_whole, asked_in, awaits, keeps_now, looks_up, marked, sent_answer, waits, without_asked};
 
 use crate::{
-    Beat, Call, CallAnswer, CallItem, Heard, Ledger, Part, Reply, Request, Taken, Waiting,
+    Beat, Call, CallAnswer, CallItem, Heard, Ledger, Part, Reply, Request, Rest, Taken, Waiting,
 };
 use pg_wire::{
     Blob, Error, Frame, ProtocolFault, TransactionStatus, decode_error_response,
@@ -300,6 +300,16 @@ impl Running {
     {
         match &self.call {
             Call::Own(reply) => reply.keeps_rows(),
+            Call::Idle | Call::Asked(_) | Call::Waiting(_) | Call::Closing => false,
+        }
+    }
+
+    /// Whether the own reply is that to a lookup.
+    pub fn looks_up(&self) -> bool
+        ensures { result ≡ looks_up self.now.call }
+    {
+        match &self.call {
+            Call::Own(reply) => matches!(reply.rest, Rest::Look(_)),
             Call::Idle | Call::Asked(_) | Call::Waiting(_) | Call::Closing => false,
         }
     }

@@ -1,6 +1,6 @@
-ghost use Rattle.std.specs.Prelude.{◌≡◌, IfOk, IfErr, IsSome, Some};
+ghost use Rattle.std.specs.Prelude.{◌≡◌, true, IfOk, IfErr, IsSome, Some};
 ghost use Rattle.pg_call.specs.declared.statement.Described.{Described as DescribedOf};
-ghost use Rattle.pg_call.specs.Requests.{after_kind, behind_goal, goal_kind, heading_of, named_keeping, request_behind, told, width_of};
+ghost use Rattle.pg_call.specs.Requests.{after_kind, behind_goal, goal_kind, heading_of, is_parsed_again, named_keeping, parsed_again, request_behind, told, width_of};
 
 use crate::heading::heading;
 use crate::{How, Keeping, Kind, Request};
@@ -86,6 +86,8 @@ pub struct Extended {
     pub arguments: Arguments,
     /// What was told of it.
     pub described: Option<Described>,
+    /// Whether types were looked up behind it: a Query makes an end of the statement without a name.
+    pub is_looked_up: bool,
 }
 
 // By hand, so that whoever lets one go makes one call, and doesn't go through its parts.
@@ -98,8 +100,16 @@ impl Drop for Extended {
             sql: _,
             arguments: _,
             described: _,
+            is_looked_up: _,
         } = self;
     }
+}
+
+// The text that is parsed again, if it is.
+fn parsed_again(again: bool, sql: Text) -> Option<Text>
+    ensures { result ≡ parsed_again again sql }
+{
+    if again { Some(sql) } else { None }
 }
 
 // What was told, once more.
@@ -129,6 +139,7 @@ impl Extended {
             sql,
             arguments,
             described,
+            is_looked_up: self.is_looked_up,
         })
     }
 
@@ -142,11 +153,19 @@ impl Extended {
         }
     }
 
+    // Whether its Parse is said again where it is run.
+    fn is_parsed_again(&self) -> bool
+        ensures { result ≡ is_parsed_again self.now }
+    {
+        self.is_looked_up && self.statement.number() == 0
+    }
+
     /// What it was described for, which makes this of the statements that are kept.
     pub fn into_after(self, keeping: Keeping) -> After
         requires { IsSome self.described }
         ensures { (d : DescribedOf) → self.described ≡ Some d → result ≡ behind_goal self.goal self d keeping }
     {
+        let is_parsed_again = self.is_parsed_again();
         let Extended {
             goal,
             statement,
@@ -154,6 +173,7 @@ impl Extended {
             sql,
             arguments,
             described,
+            is_looked_up: _,
         } = self;
         let Some(described) = described else {
             unreachable!();
@@ -163,6 +183,7 @@ impl Extended {
             Goal::Run(how) => After::Run(Bound {
                 how,
                 statement,
+                again: parsed_again(is_parsed_again, sql),
                 arguments,
                 columns,
                 keeping,
@@ -173,6 +194,30 @@ impl Extended {
                 columns,
                 keeping,
             }),
+        }
+    }
+
+    /// The same, once something was looked up for it.
+    pub fn looked_up(self) -> Self
+        ensures { result ≡ record self { is_looked_up = true } }
+    {
+        let Extended {
+            goal,
+            statement,
+            is_numbered,
+            sql,
+            arguments,
+            described,
+            is_looked_up: _,
+        } = self;
+        Extended {
+            goal,
+            statement,
+            is_numbered,
+            sql,
+            arguments,
+            described,
+            is_looked_up: true,
         }
     }
 
@@ -187,6 +232,7 @@ impl Extended {
             sql,
             arguments,
             described: _,
+            is_looked_up,
         } = self;
         Extended {
             goal,
@@ -198,6 +244,7 @@ impl Extended {
                 parameters,
                 columns,
             }),
+            is_looked_up,
         }
     }
 }
@@ -207,6 +254,8 @@ impl Extended {
 pub struct Bound {
     pub how: How,
     pub statement: StatementId,
+    /// The text, where it is parsed once more.
+    pub again: Option<Text>,
     pub arguments: Arguments,
     /// Its columns, where they are known.
     pub columns: Option<PgColumns>,
@@ -220,10 +269,22 @@ impl Drop for Bound {
         let Bound {
             how: _,
             statement: _,
+            again: _,
             arguments: _,
             columns: _,
             keeping: _,
         } = self;
+    }
+}
+
+// A text that may be there, once more.
+fn copied_text(text: &Option<Text>, alloc: Global) -> Result<Option<Text>, Error>
+    ensures copy { IfOk result (λ x. x ≡ text.now) }
+    ensures memory { IfErr result (λ e. e ≡ Error.OutOfMemory) }
+{
+    match text {
+        Some(text) => Ok(Some(text.to_copy(alloc)?)),
+        None => Ok(None),
     }
 }
 
@@ -233,24 +294,26 @@ impl Bound {
         ensures copy { IfOk result (λ x. x ≡ self.now) }
         ensures memory { IfErr result (λ e. e ≡ Error.OutOfMemory) }
     {
+        let again = copied_text(&self.again, alloc)?;
         let arguments = self.arguments.to_copy(alloc)?;
         let columns = share_known(&self.columns)?;
         Ok(Bound {
             how: self.how,
             statement: self.statement,
+            again,
             arguments,
             columns,
             keeping: self.keeping,
         })
     }
 
-    /// How many columns it has, where that is known.
+    /// How many columns it has, where that is known: it isn't where it is parsed once more.
     pub fn width(&self) -> Option<usize>
         ensures { result ≡ width_of self.now }
     {
-        match &self.columns {
-            Some(columns) => Some(columns.len()),
-            None => None,
+        match (&self.again, &self.columns) {
+            (None, Some(columns)) => Some(columns.len()),
+            _ => None,
         }
     }
 
@@ -261,6 +324,7 @@ impl Bound {
         let Bound {
             how,
             statement: _,
+            again: _,
             arguments: _,
             columns,
             keeping: _,
@@ -386,6 +450,25 @@ impl Eviction {
     }
 }
 
+/// A lookup of types or of the names of columns, and the statement for which they are looked up.
+#[derive(Debug, Drop)]
+pub struct Lookup {
+    pub text: Text,
+    pub extended: Extended,
+}
+
+impl Lookup {
+    /// The same again. Only want of memory refuses it.
+    pub fn to_copy(&self, alloc: Global) -> Result<Self, Error>
+        ensures copy { IfOk result (λ x. x ≡ self.now) }
+        ensures memory { IfErr result (λ e. e ≡ Error.OutOfMemory) }
+    {
+        let text = self.text.to_copy(alloc)?;
+        let extended = self.extended.to_copy(alloc)?;
+        Ok(Lookup { text, extended })
+    }
+}
+
 /// What an exchange hands on, or answers, at its end.
 #[derive(Drop)]
 pub enum Rest {
@@ -394,6 +477,8 @@ pub enum Rest {
     Describe(Extended),
     /// What comes behind a close.
     After(After),
+    /// The statement for which something was looked up.
+    Look(Extended),
     /// What it tells.
     Tell(Prepared),
 }

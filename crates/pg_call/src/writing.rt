@@ -3,7 +3,7 @@ ghost use Rattle.std.specs.List.{AllByRecursion};
 ghost use Rattle.pg_wire.specs.Encoding.{body_max};
 ghost use Rattle.pg_wire.specs.Frontend.{Bind, CopyData, FitsValue, HasFrontendFrame};
 ghost use Rattle.pg_exchanges.specs.Answering.{closing, describing, running};
-ghost use Rattle.pg_call.specs.Requests.{close_of, ended_by, feeding, name_of, spelled, bind_size, RefusesExtended, RefusesBind, RefusesFeed, RefusesPieces};
+ghost use Rattle.pg_call.specs.Requests.{close_of, ended_by, feeding, name_of, parsing_again, running_bound, spelled, bind_size, RefusesAgain, RefusesExtended, RefusesBind, RefusesFeed, RefusesPieces, RefusesRun};
 
 use crate::{Bound, Extended, Feed};
 use pg_request::Arguments;
@@ -76,8 +76,30 @@ pub(crate) fn encode_description(out: &mut Blob, extended: &Extended) -> Result<
     encode_sync(out)
 }
 
-/// Adds the frames that run a prepared statement in the unnamed portal, which is closed behind it.
+// Adds the frame that prepares a statement once more, where it is.
+fn encode_again(out: &mut Blob, bound: &Bound) -> Result<(), Error>
+    ensures ok { OnOk result (out.new ≡ out.old ++ spelled (parsing_again bound.now)) }
+    ensures said { OnOk result (AllByRecursion HasFrontendFrame (parsing_again bound.now)) }
+    ensures err { IfErr result (RefusesAgain bound.now bound.now.again) }
+{
+    match &bound.again {
+        Some(sql) => encode_parse(out, bound.statement, sql.as_str(), bound.arguments.types()),
+        None => Ok(()),
+    }
+}
+
+/// Adds the frames that run a prepared statement in the unnamed portal, which is closed behind it; before them the one that prepares it once more, where it is.
 pub(crate) fn encode_run(out: &mut Blob, bound: &Bound) -> Result<(), Error>
+    ensures ok { OnOk result (out.new ≡ out.old ++ spelled (running_bound bound.now)) }
+    ensures said { OnOk result (AllByRecursion HasFrontendFrame (running_bound bound.now)) }
+    ensures err { IfErr result (RefusesRun bound.now) }
+{
+    encode_again(out, bound)?;
+    encode_bound(out, bound)
+}
+
+// Adds those that run it.
+fn encode_bound(out: &mut Blob, bound: &Bound) -> Result<(), Error>
     ensures ok { OnOk result (out.new ≡ out.old ++ spelled (running (name_of bound.now.statement) bound.now.arguments.values 0)) }
     ensures said { OnOk result (AllByRecursion HasFrontendFrame (running (name_of bound.now.statement) bound.now.arguments.values 0)) }
     ensures err { IfErr result (RefusesBind bound.now) }

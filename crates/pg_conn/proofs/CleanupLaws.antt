@@ -129,7 +129,7 @@ depth_unfed over c = by (copies c.change c.groups && (not over && leb (length (s
     by true = refl
     by false = refl
 
-held_unfed : (over : Bool) (c : ConnSeen) → (unfed over c).held ≡ c.held
+pub held_unfed : (over : Bool) (c : ConnSeen) → (unfed over c).held ≡ c.held
 held_unfed over c = by (copies c.change c.groups && (not over && leb (length (spelled (copy_fail ∷ []))) c.stream.spare))
   where
     by : (b : Bool) → (cond b (with_copy_fail c) (owned c)).held ≡ c.held

@@ -25,13 +25,14 @@ use Rattle.pg_conn.specs.Turns.{HasRoom, cleanup_of, level_of}
 use Rattle.pg_conn.specs.States.{IsCalling}
 use Rattle.pg_conn.specs.Feeding.{FeedsMore, IsFed, PollsFed, PollsFedBy}
 
+no_goal : (goal : Goal) → goal_kind goal ≡ kinds.CopyIn → ⊥
+no_goal (goals.Run how) k = cc
+no_goal goals.Prepare k = cc
+
 -- a copy from the client is one exchange
 copies_alone : (r : Request) → main_kind r ≡ kinds.CopyIn → kind_of r ≡ kinds.CopyIn
 copies_alone (requests.Describe x) k = absurd (no_goal x.goal k)
-  where
-    no_goal : (goal : Goal) → goal_kind goal ≡ kinds.CopyIn → ⊥
-    no_goal (goals.Run how) k = cc
-    no_goal goals.Prepare k = cc
+copies_alone (requests.Look lookup) k = absurd (no_goal lookup.extended.goal k)
 copies_alone (requests.Evict eviction) k = absurd (no_after eviction.after k)
   where
     no_after : (after : After) → after_kind after ≡ kinds.CopyIn → ⊥
@@ -40,7 +41,7 @@ copies_alone (requests.Evict eviction) k = absurd (no_after eviction.after k)
 copies_alone (requests.CopyIn feed) k = refl
 copies_alone _ k = k
 
-copies_main : (r : Request) → kind_of r ≡ kinds.CopyIn → main_kind r ≡ kinds.CopyIn
+pub copies_main : (r : Request) → kind_of r ≡ kinds.CopyIn → main_kind r ≡ kinds.CopyIn
 copies_main r k = main_alone r (λ d. no_description k d) ∙ k
   where
     no_description : kind_of r ≡ kinds.CopyIn → kind_of r ≡ kinds.Describe → ⊥
@@ -57,7 +58,7 @@ fed_open {A} c bytes (i, open_) = by (nat_eq (length bytes) 0)
         ((i.0, m.0, i.2 ++ CopyData bytes ∷ [], i.3, i.4, copies_main m.0 m.1.0, m.1.1, i.7), open_)
 
 -- all of it is sent, and the end of the reply is awaited
-same_room : (call : Call) → IsOpen call → cleanup_of (fed_whole call) ≡ cleanup_of call
+pub same_room : (call : Call) → IsOpen call → cleanup_of (fed_whole call) ≡ cleanup_of call
 same_room (calls.Own reply) o = refl
 same_room calls.Idle o = absurd o
 same_room (calls.Asked request) o = absurd o

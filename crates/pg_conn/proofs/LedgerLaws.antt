@@ -1,4 +1,5 @@
 -- What is owed between any two polls follows from where the call stands before and behind each.
+use Rattle.pg_learning.specs.declared.learnt.Learnt.{Learnt}
 use Rattle.std.proofs.Common.{◌≡◌, ◌⊎◌, inl, inr, ℕ, ◌+◌, Bool, true, false, not, ◌&&◌, ◌==◌, cond, List, [], ◌∷◌, ◌++◌, append-nil, map, length, codes, refl, sym, ap, ◌∙◌, subst, arith, Result, Ok, Err, Option, Some, None, ◌-◌, nat_eq, leb}
 use Rattle.pg_conn.proofs.CleanupLaws.{group_moves, fits_room}
 use Rattle.std.specs.List.{count_by}
@@ -30,16 +31,16 @@ use Rattle.pg_call.specs.declared.calling.Call.{Call}
 use Rattle.pg_call.specs.declared.calling.Call.TheVariants as calls
 use Rattle.pg_call.specs.declared.calling.Beat.{Beat}
 use Rattle.pg_call.specs.declared.calling.Beat.TheVariants as beats
-use Rattle.pg_call.specs.Requests.{Group, said_in, feeding, kind_of, name_of, groups_of, messages_of, farewell, CanBeSaid, copy_fail, spelled}
+use Rattle.pg_call.specs.Requests.{Group, said_in, feeding, kind_of, name_of, groups_of, messages_of, farewell, CanBeSaid, copy_fail, spelled, running_bound}
 use Rattle.pg_call.specs.Drains.{before_readys, is_copy_in, failed_behind, fails_for, drain_fails}
 use Rattle.pg_call.specs.Hearing.{fails_of}
 use Rattle.pg_call.specs.Calls.{CallIs, IsDraining, Leaves, IsFine, CallEnds}
-use Rattle.pg_conn.proofs.StateLaws.{hands_keep, last_calls, resolved_calls}
+use Rattle.pg_conn.proofs.StateLaws.{hands_keep, last_calls, resolved_calls, handed_calls, looked_calls}
 use Rattle.pg_conn.specs.Connections.{ConnSeen, with_depth, copies, ends_copy, owned, unfed, with_copy_fail, handed, idle, started_call, begun_with, left, cleaned, settled, ended, resolved, resolved_by, restated, rolled, rolled_back, counted_anew, queued_group, with_group, has_room_for, rollback, may_open, runs}
 use Rattle.pg_conn.specs.Turns.{ends_request, Tells, TakesBeat, Polled, PollsThrough, PollsBy, PollsWithin, hands_on, beat_of, behind, broken_by}
 use Rattle.pg_conn.specs.States.{IsCalling}
 use Rattle.pg_conn.specs.Ledgers.{Owes, OwesSome}
-use Rattle.pg_conn.proofs.TurnLaws.{closes_said, counts-append, feed_asks, no_groups, is_Z, spelled-append}
+use Rattle.pg_conn.proofs.TurnLaws.{closes_said, counts-append, feed_asks, no_groups, is_Z, spelled-append, run_asks}
 
 -- ---- ReadyForQuery is no asynchronous message
 
@@ -101,7 +102,8 @@ groups_ask (requests.CopyIn feed) = rw (append-nil (feeding feed)) (feed_asks fe
 groups_ask (requests.Commit left) = refl
 groups_ask (requests.Rollback left) = refl
 groups_ask (requests.Describe extended) = refl
-groups_ask (requests.Run bound) = refl
+groups_ask (requests.Run bound) = rw (append-nil (running_bound bound)) (run_asks (name_of bound.statement) bound.arguments.types bound.arguments.values bound.again)
+groups_ask (requests.Look lookup) = refl
 groups_ask (requests.Evict eviction) = refl
 groups_ask (requests.Clear statements) = rw (append-nil (closing_group (map name_of statements))) (closes_said (map name_of statements))
 groups_ask (requests.Prepare prepared) = refl
@@ -368,13 +370,17 @@ owes_resolved kind a b beat i p =
 
 owes_handed : (kind : Kind) (begun a b : ConnSeen) (next : Request) → Polled (resolved a) b (beat_of (hands_on next)) → IsCalling kind a × OwesSome begun a → IsCalling kind (handed next b) × OwesSome begun (handed next b)
 owes_handed kind begun a b next p i = (
-  last_calls kind (next ∷ []) a (handed next b) (b, p, refl) i.0,
+  handed_calls a b kind next p i.0,
   OwesSome-then begun a (handed next b) i.1 (owes_by a b (handed next b) (owes_resolved kind a b (beat_of (hands_on next)) i.0 p) refl refl),
 )
 
+-- what is looked up asks nothing before it is polled
+owes_looked : (begun b : ConnSeen) (told next : Request) (learnt : Learnt) → OwesSome begun (handed told b) → OwesSome begun (handed next (record b { learnt = learnt }))
+owes_looked begun b told next learnt o = (o.0, o.1, record { sent = o.2.sent; read = o.2.read; owed = o.2.owed })
+
 owes_through : (kind : Kind) (begun b : ConnSeen) (answer : Poll Turn) → IsCalling kind begun → PollsThrough begun b answer → OwesSome begun b
 owes_through kind begun b answer i p =
-    let k = hands_keep (λ (c : ConnSeen). IsCalling kind c × OwesSome begun c) (owes_handed kind begun) p.later begun p.last p.hands (i, ([], [], owes_same begun begun refl refl)) in
+    let k = hands_keep (λ (c : ConnSeen). IsCalling kind c × OwesSome begun c) (owes_handed kind begun) (λ b told next learnt u h. (looked_calls kind b told next learnt u h.0, owes_looked begun b told next learnt h.1)) p.later begun p.last p.hands (i, ([], [], owes_same begun begun refl refl)) in
     OwesSome-then begun p.last b k.1 (owes_resolved kind p.last b (beat_of answer) k.0 p.polled)
 
 pub owes_poll : (kind : Kind) (left : ℕ) (a b : ConnSeen) (answer : Poll Turn) → IsCalling kind a → PollsWithin left a b answer → OwesSome a b

@@ -1,4 +1,5 @@
 -- What polls read of notifications is kept and given, in order and once.
+use Rattle.pg_call.specs.declared.statement.Lookup.{Lookup}
 use Rattle.std.proofs.Common.{◌≡◌, inl, inr, ℕ, ◌-◌, Bool, true, false, cond, not, ◌&&◌, nat_eq, leb, List, [], ◌∷◌, ◌++◌, append-nil, append_assoc, length, refl, sym, ap, ◌∙◌, subst, arith, Option, Some, None, IsSome, Result, Ok, Err}
 use Rattle.futures.specs.declared.task.Poll.{Poll}
 use Rattle.futures.specs.declared.task.Poll.TheVariants.{Ready, Pending}
@@ -297,8 +298,9 @@ flush_alone l c b answer p = by p.later p.last p.hands p.polled
     by : (later : List Request) (last : ConnSeen) → HandsOver (flushing l c) later last → Polled (resolved last) b (beat_of answer) → Polled (flush l c) b (beat_of answer)
     by [] last h polled = subst (λ (x : ConnSeen). Polled (resolved x) b (beat_of answer)) h polled
     by (next ∷ later) last h polled =
-        let told = h.1.turns.3.tells (flush l c).ledger requests.Flush [] [] [] (flush_is l c) in
-        absurd (fine_unit (flush l c).ledger h.1.stopped.ledger ([] ++ told.0) ([] ++ h.1.turns.2) [] next told.3.1)
+        let p = h.1.2 in
+        let told = p.turns.3.tells (flush l c).ledger requests.Flush [] [] [] (flush_is l c) in
+        absurd (fine_unit (flush l c).ledger p.stopped.ledger ([] ++ told.0) ([] ++ p.turns.2) [] h.1.0 told.3.1)
 
 -- why it fails
 front_fault : (b : StreamSeen) (a : StreamSeen) (start : Ledger) (own : List Group) (hs : List Frame) (e : Error) (c : ConnSeen) → FrontFails c start requests.Flush own hs e → UnaskedFault a c.stream e
@@ -335,10 +337,14 @@ ends_fault s c start said fs hs (errors.Protocol (protocol.Caller fault)) t h f 
 ends_fault s c start said fs hs (errors.Protocol _) t h f = absurd f
 ends_fault s c start said fs hs _ t h f = absurd f
 
+no_look : (lookup : Lookup) → requests.Flush ≡ requests.Look lookup → ⊥
+no_look lookup e = cc
+
 fails_fault : (s c : ConnSeen) (start : Ledger) (own : List Group) (hs : List Frame) (e : Error) → FailsBy s c start requests.Flush own hs e → NewsFault s.stream c.stream e
 fails_fault s c start own hs e f = elim f [
   | inl h ↦ told_fault s.stream c.stream e (heard_fault s.stream c.stream e h.0)
-  | inr h ↦ told_fault s.stream c.stream e (front_fault c.stream s.stream start own hs e c h)
+  | inr (inl h) ↦ told_fault s.stream c.stream e (front_fault c.stream s.stream start own hs e c h)
+  | inr (inr h) ↦ absurd (no_look h.0 h.1)
 ]
 
 error_fault : (s c : ConnSeen) (start : Ledger) (said : List FrontendMessage) (fs hs : List Frame) (e : Error) → Takes s.stream c.stream fs → heard fs ≡ hs → EndsBy s c start requests.Flush said hs [] e → NewsFault s.stream c.stream e
@@ -517,7 +523,7 @@ reads_polled a b beat p k =
 reads_through : (a begun b : ConnSeen) (answer : Poll Turn) → PollsThrough begun b answer → ReadsNews a.stream begun.stream [] → ReadsNews a.stream b.stream []
 reads_through a begun b answer p first =
     let on = λ (x m : ConnSeen) (next : Request) (q : Polled (resolved x) m (beat_of (hands_on next))) (h : ReadsNews a.stream x.stream []). ReadsNews-then a.stream x.stream m.stream [] [] h (reads_polled x m (beat_of (hands_on next)) q h.keeping) in
-    let last = hands_keep (λ (c : ConnSeen). ReadsNews a.stream c.stream []) on p.later begun p.last p.hands first in
+    let last = hands_keep (λ (c : ConnSeen). ReadsNews a.stream c.stream []) on (λ b told next learnt u h. h) p.later begun p.last p.hands first in
     ReadsNews-then a.stream p.last.stream b.stream [] [] last (reads_polled p.last b (beat_of answer) p.polled last.keeping)
 
 reads_by : (o : Option ServerFault) (a begun b : ConnSeen) (answer : Poll Turn) → PollsBy o begun a b answer → a.stream.notifications.keeping ≡ true → ReadsNews a.stream begun.stream [] → ReadsNews a.stream b.stream []

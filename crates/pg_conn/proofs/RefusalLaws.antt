@@ -91,7 +91,7 @@ refuses_at_once a b request answer whole p unsaid =
 
     by : (later : List Request) (last : ConnSeen) → HandsOver (begun (started_call request a)) later last → Polled (resolved last) b (beat_of answer) → RefusesAtOnce request a b answer
     by [] last h polled = refuses_once a b request answer (subst (λ (c : ConnSeen). Polled (resolved c) b (beat_of answer)) h polled) unsaid
-    by (next ∷ later) last h polled = absurd (said h.1.says)
+    by (next ∷ later) last h polled = absurd (said h.1.2.says)
 
 flushes_once : (a b : ConnSeen) (answer : Poll Turn) → (left a).ledger.owed ≡ 0 → (left a).stream.unsent ≡ [] → Polled (resolved (begun (started_call requests.Flush a))) b (beat_of answer) → FlushesAtOnce a b answer
 flushes_once a b answer owed sent polled =
@@ -118,4 +118,4 @@ flushes_at_once a b answer whole owed sent p =
 
     by : (later : List Request) (last : ConnSeen) → HandsOver (begun (started_call requests.Flush a)) later last → Polled (resolved last) b (beat_of answer) → FlushesAtOnce a b answer
     by [] last h polled = flushes_once a b answer owed sent (subst (λ (c : ConnSeen). Polled (resolved c) b (beat_of answer)) h polled)
-    by (next ∷ later) last h polled = absurd (other next (flushes_once a h.0 (hands_on next) owed sent h.1).0)
+    by (next ∷ later) last h polled = absurd (other h.1.0 (flushes_once a h.1.1 (hands_on h.1.0) owed sent h.1.2).0)

@@ -1,5 +1,10 @@
 -- What a poll answers is of the call's kind.
-use Rattle.std.proofs.Common.{◌≡◌, ◌≤◌, ◌+◌, ap₂, ℕ, List, [], ◌∷◌, ◌++◌, refl, sym, ap, ◌∙◌, subst, arith, Result, Ok, Err, Option, Some, None, ◌-◌, ◌*◌, nat_eq, cond, length, Bool, true, false, leb, not, ◌&&◌}
+use Rattle.pg_conn.specs.Looking.{LooksFor, LooksUp, looked, no_text, IsDescribed, IsUnlooked, unlooked}
+use Rattle.pg_learning.specs.declared.learnt.Learnt.{Learnt}
+use Rattle.pg_call.specs.declared.statement.Described.{Described}
+use Rattle.pg_call.specs.declared.statement.Extended.{Extended}
+use Rattle.pg_call.specs.declared.statement.Lookup.{Lookup}
+use Rattle.std.proofs.Common.{inl, inr, ◌≡◌, ◌≤◌, ◌+◌, ap₂, ℕ, List, [], ◌∷◌, ◌++◌, refl, sym, ap, ◌∙◌, subst, arith, Result, Ok, Err, Option, Some, None, ◌-◌, ◌*◌, nat_eq, cond, length, Bool, true, false, leb, not, ◌&&◌, option_map, IsSome}
 use Rattle.pg_wire.specs.declared.status.TransactionStatus.{TransactionStatus}
 use Rattle.pg_wire.specs.Backend.{BackendMessage}
 use Rattle.pg_wire.specs.Frame.{Frame}
@@ -19,25 +24,27 @@ use Rattle.pg_wire.specs.declared.error.Error.TheVariants as errors
 use Rattle.pg_wire.specs.declared.error.ProtocolFault.TheVariants as protocol
 use Rattle.pg_stream.specs.Links.{LinkSeen}
 use Rattle.pg_call.specs.declared.kind.Kind.{Kind}
+use Rattle.pg_call.specs.declared.kind.How.TheVariants as hows
 use Rattle.pg_call.specs.declared.kind.Kind.TheVariants as kinds
 use Rattle.pg_call.specs.declared.request.Request.{Request}
 use Rattle.pg_call.specs.declared.answer.Turn.{Turn}
 use Rattle.pg_call.specs.declared.answer.Turn.TheVariants as turns
 use Rattle.pg_call.specs.declared.calling.Beat.{Beat}
 use Rattle.pg_call.specs.declared.calling.Beat.TheVariants as beats
-use Rattle.pg_call.specs.Requests.{copy_fail, kind_of, main_kind, spelled}
+use Rattle.pg_call.specs.Requests.{copy_fail, kind_of, main_kind, spelled, goal_kind}
 use Rattle.pg_call.specs.Items.{yields}
 use Rattle.pg_call.specs.Answers.{TurnFits, AnswerFits, OpensFor, TurnIsPlain}
 use Rattle.pg_call.proofs.FitLaws.{shown_fits, answers_main, main_alone, next_is, shows_main}
 use Rattle.pg_call.specs.Hearing.{IsOpen}
 use Rattle.pg_rule.specs.declared.rule.Rule.{Rule}
-use Rattle.pg_conn.specs.Connections.{ConnOf, ConnSeen, Standing, standing, seen_by, started_call, started_next, begun_with, begun_by, handed, left, commit_of, resolved, resolved_by, restated, rollback_of, cleaned, copies, ends_copy, owned, unfed, with_copy_fail, may_open, has_room_for, with_group, rollback, ended}
+use Rattle.pg_conn.specs.Connections.{ConnOf, ConnSeen, Standing, standing, seen_by, started_call, started_next, begun_with, begun_by, handed, is_over, left, commit_of, resolved, resolved_by, restated, rollback_of, runs, cleaned, copies, ends_copy, owned, unfed, with_copy_fail, may_open, has_room_for, with_group, rollback, ended}
 use Rattle.pg_conn.specs.Statements.{asked_by, begun_as, moved, unmoved, step_of}
 use Rattle.pg_conn.proofs.StatementLaws.{asked_main}
+use Rattle.pg_conn.proofs.TurnLaws.{behind_call, unlooks}
 use Rattle.pg_call.specs.declared.calling.Call.{Call}
 use Rattle.pg_call.specs.declared.calling.Call.TheVariants as calls
-use Rattle.pg_conn.specs.Turns.{HasRoom, TakesBeat, Polled, PollsThrough, HandsOver, PollsBy, PollsWithin, PollsCall, PollsMore, HandsOnNone, hands_on, beat_of, HasRoomBeside, HasAllRoom, kept_for, behind, broken_by}
-use Rattle.pg_conn.specs.States.{IsCalling, PollFits, turn_of, closing_turn, KeepsConn, PollsClose, IsCallingPlainly}
+use Rattle.pg_conn.specs.Turns.{HasRoom, TakesBeat, Polled, PollsThrough, HandsOver, PollsBy, PollsWithin, PollsCall, PollsMore, HandsOnNone, hands_on, beat_of, HasRoomBeside, HasAllRoom, kept_for, behind, broken_by, HandsNext}
+use Rattle.pg_conn.specs.States.{IsCalling, PollFits, turn_of, closing_turn, KeepsConn, PollsClose, IsCallingPlainly, KeepsCalling, KeepsCallingPlainly, KeepsClosing, PollFitsPlainly, ends_call}
 
 -- a call that was started
 pub started_calling : {A : Type 0} (r : Request) (c : ConnOf A) → main_kind (begun_as (left c).rule r) ≡ main_kind r → IsCalling (main_kind r) (started_call r c)
@@ -59,6 +66,23 @@ resolved_calls kind c (start, r, said, hs, items, k, is, room) = by c.call refl
     by (calls.Waiting w) e = (start, r, said, hs, items, k, is, room)
     by (calls.Own reply) e = (start, r, said, hs, items, k, is, room)
     by calls.Closing e = (start, r, said, hs, items, k, is, room)
+
+-- ---- a call that has begun runs
+
+pub runs_on : (start : Ledger) (r : Request) (said : List FrontendMessage) (hs : List Frame) (items : List CallItem) (ledger : Ledger) (call : Call) → CallIs start r said hs items ledger call → runs call ≡ true
+runs_on start r said hs items ledger (calls.Asked asked) i = refl
+runs_on start r said hs items ledger (calls.Waiting waiting) i = refl
+runs_on start r said hs items ledger (calls.Own reply) i = refl
+runs_on start r said hs items ledger calls.Closing i = refl
+runs_on start r said hs items ledger calls.Idle i = absurd i
+
+pub calling_runs : {A : Type 0} (kind : Kind) (c : ConnOf A) → IsCalling kind c → runs c.call ≡ true
+calling_runs kind c i = runs_on i.0 i.1 i.2 i.3 i.4 c.ledger c.call i.6
+
+-- so its state is not over
+pub not_over : {A : Type 0} (kind : Kind) (request : Option Request) (c : ConnOf A) → IsCalling kind (begun_by request c) → is_over request c.call ≡ false
+not_over kind (Some request) c i = refl
+not_over kind None c i = rw (calling_runs kind c i) refl
 
 -- ---- one exchange
 
@@ -137,26 +161,67 @@ keeps_polled : (begun b : ConnSeen) (beat : Beat) → HasRoom begun → Polled b
 keeps_polled begun b beat h p = subst (λ (c : ConnSeen). HasRoom c) (sym p.behind_is) (room_behind beat p.stopped (p.turns.3.room 0 (omega arith) h))
 
 -- the call that an exchange hands on is of the same kind
-handed_calls : (begun m : ConnSeen) (kind : Kind) (next : Request) → Polled (resolved begun) m (beat_of (hands_on next)) → IsCalling kind begun → IsCalling kind (handed next m)
+pub handed_calls : (begun m : ConnSeen) (kind : Kind) (next : Request) → Polled (resolved begun) m (beat_of (hands_on next)) → IsCalling kind begun → IsCalling kind (handed next m)
 handed_calls begun m kind next p calling =
     let i = resolved_calls kind begun calling in
     let first = answered_by (resolved begun) m i.1 (hands_on next) p (i.0, i.2, i.3, i.4, i.6, i.7) in
     let further = handed_runs i.1 next m first.0 first.1 first.2 (keeps_polled (resolved begun) m (beat_of (hands_on next)) i.7 p) in
     runs_call kind next (handed next m) (further.1 ∙ i.5) further.0
 
--- what each exchange keeps that hands on the next one
-pub hands_keep : (P : ConnSeen → Type 0) → ((a b : ConnSeen) (next : Request) → Polled (resolved a) b (beat_of (hands_on next)) → P a → P (handed next b)) → (later : List Request) (begun last : ConnSeen) → HandsOver begun later last → P begun → P last
-hands_keep P on [] begun last h i = subst P (sym h) i
-hands_keep P on (next ∷ later) begun last h i = hands_keep P on later (handed next h.0) last h.2 (on begun h.0 next h.1 i)
+-- what is looked up for a call is of its kind
+looked_main : (x : Extended) (text : Option (List ℕ)) → main_kind (looked x text) ≡ goal_kind x.goal
+looked_main x None = refl
+looked_main x (Some text) = refl
+
+looks_main : (told next : Request) (a b : Learnt) → LooksUp told a next b → main_kind next ≡ main_kind told
+looks_main (requests.Describe x) next a b h = by x.described h
+  where
+    by : (d : Option Described) → LooksFor x d a next b → main_kind next ≡ goal_kind x.goal
+    by None h = ap (λ (r : Request). main_kind r) h.0
+    by (Some d) (inl h) = ap (λ (r : Request). main_kind r) h.2 ∙ looked_main x h.0
+    by (Some d) (inr h) = ap (λ (r : Request). main_kind r) h.0
+looks_main _ next a b h = ap (λ (r : Request). main_kind r) h.0
+
+pub looked_calls : (kind : Kind) (b : ConnSeen) (told next : Request) (learnt : Learnt) → LooksUp told b.learnt next learnt → IsCalling kind (handed told b) → IsCalling kind (handed next (record b { learnt = learnt }))
+looked_calls kind b told next learnt u (start, r, said, hs, items, k, is, room) =
+    (start, next, said, hs, items, looks_main told next b.learnt learnt u ∙ ap (λ (q : Request). main_kind q) is.0 ∙ k, (refl, is.1, is.2, is.3, is.4), room)
+
+-- what each exchange keeps that hands on the next one, and what is looked up before that
+pub hands_keep : (P : ConnSeen → Type 0) → ((a b : ConnSeen) (told : Request) → Polled (resolved a) b (beat_of (hands_on told)) → P a → P (handed told b))
+    → ((b : ConnSeen) (told next : Request) (learnt : Learnt) → LooksUp told b.learnt next learnt → P (handed told b) → P (handed next (record b { learnt = learnt })))
+    → (later : List Request) (begun last : ConnSeen) → HandsOver begun later last → P begun → P last
+hands_keep P on asks [] begun last h i = subst P (sym h) i
+hands_keep P on asks (next ∷ later) begun last (c, (told, between, p, (learnt, u, is)), h) i =
+    hands_keep P on asks later c last h (subst P (sym is) (asks between told next learnt u (on begun between told p i)))
 
 -- one more exchange ended, and handed on the next one
-pub hands_more : (later : List Request) (begun now between : ConnSeen) (next : Request) → HandsOver begun later now → Polled (resolved now) between (beat_of (hands_on next)) → HandsOver begun (later ++ next ∷ []) (handed next between)
-hands_more [] begun now between next h p = (between, subst (λ (x : ConnSeen). Polled (resolved x) between (beat_of (hands_on next))) h p, refl)
-hands_more (one ∷ later) begun now between next h p = (h.0, h.1, hands_more later (handed one h.0) now between next h.2 p)
+pub hands_more : (later : List Request) (begun now c : ConnSeen) (next : Request) → HandsOver begun later now → HandsNext now next c → HandsOver begun (later ++ next ∷ []) c
+hands_more [] begun now c next h p = (c, subst (λ (x : ConnSeen). HandsNext x next c) h p, refl)
+hands_more (one ∷ later) begun now c next h p = (h.0, h.1, hands_more later h.0 now c next h.2 p)
+
+-- a lookup isn't asked where this was handed on, and the call is over
+unasked_lookup : (x : Extended) (d : Option Described) (a b : Learnt) → IsSome d → b.types ≡ a.types → b.tables ≡ a.tables → LooksFor x d a (looked x (Some no_text)) b
+unasked_lookup x None a b some types tables = absurd cc
+unasked_lookup x (Some d) a b some types tables = inr (refl, types, tables)
+
+pub fails_looking : (begun now between m b : ConnSeen) (later : List Request) (told : Request) (e : Error) → HandsOver begun later now → Polled (resolved now) between (beat_of (hands_on told)) → between.broken ≡ None → IsDescribed told → IsUnlooked between m e → b ≡ unlooked m
+    → PollsThrough begun b (Ready (turns.Err e))
+fails_looking begun now between m b later (requests.Describe x) e hands polled whole described (same, types, tables, cause) is =
+    let next = looked x (Some no_text) in
+    let c = handed next (record between { learnt = m.learnt }) in
+    let lookup : Lookup = record { text = []; extended = record x { is_looked_up = true } } in
+    record {
+      later = later ++ next ∷ [];
+      last = c;
+      hands = hands_more later begun now c next hands (requests.Describe x, between, polled, (m.learnt, unasked_lookup x x.described between.learnt m.learnt described types tables, refl));
+      polled = unlooks (record between { learnt = m.learnt }) b lookup e whole refl cause (is ∙ ap (λ (d : ConnSeen). unlooked d) same);
+      none = λ next e. absurd cc;
+    }
+fails_looking begun now between m b later told e hands polled whole described unlooks is = absurd described
 
 -- the call of the exchange that came last is of the same kind
 pub last_calls : (kind : Kind) (later : List Request) (begun last : ConnSeen) → HandsOver begun later last → IsCalling kind begun → IsCalling kind last
-last_calls kind later begun last h i = hands_keep (λ (c : ConnSeen). IsCalling kind c) (λ a b next p k. handed_calls a b kind next p k) later begun last h i
+last_calls kind later begun last h i = hands_keep (λ (c : ConnSeen). IsCalling kind c) (λ a b next p k. handed_calls a b kind next p k) (looked_calls kind) later begun last h i
 
 fits_through : (begun b : ConnSeen) (kind : Kind) (answer : Poll Turn) → PollsThrough begun b answer → IsCalling kind begun → PollFits kind b answer
 fits_through begun b kind answer p i =
@@ -183,6 +248,142 @@ poll_fits seen a b kind answer p i = poll_fits_within seen 256 a b kind answer p
 
 pub more_fits : {A : Type 0} (seen : A → LinkSeen) (a b : ConnOf A) (kind : Kind) (answer : Poll Turn) → PollsMore (seen_by seen a) (seen_by seen b) answer → IsCalling kind a → PollFits kind b answer
 more_fits seen a b kind answer p i = unseen seen b kind answer (fits_by a.broken (seen_by seen a) (seen_by seen a) (seen_by seen b) kind answer p i)
+
+-- ---- whether a poll ends the call
+
+-- no call runs behind an end
+abbrev Rests : Call → Poll Turn → Type 0
+Rests call Pending = Unit {0}
+Rests call (Ready (turns.Item item)) = Unit {0}
+Rests call (Ready (turns.Opened opened)) = Unit {0}
+Rests call (Ready (turns.Ok answer)) = call ≡ calls.Idle
+Rests call (Ready (turns.Err e)) = call ≡ calls.Idle
+
+rests_beat : (a b : ConnSeen) (r : Request) (answer : Poll Turn) → TakesBeat a b (beat_of answer) → Runs r a → Rests b.call answer
+rests_beat a b r Pending t i = tt
+rests_beat a b r (Ready (turns.Item item)) t i = tt
+rests_beat a b r (Ready (turns.Opened opened)) t i = tt
+rests_beat a b r (Ready (turns.Ok answer)) t i = let told = t.3.tells i.0 r i.1 i.2 i.3 i.4 in told.3.0
+rests_beat a b r (Ready (turns.Err e)) t i = let told = t.3.tells i.0 r i.1 i.2 i.3 i.4 in told.3.0
+
+rests_polled : (begun b : ConnSeen) (r : Request) (answer : Poll Turn) → Polled begun b (beat_of answer) → Runs r begun → Rests b.call answer
+rests_polled begun b r answer p i =
+    subst (λ (x : Call). Rests x answer) (sym (ap (λ (c : ConnSeen). c.call) p.behind_is ∙ behind_call (beat_of answer) p.stopped)) (rests_beat begun p.stopped r answer p.turns i)
+
+rests_at_once : (call : Call) (answer : Poll Turn) → call ≡ calls.Idle → Rests call answer
+rests_at_once call Pending e = tt
+rests_at_once call (Ready (turns.Item item)) e = tt
+rests_at_once call (Ready (turns.Opened opened)) e = tt
+rests_at_once call (Ready (turns.Ok answer)) e = e
+rests_at_once call (Ready (turns.Err error)) e = e
+
+rests_by : (o : Option ServerFault) (begun a b : ConnSeen) (kind : Kind) (answer : Poll Turn) → PollsBy o begun a b answer → IsCalling kind begun → Rests b.call answer
+rests_by None begun a b kind answer p i =
+    let k = resolved_calls kind p.last (last_calls kind p.later begun p.last p.hands i) in
+    rests_polled (resolved p.last) b k.1 answer p.polled (k.0, k.2, k.3, k.4, k.6, k.7)
+rests_by (Some fault) begun a b kind answer p i = rests_at_once b.call answer (ap (λ (c : ConnSeen). c.call) p.0)
+
+over_behind : {A : Type 0} (b : ConnOf A) (kind : Kind) (answer : Poll Turn) → PollFits kind b answer → Rests b.call answer → not (runs b.call) ≡ ends_call answer
+over_behind b kind Pending f r = rw (calling_runs kind b f) refl
+over_behind b kind (Ready (turns.Item item)) f r = rw (calling_runs kind b f.1) refl
+over_behind b kind (Ready (turns.Opened opened)) f r = rw (calling_runs kind b f.1.0) refl
+over_behind b kind (Ready (turns.Ok answer)) f r = rw r refl
+over_behind b kind (Ready (turns.Err e)) f r = rw r refl
+
+-- the state of a call is over exactly where its poll ended the call
+pub poll_ends : {A : Type 0} (seen : A → LinkSeen) (a b : ConnOf A) (kind : Kind) (answer : Poll Turn) → PollsCall (seen_by seen a) (seen_by seen b) answer → IsCalling kind a → not (runs b.call) ≡ ends_call answer
+poll_ends seen a b kind answer p i = over_behind b kind answer (poll_fits seen a b kind answer p i) (rests_by a.broken (begun_with 256 (seen_by seen a)) (seen_by seen a) (seen_by seen b) kind answer p i)
+
+-- ---- what the state of a call keeps
+
+answer_stands : (kind : Kind) (answer : CallAnswer) → ((AnswerFits kind answer → ⊥) → ⊥) → AnswerFits kind answer
+answer_stands (kinds.Run hows.Execute) (answers.Total total) n = tt
+answer_stands (kinds.Run hows.FetchAll) (answers.Rows rows) n = tt
+answer_stands (kinds.Run hows.FetchOptional) (answers.OneRow row) n = tt
+answer_stands (kinds.Run hows.FetchOne) (answers.OneRow (Some row)) n = tt
+answer_stands (kinds.Run hows.ExecuteMany) answers.Unit n = tt
+answer_stands (kinds.Run hows.Fetch) answers.Unit n = tt
+answer_stands (kinds.Run hows.FetchMany) answers.Unit n = tt
+answer_stands kinds.Describe (answers.Next request) n = tt
+answer_stands kinds.Prepare (answers.Statement prepared) n = tt
+answer_stands kinds.Clear answers.Unit n = tt
+answer_stands kinds.Begin answers.Unit n = tt
+answer_stands kinds.Commit answers.Unit n = tt
+answer_stands kinds.Rollback answers.Unit n = tt
+answer_stands kinds.Ping answers.Unit n = tt
+answer_stands kinds.Flush answers.Unit n = tt
+answer_stands kinds.Close answers.Unit n = tt
+answer_stands kinds.CopyOut answers.Unit n = tt
+answer_stands kinds.CopyIn (answers.Total total) n = tt
+answer_stands _ _ n = n (λ x. x)
+
+test_stands : (a b : Bool) → ((a ≡ b → ⊥) → ⊥) → a ≡ b
+test_stands true true n = refl
+test_stands false false n = refl
+test_stands true false n = absurd (n (λ e. cc))
+test_stands false true n = absurd (n (λ e. cc))
+
+opens_stands : (kind : Kind) → ((OpensFor kind → ⊥) → ⊥) → OpensFor kind
+opens_stands kinds.CopyIn n = tt
+opens_stands _ n = n (λ x. x)
+
+-- that a turn fits is so where it can't be otherwise
+turn_stands : (kind : Kind) (turn : Turn) → ((TurnFits kind turn → ⊥) → ⊥) → TurnFits kind turn
+turn_stands kind (turns.Item item) n = test_stands (yields kind item) true n
+turn_stands kind (turns.Ok answer) n = answer_stands kind answer n
+turn_stands kind (turns.Err e) n = tt
+turn_stands kind (turns.Opened opened) n = opens_stands kind n
+
+still_calling : {A : Type 0} (kind : Kind) (b : ConnOf A) (answer : Poll Turn) → PollFits kind b answer → not (runs b.call) ≡ ends_call answer → not (runs b.call) ≡ false → IsCalling kind b
+still_calling kind b Pending f e r = f
+still_calling kind b (Ready (turns.Item item)) f e r = f.1
+still_calling kind b (Ready (turns.Opened opened)) f e r = f.1.0
+still_calling kind b (Ready (turns.Ok answer)) f e r = absurd cc
+still_calling kind b (Ready (turns.Err error)) f e r = absurd cc
+
+-- its request as the state holds it
+own_request : (request : Option Request) → option_map (λ (r : Request). r) request ≡ request
+own_request None = refl
+own_request (Some r) = refl
+
+-- so what is kept of the one is kept of the other
+pub mapped_keeps : {A : Type 0} (kind : Kind) (request : Option Request) (c : ConnOf A) → KeepsCalling kind request c → KeepsCalling kind (option_map (λ (r : Request). r) request) c
+mapped_keeps kind request c k = subst (λ (x : Option Request). KeepsCalling kind x c) (sym (own_request request)) k
+
+pub own_keeps : {A : Type 0} (kind : Kind) (request : Option Request) (c : ConnOf A) → KeepsCalling kind (option_map (λ (r : Request). r) request) c → KeepsCalling kind request c
+own_keeps kind request c k = subst (λ (x : Option Request). KeepsCalling kind x c) (own_request request) k
+
+-- a state that was never polled
+pub started_keeps : {A : Type 0} (r : Request) (c : ConnOf A) → main_kind (begun_as (left c).rule r) ≡ main_kind r → KeepsCalling (main_kind r) (Some r) c
+started_keeps r c k over denies = denies (started_calling r c k)
+
+-- one that is polled on a, and leaves b
+module _ {A : Type 0} (kind : Kind) (request : Option Request) (a b : ConnOf A) (keeps : KeepsCalling kind (option_map (λ (r : Request). r) request) a) (over : is_over request a.call ≡ false) where
+  refuted : (IsCalling kind (begun_by request a) → ⊥) → ⊥
+  refuted = subst (λ (x : Option Request). KeepsCalling kind x a) (own_request request) keeps over
+
+  -- what the poll answers is of the call's kind
+  pub kept_fits : (turn : Turn) → (IsCalling kind (begun_by request a) → PollFits kind b (Ready turn)) → TurnFits kind turn
+  kept_fits turn fits = turn_stands kind turn (λ denies. refuted (λ i. denies (fits i).0))
+
+  -- it is over exactly where the poll ended the call
+  pub kept_over : (seen : A → LinkSeen) (behind : Option Request) (answer : Poll Turn) → behind ≡ None → PollsCall (seen_by seen (begun_by request a)) (seen_by seen b) answer → is_over behind b.call ≡ ends_call answer
+  kept_over seen behind answer e p = rw e (test_stands (not (runs b.call)) (ends_call answer) (λ denies. refuted (λ i. denies (poll_ends seen (begun_by request a) b kind answer p i))))
+
+  -- and it keeps what it kept
+  pub kept_behind : (seen : A → LinkSeen) (behind : Option Request) (answer : Poll Turn) → behind ≡ None → PollsCall (seen_by seen (begun_by request a)) (seen_by seen b) answer → KeepsCalling kind (option_map (λ (r : Request). r) behind) b
+  kept_behind seen behind answer e p = rw e (λ r denies. refuted (λ i. denies (still_calling kind b answer (poll_fits seen (begun_by request a) b kind answer p i) (poll_ends seen (begun_by request a) b kind answer p i) r)))
+
+-- a close, whose connection is a
+pub closing_keeps : {A : Type 0} (request : Option Request) (conn : Option (ConnOf A)) (a : ConnOf A) → conn ≡ Some a → KeepsClosing request conn → KeepsCalling kinds.Close (option_map (λ (r : Request). r) request) a
+closing_keeps {A} request conn a e k = mapped_keeps kinds.Close request a (subst (λ (x : Option (ConnOf A)). KeepsClosing request x) e k)
+
+pub keeps_closing : {A : Type 0} (request : Option Request) (b : ConnOf A) → KeepsCalling kinds.Close (option_map (λ (r : Request). r) request) b → KeepsClosing request (Some b)
+keeps_closing request b k = own_keeps kinds.Close request b k
+
+-- whose connection was handed out
+pub handed_out : {A : Type 0} (request : Option Request) (conn : Option (ConnOf A)) → conn ≡ None → KeepsClosing request conn
+handed_out {A} request conn e = subst (λ (x : Option (ConnOf A)). KeepsClosing request x) (sym e) (λ closed denies. absurd cc)
 
 -- ---- the calls of the link that are left
 
@@ -234,7 +435,7 @@ left_polled a b beat p = omega (arith, ap (λ (c : ConnSeen). c.stream.left) p.b
 -- a poll takes calls off, and adds none
 pub left_through : (begun b : ConnSeen) (answer : Poll Turn) → PollsThrough begun b answer → b.stream.left ≤ begun.stream.left
 left_through begun b answer p =
-    let last = hands_keep (λ (c : ConnSeen). c.stream.left ≤ begun.stream.left) (λ a m next q l. omega (arith, l, left_polled (resolved a) m (beat_of (hands_on next)) q, left_resolved a)) p.later begun p.last p.hands (omega arith) in
+    let last = hands_keep (λ (c : ConnSeen). c.stream.left ≤ begun.stream.left) (λ a m next q l. omega (arith, l, left_polled (resolved a) m (beat_of (hands_on next)) q, left_resolved a)) (λ b told next learnt u l. l) p.later begun p.last p.hands (omega arith) in
     omega (arith, last, left_polled (resolved p.last) b (beat_of answer) p.polled, left_resolved p.last)
 
 -- ---- the room for cleanup
@@ -246,7 +447,7 @@ pub keeps_room : (left : ℕ) (a b : ConnSeen) (answer : Poll Turn) → HasRoom 
 keeps_room left a b answer h p = by a.broken p
   where
     by : (o : Option ServerFault) → PollsBy o (begun_with left a) a b answer → HasRoom b
-    by None p = keeps_polled (resolved p.last) b (beat_of answer) (room_resolved p.last (hands_keep (λ (c : ConnSeen). HasRoom c) room_handed p.later (begun_with left a) p.last p.hands h)) p.polled
+    by None p = keeps_polled (resolved p.last) b (beat_of answer) (room_resolved p.last (hands_keep (λ (c : ConnSeen). HasRoom c) room_handed (λ b told next learnt u h. h) p.later (begun_with left a) p.last p.hands h)) p.polled
     by (Some fault) p = subst (λ (c : ConnSeen). HasRoom c) (sym p.0) (omega (arith, h, level_none a.groups))
 
 -- what no beat changes keeps the same room
@@ -265,7 +466,7 @@ pub keeps_all_room : (left : ℕ) (a b : ConnSeen) (answer : Poll Turn) → HasA
 keeps_all_room left a b answer h p = by a.broken p
   where
     by : (o : Option ServerFault) → PollsBy o (begun_with left a) a b answer → HasAllRoom b
-    by None p = keeps_all_polled (resolved p.last) b (beat_of answer) (all_resolved p.last (hands_keep (λ (c : ConnSeen). HasAllRoom c) all_handed p.later (begun_with left a) p.last p.hands h)) p.polled
+    by None p = keeps_all_polled (resolved p.last) b (beat_of answer) (all_resolved p.last (hands_keep (λ (c : ConnSeen). HasAllRoom c) all_handed (λ b told next learnt u h. h) p.later (begun_with left a) p.last p.hands h)) p.polled
     by (Some fault) p = subst (λ (c : ConnSeen). HasAllRoom c) (sym p.0) (omega (arith, h, level_none a.groups))
 
 pub starts_with_room : (a : ConnSeen) (request : Request) → HasRoom (started_call request a)
@@ -274,7 +475,7 @@ starts_with_room a request = omega arith
 -- ---- a close
 
 pub closes_by : {A : Type 0} (seen : A → LinkSeen) (a a' b : ConnOf A) (r r' : Option Request) (new : Option (ConnOf A)) (answer : Poll (Result A Error)) → r ≡ r' → a ≡ a' → PollsCall (seen_by seen (begun_by r a)) (seen_by seen b) (turn_of closing_turn answer)
-    → PollFits kinds.Close b (turn_of closing_turn answer) → KeepsConn b new answer → PollsClose seen (begun_by r' a') new answer
+    → (IsCalling kinds.Close (begun_by r a) → PollFits kinds.Close b (turn_of closing_turn answer)) → KeepsConn b new answer → PollsClose seen (begun_by r' a') new answer
 closes_by seen a a' b r r' new answer e f polls fits keeps = rw (← e, ← f) (b, polls, fits, keeps)
 
 -- ---- a call without items and without an answer of its own
@@ -365,3 +566,30 @@ clear_calls {A} c = by (nat_eq (length (left c).rule.cache.entries) 0) refl
     by : (b : Bool) → nat_eq (length (left c).rule.cache.entries) 0 ≡ b → IsCallingPlainly (begun_by (Some (requests.Clear [])) c)
     by true e = (kinds.Flush, tt, ((left c).ledger, begun_as (left c).rule (requests.Clear []), [], [], [], rw e refl, (refl, refl, refl, refl, refl), omega arith))
     by false e = (kinds.Clear, tt, started_calling (requests.Clear []) c (rw e refl))
+
+pub mapped_plainly : {A : Type 0} (request : Option Request) (c : ConnOf A) → KeepsCallingPlainly request c → KeepsCallingPlainly (option_map (λ (r : Request). r) request) c
+mapped_plainly request c k = subst (λ (x : Option Request). KeepsCallingPlainly x c) (sym (own_request request)) k
+
+pub own_plainly : {A : Type 0} (request : Option Request) (c : ConnOf A) → KeepsCallingPlainly (option_map (λ (r : Request). r) request) c → KeepsCallingPlainly request c
+own_plainly request c k = subst (λ (x : Option Request). KeepsCallingPlainly x c) (own_request request) k
+
+-- such a state that was never polled
+pub started_plainly : {A : Type 0} (r : Request) (c : ConnOf A) → IsCallingPlainly (begun_by (Some r) c) → KeepsCallingPlainly (Some r) c
+started_plainly r c i over denies = denies i
+
+-- one that is polled on a, and leaves b
+module _ {A : Type 0} (request : Option Request) (a b : ConnOf A) (keeps : KeepsCallingPlainly (option_map (λ (r : Request). r) request) a) (over : is_over request a.call ≡ false) where
+  refuted_plainly : (IsCallingPlainly (begun_by request a) → ⊥) → ⊥
+  refuted_plainly = subst (λ (x : Option Request). KeepsCallingPlainly x a) (own_request request) keeps over
+
+  pub plainly_fits : (turn : Turn) → ((kind : Kind) → IsCalling kind (begun_by request a) → PollFits kind b (Ready turn)) → TurnFits kinds.Flush turn
+  plainly_fits turn fits = turn_stands kinds.Flush turn (λ denies. refuted_plainly (λ k. denies (plain_fits k.0 turn k.1 (fits k.0 k.2).0)))
+
+  pub plainly_over : (seen : A → LinkSeen) (behind : Option Request) (answer : Poll Turn) → behind ≡ None → PollsCall (seen_by seen (begun_by request a)) (seen_by seen b) answer → is_over behind b.call ≡ ends_call answer
+  plainly_over seen behind answer e p = rw e (test_stands (not (runs b.call)) (ends_call answer) (λ denies. refuted_plainly (λ k. denies (poll_ends seen (begun_by request a) b k.0 answer p k.2))))
+
+  pub plainly_behind : (seen : A → LinkSeen) (behind : Option Request) (answer : Poll Turn) → behind ≡ None → PollsCall (seen_by seen (begun_by request a)) (seen_by seen b) answer → KeepsCallingPlainly (option_map (λ (r : Request). r) behind) b
+  plainly_behind seen behind answer e p = rw e (λ r denies. refuted_plainly (λ k. denies (k.0, k.1, still_calling k.0 b answer (poll_fits seen (begun_by request a) b k.0 answer p k.2) (poll_ends seen (begun_by request a) b k.0 answer p k.2) r)))
+
+  pub plainly_calls : (seen : A → LinkSeen) (answer : Poll Turn) → PollsCall (seen_by seen (begun_by request a)) (seen_by seen b) answer → IsCallingPlainly (begun_by request a) → PollFitsPlainly b answer
+  plainly_calls seen answer p k = (k.0, k.1, poll_fits seen (begun_by request a) b k.0 answer p k.2)

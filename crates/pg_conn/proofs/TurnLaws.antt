@@ -1,5 +1,5 @@
 -- How the beats of a call follow one another.
-use Rattle.std.proofs.Common.{◌≡◌, ◌≢◌, ◌⊎◌, ℕ, Option, ◌+◌, ◌-◌, ◌<◌, ◌≤◌, cond, inl, inr, Bool, true, false, ◌&&◌, ◌||◌, ◌==◌, nat_eq, leb, not, List, [], ◌∷◌, ◌++◌, length, map, refl, sym, ap, ◌∙◌, subst, append_assoc, append-nil, length-append, arith, Ok, Err, None, Result, IfOk, IfErr, OnErr, take, drop, ◌*◌}
+use Rattle.std.proofs.Common.{Some, take_at, take, drop, ap₂, ◌≡◌, ◌≢◌, ◌⊎◌, ℕ, Option, ◌+◌, ◌-◌, ◌<◌, ◌≤◌, cond, inl, inr, Bool, true, false, ◌&&◌, ◌||◌, ◌==◌, nat_eq, leb, not, List, [], ◌∷◌, ◌++◌, length, map, refl, sym, ap, ◌∙◌, subst, append_assoc, append-nil, length-append, arith, Ok, Err, None, Result, IfOk, IfErr, OnErr, ◌*◌}
 use Rattle.pg_wire.proofs.Tests.{both_true}
 use Rattle.pg_call.specs.declared.kind.Change.{Change}
 use Rattle.pg_call.specs.declared.kind.Kind.{Kind}
@@ -24,6 +24,17 @@ use Rattle.pg_wire.specs.declared.error.ProtocolFault.TheVariants as protocol
 use Rattle.pg_wire.specs.Frame.{Frame, text_of}
 use Rattle.pg_wire.specs.Frontend.{FrontendMessage, frontend_frame, CopyData, Query}
 use Rattle.pg_wire.specs.Parts.{heard, is_asynchronous, is_ready}
+use Rattle.pg_wire.specs.Backend.{Values, DataRow, backend_frame, HasBackendFrame}
+use Rattle.pg_resolve.proofs.SettlingLaws.{has_left, has_right}
+use Rattle.pg_learning.specs.declared.learnt.Learnt.{Learnt}
+use Rattle.pg_learning.specs.declared.learnt.Seeking.{Seeking}
+use Rattle.pg_learning.specs.declared.learnt.Seeking.TheVariants as seekings
+use Rattle.pg_learning.specs.Learning.{FailsSeeking, TakesRow}
+use Rattle.pg_resolve.specs.Tried.{unresolved as unresolved_at}
+use Rattle.std.specs.Map.{keys_of}
+use Rattle.pg_conn.specs.Looking.{AreHeard, Learns, LearnsRows, TakesFront, unlooked}
+use Rattle.pg_call.specs.declared.statement.Lookup.{Lookup}
+use Rattle.pg_wire.specs.Decoding.{Says}
 use Rattle.pg_wire.proofs.PartLaws.{heard-append}
 use Rattle.pg_stream.specs.Links.{LinkSeen, NoneFalls, GrewBy}
 use Rattle.pg_stream.specs.declared.stream.Front.{Front}
@@ -41,20 +52,22 @@ use Rattle.pg_call.specs.declared.calling.Beat.{Beat}
 use Rattle.pg_call.specs.declared.calling.Beat.TheVariants as beats
 use Rattle.pg_call.specs.declared.calling.Taken.{Taken}
 use Rattle.pg_call.specs.declared.running.Running.{Running}
-use Rattle.pg_call.specs.Requests.{Group, spelled, copy_fail, ended_by, feeding, kind_of, after_kind, goal_kind, main_kind, messages_of, name_of, rest_of, is_flush, is_close, CanBeSaid, IsRefusal}
-use Rattle.pg_call.specs.Hearing.{framed, fails_of, fresh_reply, awaits, waits, waiting_for, sent_answer, sent_rest, IsReplied}
+use Rattle.pg_call.specs.Requests.{Group, spelled, copy_fail, ended_by, feeding, kind_of, after_kind, goal_kind, main_kind, messages_of, name_of, parsing_by, rest_of, running_bound, is_flush, is_close, CanBeSaid, IsRefusal}
+use Rattle.pg_call.specs.Hearing.{framed, fails_of, fresh_reply, awaits, waits, waiting_for, is_look, looks_up, sent_answer, sent_rest, IsReplied}
 use Rattle.pg_call.specs.declared.statement.Rest.{Rest}
 use Rattle.pg_call.specs.declared.statement.Rest.TheVariants as rests
-use Rattle.pg_call.specs.Calls.{owes_own, CallIs, IsAwaiting, CallEnds, CallTakes, EndsByReady, StaysIn, TakesMessage, RefusesMessage}
+use Rattle.pg_call.specs.Items.{yields}
+use Rattle.pg_call.specs.Calls.{owes_own, CallIs, IsAwaiting, CallEnds, CallTakes, Leaves, EndsByReady, StaysIn, TakesMessage, RefusesMessage}
 use Rattle.pg_call.proofs.CallLaws.{own_errs}
+use Rattle.pg_call.proofs.FitLaws.{shown_fits}
 use Rattle.pg_call.proofs.RefusalLaws.{refusal_is, memory_refuses}
 use Rattle.pg_call.proofs.LeaveLaws.{leaves_call, call_well, closing_fine, flush_fine, draining_none, replying_from, closing_from}
 use Rattle.pg_rule.specs.declared.rule.Rule.{Rule}
-use Rattle.pg_conn.specs.Connections.{ConnOf, ConnSeen, Standing, standing, seen_by, idle, with_spare, queued_call, awaiting, closing, copies, ends_copy, owned, frames_in, cleaned, unfed, with_copy_fail, resolved, resolved_by, restated, unasked, IsUnresolved, may_open, has_room_for, rollback, queued_group, with_group, ended}
+use Rattle.pg_conn.specs.Connections.{ConnOf, ConnSeen, Standing, handed, standing, seen_by, idle, with_spare, queued_call, awaiting, closing, copies, ends_copy, owned, frames_in, cleaned, unfed, with_copy_fail, resolved, resolved_by, restated, unasked, IsUnresolved, may_open, has_room_for, rollback, queued_group, with_group, ended}
 use Rattle.pg_conn.specs.Statements.{asked_by, moved, unmoved, step_of}
 use Rattle.pg_conn.proofs.StatementLaws.{asked_main}
-use Rattle.pg_exchanges.specs.Answering.{closing as closing_group}
-use Rattle.pg_conn.specs.Turns.{HearsBy, kept_for, HearsFront, running_of, ends_request, IsMissed, FailsBy, EndsBy, Tells, SendCause, BeatCause, Turns, TakesBeat, IsAsked, cleanup_of, IsSayable, GoesOn, Prepares, Refuses, Refused, Polled, beat_of, broken_by, only_sends, flushes, only_flushes, is_flushed, EndsFlush, IsAhead, wants_level, Readies, Accepts, queued_copy_fail, level_of, HasRoomBeside, behind}
+use Rattle.pg_exchanges.specs.Answering.{closing as closing_group, running}
+use Rattle.pg_conn.specs.Turns.{HearsBy, kept_for, HearsFront, running_of, ends_request, IsMissed, FailsBy, EndsBy, Tells, SendCause, BeatCause, Turns, TakesBeat, IsAsked, cleanup_of, IsSayable, GoesOn, Prepares, Refuses, Refused, Polled, beat_of, broken_by, only_sends, flushes, only_flushes, is_flushed, EndsFlush, IsAhead, wants_level, Readies, Accepts, queued_copy_fail, level_of, HasRoomBeside, behind, LearnsFrom, TakesIn}
 use Rattle.pg_startup.proofs.GreetLaws.{heard_none, heard_one}
 
 -- the bytes of messages, one after another
@@ -66,6 +79,27 @@ counts-append xs ys = sum_by-append (λ (m : FrontendMessage). cond (ends_reques
 
 grew-none : (a : ℕ) → GrewBy 0 a a
 grew-none a = omega arith
+
+-- ---- what rows tell
+
+rows-append : (rows more : List Values) (a b c : Learnt) → LearnsRows rows a b → LearnsRows more b c → LearnsRows (rows ++ more) a c
+rows-append [] more a b c e h = subst (λ (x : Learnt). LearnsRows more x c) e h
+rows-append (values ∷ rows) more a b c h k = (h.0, h.1, h.2, rows-append rows more h.0 b c h.3 k)
+
+heard_front_of : (hs more : List Frame) (rows : List Values) → AreHeard hs rows → AreHeard (hs ++ more) rows
+heard_front_of hs more [] h = tt
+heard_front_of hs more (values ∷ rows) h = (has_left hs more (backend_frame (DataRow values)) h.0, heard_front_of hs more rows h.1)
+
+heard_behind : (hs more : List Frame) (rows : List Values) → AreHeard more rows → AreHeard (hs ++ more) rows
+heard_behind hs more [] h = tt
+heard_behind hs more (values ∷ rows) h = (has_right hs more (backend_frame (DataRow values)) h.0, heard_behind hs more rows h.1)
+
+heard_both : (hs : List Frame) (rows more : List Values) → AreHeard hs rows → AreHeard hs more → AreHeard hs (rows ++ more)
+heard_both hs [] more h k = k
+heard_both hs (values ∷ rows) more h k = (h.0, heard_both hs rows more h.1 k)
+
+pub Learns-then : (hs hs' : List Frame) (a b c : Learnt) → Learns hs a b → Learns hs' b c → Learns (hs ++ hs') a c
+Learns-then hs hs' a b c h k = (h.0 ++ k.0, heard_both (hs ++ hs') h.0 k.0 (heard_front_of hs hs' h.0 h.1) (heard_behind hs hs' k.0 k.1), rows-append h.0 k.0 a b c h.2 k.2)
 
 -- ---- a beat after beats that went on
 
@@ -110,6 +144,7 @@ Turns-then a b c beat q q' fs fs' hs hs' s t = record {
   started = (t.started.0 ∙ s.started.0, t.started.1 ∙ s.started.1, t.started.2 ∙ s.started.2, t.started.3 ∙ s.started.3);
   asked = λ i. s.asked (t.asked i);
   room = λ n l h. t.room n (omega (arith, l, ap (λ (r : Rule). r.depth) s.started.2, ap (λ (x : Standing). x.held) s.started.3)) (s.room n l h);
+  learns = Learns-then hs hs' a.learnt b.learnt c.learnt s.learns t.learns;
   tells = λ start r said heards items i.
       let one = s.tells start r said heards items i in
       let two = t.tells start r (said ++ one.0) (heards ++ hs) items one.3 in (
@@ -140,10 +175,10 @@ same_level : (c d : Change) (m n : ℕ) → d ≡ c → n ≡ m → level_of d n
 same_level c d m n e f = rw (e, f) refl
 
 -- the stream has moved by nothing, and nothing was heard
-stays : (a b : ConnSeen) (beat : Beat) → Moves a.stream b.stream [] [] → BeatCause a b beat → Keeps a.call b.call → b.broken ≡ a.broken → b.heard ≡ a.heard → b.groups ≡ a.groups → b.sent ≡ a.sent → b.read ≡ a.read → b.rule ≡ a.rule → standing b ≡ standing a
+stays : (a b : ConnSeen) (beat : Beat) → Moves a.stream b.stream [] [] → BeatCause a b beat → Keeps a.call b.call → b.broken ≡ a.broken → b.heard ≡ a.heard → b.groups ≡ a.groups → b.sent ≡ a.sent → b.read ≡ a.read → b.rule ≡ a.rule → standing b ≡ standing a → b.learnt ≡ a.learnt
     → ((start : Ledger) (r : Request) (said : List FrontendMessage) (hs : List Frame) (items : List CallItem) → CallIs start r said hs items a.ledger a.call → Tells a b start r said hs items beat)
     → TakesBeat a b beat
-stays a b beat m c keep k h g s t d e tells = (
+stays a b beat m c keep k h g s t d e l tells = (
   [],
   [],
   [],
@@ -154,6 +189,7 @@ stays a b beat m c keep k h g s t d e tells = (
     broken = k;
     counted = rw h (grew-none a.heard);
     started = (s, t, d, e);
+    learns = ([], tt, l);
     asked = keep.0;
     room = λ n l r. omega (arith, r, keep.1, m.spare, same_level a.change b.change a.groups b.groups (ap (λ (x : Standing). x.change) e) g);
     tells = λ start r said hs items i. ([], refl, rw g (grew-none a.groups), rw (append-nil said, append-nil hs) (tells start r said hs items i));
@@ -161,7 +197,7 @@ stays a b beat m c keep k h g s t d e tells = (
 )
 
 pub TakesBeat-none : (a : ConnSeen) → TakesBeat a a beats.More
-TakesBeat-none a = stays a a beats.More (Moves-none a.stream) (AllMoved-none a.stream) (keeps a.call) refl refl refl refl refl refl refl (λ start r said hs items i. i)
+TakesBeat-none a = stays a a beats.More (Moves-none a.stream) (AllMoved-none a.stream) (keeps a.call) refl refl refl refl refl refl refl refl (λ start r said hs items i. i)
 
 call_at : (start : Ledger) (r : Request) (said : List FrontendMessage) (hs : List Frame) (items : List CallItem) (l : Ledger) (k k' : Call) → k ≡ k' → CallIs start r said hs items l k → CallIs start r said hs items l k'
 call_at start r said hs items l k k' e i = subst (λ (c : Call). CallIs start r said hs items l c) e i
@@ -174,7 +210,7 @@ asked_waits start r asked said hs items ledger frames f can i =
 
 pub prepared : (a : ConnSeen) (asked : Request) (frames : List ℕ) → a.call ≡ calls.Asked asked → frames ≡ spelled (messages_of asked) → CanBeSaid asked
     → TakesBeat a (record a { call = calls.Waiting (waiting_for asked frames a.ledger.is_copy_failed) }) beats.More
-prepared a asked frames e f can = stays a _ beats.More (Moves-none a.stream) (AllMoved-none a.stream) (λ i. absurd i, omega arith) refl refl refl refl refl refl refl (λ start r said hs items i. asked_waits start r asked said hs items a.ledger frames f can (call_at start r said hs items a.ledger a.call (calls.Asked asked) e i))
+prepared a asked frames e f can = stays a _ beats.More (Moves-none a.stream) (AllMoved-none a.stream) (λ i. absurd i, omega arith) refl refl refl refl refl refl refl refl (λ start r said hs items i. asked_waits start r asked said hs items a.ledger frames f can (call_at start r said hs items a.ledger a.call (calls.Asked asked) e i))
 
 pub prepares : (a : ConnSeen) (asked : Request) (frames : List ℕ) → a.call ≡ calls.Asked asked → frames ≡ spelled (messages_of asked) → CanBeSaid asked → Prepares a (record a { call = waits frames a.ledger.is_copy_failed a.call })
 prepares a asked frames e f can =
@@ -192,7 +228,7 @@ prepares_none a n = record { beat = TakesBeat-none a; asked = n; sayable = not_a
 
 -- memory is wanting
 pub starved : (a : ConnSeen) (n : ℕ) → Moves a.stream (with_spare n a).stream [] [] → TakesBeat a (idle (with_spare n a)) (beats.Ends (Err errors.OutOfMemory))
-starved a n m = stays a (idle (with_spare n a)) (beats.Ends (Err errors.OutOfMemory)) m (NoneWaited-none a.stream) (keeps_idle a.call) refl refl refl refl refl refl refl (λ start r said hs items i. (refl, inr (leaves_call start r said hs items a.ledger a.call i, call_well start r said hs items a.ledger a.call i, inl (tt, tt))))
+starved a n m = stays a (idle (with_spare n a)) (beats.Ends (Err errors.OutOfMemory)) m (NoneWaited-none a.stream) (keeps_idle a.call) refl refl refl refl refl refl refl refl (λ start r said hs items i. (refl, inr (leaves_call start r said hs items a.ledger a.call i, call_well start r said hs items a.ledger a.call i, inl (tt, tt))))
 
 -- a request that has no frame
 refusal_by : (a : ConnSeen) (asked : Request) (e : Error) → IsRefusal asked e → (start : Ledger) (r : Request) (said : List FrontendMessage) (hs : List Frame) (items : List CallItem) → CallIs start r said hs items a.ledger (calls.Asked asked) → EndsBy a (idle a) start r said hs items e
@@ -205,7 +241,7 @@ pub refused : (a : ConnSeen) (e : Error) → Refuses a.call e → TakesBeat a (i
 refused a e h = by a.call refl h
   where
     by : (call : Call) → a.call ≡ call → Refuses call e → TakesBeat a (idle a) (beats.Ends (Err e))
-    by (calls.Asked asked) k h = stays a (idle a) (beats.Ends (Err e)) (Moves-none a.stream) (NoneWaited-none a.stream) (keeps_idle a.call) refl refl refl refl refl refl refl (λ start r said hs items i. (refl, refusal_by a asked e h start r said hs items (call_at start r said hs items a.ledger a.call (calls.Asked asked) k i)))
+    by (calls.Asked asked) k h = stays a (idle a) (beats.Ends (Err e)) (Moves-none a.stream) (NoneWaited-none a.stream) (keeps_idle a.call) refl refl refl refl refl refl refl refl (λ start r said hs items i. (refl, refusal_by a asked e h start r said hs items (call_at start r said hs items a.ledger a.call (calls.Asked asked) k i)))
     by calls.Idle k h = absurd h
     by (calls.Waiting w) k h = absurd h
     by (calls.Own reply) k h = absurd h
@@ -230,6 +266,10 @@ feed_asks feed =
     let behind = map CopyData feed.pieces ++ ended_by feed.is_ended in
     sum_by-cons (λ (m : FrontendMessage). cond (ends_request m) 1 0) (Query feed.query.sql) behind ∙ ap (λ (n : ℕ). 1 + n) (data_asks_none feed.pieces feed.is_ended)
 
+pub run_asks : (name types : List ℕ) (values : List (Option (List ℕ))) (again : Option (List ℕ)) → count_by ends_request (parsing_by name types again ++ running name values 0) ≡ 1
+run_asks name types values None = refl
+run_asks name types values (Some sql) = refl
+
 groups_said : (r : Request) → is_flush (kind_of r) ≡ false → is_close (kind_of r) ≡ false → count_by ends_request (messages_of r) ≡ 1
 groups_said (requests.Execute query) f c = refl
 groups_said (requests.ExecuteMany query) f c = refl
@@ -245,7 +285,8 @@ groups_said (requests.CopyIn feed) f c = rw (append-nil (feeding feed ++ []), ap
 groups_said (requests.Commit left) f c = refl
 groups_said (requests.Rollback left) f c = refl
 groups_said (requests.Describe extended) f c = refl
-groups_said (requests.Run bound) f c = refl
+groups_said (requests.Run bound) f c = rw (append-nil (running_bound bound ++ []), append-nil (running_bound bound)) (run_asks (name_of bound.statement) bound.arguments.types bound.arguments.values bound.again)
+groups_said (requests.Look lookup) f c = refl
 groups_said (requests.Evict eviction) f c = refl
 groups_said (requests.Clear statements) f c = rw (append-nil (closing_group (map name_of statements)), append-nil (closing_group (map name_of statements))) (closes_said (map name_of statements))
 groups_said (requests.Prepare prepared) f c = absurd cc
@@ -257,6 +298,7 @@ groups_farewell : (r : Request) → is_close (kind_of r) ≡ true → count_by e
 groups_farewell requests.Close c = refl
 groups_farewell requests.Flush c = absurd cc
 groups_farewell (requests.Evict eviction) c = absurd cc
+groups_farewell (requests.Look lookup) c = absurd cc
 groups_farewell (requests.Clear statements) c = absurd cc
 groups_farewell (requests.Prepare prepared) c = absurd cc
 groups_farewell requests.Ping c = absurd cc
@@ -281,10 +323,10 @@ flush_false true n z e = let w : true && 0 == 0 ≡ false = rw z at e in absurd 
 flush_false false n z e = refl
 
 -- the state b stands where what waited was queued
-queues_waiting : (a b : ConnSeen) (w : Waiting) → a.call ≡ calls.Waiting w → Moves a.stream b.stream w.frames [] → AllMoved a.stream b.stream → (IsAsked b.call → ⊥) → ((n : ℕ) → n ≤ kept_for a → HasRoomBeside n b) → b.broken ≡ a.broken → b.heard ≡ a.heard → b.sent ≡ a.sent → b.read ≡ a.read → b.rule ≡ a.rule → standing b ≡ standing a
+queues_waiting : (a b : ConnSeen) (w : Waiting) → a.call ≡ calls.Waiting w → Moves a.stream b.stream w.frames [] → AllMoved a.stream b.stream → (IsAsked b.call → ⊥) → ((n : ℕ) → n ≤ kept_for a → HasRoomBeside n b) → b.broken ≡ a.broken → b.heard ≡ a.heard → b.sent ≡ a.sent → b.read ≡ a.read → b.rule ≡ a.rule → standing b ≡ standing a → b.learnt ≡ a.learnt
     → ((start : Ledger) (r : Request) (said : List FrontendMessage) (hs : List Frame) (items : List CallItem) → CallIs start r said hs items a.ledger (calls.Waiting w) → GrewBy (count_by ends_request (messages_of r)) a.groups b.groups × CallIs start r (said ++ messages_of r) hs items b.ledger b.call)
     → TakesBeat a b beats.More
-queues_waiting a b w k m moved asked room broken h s t d e tells = (
+queues_waiting a b w k m moved asked room broken h s t d e l tells = (
   w.frames,
   [],
   [],
@@ -295,6 +337,7 @@ queues_waiting a b w k m moved asked room broken h s t d e tells = (
     broken = broken;
     counted = rw h (grew-none a.heard);
     started = (s, t, d, e);
+    learns = ([], tt, l);
     asked = λ i. absurd (asked i);
     room = λ n l r. room n l;
     tells = λ start r said hs items i.
@@ -318,7 +361,7 @@ asks_reply a n g w k z f c m room grew =
     let flush : is_flush w.kind ≡ false = flush_false (is_flush w.kind) a.ledger.owed z (subst (λ (x : Call). only_sends a.ledger x ≡ false) k f) in
     let b : ConnSeen = record (queued_call n a) { ledger = owes_own; call = calls.Own (fresh_reply w); groups = g } in
     subst (λ (x : Call). Readies a (record (queued_call n a) { ledger = owes_own; call = awaits x; groups = g })) (sym k) (record {
-      beat = queues_waiting a b w k m.0 m.1 (λ i. i) (λ k l. omega (arith, room, l, level_most a.change g)) refl refl refl refl refl refl (λ start r said hs items i.
+      beat = queues_waiting a b w k m.0 m.1 (λ i. i) (λ k l. omega (arith, room, l, level_most a.change g)) refl refl refl refl refl refl refl (λ start r said hs items i.
           let one = groups_said r (rw i.0 at flush) (rw i.0 at c) in
           (rw one grew, replying_from start r said hs items a.ledger w flush c z i));
       ahead = tt;
@@ -327,7 +370,7 @@ asks_reply a n g w k z f c m room grew =
 pub asks_nothing : (a : ConnSeen) (n : ℕ) (w : Waiting) → a.call ≡ calls.Waiting w → a.ledger.owed ≡ 0 → is_close w.kind ≡ true → Moves a.stream (queued_call n a).stream w.frames [] × AllMoved a.stream (queued_call n a).stream → kept_for a + level_of a.change 1 + 128 ≤ n
     → Readies a (closing (queued_call n a))
 asks_nothing a n w k z c m room = record {
-  beat = queues_waiting a (closing (queued_call n a)) w k m.0 m.1 (λ i. i) (λ k l. omega (arith, room, l, level_most a.change a.groups)) refl refl refl refl refl refl (λ start r said hs items i.
+  beat = queues_waiting a (closing (queued_call n a)) w k m.0 m.1 (λ i. i) (λ k l. omega (arith, room, l, level_most a.change a.groups)) refl refl refl refl refl refl refl (λ start r said hs items i.
       let none = groups_farewell r (rw i.0 at c) in
       (rw none (grew-none a.groups), closing_from start r said hs items a.ledger w c z i));
   ahead = tt;
@@ -354,6 +397,7 @@ flush_said (requests.Describe extended) e = absurd cc
 flush_said (requests.Run bound) e = absurd cc
 flush_said (requests.Prepare prepared) e = (tt, tt)
 flush_said (requests.Evict eviction) e = absurd cc
+flush_said (requests.Look lookup) e = absurd cc
 flush_said (requests.Clear statements) e = absurd cc
 flush_said requests.Ping e = absurd cc
 flush_said requests.Close e = absurd cc
@@ -394,7 +438,7 @@ pub flushed : (a : ConnSeen) → is_flushed a ≡ true → TakesBeat a (idle a) 
 flushed a f =
     let sent = both_true (flushes a.call && a.ledger.owed == 0) (nat_eq (length a.stream.unsent) 0) f in
     let owed = both_true (flushes a.call) (a.ledger.owed == 0) sent.0 in
-    stays a (idle a) (beats.Ends (Ok (sent_answer a.call))) (Moves-none a.stream) (AllMoved-none a.stream) (keeps_idle a.call) refl refl refl refl refl refl refl (λ start r said hs items i.
+    stays a (idle a) (beats.Ends (Ok (sent_answer a.call))) (Moves-none a.stream) (AllMoved-none a.stream) (keeps_idle a.call) refl refl refl refl refl refl refl refl (λ start r said hs items i.
     (refl, flush_ends start r said hs items a.ledger a.call owed.0 (eqb-true _ _ owed.1) i, all_sent a.stream.unsent sent.1))
 
 pub flush_done : (a : ConnSeen) → EndsFlush a (idle a) (beats.Ends (Ok (sent_answer a.call)))
@@ -406,6 +450,7 @@ sent_goes_none (rests.Tell prepared) g = g
 sent_goes_none rests.Nothing g = g
 sent_goes_none (rests.Describe extended) g = g
 sent_goes_none (rests.After after) g = g
+sent_goes_none (rests.Look extended) g = g
 
 pub answers_last : (call : Call) → GoesOn (beats.Ends (Ok (sent_answer call))) → ⊥
 answers_last (calls.Asked request) g = sent_goes_none (rest_of request) g
@@ -486,7 +531,7 @@ unfed_call {A} over c = by (copies c.change c.groups && (not over && leb (length
     by true = refl
     by false = refl
 
-behind_call : {A : Type 0} (beat : Beat) (c : ConnOf A) → (behind beat c).call ≡ c.call
+pub behind_call : {A : Type 0} (beat : Beat) (c : ConnOf A) → (behind beat c).call ≡ c.call
 behind_call (beats.Ends (Ok answer)) c = refl
 behind_call (beats.Ends (Err e)) c =
     let d = record c { broken = broken_by (beats.Ends (Err e)) } in
@@ -514,13 +559,14 @@ flush_main : (r : Request) → only_flushes (kind_of r) ≡ true → main_kind r
 flush_main requests.Flush f = refl
 flush_main _ f = absurd cc
 
+goal_no_flush : (goal : Goal) → goal_kind goal ≡ kinds.Flush → ⊥
+goal_no_flush (goals.Run how) k = cc
+goal_no_flush goals.Prepare k = cc
+
 asks_flush : (r : Request) → main_kind r ≡ kinds.Flush → r ≡ requests.Flush
 asks_flush requests.Flush k = refl
 asks_flush (requests.Describe x) k = absurd (goal_no_flush x.goal k)
-  where
-    goal_no_flush : (goal : Goal) → goal_kind goal ≡ kinds.Flush → ⊥
-    goal_no_flush (goals.Run how) k = cc
-    goal_no_flush goals.Prepare k = cc
+asks_flush (requests.Look lookup) k = absurd (goal_no_flush lookup.extended.goal k)
 asks_flush (requests.Evict eviction) k = absurd (after_no_flush eviction.after k)
   where
     after_no_flush : (after : After) → after_kind after ≡ kinds.Flush → ⊥
@@ -548,6 +594,57 @@ unresolved {A} seen a b answer e whole (r, asked, is, wants) memory answers =
       asked = λ i. subst IsAsked (ap (λ (c : ConnOf A). c.call) is) i;
     })
 
+-- a lookup that can't be asked ends the call, as an exchange that has done nothing
+fails_unasked : (seeking : Seeking) (e : Error) → FailsSeeking seeking e → (e ≡ errors.OutOfMemory) ⊎ ((oids : List ℕ) × (e ≡ unresolved_at oids))
+fails_unasked (seekings.Types s) e h = elim h.1.0 [
+  | inl memory ↦ inl memory
+  | inr is ↦ inr (keys_of s.waiting, is)
+]
+fails_unasked _ e h = absurd h
+
+abbrev look_at : Lookup → ConnSeen → ConnSeen
+look_at lookup m = handed (requests.Look lookup) m
+
+unlooked_turns : (m : ConnSeen) (lookup : Lookup) (e : Error) → (e ≡ errors.OutOfMemory) ⊎ FailsSeeking m.learnt.seeking e → TakesBeat (resolved (look_at lookup m)) (idle (resolved (look_at lookup m))) (beats.Ends (Err e))
+unlooked_turns m lookup e h =
+    let a = resolved (look_at lookup m) in
+    stays a (idle a) (beats.Ends (Err e)) (Moves-none a.stream) (NoneWaited-none a.stream) (keeps_idle a.call) refl refl refl refl refl refl refl refl (λ start r said hs items i.
+    (refl, inr (leaves_call start r said hs items a.ledger a.call i, call_well start r said hs items a.ledger a.call i, by start r said hs items i h)))
+  where
+    by : (start : Ledger) (r : Request) (said : List FrontendMessage) (hs : List Frame) (items : List CallItem) (i : CallIs start r said hs items m.ledger (calls.Asked (requests.Look lookup))) → (e ≡ errors.OutOfMemory) ⊎ FailsSeeking m.learnt.seeking e
+        → FailsBy (resolved (look_at lookup m)) (idle (resolved (look_at lookup m))) start r (leaves_call start r said hs items m.ledger (calls.Asked (requests.Look lookup)) i).own hs e
+    by start r said hs items i (inl memory) = rw memory (inl (tt, tt))
+    by start r said hs items i (inr fails) = inr (inr (lookup, sym i.0, inl (m.learnt.seeking, fails)))
+
+-- such an error breaks nothing
+breaks_none : (seeking : Seeking) (e : Error) → (e ≡ errors.OutOfMemory) ⊎ FailsSeeking seeking e → broken_by (beats.Ends (Err e)) ≡ None
+breaks_none seeking e (inl memory) = rw memory refl
+breaks_none seeking e (inr fails) = elim (fails_unasked seeking e fails) [
+  | inl memory ↦ rw memory refl
+  | inr (oids, is) ↦ rw is refl
+]
+
+over_copies : (seeking : Seeking) (e : Error) → (e ≡ errors.OutOfMemory) ⊎ FailsSeeking seeking e → ends_copy e ≡ false
+over_copies seeking e (inl memory) = rw memory refl
+over_copies seeking e (inr fails) = elim (fails_unasked seeking e fails) [
+  | inl memory ↦ rw memory refl
+  | inr (oids, is) ↦ rw is refl
+]
+
+said_nothing : (lookup : Lookup) → lookup.text ≡ [] → CanBeSaid (requests.Look lookup)
+said_nothing lookup e = rw e ((refl, tt), tt)
+
+pub unlooks : (m b : ConnSeen) (lookup : Lookup) (e : Error) → m.broken ≡ None → lookup.text ≡ [] → (e ≡ errors.OutOfMemory) ⊎ FailsSeeking m.learnt.seeking e → b ≡ unlooked m → Polled (resolved (look_at lookup m)) b (beats.Ends (Err e))
+unlooks m b lookup e whole none h is = record {
+  stopped = idle (resolved (look_at lookup m));
+  turns = unlooked_turns m lookup e h;
+  whole = whole;
+  behind_is = is ∙ ap (λ (o : Option ServerFault). unlooked (record m { broken = o })) whole ∙ ap₂ (λ (o : Option ServerFault) (copies : Bool). cleaned (unfed copies (record (idle (resolved (look_at lookup m))) { broken = o }))) (sym (breaks_none m.learnt.seeking e h)) (sym (over_copies m.learnt.seeking e h));
+  says = inl (said_nothing lookup none);
+  flush = λ f. absurd cc;
+  asked = λ i. subst IsAsked (ap (λ (c : ConnSeen). c.call) is) i;
+}
+
 -- ---- messages
 
 -- a call that hears is owed a reply
@@ -559,10 +656,10 @@ awaiting_owed start r said hs items ledger calls.Closing h i = absurd h
 awaiting_owed start r said hs items ledger calls.Idle h i = absurd i
 
 -- asynchronous messages alone were taken
-asides : (a b : ConnSeen) (beat : Beat) (aside : List Frame) → AreAsynchronous aside → Moves a.stream b.stream [] aside → BeatCause a b beat → Keeps a.call b.call → b.broken ≡ a.broken → b.heard ≡ a.heard → b.groups ≡ a.groups → b.sent ≡ a.sent → b.read ≡ a.read → b.rule ≡ a.rule → standing b ≡ standing a
+asides : (a b : ConnSeen) (beat : Beat) (aside : List Frame) → AreAsynchronous aside → Moves a.stream b.stream [] aside → BeatCause a b beat → Keeps a.call b.call → b.broken ≡ a.broken → b.heard ≡ a.heard → b.groups ≡ a.groups → b.sent ≡ a.sent → b.read ≡ a.read → b.rule ≡ a.rule → standing b ≡ standing a → b.learnt ≡ a.learnt
     → ((start : Ledger) (r : Request) (said : List FrontendMessage) (hs : List Frame) (items : List CallItem) → CallIs start r said hs items a.ledger a.call → Tells a b start r said hs items beat)
     → TakesBeat a b beat
-asides a b beat aside n m c keep k h g s t d e tells = (
+asides a b beat aside n m c keep k h g s t d e l tells = (
   [],
   aside,
   [],
@@ -573,6 +670,7 @@ asides a b beat aside n m c keep k h g s t d e tells = (
     broken = k;
     counted = rw h (grew-none a.heard);
     started = (s, t, d, e);
+    learns = ([], tt, l);
     asked = keep.0;
     room = λ n l r. omega (arith, r, keep.1, m.spare, same_level a.change b.change a.groups b.groups (ap (λ (x : Standing). x.change) e) g);
     tells = λ start r said hs items i. ([], refl, rw g (grew-none a.groups), rw (append-nil said, append-nil hs) (tells start r said hs items i));
@@ -591,30 +689,30 @@ abbrev pub over_stream : ConnSeen → StreamSeen → ConnSeen
 over_stream a t = record a { stream = t }
 
 pub hears_nothing : (a : ConnSeen) (t : StreamSeen) → IsAwaiting a.ledger a.call → PollsAhead a.stream t Pending → TakesBeat a (over_stream a t) beats.Waits
-hears_nothing a t w p = asides a (over_stream a t) beats.Waits p.0 p.1 p.2 (p.3, λ s. absurd (hears_more a.ledger a.call w s)) (keeps a.call) refl refl refl refl refl refl refl (λ start r said hs items i. (i, inl (awaiting_owed start r said hs items a.ledger a.call w i)))
+hears_nothing a t w p = asides a (over_stream a t) beats.Waits p.0 p.1 p.2 (p.3, λ s. absurd (hears_more a.ledger a.call w s)) (keeps a.call) refl refl refl refl refl refl refl refl (λ start r said hs items i. (i, inl (awaiting_owed start r said hs items a.ledger a.call w i)))
 
 missed : (ledger : Ledger) (e : Error) → 0 < ledger.owed → IsMissed ledger e
 missed ledger (errors.Io io.End) h = h
 missed ledger _ h = tt
 
 pub hears_fault : (a : ConnSeen) (t : StreamSeen) (e : Error) → IsAwaiting a.ledger a.call → PollsAhead a.stream t (Ready (Err e)) → TakesBeat a (idle (over_stream a t)) (beats.Ends (Err e))
-hears_fault a t e w p = asides a (idle (over_stream a t)) (beats.Ends (Err e)) p.0 p.1 p.2 p.5 (keeps_idle a.call) refl refl refl refl refl refl refl (λ start r said hs items i.
+hears_fault a t e w p = asides a (idle (over_stream a t)) (beats.Ends (Err e)) p.0 p.1 p.2 p.5 (keeps_idle a.call) refl refl refl refl refl refl refl refl (λ start r said hs items i.
     (refl, inr (leaves_call start r said hs items a.ledger a.call i, call_well start r said hs items a.ledger a.call i, inl (p.3, missed a.ledger e (awaiting_owed start r said hs items a.ledger a.call w i)))))
 
 pub hears_front : (a : ConnSeen) (t : StreamSeen) (front : Front) → PollsAhead a.stream t (Ready (Ok front)) → TakesBeat a (over_stream a t) beats.More
-hears_front a t front p = asides a (over_stream a t) beats.More p.0 p.1 p.2 p.4 (keeps a.call) refl refl refl refl refl refl refl (λ start r said hs items i. i)
+hears_front a t front p = asides a (over_stream a t) beats.More p.0 p.1 p.2 p.4 (keeps a.call) refl refl refl refl refl refl refl refl (λ start r said hs items i. i)
 
 -- the cleanup reserve has grown
 pub makes_room : (a : ConnSeen) (n : ℕ) → Moves a.stream (with_spare n a).stream [] [] × AllMoved a.stream (with_spare n a).stream → TakesBeat a (with_spare n a) beats.More
-makes_room a n m = stays a (with_spare n a) beats.More m.0 m.1 (keeps a.call) refl refl refl refl refl refl refl (λ start r said hs items i. i)
+makes_room a n m = stays a (with_spare n a) beats.More m.0 m.1 (keeps a.call) refl refl refl refl refl refl refl refl (λ start r said hs items i. i)
 
 -- ---- a message that is refused
 
 pub front_refused : (a : ConnSeen) (front : Front) (body rest : List ℕ) (e : Error) → IsHeardFront a.stream.held front → IsFrontOf a.stream.held front (framed front.tag body) rest
     → RefusesMessage front.tag body (record { ledger = a.ledger; call = a.call }) e → TakesBeat a (idle a) (beats.Ends (Err e))
-front_refused a front body rest e f of refuses = stays a (idle a) (beats.Ends (Err e)) (Moves-none a.stream) (NoneWaited-none a.stream) (keeps_idle a.call) refl refl refl refl refl refl refl (λ start r said hs items i.
+front_refused a front body rest e f of refuses = stays a (idle a) (beats.Ends (Err e)) (Moves-none a.stream) (NoneWaited-none a.stream) (keeps_idle a.call) refl refl refl refl refl refl refl refl (λ start r said hs items i.
     let x = refuses start r said hs items i in
-    (refl, inr (x.0, x.1, inr (framed front.tag body, rest, of.whole, heard_front a.stream.held front (framed front.tag body) rest f of, of.parts, x.2))))
+    (refl, inr (x.0, x.1, inr (inl (framed front.tag body, rest, of.whole, heard_front a.stream.held front (framed front.tag body) rest f of, of.parts, x.2)))))
   where
     heard_front : (held : List ℕ) (front : Front) (frame : Frame) (rest : List ℕ) → IsHeardFront held front → IsFrontOf held front frame rest → is_asynchronous frame ≡ false
     heard_front held front frame rest f of = rw (of.tag) (rw (f.2.tag) at f.3)
@@ -756,36 +854,47 @@ sends_none : {A : Type 0} (t : StreamOf A) (fails : Bool) → t.unsent ≡ [] �
 sends_none t false u e = append-nil t.unsent ∙ u
 sends_none t true u e = absurd cc
 
-pub takes_message : {A : Type 0} (seen : A → LinkSeen) (a b : ConnOf A) (new : Running) (front : Front) (body rest : List ℕ) (taken : Taken) → IsHeardFront a.stream.held front → IsFrontOf a.stream.held front (framed front.tag body) rest
-    → TakesMessage front.tag body (record { ledger = a.ledger; call = a.call }) new taken → StaysIn a.call taken.fails_copy new.call → (taken.fails_copy ≡ true → kept_for a + level_of a.change a.groups + 57 ≤ a.stream.spare) → (taken.fails_copy ≡ true → front.tag ≡ 71) → a.stream.unsent ≡ [] → (taken.beat ≢ beats.Waits) → Accepts front taken.fails_copy (record a { ledger = new.ledger; call = new.call }) b
-    → TakesBeat (seen_by seen a) (seen_by seen b) taken.beat
-takes_message {A} seen a b new front body rest taken f of takes stays_in room copy sent goes acc =
+-- the message at the front was taken, what it tells was learnt, and this is what the call has come to
+takes_by : {A : Type 0} (seen : A → LinkSeen) (a b : ConnOf A) (new : Running) (l : Learnt) (front : Front) (body rest : List ℕ) (fails : Bool) (beat : Beat) → IsHeardFront a.stream.held front → IsFrontOf a.stream.held front (framed front.tag body) rest
+    → StaysIn a.call fails new.call → (fails ≡ true → kept_for a + level_of a.change a.groups + 57 ≤ a.stream.spare) → a.stream.unsent ≡ [] → Accepts front fails (record a { ledger = new.ledger; call = new.call; learnt = l }) b → Learns (framed front.tag body ∷ []) a.learnt l
+    → ((c : ConnSeen) → AllMoved (stream_by seen a.stream) c.stream → BeatCause (seen_by seen a) c beat)
+    → ((c : ConnSeen) → c.ledger ≡ new.ledger → c.call ≡ new.call → (fails ≡ false → c.stream.unsent ≡ []) → (start : Ledger) (r : Request) (said : List FrontendMessage) (hs : List Frame) (items : List CallItem) → CallIs start r said hs items a.ledger a.call
+    → Tells (seen_by seen a) c start r (said ++ fails_of fails) (hs ++ framed front.tag body ∷ []) items beat)
+    → TakesBeat (seen_by seen a) (seen_by seen b) beat
+takes_by {A} seen a b new l front body rest fails beat f of stays_in room sent acc learns cause tells =
     let t = acc.0 in
-    let fails = taken.fails_copy in
     let frame = framed front.tag body in
     let h = b.heard in
     let spare : t.spare ≡ a.stream.spare = ap (λ (x : StreamOf A). x.spare) (acc.1 frame rest of).0 in
     let unsent : t.unsent ≡ [] = ap (λ (x : StreamOf A). x.unsent) (acc.1 frame rest of).0 ∙ sent in
     let m = taken_moves seen a.stream t front body rest fails f of (λ e. let x = room e in omega (arith, x, spare)) acc.1 in
-    let c : ConnSeen = record (seen_by seen a) { stream = stream_by seen (queued_copy_fail fails t); ledger = new.ledger; call = new.call; heard = h } in
-    subst (λ (x : ConnOf A). TakesBeat (seen_by seen a) (seen_by seen x) taken.beat) (sym acc.2) (
+    let c : ConnSeen = record (seen_by seen a) { stream = stream_by seen (queued_copy_fail fails t); ledger = new.ledger; call = new.call; learnt = l; heard = h } in
+    subst (λ (x : ConnOf A). TakesBeat (seen_by seen a) (seen_by seen x) beat) (sym acc.2) (
       spelled (fails_of fails),
       frame ∷ [],
       frame ∷ [],
       record {
         moves = m.0;
         hears = heard_one frame (heard_tag front a.stream.held body rest f of);
-        cause = taken_cause (seen_by seen a) c taken.beat goes m.1;
+        cause = cause c m.1;
         broken = refl;
         counted = acc.3;
         started = (refl, refl, refl, refl);
-        asked = stays_asked a.call taken.fails_copy new.call stays_in;
-        room = λ k l h. omega (arith, spare, stays_room a.call taken.fails_copy new.call (k + level_of a.change a.groups) a.stream.spare stays_in (λ e. let x = room e in omega (arith, x, l)) h);
+        asked = stays_asked a.call fails new.call stays_in;
+        room = λ k l h. omega (arith, spare, stays_room a.call fails new.call (k + level_of a.change a.groups) a.stream.spare stays_in (λ e. let x = room e in omega (arith, x, l)) h);
+        learns = learns;
         tells = λ start r said hs items i.
             let none = no_groups fails in
-            (fails_of fails, refl, rw none (grew-none a.groups), told (seen_by seen a) c start r (said ++ fails_of fails) hs frame items taken.beat fails copy (sends_none t fails unsent) (takes start r said hs items i));
+            (fails_of fails, refl, rw none (grew-none a.groups), tells c refl refl (sends_none t fails unsent) start r said hs items i);
       },
     )
+
+pub takes_message : {A : Type 0} (seen : A → LinkSeen) (a b : ConnOf A) (new : Running) (l : Learnt) (front : Front) (body rest : List ℕ) (taken : Taken) → IsHeardFront a.stream.held front → IsFrontOf a.stream.held front (framed front.tag body) rest
+    → TakesMessage front.tag body (record { ledger = a.ledger; call = a.call }) new taken → StaysIn a.call taken.fails_copy new.call → (taken.fails_copy ≡ true → kept_for a + level_of a.change a.groups + 57 ≤ a.stream.spare) → (taken.fails_copy ≡ true → front.tag ≡ 71) → a.stream.unsent ≡ [] → (taken.beat ≢ beats.Waits)
+    → Accepts front taken.fails_copy (record a { ledger = new.ledger; call = new.call; learnt = l }) b → Learns (framed front.tag body ∷ []) a.learnt l → TakesBeat (seen_by seen a) (seen_by seen b) taken.beat
+takes_message {A} seen a b new l front body rest taken f of takes stays_in room copy sent goes acc learns =
+    takes_by seen a b new l front body rest taken.fails_copy taken.beat f of stays_in room sent acc learns (λ c m. taken_cause (seen_by seen a) c taken.beat goes m)
+    (λ c k w u start r said hs items i. told (seen_by seen a) c start r (said ++ fails_of taken.fails_copy) hs (framed front.tag body) items taken.beat taken.fails_copy copy u (rw (k, w) (takes start r said hs items i)))
 
 -- ---- what the call makes of the message at the front
 
@@ -827,10 +936,94 @@ starves_front held front a b e f replied oom same =
     let body : List ℕ = take (front.total - 5) (drop 5 held) in
     (body, drop front.total held, front_frame held front (IsFront-from_heard held front f), (rw oom (starves_message front.tag body a replied), same))
 
-pub taken_front : {A : Type 0} (seen : A → LinkSeen) (a m b : ConnOf A) (front : Front) (taken : Taken) → IsHeardFront a.stream.held front → (front.tag ≡ 71 → kept_for a + level_of a.change a.groups + 57 ≤ a.stream.spare) → a.stream.unsent ≡ [] → m ≡ record a { ledger = m.ledger; call = m.call }
-    → HearsFront front a m (Ok taken) → Accepts front taken.fails_copy m b → TakesBeat (seen_by seen a) (seen_by seen b) taken.beat
-taken_front {A} seen a m b front taken f room sent now h acc =
-    takes_message seen a b (running_of m) front h.0 h.1 taken f h.2 h.3.0 h.3.3 (λ e. room (h.3.1 e)) h.3.1 sent h.3.2 (subst (λ (x : ConnOf A). Accepts front taken.fails_copy x b) now acc)
+-- ---- what it tells of a lookup
+
+-- there is one frame at the front
+front_body : (held : List ℕ) (front : Front) (frame : Frame) (rest : List ℕ) → IsFrontOf held front frame rest → take (front.total - 5) (drop 5 held) ≡ frame.body
+front_body held front frame rest is = ap (λ (b : List ℕ). take (front.total - 5) (drop 5 b)) is.parts ∙ take_at frame.body rest (front.total - 5) (omega (arith, is.total))
+
+-- a row of it that was read is what stands there
+pub takes_row : (held : List ℕ) (front : Front) (tag : ℕ) (read rest : List ℕ) (values : Values) (a b : Learnt) (result : Result (Unit {0}) Error) → front.tag ≡ tag → IsFrontOf held front (framed front.tag read) rest → Says tag read (DataRow values) → HasBackendFrame (DataRow values) → TakesRow values a b result
+    → (body rest' : List ℕ) → IsFrontOf held front (framed front.tag body) rest' → TakesFront (framed front.tag body) a b result
+takes_row held front tag read rest values a b result t is says have takes body rest' of =
+    let same : read ≡ body = sym (front_body held front (framed front.tag read) rest is) ∙ front_body held front (framed front.tag body) rest' of in
+    inl (values, ap (λ (x : List ℕ). framed front.tag x) (sym same) ∙ ap (λ (n : ℕ). framed n read) t ∙ sym says.1, have, takes)
+
+one_row_heard : (f : Frame) (values : Values) → f ≡ backend_frame (DataRow values) → AreHeard (f ∷ []) (values ∷ [])
+one_row_heard f values e = (inl (sym e), tt)
+
+learns_one : (f : Frame) (a b : Learnt) (result : Result (Unit {0}) Error) → TakesFront f a b result → Learns (f ∷ []) a b
+learns_one f a b result (inl (values, is, have, takes)) = (values ∷ [], one_row_heard f values is, (b, result, takes, refl))
+learns_one f a b result (inr same) = ([], tt, same.0)
+
+learns_from : {A : Type 0} (a m : ConnOf A) (front : Front) (body rest : List ℕ) (result : Result (Unit {0}) Error) → IsFrontOf a.stream.held front (framed front.tag body) rest → LearnsFrom front a m result → Learns (framed front.tag body ∷ []) a.learnt m.learnt
+learns_from a m front body rest result of (now, inl (looks, learns)) = learns_one (framed front.tag body) a.learnt m.learnt result (learns body rest of)
+learns_from a m front body rest result of (now, inr (none, same, okay)) = ([], tt, same)
+
+-- what runs is a lookup
+look_of : (r : Request) → is_look (rest_of r) ≡ true → (lookup : Lookup) × (r ≡ requests.Look lookup)
+look_of (requests.Look lookup) e = (lookup, refl)
+look_of _ e = absurd cc
+
+looks_by : (start : Ledger) (r : Request) (said : List FrontendMessage) (hs : List Frame) (items : List CallItem) (ledger : Ledger) (call : Call) → CallIs start r said hs items ledger call → looks_up call ≡ true → (lookup : Lookup) × (r ≡ requests.Look lookup)
+looks_by start r said hs items ledger (calls.Own reply) i e = look_of r (subst (λ (x : Rest). is_look x ≡ true) i.2.rest_is e)
+looks_by start r said hs items ledger _ i e = absurd cc
+
+-- a row of it that isn't taken ends the call
+fails_at : (a c : ConnSeen) (start : Ledger) (r : Request) (own : List Group) (hs : List Frame) (f : Frame) (lookup : Lookup) (x y : Learnt) (e : Error) → r ≡ requests.Look lookup → TakesFront f x y (Err e) → Unit {0} → FailsBy a c start r own (hs ++ f ∷ []) e
+fails_at a c start r own hs f lookup x y e is (inl (values, same, have, takes)) m = inr (inr (lookup, is, inr (hs, values, x, y, ap (λ (g : Frame). hs ++ g ∷ []) same, have, takes)))
+fails_at a c start r own hs f lookup x y e is (inr (same, refused)) m = rw (refused_by e refused) (inl (tt, tt))
+  where
+    refused_by : (e : Error) → ◌≡◌ {A = Result (Unit {0}) Error} (Err e) (Err errors.OutOfMemory) → e ≡ errors.OutOfMemory
+    refused_by e is = cc
+
+still_runs : (start : Ledger) (r : Request) (said : List FrontendMessage) (hs : List Frame) (items : List CallItem) (ledger : Ledger) (call : Call) (beat : Beat) → looks_up call ≡ true → CallTakes start r said hs items ledger call beat
+    → CallIs start r said hs items ledger call × ((lookup : Lookup) × (r ≡ requests.Look lookup))
+still_runs start r said hs items ledger call beats.More looks h = (h, looks_by start r said hs items ledger call h looks)
+still_runs start r said hs items ledger call beats.Waits looks h = absurd h
+still_runs start r said hs items ledger call (beats.Yields item) looks h =
+    let look = looks_by start r said hs (items ++ item ∷ []) ledger call h looks in
+    absurd (shows_none item (subst (λ (q : Request). yields (kind_of q) item ≡ true) look.1 (shown_fits start r said hs items item ledger call h)))
+  where
+    shows_none : (item : CallItem) → yields kinds.Describe item ≡ true → ⊥
+    shows_none item e = cc
+still_runs start r said hs items ledger call (beats.Opens opened) looks h = (h.0, looks_by start r said hs items ledger call h.0 looks)
+still_runs start r said hs items ledger call (beats.Ends answer) looks h = absurd (over (subst (λ (x : Call). looks_up x ≡ true) h.0 looks))
+  where
+    over : looks_up calls.Idle ≡ true → ⊥
+    over e = cc
+
+accepts_idle : {A : Type 0} (a c b : ConnOf A) (front : Front) (fails : Bool) → Accepts front fails a c → b ≡ idle c → Accepts front fails (idle a) b
+accepts_idle {A} a c b front fails (t, passes, is, grew) stops =
+    let same : b.heard ≡ c.heard = ap (λ (x : ConnOf A). x.heard) stops in
+    (t, passes, stops ∙ ap (λ (x : ConnOf A). idle x) is ∙ ap (λ (n : ℕ). record a { stream = queued_copy_fail fails t; heard = n; call = calls.Idle }) (sym same), rw same grew)
+
+pub taken_in : {A : Type 0} (seen : A → LinkSeen) (a h m b : ConnOf A) (front : Front) (taken : Taken) (learnt : Result (Unit {0}) Error) (beat : Beat) → IsHeardFront a.stream.held front → (front.tag ≡ 71 → kept_for a + level_of a.change a.groups + 57 ≤ a.stream.spare) → a.stream.unsent ≡ [] → h ≡ record a { ledger = h.ledger; call = h.call }
+    → HearsFront front a h (Ok taken) → LearnsFrom front h m learnt → TakesIn front taken m b learnt beat → TakesBeat (seen_by seen a) (seen_by seen b) beat
+taken_in {A} seen a h m b front taken (Ok u) beat f room sent now hears learns (acc, is) =
+    let of : IsFrontOf h.stream.held front (framed front.tag hears.0) hears.1 = rw (ap (λ (x : ConnOf A). x.stream.held) now) hears.2 in
+    let l = learns_from h m front hears.0 hears.1 (Ok u) of learns in
+    let same : m ≡ record a { ledger = h.ledger; call = h.call; learnt = m.learnt } = learns.0 ∙ ap (λ (x : ConnOf A). record x { learnt = m.learnt }) now in
+    rw is (takes_message seen a b (running_of h) m.learnt front hears.0 hears.1 taken f hears.2 hears.3.0 hears.3.3 (λ e. room (hears.3.1 e)) hears.3.1 sent hears.3.2
+    (subst (λ (x : ConnOf A). Accepts front taken.fails_copy x b) same acc) (subst (λ (x : Learnt). Learns (framed front.tag hears.0 ∷ []) x m.learnt) (ap (λ (x : ConnOf A). x.learnt) now) l))
+taken_in {A} seen a h m b front taken (Err e) beat f room sent now hears (stays, inr (none, kept, okay)) (c, acc, stops, is) = absurd cc
+taken_in {A} seen a h m b front taken (Err e) beat f room sent now hears (stays, inl (looks, learns)) (c, acc, stops, is) =
+    let held = ap (λ (x : ConnOf A). x.stream.held) now in
+    let of : IsFrontOf h.stream.held front (framed front.tag hears.0) hears.1 = rw held hears.2 in
+    let at : IsFrontOf a.stream.held front (framed front.tag hears.0) hears.1 = hears.2 in
+    let takes = learns hears.0 hears.1 of in
+    let l : Learns (framed front.tag hears.0 ∷ []) h.learnt m.learnt = learns_one (framed front.tag hears.0) h.learnt m.learnt (Err e) takes in
+    let same : m ≡ record a { ledger = h.ledger; call = h.call; learnt = m.learnt } = stays ∙ ap (λ (x : ConnOf A). record x { learnt = m.learnt }) now in
+    let stopped : Running = record { ledger = h.ledger; call = calls.Idle } in
+    let ends : Accepts front taken.fails_copy (record a { ledger = h.ledger; call = h.call; learnt = m.learnt }) c = subst (λ (x : ConnOf A). Accepts front taken.fails_copy x c) same acc in
+    let over : Accepts front taken.fails_copy (record a { ledger = h.ledger; call = calls.Idle; learnt = m.learnt }) b = accepts_idle (record a { ledger = h.ledger; call = h.call; learnt = m.learnt }) c b front taken.fails_copy ends stops in
+    rw is (takes_by seen a b stopped m.learnt front hears.0 hears.1 taken.fails_copy (beats.Ends (Err e)) f at tt (λ w. room (hears.3.1 w)) sent over (subst (λ (x : Learnt). Learns (framed front.tag hears.0 ∷ []) x m.learnt) (ap (λ (x : ConnOf A). x.learnt) now) l)
+    (λ d moved. moved.2)
+    (λ d k w u start r said hs items i.
+    let on = still_runs start r (said ++ fails_of taken.fails_copy) (hs ++ framed front.tag hears.0 ∷ []) items h.ledger h.call taken.beat looks (hears.3.0 start r said hs items i) in
+    let leaves = leaves_call start r (said ++ fails_of taken.fails_copy) (hs ++ framed front.tag hears.0 ∷ []) items h.ledger h.call on.0 in
+    let left : Leaves start r (said ++ fails_of taken.fails_copy) (hs ++ framed front.tag hears.0 ∷ []) items d.ledger false = rw k leaves in
+    (w, inr (left, call_well start r (said ++ fails_of taken.fails_copy) (hs ++ framed front.tag hears.0 ∷ []) items h.ledger h.call on.0, fails_at (seen_by seen a) d start r left.own hs (framed front.tag hears.0) on.1.0 h.learnt m.learnt e on.1.1 takes tt))))
 
 pub refused_front : {A : Type 0} (seen : A → LinkSeen) (a m b : ConnOf A) (front : Front) (e : Error) (beat : Beat) → IsHeardFront a.stream.held front → m ≡ record a { ledger = m.ledger; call = m.call } → HearsFront front a m (Err e) → b ≡ idle m → beat ≡ beats.Ends (Err e)
     → TakesBeat (seen_by seen a) (seen_by seen b) beat
@@ -848,18 +1041,18 @@ sends_fine start r said hs items ledger (calls.Own reply) s i = absurd cc
 sends_fine start r said hs items ledger calls.Idle s i = absurd i
 
 pub rest_waits : (a : ConnSeen) (t : StreamSeen) → only_sends a.ledger a.call ≡ true → PollsSend a.stream t Pending → TakesBeat a (over_stream a t) beats.Waits
-rest_waits a t k p = stays a (over_stream a t) beats.Waits p.moves (sent_cause a.stream t p.gives, λ s. p.gives) (keeps a.call) refl refl refl refl refl refl refl (λ start r said hs items i. (i, inr k))
+rest_waits a t k p = stays a (over_stream a t) beats.Waits p.moves (sent_cause a.stream t p.gives, λ s. p.gives) (keeps a.call) refl refl refl refl refl refl refl refl (λ start r said hs items i. (i, inr k))
   where
     sent_cause : (s t : StreamSeen) → SendGives s t Pending → PendingCause s t
     sent_cause s t (inl w) = inl w
     sent_cause s t (inr f) = inr (inr f)
 
 pub rest_fails : (a : ConnSeen) (t : StreamSeen) (e : Error) → PollsSend a.stream t (Ready (Err e)) → TakesBeat a (idle (over_stream a t)) (beats.Ends (Err e))
-rest_fails a t e p = rw p.gives.0 (stays a (idle (over_stream a t)) (beats.Ends (Err (errors.Io io.Fault))) p.moves p.gives.2 (keeps_idle a.call) refl refl refl refl refl refl refl (λ start r said hs items i.
+rest_fails a t e p = rw p.gives.0 (stays a (idle (over_stream a t)) (beats.Ends (Err (errors.Io io.Fault))) p.moves p.gives.2 (keeps_idle a.call) refl refl refl refl refl refl refl refl (λ start r said hs items i.
     (refl, inr (leaves_call start r said hs items a.ledger a.call i, call_well start r said hs items a.ledger a.call i, inl (p.gives.1, tt)))))
 
 pub rest_sent : (a : ConnSeen) (t : StreamSeen) (u : Unit {0}) → only_sends a.ledger a.call ≡ true → PollsSend a.stream t (Ready (Ok u)) → TakesBeat a (idle (over_stream a t)) (beats.Ends (Ok (sent_answer a.call)))
-rest_sent a t u k p = stays a (idle (over_stream a t)) (beats.Ends (Ok (sent_answer a.call))) p.moves p.gives.1 (keeps_idle a.call) refl refl refl refl refl refl refl (λ start r said hs items i.
+rest_sent a t u k p = stays a (idle (over_stream a t)) (beats.Ends (Ok (sent_answer a.call))) p.moves p.gives.1 (keeps_idle a.call) refl refl refl refl refl refl refl refl (λ start r said hs items i.
     (refl, sends_fine start r said hs items a.ledger a.call k i, p.gives.0))
 
 -- ---- a front is accepted, step by step

@@ -12,6 +12,8 @@ use Rattle.pg_conn.specs.Statements.{asked_by, begun_as, held_by, moved, unmoved
 use Rattle.pg_request.specs.Queries.{plain_text}
 use Rattle.pg_request.specs.Texts.{rollback_text}
 use Rattle.pg_rule.specs.declared.rule.Rule.{Rule}
+use Rattle.pg_learning.specs.declared.learnt.Learnt.{Learnt}
+use Rattle.pg_learning.specs.Learning.{learnt_none}
 use Rattle.pg_rule.specs.Rules.{new_rule}
 use Rattle.pg_wire.specs.Frontend.{FrontendMessage, Query, CopyData, CopyDone, CopyFail}
 use Rattle.pg_wire.specs.declared.error.Error.{Error}
@@ -43,6 +45,8 @@ pub record ConnOf (A : Type 0) : Type 0 where
   pub cache : CacheStep
   -- how many advisory locks are held by guards, or are being taken for one
   pub held : ℕ
+  -- what was looked up of types and of the names of columns
+  pub learnt : Learnt
   -- the fault by which the server broke the connection
   pub broken : Option ServerFault
   -- groups queued in the exchange that runs and in those before it, and frames heard, since the last call began, each up to u64's greatest value
@@ -68,11 +72,11 @@ abbrev pub ConnSeen : Type 0
 ConnSeen = ConnOf LinkSeen
 
 abbrev pub seen_by : {A : Type 0} → (A → LinkSeen) → ConnOf A → ConnSeen
-seen_by f c = record { stream = stream_by f c.stream; ledger = c.ledger; call = c.call; rule = c.rule; change = c.change; keeping = c.keeping; cache = c.cache; held = c.held; broken = c.broken; groups = c.groups; earlier = c.earlier; heard = c.heard; sent = c.sent; read = c.read }
+seen_by f c = record { stream = stream_by f c.stream; ledger = c.ledger; call = c.call; rule = c.rule; change = c.change; keeping = c.keeping; cache = c.cache; held = c.held; learnt = c.learnt; broken = c.broken; groups = c.groups; earlier = c.earlier; heard = c.heard; sent = c.sent; read = c.read }
 
 -- behind start-up, before any call, where so many statements may be kept
 abbrev pub fresh_connection : {A : Type 0} → ℕ → StreamOf A → ℕ → ℕ → ConnOf A
-fresh_connection capacity stream sent read = record { stream = stream; ledger = owes_none; call = calls.Idle; rule = new_rule capacity; change = changes.Stays; keeping = keepings.Stays; cache = steps.Same; held = 0; broken = None; groups = 0; earlier = 0; heard = 0; sent = sent; read = read }
+fresh_connection capacity stream sent read = record { stream = stream; ledger = owes_none; call = calls.Idle; rule = new_rule capacity; change = changes.Stays; keeping = keepings.Stays; cache = steps.Same; held = 0; learnt = learnt_none; broken = None; groups = 0; earlier = 0; heard = 0; sent = sent; read = read }
 
 abbrev pub runs : Call → Bool
 runs calls.Idle = false

@@ -1,5 +1,6 @@
 pub mod Statements
 pub mod Connections
+pub mod Looking
 pub mod Turns
 pub mod States
 pub mod Connecting

@@ -1,5 +1,5 @@
 -- The states of calls: what is known of the call that runs, and what a poll of it answers.
-use Rattle.std.specs.Prelude.{◌≡◌, ℕ, Bool, true, List, [], Option, Some, None, unwrap_or, Result, Ok, Err}
+use Rattle.std.specs.Prelude.{◌≡◌, ℕ, Bool, true, false, List, [], Option, Some, None, unwrap_or, Result, Ok, Err}
 use Rattle.futures.specs.declared.task.Poll.{Poll}
 use Rattle.futures.specs.declared.task.Poll.TheVariants.{Ready, Pending}
 use Rattle.pg_wire.specs.declared.error.Error.{Error}
@@ -58,6 +58,29 @@ IsCallingPlainly c = (kind : Kind) × TurnIsPlain kind × IsCalling kind c
 abbrev pub PollFitsPlainly : {A : Type 0} → ConnOf A → Poll Turn → Type 0
 PollFitsPlainly b answer = (kind : Kind) × TurnIsPlain kind × PollFits kind b answer
 
+-- ---- what the state of a call keeps
+
+-- Until it is over its call is of this kind, and has room for its cleanup: by some messages queued, frames heard and items shown, which nobody has to name.
+abbrev pub KeepsCalling : {A : Type 0} → Kind → Option Request → ConnOf A → Type 0
+KeepsCalling kind request c = is_over request c.call ≡ false → (IsCalling kind (begun_by request c) → ⊥) → ⊥
+
+-- the same of a call without items and without an answer of its own
+abbrev pub KeepsCallingPlainly : {A : Type 0} → Option Request → ConnOf A → Type 0
+KeepsCallingPlainly request c = is_over request c.call ≡ false → (IsCallingPlainly (begun_by request c) → ⊥) → ⊥
+
+-- whether a poll has ended its call
+abbrev pub ends_call : Poll Turn → Bool
+ends_call Pending = false
+ends_call (Ready (turns.Item item)) = false
+ends_call (Ready (turns.Opened opened)) = false
+ends_call (Ready (turns.Ok answer)) = true
+ends_call (Ready (turns.Err e)) = true
+
+-- it has answered
+abbrev pub is_ready : {X : Type 0} → Poll X → Bool
+is_ready Pending = false
+is_ready (Ready x) = true
+
 -- ---- a statement that is prepared
 
 -- a text of whose parameters no type is said
@@ -98,6 +121,10 @@ abbrev pub IsClosing : {A : Type 0} → Option Request → Option (ConnOf A) →
 IsClosing request None = Unit {0}
 IsClosing request (Some c) = IsCalling kinds.Close (begun_by request c)
 
+-- and it is so until the close is over
+abbrev pub KeepsClosing : {A : Type 0} → Option Request → Option (ConnOf A) → Type 0
+KeepsClosing request conn = is_closed request conn ≡ false → (IsClosing request conn → ⊥) → ⊥
+
 abbrev pub closing_turn : {X : Type 0} → Result X Error → Turn
 closing_turn (Ok x) = turns.Ok answers.Unit
 closing_turn (Err e) = turns.Err e
@@ -109,4 +136,4 @@ KeepsConn b new _ = new ≡ Some b
 
 -- one poll of a close on this connection
 abbrev pub PollsClose : {A : Type 0} → (A → LinkSeen) → ConnOf A → Option (ConnOf A) → Poll (Result A Error) → Type 0
-PollsClose {A} seen a new answer = (b : ConnOf A) × PollsCall (seen_by seen a) (seen_by seen b) (turn_of closing_turn answer) × PollFits kinds.Close b (turn_of closing_turn answer) × KeepsConn b new answer
+PollsClose {A} seen a new answer = (b : ConnOf A) × PollsCall (seen_by seen a) (seen_by seen b) (turn_of closing_turn answer) × (IsCalling kinds.Close a → PollFits kinds.Close b (turn_of closing_turn answer)) × KeepsConn b new answer

@@ -30,10 +30,14 @@ use Rattle.pg_call.specs.declared.calling.Beat.{Beat}
 use Rattle.pg_call.specs.declared.calling.Beat.TheVariants as beats
 use Rattle.pg_call.specs.Requests.{Group, spelled, kind_of, is_flush, CanBeSaid, IsRefusal}
 use Rattle.pg_call.specs.Drains.{is_error}
-use Rattle.pg_call.specs.Hearing.{IsOpen, fails_of, sent_answer}
+use Rattle.pg_call.specs.Hearing.{IsOpen, fails_of, looks_up, sent_answer}
 use Rattle.pg_call.specs.declared.calling.Taken.{Taken}
 use Rattle.pg_call.specs.declared.running.Running.{Running}
 use Rattle.pg_call.specs.Calls.{CallIs, IsAwaiting, Leaves, CallEnds, IsFrontFault, TakesMessage, RefusesMessage, StaysIn}
+use Rattle.pg_call.specs.declared.statement.Lookup.{Lookup}
+use Rattle.pg_learning.specs.declared.learnt.Seeking.{Seeking}
+use Rattle.pg_learning.specs.Learning.{FailsSeeking}
+use Rattle.pg_conn.specs.Looking.{AsksNext, Learns, FailsRow, TakesFront}
 use Rattle.pg_conn.specs.Connections.{ConnOf, ConnSeen, idle, left, standing, started_call, begun, begun_with, handed, resolved, settled, cleaned, ended, ends_copy, unfed}
 use Rattle.pg_conn.specs.Statements.{asked_by, begun_as}
 
@@ -54,9 +58,13 @@ IsMissed ledger _ = Unit {0}
 abbrev pub FrontFails : ConnSeen → Ledger → Request → List Group → List Frame → Error → Type 0
 FrontFails b start r own hs e = (front : Frame) × (rest : List ℕ) × IsWhole backend_tags front × (is_asynchronous front ≡ false) × (b.stream.held ≡ bytes_of front ++ rest) × IsFrontFault start r own hs front e
 
--- the stream fails, memory is wanting, or the front is refused
+-- a lookup isn't asked since rows wait for types that nothing more asks for, or its last row can't be taken
+abbrev pub LookFails : Request → List Frame → Error → Type 0
+LookFails r hs e = (lookup : Lookup) × (r ≡ requests.Look lookup) × (((seeking : Seeking) × FailsSeeking seeking e) ⊎ FailsRow hs e)
+
+-- the stream fails, memory is wanting, the front is refused, or a lookup fails
 abbrev pub FailsBy : ConnSeen → ConnSeen → Ledger → Request → List Group → List Frame → Error → Type 0
-FailsBy a b start r own hs e = (HeardCause a.stream b.stream e × IsMissed b.ledger e) ⊎ FrontFails b start r own hs e
+FailsBy a b start r own hs e = (HeardCause a.stream b.stream e × IsMissed b.ledger e) ⊎ (FrontFails b start r own hs e ⊎ LookFails r hs e)
 
 -- the call's own end, or a failure that leaves it as a drop would
 abbrev pub EndsBy : ConnSeen → ConnSeen → Ledger → Request → List FrontendMessage → List Frame → List CallItem → Error → Type 0
@@ -144,6 +152,7 @@ pub record Turns (a b : ConnSeen) (beat : Beat) (q : List ℕ) (fs hs : List Fra
   pub started : (b.sent ≡ a.sent) × (b.read ≡ a.read) × (b.rule ≡ a.rule) × (standing b ≡ standing a)
   pub asked : IsAsked b.call → IsAsked a.call
   pub room : (n : ℕ) → n ≤ kept_for a → HasRoomBeside n a → HasRoomBeside n b
+  pub learns : Learns hs a.learnt b.learnt
   pub tells : (start : Ledger) (r : Request) (said : List FrontendMessage) (hs' : List Frame) (items : List CallItem) → CallIs start r said hs' items a.ledger a.call
       → TellsOf a b start r said (hs' ++ hs) items beat q
 
@@ -217,6 +226,20 @@ running_of c = record { ledger = c.ledger; call = c.call }
 abbrev pub HearsFront : {A : Type 0} → Front → ConnOf A → ConnOf A → Result Taken Error → Type 0
 HearsFront front a b result = (body : List ℕ) × (rest : List ℕ) × IsFrontOf a.stream.held front (framed front.tag body) rest × HearsBy front.tag body (running_of a) (running_of b) result
 
+-- the row of a lookup at the front is taken
+abbrev pub LearnsFront : {A : Type 0} → Front → ConnOf A → ConnOf A → Result (Unit {0}) Error → Type 0
+LearnsFront front a b result = (body rest : List ℕ) → IsFrontOf a.stream.held front (framed front.tag body) rest → TakesFront (framed front.tag body) a.learnt b.learnt result
+
+-- and any other message is none
+abbrev pub LearnsFrom : {A : Type 0} → Front → ConnOf A → ConnOf A → Result (Unit {0}) Error → Type 0
+LearnsFrom front a b result = (b ≡ record a { learnt = b.learnt })
+    × (((looks_up a.call ≡ true) × LearnsFront front a b result) ⊎ ((front.tag == 68 && looks_up a.call ≡ false) × (b.learnt ≡ a.learnt) × (result ≡ Ok tt)))
+
+-- the message is taken; where what it tells of a lookup can't be, the call ends
+abbrev pub TakesIn : {A : Type 0} → Front → Taken → ConnOf A → ConnOf A → Result (Unit {0}) Error → Beat → Type 0
+TakesIn front taken a b (Ok u) beat = Accepts front taken.fails_copy a b × (beat ≡ taken.beat)
+TakesIn {A} front taken a b (Err e) beat = (c : ConnOf A) × Accepts front taken.fails_copy a c × (b ≡ idle c) × (beat ≡ beats.Ends (Err e))
+
 -- ---- a poll
 
 abbrev pub beat_of_turn : Turn → Beat
@@ -271,12 +294,16 @@ hands_on next = Ready (turns.Ok (answers.Next next))
 abbrev pub HandsOnNone : Poll Turn → Type 0
 HandsOnNone answer = (next : Request) → answer ≡ hands_on next → ⊥
 
--- Exchanges ended in a poll one after another, and each handed on the next of these; the last of them begins on this connection.
+-- one exchange ended, and what it handed on is asked next, or before it what has to be looked up for it
+abbrev pub HandsNext : ConnSeen → Request → ConnSeen → Type 0
+HandsNext begun next c = (told : Request) × (between : ConnSeen) × Polled (resolved begun) between (beat_of (hands_on told)) × AsksNext told between next c
+
+-- Exchanges ended in a poll one after another, behind each of which one of these was asked; the last of them begins on this connection.
 abbrev pub HandsOver : ConnSeen → List Request → ConnSeen → Type 0
 HandsOver begun [] last = last ≡ begun
-HandsOver begun (next ∷ later) last = (between : ConnSeen) × Polled (resolved begun) between (beat_of (hands_on next)) × HandsOver (handed next between) later last
+HandsOver begun (next ∷ later) last = (c : ConnSeen) × HandsNext begun next c × HandsOver c later last
 
--- One poll of a call: of the exchange that runs, and of those that are handed on in it, each of which goes on with the calls of the link that
+-- One poll of a call: of the exchange that runs, and of those that are asked behind it in this poll, each of which goes on with the calls of the link that
 -- were left.
 pub record PollsThrough (begun b : ConnSeen) (answer : Poll Turn) : Type 0 where
   pub later : List Request

@@ -40,6 +40,7 @@ fn describe(rule: &Rule, goal: Goal, sql: Text, arguments: Arguments, persistent
         sql,
         arguments,
         described: None,
+        is_looked_up: false,
     })
 }
 
@@ -60,6 +61,7 @@ fn run_or_describe(
             Ok(Request::Run(Bound {
                 how,
                 statement: entry.statement,
+                again: None,
                 arguments,
                 columns: Some(columns),
                 keeping: Keeping::Hits(entry.statement.number()),

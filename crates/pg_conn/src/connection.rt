@@ -8,6 +8,8 @@ ghost use Rattle.pg_conn.specs.Turns.{level_of};
 use crate::keeping::{begun_as, keep, let_go, step_of};
 use crate::{CacheStep, Progress, Request};
 use pg_call::{Call, Change, Keeping, Running, rollback_frame};
+use pg_learning::Learnt;
+use pg_resolve::{TableCache, TypeCache};
 use pg_rule::Rule;
 use pg_startup::Ready;
 use pg_stream::PgStream;
@@ -29,6 +31,7 @@ pub struct PgConnection<L> {
     pub(crate) keeping: Keeping,
     cache: CacheStep,
     pub(crate) held: u64,
+    pub(crate) learnt: Learnt,
     pub(crate) broken: Option<ServerFault>,
     pub(crate) groups: u64,
     pub(crate) earlier: u64,
@@ -49,6 +52,7 @@ impl<L: Drop> Drop for PgConnection<L> {
             keeping: _,
             cache: _,
             held: _,
+            learnt: _,
             broken: _,
             groups: _,
             earlier: _,
@@ -64,7 +68,7 @@ impl<L> Model for PgConnection<L> {
 
     ghost Value = { ConnOf L };
 
-    ghost view = { λ c. record { stream = c.stream; ledger = c.running.ledger; call = c.running.call; rule = c.rule; change = c.change; keeping = c.keeping; cache = c.cache; held = c.held; broken = c.broken; groups = c.groups; earlier = c.earlier; heard = c.heard; sent = c.sent; read = c.read } };
+    ghost view = { λ c. record { stream = c.stream; ledger = c.running.ledger; call = c.running.call; rule = c.rule; change = c.change; keeping = c.keeping; cache = c.cache; held = c.held; learnt = c.learnt; broken = c.broken; groups = c.groups; earlier = c.earlier; heard = c.heard; sent = c.sent; read = c.read } };
 }
 
 impl<L> PgConnection<L> {
@@ -87,6 +91,7 @@ impl<L> PgConnection<L> {
             keeping: Keeping::Stays,
             cache: CacheStep::Same,
             held: 0,
+            learnt: Learnt::new(alloc),
             broken: None,
             groups: 0,
             earlier: 0,
@@ -141,6 +146,7 @@ impl<L> PgConnection<L> {
             keeping: _,
             cache: _,
             held: _,
+            learnt: _,
             broken: _,
             groups: _,
             earlier: _,
@@ -191,6 +197,20 @@ impl<L> PgConnection<L> {
         ensures { result ≡ self.now.rule.depth }
     {
         self.rule.depth
+    }
+
+    /// The types that were looked up.
+    pub fn types(&self) -> &TypeCache
+        ensures { result.now ≡ self.now.learnt.types }
+    {
+        &self.learnt.types
+    }
+
+    /// The names of tables and columns that were looked up.
+    pub fn tables(&self) -> &TableCache
+        ensures { result.now ≡ self.now.learnt.tables }
+    {
+        &self.learnt.tables
     }
 
     /// How many statements are kept.
@@ -403,7 +423,7 @@ impl<L> PgConnection<L> {
     }
 
     /// The next exchange of a call begins, where the one before it has ended.
-    pub(crate) fn hand_on(&mut self, request: Request)
+    pub(crate) fn ask_next(&mut self, request: Request)
         ensures { self.new ≡ handed request self.old }
     {
         self.turn_to(Call::Asked(request));

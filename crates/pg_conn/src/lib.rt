@@ -16,6 +16,7 @@ mod flags;
 mod holding;
 mod keeping;
 pub mod laws;
+mod looking;
 mod notification;
 mod polling;
 mod postgres;
@@ -39,6 +40,7 @@ pub use socket_dial::SocketDial;
 pub use starting::Establish;
 pub use statement::PgStatement;
 pub use states::{
-    Begin, ClearCachedStatements, Close, Commit, Execute, ExecuteMany, Fetch, FetchAll, FetchMany,
-    FetchOne, FetchOptional, Flush, Ping, Prepare, Rollback, commit_request, rollback_request,
+    Asks, Begin, ClearCachedStatements, Close, Commit, Execute, ExecuteMany, Fetch, FetchAll,
+    FetchMany, FetchOne, FetchOptional, Flush, Ping, Prepare, Rollback, commit_request,
+    rollback_request,
 };

@@ -7,13 +7,16 @@ ghost use Rattle.pg_call.specs.Hearing.{IsReplied, keeps_now, sent_answer, waits
 ghost use Rattle.pg_call.specs.declared.kind.Kind as declared_kind;
 ghost use Rattle.pg_call.specs.declared.request.Request as declared_request;
 ghost use Rattle.pg_conn.specs.States.{IsCalling, PollFits};
-ghost use Rattle.pg_conn.specs.Turns.{level_of, kept_for, TakesBeat, Falls, GoesOn, HearsFront, Prepares, Readies, Refuses, Accepts, IsAsked, IsSayable, Refused, IsAhead, only_sends, flushes, is_flushed, EndsFlush, queued_copy_fail, Polled, PollsThrough, PollsWithin, PollsCall, PollsMore, beat_of, broken_by, hands_on, HandsOnNone};
+ghost use Rattle.std.specs.declared.result.Result.{Result as ResultOf};
+ghost use Rattle.pg_wire.specs.declared.error.Error.{Error as ErrorOf};
+ghost use Rattle.pg_conn.specs.Connections.{ConnOf};
+ghost use Rattle.pg_conn.specs.Turns.{LearnsFront, LearnsFrom, TakesIn, level_of, kept_for, TakesBeat, Falls, GoesOn, HearsFront, Prepares, Readies, Refuses, Accepts, IsAsked, IsSayable, Refused, IsAhead, only_sends, flushes, is_flushed, EndsFlush, queued_copy_fail, Polled, PollsThrough, PollsWithin, PollsCall, PollsMore, beat_of, broken_by, hands_on, HandsOnNone};
 
 use crate::connection::COPY_FAIL;
 use crate::{PgConnection, Request, Turn};
 use pg_call::{Beat, Call, CallAnswer, Kind, Taken};
 use pg_stream::{Front, Link};
-use pg_wire::{Blob, Error, Poll, ProtocolFault, ServerFault};
+use pg_wire::{Blob, Error, Poll, ProtocolFault, ServerFault, decode_data_row};
 
 /// The bytes that are kept for the cleanup of a call that has queued a group.
 pub(crate) const RESERVE: usize = 128;
@@ -296,6 +299,45 @@ impl<L: Link> PgConnection<L> {
             .take(self.alloc, front.tag, self.stream.body(front))
     }
 
+    // Takes what a row of a lookup tells. A row that was judged is one, so only want of memory keeps it from being read.
+    fn learn(&mut self, front: Front) -> Result<(), Error>
+        requires front { IsHeardFront self.old.stream.held front }
+        requires tag { front.tag ≡ 68 }
+        ensures now { self.new ≡ record self.old { learnt = self.new.learnt } }
+        ensures takes { LearnsFront front self.old self.new result }
+    {
+        let Ok(values) = decode_data_row(self.alloc, self.stream.body(front)) else {
+            return Err(Error::OutOfMemory);
+        };
+        self.learnt.take(self.alloc, &values)
+    }
+
+    // The same of any message: there is nothing in it unless it is a row of a lookup.
+    fn learn_from(&mut self, front: Front) -> Result<(), Error>
+        requires front { IsHeardFront self.old.stream.held front }
+        ensures now { self.new ≡ record self.old { learnt = self.new.learnt } }
+        ensures takes { LearnsFrom front self.old self.new result }
+    {
+        if front.tag == b'D' && self.running.looks_up() {
+            return self.learn(front);
+        }
+        Ok(())
+    }
+
+    // A message that may come is taken, and what it tells of a lookup.
+    fn take_in(&mut self, front: Front, taken: Taken) -> Beat
+        requires front { IsHeardFront self.old.stream.held front }
+        requires room { taken.fails_copy ≡ true → 57 ≤ self.old.stream.spare }
+        ensures { (m : ConnOf L) × (learnt : ResultOf (Unit {0}) ErrorOf) × LearnsFrom front self.old m learnt × TakesIn front taken m self.new learnt result }
+    {
+        let learnt = self.learn_from(front);
+        self.accept(front, taken.fails_copy);
+        match learnt {
+            Ok(()) => taken.beat,
+            Err(e) => self.stop(Err(e)),
+        }
+    }
+
     // Takes the message at the front, for which there is room; where it may not come, it stays.
     fn judge_front(&mut self, front: Front) -> Beat
         requires awaiting { IsAwaiting self.old.ledger self.old.call }
@@ -307,10 +349,7 @@ impl<L: Link> PgConnection<L> {
         ensures falls { Falls (seen_by L.seen self.old) (seen_by L.seen self.new) result }
     {
         match self.hear_front(front) {
-            Ok(taken) => {
-                self.accept(front, taken.fails_copy);
-                taken.beat
-            }
+            Ok(taken) => self.take_in(front, taken),
             Err(e) => self.stop(Err(e)),
         }
     }
@@ -471,7 +510,11 @@ impl<L: Link> PgConnection<L> {
     {
         loop {
             match next_of(self.poll_on()) {
-                Ok(next) => self.hand_on(next),
+                Ok(told) => {
+                    if let Err(e) = self.hand_on(told) {
+                        return Poll::Ready(Turn::Err(e));
+                    }
+                }
                 Err(answer) => return answer,
             }
         }

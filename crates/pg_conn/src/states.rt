@@ -1,7 +1,10 @@
 //! The states of calls. Each but `Close`, which owns it, borrows its connection, does nothing before its first poll, and abandons its call when it is dropped.
 //!
 //! The type of the request is a parameter, which is left at `Request`: so the contract of the drop can say what is left of the connection.
+//!
+//! Each keeps that its call is of its kind until it is over, so whoever polls it has to know no more than that it isn't.
 
+mod asks;
 mod begin;
 mod clear_cached_statements;
 mod close;
@@ -18,6 +21,7 @@ mod ping;
 mod prepare;
 mod rollback;
 
+pub use asks::Asks;
 pub use begin::Begin;
 pub use clear_cached_statements::ClearCachedStatements;
 pub use close::Close;

@@ -1,25 +1,17 @@
 -- How a session goes on.
-use Rattle.std.proofs.Common.{◌≡◌, ◌⊎◌, ℕ, ◌≤◌, inl, inr, List, [], ◌∷◌, Option, Some, None, Result, Ok, Err, Bool, true, false, refl, sym, ap, ◌∙◌, subst}
+use Rattle.std.proofs.Common.{◌≡◌, ℕ, ◌≤◌, inl, inr, [], ◌∷◌, Option, Some, None, Result, Ok, Err, refl, sym, ap, ◌∙◌, subst}
 use Rattle.futures.specs.declared.task.Poll.{Poll}
 use Rattle.futures.specs.declared.task.Poll.TheVariants.{Ready, Pending}
-use Rattle.pg_wire.specs.Frame.{Frame}
-use Rattle.pg_wire.specs.Frontend.{FrontendMessage}
 use Rattle.pg_wire.specs.declared.error.Error.{Error}
 use Rattle.pg_stream.specs.Links.{LinkSeen}
-use Rattle.pg_call.specs.declared.answer.CallItem.{CallItem}
-use Rattle.pg_call.specs.declared.calling.Call.{Call}
-use Rattle.pg_call.specs.declared.calling.Call.TheVariants as calls
 use Rattle.pg_call.specs.declared.kind.Kind.{Kind}
-use Rattle.pg_call.specs.declared.ledger.Ledger.{Ledger}
 use Rattle.pg_call.specs.declared.answer.Turn.{Turn}
 use Rattle.pg_call.specs.declared.answer.Turn.TheVariants as turns
-use Rattle.pg_call.specs.declared.request.Request.{Request}
-use Rattle.pg_call.specs.Calls.{CallIs}
-use Rattle.pg_conn.specs.Connections.{ConnOf, runs, seen_by}
+use Rattle.pg_conn.specs.Connections.{ConnOf, seen_by}
 use Rattle.pg_conn.specs.Dials.{DialSeen}
-use Rattle.pg_conn.specs.States.{IsCalling, PollFits}
+use Rattle.pg_conn.specs.States.{PollFits}
 use Rattle.pg_conn.specs.Turns.{PollsWithin}
-use Rattle.pg_conn.proofs.StateLaws.{poll_fits_within}
+use Rattle.pg_conn.proofs.StateLaws.{calling_runs, poll_fits_within}
 use Rattle.pg_databases.specs.Openings.{Handing, Begun, Opened}
 use Rattle.pg_databases.specs.Sessions.{ConnRuns, ConnectsSession, DialsFirst, Fails, Goes, GoesBy, GoesOn, IsBefore, KeepsConn, PollsSession, Stands, StandsBy, StartGoes, Tells}
 use Rattle.pg_databases.specs.declared.errand.Errand.{Errand}
@@ -42,16 +34,6 @@ before kind (Some (Ok errand)) (Some s) conn g = absurd g
 before kind (Some (Err e)) None None g = (refl, refl)
 before kind (Some (Err e)) None (Some c) g = absurd g
 before kind (Some (Err e)) (Some s) conn g = absurd g
-
-runs_on : (start : Ledger) (r : Request) (said : List FrontendMessage) (hs : List Frame) (items : List CallItem) (ledger : Ledger) (call : Call) → CallIs start r said hs items ledger call → runs call ≡ true
-runs_on start r said hs items ledger (calls.Asked asked) i = refl
-runs_on start r said hs items ledger (calls.Waiting waiting) i = refl
-runs_on start r said hs items ledger (calls.Own reply) i = refl
-runs_on start r said hs items ledger calls.Closing i = refl
-runs_on start r said hs items ledger calls.Idle i = absurd i
-
-calling_runs : {A : Type 0} (kind : Kind) (c : ConnOf A) → IsCalling kind c → runs c.call ≡ true
-calling_runs kind c i = runs_on i.0 i.1 i.2 i.3 i.4 c.ledger c.call i.6
 
 pub start_goes : {A : Type 0} (kind : Kind) (errand : Asked) (start : Option (Start A)) (conn : Option (ConnOf A)) → errand ≡ None → GoesBy kind errand start conn → StartGoes start
 start_goes kind errand None conn e g = tt

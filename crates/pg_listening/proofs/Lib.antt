@@ -1,5 +1,4 @@
 pub mod BufferLaws
-mod CallLaws
 mod HeldLaws
 pub mod ListeningLaws
 mod SaveLaws

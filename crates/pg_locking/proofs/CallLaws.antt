@@ -1,23 +1,14 @@
 -- The calls about locks, each by the calls of the connection that it is made of.
-use Rattle.std.proofs.Common.{◌≡◌, inr, ℕ, Bool, true, List, Result, refl, sym, ap, ◌∙◌, subst}
+use Rattle.std.proofs.Common.{◌≡◌, inr, ℕ, Bool, true, Result, refl, sym, ap, ◌∙◌, subst}
 use Rattle.futures.specs.declared.task.Poll.{Poll}
 use Rattle.futures.specs.declared.task.Poll.TheVariants.{Ready}
-use Rattle.pg_wire.specs.Frame.{Frame}
-use Rattle.pg_wire.specs.Frontend.{FrontendMessage}
 use Rattle.pg_wire.specs.declared.error.Error.{Error}
 use Rattle.pg_stream.specs.Links.{LinkSeen}
 use Rattle.pg_locks.specs.declared.key.PgAdvisoryLockKey.{PgAdvisoryLockKey}
 use Rattle.pg_locks.specs.Locks.{lock_statement}
-use Rattle.pg_call.specs.declared.answer.CallItem.{CallItem}
 use Rattle.pg_call.specs.declared.answer.Turn.{Turn}
-use Rattle.pg_call.specs.declared.calling.Call.{Call}
-use Rattle.pg_call.specs.declared.calling.Call.TheVariants as calls
 use Rattle.pg_call.specs.declared.kind.How.TheVariants as hows
-use Rattle.pg_call.specs.declared.kind.Kind.{Kind}
 use Rattle.pg_call.specs.declared.kind.Kind.TheVariants as kinds
-use Rattle.pg_call.specs.declared.ledger.Ledger.{Ledger}
-use Rattle.pg_call.specs.declared.request.Request.{Request}
-use Rattle.pg_call.specs.Calls.{CallIs}
 use Rattle.pg_conn.specs.Connections.{ConnOf, runs, seen_by, started_call, started_next}
 use Rattle.pg_conn.specs.States.{IsCalling, PollFits, to_prepare, turn_of, untyped}
 use Rattle.pg_conn.specs.Turns.{PollsMore}
@@ -29,16 +20,6 @@ use Rattle.pg_locking.specs.declared.flag_call.Asking.{Asking}
 use Rattle.pg_locking.specs.declared.flag_call.Asking.TheVariants as askings
 use Rattle.pg_locking.specs.declared.lock_call.Stage.{Stage}
 use Rattle.pg_locking.specs.declared.lock_call.Stage.TheVariants as stages
-
-runs_on : (start : Ledger) (r : Request) (said : List FrontendMessage) (hs : List Frame) (items : List CallItem) (ledger : Ledger) (call : Call) → CallIs start r said hs items ledger call → runs call ≡ true
-runs_on start r said hs items ledger (calls.Asked asked) i = refl
-runs_on start r said hs items ledger (calls.Waiting waiting) i = refl
-runs_on start r said hs items ledger (calls.Own reply) i = refl
-runs_on start r said hs items ledger calls.Closing i = refl
-runs_on start r said hs items ledger calls.Idle i = absurd i
-
-pub calling_runs : {A : Type 0} (kind : Kind) (c : ConnOf A) → IsCalling kind c → runs c.call ≡ true
-calling_runs kind c i = runs_on i.0 i.1 i.2 i.3 i.4 c.ledger c.call i.6
 
 -- what a poll has told, by what was made of it
 pub heard : {X : Type 0} (f : X → Turn) (answer : Poll Turn) (turn : Turn) (told x : X) → answer ≡ Ready turn → turn ≡ f told → told ≡ x → answer ≡ turn_of f (Ready x)

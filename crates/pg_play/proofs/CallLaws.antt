@@ -1,5 +1,5 @@
 -- One more poll of an exchange of a call that is played.
-use Rattle.std.proofs.Common.{◌≡◌, ◌≢◌, ◌⊎◌, ℕ, ◌+◌, ◌*◌, ◌<◌, ◌≤◌, inl, inr, cond, Bool, true, false, List, [], ◌∷◌, ◌++◌, length, map, refl, sym, ap, ◌∙◌, subst, arith, append_assoc, Option, Some, None, Ok, Err, not, ◌&&◌, nat_eq, leb, Result, ◌-◌, ◌==◌}
+use Rattle.std.proofs.Common.{◌≡◌, ◌≢◌, ◌⊎◌, ℕ, ◌+◌, ◌*◌, ◌<◌, ◌≤◌, inl, inr, cond, Bool, true, false, List, [], ◌∷◌, ◌++◌, length, map, refl, sym, ap, ◌∙◌, subst, arith, append_assoc, append-nil, Option, Some, None, Ok, Err, not, ◌&&◌, nat_eq, leb, Result, ◌-◌, ◌==◌}
 use Rattle.pg_rule.specs.Caches.{entry_at}
 use Rattle.pg_rule.specs.declared.cache.Entry.{Entry}
 use Rattle.pg_request.specs.Queries.{QueryText, ArgumentsSeen}
@@ -12,7 +12,7 @@ use Rattle.pg_call.specs.declared.statement.After.{After}
 use Rattle.pg_call.specs.declared.statement.Goal.TheVariants as goals
 use Rattle.pg_call.specs.declared.statement.Goal.{Goal}
 use Rattle.pg_call.specs.declared.kind.Keeping.TheVariants as keepings
-use Rattle.pg_conn.proofs.StateLaws.{same_kept}
+use Rattle.pg_conn.proofs.StateLaws.{runs_on, same_kept}
 use Rattle.pg_conn.proofs.StatementLaws.{asked_main}
 use Rattle.pg_conn.specs.Statements.{asked_by, begun_as, held_by, moved, number_for, prepare_by, query_by, run_or_describe, step_of, tell_or_describe, unmoved}
 use Rattle.pg_call.specs.Drains.{drain_fails, before_readys}
@@ -52,11 +52,11 @@ use Rattle.pg_call.specs.declared.calling.Call.TheVariants as calls
 use Rattle.pg_call.specs.declared.calling.Beat.{Beat}
 use Rattle.pg_call.specs.declared.calling.Beat.TheVariants as beats
 use Rattle.pg_call.specs.declared.ledger.Ledger.{Ledger}
-use Rattle.pg_call.specs.Requests.{copy_fail, spelled, CanBeSaid, IsRefusal, kind_of, change_of, messages_of, keeping_of, main_kind, goal_kind, after_kind, raw}
+use Rattle.pg_call.specs.Requests.{copy_fail, name_of, running_bound, spelled, CanBeSaid, IsRefusal, kind_of, change_of, messages_of, keeping_of, main_kind, goal_kind, after_kind, raw}
 use Rattle.pg_call.specs.Calls.{CallIs, Leaves, answer_by}
 use Rattle.pg_call.proofs.LeaveLaws.{leaves_call, call_well}
 use Rattle.pg_conn.proofs.CleanupLaws.{stays_unfed}
-use Rattle.pg_conn.specs.Connections.{ConnSeen, idle, begins_copy, copies, owned, with_copy_fail, begun_with, ends_copy, is_fed, unfed, runs, ended, settled, cleaned, left, may_open, has_room_for, with_group, queued_group, rollback, ConnOf, seen_by, depth_behind, rolled, rolled_back, counted_anew, with_depth, Standing, standing, restated, resolved, resolved_by, started_call}
+use Rattle.pg_conn.specs.Connections.{ConnSeen, idle, begins_copy, copies, owned, with_copy_fail, begun_with, ends_copy, is_fed, unfed, runs, ended, settled, cleaned, left, may_open, has_room_for, with_group, queued_group, rollback, ConnOf, seen_by, depth_behind, rolled, rolled_back, counted_anew, with_depth, Standing, standing, restated, resolved, resolved_by}
 use Rattle.pg_conn.specs.Turns.{ends_request, Tells, IsWaited, BeatCause, IsSayable, Refuses, Refused, broken_by, is_flushed, behind, TakesBeat, EndsFlush, HasAllRoom, HasRoomBeside, kept_for, IsAsked, flushes}
 use Rattle.pg_report.specs.declared.outcome.Item.{Item}
 use Rattle.pg_report.specs.declared.outcome.Answer.{Answer}
@@ -72,8 +72,10 @@ use Rattle.pg_play.specs.Shown.{item_of, items_with, has_rows, answer_of, IsWant
 use Rattle.pg_startup.specs.Flows.{Flows}
 use Rattle.pg_startup.proofs.FlowLaws.{Flows-then, Flows-none, flows_begun}
 use Rattle.pg_play.proofs.WaitLaws.{still_grown, waits_none, waits_on}
-use Rattle.pg_play.specs.Calls.{Bounds, bounds, parted, failed_by, again, change_fed, change_for, copy_behind, Waited, Went, InPlay, IsPlayingOn, IsPlaying, EndsStarved, IsDropped, IsDroppedAs, broken_after, HasWaitedFew, IsFresh, EndsAtOnce, EndsOn, HasEnded, IsLast, EndsCall, PlaysOne, outcome_of, Ended, StopsBy, behind_end}
-use Rattle.pg_conn.proofs.TurnLaws.{tells_from, spelled-append, counts-append, seen_cleaned, seen_unfed, cleaned_call, kept}
+use Rattle.pg_play.specs.Calls.{Bounds, bounds, failed_by, again, change_fed, change_for, copy_behind, Waited, Went, InPlay, IsPlayingOn, IsPlaying, EndsStarved, IsDropped, IsDroppedAs, broken_after, HasWaitedFew, IsFresh, EndsAtOnce, EndsOn, HasEnded, IsLast, EndsCall, PlaysOne, outcome_of, Ended, StopsBy, behind_end}
+use Rattle.pg_conn.specs.Looking.{Learns}
+use Rattle.pg_conn.proofs.ViewLaws.{seen_left}
+use Rattle.pg_conn.proofs.TurnLaws.{Learns-then, run_asks, tells_from, spelled-append, counts-append, cleaned_call, kept}
 
 -- ---- the stream, over any number of polls
 
@@ -231,14 +233,15 @@ waits_freely left b c (inr (inr (inl x))) = inr (inr (inl x))
 waits_freely left b c (inr (inr (inr x))) = inl x.1.2
 
 pub went_on : (left : ℕ) (a b c : ConnSeen) (said more : List FrontendMessage) (q : List ℕ) (fs gs : List Frame) → Went a b said fs → Moves (record b.stream { left = left }) c.stream q gs → spelled more ≡ q → GrewBy (count_by ends_request more) b.groups c.groups
-    → GrewBy (length (heard gs)) b.heard c.heard → (c.sent ≡ b.sent) × (c.read ≡ b.read) × (c.rule ≡ b.rule) × (standing c ≡ standing b) → NoneWaited b.stream c.stream ⊎ PendingCause (record b.stream { left = left }) c.stream → Went a c (said ++ more) (fs ++ gs)
-went_on left a b c said more q fs gs w m e g h s waited = record {
+    → GrewBy (length (heard gs)) b.heard c.heard → (c.sent ≡ b.sent) × (c.read ≡ b.read) × (c.rule ≡ b.rule) × (standing c ≡ standing b) → Learns (heard gs) b.learnt c.learnt → NoneWaited b.stream c.stream ⊎ PendingCause (record b.stream { left = left }) c.stream → Went a c (said ++ more) (fs ++ gs)
+went_on left a b c said more q fs gs w m e g h s l waited = record {
   flows = subst (λ (t : List ℕ). Flows a.stream c.stream t (fs ++ gs)) (ap (λ (t : List ℕ). spelled said ++ t) (sym e) ∙ sym (spelled-append said more)) (Flows-then a.stream b.stream c.stream (spelled said) q fs gs w.flows (flows_begun b.stream c.stream left q gs m));
   tallies = Tallies-then a.stream b.stream c.stream w.tallies (tallies_begun left b.stream c.stream m.tallies);
   waits = waits_on a.stream b.stream c.stream fs gs w.waits (AreFrames-append fs gs w.flows.read.3 m.read.3) m.read (waits_freely left b.stream c.stream waited);
   groups = GrewBy-then _ _ _ _ _ _ w.groups g (count-append ends_request said more);
   heard = GrewBy-then _ _ _ _ _ _ w.heard h (ap (λ (t : List Frame). length t) (heard-append fs gs) ∙ length-append (heard fs) (heard gs));
   started = (s.0 ∙ w.started.0, s.1 ∙ w.started.1, s.2 ∙ w.started.2, s.3 ∙ w.started.3);
+  learns = subst (λ (x : List Frame). Learns x a.learnt c.learnt) (sym (heard-append fs gs)) (Learns-then (heard fs) (heard gs) a.learnt b.learnt c.learnt w.learns l);
 }
 
 -- the first poll of a call took no frame, where it left the stream as it was
@@ -327,7 +330,7 @@ after_beat left old first a b m r before waits items beat said fs i t whole says
       said ++ told.0,
       fs ++ t.1,
       record {
-        went = went_on left a b m said told.0 t.0 fs t.1 i.went moves told.1 told.2 grew turns.started (waits_or_not (begun_with left b) m beat turns.cause);
+        went = went_on left a b m said told.0 t.0 fs t.1 i.went moves told.1 told.2 grew turns.started (subst (λ (x : List Frame). Learns x b.learnt m.learnt) (sym turns.hears) turns.learns) (waits_or_not (begun_with left b) m beat turns.cause);
         broken = whole;
         asked = i.asked;
         room = λ h. subst (λ (n : ℕ). HasRoomBeside n m) (same_kept b m turns.started.2 turns.started.3) (turns.room (kept_for b) (omega arith) (i.room h));
@@ -410,6 +413,7 @@ went_none a c k = rw k (record {
   groups = (omega arith, omega arith, omega arith);
   heard = (omega arith, omega arith, omega arith);
   started = (refl, refl, refl, refl);
+  learns = ([], tt, refl);
 })
 
 -- what is no copy from the client leaves none
@@ -448,7 +452,7 @@ abbrev faulted : Error → ConnSeen → ConnSeen
 faulted e c = record c { broken = broken_by (beats.Ends (Err e)) }
 
 went_faulted : (a c : ConnSeen) (e : Error) (said : List FrontendMessage) (fs : List Frame) → Went a c said fs → Went a (faulted e c) said fs
-went_faulted a c e said fs w = record { flows = w.flows; tallies = w.tallies; waits = w.waits; groups = w.groups; heard = w.heard; started = w.started }
+went_faulted a c e said fs w = record { flows = w.flows; tallies = w.tallies; waits = w.waits; learns = w.learns; groups = w.groups; heard = w.heard; started = w.started }
 
 whole_again : (c : ConnSeen) (o : Option ServerFault) → c.broken ≡ None → record (record c { broken = o }) { broken = None } ≡ c
 whole_again c o e = ap (λ (x : Option ServerFault). record c { broken = x }) (sym e)
@@ -479,6 +483,7 @@ unleft a m e = ap (λ (o : Option ServerFault). record m { broken = o; stream = 
 ends_last : (r : Request) (reply : List BackendMessage) (status : TransactionStatus) (answer : CallAnswer) → answer_by r reply status ≡ Ok answer → ((next : Request) → answer ≡ answers.Next next → ⊥) → IsLast r
 ends_last (requests.Describe x) reply status answer e n d = n _ (sym (the_ok _ _ e))
 ends_last (requests.Evict eviction) reply status answer e n d = n _ (sym (the_ok _ _ e))
+ends_last (requests.Look lookup) reply status answer e n d = n _ (sym (the_ok _ _ e))
 ends_last (requests.Run bound) reply status answer e n d = cc
 ends_last _ reply status answer e n d = cc
 
@@ -540,8 +545,9 @@ rows_asked (requests.FetchAll query) reply status answer e h = refl
 rows_asked (requests.FetchOptional query) reply status answer e h = refl
 rows_asked (requests.FetchOne query) reply status answer e h = refl
 rows_asked (requests.Describe x) reply status answer e h = refl
-rows_asked (requests.Run bound) reply status answer e h = refl
+rows_asked (requests.Run bound) reply status answer e h = rw (append-nil (running_bound bound ++ []), append-nil (running_bound bound)) (run_asks (name_of bound.statement) bound.arguments.types bound.arguments.values bound.again)
 rows_asked (requests.Evict eviction) reply status answer e h = refl
+rows_asked (requests.Look lookup) reply status answer e h = refl
 rows_asked requests.Ping reply status answer e h = refl
 rows_asked (requests.Clear statements) reply status answer e h = absurd (units_none answer e h)
 rows_asked (requests.Prepare prepared) reply status answer e h = absurd (tells_none answer (the_ok _ _ e) h)
@@ -611,19 +617,12 @@ goes_err limits (Some fault) first a c r waits shown err l e h = rw (same_error 
 -- ---- a call that is given up
 
 -- a call that runs can be polled again
-pub call_runs : (start : Ledger) (r : Request) (said : List FrontendMessage) (hs : List Frame) (items : List CallItem) (ledger : Ledger) (call : Call) → CallIs start r said hs items ledger call → runs call ≡ true
-call_runs start r said hs items ledger (calls.Asked asked) i = refl
-call_runs start r said hs items ledger (calls.Waiting w) i = refl
-call_runs start r said hs items ledger (calls.Own reply) i = refl
-call_runs start r said hs items ledger calls.Closing i = refl
-call_runs start r said hs items ledger calls.Idle i = absurd i
-
 drops : (limits : Limits) (o : Option ServerFault) (most : ℕ) (first : StreamSeen) (a c : ConnSeen) (r : Request) (waits : ℕ) (items : List CallItem) (shown : List Item) (said : List FrontendMessage) (fs : List Frame) → a.broken ≡ None → shown ≡ map item_of items → InPlay first a c r waits items said fs
     → ((CanBeSaid r → ⊥) → ⊥) → (is_flushed a ≡ true → ⊥) → waits ≤ limits.polls → IsDropped (bounds limits) first a c [] [] shown → length shown ≤ limits.most → length items + again r ≤ limits.most → StopsBy (bounds limits) first a c r shown ends.Dropped
 drops limits o most first a c r waits items shown said fs e k i n m l d b x =
     let ended = ended_whole (bounds limits) first a c r shown ends.Dropped said fs e i.went i.broken (waits, i.waited, (λ n. absurd (n refl), l)) i.room (omega (arith, i.calls, l, x)) (not_at_once a c r shown ends.Dropped fs n m)
     (items, k, leaves_call a.ledger r said (heard fs) items c.ledger c.call i.call, call_well a.ledger r said (heard fs) items c.ledger c.call i.call, d, b) tt in
-    (c, ended, inr (call_runs a.ledger r said (heard fs) items c.ledger c.call i.call, refl, λ x. refl, refl))
+    (c, ended, inr (runs_on a.ledger r said (heard fs) items c.ledger c.call i.call, refl, λ x. refl, refl))
 
 pub drops_waiting : (limits : Limits) (o : Option ServerFault) (first : StreamSeen) (a c : ConnSeen) (r : Request) (waits : ℕ) (shown : List Item) → waits + 1 ≡ limits.polls → a.broken ≡ o → PlayBeat o limits.most first a c r waits shown beats.Waits → StopsBy (bounds limits) first a c r shown ends.Dropped
 drops_waiting limits None first a c r waits shown k e h =
@@ -672,7 +671,7 @@ goes_unkept limits None first a c r waits old new item f l k t e h =
     let more = leaves_call a.ledger r h.5.0 (heard h.5.1) (h.0 ++ item ∷ []) m.ledger m.call after.tells in
     let ended = ended_whole limits first a m r old (ends.Err errors.OutOfMemory) h.5.0 h.5.1 e after.went after.broken (ends_few limits first m.stream waits (ends.Err errors.OutOfMemory) l (after.over.waited (λ d. absurd cc))) after.room (few_calls first m r waits (length h.0) limits l (below_items old h.0 limits.most h.1 h.2) after.over.calls) (not_at_once a m r old (ends.Err errors.OutOfMemory) h.5.1 after.unsaid after.unflushed)
     (inl (h.0, h.1, h.2, inr (leaves_fewer a.ledger r h.5.0 (heard h.5.1) h.0 item m.ledger more, call_well a.ledger r h.5.0 (heard h.5.1) (h.0 ++ item ∷ []) m.ledger m.call after.tells, inl (tt, tt)))) tt in
-    rw (k, t) (m, ended, inr (call_runs a.ledger r h.5.0 (heard h.5.1) (h.0 ++ item ∷ []) m.ledger m.call after.tells, h.4, λ x. refl, refl))
+    rw (k, t) (m, ended, inr (runs_on a.ledger r h.5.0 (heard h.5.1) (h.0 ++ item ∷ []) m.ledger m.call after.tells, h.4, λ x. refl, refl))
 goes_unkept limits (Some fault) first a c r waits old new item f l k t e h = let x = h.1 in absurd cc
 
 -- ---- the first poll
@@ -692,7 +691,7 @@ pub playing_one : (most : ℕ) (first : StreamSeen) (a b : ConnSeen) (r : Reques
 playing_one most first a b r waits shown i = by a.broken i
   where
     by : (o : Option ServerFault) → IsPlayingOn o most first a b r waits shown → runs b.call ≡ true
-    by None i = resolved_runs b (call_runs a.ledger r i.1 (heard i.2) i.0 (resolved b).ledger (resolved b).call i.5.call)
+    by None i = resolved_runs b (runs_on a.ledger r i.1 (heard i.2) i.0 (resolved b).ledger (resolved b).call i.5.call)
     by (Some fault) i = i.5
 
 -- an exchange that was not polled yet
@@ -705,6 +704,7 @@ fresh_play a r e k c = record {
     groups = (omega arith, omega arith, omega arith);
     heard = (omega arith, omega arith, omega arith);
     started = (refl, refl, refl, refl);
+    learns = ([], tt, refl);
   };
   broken = e;
   call = subst (λ (c : Call). CallIs a.ledger r [] [] [] a.ledger c) (sym k) (refl, refl, refl, refl, refl);
@@ -746,6 +746,11 @@ main_changes (requests.Evict eviction) = by eviction.after
     by : (after : After) → changes.Stays ≡ change_of (after_kind after)
     by (afters.Run bound) = refl
     by (afters.Prepare prepared) = refl
+main_changes (requests.Look lookup) = by lookup.extended.goal
+  where
+    by : (goal : Goal) → changes.Stays ≡ change_of (goal_kind goal)
+    by (goals.Run how) = refl
+    by goals.Prepare = refl
 main_changes _ = refl
 
 pub asked_changes : (rule : Rule) (r : Request) → change_of (kind_of (asked_by rule r)) ≡ change_of (main_kind r)
@@ -755,6 +760,7 @@ pub begun_changes : (rule : Rule) (r : Request) → IsWanted r → change_of (ma
 begun_changes rule (requests.Describe x) w = absurd w
 begun_changes rule (requests.Run bound) w = absurd w
 begun_changes rule (requests.Evict eviction) w = absurd w
+begun_changes rule (requests.Look lookup) w = absurd w
 begun_changes rule (requests.Clear statements) w = by (nat_eq (length rule.cache.entries) 0)
   where
     by : (b : Bool) → change_of (main_kind (cond b requests.Flush (requests.Clear statements))) ≡ changes.Stays
@@ -783,6 +789,7 @@ first_changes rule r w = by r w (asked_main rule (begun_as rule r)) (asked_chang
     by (requests.Describe x) w main same = absurd w
     by (requests.Run bound) w main same = absurd w
     by (requests.Evict eviction) w main same = absurd w
+    by (requests.Look lookup) w main same = absurd w
     by (requests.Clear statements) w main same = other (requests.Clear statements) (main_kind (begun_as rule (requests.Clear statements))) refl (clears (nat_eq (length rule.cache.entries) 0) statements) main same
     by (requests.Execute query) w main same = other (requests.Execute query) (kinds.Run hows.Execute) refl (λ e. cc) main same
     by (requests.ExecuteMany query) w main same = other (requests.ExecuteMany query) (kinds.Run hows.ExecuteMany) refl (λ e. cc) main same
@@ -806,6 +813,7 @@ pub wanted_held : (rule : Rule) (r : Request) → IsWanted r → held_by rule (b
 wanted_held rule (requests.Describe x) w = absurd w
 wanted_held rule (requests.Run bound) w = absurd w
 wanted_held rule (requests.Evict eviction) w = absurd w
+wanted_held rule (requests.Look lookup) w = absurd w
 wanted_held rule (requests.Clear statements) w = by (nat_eq (length rule.cache.entries) 0)
   where
     by : (b : Bool) → held_by rule (cond b requests.Flush (requests.Clear statements)) ≡ rule
@@ -818,6 +826,7 @@ pub wanted_stays : (rule : Rule) (r : Request) → IsWanted r → unmoved (keepi
 wanted_stays rule (requests.Describe x) w = absurd w
 wanted_stays rule (requests.Run bound) w = absurd w
 wanted_stays rule (requests.Evict eviction) w = absurd w
+wanted_stays rule (requests.Look lookup) w = absurd w
 wanted_stays rule (requests.Prepare prepared) w = ap (λ (o : Option (List FieldDescription)). unmoved (keeping_of (prepare_by rule prepared o)) rule) w ∙ by (entry_at prepared.sql rule.cache.entries)
   where
     by : (o : Option Entry) → unmoved (keeping_of (tell_or_describe rule prepared o)) rule ≡ rule
@@ -861,7 +870,7 @@ once_idle a c r shown end fs h = record {
 pub given_up : (limits : Bounds) (first : StreamSeen) (a c : ConnSeen) (r : Request) (shown : List Item) (end : End) → HasEnded limits first a c r shown end → HasEnded limits first a (idle c) r shown end
 given_up limits first a c r shown end h =
     let w = h.2.went in
-    (h.0, h.1, record { went = record { flows = w.flows; tallies = w.tallies; waits = w.waits; groups = w.groups; heard = w.heard; started = w.started }; broken = h.2.broken; kept = h.2.kept; few = h.2.few; room = λ x. let y = h.2.room x in omega (arith, y); calls = h.2.calls; at_once = λ o. once_idle a c r shown end h.1 (h.2.at_once o); ends = ends_idle a.broken limits first a c r h.0 (heard h.1) shown end h.2.ends }, h.3)
+    (h.0, h.1, record { went = record { flows = w.flows; tallies = w.tallies; waits = w.waits; learns = w.learns; groups = w.groups; heard = w.heard; started = w.started }; broken = h.2.broken; kept = h.2.kept; few = h.2.few; room = λ x. let y = h.2.room x in omega (arith, y); calls = h.2.calls; at_once = λ o. once_idle a c r shown end h.1 (h.2.at_once o); ends = ends_idle a.broken limits first a c r h.0 (heard h.1) shown end h.2.ends }, h.3)
 
 -- a call that has ended is not given up once more
 pub left_idle : (c : ConnSeen) → c.call ≡ calls.Idle → left c ≡ c
@@ -915,6 +924,26 @@ unfed_call over c = by (copies c.change c.groups && (not over && leb (length (sp
     by true = refl
     by false = refl
 
+-- what is learnt stays
+unfed_learnt : (over : Bool) (c : ConnSeen) → (unfed over c).learnt ≡ c.learnt
+unfed_learnt over c = by (copies c.change c.groups && (not over && leb (length (spelled (copy_fail ∷ []))) c.stream.spare))
+  where
+    by : (b : Bool) → (cond b (with_copy_fail c) (owned c)).learnt ≡ c.learnt
+    by true = refl
+    by false = refl
+
+pub copy_learnt : (parting : Parting) (end : End) (c : ConnSeen) → (copy_behind parting end c).learnt ≡ c.learnt
+copy_learnt parting (ends.Ok answer) c = refl
+copy_learnt parting (ends.Err e) c = unfed_learnt (ends_copy e) c
+copy_learnt partings.None ends.Dropped c = unfed_learnt false c
+copy_learnt partings.Left ends.Dropped c = unfed_learnt false c
+copy_learnt partings.Unsaid ends.Dropped c = unfed_learnt false c
+copy_learnt (partings.Failed message) ends.Dropped c = by (begins_copy c.change)
+  where
+    by : (b : Bool) → (cond b (failed_by message c) (unfed false c)).learnt ≡ c.learnt
+    by true = refl
+    by false = unfed_learnt false c
+
 copy_call : (parting : Parting) (end : End) (c : ConnSeen) → (copy_behind parting end c).call ≡ c.call
 copy_call parting (ends.Ok answer) c = refl
 copy_call parting (ends.Err e) c = unfed_call (ends_copy e) c
@@ -938,16 +967,6 @@ plays_one limits first a c d r shown end out g k e = rw e (by g.2)
         (idle g.0, given_up limits first a g.0 r shown end g.1, refl, k ∙ ap left is ∙ left_running g.0 running ∙ sym (behind_other end g.0 other) ∙ ap (λ (x : ConnSeen). behind_end end x) (sym (same (idle g.0))), refl)
 
 -- ---- over a link
-
-pub seen_left : {A : Type 0} (seen : A → LinkSeen) (c : ConnOf A) → seen_by seen (left c) ≡ left (seen_by seen c)
-seen_left {A} seen c = by (runs c.call)
-  where
-    by : (r : Bool) → seen_by seen (cond r (idle (cleaned (unfed false c))) c) ≡ cond r (idle (cleaned (unfed false (seen_by seen c)))) (seen_by seen c)
-    by false = refl
-    by true = ap (λ (x : ConnSeen). idle x) (seen_cleaned seen (unfed false c) ∙ ap (λ (x : ConnSeen). cleaned x) (seen_unfed seen false c))
-
-pub seen_started : {A : Type 0} (seen : A → LinkSeen) (r : Request) (c : ConnOf A) → seen_by seen (started_call r c) ≡ started_call r (seen_by seen c)
-seen_started seen r c = ap (λ (x : ConnSeen). counted_anew (record x { call = calls.Asked (begun_as x.rule r); change = change_of (kind_of r); keeping = keepings.Stays })) (seen_left seen c)
 
 seen_rolled_one : {A : Type 0} (seen : A → LinkSeen) (c : ConnOf A) → seen_by seen (rolled (ended (counted_anew c))) ≡ rolled (ended (counted_anew (seen_by seen c)))
 seen_rolled_one {A} seen c = by (nat_eq c.rule.depth 0) (has_room_for (spelled (rollback (c.rule.depth - 1))) (record (ended (counted_anew c)) { rule = with_depth (c.rule.depth - 1) c.rule }))

@@ -103,7 +103,7 @@ owes_requests start at c st = omega (arith, st.ledger, st.requests)
 -- what an exchange on a broken connection leaves, and answers
 pub kept_call : (start : StreamSeen) (old : Counted) (at : Place) (a b : ConnSeen) (r : Request) (said : List FrontendMessage) (own : List Group) (fs : List Frame) (end : End) (fault : ServerFault) → StandsAt start at a → at.broken ≡ Some fault → end ≡ ends.Err (errors.Protocol (protocol.Server fault)) → said ≡ [] → own ≡ [] → fs ≡ [] → idle b ≡ idle (asking r old a)
     → KeepsFault fault at end (next_place at b said own fs end)
-kept_call start old at a b r said own fs end fault st w k s o f i = (still_place at b said own fs end (record at.seen { left = b.stream.left; waits = b.stream.waits; moves = b.stream.moves }) seen s o f (still at.broken w), λ other e. same other (sym e ∙ k))
+kept_call start old at a b r said own fs end fault st w k s o f i = (still_place at b said own fs end (record at.seen { left = b.stream.left; waits = b.stream.waits; moves = b.stream.moves }) seen s o f (still at.broken w) (ap (λ (c : ConnSeen). c.learnt) i ∙ st.learnt), λ other e. same other (sym e ∙ k))
   where
     seen : b.stream ≡ record at.seen { left = b.stream.left; waits = b.stream.waits; moves = b.stream.moves }
     seen = ap (λ (c : ConnSeen). record c.stream { left = b.stream.left; waits = b.stream.waits; moves = b.stream.moves }) i ∙ ap (λ (x : StreamSeen). record x { left = b.stream.left; waits = b.stream.waits; moves = b.stream.moves }) st.seen
@@ -151,7 +151,7 @@ called_exchange start first old at a b step shown end said fs st later fits p z 
       one = record {
         own = s.own;
         slice = heard fs;
-        queued = queued_step a.broken (limits_of step) start first old at a b step told said fs shown found.0 st e.ends s;
+        queued = queued_step a.broken (limits_of step) start first old at a b step told said fs shown found.0 st e.ends s went.learns;
         sends = subst (λ (x : StreamSeen). Sends x b.stream (spelled (queued_by at s.own (heard fs) end))) st.seen
             (subst (λ (m : List FrontendMessage). Sends a.stream b.stream (spelled m)) (said_is_queued start at a r said (heard fs) found.0 b.ledger end st s) went.flows.sent);
         told = told_step a.broken (limits_of step) start first old at a b step told said fs found.0 st e.ends s found.2;

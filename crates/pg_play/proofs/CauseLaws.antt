@@ -1,5 +1,5 @@
 -- Why a step ended.
-use Rattle.std.proofs.Common.{◌≡◌, ℕ, ◌+◌, ◌^◌, ◌<◌, Bool, false, cond, inl, inr, List, [], ◌∷◌, ◌++◌, length, map, refl, sym, ap, ◌∙◌, subst, arith, Option, Some, None, Err}
+use Rattle.std.proofs.Common.{◌≡◌, ℕ, zero, suc, ◌+◌, ◌^◌, ◌<◌, Bool, false, cond, inl, inr, List, [], ◌∷◌, ◌++◌, length, map, refl, sym, ap, ◌∙◌, subst, arith, Option, Some, None, Err}
 use Rattle.pg_wire.specs.declared.status.TransactionStatus.{TransactionStatus}
 use Rattle.std.specs.List.{count_by, AllByRecursion}
 use Rattle.std.proofs.lemmas.List.{length-append, map-append, nil_from_length}
@@ -20,6 +20,8 @@ use Rattle.pg_call.specs.declared.answer.CallItem.{CallItem}
 use Rattle.pg_call.specs.declared.answer.CallItem.TheVariants as call_items
 use Rattle.pg_call.specs.declared.ledger.Ledger.{Ledger}
 use Rattle.pg_exchanges.specs.Expecting.{Widths, BeginsKnowing}
+use Rattle.pg_call.specs.declared.request.Request.TheVariants as requests
+use Rattle.pg_call.specs.declared.statement.Lookup.{Lookup}
 use Rattle.pg_call.specs.Requests.{Group, groups_of, widths_of, heading_of}
 use Rattle.pg_call.specs.Items.{own_items, rows_in}
 use Rattle.pg_call.specs.Drains.{after_readys}
@@ -27,21 +29,23 @@ use Rattle.pg_call.specs.Calls.{Leaves, CallEnds, EndsAstray, IsFrontFault}
 use Rattle.pg_call.proofs.DrainLaws.{count-push, after_from}
 use Rattle.pg_call.proofs.CallLaws.{copies_plain}
 use Rattle.pg_conn.specs.Connections.{ConnSeen}
-use Rattle.pg_conn.specs.Turns.{FrontFails, IsMissed}
+use Rattle.pg_conn.specs.Turns.{FrontFails, IsMissed, LookFails}
 use Rattle.pg_report.specs.declared.outcome.Item.{Item}
 use Rattle.pg_report.specs.declared.outcome.End.{End}
 use Rattle.pg_report.specs.declared.outcome.End.TheVariants as ends
+use Rattle.pg_script.specs.declared.step.Call.{Call}
+use Rattle.pg_script.specs.declared.step.Call.TheVariants as calls
 use Rattle.pg_script.specs.declared.step.Step.{Step}
 use Rattle.pg_play.specs.Shown.{parting_of, request_of, is_row, item_of}
 use Rattle.pg_script.specs.declared.step.Parting.{Parting}
 use Rattle.pg_script.specs.declared.step.Parting.TheVariants as partings
 use Rattle.pg_play.specs.Calls.{IsDroppedAs as HasDroppedAs, IsOpened, Waited, EndsOn, EndsStarved, limits_of, outcome_of, Counted, asking}
 use Rattle.pg_play.specs.Places.{Place, readies, refuses_copy}
-use Rattle.pg_play.specs.Causes.{IsFront, IsUnlawful, ShowsFault, IsAskedToCopy, HasNoRow, Causes, IsStarved, AnsweredPending, HasOpened, IsDropped, IsDroppedAs, IsParted, HasCause, BeginsNone}
+use Rattle.pg_play.specs.Causes.{IsFront, IsUnlawful, ShowsFault, IsAskedToCopy, HasNoRow, Causes, IsStarved, AnsweredPending, FailsToLook, HasOpened, IsDropped, IsDroppedAs, IsParted, HasCause, BeginsNone}
 use Rattle.pg_play.specs.Plays.{StandsAt}
 use Rattle.pg_play.proofs.PartLaws.{no_error}
 use Rattle.pg_play.proofs.StepLaws.{Summary, QueuedOwn, begins_one}
-use Rattle.pg_play.proofs.PlaceLaws.{next_place, ended_next}
+use Rattle.pg_play.proofs.PlaceLaws.{IsLookError, look_errors, next_place, ended_next}
 use Rattle.pg_play.proofs.ToldLaws.{main_after, queued_one, fine_own, fine_carries}
 use Rattle.pg_play.proofs.ShownLaws.{items_told, not_found, begun_failed}
 
@@ -193,6 +197,27 @@ call_cause start at a b step said fs items items' copied end (errors.Protocol (p
 call_cause start at a b step said fs items items' copied end (errors.Protocol _) st s h = absurd h
 call_cause start at a b step said fs items items' copied end _ st s h = absurd h
 
+-- ---- a lookup that fails
+
+look_call : (d : ℕ) (call : Call) (lookup : Lookup) → request_of d call ≡ requests.Look lookup → call ≡ calls.Look lookup
+look_call d (calls.Look l) lookup e = let same : l ≡ lookup = cc in ap (λ (x : Lookup). calls.Look x) same
+look_call zero calls.Commit lookup e = absurd cc
+look_call (suc left) calls.Commit lookup e = absurd cc
+look_call zero calls.Rollback lookup e = absurd cc
+look_call (suc left) calls.Rollback lookup e = absurd cc
+look_call d _ lookup e = absurd cc
+
+look_cause : (at : Place) (step : Step) (own : List Group) (slice : List Frame) (next : Place) (e : Error) → LookFails (request_of at.rule.depth step.call) slice e → Causes at step own slice next e
+look_cause at step own slice next e h = by e fails (look_errors (request_of at.rule.depth step.call) slice e h)
+  where
+    fails : FailsToLook step slice e
+    fails = (h.0, look_call at.rule.depth step.call h.0 h.1, h.2)
+
+    by : (e : Error) → FailsToLook step slice e → IsLookError e → Causes at step own slice next e
+    by e f (inl memory) = subst (Causes at step own slice next) (sym memory) tt
+    by e f (inr (inl (oids, is))) = subst (Causes at step own slice next) (sym is) (subst (FailsToLook step slice) is f)
+    by e f (inr (inr (place, is))) = subst (Causes at step own slice next) (sym is) (subst (FailsToLook step slice) is f)
+
 -- ---- an end, of whatever kind
 
 -- a copy from the client that was given up is open
@@ -217,7 +242,8 @@ pub cause_step : (o : Option ServerFault) (start first : StreamSeen) (old : Coun
 cause_step None start first old at a b step said fs shown (ends.Ok told) items st w h s = tt
 cause_step None start first old at a b step said fs shown (ends.Err e) items st w (inl (xs, k, l, inl h)) s = call_cause start at a b step said fs xs items (refuses_copy (ends.Err e)) (ends.Err e) e st s h
 cause_step None start first old at a b step said fs shown (ends.Err e) items st w (inl (xs, k, l, inr (left, well, inl (heard_so, missed)))) s = stream_cause start old at a b step said fs items (refuses_copy (ends.Err e)) (ends.Err e) e st s heard_so missed
-cause_step None start first old at a b step said fs shown (ends.Err e) items st w (inl (xs, k, l, inr (left, well, inr front))) s = front_cause start at a b step said fs items xs (refuses_copy (ends.Err e)) (ends.Err e) e st s left front
+cause_step None start first old at a b step said fs shown (ends.Err e) items st w (inl (xs, k, l, inr (left, well, inr (inl front)))) s = front_cause start at a b step said fs items xs (refuses_copy (ends.Err e)) (ends.Err e) e st s left front
+cause_step None start first old at a b step said fs shown (ends.Err e) items st w (inl (xs, k, l, inr (left, well, inr (inr look)))) s = look_cause at step s.own (heard fs) (next_place at b said s.own fs (ends.Err e)) e look
 cause_step None start first old at a b step said fs shown (ends.Err e) items st w (inr (xs, k, z, f)) s = subst (λ (x : Error). Causes at step s.own (heard fs) (next_place at b said s.own fs (ends.Err e)) x) (sym z) tt
 cause_step None start first old at a b step said fs shown ends.Dropped items st w h s = inr (parted_step start first old at a b step said fs shown items st h s)
 cause_step (Some fault) start first old at a b step said fs shown end items st w h s = by end h.0 s

@@ -1,6 +1,7 @@
 -- Where neither the link nor the server failed, no step ends by a failure of theirs.
-use Rattle.std.proofs.Common.{◌≡◌, ◌⊎◌, ℕ, zero, suc, Bool, true, false, inl, inr, List, [], ◌∷◌, ◌++◌, length, refl, sym, ap, ◌∙◌, subst, append_assoc, append-nil, Some, None, arith}
+use Rattle.std.proofs.Common.{◌≡◌, ◌⊎◌, ℕ, zero, suc, Bool, true, false, inl, inr, List, [], ◌∷◌, ◌++◌, length, refl, sym, ap, ◌∙◌, subst, append_assoc, append-nil, Option, Some, None, arith}
 use Rattle.std.specs.List.{AllByRecursion}
+use Rattle.std.proofs.lemmas.Option.{same_Some}
 use Rattle.pg_wire.specs.declared.error.Error.{Error}
 use Rattle.pg_wire.specs.declared.error.Error.TheVariants as errors
 use Rattle.pg_wire.specs.declared.error.IoCause.TheVariants as io
@@ -21,12 +22,13 @@ use Rattle.pg_stream.specs.Links.{LinkSeen, NoneFalls, Rose}
 use Rattle.pg_stream.specs.Streams.{HeaderFault, StreamSeen}
 use Rattle.pg_stream.specs.Asynchronous.{IsSaid}
 use Rattle.pg_stream.proofs.Known.{NoneFalls-refl, NoneFalls-then}
-use Rattle.pg_call.specs.Requests.{Group, said_in}
+use Rattle.pg_call.specs.Requests.{Group, said_in, width_of}
 use Rattle.pg_report.specs.declared.outcome.End.{End}
 use Rattle.pg_report.specs.declared.outcome.End.TheVariants as ends
 use Rattle.pg_report.specs.declared.outcome.Outcome.{Outcome}
 use Rattle.pg_script.specs.declared.step.Step.{Step}
 use Rattle.pg_play.specs.Places.{Place}
+use Rattle.pg_play.specs.Settling.{handed_at}
 use Rattle.pg_play.specs.Causes.{IsAskedToCopy, Causes, IsDropped, IsDroppedAs, HasCause}
 use Rattle.pg_play.specs.Complete.{IsFaultless, IsFairError, WasCutShort, IsGivenUp, IsFairEnd, EndFairly, WhereFaultless}
 use Rattle.pg_script.specs.declared.step.Call.{Call}
@@ -34,12 +36,15 @@ use Rattle.pg_rule.specs.declared.rule.Rule.{Rule}
 use Rattle.pg_play.proofs.ExchangeLaws.{IsOf, first_is_of, next_is_of, wants_so}
 use Rattle.pg_play.proofs.SettleLaws.{left_frames, left_link}
 use Rattle.pg_play.specs.Plays.{Plays_call, Plays_exchange, Plays_exchanges, last_of, FirstIs, Hands, HandsOn, Plays_step, Plays_from, AsksForNoCopy}
-use Rattle.pg_call.specs.Replies.{awaits_first, begins_copy}
+use Rattle.pg_call.specs.Replies.{awaits_first, awaits_run, begins_copy}
 use Rattle.pg_call.proofs.RefusedLaws.{IsPlain, closing_plain, copies_begin, plain_after}
 use Rattle.pg_script.specs.declared.step.Call.TheVariants as calls
 use Rattle.pg_script.specs.declared.step.Parting.{Parting}
 use Rattle.pg_script.specs.declared.step.Parting.TheVariants as partings
-use Rattle.pg_play.specs.Shown.{parting_of, request_of, copies}
+use Rattle.pg_call.specs.declared.request.Request.{Request}
+use Rattle.pg_conn.specs.Statements.{asked_by}
+use Rattle.pg_report.specs.declared.outcome.Answer.TheVariants.{Unit as AnswersUnit}
+use Rattle.pg_play.specs.Shown.{ComesBehind, IsPartOf, LooksOn, parting_of, request_of, copies, exchange_for, handed_by, next_call}
 use Rattle.pg_play.proofs.RepliesLaws.{starts_copy, StartsNoCopy, all_prefix, replies_start_no_copy, replies_are_said}
 use Rattle.pg_play.proofs.LinkLaws.{Refutes, breaks_first, fault_breaks, broken_in, broken_stays, some_first, front_read, front_heard, taken_heard, hears_groups, unlawful_refuted}
 use Rattle.pg_wire.proofs.Each.{each_last}
@@ -127,6 +132,11 @@ plays_plain (suc d) calls.Commit n = tt
 plays_plain zero calls.Rollback n = tt
 plays_plain (suc d) calls.Rollback n = tt
 plays_plain d (calls.CloseAll statements) n = closing_plain (length statements)
+plays_plain d (calls.Run bound) n = by bound.again
+  where
+    by : (again : Option (List ℕ)) → IsPlain (awaits_run (width_of bound) again)
+    by None = tt
+    by (Some sql) = tt
 plays_plain d _ n = tt
 
 no_copy_asked : (at : Place) (step : Step) (own : List Group) (slice : List Frame) (tag : ℕ) → copies step.call ≡ false → IsAskedToCopy at step own slice tag → AllByRecursion StartsNoCopy slice → ⊥
@@ -152,7 +162,8 @@ fair_error first at call step own slice next last (errors.Protocol (protocol.Rep
 fair_error first at call step own slice next last (errors.Protocol (protocol.Caller fault)) part g a b n k c = (at.rule.depth, step.call, part.is_part, c.2)
 fair_error first at call step own slice next last (errors.BeginFailed status) part g a b n k c = (part.opens c.begins_it, c.other)
 fair_error first at call step own slice next last errors.InvalidSavePointStatement part g a b n k c = part.opens_with c.0.0
-fair_error first at call step own slice next last (errors.Protocol _) part g a b n k c = absurd c
+fair_error first at call step own slice next last (errors.Protocol (protocol.Types oids)) part g a b n k c = (c.0, subst (IsPartOf call) c.1 part.is_part)
+fair_error first at call step own slice next last (errors.ColumnDecode place) part g a b n k c = (c.0, subst (IsPartOf call) c.1 part.is_part)
 fair_error first at call step own slice next last errors.RowNotFound part g a b n k c = part.wants (wants_so step.call c.wants)
 fair_error first at call step own slice next last _ part g a b n k c = absurd c
 
@@ -205,19 +216,29 @@ exchange_fair first at whole step out next last part g a one l e k =
 abbrev AreOf : Call → List Step → Type 0
 AreOf call steps = AllByRecursion (λ step. IsOf call step.call) steps
 
-are_of : (call : Call) (at : Place) (steps : List Step) (outs : List Outcome) (last : Place) (run : Plays_exchanges at steps outs last) (rule : Rule) (first : Step) (response : List BackendMessage) (end : End) → IsOf call first.call → Hands rule first end response steps → HandsOn at steps outs last run → AreOf call steps
-are_of call at [] outs last run rule first response end of h k = tt
-are_of call at (s ∷ steps) [] last run rule first response end of h k = absurd run
-are_of call at (s ∷ steps) (o ∷ outs) last run rule first response end of h k =
-    let mine = next_is_of rule call first.call s.call response of h.1 in
-    (mine, are_of call run.0 steps outs last run.2 run.0.rule s run.1.call.told.response o.end mine k.0 k.1)
+-- what is asked next comes behind the response
+comes_behind : (at : Place) (step : Step) (out : Outcome) (next : Place) (one : Plays_exchange at step out next) (part : Call) → out.end ≡ ends.Ok AnswersUnit → next_call next.rule one.settles.asks ≡ Some part → ComesBehind next.rule step.call one.call.told.response part
+comes_behind at step out next one part k e =
+    let told : one.told.end ≡ ends.Ok AnswersUnit = sym (ap (λ (x : Outcome). x.end) one.settles.outcome) ∙ k in
+    by (handed_by step.call one.call.told.response) refl (subst (λ (z : End). LooksOn (handed_at z step.call one.call.told.response) one.left_at.learnt one.settles.asks next.learnt) told one.settles.looks)
+  where
+    by : (o : Option Request) → handed_by step.call one.call.told.response ≡ o → LooksOn o one.left_at.learnt one.settles.asks next.learnt → ComesBehind next.rule step.call one.call.told.response part
+    by None h none = let x = ap (next_call next.rule) (sym none.0) ∙ e in absurd cc
+    by (Some told) h (asked, is, up) = (told, one.left_at.learnt, next.learnt, asked, h, up, sym (same_Some (exchange_for (asked_by next.rule asked)) part (ap (next_call next.rule) (sym is) ∙ e)))
+
+are_of : (call : Call) (at : Place) (steps : List Step) (outs : List Outcome) (last : Place) (run : Plays_exchanges at steps outs last) (rule : Rule) (end : End) (asks : Option Request) → ((part : Call) → end ≡ ends.Ok AnswersUnit → next_call rule asks ≡ Some part → IsOf call part) → Hands rule end asks steps → HandsOn at steps outs last run → AreOf call steps
+are_of call at [] outs last run rule end asks of h k = tt
+are_of call at (s ∷ steps) [] last run rule end asks of h k = absurd run
+are_of call at (s ∷ steps) (o ∷ outs) last run rule end asks of h k =
+    let mine = of s.call h.0 h.1 in
+    (mine, are_of call run.0 steps outs last run.2 run.0.rule o.end run.1.settles.asks (λ part e c. next_is_of run.0.rule call s.call part run.1.call.told.response mine (comes_behind at s o run.0 run.1 part e c)) k.0 k.1)
 
 all_are_of : (step : Step) (at : Place) (steps : List Step) (outs : List Outcome) (last : Place) (run : Plays_exchanges at steps outs last) → FirstIs at.rule step steps → HandsOn at steps outs last run → AreOf step.call steps
 all_are_of step at [] outs last run f k = tt
 all_are_of step at (s ∷ steps) [] last run f k = absurd run
 all_are_of step at (s ∷ steps) (o ∷ outs) last run f k =
     let mine = subst (IsOf step.call) (sym (ap (λ (x : Step). x.call) f)) (first_is_of at.rule step.call) in
-    (mine, are_of step.call run.0 steps outs last run.2 run.0.rule s run.1.call.told.response o.end mine k.0 k.1)
+    (mine, are_of step.call run.0 steps outs last run.2 run.0.rule o.end run.1.settles.asks (λ part e c. next_is_of run.0.rule step.call s.call part run.1.call.told.response mine (comes_behind at s o run.0 run.1 part e c)) k.0 k.1)
 
 fair_in : (first : LinkSeen) (call : Call) (before : Outcome) (at : Place) (steps : List Step) (outs : List Outcome) (next last : Place) → Holds first last → NoneFalls first at.seen.link → Plays_exchanges at steps outs next → LeadsTo next last → AreOf call steps
     → ((e : Error) → before.end ≡ ends.Err e → IsFairError call e) → (e : Error) → (last_of before outs).end ≡ ends.Err e → IsFairError call e

@@ -30,8 +30,9 @@ use Rattle.pg_script.specs.declared.step.Step.{Step}
 use Rattle.pg_script.specs.declared.step.Parting.{Parting}
 use Rattle.pg_script.specs.declared.step.Parting.TheVariants as partings
 use Rattle.pg_play.specs.Shown.{parting_of, request_of, waits_to_show, item_of}
-use Rattle.pg_play.specs.Calls.{Bounds, bounds, WaitsFew, HasWaitedFew, StaysIdle, EndsOn, Ended, IsUnpolled, limits_of, HandedOn, untouched, outcome_of, broken_after, begun_call, all_groups}
+use Rattle.pg_play.specs.Calls.{Bounds, WaitsFew, HasWaitedFew, StaysIdle, EndsOn, Ended, IsUnpolled, limits_of, HandedOn, untouched, outcome_of, broken_after, begun_call, all_groups}
 use Rattle.pg_play.specs.Places.{Place, ended, owed, is_fine, refuses_copy}
+use Rattle.pg_learning.specs.declared.learnt.Learnt.{Learnt}
 use Rattle.pg_play.specs.Causes.{AnsweredPending, IsDropped, IsDroppedAs, StaysAt, EndsDuly, OpensSavepoint}
 use Rattle.pg_play.specs.Plays.{StandsAt}
 use Rattle.pg_play.proofs.StepLaws.{Summary, QueuedOwn}
@@ -59,19 +60,19 @@ most_by d None limits first a b step said hs shown (ends.Err e) w m (inr (items,
 most_by d None limits first a b step said hs shown ends.Dropped w m h = (λ n. absurd (n refl), h.5)
 most_by d (Some fault) limits first a b step said hs shown end w m h = within_none end shown limits.most h.3 m
 
-same_place : (at : Place) (seen : StreamSeen) (said : List FrontendMessage) (groups : List Group) (frames : List Frame) (failed : Bool) (broken : Option ServerFault) (seen' : StreamSeen)
-    → seen ≡ seen' → said ≡ at.said → groups ≡ at.groups → frames ≡ at.frames → failed ≡ at.is_copy_failed → broken ≡ at.broken
-    → record { seen = seen; said = said; groups = groups; frames = frames; is_copy_failed = failed; broken = broken; rule = at.rule; has_failed = at.has_failed } ≡ record at { seen = seen' }
-same_place at seen said groups frames failed broken seen' a b c d e f = rw (a, b, c, d, e, f) refl
+same_place : (at : Place) (seen : StreamSeen) (said : List FrontendMessage) (groups : List Group) (frames : List Frame) (failed : Bool) (broken : Option ServerFault) (learnt : Learnt) (seen' : StreamSeen)
+    → seen ≡ seen' → said ≡ at.said → groups ≡ at.groups → frames ≡ at.frames → failed ≡ at.is_copy_failed → broken ≡ at.broken → learnt ≡ at.learnt
+    → record { seen = seen; said = said; groups = groups; frames = frames; is_copy_failed = failed; broken = broken; rule = at.rule; learnt = learnt; has_failed = at.has_failed } ≡ record at { seen = seen' }
+same_place at seen said groups frames failed broken learnt seen' a b c d e f g = rw (a, b, c, d, e, f, g) refl
 
 pub and_true : (b : Bool) → b && true ≡ b
 and_true true = refl
 and_true false = refl
 
 -- a step that queues and takes nothing
-pub still_place : (at : Place) (b : ConnSeen) (said : List FrontendMessage) (own : List Group) (fs : List Frame) (end : End) (seen : StreamSeen) → b.stream ≡ seen → said ≡ [] → own ≡ [] → fs ≡ [] → broken_after at.broken end ≡ at.broken → next_place at b said own fs end ≡ record at { seen = seen }
-still_place at b said own fs end seen x s o f k =
-    rw (o, f, s) (same_place at b.stream (at.said ++ []) (at.groups ++ []) (at.frames ++ []) (at.is_copy_failed && true) (broken_after at.broken end) seen x (append-nil at.said) (append-nil at.groups) (append-nil at.frames) (and_true at.is_copy_failed) k)
+pub still_place : (at : Place) (b : ConnSeen) (said : List FrontendMessage) (own : List Group) (fs : List Frame) (end : End) (seen : StreamSeen) → b.stream ≡ seen → said ≡ [] → own ≡ [] → fs ≡ [] → broken_after at.broken end ≡ at.broken → b.learnt ≡ at.learnt → next_place at b said own fs end ≡ record at { seen = seen }
+still_place at b said own fs end seen x s o f k l =
+    rw (o, f, s) (same_place at b.stream (at.said ++ []) (at.groups ++ []) (at.frames ++ []) (at.is_copy_failed && true) (broken_after at.broken end) b.learnt seen x (append-nil at.said) (append-nil at.groups) (append-nil at.frames) (and_true at.is_copy_failed) k l)
 
 pub same_outcome : (items : List Item) (end end' : End) (groups heard waits moved : ℕ) → items ≡ [] → end ≡ end' → groups ≡ 0 → heard ≡ 0 → waits ≡ 0 → moved ≡ 0
     → record { items = items; end = end; groups = groups; heard = heard; cache = cache.Same; waits = waits; moved = moved } ≡ untouched end'
@@ -85,7 +86,7 @@ untouched_by b out end k i e n = k ∙ ap (λ (s : CacheStep). record (outcome_o
 kept_place : (start : StreamSeen) (at : Place) (a b : ConnSeen) (r : Request) (said : List FrontendMessage) (own : List Group) (fs : List Frame) (end : End) (fault : ServerFault) → StandsAt start at a → at.broken ≡ Some fault → said ≡ [] → own ≡ [] → fs ≡ [] → idle b ≡ idle (begun_call r a)
     → next_place at b said own fs end ≡ record at { seen = record at.seen { waits = b.stream.waits; moves = b.stream.moves } }
 kept_place start at a b r said own fs end fault st w s o f i =
-    still_place at b said own fs end (record at.seen { waits = b.stream.waits; moves = b.stream.moves }) seen s o f (still at.broken w)
+    still_place at b said own fs end (record at.seen { waits = b.stream.waits; moves = b.stream.moves }) seen s o f (still at.broken w) (ap (λ (c : ConnSeen). c.learnt) i ∙ st.learnt)
   where
     stream : b.stream ≡ record a.stream { waits = 0; moves = 0 }
     stream = ap (λ (c : ConnSeen). c.stream) i
@@ -144,7 +145,8 @@ refused_step start at a b r out said fs items st w u k (e, refuses, ended, (none
   idle_outcome r a b out (ends.Err e) fs k ended (none, taken, same),
   still_place at b said s.own fs out.end (record at.seen { left = b.stream.left; waits = b.stream.waits; moves = b.stream.moves }) (idle_seen start r at a b fs out.items st (none, taken, same))
       (none_said a.ledger b.ledger r said (heard fs) items (refuses_copy out.end) (ap heard taken) (ap refuses_copy ended ∙ plain.0) s own) own taken
-      (ap (λ (o : Option ServerFault). broken_after o out.end) w ∙ ap (broken_after None) ended ∙ plain.1 ∙ sym w),
+      (ap (λ (o : Option ServerFault). broken_after o out.end) w ∙ ap (broken_after None) ended ∙ plain.1 ∙ sym w)
+      (ap (λ (c : ConnSeen). c.learnt) same ∙ st.learnt),
 )
   where
     own : s.own ≡ []
@@ -172,7 +174,8 @@ flushed_step start at a b r out said fs items st c k (ended, (none, taken, same)
       idle_outcome r a b out (ends.Ok AnswersUnit) fs k ended (none, taken, same),
       still_place at b said s.own fs out.end (record at.seen { left = b.stream.left; waits = b.stream.waits; moves = b.stream.moves }) (idle_seen start r at a b fs out.items st (none, taken, same))
           (none_said a.ledger b.ledger r said (heard fs) items (refuses_copy out.end) (ap heard taken) (ap refuses_copy ended) s own) own taken
-          (ap (broken_after at.broken) ended ∙ ok_breaks_none at.broken),
+          (ap (broken_after at.broken) ended ∙ ok_breaks_none at.broken)
+          (ap (λ (c : ConnSeen). c.learnt) same ∙ st.learnt),
     )
   where
     ok_breaks_none : (o : Option ServerFault) → broken_after o (ends.Ok AnswersUnit) ≡ o

@@ -14,6 +14,7 @@ use Rattle.pg_call.specs.declared.kind.Keeping.TheVariants as keepings
 use Rattle.pg_call.specs.declared.statement.Extended.{Extended}
 use Rattle.pg_call.specs.declared.statement.Described.{Described}
 use Rattle.pg_call.specs.declared.statement.Eviction.{Eviction}
+use Rattle.pg_call.specs.declared.statement.Lookup.{Lookup}
 use Rattle.pg_call.specs.declared.statement.After.{After}
 use Rattle.pg_call.specs.declared.statement.After.TheVariants as afters
 use Rattle.pg_call.specs.declared.request.Request.{Request}
@@ -27,15 +28,16 @@ use Rattle.pg_rule.specs.declared.cache.Entry.{Entry}
 use Rattle.pg_rule.specs.declared.rule.Rule.{Rule}
 use Rattle.pg_rule.specs.Caches.{entry_at}
 use Rattle.pg_rule.specs.Rules.{holding}
-use Rattle.pg_conn.specs.Statements.{asked_by, begun_as, by_leaving, entry_of, held_by, leaving, prepare_by, query_by, run_or_describe, tell_or_describe}
+use Rattle.pg_learning.specs.declared.learnt.Learnt.{Learnt}
+use Rattle.pg_conn.specs.Looking.{LooksFor, LooksUp, looked, no_text}
+use Rattle.pg_conn.specs.Statements.{asked_by, begun_as, behind_description, by_leaving, entry_of, held_behind, held_by, leaving, prepare_by, query_by, run_or_describe, tell_or_describe}
 use Rattle.pg_conn.specs.States.{to_prepare}
 use Rattle.pg_call.specs.Calls.{answer_by}
 use Rattle.pg_script.specs.declared.step.Call.{Call}
 use Rattle.pg_script.specs.declared.step.Call.TheVariants as calls
 use Rattle.pg_call.proofs.FitLaws.{next_is, hands_on_described}
 use Rattle.pg_script.specs.declared.step.Parting.TheVariants as partings
-use Rattle.pg_play.specs.Shown.{parting_of, request_of, asked_of, first_as, first_call, next_call, handed_by, exchange_for, IsPartOf, how_of, IsWanted, waits_how, waits_to_show, wants_row, wants_how, acts_at_once, begins, begins_with, copies}
-use Rattle.pg_play.specs.Calls.{IsLast}
+use Rattle.pg_play.specs.Shown.{parting_of, request_of, asked_of, first_as, first_call, next_call, handed_by, exchange_for, ComesBehind, IsPartOf, how_of, IsWanted, waits_how, waits_to_show, wants_row, wants_how, acts_at_once, begins, begins_with, copies}
 
 -- ---- what an exchange stands for
 
@@ -44,6 +46,7 @@ abbrev pub IsExchange : Request → Type 0
 IsExchange (requests.Describe x) = Unit {0}
 IsExchange (requests.Run bound) = Unit {0}
 IsExchange (requests.Evict eviction) = Unit {0}
+IsExchange (requests.Look lookup) = Unit {0}
 IsExchange (requests.Prepare prepared) = Unit {0}
 IsExchange (requests.Clear statements) = Unit {0}
 IsExchange requests.Flush = Unit {0}
@@ -53,6 +56,7 @@ pub exchange_asks : (d : ℕ) (r : Request) → IsExchange r → request_of d (e
 exchange_asks d (requests.Describe x) h = refl
 exchange_asks d (requests.Run bound) h = refl
 exchange_asks d (requests.Evict eviction) h = refl
+exchange_asks d (requests.Look lookup) h = refl
 exchange_asks d (requests.Prepare prepared) h = refl
 exchange_asks d (requests.Clear statements) h = refl
 exchange_asks d requests.Flush h = refl
@@ -63,6 +67,7 @@ pub exchange_polled : (r : Request) → (acts_at_once (exchange_for r) ≡ false
 exchange_polled (requests.Describe x) = (refl, refl, refl, refl)
 exchange_polled (requests.Run bound) = (refl, refl, refl, refl)
 exchange_polled (requests.Evict eviction) = (refl, refl, refl, refl)
+exchange_polled (requests.Look lookup) = (refl, refl, refl, refl)
 exchange_polled (requests.Prepare prepared) = (refl, refl, refl, refl)
 exchange_polled (requests.Clear statements) = (refl, refl, refl, refl)
 exchange_polled _ = (refl, refl, refl, refl)
@@ -133,7 +138,6 @@ record FalseOfExchanges (f : Call → Bool) : Type 0 where
   exchanges : (r : Request) → f (exchange_for r) ≡ false
   prepares : (p : Preparation) → f (calls.Prepare p) ≡ false
   clears : f calls.Clear ≡ false
-  evicts : (e : Eviction) → f (calls.Evict e) ≡ false
 
 kept_by : (f : Call → Bool) (rule : Rule) (how : How) (query : QueryText) (o : Option ArgumentsSeen) (call : Call) → FalseOfExchanges f → how_of call ≡ Some how → f (first_as rule how query o call) ≡ f call
 kept_by f rule how query None call n h = refl
@@ -152,6 +156,7 @@ kept_first f n rule calls.Clear = n.exchanges (asked_by rule (begun_as rule (req
 kept_first f n rule (calls.Describe x) = n.exchanges requests.Flush ∙ sym (n.exchanges (requests.Describe x))
 kept_first f n rule (calls.Run bound) = n.exchanges requests.Flush ∙ sym (n.exchanges (requests.Run bound))
 kept_first f n rule (calls.Evict eviction) = n.exchanges requests.Flush ∙ sym (n.exchanges (requests.Evict eviction))
+kept_first f n rule (calls.Look lookup) = n.exchanges requests.Flush ∙ sym (n.exchanges (requests.Look lookup))
 kept_first f n rule (calls.Tell prepared) = n.exchanges requests.Flush ∙ sym (n.exchanges (requests.Prepare prepared))
 kept_first f n rule (calls.CloseAll statements) = n.exchanges requests.Flush ∙ sym (n.exchanges (requests.Clear statements))
 kept_first f n rule _ = refl
@@ -171,13 +176,13 @@ begins_with_none (calls.BeginWith query) how e = absurd cc
 begins_with_none _ how e = refl
 
 pub first_acts : (rule : Rule) (call : Call) → acts_at_once (first_call rule call) ≡ acts_at_once call
-first_acts rule call = kept_first acts_at_once (record { queries = acts_none; exchanges = λ r. (exchange_polled r).0; prepares = λ p. refl; clears = refl; evicts = λ e. refl }) rule call
+first_acts rule call = kept_first acts_at_once (record { queries = acts_none; exchanges = λ r. (exchange_polled r).0; prepares = λ p. refl; clears = refl }) rule call
 
 first_begins : (rule : Rule) (call : Call) → begins (first_call rule call) ≡ begins call
-first_begins rule call = kept_first begins (record { queries = begins_none; exchanges = λ r. (exchange_polled r).1; prepares = λ p. refl; clears = refl; evicts = λ e. refl }) rule call
+first_begins rule call = kept_first begins (record { queries = begins_none; exchanges = λ r. (exchange_polled r).1; prepares = λ p. refl; clears = refl }) rule call
 
 pub first_begins_with : (rule : Rule) (call : Call) → begins_with (first_call rule call) ≡ begins_with call
-first_begins_with rule call = kept_first begins_with (record { queries = begins_with_none; exchanges = λ r. (exchange_polled r).2; prepares = λ p. refl; clears = refl; evicts = λ e. refl }) rule call
+first_begins_with rule call = kept_first begins_with (record { queries = begins_with_none; exchanges = λ r. (exchange_polled r).2; prepares = λ p. refl; clears = refl }) rule call
 
 copies_none : (call : Call) (how : How) → how_of call ≡ Some how → copies call ≡ false
 copies_none (calls.CopyOut query) how e = absurd cc
@@ -185,12 +190,13 @@ copies_none (calls.Feed fed) how e = absurd cc
 copies_none _ how e = refl
 
 first_copies : (rule : Rule) (call : Call) → copies (first_call rule call) ≡ copies call
-first_copies rule call = kept_first copies (record { queries = copies_none; exchanges = λ r. (exchange_polled r).3; prepares = λ p. refl; clears = refl; evicts = λ e. refl }) rule call
+first_copies rule call = kept_first copies (record { queries = copies_none; exchanges = λ r. (exchange_polled r).3; prepares = λ p. refl; clears = refl }) rule call
 
 exchange_parts : (r : Request) → parting_of (exchange_for r) ≡ partings.None
 exchange_parts (requests.Describe x) = refl
 exchange_parts (requests.Run bound) = refl
 exchange_parts (requests.Evict eviction) = refl
+exchange_parts (requests.Look lookup) = refl
 exchange_parts (requests.Prepare prepared) = refl
 exchange_parts (requests.Clear statements) = refl
 exchange_parts _ = refl
@@ -224,6 +230,7 @@ after_how (afters.Prepare prepared) = None
 abbrev pub runs_how : Call → Option How
 runs_how (calls.Describe x) = goal_how x.goal
 runs_how (calls.Evict eviction) = after_how eviction.after
+runs_how (calls.Look lookup) = goal_how lookup.extended.goal
 runs_how call = how_of call
 
 how_by : (rule : Rule) (how : How) (query : QueryText) (o : Option ArgumentsSeen) (call : Call) → runs_how call ≡ Some how → runs_how (first_as rule how query o call) ≡ Some how
@@ -278,25 +285,25 @@ first_wants rule call w = elim (first_how rule call) [
 pub shows_how : (call : Call) → waits_how (runs_how call) ≡ false → waits_to_show call ≡ false
 shows_how (calls.Describe x) w = refl
 shows_how (calls.Evict eviction) w = refl
+shows_how (calls.Look lookup) w = refl
 shows_how _ w = w
 
 pub wants_so : (call : Call) → wants_row call ≡ true → wants_how (runs_how call) ≡ true
 wants_so (calls.Describe x) w = absurd cc
 wants_so (calls.Evict eviction) w = absurd cc
+wants_so (calls.Look lookup) w = absurd cc
 wants_so _ w = w
 
 -- ---- the one behind it
 
--- what describes and closes nothing hands on nothing
-pub last_next : (rule : Rule) (d : ℕ) (call : Call) (response : List BackendMessage) → IsLast (request_of d call) → next_call rule call response ≡ None
-last_next rule d (calls.Describe extended) response l = absurd (l refl)
-last_next rule d (calls.Evict eviction) response l = absurd (l refl)
-last_next rule d _ response l = refl
+-- what hands on describes a statement, or closes one, or looks something up
+abbrev pub HandsBy : Call → Type 0
+HandsBy call = ((x : Extended) × (call ≡ calls.Describe x)) ⊎ (((e : Eviction) × (call ≡ calls.Evict e)) ⊎ ((l : Lookup) × (call ≡ calls.Look l)))
 
--- what hands on describes a statement, or closes one
-pub hands_by : (d : ℕ) (call : Call) → kind_of (request_of d call) ≡ kinds.Describe → ((x : Extended) × (call ≡ calls.Describe x)) ⊎ ((e : Eviction) × (call ≡ calls.Evict e))
+pub hands_by : (d : ℕ) (call : Call) → kind_of (request_of d call) ≡ kinds.Describe → HandsBy call
 hands_by d (calls.Describe x) k = inl (x, refl)
-hands_by d (calls.Evict e) k = inr (e, refl)
+hands_by d (calls.Evict e) k = inr (inl (e, refl))
+hands_by d (calls.Look l) k = inr (inr (l, refl))
 hands_by zero calls.Commit k = absurd cc
 hands_by (suc left) calls.Commit k = absurd cc
 hands_by zero calls.Rollback k = absurd cc
@@ -307,13 +314,16 @@ hands_by d _ k = absurd cc
 pub handed_so : (d : ℕ) (call : Call) (reply : List BackendMessage) (status : TransactionStatus) (next : Request) → answer_by (request_of d call) reply status ≡ Ok (answers.Next next) → handed_by call reply ≡ Some next
 handed_so d call reply status next e = by call (hands_by d call (hands_on_described (request_of d call) reply status next e)) e
   where
-    by : (call : Call) → ((x : Extended) × (call ≡ calls.Describe x)) ⊎ ((v : Eviction) × (call ≡ calls.Evict v)) → answer_by (request_of d call) reply status ≡ Ok (answers.Next next) → handed_by call reply ≡ Some next
+    by : (call : Call) → HandsBy call → answer_by (request_of d call) reply status ≡ Ok (answers.Next next) → handed_by call reply ≡ Some next
     by call (inl (x, is)) e =
         let k = subst (λ (c : Call). answer_by (request_of d c) reply status ≡ Ok (answers.Next next)) is e in
         ap (λ (c : Call). handed_by c reply) is ∙ (next_is (requests.Describe x) reply status next k).1
-    by call (inr (v, is)) e =
+    by call (inr (inl (v, is))) e =
         let k = subst (λ (c : Call). answer_by (request_of d c) reply status ≡ Ok (answers.Next next)) is e in
         ap (λ (c : Call). handed_by c reply) is ∙ (next_is (requests.Evict v) reply status next k).1
+    by call (inr (inr (l, is))) e =
+        let k = subst (λ (c : Call). answer_by (request_of d c) reply status ≡ Ok (answers.Next next)) is e in
+        ap (λ (c : Call). handed_by c reply) is ∙ (next_is (requests.Look l) reply status next k).1
 
 -- ---- what comes behind
 
@@ -351,6 +361,13 @@ after_exchange rule (afters.Prepare prepared) = by prepared.columns
         tells (Some e) = tt
         tells None = tt
 
+described_exchange : (rule : Rule) (x : Extended) → IsExchange (asked_by rule (requests.Describe x))
+described_exchange rule x = by x.described refl
+  where
+    by : (o : Option Described) → x.described ≡ o → IsExchange (behind_description rule x o)
+    by None e = tt
+    by (Some d) e = subst (λ (o : Option Described). IsExchange (behind_description rule x o)) e (subst (λ (y : Extended). IsExchange (asked_by rule (requests.Describe y))) (ap (λ (o : Option Described). record x { described = o }) (sym e)) (told_exchange rule x d))
+
 -- what is held for it changes nothing of what is asked
 told_held : (rule : Rule) (x : Extended) (d : Described) → asked_by (held_by rule (requests.Describe (record x { described = Some d }))) (requests.Describe (record x { described = Some d })) ≡ asked_by rule (requests.Describe (record x { described = Some d }))
 told_held rule x d = by (nat_eq x.statement 0)
@@ -361,6 +378,13 @@ told_held rule x d = by (nat_eq x.statement 0)
     by : (b : Bool) → asked_by (cond b rule (holding (entry_of told d) rule)) (requests.Describe told) ≡ asked_by rule (requests.Describe told)
     by true = refl
     by false = refl
+
+described_held : (rule : Rule) (x : Extended) → asked_by (held_by rule (requests.Describe x)) (requests.Describe x) ≡ asked_by rule (requests.Describe x)
+described_held rule x = by x.described refl
+  where
+    by : (o : Option Described) → x.described ≡ o → asked_by (held_by rule (requests.Describe x)) (requests.Describe x) ≡ asked_by rule (requests.Describe x)
+    by None e = ap (λ (o : Option Described). asked_by (held_behind rule x o) (requests.Describe x)) e
+    by (Some d) e = subst (λ (y : Extended). asked_by (held_by rule (requests.Describe y)) (requests.Describe y) ≡ asked_by rule (requests.Describe y)) (ap (λ (o : Option Described). record x { described = o }) (sym e)) (told_held rule x d)
 
 after_held : (rule : Rule) (a : After) → asked_by (held_by rule (request_behind a)) (request_behind a) ≡ asked_by rule (request_behind a)
 after_held rule (afters.Run bound) = refl
@@ -376,35 +400,65 @@ hands_so rule (calls.Describe x) reply next e =
     let d : Described = record { parameters = parameters_after [] reply; columns = Some (described reply) } in
     subst (HandsSo rule) (same_Some (requests.Describe (record x { described = Some d })) next e) (record { stands = told_exchange rule x d; same = told_held rule x d })
 hands_so rule (calls.Evict v) reply next e = subst (HandsSo rule) (same_Some (request_behind v.after) next e) (record { stands = after_exchange rule v.after; same = after_held rule v.after })
+hands_so rule (calls.Look l) reply next e = subst (HandsSo rule) (same_Some (requests.Describe l.extended) next e) (record { stands = described_exchange rule l.extended; same = described_held rule l.extended })
 hands_so rule _ reply next e = absurd cc
 
--- What comes behind an exchange of one group asks what was handed on, wherever it begins, and is polled.
-pub record NextIs (rule : Rule) (d : ℕ) (call : Call) (reply : List BackendMessage) (next : Request) : Type 0 where
-  pub handed : handed_by call reply ≡ Some next
+-- ---- what is looked up before it
+
+-- a lookup for a statement that was described
+pub record IsLooked (told next : Request) : Type 0 where
+  pub extended : Extended
+  pub description : Described
+  pub text : List ℕ
+  pub tells : told ≡ requests.Describe extended
+  pub is_described : extended.described ≡ Some description
+  pub asks : next ≡ requests.Look (record { text = text; extended = record extended { is_looked_up = true } })
+
+pub looks_or : (told next : Request) (a b : Learnt) → LooksUp told a next b → (next ≡ told) ⊎ IsLooked told next
+looks_or (requests.Describe x) next a b h = by x.described refl h
+  where
+    by_text : (d : Described) → x.described ≡ Some d → (text : Option (List ℕ)) → next ≡ looked x text → (next ≡ requests.Describe x) ⊎ IsLooked (requests.Describe x) next
+    by_text d e None is = inl is
+    by_text d e (Some text) is = inr (record { extended = x; description = d; text = text; tells = refl; is_described = e; asks = is })
+
+    by : (o : Option Described) → x.described ≡ o → LooksFor x o a next b → (next ≡ requests.Describe x) ⊎ IsLooked (requests.Describe x) next
+    by None e h = inl h.0
+    by (Some d) e (inl (text, seeks, is)) = by_text d e text is
+    by (Some d) e (inr h) = by_text d e (Some no_text) h.0
+looks_or _ next a b h = inl h.0
+
+looks_so : (rule : Rule) (told next : Request) → (next ≡ told) ⊎ IsLooked told next → HandsSo rule told → HandsSo rule next
+looks_so rule told next (inl same) h = subst (HandsSo rule) (sym same) h
+looks_so rule told next (inr l) h = subst (HandsSo rule) (sym l.asks) (record { stands = tt; same = refl })
+
+-- What comes behind an exchange of one group asks what was handed on, or what is looked up for it, wherever it begins, and is polled.
+pub record NextIs (rule : Rule) (d : ℕ) (call : Call) (reply : List BackendMessage) (told next : Request) : Type 0 where
+  pub handed : handed_by call reply ≡ Some told
   pub part : Call
   pub is : part ≡ exchange_for (asked_by rule next)
-  pub comes : next_call (held_by rule next) call reply ≡ Some part
+  pub comes : next_call (held_by rule next) (Some next) ≡ Some part
   pub asks : (depth : ℕ) → request_of depth part ≡ asked_by rule next
   pub polled : acts_at_once part ≡ false
   pub one : length (groups_of (request_of d call)) ≡ 1
 
-pub what_is_next : (rule : Rule) (d : ℕ) (call : Call) (reply : List BackendMessage) (status : TransactionStatus) (next : Request) → answer_by (request_of d call) reply status ≡ Ok (answers.Next next) → NextIs rule d call reply next
-what_is_next rule d call reply status next e =
-    let handed = handed_so d call reply status next e in
-    let so = hands_so rule call reply next handed in
+pub what_is_next : (rule : Rule) (d : ℕ) (call : Call) (reply : List BackendMessage) (status : TransactionStatus) (told next : Request) (a b : Learnt) → answer_by (request_of d call) reply status ≡ Ok (answers.Next told) → LooksUp told a next b → NextIs rule d call reply told next
+what_is_next rule d call reply status told next a b e looks =
+    let handed = handed_so d call reply status told e in
+    let so = looks_so rule told next (looks_or told next a b looks) (hands_so rule call reply told handed) in
     record {
       handed = handed;
       part = exchange_for (asked_by rule next);
       is = refl;
-      comes = ap (λ (o : Option Request). option_map (λ (r : Request). exchange_for (asked_by (held_by rule next) r)) o) handed ∙ ap (λ (r : Request). Some (exchange_for r)) so.same;
+      comes = ap (λ (r : Request). Some (exchange_for r)) so.same;
       asks = λ depth. exchange_asks depth (asked_by rule next) so.stands;
       polled = (exchange_polled (asked_by rule next)).0;
-      one = one_group call (hands_by d call (hands_on_described (request_of d call) reply status next e));
+      one = one_group call (hands_by d call (hands_on_described (request_of d call) reply status told e));
     }
   where
-    one_group : (call : Call) → ((x : Extended) × (call ≡ calls.Describe x)) ⊎ ((v : Eviction) × (call ≡ calls.Evict v)) → length (groups_of (request_of d call)) ≡ 1
+    one_group : (call : Call) → HandsBy call → length (groups_of (request_of d call)) ≡ 1
     one_group call (inl (x, is)) = ap (λ (c : Call). length (groups_of (request_of d c))) is
-    one_group call (inr (v, is)) = ap (λ (c : Call). length (groups_of (request_of d c))) is
+    one_group call (inr (inl (v, is))) = ap (λ (c : Call). length (groups_of (request_of d c))) is
+    one_group call (inr (inr (l, is))) = ap (λ (c : Call). length (groups_of (request_of d c))) is
 
 -- it is of the same query, and opens nothing
 goal_behind : (goal : Goal) (x : Extended) (d : Described) (keeping : Keeping) → runs_how (exchange_for (request_behind (behind_goal goal x d keeping))) ≡ goal_how goal
@@ -429,6 +483,13 @@ told_how rule x d = by (nat_eq x.statement 0) (option_map (λ (e : Entry). e.sta
     by true o = goal_behind x.goal told d keepings.Stays
     by false o = closes o
 
+described_how : (rule : Rule) (x : Extended) → runs_how (exchange_for (asked_by rule (requests.Describe x))) ≡ goal_how x.goal
+described_how rule x = by x.described refl
+  where
+    by : (o : Option Described) → x.described ≡ o → runs_how (exchange_for (asked_by rule (requests.Describe x))) ≡ goal_how x.goal
+    by None e = ap (λ (o : Option Described). runs_how (exchange_for (behind_description rule x o))) e
+    by (Some d) e = subst (λ (y : Extended). runs_how (exchange_for (asked_by rule (requests.Describe y))) ≡ goal_how y.goal) (ap (λ (o : Option Described). record x { described = o }) (sym e)) (told_how rule x d)
+
 evicted_how : (rule : Rule) (a : After) → runs_how (exchange_for (asked_by rule (request_behind a))) ≡ after_how a
 evicted_how rule (afters.Run bound) = refl
 evicted_how rule (afters.Prepare prepared) = by prepared.columns
@@ -441,26 +502,33 @@ evicted_how rule (afters.Prepare prepared) = by prepared.columns
         tells (Some e) = refl
         tells None = refl
 
-pub next_how : (rule : Rule) (call : Call) (response : List BackendMessage) (part : Call) → next_call rule call response ≡ Some part → runs_how part ≡ runs_how call
-next_how rule (calls.Describe x) response part e = ap runs_how (sym (same_Some _ part e)) ∙ told_how rule x (record { parameters = parameters_after [] response; columns = Some (described response) })
-next_how rule (calls.Evict v) response part e = ap runs_how (sym (same_Some _ part e)) ∙ evicted_how rule v.after
-next_how rule _ response part e = absurd cc
+handed_how : (rule : Rule) (call : Call) (response : List BackendMessage) (told : Request) → handed_by call response ≡ Some told → runs_how (exchange_for (asked_by rule told)) ≡ runs_how call
+handed_how rule (calls.Describe x) response told e = ap (λ (r : Request). runs_how (exchange_for (asked_by rule r))) (sym (same_Some _ told e)) ∙ told_how rule x (record { parameters = parameters_after [] response; columns = Some (described response) })
+handed_how rule (calls.Evict v) response told e = ap (λ (r : Request). runs_how (exchange_for (asked_by rule r))) (sym (same_Some _ told e)) ∙ evicted_how rule v.after
+handed_how rule (calls.Look l) response told e = ap (λ (r : Request). runs_how (exchange_for (asked_by rule r))) (sym (same_Some _ told e)) ∙ described_how rule l.extended
+handed_how rule _ response told e = absurd cc
 
-some_next : (rule : Rule) (o : Option Request) (part : Call) → option_map (λ (r : Request). exchange_for (asked_by rule r)) o ≡ Some part → (r : Request) × (exchange_for r ≡ part)
-some_next rule None part e = absurd cc
-some_next rule (Some r) part e = (asked_by rule r, same_Some (exchange_for (asked_by rule r)) part e)
+pub next_how : (rule : Rule) (call : Call) (response : List BackendMessage) (part : Call) → ComesBehind rule call response part → runs_how part ≡ runs_how call
+next_how rule call response part (told, a, b, next, handed, looks, is) = ap runs_how is ∙ by (looks_or told next a b looks) ∙ handed_how rule call response told handed
+  where
+    by : (next ≡ told) ⊎ IsLooked told next → runs_how (exchange_for (asked_by rule next)) ≡ runs_how (exchange_for (asked_by rule told))
+    by (inl same) = ap (λ (r : Request). runs_how (exchange_for (asked_by rule r))) same
+    by (inr l) = ap (λ (r : Request). runs_how (exchange_for (asked_by rule r))) l.asks ∙ sym (ap (λ (r : Request). runs_how (exchange_for (asked_by rule r))) l.tells ∙ described_how rule l.extended)
 
 -- no exchange of a copy from the client comes behind another
-pub next_parts : (rule : Rule) (call : Call) (response : List BackendMessage) (part : Call) → next_call rule call response ≡ Some part → parting_of part ≡ parting_of call
-next_parts rule (calls.Describe x) response part e = let is = some_next rule (handed_by (calls.Describe x) response) part e in ap parting_of (sym is.1) ∙ exchange_parts is.0
-next_parts rule (calls.Evict v) response part e = let is = some_next rule (handed_by (calls.Evict v) response) part e in ap parting_of (sym is.1) ∙ exchange_parts is.0
-next_parts rule _ response part e = absurd cc
+pub next_parts : (rule : Rule) (call : Call) (response : List BackendMessage) (part : Call) → ComesBehind rule call response part → parting_of part ≡ parting_of call
+next_parts rule call response part (told, a, b, next, handed, looks, is) = ap parting_of is ∙ exchange_parts (asked_by rule next) ∙ sym (by call handed)
+  where
+    by : (call : Call) → handed_by call response ≡ Some told → parting_of call ≡ partings.None
+    by (calls.Describe x) e = refl
+    by (calls.Evict v) e = refl
+    by (calls.Look l) e = refl
+    by _ e = absurd cc
 
-next_begins : (rule : Rule) (call : Call) (response : List BackendMessage) (part : Call) → next_call rule call response ≡ Some part → (begins part ≡ false) × (begins_with part ≡ false) × (copies part ≡ false)
-next_begins rule call response part e =
-    let is = some_next rule (handed_by call response) part e in
-    let so = exchange_polled is.0 in
-    (ap begins (sym is.1) ∙ so.1, ap begins_with (sym is.1) ∙ so.2, ap copies (sym is.1) ∙ so.3)
+next_begins : (rule : Rule) (call : Call) (response : List BackendMessage) (part : Call) → ComesBehind rule call response part → (begins part ≡ false) × (begins_with part ≡ false) × (copies part ≡ false)
+next_begins rule call response part (told, a, b, next, handed, looks, is) =
+    let so = exchange_polled (asked_by rule next) in
+    (ap begins is ∙ so.1, ap begins_with is ∙ so.2, ap copies is ∙ so.3)
 
 -- ---- what is so of an exchange is so of its call
 
@@ -480,7 +548,7 @@ first_is_of rule call = record {
   copies = λ b. sym (first_copies rule call) ∙ b;
 }
 
-pub next_is_of : (rule : Rule) (call part next : Call) (response : List BackendMessage) → IsOf call part → next_call rule part response ≡ Some next → IsOf call next
+pub next_is_of : (rule : Rule) (call part next : Call) (response : List BackendMessage) → IsOf call part → ComesBehind rule part response next → IsOf call next
 next_is_of rule call part next response of k =
     let none = next_begins rule part response next k in
     record {

@@ -1,13 +1,11 @@
 -- A copy from the client that is fed stands as if it had been asked for with what it was fed.
-use Rattle.std.proofs.Common.{◌≡◌, ℕ, ◌^◌, ◌<◌, cond, inl, inr, Bool, true, false, List, [], ◌∷◌, ◌++◌, length, map, refl, sym, ap, ◌∙◌, subst, arith, append_assoc, append-nil, nat_eq, Option, Some, None}
-use Rattle.std.specs.List.{AllByRecursion, count_by}
-use Rattle.std.proofs.lemmas.List.{map-append}
+use Rattle.std.proofs.Common.{◌≡◌, ℕ, ◌^◌, ◌<◌, cond, inl, inr, Bool, true, false, List, [], ◌∷◌, ◌++◌, length, map, refl, sym, ap, ◌∙◌, subst, arith, append_assoc, append-nil, nat_eq, Some, None}
+use Rattle.std.specs.List.{count_by}
 use Rattle.pg_wire.specs.declared.error.Error.TheVariants as errors
 use Rattle.pg_wire.specs.Frame.{Frame}
 use Rattle.pg_wire.specs.Parts.{heard}
-use Rattle.pg_wire.specs.Frontend.{FrontendMessage, HasFrontendFrame, Query, CopyData, CopyDone}
+use Rattle.pg_wire.specs.Frontend.{FrontendMessage, Query, CopyData, CopyDone}
 use Rattle.pg_wire.specs.Backend.{BackendMessage}
-use Rattle.pg_request.specs.Queries.{QueryText}
 use Rattle.pg_call.specs.declared.feed.Feed.{Feed}
 use Rattle.pg_call.specs.declared.request.Request.{Request}
 use Rattle.pg_call.specs.declared.request.Request.TheVariants as requests
@@ -25,31 +23,28 @@ use Rattle.pg_call.specs.Drains.{before_readys, drain_fails}
 use Rattle.pg_call.specs.Hearing.{IsOpen, fed_part, fed_whole}
 use Rattle.pg_call.specs.Calls.{CallIs}
 use Rattle.pg_call.proofs.CopyInLaws.{came}
-use Rattle.pg_conn.specs.Connections.{ConnSeen, Standing, copied, left, resolved, with_messages}
-use Rattle.pg_conn.specs.Turns.{IsAsked, ends_request, first_exchange, cleanup_of, level_of}
+use Rattle.pg_call.proofs.FeedLaws.{ended_said, feed_said, one_more, said_more}
+use Rattle.pg_conn.specs.Connections.{ConnSeen, Standing, copied, resolved, with_messages}
+use Rattle.pg_conn.specs.Turns.{IsAsked, ends_request, level_of}
 use Rattle.pg_conn.proofs.TurnLaws.{spelled-append, counts-append}
+use Rattle.pg_conn.proofs.FeedingLaws.{same_room}
+use Rattle.pg_conn.proofs.StateLaws.{runs_on}
 use Rattle.pg_stream.specs.Streams.{StreamSeen}
 use Rattle.pg_call.proofs.LeaveLaws.{leaves_call, call_well}
 use Rattle.pg_report.specs.declared.outcome.Item.{Item}
 use Rattle.pg_report.specs.declared.outcome.End.TheVariants as ends
 use Rattle.pg_play.specs.declared.tally.Limits.{Limits}
 use Rattle.pg_play.specs.Shown.{item_of}
-use Rattle.pg_wire.specs.declared.error.ServerFault.{ServerFault}
 use Rattle.pg_play.specs.declared.tally.Pause.TheVariants as pauses
-use Rattle.pg_play.proofs.ThroughLaws.{handed_described, plays_call}
-use Rattle.pg_play.specs.Calls.{Bounds, bounds, first_conn, InCopy, InPlay, IsCallPlaying, IsCopying, IsPlayingOn, OfLast, Pauses, PlaysCall, StopsBy, IsUnpolled, limits_of, outcome_of, untouched, Waited, Went, change_for}
-use Rattle.pg_play.proofs.CallLaws.{below_items, call_runs, ended_whole, ends_few, few_calls, not_at_once, unasked_stays}
-use Rattle.pg_wire.specs.Server.{IsPrefixOf}
-use Rattle.pg_report.specs.declared.outcome.End.{End}
+use Rattle.pg_play.proofs.ThroughLaws.{handed_described}
+use Rattle.pg_play.specs.Calls.{bounds, InCopy, InPlay, IsCopying, OfLast, Pauses, StopsBy, IsUnpolled, untouched, Waited, Went, change_for}
+use Rattle.pg_play.proofs.CallLaws.{below_items, ended_whole, ends_few, few_calls, not_at_once, unasked_stays}
 use Rattle.pg_report.specs.declared.outcome.Outcome.{Outcome}
 use Rattle.pg_script.specs.declared.step.Step.{Step}
 use Rattle.pg_script.specs.declared.step.Call.TheVariants as calls
 use Rattle.pg_script.specs.declared.step.Copying.{Copying}
-use Rattle.pg_script.specs.declared.step.CopyEnd.TheVariants as copy_ends
-use Rattle.pg_script.specs.declared.step.Parting.TheVariants as partings
-use Rattle.pg_play.specs.Opened.{PlaysCopy, asked_of_fed, fed_of}
+use Rattle.pg_play.specs.Opened.{PlaysCopy, fed_of}
 use Rattle.pg_script.specs.declared.step.Fed.{Fed}
-use Rattle.pg_play.specs.Shown.{feed_of}
 use Rattle.pg_play.specs.Feeding.{CameOf, fed_with, parts_of}
 
 -- what was fed stands as asked from the first on
@@ -82,6 +77,7 @@ went_fed a b said new fs call now change none w =
       groups = let g = w.groups in let c = counts-append said new in (omega (arith, g, c, none), omega (arith, g, c, none), omega (arith, g, c, none));
       heard = w.heard;
       started = (w.started.0, w.started.1, w.started.2, ap (λ (s : Standing). record s { change = change }) w.started.3);
+      learns = w.learns;
     }
 
 -- what is open was not fed to its end
@@ -99,36 +95,11 @@ unended_changes feed e = ap (λ (b : Bool). cond b changes.Fed changes.Copies) e
 
 -- ---- what the relation says of the request that it was fed to
 
-data_said : (pieces : List (List ℕ)) (ended : Bool) → AllByRecursion HasFrontendFrame (((map CopyData pieces ++ ended_by ended) ++ []) ++ [])
-data_said [] true = (tt, tt)
-data_said [] false = tt
-data_said (p ∷ ps) ended = (tt, data_said ps ended)
-
-feed_said : (feed feed' : Feed) → feed'.query ≡ feed.query → CanBeSaid (requests.CopyIn feed) → CanBeSaid (requests.CopyIn feed')
-feed_said feed feed' e can = ((subst (λ (q : QueryText). HasFrontendFrame (Query q.sql)) (sym e) can.0.0, data_said feed'.pieces feed'.is_ended), tt)
-
-one_more : (pieces : List (List ℕ)) (piece : List ℕ) → (map CopyData pieces ++ []) ++ CopyData piece ∷ [] ≡ map CopyData (pieces ++ piece ∷ []) ++ []
-one_more pieces piece = ap (λ (t : List FrontendMessage). t ++ CopyData piece ∷ []) (append-nil (map CopyData pieces)) ∙ sym (map-append CopyData pieces (piece ∷ [])) ∙ sym (append-nil (map CopyData (pieces ++ piece ∷ [])))
-
--- what is said of it, with one message more
-said_more : (before said : List FrontendMessage) (whole whole' : List FrontendMessage) (m : FrontendMessage) → said ≡ before ++ (whole ++ []) → whole ++ m ∷ [] ≡ whole' → said ++ m ∷ [] ≡ before ++ (whole' ++ [])
-said_more before said whole whole' m s e =
-    ap (λ (t : List FrontendMessage). t ++ m ∷ []) s
-    ∙ append_assoc before (whole ++ []) (m ∷ [])
-    ∙ ap (λ (t : List FrontendMessage). before ++ t) (ap (λ (t : List FrontendMessage). t ++ m ∷ []) (append-nil whole) ∙ e ∙ sym (append-nil whole'))
-
 fed_said : (feed : Feed) (piece : List ℕ) → feed.is_ended ≡ false → feeding feed ++ CopyData piece ∷ [] ≡ feeding (fed_one piece feed)
 fed_said feed piece e = ap (λ (t : List FrontendMessage). Query feed.query.sql ∷ t) (by feed.is_ended e)
   where
     by : (ended : Bool) → ended ≡ false → (map CopyData feed.pieces ++ ended_by ended) ++ CopyData piece ∷ [] ≡ map CopyData (feed.pieces ++ piece ∷ []) ++ ended_by ended
     by false e = one_more feed.pieces piece
-    by true e = absurd cc
-
-ended_said : (feed : Feed) → feed.is_ended ≡ false → feeding feed ++ CopyDone ∷ [] ≡ feeding (fed_all feed)
-ended_said feed e = ap (λ (t : List FrontendMessage). Query feed.query.sql ∷ t) (by feed.is_ended e)
-  where
-    by : (ended : Bool) → ended ≡ false → (map CopyData feed.pieces ++ ended_by ended) ++ CopyDone ∷ [] ≡ map CopyData feed.pieces ++ CopyDone ∷ []
-    by false e = ap (λ (t : List FrontendMessage). t ++ CopyDone ∷ []) (append-nil (map CopyData feed.pieces))
     by true e = absurd cc
 
 said_one : (start : Ledger) (feed : Feed) (said : List FrontendMessage) (hs : List Frame) (items : List CallItem) (ledger : Ledger) (call : Call) (piece : List ℕ) → IsOpen call → CallIs start (requests.CopyIn feed) said hs items ledger call → CallIs start (requests.CopyIn (fed_one piece feed)) (said ++ CopyData piece ∷ []) hs items ledger call
@@ -240,13 +211,6 @@ copy_fed_with (piece ∷ parts) first c b feed waits items said fs i =
     (subst (λ (x : ConnSeen). InCopy first (asked_with (fed_parts parts (fed_one piece feed)) c) x (requests.CopyIn (fed_parts parts (fed_one piece feed))) waits items (said ++ map CopyData (piece ∷ parts)) fs) (fed_more piece parts b)
     (subst (λ (m : List FrontendMessage). InCopy first (asked_with (fed_parts parts (fed_one piece feed)) c) (fed_with parts (with_messages (CopyData piece ∷ []) b)) (requests.CopyIn (fed_parts parts (fed_one piece feed))) waits items m fs) (append_assoc said (CopyData piece ∷ []) (map CopyData parts)) rest))
 
-open_room : (call : Call) → IsOpen call → cleanup_of (fed_whole call) ≡ cleanup_of call
-open_room (states.Own reply) o = refl
-open_room states.Idle o = absurd o
-open_room (states.Asked asked) o = absurd o
-open_room (states.Waiting w) o = absurd o
-open_room states.Closing o = absurd o
-
 no_level : (groups : ℕ) → level_of changes.Fed groups ≡ 0
 no_level groups = by (nat_eq groups 0)
   where
@@ -273,7 +237,7 @@ copy_ended first c b feed waits items said fs g i =
       broken = i.broken;
       call = said_all c.ledger feed said (heard fs) items b.ledger b.call i.is_open i.call;
       asked = refl;
-      room = λ h. let k = room (omega (arith, h, level_at_first c.groups g changes.Copies, ap (λ (x : Change). level_of x c.groups) (unended_changes feed e))) in omega (arith, k, open_room b.call i.is_open, no_level b.groups);
+      room = λ h. let k = room (omega (arith, h, level_at_first c.groups g changes.Copies, ap (λ (x : Change). level_of x c.groups) (unended_changes feed e))) in omega (arith, k, same_room b.call i.is_open, no_level b.groups);
       waited = waited_fed waits first b (CopyDone ∷ []) i.waited;
       calls = omega (arith, i.calls);
       unsaid = λ u. absurd (u (feed_said feed (fed_all feed) refl (said_can c.ledger (requests.CopyIn feed) said (heard fs) items b.ledger b.call i.is_open i.call)));
@@ -293,12 +257,12 @@ copy_stops limits c b feed waits shown items said fs l s m w i =
     (few_calls c.stream b (requests.CopyIn feed) waits (length items) (bounds limits) l (below_items shown items limits.most s m) (omega (arith, i.calls)))
     (not_at_once (asked_with feed c) b (requests.CopyIn feed) shown (ends.Err errors.OutOfMemory) fs (λ u. u can) (λ f. absurd cc))
     (inl (items, s, m, inr (leaves_call c.ledger (requests.CopyIn feed) said (heard fs) items b.ledger b.call i.call, call_well c.ledger (requests.CopyIn feed) said (heard fs) items b.ledger b.call i.call, inl (tt, tt)))) tt in
-    (b, ended, inr (call_runs c.ledger (requests.CopyIn feed) said (heard fs) items b.ledger b.call i.call, refl, λ x. refl, refl))
+    (b, ended, inr (runs_on c.ledger (requests.CopyIn feed) said (heard fs) items b.ledger b.call i.call, refl, λ x. refl, refl))
 
 -- a copy is one exchange
 pub of_copy : (polls : ℕ) (first : StreamSeen) (P : ConnSeen → Request → Type 0) (a : ConnSeen) (feed : Feed) → OfLast polls first P a (requests.CopyIn feed) → P a (requests.CopyIn feed)
 of_copy polls first P a feed ([], p) = p
-of_copy polls first P a feed (next ∷ later, (m, h, rest)) = let k = handed_described polls first a m (requests.CopyIn feed) next h in absurd cc
+of_copy polls first P a feed (next ∷ later, (m, h, rest)) = let k = handed_described polls first a m (requests.CopyIn feed) h.told h.handed in absurd cc
 
 -- it is open still where it was fed these parts
 pub copy_feeds : (limits : Limits) (c b d : ConnSeen) (feed : Feed) (waits : ℕ) (shown : List Item) (front : List (List ℕ)) → Pauses limits (asked_with feed c) b (requests.CopyIn feed) waits shown pauses.Opened → d ≡ fed_with front b

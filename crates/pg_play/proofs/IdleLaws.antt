@@ -96,6 +96,8 @@ no_cleanup d calls.Clear end [] o b a = refl
 no_cleanup d calls.Clear end (g ∷ gs) o b a = refl
 no_cleanup d (calls.Evict eviction) end [] o b a = refl
 no_cleanup d (calls.Evict eviction) end (g ∷ gs) o b a = refl
+no_cleanup d (calls.Look lookup) end [] o b a = refl
+no_cleanup d (calls.Look lookup) end (g ∷ gs) o b a = refl
 no_cleanup d (calls.Tell prepared) end [] o b a = refl
 no_cleanup d (calls.Tell prepared) end (g ∷ gs) o b a = refl
 no_cleanup d (calls.CloseAll statements) end [] o b a = refl
@@ -186,6 +188,7 @@ idle_by idle n d (calls.Run bound) end own cleanup owed others commits rolls cle
 idle_by idle n d (calls.Prepare preparation) end own cleanup owed others commits rolls cleans c q l i z = plain_idle idle n own cleanup (few_own d (calls.Prepare preparation) end own q) (c ∙ no_cleanup d (calls.Prepare preparation) end own owed refl refl) (i z) (others refl)
 idle_by idle n d calls.Clear end own cleanup owed others commits rolls cleans c q l i z = plain_idle idle n own cleanup (few_own d calls.Clear end own q) (c ∙ no_cleanup d calls.Clear end own owed refl refl) (i z) (others refl)
 idle_by idle n d (calls.Evict eviction) end own cleanup owed others commits rolls cleans c q l i z = plain_idle idle n own cleanup (few_own d (calls.Evict eviction) end own q) (c ∙ no_cleanup d (calls.Evict eviction) end own owed refl refl) (i z) (others refl)
+idle_by idle n d (calls.Look lookup) end own cleanup owed others commits rolls cleans c q l i z = plain_idle idle n own cleanup (few_own d (calls.Look lookup) end own q) (c ∙ no_cleanup d (calls.Look lookup) end own owed refl refl) (i z) (others refl)
 idle_by idle n d (calls.Tell prepared) end own cleanup owed others commits rolls cleans c q l i z = plain_idle idle n own cleanup (few_own d (calls.Tell prepared) end own q) (c ∙ no_cleanup d (calls.Tell prepared) end own owed refl refl) (i z) (others refl)
 idle_by idle n d (calls.CloseAll statements) end own cleanup owed others commits rolls cleans c q l i z = plain_idle idle n own cleanup (few_own d (calls.CloseAll statements) end own q) (c ∙ no_cleanup d (calls.CloseAll statements) end own owed refl refl) (i z) (others refl)
 
@@ -208,7 +211,7 @@ idle_exchange idle at step out next one l k i z =
     let all : length next.groups ≡ length one.ended_at.groups + length settles.cleanup = ap (λ (g : List Group). length g) (settles.groups ∙ ap (λ (g : List Group). g ++ settles.cleanup) left) ∙ length-append one.ended_at.groups settles.cleanup in
     let few : owed one.left_at < 2 ^ 64 - 1 = omega (arith, all, l, ap (λ (g : List Group). length g) left) in
     subst idle (omega (arith, first, all))
-    (idle_by idle (length at.groups) at.rule.depth step.call one.told.end call.own settles.cleanup (owed one.left_at) k.others (commits_at at step out next one k) k.rolls (k.cleans, k.releases) settles.cleans call.queued.asks few i (sym (ap (λ (r : Rule). r.depth) settles.rule ∙ depth_rule at.rule step.call call.own call.told.response one.told.end) ∙ z))
+    (idle_by idle (length at.groups) at.rule.depth step.call one.told.end call.own settles.cleanup (owed one.left_at) k.others (commits_at at step out next one k) k.rolls (k.cleans, k.releases) settles.cleans call.queued.asks few i (sym (ap (λ (r : Rule). r.depth) settles.rule ∙ depth_rule at.rule step.call call.own settles.asks one.told.end) ∙ z))
 
 more_in : (at : Place) (steps : List Step) (outs : List Outcome) (last : Place) → Plays_exchanges at steps outs last → length at.groups ≤ length last.groups
 more_in at [] [] last run = omega (arith, ap (λ (p : Place). length p.groups) run)

@@ -1,5 +1,5 @@
 -- The exchanges of a step, one behind another: an induction over those that were handed on.
-use Rattle.std.proofs.Common.{◌≡◌, ◌≢◌, ℕ, ◌+◌, ◌-◌, ◌*◌, ◌^◌, ◌≤◌, ◌<◌, true, false, List, [], ◌∷◌, ◌++◌, length, refl, sym, ap, ◌∙◌, subst, arith, append-nil, Option, Some, None, sum_by}
+use Rattle.std.proofs.Common.{◌≡◌, ℕ, ◌+◌, ◌-◌, ◌*◌, ◌^◌, ◌≤◌, ◌<◌, true, false, List, [], ◌∷◌, ◌++◌, length, refl, sym, ap, ◌∙◌, subst, arith, append-nil, ap₂, ◌⊎◌, Option, Some, None, sum_by}
 use Rattle.std.specs.List.{AllByRecursion}
 use Rattle.pg_wire.specs.Frame.{Frame}
 use Rattle.pg_wire.specs.Parts.{heard}
@@ -23,11 +23,11 @@ use Rattle.pg_report.specs.declared.outcome.Outcome.{Outcome}
 use Rattle.pg_script.specs.declared.step.Call.{Call}
 use Rattle.pg_script.specs.declared.step.Step.{Step}
 use Rattle.pg_script.specs.declared.step.Parting.TheVariants as partings
-use Rattle.pg_play.specs.Shown.{parting_of, request_of, handed_by, next_call, waits_how, acts_at_once}
-use Rattle.pg_play.specs.Calls.{Bounds, EndsOn, parted, WaitsFew, HasWaitedFew, Ended, EndsCall, PlaysOne, HandedOn, OfLastIn, Counted, none_counted, asking, behind_end, copy_behind, limits_of, outcome_of, all_groups, asked_from}
+use Rattle.pg_play.specs.Shown.{ComesBehind, LooksOn, parting_of, request_of, handed_by, next_call, waits_how, acts_at_once}
+use Rattle.pg_play.specs.Calls.{Bounds, EndsOn, parted, WaitsFew, HasWaitedFew, Ended, EndsCall, PlaysOne, HandsTo, OfLastIn, Counted, knowing, none_counted, asking, behind_end, copy_behind, limits_of, outcome_of, all_groups, asked_from}
 use Rattle.pg_play.specs.Places.{refuses_copy, Place, owed, is_fine}
 use Rattle.pg_play.specs.Causes.{AnsweredPending, IsParted, IsDropped, IsDroppedAs}
-use Rattle.pg_play.specs.Settling.{Settles, handed_at}
+use Rattle.pg_play.specs.Settling.{Settles, handed_at, rule_after}
 use Rattle.pg_play.specs.WaitPlaces.{WaitPlaces}
 use Rattle.pg_play.specs.Plays.{IsNeverUnlawful, Plays_call, Plays_exchanges, HandsOn, stopped_at, last_of, over, cache_behind, StandsAt}
 use Rattle.pg_play.proofs.PlaceLaws.{HasSummary, ends_summary, next_place, readies-append}
@@ -37,12 +37,13 @@ use Rattle.pg_play.proofs.LinkLaws.{sum_more}
 use Rattle.pg_play.specs.Copying.{LeavesCopy}
 use Rattle.pg_play.proofs.SettleLaws.{left_frames, left_groups, left_link}
 use Rattle.pg_play.proofs.CopyLaws.{CanFail, leaves_to}
-use Rattle.pg_play.proofs.SettledLaws.{SettlesTo, conn_behind, settles_call, cleanup_polled, ok_cleans_none}
+use Rattle.pg_play.proofs.SettledLaws.{SettlesTo, behind_learnt, conn_behind, settles_call, cleanup_polled, ok_cleans_none}
 use Rattle.pg_play.proofs.CalledLaws.{KnownAt, Called, called_exchange, exchanged}
 use Rattle.pg_play.proofs.ThroughLaws.{counted_by, held_conn, handed_asking, handed_ended}
-use Rattle.pg_play.proofs.ExchangeLaws.{runs_how, shows_how, next_how, next_parts, last_next, NextIs, what_is_next}
+use Rattle.pg_play.proofs.ExchangeLaws.{IsLooked, NextIs, looks_or, next_how, next_parts, runs_how, shows_how, what_is_next}
 use Rattle.pg_play.proofs.NextLaws.{good_after, good_messages, replies_same, whole_behind}
-use Rattle.pg_play.proofs.KeptLaws.{DescribedAt, IsSound, closes_known, keeps_next, known_next, next_sound}
+use Rattle.pg_play.proofs.KeptLaws.{DescribedAt, IsHeldFor, IsSound, keeps_next, next_sound}
+use Rattle.pg_play.proofs.FollowLaws.{closes_known, known_next, looked_kept, next_holds}
 use Rattle.pg_play.proofs.PartLaws.{after_more, no_error}
 use Rattle.pg_play.specs.Kept.{Keeps}
 use Rattle.pg_play.specs.Told.{HasNoError}
@@ -50,6 +51,7 @@ use Rattle.pg_rule.specs.declared.rule.Rule.{Rule}
 use Rattle.pg_rule.specs.Rules.{IsOrderly}
 use Rattle.pg_call.specs.declared.statement.Extended.{Extended}
 use Rattle.pg_call.specs.declared.statement.Eviction.{Eviction}
+use Rattle.pg_learning.specs.declared.learnt.Learnt.{Learnt}
 use Rattle.pg_script.specs.declared.step.Call.TheVariants as calls
 use Rattle.pg_script.specs.declared.step.Parting.{Parting}
 use Rattle.pg_request.specs.declared.progress.CacheStep.{CacheStep}
@@ -57,7 +59,7 @@ use Rattle.pg_wire.specs.declared.error.ServerFault.{ServerFault}
 use Rattle.pg_call.specs.declared.answer.CallItem.{CallItem}
 use Rattle.pg_conn.specs.Connections.{ends_copy}
 use Rattle.pg_wire.specs.Parts.{is_ready}
-use Rattle.pg_play.proofs.CallLaws.{unqueued_unfed}
+use Rattle.pg_play.proofs.CallLaws.{copy_learnt, unqueued_unfed}
 use Rattle.pg_play.proofs.StepLaws.{Summary}
 use Rattle.std.specs.List.{count_by}
 use Rattle.pg_call.specs.Drains.{after_readys}
@@ -116,8 +118,8 @@ add_alone out = record {
 grew_still : (n k x y z : ℕ) → k ≡ n → z ≡ y → GrewBy n x y → GrewBy k x z
 grew_still n k x y z e f g = (omega (arith, f, g), omega (arith, e, f, g), omega (arith, e, f, g))
 
-pub counts_settled : (start : StreamSeen) (old : Counted) (at mid : Place) (m d : ConnSeen) (step : Step) (told : Outcome) (one : Plays_call at step told mid) (s : SettlesTo start at step told one.own one.told.response mid m d) → CountsOn old m told → CountsOn old d s.out
-counts_settled start old at mid m d step told one s grew =
+pub counts_settled : (start : StreamSeen) (old : Counted) (at mid : Place) (m d : ConnSeen) (step : Step) (told : Outcome) (one : Plays_call at step told mid) {asks : Option Request} (s : SettlesTo start at step told one.own one.told.response asks mid m d) → CountsOn old m told → CountsOn old d s.out
+counts_settled start old at mid m d step told one {asks} s grew =
     let e = s.settles.outcome in
     record {
       groups = GrewBy-then told.groups (length s.settles.cleanup) s.out.groups 0 m.groups d.groups grew.groups s.groups (s.settles.counted ∙ ap (λ (n : ℕ). n + length s.settles.cleanup) (sym one.numbers.groups));
@@ -149,8 +151,8 @@ pub record InTurn (start : StreamSeen) (at : Place) (step : Step) (call : Call) 
   pub keeps : Keeps next
 
 -- there is one alone
-pub one_turn : (start : StreamSeen) (at mid left next : Place) (d : ConnSeen) (step : Step) (call : Call) (old : Counted) (raw told out : Outcome) (one : Plays_call at (exchange_of step call) raw mid) → LeavesCopy call one.own raw.end mid left → IsNeverUnlawful at raw mid → WaitPlaces at raw mid → NoneFalls at.seen.link mid.seen.link → Settles at (exchange_of step call) raw told one.own one.told.response left next
-    → StandsAt start next d → Keeps next → out.items ≡ told.items → out.end ≡ told.end → AddUp old (told ∷ []) out → out.cache ≡ over old.cache told.cache → (is_fine told.end ≡ true → next_call next.rule call one.told.response ≡ None) → InTurn start at step call old out mid d
+pub one_turn : (start : StreamSeen) (at mid left next : Place) (d : ConnSeen) (step : Step) (call : Call) (old : Counted) (raw told out : Outcome) (one : Plays_call at (exchange_of step call) raw mid) → LeavesCopy call one.own raw.end mid left → IsNeverUnlawful at raw mid → WaitPlaces at raw mid → NoneFalls at.seen.link mid.seen.link → (s : Settles at (exchange_of step call) raw told one.own one.told.response left next)
+    → StandsAt start next d → Keeps next → out.items ≡ told.items → out.end ≡ told.end → AddUp old (told ∷ []) out → out.cache ≡ over old.cache told.cache → s.asks ≡ None → InTurn start at step call old out mid d
 unfolding exchanged
 one_turn start at mid left next d step call old raw told out one leaves lawful waits counts s stands keeps items ends adds caches last = record {
   later = [];
@@ -174,10 +176,10 @@ abbrev told_in : {start : StreamSeen} {at : Place} {old : Counted} {m : ConnSeen
 told_in {start} {at} {old} {m} {step} {shown} {end} {mid} c = told_of shown end c.groups c.heard c.waits c.moved
 
 -- one stands before the others
-more_turns : (start : StreamSeen) (at mid stop : Place) (m c d : ConnSeen) (step : Step) (call part : Call) (old : Counted) (out : Outcome) (one : Called start at old m (exchange_of step call) [] (ends.Ok AnswersUnit) mid) (s : SettlesTo start at (exchange_of step call) (told_in one) one.one.own one.one.told.response mid m c) → next_call s.next.rule call one.one.told.response ≡ Some part → c.cache ≡ over old.cache s.out.cache
+more_turns : (start : StreamSeen) (at mid stop : Place) (m c d : ConnSeen) (step : Step) (call part : Call) (old : Counted) (out : Outcome) (one : Called start at old m (exchange_of step call) [] (ends.Ok AnswersUnit) mid) {asks : Option Request} (s : SettlesTo start at (exchange_of step call) (told_in one) one.one.own one.one.told.response asks mid m c) → next_call s.next.rule s.settles.asks ≡ Some part → c.cache ≡ over old.cache s.out.cache
     → InTurn start s.next step part (counted_by c) out stop d → InTurn start at step call old out stop d
 unfolding exchanged
-more_turns start at mid stop m c d step call part old out one s comes made t = record {
+more_turns start at mid stop m c d step call part old out one {asks} s comes made t = record {
   later = exchange_of step part ∷ t.later;
   told = s.out;
   outs = t.told ∷ t.outs;
@@ -204,6 +206,7 @@ pub record BeginsAt (start : StreamSeen) (at : Place) (a : ConnSeen) (old : Coun
   pub fits : old.groups ≤ 2 ^ 64 - 1
   pub keeps : Keeps at
   pub sound : IsSound at.rule call
+  pub holds : IsHeldFor at call
 
 -- and all of them were polled to the step's end
 pub record PlaysInTurn (start first : StreamSeen) (at : Place) (step : Step) (call : Call) (old : Counted) (out : Outcome) (stop : Place) (d : ConnSeen) : Type 0 where
@@ -221,13 +224,14 @@ has_room_at start at a old call b =
 
 -- the numbers are those of the connection before what was left of a copy
 settles_behind : (start : StreamSeen) (at mid left : Place) (m c : ConnSeen) (step : Step) (told : Outcome) (one : Plays_call at step told mid) → (c.groups ≡ m.groups) × (c.heard ≡ m.heard) × (c.stream.waits ≡ m.stream.waits) × (c.stream.moves ≡ m.stream.moves) × (c.earlier ≡ m.earlier) × (c.cache ≡ m.cache) × (c.keeping ≡ m.keeping)
-    → {d : ConnSeen} → SettlesTo start at step told one.own one.told.response mid c d → SettlesTo start at step told one.own one.told.response mid m d
-settles_behind start at mid left m c step told one same {d} s = record {
+    → {d : ConnSeen} {asks : Option Request} → SettlesTo start at step told one.own one.told.response asks mid c d → SettlesTo start at step told one.own one.told.response asks mid m d
+settles_behind start at mid left m c step told one same {d} {asks} s = record {
   left = s.left;
   leaves = s.leaves;
   next = s.next;
   out = s.out;
   settles = s.settles;
+  asked = s.asked;
   stands = s.stands;
   groups = subst (λ (n : ℕ). GrewBy (length s.settles.cleanup) n d.groups) same.0 s.groups;
   others = (s.others.0 ∙ same.1, s.others.1 ∙ same.2, s.others.2 ∙ same.3, s.others.3 ∙ same.4, s.others.4 ∙ ap (λ (x : CacheStep). over x s.out.cache) same.5);
@@ -260,12 +264,12 @@ unleft call own ends.Dropped m groups some e = by (parting_of call) refl
     by (partings.Failed message) p = absurd ((some refl message p).0 (none own groups))
 
 settles_so : (start : StreamSeen) (at mid : Place) (a m : ConnSeen) (old : Counted) (step : Step) (call : Call) (shown : List Item) (end : End) → BeginsAt start at a old call → (c : Called start at old m (exchange_of step call) shown end mid) → standing m ≡ standing (asking (request_of at.rule.depth call) old a) → CanFail (parting_of call) c.one.own end
-    → SettlesTo start at (exchange_of step call) (told_in c) c.one.own c.one.told.response mid m (conn_behind (handed_at end call c.one.told.response) end (copy_behind (parting_of call) end m))
-settles_so start at mid a m old step call shown end b c same can =
+    → (asks : Option Request) (learnt : Learnt) → LooksOn (handed_at end call c.one.told.response) mid.learnt asks learnt → SettlesTo start at (exchange_of step call) (told_in c) c.one.own c.one.told.response asks mid m (conn_behind asks learnt end (copy_behind (parting_of call) end m))
+settles_so start at mid a m old step call shown end b c same can asks learnt looks =
     let groups : m.groups ≡ length c.one.own = omega (arith, c.grew.groups, c.one.numbers.groups, c.small) in
     let l = leaves_to start call at.rule.depth c.one.own end mid m c.stands groups (ap (λ (x : Standing). x.change) same) can in
     settles_behind start at mid l.left m (copy_behind (parting_of call) end m) (exchange_of step call) (told_in c) c.one l.others
-    (settles_call start at mid l.left (copy_behind (parting_of call) end m) (exchange_of step call) (told_in c) c.one l.leaves b.polled l.stands c.small (l.others.0 ∙ groups) l.acts (l.others.6 ∙ ap (λ (x : Standing). x.keeping) same))
+    (settles_call start at mid l.left (copy_behind (parting_of call) end m) (exchange_of step call) (told_in c) c.one l.leaves b.polled l.stands c.small (l.others.0 ∙ groups) l.acts (l.others.6 ∙ ap (λ (x : Standing). x.keeping) same) asks learnt (subst (λ (x : Learnt). LooksOn (handed_at end call c.one.told.response) x asks learnt) (sym (ap (λ (x : Place). x.learnt) l.leaves)) looks))
 
 -- only the groups that an end makes are counted behind it, and what it makes of the statements is told
 pub same_but_groups : (m d : ConnSeen) (items : List Item) (end : End) → (d.heard ≡ m.heard) × (d.stream.waits ≡ m.stream.waits) × (d.stream.moves ≡ m.stream.moves) → outcome_of d items end ≡ record (outcome_of m items end) { groups = all_groups d; cache = d.cache }
@@ -274,18 +278,14 @@ same_but_groups m d items end o = rw (o.0, o.1, o.2) refl
 waited_most : (limits : Bounds) (first : StreamSeen) (b : ConnSeen) (end : End) → first.waits ≡ 0 → HasWaitedFew limits.polls first b.stream end → b.stream.waits ≤ limits.polls
 waited_most limits first b end z few = omega (arith, z, few.1.all, few.1.waits.1, few.2.1)
 
--- what ended hands on nothing where neither a description nor a close ended it
-last_by : (rule : Rule) (d : ℕ) (call : Call) (response : List BackendMessage) (end : End) → EndsCall (request_of d call) end → is_fine end ≡ true → next_call rule call response ≡ None
-last_by rule d call response (ends.Ok told) l f = last_next rule d call response l
-last_by rule d call response (ends.Err e) l f = absurd cc
-last_by rule d call response ends.Dropped l f = absurd cc
-
+-- what ended hands on nothing where nothing that hands on ended it
 none_left : (d : ℕ) (call : Call) (response : List BackendMessage) (end : End) → EndsCall (request_of d call) end → handed_at end call response ≡ None
 none_left d call response (ends.Ok told) l = by call l
   where
     by : (call : Call) → IsLast (request_of d call) → handed_by call response ≡ None
     by (calls.Describe x) l = absurd (l refl)
     by (calls.Evict v) l = absurd (l refl)
+    by (calls.Look lookup) l = absurd (l refl)
     by _ l = refl
 none_left d call response (ends.Err e) l = refl
 none_left d call response ends.Dropped l = refl
@@ -315,16 +315,18 @@ last_turn start first old at a m step call items end said fs h p z v l parts e l
     let d : ConnSeen = behind_end end (copy_behind (parting_of call) end m) in
     let can : CanFail (parting_of call) c.one.own end = has_own a.broken start first old at a m exchange said fs items end found.0 h.stands e.ends s in
     let response : List BackendMessage = c.one.told.response in
-    let t : SettlesTo start at exchange (told_in c) c.one.own response mid m d = subst (λ (o : Option Request). SettlesTo start at exchange (told_in c) c.one.own response mid m (conn_behind o end (copy_behind (parting_of call) end m))) (none_left at.rule.depth call response end last) (settles_so start at mid a m old step call items end h c e.went.started.3 can) in
+    let none : handed_at end call response ≡ None = none_left at.rule.depth call response end last in
+    let stays : d.learnt ≡ m.learnt = behind_learnt end (copy_behind (parting_of call) end m) ∙ copy_learnt (parting_of call) end m in
+    let t : SettlesTo start at exchange (told_in c) c.one.own response None mid m d = settles_so start at mid a m old step call items end h c e.went.started.3 can None d.learnt (subst (λ (o : Option Request). LooksOn o m.learnt None d.learnt) (sym none) (refl, stays)) in
     let k = t.settles.outcome in
     let raw : Outcome = outcome_of m items end in
     let real : Outcome = outcome_of d items end in
     let same : real ≡ record raw { groups = all_groups d; cache = d.cache } = same_but_groups m d items end (t.others.0, t.others.1, t.others.2) in
-    let keeps : Keeps t.next = keeps_next at mid t.left t.next exchange (told_in c) t.out c.one t.leaves t.settles h.keeps h.sound (λ x is f. absurd (describes_none at.rule.depth call end x last is f)) in
+    let keeps : Keeps t.next = (keeps_next at mid t.left t.next exchange (told_in c) t.out c.one t.leaves t.settles h.keeps h.sound h.holds (λ x is f. absurd (describes_none at.rule.depth call end x last is f))).0 in
     let few : m.stream.waits ≤ step.polls = waited_most (limits_of exchange) first m end z e.few in
     let plays : PlaysInTurn start first at step call old real mid d = record {
       turns = one_turn start at mid t.left t.next d step call old (told_in c) t.out real c.one t.leaves c.lawful c.places c.counts t.settles t.stands keeps (sym (ap (λ (x : Outcome). x.items) k)) (sym (ap (λ (x : Outcome). x.end) k))
-          (add_one old d t.out [] real (counts_settled start old at mid m d exchange (told_in c) c.one t c.grew) (add_none d items end)) (t.others.4 ∙ ap (λ (x : Standing). over x.cache t.out.cache) e.went.started.3) (λ f. last_by t.next.rule at.rule.depth call response end last (sym (ap (λ (x : Outcome). is_fine x.end) k) ∙ f));
+          (add_one old d t.out [] real (counts_settled start old at mid m d exchange (told_in c) c.one t c.grew) (add_none d items end)) (t.others.4 ∙ ap (λ (x : Standing). over x.cache t.out.cache) e.went.started.3) t.asked;
       dropped = λ y. dropped_out at step raw real mid same (subst (λ (q : Parting). IsDroppedAs q at step raw mid) parts (of_exchange (parting_of call) at step call raw mid (dropped_step a.broken start first old at a m exchange said fs items end found.0 h.stands z v p y e.ends s)));
       few = subst (λ (x : Outcome). (pending : ℕ) × AnsweredPending x pending × WaitsFew step.polls pending x.end) (sym same) (few_of first m step raw z v refl p e.few);
       most = λ w. most_by at.rule.depth a.broken (limits_of exchange) first (asking (request_of at.rule.depth call) old a) m exchange said (heard fs) items end (shows_how call w) l e.ends;
@@ -334,14 +336,15 @@ last_turn start first old at a m step call items end said fs h p z v l parts e l
     (plays, same, unleft call c.one.own end m (omega (arith, c.grew.groups, c.one.numbers.groups, c.small)) can)
 
 -- an exchange that handed on another: it is told, and the next one begins behind it
-record TurnsOn (start : StreamSeen) (at : Place) (m : ConnSeen) (old : Counted) (step : Step) (call : Call) (next : Request) : Type 0 where
+record TurnsOn (start : StreamSeen) (at : Place) (m : ConnSeen) (old : Counted) (step : Step) (call : Call) (next : Request) (learnt : Learnt) : Type 0 where
   mid : Place
   one : Called start at old m (exchange_of step call) [] (ends.Ok AnswersUnit) mid
-  settles : SettlesTo start at (exchange_of step call) (told_in one) one.one.own one.one.told.response mid m (held_conn m next)
+  settles : SettlesTo start at (exchange_of step call) (told_in one) one.one.own one.one.told.response (Some next) mid m (held_conn (knowing learnt m) next)
   part : Call
-  comes : next_call settles.next.rule call one.one.told.response ≡ Some part
+  comes : next_call settles.next.rule settles.settles.asks ≡ Some part
+  behind : ComesBehind (settled m).rule call one.one.told.response part
   asks : request_of settles.next.rule.depth part ≡ asked_from m next
-  begins : BeginsAt start settles.next (held_conn m next) (counted_by (held_conn m next)) part
+  begins : BeginsAt start settles.next (held_conn (knowing learnt m) next) (counted_by (held_conn (knowing learnt m) next)) part
 
 -- the response to a description that was heard whole
 described_so : (start : StreamSeen) (at next : Place) (a m : ConnSeen) (d : ℕ) (call : Call) (x : Extended) (own cleanup : List Group) (said : List FrontendMessage) (slice : List Frame) (response : List BackendMessage) → StandsAt start at a → call ≡ calls.Describe x → own ≡ groups_of (request_of d call) → length (groups_of (request_of d call)) ≡ 1 → heard next.frames ≡ heard at.frames ++ slice
@@ -360,13 +363,17 @@ described_so start at next a m d call x own cleanup said slice response st is wh
     told
 
 turns_on : (start first : StreamSeen) (old : Counted) (at : Place) (a m : ConnSeen) (step : Step) (call : Call) (next : Request) → BeginsAt start at a old call → step.polls < 2 ^ 32 → first.waits ≡ 0 → 0 < step.most
-    → HandedOn step.polls first (asking (request_of at.rule.depth call) old a) m (request_of at.rule.depth call) next → TurnsOn start at m old step call next
+    → (h : HandsTo step.polls first (asking (request_of at.rule.depth call) old a) m (request_of at.rule.depth call) next) → TurnsOn start at m old step call next h.learnt
 unfolding called_exchange
-turns_on start first old at a m step call next b p z l h =
+turns_on start first old at a m step call next b p z l hands =
+    let h = hands.handed in
+    let told : Request = hands.told in
+    let learnt : Learnt = hands.learnt in
+    let looked : (next ≡ told) ⊎ IsLooked told next = looks_or told next m.learnt learnt hands.looks in
     let exchange = exchange_of step call in
     let r = request_of at.rule.depth call in
     let begun = asking r old a in
-    let e = handed_ended (limits_of exchange) first begun m r next l h in
+    let e = handed_ended (limits_of exchange) first begun m r told l h in
     let found = ends_summary a.broken (limits_of exchange) first begun m at.rule.depth call h.said (heard h.fs) [] (ends.Ok AnswersUnit) e.ends in
     let s = found.1 in
     let st = b.stands in
@@ -375,27 +382,30 @@ turns_on start first old at a m step call next b p z l h =
     let response : List BackendMessage = c.one.told.response in
     let f = h.ends.0.0 in
     let rule : Rule = (settled m).rule in
-    let n : NextIs rule at.rule.depth call f.reply next = what_is_next rule at.rule.depth call f.reply f.status next h.ends.0.1 in
+    let n : NextIs rule at.rule.depth call f.reply told next = what_is_next rule at.rule.depth call f.reply f.status told next m.learnt learnt h.ends.0.1 hands.looks in
     let whole : s.own ≡ groups_of r = fine_own a.ledger r h.said (heard h.fs) [] found.0 m.ledger false s f in
     let q = queued_one a.ledger.owed r s.own (heard h.fs) s.queued (ap (λ (g : List Group). length g) whole ∙ n.one) in
     let same : response ≡ f.reply = replies_same response f.reply (sym c.one.told.says.0 ∙ main_after start at a r s.own (heard h.fs) st q ∙ f.replied) c.one.told.says.1 f.reply_has_frames in
-    let handed : handed_by call response ≡ Some next = ap (λ (ms : List BackendMessage). handed_by call ms) same ∙ n.handed in
-    let t : SettlesTo start at exchange (told_in c) c.one.own response mid m (held_conn m next) = subst (λ (o : Option Request). SettlesTo start at exchange (told_in c) c.one.own response mid m (conn_behind o (ends.Ok AnswersUnit) m)) handed (settles_so start at mid a m old step call [] (ends.Ok AnswersUnit) b c e.went.started.3 (λ x. absurd cc)) in
+    let handed : handed_by call response ≡ Some told = ap (λ (ms : List BackendMessage). handed_by call ms) same ∙ n.handed in
+    let t : SettlesTo start at exchange (told_in c) c.one.own response (Some next) mid m (held_conn (knowing learnt m) next) = settles_so start at mid a m old step call [] (ends.Ok AnswersUnit) b c e.went.started.3 (λ x. absurd cc) (Some next) learnt (subst (λ (o : Option Request). LooksOn o m.learnt (Some next) learnt) (sym handed) (next, refl, hands.looks)) in
     let none : t.settles.cleanup ≡ [] = t.settles.cleans ∙ cleanup_polled at.rule.depth call (ends.Ok AnswersUnit) c.one.own (owed t.left) b.polled ∙ sym (ok_cleans_none at.rule.depth call c.one.own) in
     let groups : t.next.groups ≡ at.groups ++ groups_of r = t.settles.groups ∙ ap (λ (g : List Group). g ++ t.settles.cleanup) (left_groups call c.one.own (ends.Ok AnswersUnit) mid t.left t.leaves) ∙ ap (λ (g : List Group). (at.groups ++ s.own) ++ g) none ∙ append-nil (at.groups ++ s.own) ∙ ap (λ (g : List Group). at.groups ++ g) whole in
     let frames : heard t.next.frames ≡ heard at.frames ++ heard h.fs = ap heard (t.settles.frames ∙ left_frames call c.one.own (ends.Ok AnswersUnit) mid t.left t.leaves) ∙ heard-append at.frames h.fs in
     let knows : t.next.rule ≡ held_by rule next = sym t.stands.rule in
-    let keeps : Keeps t.next = keeps_next at mid t.left t.next exchange (told_in c) t.out c.one t.leaves t.settles b.keeps b.sound
+    let kept = keeps_next at mid t.left t.next exchange (told_in c) t.out c.one t.leaves t.settles b.keeps b.sound b.holds
     (λ x is y. described_so start at t.next a m at.rule.depth call x s.own t.settles.cleanup h.said (heard h.fs) response st is whole n.one frames f (sym same) h.can) in
+    let keeps : Keeps t.next = kept.0 in
     let asks = n.asks t.next.rule.depth in
-    let closed = λ (v : Eviction) (is : call ≡ calls.Evict v). closes_known at t.next call v s.own response is (subst (λ (y : Call). IsSound at.rule y) is b.sound) t.settles.rule in
-    let known : KnownAt (widths_of (asked_from m next)) t.next = known_next rule start at t.next a (held_conn m next) at.rule.depth call next h.said (heard h.fs) [] st t.stands keeps groups frames closed h.ends.0 in
+    let knows_so : t.next.rule ≡ rule_after at.rule call s.own (Some next) (ends.Ok AnswersUnit) = t.settles.rule ∙ ap (λ (o : Option Request). rule_after at.rule call s.own o (ends.Ok AnswersUnit)) t.asked in
+    let closed = λ (v : Eviction) (is : call ≡ calls.Evict v). closes_known at t.next call v s.own response told next is (subst (λ (y : Call). IsSound at.rule y) is b.sound) handed looked knows_so in
+    let known : KnownAt (widths_of (asked_from m next)) t.next = known_next rule start at t.next a (held_conn (knowing learnt m) next) at.rule.depth call told next h.said (heard h.fs) [] st t.stands keeps groups frames closed (λ v is. (subst (λ (y : Call). IsSound at.rule y) is b.sound, looked_kept at t.next call v at.rule.depth (heard h.fs) is b.holds groups frames)) h.ends.0 looked in
     record {
       mid = mid;
       one = c;
       settles = t;
       part = n.part;
-      comes = ap (λ (k : Rule). next_call k call response) knows ∙ ap (λ (ms : List BackendMessage). next_call (held_by rule next) call ms) same ∙ n.comes;
+      comes = ap₂ (λ (k : Rule) (o : Option Request). next_call k o) knows t.asked ∙ n.comes;
+      behind = (told, m.learnt, learnt, next, handed, hands.looks, n.is);
       asks = asks;
       begins = record {
         stands = t.stands;
@@ -403,7 +413,8 @@ turns_on start first old at a m step call next b p z l h =
         known = subst (λ (q : Request). KnownAt (widths_of q) t.next) (sym asks) known;
         fits = omega arith;
         keeps = keeps;
-        sound = subst (λ (k : Rule). IsSound k n.part) (sym knows) (subst (λ (y : Call). IsSound (held_by rule next) y) (sym n.is) (next_sound rule call f.reply next n.handed (subst (λ (k : Rule). IsOrderly k) knows keeps.orderly)));
+        sound = subst (λ (k : Rule). IsSound k n.part) (sym knows) (subst (λ (y : Call). IsSound (held_by rule next) y) (sym n.is) (next_sound rule at.rule call f.reply told next n.handed looked b.sound (subst (λ (k : Rule). IsOrderly k) knows keeps.orderly)));
+        holds = subst (λ (y : Call). IsHeldFor t.next y) (sym n.is) (next_holds rule t.next call f.reply told next n.handed looked (λ l. kept.1 told next refl handed t.asked l));
       };
     }
 
@@ -420,21 +431,22 @@ turns_through [] start first old at a b step call out h p z v l parts (m, (said,
       subst (λ (x : Outcome). PlaysInTurn start first at step call old x stop b) (sym (outcome ∙ ap (λ (x : ConnSeen). outcome_of x out.items out.end) is))
           (subst (λ (x : ConnSeen). PlaysInTurn start first at step call old (outcome_of (behind_end out.end (copy_behind (parting_of call) out.end m)) out.items out.end) stop x) (sym is) turn.0),
     )
-turns_through (next ∷ later) start first old at a b step call out h p z v l parts (m, handed, behind) =
+turns_through (next ∷ later) start first old at a b step call out h p z v l parts (m, hands, behind) =
     let r = request_of at.rule.depth call in
-    let t = turns_on start first old at a m step call next h p z l handed in
-    let stood = handed.went.started.3 in
-    let made : (held_conn m next).cache ≡ over old.cache t.settles.out.cache = t.settles.others.4 ∙ ap (λ (x : Standing). over x.cache t.settles.out.cache) stood in
-    let further = subst (λ (q : Request). OfLastIn later step.polls first (λ x asked. PlaysOne (limits_of step) first x b asked out) (asking q (counted_by (held_conn m next)) (held_conn m next)) q) (sym t.asks)
-    (subst (λ (x : ConnSeen). OfLastIn later step.polls first (λ x asked. PlaysOne (limits_of step) first x b asked out) x (asked_from m next)) (handed_asking step.polls first (asking r old a) m r next handed) behind) in
-    let others = turns_through later start first (counted_by (held_conn m next)) t.settles.next (held_conn m next) b step t.part out t.begins p z v l (next_parts t.settles.next.rule call t.one.one.told.response t.part t.comes ∙ parts) further in
+    let t = turns_on start first old at a m step call next h p z l hands in
+    let stood = hands.handed.went.started.3 in
+    let conn : ConnSeen = held_conn (knowing hands.learnt m) next in
+    let made : conn.cache ≡ over old.cache t.settles.out.cache = t.settles.others.4 ∙ ap (λ (x : Standing). over x.cache t.settles.out.cache) stood in
+    let further = subst (λ (q : Request). OfLastIn later step.polls first (λ x asked. PlaysOne (limits_of step) first x b asked out) (asking q (counted_by conn) conn) q) (sym t.asks)
+    (subst (λ (x : ConnSeen). OfLastIn later step.polls first (λ x asked. PlaysOne (limits_of step) first x b asked out) x (asked_from m next)) (handed_asking step.polls first (asking r old a) m r next hands) behind) in
+    let others = turns_through later start first (counted_by conn) t.settles.next conn b step t.part out t.begins p z v l (next_parts (settled m).rule call t.one.one.told.response t.part t.behind ∙ parts) further in
     let o = others.1 in (
       others.0,
       record {
-        turns = more_turns start at t.mid others.0 m (held_conn m next) b step call t.part old out t.one t.settles t.comes made o.turns;
+        turns = more_turns start at t.mid others.0 m conn b step call t.part old out t.one t.settles t.comes made o.turns;
         dropped = λ k. dropped_from at t.settles.next others.0 step out (omega (arith, t.one.counts.write_waits, ap (λ (y : StreamSeen). y.link.write_waits) t.settles.settles.seen, ap (λ (y : LinkSeen). y.write_waits) (left_link call t.one.one.own (ends.Ok AnswersUnit) t.mid t.settles.left t.settles.leaves))) (o.dropped k);
         few = o.few;
-        most = λ w. o.most (ap waits_how (next_how t.settles.next.rule call t.one.one.told.response t.part t.comes) ∙ w);
+        most = λ w. o.most (ap waits_how (next_how (settled m).rule call t.one.one.told.response t.part t.behind) ∙ w);
         waits = o.waits;
         calls = o.calls;
       },

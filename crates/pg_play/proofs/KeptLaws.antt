@@ -8,18 +8,17 @@ use Rattle.pg_wire.specs.Frame.{Frame}
 use Rattle.pg_wire.specs.Parts.{heard, is_ready}
 use Rattle.pg_wire.specs.Frontend.{FrontendMessage, Bind, ClosePortal, CopyData, CopyDone, CloseStatement, DescribeStatement, Execute, Parse, Query, Sync, statement_name}
 use Rattle.pg_wire.specs.Backend.{BackendMessage, backend_frame, HasBackendFrame, FieldDescription}
-use Rattle.pg_wire.specs.Groups.{EndsReady, IsGroup}
-use Rattle.pg_wire.specs.Server.{MayHear}
+use Rattle.pg_wire.specs.Groups.{EndsReady}
 use Rattle.pg_wire.proofs.Each.{each_join}
 use Rattle.pg_stream.specs.Streams.{StreamSeen}
-use Rattle.pg_exchanges.specs.Expecting.{AreDistinct, BeginsKnowing, Widths, width_at}
-use Rattle.pg_exchanges.specs.Answering.{described, describing, closing, IsClosedBy, IsNoError}
+use Rattle.pg_exchanges.specs.Expecting.{AreDistinct, width_at}
+use Rattle.pg_exchanges.specs.Answering.{described, describing, closing, running, IsClosedBy, IsNoError}
 use Rattle.pg_exchanges.specs.Keeping.{Named, Spares}
 use Rattle.pg_rule.specs.declared.cache.Entry.{Entry}
 use Rattle.pg_rule.specs.declared.rule.Rule.{Rule}
 use Rattle.pg_rule.specs.Caches.{Statements, entry_at, has_number, used, widths_in}
 use Rattle.pg_rule.specs.Rules.{IsOrderly, IsNewest, IsFull, drawn, number_left, holding, kept, forgotten}
-use Rattle.pg_rule.proofs.OrderLaws.{first_of, each_by, front_each, used_is, found_has, draw_orderly, touch_orderly, hold_orderly, put_orderly, forget_orderly, clear_orderly, drawn_newest, names_apart, put_full, new_orderly}
+use Rattle.pg_rule.proofs.OrderLaws.{first_of, each_by, front_each, used_is, draw_orderly, touch_orderly, hold_orderly, put_orderly, forget_orderly, clear_orderly, drawn_newest, names_apart, put_full, new_orderly}
 use Rattle.pg_request.specs.Queries.{QueryText, ArgumentsSeen}
 use Rattle.pg_request.specs.declared.preparation.Preparation.{Preparation}
 use Rattle.pg_call.specs.declared.kind.How.{How}
@@ -35,40 +34,33 @@ use Rattle.pg_call.specs.declared.statement.Goal.{Goal}
 use Rattle.pg_call.specs.declared.statement.Goal.TheVariants as goals
 use Rattle.pg_call.specs.declared.request.Request.{Request}
 use Rattle.pg_call.specs.declared.request.Request.TheVariants as requests
-use Rattle.pg_call.specs.declared.answer.CallItem.{CallItem}
-use Rattle.pg_call.specs.declared.answer.CallAnswer.TheVariants as answers
-use Rattle.pg_call.specs.Calls.{EndsFine}
-use Rattle.pg_call.proofs.FitLaws.{hands_on_described, next_is}
 use Rattle.pg_request.specs.Texts.{begin_text, commit_text, rollback_text}
-use Rattle.pg_call.specs.Requests.{ended_by, known as known_under, named_keeping, said_in, widths_of, Group, name_of, groups_of, keeping_of, behind_goal, request_behind, CanBeSaid}
+use Rattle.pg_call.specs.Requests.{ended_by, named_keeping, parsing_by, Group, name_of, groups_of, keeping_of, behind_goal, request_behind, CanBeSaid}
 use Rattle.pg_call.specs.Items.{parameters_after}
 use Rattle.pg_call.specs.Drains.{after_readys}
-use Rattle.pg_conn.specs.Connections.{ConnSeen, rollback, with_depth}
+use Rattle.pg_conn.specs.Connections.{rollback, with_depth}
 use Rattle.pg_conn.specs.Holding.{release}
-use Rattle.pg_conn.specs.Statements.{asked_by, begun_as, by_leaving, entry_of, held_by, is_named, is_numbered, number_for, leaving, moved, unmoved, prepare_by, run_or_describe, tell_or_describe}
+use Rattle.pg_learning.specs.declared.learnt.Learnt.{Learnt}
+use Rattle.pg_conn.specs.Statements.{asked_by, begun_as, by_leaving, entry_of, held_behind, held_by, is_named, is_numbered, number_for, leaving, moved, unmoved, prepare_by, run_or_describe, tell_or_describe}
 use Rattle.pg_conn.specs.States.{to_prepare}
-use Rattle.pg_report.specs.declared.outcome.Answer.TheVariants.{Unit as AnswersUnit}
 use Rattle.pg_report.specs.declared.outcome.End.{End}
 use Rattle.pg_report.specs.declared.outcome.End.TheVariants as ends
 use Rattle.pg_report.specs.declared.outcome.Outcome.{Outcome}
 use Rattle.pg_script.specs.declared.step.Call.{Call}
 use Rattle.pg_script.specs.declared.step.Call.TheVariants as calls
 use Rattle.pg_script.specs.declared.step.Step.{Step}
-use Rattle.pg_play.specs.Shown.{begins, request_of, first_as, first_call, handed_by, exchange_for, acts_at_once}
+use Rattle.pg_play.specs.Shown.{LooksOn, begins, request_of, first_as, first_call, handed_by, exchange_for, acts_at_once}
 use Rattle.pg_play.specs.Copying.{LeavesCopy}
 use Rattle.pg_play.specs.Places.{Place, first_place, is_fine, owed, Queues}
 use Rattle.pg_play.specs.Settling.{Settles, cleanup_of, has_group, has_moved, statements_after, handed_at, held_after, rule_after, depth_after, rollback_at, release_at}
 use Rattle.pg_play.specs.Kept.{IsKeptAt, Keeps, named_of}
-use Rattle.pg_play.specs.Plays.{Plays_call, StandsAt}
-use Rattle.pg_play.proofs.PlaceLaws.{all_split, owed_is, readies-append}
+use Rattle.pg_play.specs.Plays.{Plays_call}
+use Rattle.pg_play.proofs.PlaceLaws.{all_split, readies-append}
 use Rattle.pg_play.proofs.SettleLaws.{left_frames, left_groups}
-use Rattle.pg_play.proofs.PartLaws.{after_more}
-use Rattle.pg_play.proofs.KnownLaws.{lawful_keeps}
-use Rattle.pg_play.proofs.CalledLaws.{KnownAt, known_none}
-use Rattle.pg_play.proofs.SettledLaws.{cleanup_by, cleanup_polled, none_handed}
-use Rattle.pg_play.proofs.ExchangeLaws.{hands_by, told_by}
-use Rattle.pg_play.proofs.NameLaws.{each_known, each_two, named_nothing, named_some}
-use Rattle.pg_play.proofs.NextLaws.{after_further, described_known}
+use Rattle.pg_play.proofs.SettledLaws.{cleanup_by, cleanup_polled}
+use Rattle.pg_play.proofs.ExchangeLaws.{IsLooked, looks_or, told_by}
+use Rattle.pg_play.proofs.NameLaws.{each_two, named_some}
+use Rattle.pg_play.proofs.NextLaws.{after_further}
 
 -- ---- what becomes of the statements
 
@@ -154,9 +146,21 @@ pub record ClosesNone (rule : Rule) (v : Eviction) : Type 0 where
   pub gone : AllByRecursion (λ e. name_of e.statement ≢ name_of v.statement) (kept rule).cache.entries
   pub after : IsAfter (kept rule) v.after
 
+-- a statement that was described
+pub record WasDescribed (x : Extended) : Type 0 where
+  pub description : Described
+  pub is : x.described ≡ Some description
+  pub columns : description.columns ≡ Some (unwrap_or description.columns [])
+
+-- something is looked up for it
+pub record IsLooking (x : Extended) : Type 0 where
+  pub was : WasDescribed x
+  pub looked : x.is_looked_up ≡ true
+
 abbrev pub IsSound : Rule → Call → Type 0
 IsSound rule (calls.Describe x) = IsNumbered rule x
 IsSound rule (calls.Evict v) = ClosesNone rule v
+IsSound rule (calls.Look l) = IsLooking l.extended
 IsSound rule call = Unit {0}
 
 numbered_by : (persistent : Bool) (rule : Rule) → is_numbered persistent rule ≡ true → (number_for persistent rule ≡ 0) ⊎ ((number_for persistent rule ≡ rule.next) × (rule.next < 2 ^ 32))
@@ -254,12 +258,10 @@ closes_last rule new last a o full held is after =
         newest_below = (subst (λ (h : Option Entry). IfSome h (λ e. IsNewest e rule)) held o.newest).1
 
 -- what is asked behind a description
-told_sound : (rule : Rule) (x : Extended) (reply : List BackendMessage) → IsOrderly (held_by rule (told_by x reply)) → IsSound (held_by rule (told_by x reply)) (exchange_for (asked_by rule (told_by x reply)))
-told_sound rule x reply o = by (nat_eq x.statement 0) o
+told_sound : (rule : Rule) (x : Extended) (d : Described) → d.columns ≡ Some (unwrap_or d.columns []) → IsOrderly (held_by rule (requests.Describe (record x { described = Some d })))
+    → IsSound (held_by rule (requests.Describe (record x { described = Some d }))) (exchange_for (asked_by rule (requests.Describe (record x { described = Some d }))))
+told_sound rule x d columns o = by (nat_eq x.statement 0) o
   where
-    d : Described
-    d = record { parameters = parameters_after [] reply; columns = Some (described reply) }
-
     x' : Extended
     x' = record x { described = Some d }
 
@@ -271,7 +273,7 @@ told_sound rule x reply o = by (nat_eq x.statement 0) o
     runs goals.Prepare keeping r = tt
 
     after : (goal : Goal) (others : List Entry) → IsAfter (record (holding new rule) { cache = record { entries = new ∷ others; held = None } }) (behind_goal goal x' d keepings.Stays)
-    after (goals.Run how) others = (new, others, refl, refl, refl)
+    after (goals.Run how) others = (new, others, refl, refl, columns)
     after goals.Prepare others = tt
 
     closes : (full : Bool) → leb rule.capacity (length rule.cache.entries) ≡ full → (last : Option Entry) → last_or None rule.cache.entries ≡ last → IsOrderly (holding new rule)
@@ -283,6 +285,12 @@ told_sound rule x reply o = by (nat_eq x.statement 0) o
     by : (b : Bool) → IsOrderly (cond b rule (holding new rule)) → IsSound (cond b rule (holding new rule)) (exchange_for (cond b (request_behind (behind_goal x.goal x' d keepings.Stays)) (by_leaving x' d (option_map (λ (e : Entry). e.statement) (leaving rule)))))
     by true o = runs x.goal keepings.Stays rule
     by false o = closes (leb rule.capacity (length rule.cache.entries)) refl (last_or None rule.cache.entries) refl o
+
+described_sound : (rule : Rule) (x : Extended) → WasDescribed x → IsOrderly (held_by rule (requests.Describe x)) → IsSound (held_by rule (requests.Describe x)) (exchange_for (asked_by rule (requests.Describe x)))
+described_sound rule x w o =
+    let same : record x { described = Some w.description } ≡ x = ap (λ (d : Option Described). record x { described = d }) (sym w.is) in
+    subst (λ (y : Extended). IsSound (held_by rule (requests.Describe y)) (exchange_for (asked_by rule (requests.Describe y)))) same
+    (told_sound rule x w.description w.columns (subst (λ (y : Extended). IsOrderly (held_by rule (requests.Describe y))) (sym same) o))
 
 -- and behind a close
 after_sound : (rule : Rule) (a : After) → IsSound (held_by rule (request_behind a)) (exchange_for (asked_by rule (request_behind a)))
@@ -297,12 +305,45 @@ after_sound rule (afters.Prepare prepared) = by prepared.columns
         tells (Some e) = tt
         tells None = λ h. numbered_by true rule h
 
-pub next_sound : (rule : Rule) (call : Call) (reply : List BackendMessage) (next : Request) → handed_by call reply ≡ Some next → IsOrderly (held_by rule next) → IsSound (held_by rule next) (exchange_for (asked_by rule next))
-next_sound rule (calls.Describe x) reply next e o =
-    let is = same_Some (told_by x reply) next e in
-    subst (λ (r : Request). IsSound (held_by rule r) (exchange_for (asked_by rule r))) is (told_sound rule x reply (subst (λ (r : Request). IsOrderly (held_by rule r)) (sym is) o))
-next_sound rule (calls.Evict v) reply next e o = subst (λ (r : Request). IsSound (held_by rule r) (exchange_for (asked_by rule r))) (same_Some (request_behind v.after) next e) (after_sound rule v.after)
-next_sound rule _ reply next e o = absurd cc
+-- what is handed on was described, where it is a description
+abbrev pub IsToldWhole : Request → Type 0
+IsToldWhole (requests.Describe x) = WasDescribed x
+IsToldWhole _ = Unit {0}
+
+told_was : (x : Extended) (reply : List BackendMessage) → IsToldWhole (told_by x reply)
+told_was x reply = record { description = record { parameters = parameters_after [] reply; columns = Some (described reply) }; is = refl; columns = refl }
+
+after_whole : (a : After) → IsToldWhole (request_behind a)
+after_whole (afters.Run bound) = tt
+after_whole (afters.Prepare prepared) = tt
+
+pub told_whole : (rule : Rule) (call : Call) (reply : List BackendMessage) (told : Request) → handed_by call reply ≡ Some told → IsSound rule call → IsToldWhole told
+told_whole rule (calls.Describe x) reply told e s = subst IsToldWhole (same_Some (told_by x reply) told e) (told_was x reply)
+told_whole rule (calls.Evict v) reply told e s = subst IsToldWhole (same_Some (request_behind v.after) told e) (after_whole v.after)
+told_whole rule (calls.Look l) reply told e s = subst IsToldWhole (same_Some (requests.Describe l.extended) told e) s.was
+told_whole rule _ reply told e s = absurd cc
+
+-- so is what something is looked up for
+looked_whole : (told next : Request) → IsToldWhole told → (l : IsLooked told next) → IsLooking (record l.extended { is_looked_up = true })
+looked_whole told next w l =
+    let was : WasDescribed l.extended = subst IsToldWhole l.tells w in
+    record { was = record { description = was.description; is = was.is; columns = was.columns }; looked = refl }
+
+handed_sound : (rule old : Rule) (call : Call) (reply : List BackendMessage) (told : Request) → handed_by call reply ≡ Some told → IsSound old call → IsOrderly (held_by rule told) → IsSound (held_by rule told) (exchange_for (asked_by rule told))
+handed_sound rule old (calls.Describe x) reply told e s o =
+    let is = same_Some (told_by x reply) told e in
+    subst (λ (r : Request). IsSound (held_by rule r) (exchange_for (asked_by rule r))) is (described_sound rule _ (told_was x reply) (subst (λ (r : Request). IsOrderly (held_by rule r)) (sym is) o))
+handed_sound rule old (calls.Evict v) reply told e s o = subst (λ (r : Request). IsSound (held_by rule r) (exchange_for (asked_by rule r))) (same_Some (request_behind v.after) told e) (after_sound rule v.after)
+handed_sound rule old (calls.Look l) reply told e s o =
+    let is = same_Some (requests.Describe l.extended) told e in
+    subst (λ (r : Request). IsSound (held_by rule r) (exchange_for (asked_by rule r))) is (described_sound rule l.extended s.was (subst (λ (r : Request). IsOrderly (held_by rule r)) (sym is) o))
+handed_sound rule old _ reply told e s o = absurd cc
+
+pub next_sound : (rule old : Rule) (call : Call) (reply : List BackendMessage) (told next : Request) → handed_by call reply ≡ Some told → (next ≡ told) ⊎ IsLooked told next → IsSound old call → IsOrderly (held_by rule next) → IsSound (held_by rule next) (exchange_for (asked_by rule next))
+next_sound rule old call reply told next e (inl same) s o =
+    subst (λ (r : Request). IsSound (held_by rule r) (exchange_for (asked_by rule r))) (sym same) (handed_sound rule old call reply told e s (subst (λ (r : Request). IsOrderly (held_by rule r)) same o))
+next_sound rule old call reply told next e (inr l) s o =
+    subst (λ (r : Request). IsSound (held_by rule r) (exchange_for (asked_by rule r))) (sym l.asks) (looked_whole told next (told_whole old call reply told e s) l)
 
 -- ---- groups that close no statement
 
@@ -333,7 +374,7 @@ data_closes n (piece ∷ pieces) ended c = none_closes (CopyData piece) (map Cop
 feed_spares : (n : Named) (sql : List ℕ) (pieces : List (List ℕ)) (ended : Bool) → Spares n (Query sql ∷ (map CopyData pieces ++ ended_by ended))
 feed_spares n sql pieces ended c = none_closes (Query sql) (map CopyData pieces ++ ended_by ended) n.name (λ e. cc) (data_closes n pieces ended) c
 
-spares_asked : (n : Named) (d : ℕ) (call : Call) → (ClosesSome call → ⊥) → AllByRecursion (Spares n) (groups_of (request_of d call))
+pub spares_asked : (n : Named) (d : ℕ) (call : Call) → (ClosesSome call → ⊥) → AllByRecursion (Spares n) (groups_of (request_of d call))
 spares_asked n d (calls.Execute query) h = (query_spares n query.sql, tt)
 spares_asked n d (calls.ExecuteMany query) h = (query_spares n query.sql, tt)
 spares_asked n d (calls.Fetch query) h = (query_spares n query.sql, tt)
@@ -356,11 +397,18 @@ spares_asked n d calls.StartRollback h = tt
 spares_asked n d (calls.Release text) h = tt
 spares_asked n d (calls.Describe x) h =
     (λ c. none_closes (Parse (name_of x.statement) x.sql x.arguments.types) (DescribeStatement (name_of x.statement) ∷ Sync ∷ []) n.name (λ e. cc) (λ z. none_closes (DescribeStatement (name_of x.statement)) (Sync ∷ []) n.name (λ e. cc) (λ y. none_closes Sync [] n.name (λ e. cc) (λ w. w) y) z) c, tt)
-spares_asked n d (calls.Run bound) h =
-    (λ c. none_closes (Bind (name_of bound.statement) bound.arguments.values) (Execute [] 0 ∷ ClosePortal [] ∷ Sync ∷ []) n.name (λ e. cc) (λ z. none_closes (Execute [] 0) (ClosePortal [] ∷ Sync ∷ []) n.name (λ e. cc) (λ y. none_closes (ClosePortal []) (Sync ∷ []) n.name (λ e. cc) (λ w. none_closes Sync [] n.name (λ e. cc) (λ v. v) w) y) z) c, tt)
+spares_asked n d (calls.Run bound) h = (by bound.again, tt)
+  where
+    binds : IsClosedBy (running (name_of bound.statement) bound.arguments.values 0) n.name → ⊥
+    binds c = none_closes (Bind (name_of bound.statement) bound.arguments.values) (Execute [] 0 ∷ ClosePortal [] ∷ Sync ∷ []) n.name (λ e. cc) (λ z. none_closes (Execute [] 0) (ClosePortal [] ∷ Sync ∷ []) n.name (λ e. cc) (λ y. none_closes (ClosePortal []) (Sync ∷ []) n.name (λ e. cc) (λ w. none_closes Sync [] n.name (λ e. cc) (λ v. v) w) y) z) c
+
+    by : (again : Option (List ℕ)) → IsClosedBy (parsing_by (name_of bound.statement) bound.arguments.types again ++ running (name_of bound.statement) bound.arguments.values 0) n.name → ⊥
+    by None c = binds c
+    by (Some sql) c = none_closes (Parse (name_of bound.statement) sql bound.arguments.types) (running (name_of bound.statement) bound.arguments.values 0) n.name (λ e. cc) binds c
 spares_asked n d (calls.Prepare p) h = tt
 spares_asked n d calls.Clear h = tt
 spares_asked n d (calls.Evict v) h = absurd (h tt)
+spares_asked n d (calls.Look l) h = (query_spares n l.text, tt)
 spares_asked n d (calls.Tell prepared) h = tt
 spares_asked n d (calls.CloseAll statements) h = absurd (h tt)
 
@@ -535,6 +583,7 @@ leaves_statements at next call end own cleanup slice rule q cleans sound groups 
     kept_by (calls.Prepare p) s q = others (calls.Prepare p) (λ z. z) q
     kept_by calls.Clear s q = others calls.Clear (λ z. z) q
     kept_by (calls.Tell prepared) s q = others (calls.Tell prepared) (λ z. z) q
+    kept_by (calls.Look l) s q = others (calls.Look l) (λ z. z) q
 
 -- ---- a statement that an exchange described
 
@@ -566,16 +615,33 @@ new_kept at next x own cleanup slice response t cleans groups d columns = record
   columns = sym (ap (λ (o : Option (List FieldDescription)). unwrap_or o []) columns);
 }
 
--- it is held where it has a name
-leaves_held : (at next : Place) (rule : Rule) (x : Extended) (own cleanup : List Group) (slice : List Frame) (response : List BackendMessage) → DescribedAt at next x own cleanup slice response → ((n : Named) → AllByRecursion (Spares n) cleanup) → next.groups ≡ at.groups ++ (own ++ cleanup)
-    → IsOrderly rule → IsNumbered rule x → LeavesKept at next (moved (named_keeping x.statement) rule) → LeavesKept at next (held_by (moved (named_keeping x.statement) rule) (told_by x response))
-leaves_held at next rule x own cleanup slice response t cleans groups o numbered l = by (nat_eq x.statement 0) refl l
-  where
-    d : Described
-    d = record { parameters = parameters_after [] response; columns = Some (described response) }
+-- what was described stands at the server where it has a name, and is newer than all that are kept
+abbrev pub CanHold : Place → Rule → Extended → Type 0
+CanHold at rule x = (d : Described) → x.described ≡ Some d → nat_eq x.statement 0 ≡ false → IsKeptAt at (entry_of x d) × IsNewest (entry_of x d) rule
 
-    new : Entry
-    new = entry_of (record x { described = Some d }) d
+-- so is what is handed on, where it is a description
+abbrev pub CanHoldTold : Place → Rule → Request → Type 0
+CanHoldTold at rule (requests.Describe x) = CanHold at rule x
+CanHoldTold at rule _ = Unit {0}
+
+-- and what something is looked up for
+abbrev pub IsHeldFor : Place → Call → Type 0
+IsHeldFor at (calls.Look l) = CanHold at at.rule l.extended
+IsHeldFor at _ = Unit {0}
+
+-- it is so behind the description
+described_holds : (at next : Place) (rule : Rule) (x : Extended) (own cleanup : List Group) (slice : List Frame) (response : List BackendMessage) → DescribedAt at next x own cleanup slice response → ((n : Named) → AllByRecursion (Spares n) cleanup) → next.groups ≡ at.groups ++ (own ++ cleanup)
+    → IsOrderly rule → IsNumbered rule x → CanHoldTold next (moved (named_keeping x.statement) rule) (told_by x response)
+described_holds at next rule x own cleanup slice response t cleans groups o numbered d is e =
+    let k = is_new e (numbered t.can.1.1) in
+    let same : told ≡ d = same_Some told d is in
+    let so : moved (named_keeping x.statement) rule ≡ drawn rule = ap (λ (b : Bool). moved (cond b keepings.Stays keepings.Draws) rule) e ∙ drawn_so k.1 in (
+      new_kept at next x own cleanup slice response t cleans groups d (ap (λ (y : Described). y.columns) (sym same)),
+      subst (IsNewest (entry_of (record x { described = Some d }) d)) (sym so) (drawn_newest rule (entry_of (record x { described = Some d }) d) o k.0),
+    )
+  where
+    told : Described
+    told = record { parameters = parameters_after [] response; columns = Some (described response) }
 
     is_new : nat_eq x.statement 0 ≡ false → (x.statement ≡ 0) ⊎ ((x.statement ≡ rule.next) × (rule.next < 2 ^ 32)) → (x.statement ≡ rule.next) × (rule.next < 2 ^ 32)
     is_new e (inl z) = let y = sym (ap (λ (n : ℕ). nat_eq n 0) z) ∙ e in absurd cc
@@ -584,15 +650,37 @@ leaves_held at next rule x own cleanup slice response t cleans groups o numbered
     drawn_so : (k : rule.next < 2 ^ 32) → moved keepings.Draws rule ≡ drawn rule
     drawn_so k = ap (λ (b : Bool). cond (is_some (cond b (Some rule.next) None)) (drawn rule) rule) (lt-ltb rule.next 4294967296 k)
 
-    by : (b : Bool) → nat_eq x.statement 0 ≡ b → LeavesKept at next (moved (cond b keepings.Stays keepings.Draws) rule) → LeavesKept at next (cond b (moved (cond b keepings.Stays keepings.Draws) rule) (holding new (moved (cond b keepings.Stays keepings.Draws) rule)))
-    by true e l = l
-    by false e l =
-        let k = is_new e (numbered t.can.1.1) in
-        let so = drawn_so k.1 in
+-- it is held where it has a name
+holds_told : (at next : Place) (rule : Rule) (x : Extended) → CanHold next rule x → LeavesKept at next rule → LeavesKept at next (held_by rule (requests.Describe x))
+holds_told at next rule x h l = by x.described refl
+  where
+    named : (d : Described) → x.described ≡ Some d → (b : Bool) → nat_eq x.statement 0 ≡ b → LeavesKept at next (cond b rule (holding (entry_of x d) rule))
+    named d is true e = l
+    named d is false e =
+        let k = h d is e in
         record {
-          orderly = hold_orderly (moved keepings.Draws rule) new l.orderly (subst (IsNewest new) (sym so) (drawn_newest rule new o k.0));
-          kept = (new_kept at next x own cleanup slice response t cleans groups d refl, (all_split (IsKeptAt next) (option_to_list (moved keepings.Draws rule).cache.held) (moved keepings.Draws rule).cache.entries l.kept).1);
+          orderly = hold_orderly rule (entry_of x d) l.orderly k.1;
+          kept = (k.0, (all_split (IsKeptAt next) (option_to_list rule.cache.held) rule.cache.entries l.kept).1);
         }
+
+    by : (o : Option Described) → x.described ≡ o → LeavesKept at next (held_behind rule x o)
+    by None is = l
+    by (Some d) is = named d is (nat_eq x.statement 0) refl
+
+leaves_told : (at next : Place) (rule : Rule) (told : Request) → CanHoldTold next rule told → LeavesKept at next rule → LeavesKept at next (held_by rule told)
+leaves_told at next rule (requests.Describe x) h l = holds_told at next rule x h l
+leaves_told at next rule _ h l = l
+
+-- what is asked next, by what was handed on
+leaves_asked : (at next : Place) (rule : Rule) (told asked : Request) → (asked ≡ told) ⊎ IsLooked told asked → CanHoldTold next rule told → LeavesKept at next rule → LeavesKept at next (held_by rule asked)
+leaves_asked at next rule told asked (inl same) h l = subst (λ (r : Request). LeavesKept at next (held_by rule r)) (sym same) (leaves_told at next rule told h l)
+leaves_asked at next rule told asked (inr k) h l = subst (λ (r : Request). LeavesKept at next (held_by rule r)) (sym k.asks) l
+
+-- a lookup changes nothing of that
+pub looked_holds : (at next : Place) (x : Extended) (own : List Group) (slice : List Frame) → CanHold at at.rule x → ((n : Named) → AllByRecursion (Spares n) own) → next.groups ≡ at.groups ++ own → heard next.frames ≡ heard at.frames ++ slice → CanHold next at.rule x
+looked_holds at next x own slice h spared groups frames d is e =
+    let k = h d is e in
+    (kept_further at next (entry_of x d) own slice k.0 (spared (named_of (entry_of x d))) groups frames, k.1)
 
 -- ---- behind an exchange
 
@@ -609,202 +697,71 @@ after_open depth rule (afters.Prepare prepared) h = h
 sound_open : (depth : ℕ) (rule : Rule) (call : Call) → IsSound rule call → IsSound (with_depth depth rule) call
 sound_open depth rule (calls.Describe x) s = s
 sound_open depth rule (calls.Evict v) s = record { gone = s.gone; after = after_open depth rule v.after s.after }
+sound_open depth rule (calls.Look l) s = s
 sound_open depth rule _ s = tt
 
-held_after_close : (rule : Rule) (a : After) → held_by rule (request_behind a) ≡ rule
+pub held_after_close : (rule : Rule) (a : After) → held_by rule (request_behind a) ≡ rule
 held_after_close rule (afters.Run bound) = refl
 held_after_close rule (afters.Prepare prepared) = refl
 
 fine_handed : (end : End) (call : Call) (response : List BackendMessage) → is_fine end ≡ true → handed_at end call response ≡ handed_by call response
 fine_handed end call response f = ap (λ (b : Bool). cond b (handed_by call response) None) f
 
+handed_fine : (end : End) (call : Call) (response : List BackendMessage) (told : Request) → handed_at end call response ≡ Some told → is_fine end ≡ true
+handed_fine (ends.Ok answer) call response told e = refl
+handed_fine (ends.Err x) call response told e = absurd cc
+handed_fine ends.Dropped call response told e = absurd cc
+
+after_holds : (at : Place) (rule : Rule) (a : After) → CanHoldTold at rule (request_behind a)
+after_holds at rule (afters.Run bound) = tt
+after_holds at rule (afters.Prepare prepared) = tt
+
 -- each statement that is kept is kept still, or was closed, or another one was put in its place
-pub keeps_by : (at next : Place) (call : Call) (end : End) (own cleanup : List Group) (slice : List Frame) (response : List BackendMessage) → Keeps at → IsSound at.rule call → Queues end (groups_of (request_of at.rule.depth call)) own → ((n : Named) → AllByRecursion (Spares n) cleanup)
-    → next.groups ≡ at.groups ++ (own ++ cleanup) → heard next.frames ≡ heard at.frames ++ slice → next.rule ≡ rule_after at.rule call own response end
-    → ((x : Extended) → call ≡ calls.Describe x → is_fine end ≡ true → DescribedAt at next x own cleanup slice response) → Keeps next
-keeps_by at next call end own cleanup slice response k sound q cleans groups frames rule described = by (is_fine end) refl
+pub keeps_by : (at next : Place) (call : Call) (end : End) (own cleanup : List Group) (slice : List Frame) (response : List BackendMessage) (asks : Option Request) (learnt : Learnt) → Keeps at → IsSound at.rule call → IsHeldFor at call → Queues end (groups_of (request_of at.rule.depth call)) own → ((n : Named) → AllByRecursion (Spares n) cleanup)
+    → next.groups ≡ at.groups ++ (own ++ cleanup) → heard next.frames ≡ heard at.frames ++ slice → LooksOn (handed_at end call response) learnt asks next.learnt → next.rule ≡ rule_after at.rule call own asks end
+    → ((x : Extended) → call ≡ calls.Describe x → is_fine end ≡ true → DescribedAt at next x own cleanup slice response) → Keeps next × ((told asked : Request) → is_fine end ≡ true → handed_by call response ≡ Some told → asks ≡ Some asked → IsLooked told asked → CanHoldTold next next.rule told)
+keeps_by at next call end own cleanup slice response asks learnt k sound held q cleans groups frames looks rule described = (
+  by (handed_at end call response) refl looks,
+  λ told asked f handed a looked. subst (λ (r : Rule). CanHoldTold next r told) (sym (rule ∙ ap (λ (o : Option Request). held_after o (S call)) (a ∙ ap (λ (r : Request). Some r) looked.asks))) (fine f call sound held q (λ x is. described x is f) told handed),
+)
   where
     S : Call → Rule
     S c = statements_after (keeping_of (request_of at.rule.depth c)) (has_moved own end) (with_depth (depth_after at.rule.depth c end) at.rule)
 
-    base : (c : Call) → IsSound at.rule c → Queues end (groups_of (request_of at.rule.depth c)) own → LeavesKept at next (S c)
-    base c s q = leaves_statements at next c end own cleanup slice (with_depth (depth_after at.rule.depth c end) at.rule) q cleans (sound_open (depth_after at.rule.depth c end) at.rule c s) groups frames (open_orderly (depth_after at.rule.depth c end) at.rule k.orderly) k.kept
+    base : LeavesKept at next (S call)
+    base = leaves_statements at next call end own cleanup slice (with_depth (depth_after at.rule.depth call end) at.rule) q cleans (sound_open (depth_after at.rule.depth call end) at.rule call sound) groups frames (open_orderly (depth_after at.rule.depth call end) at.rule k.orderly) k.kept
 
-    none : (c : Call) → IsSound at.rule c → Queues end (groups_of (request_of at.rule.depth c)) own → handed_at end c response ≡ None → next.rule ≡ rule_after at.rule c own response end → Keeps next
-    none c s q h e = to_keeps at next (S c) (base c s q) (e ∙ ap (λ (o : Option Request). held_after o (S c)) h)
+    looked : (b : Bool) → statements_after keepings.Stays b at.rule ≡ at.rule
+    looked true = refl
+    looked false = refl
 
-    fine : is_fine end ≡ true → (c : Call) → IsSound at.rule c → Queues end (groups_of (request_of at.rule.depth c)) own → next.rule ≡ rule_after at.rule c own response end → ((x : Extended) → c ≡ calls.Describe x → DescribedAt at next x own cleanup slice response) → Keeps next
-    fine f (calls.Describe x) s q e d =
+    -- what is handed on may be held
+    fine : is_fine end ≡ true → (c : Call) → IsSound at.rule c → IsHeldFor at c → Queues end (groups_of (request_of at.rule.depth c)) own → ((x : Extended) → c ≡ calls.Describe x → DescribedAt at next x own cleanup slice response) → (told : Request) → handed_by c response ≡ Some told → CanHoldTold next (S c) told
+    fine f (calls.Describe x) s h q d told e =
         let moved_so : S (calls.Describe x) ≡ moved (named_keeping x.statement) at.rule = ap (λ (b : Bool). statements_after (named_keeping x.statement) (b || has_group own) at.rule) f in
-        let held = leaves_held at next at.rule x own cleanup slice response (d x refl) cleans groups k.orderly s (subst (λ (r : Rule). LeavesKept at next r) moved_so (base (calls.Describe x) s q)) in
-        to_keeps at next (held_by (moved (named_keeping x.statement) at.rule) (told_by x response)) held
-        (e ∙ ap (λ (o : Option Request). held_after o (S (calls.Describe x))) (fine_handed end (calls.Describe x) response f) ∙ ap (λ (r : Rule). held_by r (told_by x response)) moved_so)
-    fine f (calls.Evict v) s q e d =
-        to_keeps at next (S (calls.Evict v)) (base (calls.Evict v) s q)
-        (e ∙ ap (λ (o : Option Request). held_after o (S (calls.Evict v))) (fine_handed end (calls.Evict v) response f) ∙ held_after_close (S (calls.Evict v)) v.after)
-    fine f (calls.Execute query) s q e d = none (calls.Execute query) s q (fine_handed end (calls.Execute query) response f) e
-    fine f (calls.ExecuteMany query) s q e d = none (calls.ExecuteMany query) s q (fine_handed end (calls.ExecuteMany query) response f) e
-    fine f (calls.Fetch query) s q e d = none (calls.Fetch query) s q (fine_handed end (calls.Fetch query) response f) e
-    fine f (calls.FetchMany query) s q e d = none (calls.FetchMany query) s q (fine_handed end (calls.FetchMany query) response f) e
-    fine f (calls.FetchAll query) s q e d = none (calls.FetchAll query) s q (fine_handed end (calls.FetchAll query) response f) e
-    fine f (calls.FetchOptional query) s q e d = none (calls.FetchOptional query) s q (fine_handed end (calls.FetchOptional query) response f) e
-    fine f (calls.FetchOne query) s q e d = none (calls.FetchOne query) s q (fine_handed end (calls.FetchOne query) response f) e
-    fine f calls.Ping s q e d = none calls.Ping s q (fine_handed end calls.Ping response f) e
-    fine f (calls.CopyOut query) s q e d = none (calls.CopyOut query) s q (fine_handed end (calls.CopyOut query) response f) e
-    fine f (calls.Feed fed) s q e d = none (calls.Feed fed) s q (fine_handed end (calls.Feed fed) response f) e
-    fine f calls.Flush s q e d = none calls.Flush s q (fine_handed end calls.Flush response f) e
-    fine f (calls.Chain chain) s q e d = none (calls.Chain chain) s q (fine_handed end (calls.Chain chain) response f) e
-    fine f calls.Begin s q e d = none calls.Begin s q (fine_handed end calls.Begin response f) e
-    fine f (calls.BeginWith query) s q e d = none (calls.BeginWith query) s q (fine_handed end (calls.BeginWith query) response f) e
-    fine f calls.Commit s q e d = none calls.Commit s q (fine_handed end calls.Commit response f) e
-    fine f calls.Rollback s q e d = none calls.Rollback s q (fine_handed end calls.Rollback response f) e
-    fine f calls.StartRollback s q e d = none calls.StartRollback s q (fine_handed end calls.StartRollback response f) e
-    fine f (calls.Release text) s q e d = none (calls.Release text) s q (fine_handed end (calls.Release text) response f) e
-    fine f (calls.Run bound) s q e d = none (calls.Run bound) s q (fine_handed end (calls.Run bound) response f) e
-    fine f (calls.Prepare p) s q e d = none (calls.Prepare p) s q (fine_handed end (calls.Prepare p) response f) e
-    fine f calls.Clear s q e d = none calls.Clear s q (fine_handed end calls.Clear response f) e
-    fine f (calls.Tell prepared) s q e d = none (calls.Tell prepared) s q (fine_handed end (calls.Tell prepared) response f) e
-    fine f (calls.CloseAll statements) s q e d = none (calls.CloseAll statements) s q (fine_handed end (calls.CloseAll statements) response f) e
+        subst (λ (r : Rule). CanHoldTold next r told) (sym moved_so) (subst (CanHoldTold next (moved (named_keeping x.statement) at.rule)) (same_Some (told_by x response) told e) (described_holds at next at.rule x own cleanup slice response (d x refl) cleans groups k.orderly s))
+    fine f (calls.Evict v) s h q d told e = subst (CanHoldTold next (S (calls.Evict v))) (same_Some (request_behind v.after) told e) (after_holds next (S (calls.Evict v)) v.after)
+    fine f (calls.Look l) s h q d told e =
+        subst (λ (r : Rule). CanHoldTold next r told) (sym (looked (has_moved own end)))
+        (subst (CanHoldTold next at.rule) (same_Some (requests.Describe l.extended) told e)
+        (looked_holds at next l.extended (own ++ cleanup) slice h (λ n. each_join (Spares n) own cleanup (front_each_group (Spares n) end (groups_of (requests.Look l)) own q (spares_asked n at.rule.depth (calls.Look l) (λ z. z))) (cleans n)) groups frames))
+    fine f _ s h q d told e = absurd cc
 
-    by : (b : Bool) → is_fine end ≡ b → Keeps next
-    by false f = none call sound q (none_handed end call response f) rule
-    by true f = fine f call sound q rule (λ x c. described x c f)
+    by : (o : Option Request) → handed_at end call response ≡ o → LooksOn o learnt asks next.learnt → Keeps next
+    by None e none = to_keeps at next (S call) base (rule ∙ ap (λ (o : Option Request). held_after o (S call)) none.0)
+    by (Some told) e (asked, is, up) =
+        let f = handed_fine end call response told e in
+        let holds = fine f call sound held q (λ x c. described x c f) told (sym (fine_handed end call response f) ∙ e) in
+        to_keeps at next (held_by (S call) asked) (leaves_asked at next (S call) told asked (looks_or told asked learnt next.learnt up) holds base) (rule ∙ ap (λ (o : Option Request). held_after o (S call)) is)
 
 -- the same of an exchange that is told
-pub keeps_next : (at mid left next : Place) (step : Step) (told out : Outcome) (one : Plays_call at step told mid) → LeavesCopy step.call one.own told.end mid left → (s : Settles at step told out one.own one.told.response left next) → Keeps at → IsSound at.rule step.call
-    → ((x : Extended) → step.call ≡ calls.Describe x → is_fine told.end ≡ true → DescribedAt at next x one.own s.cleanup one.slice one.told.response) → Keeps next
-keeps_next at mid left next step told out one leaves s k sound described =
-    keeps_by at next step.call told.end one.own s.cleanup one.slice one.told.response k sound one.queued.asks
+pub keeps_next : (at mid left next : Place) (step : Step) (told out : Outcome) (one : Plays_call at step told mid) → LeavesCopy step.call one.own told.end mid left → (s : Settles at step told out one.own one.told.response left next) → Keeps at → IsSound at.rule step.call → IsHeldFor at step.call
+    → ((x : Extended) → step.call ≡ calls.Describe x → is_fine told.end ≡ true → DescribedAt at next x one.own s.cleanup one.slice one.told.response)
+    → Keeps next × ((handed asked : Request) → is_fine told.end ≡ true → handed_by step.call one.told.response ≡ Some handed → s.asks ≡ Some asked → IsLooked handed asked → CanHoldTold next next.rule handed)
+keeps_next at mid left next step told out one leaves s k sound held described =
+    keeps_by at next step.call told.end one.own s.cleanup one.slice one.told.response s.asks left.learnt k sound held one.queued.asks
     (λ n. subst (AllByRecursion (Spares n)) (sym s.cleans) (cleanup_spares n at.rule.depth step.call told.end one.own (owed left)))
-    (s.groups ∙ ap (λ (g : List Group). g ++ s.cleanup) (left_groups step.call one.own told.end mid left leaves ∙ one.queued.groups) ∙ append_assoc at.groups one.own s.cleanup) (ap heard (s.frames ∙ left_frames step.call one.own told.end mid left leaves) ∙ one.queued.taken) s.rule described
-
--- ---- what is known of a statement that is kept
-
-known_kept : (start : StreamSeen) (at : Place) (a : ConnSeen) (e : Entry) → StandsAt start at a → 0 < e.statement → IsKeptAt at e → KnownAt ((name_of e.statement, length e.columns) ∷ []) at
-known_kept start at a e st positive k group slice front gs g l count =
-    let further = after_further (heard at.frames) slice (length k.before) (omega (arith, k.read)) in
-    let begun : after_readys (length k.before) (heard at.frames ++ slice) ≡ map backend_frame k.told ++ (k.more ++ slice) = further ∙ ap (λ (f : List Frame). f ++ slice) k.answered ∙ append_assoc (map backend_frame k.told) k.more slice in
-    let part : after_readys (length at.groups) (heard at.frames ++ slice) ≡ after_readys (owed at) slice =
-    after_more (heard at.frames) slice (length at.groups) a.ledger.owed st.ledger st.between ∙ ap (λ (n : ℕ). after_readys n slice) (sym (owed_is start at a st)) in
-    subst (λ (n : ℕ). BeginsKnowing ((name_of e.statement, n) ∷ []) group (after_readys (owed at) slice ++ front ∷ [])) (ap (λ (c : List FieldDescription). length c) k.columns)
-    (lawful_keeps k.before (name_of e.statement) e.sql k.types k.later group (heard at.frames ++ slice) (after_readys (owed at) slice) (k.more ++ slice) front k.told
-    (subst (AllByRecursion IsGroup) k.groups gs) g (named_nothing e.statement positive) k.spared (subst (λ (gs : List Group). MayHear (said_in (gs ++ group ∷ [])) ((heard at.frames ++ slice) ++ front ∷ [])) k.groups l) (count ∙ ap (λ (gs : List Group). length gs) k.groups) begun (ap (λ (gs : List Group). after_readys (length gs) (heard at.frames ++ slice)) (sym k.groups) ∙ part) k.ends k.has_frames k.well)
-
--- of what is kept there, the columns are known
-pub known_of : (start : StreamSeen) (at : Place) (a : ConnSeen) (e : Entry) → StandsAt start at a → (0 < e.statement) × IsKeptAt at e → KnownAt ((name_of e.statement, length e.columns) ∷ []) at
-known_of start at a e st h = known_kept start at a e st h.0 h.1
-
-run_known : (start : StreamSeen) (at : Place) (a : ConnSeen) (d : ℕ) (how : How) (sql : List ℕ) (arguments : ArgumentsSeen) (persistent : Bool) → StandsAt start at a → Keeps at → (o : Option Entry) → entry_at sql at.rule.cache.entries ≡ o
-    → KnownAt (widths_of (request_of d (exchange_for (run_or_describe at.rule how sql arguments persistent o)))) at
-run_known start at a d how sql arguments persistent st k None e = known_none start at a st
-run_known start at a d how sql arguments persistent st k (Some entry) e = known_of start at a entry st (found_has (λ e. (0 < e.statement) × IsKeptAt at e) (λ e. bytes_eq e.sql sql) at.rule.cache.entries entry (each_known at k) e)
-
-as_known : (start : StreamSeen) (at : Place) (a : ConnSeen) (d : ℕ) (how : How) (query : QueryText) (call : Call) → StandsAt start at a → Keeps at → widths_of (request_of d call) ≡ [] → (o : Option ArgumentsSeen) → KnownAt (widths_of (request_of d (first_as at.rule how query o call))) at
-as_known start at a d how query call st k w None = subst (λ (x : Widths). KnownAt x at) (sym w) (known_none start at a st)
-as_known start at a d how query call st k w (Some arguments) = run_known start at a d how query.sql arguments query.persistent st k (entry_at query.sql at.rule.cache.entries) refl
-
-none_known : (start : StreamSeen) (at : Place) (a : ConnSeen) (d : ℕ) (call : Call) → StandsAt start at a → widths_of (request_of d call) ≡ [] → KnownAt (widths_of (request_of d call)) at
-none_known start at a d call st w = subst (λ (x : Widths). KnownAt x at) (sym w) (known_none start at a st)
-
--- what the first exchange of a call takes as known is so
-pub first_known : (start : StreamSeen) (at : Place) (a : ConnSeen) (d : ℕ) (call : Call) → StandsAt start at a → Keeps at → KnownAt (widths_of (request_of d (first_call at.rule call))) at
-first_known start at a d (calls.Execute query) st k = as_known start at a d hows.Execute query (calls.Execute query) st k refl query.arguments
-first_known start at a d (calls.ExecuteMany query) st k = as_known start at a d hows.ExecuteMany query (calls.ExecuteMany query) st k refl query.arguments
-first_known start at a d (calls.Fetch query) st k = as_known start at a d hows.Fetch query (calls.Fetch query) st k refl query.arguments
-first_known start at a d (calls.FetchMany query) st k = as_known start at a d hows.FetchMany query (calls.FetchMany query) st k refl query.arguments
-first_known start at a d (calls.FetchAll query) st k = as_known start at a d hows.FetchAll query (calls.FetchAll query) st k refl query.arguments
-first_known start at a d (calls.FetchOptional query) st k = as_known start at a d hows.FetchOptional query (calls.FetchOptional query) st k refl query.arguments
-first_known start at a d (calls.FetchOne query) st k = as_known start at a d hows.FetchOne query (calls.FetchOne query) st k refl query.arguments
-first_known start at a d (calls.Prepare p) st k = none_known start at a d (first_call at.rule (calls.Prepare p)) st (by (entry_at p.sql at.rule.cache.entries))
-  where
-    by : (o : Option Entry) → widths_of (request_of d (exchange_for (tell_or_describe at.rule (record { sql = p.sql; parameters = p.types; columns = None; keeping = keepings.Stays }) o))) ≡ []
-    by (Some e) = refl
-    by None = refl
-first_known start at a d calls.Clear st k = none_known start at a d (first_call at.rule calls.Clear) st (by (nat_eq (length at.rule.cache.entries) 0))
-  where
-    by : (b : Bool) → widths_of (request_of d (exchange_for (asked_by at.rule (cond b requests.Flush (requests.Clear []))))) ≡ []
-    by true = refl
-    by false = refl
-first_known start at a zero calls.Commit st k = known_none start at a st
-first_known start at a (suc left) calls.Commit st k = known_none start at a st
-first_known start at a zero calls.Rollback st k = known_none start at a st
-first_known start at a (suc left) calls.Rollback st k = known_none start at a st
-first_known start at a d _ st k = known_none start at a st
-
--- what comes behind a close knows the columns of its statement
-after_known : (start : StreamSeen) (at : Place) (a : ConnSeen) (after : After) → StandsAt start at a → Keeps at → IsAfter at.rule after → KnownAt (widths_of (request_behind after)) at
-after_known start at a (afters.Prepare prepared) st k h = known_none start at a st
-after_known start at a (afters.Run bound) st k (e, others, is, same, columns) =
-    let known = known_of start at a e st (subst (AllByRecursion (λ e. (0 < e.statement) × IsKeptAt at e)) is (each_known at k)).0 in
-    subst (λ (n : ℕ). KnownAt (known_under (name_of n) (option_map (λ (c : List FieldDescription). length c) bound.columns)) at) (sym same)
-    (subst (λ (o : Option (List FieldDescription)). KnownAt (known_under (name_of e.statement) (option_map (λ (c : List FieldDescription). length c) o)) at) (sym columns) known)
-
-told_known : (rule : Rule) (x : Extended) (reply : List BackendMessage) (at : Place) → KnownAt ((name_of x.statement, length (described reply)) ∷ []) at → KnownAt [] at → KnownAt (widths_of (asked_by rule (told_by x reply))) at
-told_known rule x reply at k none = by (nat_eq x.statement 0) (option_map (λ (e : Entry). e.statement) (leaving rule))
-  where
-    d : Described
-    d = record { parameters = parameters_after [] reply; columns = Some (described reply) }
-
-    x' : Extended
-    x' = record x { described = Some d }
-
-    runs : (goal : Goal) (keeping : Keeping) → KnownAt (widths_of (request_behind (behind_goal goal x' d keeping))) at
-    runs (goals.Run how) keeping = k
-    runs goals.Prepare keeping = none
-
-    closes : (o : Option ℕ) → KnownAt (widths_of (by_leaving x' d o)) at
-    closes (Some statement) = none
-    closes None = runs x.goal keepings.Puts
-
-    by : (b : Bool) (o : Option ℕ) → KnownAt (widths_of (cond b (request_behind (behind_goal x.goal x' d keepings.Stays)) (by_leaving x' d o))) at
-    by true o = runs x.goal keepings.Stays
-    by false o = closes o
-
-closed_known : (rule : Rule) (at : Place) (a : After) → KnownAt (widths_of (request_behind a)) at → KnownAt [] at → KnownAt (widths_of (asked_by rule (request_behind a))) at
-closed_known rule at (afters.Run bound) k none = k
-closed_known rule at (afters.Prepare prepared) k none = by prepared.columns
-  where
-    by : (o : Option (List FieldDescription)) → KnownAt (widths_of (prepare_by rule prepared o)) at
-    by (Some columns) = none
-    by None = tells (entry_at prepared.sql rule.cache.entries)
-      where
-        tells : (o : Option Entry) → KnownAt (widths_of (tell_or_describe rule prepared o)) at
-        tells (Some e) = none
-        tells None = none
-
--- what a description that hands on has told is known where the next exchange begins
-known_told : (rule : Rule) (start : StreamSeen) (at next : Place) (a c : ConnSeen) (x : Extended) (after : Request) (said : List FrontendMessage) (slice : List Frame) (items : List CallItem) → StandsAt start at a → StandsAt start next c → next.groups ≡ at.groups ++ groups_of (requests.Describe x) → heard next.frames ≡ heard at.frames ++ slice
-    → EndsFine a.ledger (requests.Describe x) said slice items c.ledger (Ok (answers.Next after)) → KnownAt (widths_of (asked_by rule after)) next
-known_told rule start at next a c x after said slice items st st' groups frames e =
-    let told : told_by x e.0.reply ≡ after = same_Some (told_by x e.0.reply) after (next_is (requests.Describe x) e.0.reply e.0.status after e.1).1 in
-    let known = described_known start at next a c x said slice items st st' groups frames e.0 in
-    subst (λ (r : Request). KnownAt (widths_of (asked_by rule r)) next) told (told_known rule x e.0.reply next known (known_none start next c st'))
-
--- and what comes behind a close knows its statement
-known_closed : (rule : Rule) (start : StreamSeen) (at next : Place) (a c : ConnSeen) (v : Eviction) (after : Request) (said : List FrontendMessage) (slice : List Frame) (items : List CallItem) → StandsAt start next c → Keeps next → IsAfter next.rule v.after
-    → EndsFine a.ledger (requests.Evict v) said slice items c.ledger (Ok (answers.Next after)) → KnownAt (widths_of (asked_by rule after)) next
-known_closed rule start at next a c v after said slice items st' k h e =
-    let told : request_behind v.after ≡ after = same_Some (request_behind v.after) after (next_is (requests.Evict v) e.0.reply e.0.status after e.1).1 in
-    subst (λ (r : Request). KnownAt (widths_of (asked_by rule r)) next) told (closed_known rule next v.after (after_known start next c v.after st' k h) (known_none start next c st'))
-
-pub known_next : (rule : Rule) (start : StreamSeen) (at next : Place) (a c : ConnSeen) (d : ℕ) (call : Call) (after : Request) (said : List FrontendMessage) (slice : List Frame) (items : List CallItem) → StandsAt start at a → StandsAt start next c → Keeps next → next.groups ≡ at.groups ++ groups_of (request_of d call) → heard next.frames ≡ heard at.frames ++ slice
-    → ((v : Eviction) → call ≡ calls.Evict v → IsAfter next.rule v.after) → EndsFine a.ledger (request_of d call) said slice items c.ledger (Ok (answers.Next after)) → KnownAt (widths_of (asked_by rule after)) next
-known_next rule start at next a c d call after said slice items st st' k groups frames evicts e =
-    by (hands_by d call (hands_on_described (request_of d call) e.0.reply e.0.status after e.1))
-  where
-    by : ((x : Extended) × (call ≡ calls.Describe x)) ⊎ ((v : Eviction) × (call ≡ calls.Evict v)) → KnownAt (widths_of (asked_by rule after)) next
-    by (inl (x, is)) =
-        known_told rule start at next a c x after said slice items st st' (groups ∙ ap (λ (y : Call). at.groups ++ groups_of (request_of d y)) is) frames
-        (subst (λ (y : Call). EndsFine a.ledger (request_of d y) said slice items c.ledger (Ok (answers.Next after))) is e)
-    by (inr (v, is)) =
-        known_closed rule start at next a c v after said slice items st' k (evicts v is)
-        (subst (λ (y : Call). EndsFine a.ledger (request_of d y) said slice items c.ledger (Ok (answers.Next after))) is e)
-
--- a close leaves the statement among those that are kept for which it came
-pub closes_known : (at next : Place) (call : Call) (v : Eviction) (own : List Group) (response : List BackendMessage) → call ≡ calls.Evict v → ClosesNone at.rule v → next.rule ≡ rule_after at.rule call own response (ends.Ok AnswersUnit) → IsAfter next.rule v.after
-closes_known at next call v own response is s e =
-    let same : next.rule ≡ kept at.rule = e ∙ ap (λ (y : Call). rule_after at.rule y own response (ends.Ok AnswersUnit)) is ∙ held_after_close (kept at.rule) v.after in
-    subst (λ (r : Rule). IsAfter r v.after) (sym same) s.after
+    (s.groups ∙ ap (λ (g : List Group). g ++ s.cleanup) (left_groups step.call one.own told.end mid left leaves ∙ one.queued.groups) ∙ append_assoc at.groups one.own s.cleanup) (ap heard (s.frames ∙ left_frames step.call one.own told.end mid left leaves) ∙ one.queued.taken) s.looks s.rule described
 
 -- ---- at first
 

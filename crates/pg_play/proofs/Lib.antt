@@ -31,6 +31,7 @@ pub mod StartLaws
 pub mod TopLaws
 pub mod RefutedLaws
 mod KeptLaws
+mod FollowLaws
 mod NameLaws
 mod ChainLaws
 mod LockLaws

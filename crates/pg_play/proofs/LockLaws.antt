@@ -1,17 +1,17 @@
 -- Steps about advisory locks: releases without waiting, what is held behind a step, and the calls of a step one behind another.
-use Rattle.std.proofs.Common.{◌≡◌, inl, inr, ℕ, ◌+◌, ◌-◌, ◌^◌, ◌<◌, ◌≤◌, Bool, true, false, cond, nat_eq, ltb, ne_eqb, List, [], ◌∷◌, ◌++◌, length, take, drop, Some, None, refl, sym, ap, ◌∙◌, subst, arith, append-nil}
-use Rattle.std.specs.Prelude.{not, ◌&&◌, leb}
+use Rattle.std.proofs.Common.{◌≡◌, inl, inr, ℕ, ◌+◌, ◌-◌, ◌^◌, ◌<◌, ◌≤◌, Bool, true, false, cond, nat_eq, ltb, ne_eqb, List, [], ◌∷◌, ◌++◌, take, drop, Some, None, refl, sym, ap, ◌∙◌, subst, arith, append-nil}
+use Rattle.std.specs.Prelude.{not, leb}
 use Rattle.std.proofs.lemmas.Bool.{ltb-true}
 use Rattle.pg_wire.proofs.Tests.{both_true}
 use Rattle.pg_stream.specs.Links.{LinkSeen}
 use Rattle.pg_stream.specs.Streams.{StreamSeen}
 use Rattle.pg_request.specs.declared.progress.CacheStep.TheVariants as cache
 use Rattle.pg_call.specs.declared.request.Request.{Request}
-use Rattle.pg_call.specs.Requests.{spelled, copy_fail}
-use Rattle.pg_conn.specs.Connections.{ConnOf, ConnSeen, begins_copy, cleaned, copies, counted_anew, ended, ends_copy, has_room_for, idle, left, owned, queued_group, rolled_back, runs, seen_by, unfed, with_copy_fail, with_depth, with_group, with_spare, rollback}
+use Rattle.pg_call.specs.Requests.{spelled}
+use Rattle.pg_conn.specs.Connections.{ConnOf, ConnSeen, begins_copy, cleaned, counted_anew, ended, ends_copy, has_room_for, idle, left, queued_group, rolled_back, runs, seen_by, unfed, with_depth, with_group, with_spare, rollback}
 use Rattle.pg_conn.specs.Holding.{IsRelease, held_fewer, held_more, let_go, release, took_held}
 use Rattle.pg_conn.specs.Turns.{HasAllRoom, kept_for, level_of}
-use Rattle.pg_conn.proofs.CleanupLaws.{has_room, held_cleaned, held_queued}
+use Rattle.pg_conn.proofs.CleanupLaws.{has_room, held_cleaned, held_queued, held_unfed}
 use Rattle.pg_conn.proofs.HoldingLaws.{all_held, all_took_held, release_short}
 use Rattle.pg_locks.specs.declared.key.PgAdvisoryLockKey.{PgAdvisoryLockKey}
 use Rattle.pg_locks.specs.Keys.{with_key}
@@ -30,7 +30,7 @@ use Rattle.pg_script.specs.declared.step.Fed.{Fed}
 use Rattle.pg_script.specs.declared.step.Parting.{Parting}
 use Rattle.pg_script.specs.declared.step.Parting.TheVariants as partings
 use Rattle.pg_play.specs.Shown.{acts_at_once, is_release}
-use Rattle.pg_play.specs.Calls.{Bounds, failed_by, parted, IsUnmade, OfLastIn, PlaysOne, PlaysPolled, PlaysStep, asked_from, behind_end, copy_behind, handed_from, rolled_outcome, untouched}
+use Rattle.pg_play.specs.Calls.{Bounds, failed_by, parted, IsUnmade, OfLastIn, PlaysOne, PlaysPolled, PlaysStep, asked_from, behind_end, copy_behind, handed_from, knowing, rolled_outcome, untouched}
 use Rattle.pg_play.specs.Chained.{IsChainedAs}
 use Rattle.pg_play.specs.Chains.{IsCopied, IsCopiedAs, preparing}
 use Rattle.pg_script.specs.declared.step.Copying.{Copying}
@@ -38,11 +38,11 @@ use Rattle.pg_play.specs.Locks.{GivesUp, Guards, IsAsked, IsFirstAt, IsLocked, a
 use Rattle.pg_play.specs.Places.{Place, is_fine, owed}
 use Rattle.pg_play.specs.Settling.{release_at, rule_after}
 use Rattle.pg_play.specs.Plays.{KeepsRoom, PlaysAs, PlaysInOrder, StandsAt}
-use Rattle.pg_play.proofs.CallLaws.{seen_left}
+use Rattle.pg_conn.proofs.ViewLaws.{seen_left}
 use Rattle.pg_play.proofs.ChainLaws.{unmade_alone}
 use Rattle.pg_play.proofs.CopyLaws.{leaves_none, fails_nothing}
 use Rattle.pg_play.proofs.PlaceLaws.{owed_is}
-use Rattle.pg_play.proofs.SettledLaws.{SettlesTo, acts_tell, and_false, no_group, one_group, stands_anew, stands_group, text_conn, text_place}
+use Rattle.pg_play.proofs.SettledLaws.{SettlesTo, acts_ask_none, acts_tell, and_false, no_group, one_group, stands_anew, stands_group, text_conn, text_place}
 
 -- ---- a release without waiting
 
@@ -67,6 +67,7 @@ stands_fewer start at a st =
       broken = s.broken;
       seen = s.seen;
       rule = s.rule;
+      learnt = s.learnt;
       room = omega (arith, room);
       idle = s.idle;
       sayable = s.sayable;
@@ -77,11 +78,11 @@ stands_fewer start at a st =
     }
 
 -- what is known of the session stays
-release_knows : (at : Place) (a : ConnSeen) (step : Step) (text : List ℕ) → a.rule ≡ at.rule → step.call ≡ calls.Release text → a.rule ≡ rule_after at.rule step.call [] [] (ends.Ok AnswersUnit)
-release_knows at a step text same c = same ∙ ap (λ (call : Call). rule_after at.rule call [] [] (ends.Ok AnswersUnit)) (sym c)
+release_knows : (at : Place) (a : ConnSeen) (step : Step) (text : List ℕ) → a.rule ≡ at.rule → step.call ≡ calls.Release text → a.rule ≡ rule_after at.rule step.call [] None (ends.Ok AnswersUnit)
+release_knows at a step text same c = same ∙ ap (λ (call : Call). rule_after at.rule call [] None (ends.Ok AnswersUnit)) (sym c)
 
 releases_none : (start : StreamSeen) (at : Place) (a : ConnSeen) (step : Step) (text : List ℕ) → StandsAt start at a → step.call ≡ calls.Release text → [] ≡ release_at text (owed at)
-    → SettlesTo start at step (untouched (ends.Ok AnswersUnit)) [] [] at (ended (counted_anew a)) (held_fewer (ended (counted_anew a)))
+    → SettlesTo start at step (untouched (ends.Ok AnswersUnit)) [] [] None at (ended (counted_anew a)) (held_fewer (ended (counted_anew a)))
 releases_none start at a step text st c none = record {
   left = at;
   leaves = leaves_none step.call [] (ends.Ok AnswersUnit) at (fails_nothing step.call (ends.Ok AnswersUnit)).0 (fails_nothing step.call (ends.Ok AnswersUnit)).1;
@@ -90,6 +91,8 @@ releases_none start at a step text st c none = record {
   settles = record {
     cleanup = [];
     cleans = rw c none;
+    asks = None;
+    looks = acts_ask_none step.call at.learnt (ap acts_at_once c);
     rule = sym st.rule ∙ release_knows at a step text st.rule c;
     said = sym (append-nil at.said);
     groups = sym (append-nil at.groups);
@@ -102,6 +105,7 @@ releases_none start at a step text st c none = record {
     cache = acts_tell at.rule.depth step.call (ap acts_at_once c);
     counted = omega arith;
   };
+  asked = refl;
   stands = stands_fewer start at a st;
   groups = omega arith;
   others = (refl, refl, refl, refl, refl);
@@ -109,7 +113,7 @@ releases_none start at a step text st c none = record {
 
 releases_one : (start : StreamSeen) (at : Place) (a : ConnSeen) (step : Step) (text : List ℕ) → StandsAt start at a → step.call ≡ calls.Release text → IsRelease text → has_room_for (spelled (release text)) (held_fewer (ended (counted_anew a))) ≡ true
     → HasAllRoom (text_conn (held_fewer (ended (counted_anew a))) text a.rule cache.Same) → release text ∷ [] ≡ release_at text (owed at)
-    → SettlesTo start at step (untouched (ends.Ok AnswersUnit)) [] [] at (ended (counted_anew a)) (text_conn (held_fewer (ended (counted_anew a))) text a.rule cache.Same)
+    → SettlesTo start at step (untouched (ends.Ok AnswersUnit)) [] [] None at (ended (counted_anew a)) (text_conn (held_fewer (ended (counted_anew a))) text a.rule cache.Same)
 releases_one start at a step text st c lawful r room some =
     let m : ConnSeen = held_fewer (ended (counted_anew a)) in
     let d = text_conn m text a.rule cache.Same in
@@ -122,6 +126,8 @@ releases_one start at a step text st c lawful r room some =
       settles = record {
         cleanup = release text ∷ [];
         cleans = rw c some;
+        asks = None;
+        looks = acts_ask_none step.call at.learnt (ap acts_at_once c);
         rule = release_knows at a step text st.rule c;
         said = refl;
         groups = refl;
@@ -134,14 +140,15 @@ releases_one start at a step text st c lawful r room some =
         cache = acts_tell at.rule.depth step.call (ap acts_at_once c);
         counted = omega arith;
       };
+      asked = refl;
       stands = stands_group start mid m text a.rule cache.Same (stands_fewer start at a st) lawful.1 r room;
       groups = omega arith;
       others = (refl, refl, refl, refl, refl);
     }
 
 pub settles_release : (start : StreamSeen) (at : Place) (a b : ConnSeen) (step : Step) (text : List ℕ) → StandsAt start at a → step.call ≡ calls.Release text → IsRelease text → 0 < a.held → b ≡ took_held (Some text) a
-    → SettlesTo start at step (untouched (ends.Ok AnswersUnit)) [] [] at (ended (counted_anew a)) b
-settles_release start at a b step text st c lawful some is = subst (λ (x : ConnSeen). SettlesTo start at step (untouched (ends.Ok AnswersUnit)) [] [] at (ended (counted_anew a)) x) (sym (is ∙ took)) (by (ltb a.ledger.owed (2 ^ 64 - 1)) refl)
+    → SettlesTo start at step (untouched (ends.Ok AnswersUnit)) [] [] None at (ended (counted_anew a)) b
+settles_release start at a b step text st c lawful some is = subst (λ (x : ConnSeen). SettlesTo start at step (untouched (ends.Ok AnswersUnit)) [] [] None at (ended (counted_anew a)) x) (sym (is ∙ took)) (by (ltb a.ledger.owed (2 ^ 64 - 1)) refl)
   where
     frame : List ℕ
     frame = spelled (release text)
@@ -158,17 +165,17 @@ settles_release start at a b step text st c lawful some is = subst (λ (x : Conn
     room : HasAllRoom (queued_group frame m)
     room = subst (λ (x : ConnSeen). HasAllRoom x) took (all_took_held (Some text) a lawful st.room)
 
-    by : (q : Bool) → ltb a.ledger.owed (2 ^ 64 - 1) ≡ q → SettlesTo start at step (untouched (ends.Ok AnswersUnit)) [] [] at (ended (counted_anew a)) (queued_group frame m)
+    by : (q : Bool) → ltb a.ledger.owed (2 ^ 64 - 1) ≡ q → SettlesTo start at step (untouched (ends.Ok AnswersUnit)) [] [] None at (ended (counted_anew a)) (queued_group frame m)
     by true q =
         let short = release_short text lawful.0 in
         let space = st.room in
         let r = has_room frame m (omega (arith, short, space, some)) (ltb-true _ _ q) in
         let same : queued_group frame m ≡ text_conn m text a.rule cache.Same = one_group frame m r in
-        subst (λ (x : ConnSeen). SettlesTo start at step (untouched (ends.Ok AnswersUnit)) [] [] at (ended (counted_anew a)) x) (sym same)
+        subst (λ (x : ConnSeen). SettlesTo start at step (untouched (ends.Ok AnswersUnit)) [] [] None at (ended (counted_anew a)) x) (sym same)
         (releases_one start at a step text st c lawful r (subst (λ (x : ConnSeen). HasAllRoom x) same room) (ap (λ (b : Bool). cond b (release text ∷ []) []) (sym (owes ∙ q))))
     by false q =
         let none : has_room_for frame m ≡ false = rw q (and_false _) in
-        subst (λ (x : ConnSeen). SettlesTo start at step (untouched (ends.Ok AnswersUnit)) [] [] at (ended (counted_anew a)) x) (sym (no_group frame m none))
+        subst (λ (x : ConnSeen). SettlesTo start at step (untouched (ends.Ok AnswersUnit)) [] [] None at (ended (counted_anew a)) x) (sym (no_group frame m none))
         (releases_none start at a step text st c (ap (λ (b : Bool). cond b (release text ∷ []) []) (sym (owes ∙ q))))
 
 -- ---- what is seen of it
@@ -213,13 +220,6 @@ keeps_then a b c k l = (l.0 ∙ ap (λ (x : ConnSeen). record (with_spare c.stre
 
 -- ---- how many locks are held behind a step
 
-held_unfed : (over : Bool) (c : ConnSeen) → (unfed over c).held ≡ c.held
-held_unfed over c = by (copies c.change c.groups && (not over && leb (length (spelled (copy_fail ∷ []))) c.stream.spare))
-  where
-    by : (b : Bool) → (cond b (with_copy_fail c) (owned c)).held ≡ c.held
-    by true = refl
-    by false = refl
-
 held_left : (c : ConnSeen) → (left c).held ≡ c.held
 held_left c = by (runs c.call)
   where
@@ -244,8 +244,8 @@ held_behind parting ends.Dropped m = held_cleaned (parted parting m) ∙ held_pa
 
 call_holds : (later : List Request) (polls : ℕ) (limits : Bounds) (first : StreamSeen) (a b : ConnSeen) (r : Request) (out : Outcome) → OfLastIn later polls first (λ at asked. PlaysOne limits first at b asked out) a r → b.held ≡ a.held
 call_holds [] polls limits first a b r out (m, (said, fs, e, last), over, is, tells) = ap (λ (x : ConnSeen). x.held) is ∙ held_behind limits.parting out.end m ∙ ap (λ s. s.held) e.went.started.3
-call_holds (next ∷ later) polls limits first a b r out (m, handed, behind) =
-    call_holds later polls limits first (handed_from m next) b (asked_from m next) out behind ∙ ap (λ s. s.held) handed.went.started.3
+call_holds (next ∷ later) polls limits first a b r out (m, hands, behind) =
+    call_holds later polls limits first (handed_from (knowing hands.learnt m) next) b (asked_from m next) out behind ∙ ap (λ s. s.held) hands.handed.went.started.3
 
 polled_holds : (a b : ConnSeen) (step : Step) (out : Outcome) → PlaysPolled a b step out → b.held ≡ a.held
 polled_holds a b step out (inl (u, is, k)) = ap (λ (x : ConnSeen). x.held) is

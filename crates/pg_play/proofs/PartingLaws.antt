@@ -1,6 +1,5 @@
 -- A copy from the client that is open: its data is sent, and it is given up.
-use Rattle.std.proofs.Common.{◌≡◌, ◌≢◌, ◌⊎◌, ℕ, ◌+◌, ◌*◌, ◌^◌, ◌<◌, ◌≤◌, zero, suc, cond, inl, inr, Bool, true, false, not, ◌&&◌, List, [], ◌∷◌, ◌++◌, length, map, refl, sym, ap, ap₂, ◌∙◌, subst, arith, append-nil, nat_eq, Option, Some, None, Result, Ok, Err}
-use Rattle.std.specs.List.{count_by}
+use Rattle.std.proofs.Common.{◌≡◌, ◌⊎◌, ℕ, ◌+◌, ◌*◌, ◌^◌, ◌<◌, ◌≤◌, zero, suc, cond, inl, inr, Bool, true, false, not, ◌&&◌, List, [], ◌∷◌, ◌++◌, length, map, refl, sym, ap, ap₂, ◌∙◌, subst, arith, append-nil, nat_eq, Option, Some, None, Result, Ok, Err}
 use Rattle.futures.specs.declared.task.Poll.{Poll}
 use Rattle.futures.specs.declared.task.Poll.TheVariants.{Ready, Pending}
 use Rattle.pg_wire.specs.declared.error.Error.{Error}
@@ -36,12 +35,12 @@ use Rattle.pg_conn.specs.Connections.{ConnSeen, Standing, begun, cleaned, copied
 use Rattle.pg_conn.specs.Feeding.{PollsFed, PollsFedBy}
 use Rattle.pg_conn.specs.Turns.{HasAllRoom, first_exchange}
 use Rattle.pg_conn.proofs.TurnLaws.{kept}
+use Rattle.pg_conn.proofs.StateLaws.{runs_on}
 use Rattle.pg_report.specs.declared.outcome.Item.{Item}
 use Rattle.pg_report.specs.declared.outcome.Answer.TheVariants.{Unit as AnswersUnit}
 use Rattle.pg_report.specs.declared.outcome.End.{End}
 use Rattle.pg_report.specs.declared.outcome.End.TheVariants as ends
 use Rattle.pg_report.specs.declared.outcome.Outcome.{Outcome}
-use Rattle.pg_script.specs.declared.step.Call.TheVariants as calls
 use Rattle.pg_script.specs.declared.step.Copying.{Copying}
 use Rattle.pg_script.specs.declared.step.CopyEnd.TheVariants as copy_ends
 use Rattle.pg_script.specs.declared.step.Fed.{Fed}
@@ -51,13 +50,13 @@ use Rattle.pg_script.specs.declared.step.Step.{Step}
 use Rattle.pg_play.specs.declared.tally.Limits.{Limits}
 use Rattle.pg_play.specs.declared.tally.Pause.TheVariants as pauses
 use Rattle.pg_play.specs.Shown.{feed_of, item_of}
-use Rattle.pg_play.specs.Calls.{Bounds, EndsStarved, HasEnded, InCopy, InPlay, IsCallPlaying, IsCopying, IsPlayingOn, IsDropped, IsDroppedAs, IsOpened, IsUnpolled, OfLast, Pauses, PlaysCall, PlaysOne, PlaysStep, StopsBy, Waited, Went, behind_end, bounds, change_for, copy_behind, failed_by, first_conn, limits_of, outcome_of, parted}
+use Rattle.pg_play.specs.Calls.{Bounds, EndsStarved, HasEnded, InCopy, InPlay, IsCallPlaying, IsCopying, IsPlayingOn, IsDropped, IsOpened, IsUnpolled, Pauses, PlaysCall, PlaysStep, Waited, Went, behind_end, bounds, copy_behind, failed_by, first_conn, limits_of, outcome_of, parted}
 use Rattle.pg_play.specs.Chains.{IsUnsaid, feeding, flushing, is_cancel, summed, told_behind}
 use Rattle.pg_play.specs.Feeding.{CameOf, PartsAs, fed_with, parts_of}
 use Rattle.pg_play.specs.Opened.{IsFed, IsOpenWith, IsPolled, PlaysCopy, asked_of_fed, fed_of, given_up_as, of_step}
-use Rattle.pg_play.proofs.CallLaws.{below_items, call_runs, ended_whole, given_up, heard_cause, not_at_once, plays_one, waited_after, waited_more, went_on}
+use Rattle.pg_play.proofs.CallLaws.{below_items, ended_whole, given_up, heard_cause, not_at_once, plays_one, waited_after, waited_more, went_on}
 use Rattle.pg_play.proofs.ThroughLaws.{plays_call}
-use Rattle.pg_play.proofs.FeedingLaws.{asked_with, copy_ended, copy_feeds, copy_stops, fed_all, of_copy, open_stays, said_can, unended, unended_changes}
+use Rattle.pg_play.proofs.FeedingLaws.{asked_with, copy_ended, copy_feeds, copy_stops, fed_all, of_copy, open_stays, said_can}
 use Rattle.pg_play.proofs.NextLaws.{replies_same}
 
 -- what the server has answered to it begins the copy, and nothing else
@@ -100,7 +99,7 @@ sent_went : (a b : ConnSeen) (t : StreamSeen) (said : List FrontendMessage) (fs 
 sent_went a b t said fs answer w p =
     subst (λ (x : List FrontendMessage). Went a (record b { stream = t }) x fs) (append-nil said)
     (subst (λ (x : List Frame). Went a (record b { stream = t }) (said ++ []) x) (append-nil fs)
-    (went_on 256 a b (record b { stream = t }) said [] [] fs [] w p.moves refl (grew_none b.groups) (grew_none b.heard) (refl, refl, refl, refl) (sends_or_waits (record b.stream { left = 256 }) t answer p.gives)))
+    (went_on 256 a b (record b { stream = t }) said [] [] fs [] w p.moves refl (grew_none b.groups) (grew_none b.heard) (refl, refl, refl, refl) ([], tt, refl) (sends_or_waits (record b.stream { left = 256 }) t answer p.gives)))
 
 sent_on : (first : StreamSeen) (a b : ConnSeen) (t : StreamSeen) (r : Request) (waits now : ℕ) (items : List CallItem) (said : List FrontendMessage) (fs : List Frame) (answer : Poll (Result (Unit {0}) Error)) → InCopy first a b r waits items said fs → PollsSend (record b.stream { left = 256 }) t answer → waits ≤ now → Waited now first t
     → AfterSend first a (record b { stream = t }) r now items said fs
@@ -257,7 +256,7 @@ leave_drops step copying old b c d waits shown out polled last p sent e k =
     let waited : Waited step.polls first.stream f.0 = subst (λ (n : ℕ). Waited n first.stream f.0) last opened.waited in
     let below = below_items shown h.0 step.most h.3 h.4 in
     let dropped = dropped_open (bounds limits) first m feed (waits + 1) shown h.0 h.1 h.2 (omega (arith, last)) (omega (arith, opened.calls, last, below)) h.3 h.4 i.0 (as_sent first.stream first m (requests.CopyIn feed) (waits + 1) h.0 h.1 h.2 opened) (λ l. inl (waited, starves first first b f.0 (requests.CopyIn feed) waits h.0 h.1 h.2 h.5 f.1.gives)) in
-    copied_as old d step copying (parts_of copying) out polled (all_parts copying) (told_open (bounds limits) first m d feed shown ends.Dropped out dropped (call_runs first.ledger (requests.CopyIn feed) h.1 (heard h.2) h.0 m.ledger m.call opened.call) (λ x. refl) refl (e ∙ ap (λ (x : ConnSeen). left x) f.2) k)
+    copied_as old d step copying (parts_of copying) out polled (all_parts copying) (told_open (bounds limits) first m d feed shown ends.Dropped out dropped (runs_on first.ledger (requests.CopyIn feed) h.1 (heard h.2) h.0 m.ledger m.call opened.call) (λ x. refl) refl (e ∙ ap (λ (x : ConnSeen). left x) f.2) k)
 
 -- a write that fails
 pub leave_fails : (step : Step) (copying : Copying) (old b c d : ConnSeen) (waits : ℕ) (shown : List Item) (x : Error) (out : Outcome) → IsPolled old step → waits < step.polls → IsFed (of_step step) copying old b waits shown → PollsFed b c (Ready (Err x)) → d ≡ left c → out ≡ outcome_of d shown (ends.Err x) → PlaysCopy old d step copying out
@@ -271,7 +270,7 @@ leave_fails step copying old b c d waits shown x out polled l p sent e k =
     let m : ConnSeen = record b { stream = f.0 } in
     let fault = f.1.gives.0 in
     let failed = failed_open (bounds limits) first b f.0 feed waits shown h.0 h.1 h.2 l h.3 h.4 i.0 h.5 (subst (λ (y : Error). PollsSend (record b.stream { left = 256 }) f.0 (Ready (Err y))) fault f.1) in
-    copied_as old d step copying (parts_of copying) out polled (all_parts copying) (told_open (bounds limits) first m d feed shown (ends.Err (errors.Io io.Fault)) out failed (call_runs first.ledger (requests.CopyIn feed) h.1 (heard h.2) h.0 m.ledger m.call h.5.call) (λ y. refl) refl (e ∙ ap (λ (y : ConnSeen). left y) f.2) (k ∙ ap (λ (y : Error). outcome_of d shown (ends.Err y)) fault))
+    copied_as old d step copying (parts_of copying) out polled (all_parts copying) (told_open (bounds limits) first m d feed shown (ends.Err (errors.Io io.Fault)) out failed (runs_on first.ledger (requests.CopyIn feed) h.1 (heard h.2) h.0 m.ledger m.call h.5.call) (λ y. refl) refl (e ∙ ap (λ (y : ConnSeen). left y) f.2) (k ∙ ap (λ (y : Error). outcome_of d shown (ends.Err y)) fault))
 
 -- all is sent: it is left as it stands
 pub leave_ends : (step : Step) (copying : Copying) (old b c d : ConnSeen) (waits : ℕ) (shown : List Item) (u : Unit {0}) (first : Outcome) → IsPolled old step → copying.end ≡ copy_ends.Leave → waits < step.polls → IsFed (of_step step) copying old b waits shown → PollsFed b c (Ready (Ok u)) → d ≡ left c → first ≡ outcome_of d shown ends.Dropped
@@ -289,7 +288,7 @@ leave_ends step copying old b c d waits shown u told polled end l p sent e k =
     let waited = waited_after waits first.stream b.stream f.0 f.1.moves.counts f.1.gives.1.2 f.1.moves.tallies.moves.0 h.5.waited in
     let sent_so = sent_on first.stream first b f.0 (requests.CopyIn feed) waits waits h.0 h.1 h.2 (Ready (Ok u)) h.5 f.1 (omega arith) waited in
     let dropped = dropped_open limits first m feed waits shown h.0 h.1 h.2 (omega (arith, l)) (omega (arith, sent_so.calls, l, below)) h.3 h.4 i.0 sent_so (λ x. (opened_leaves first.ledger feed h.1 (heard h.2) h.0 m.ledger m.call sent_so.is_open sent_so.call x, f.1.gives.0)) in
-    let played = told_open limits first m d feed shown ends.Dropped told dropped (call_runs first.ledger (requests.CopyIn feed) h.1 (heard h.2) h.0 m.ledger m.call sent_so.call) (λ x. refl) refl (e ∙ ap (λ (x : ConnSeen). left x) f.2) k in
+    let played = told_open limits first m d feed shown ends.Dropped told dropped (runs_on first.ledger (requests.CopyIn feed) h.1 (heard h.2) h.0 m.ledger m.call sent_so.call) (λ x. refl) refl (e ∙ ap (λ (x : ConnSeen). left x) f.2) k in
     (feeding step fed ∷ [], told ∷ [], (fed, came_all copying partings.Left (refl, (refl, end)), (told, refl, refl, ap (λ (x : Outcome). x.end) k, refl)), (d, part_played old d step fed told polled played, polled.counts, refl))
 
 -- its message can't be said: it is left as it stands
@@ -304,7 +303,7 @@ abort_unsaid step copying old b d waits shown message x told polled end unsaid l
     let h = i.1 in
     let below = below_items shown h.0 step.most h.3 h.4 in
     let dropped = dropped_open limits first b feed waits shown h.0 h.1 h.2 (omega (arith, l)) (omega (arith, h.5.calls, l, below)) h.3 h.4 i.0 (as_sent first.stream first b (requests.CopyIn feed) waits h.0 h.1 h.2 h.5) (λ y. opened_leaves first.ledger feed h.1 (heard h.2) h.0 b.ledger b.call h.5.is_open h.5.call y) in
-    let played = told_open limits first b d feed shown ends.Dropped told dropped (call_runs first.ledger (requests.CopyIn feed) h.1 (heard h.2) h.0 b.ledger b.call h.5.call) (λ y. refl) refl e k in
+    let played = told_open limits first b d feed shown ends.Dropped told dropped (runs_on first.ledger (requests.CopyIn feed) h.1 (heard h.2) h.0 b.ledger b.call h.5.call) (λ y. refl) refl e k in
     (feeding step fed ∷ [], told ∷ [], (fed, came_all copying partings.Unsaid (refl, (message, (refl, end))), (told, x, unsaid, refl, refl, ap (λ (y : Outcome). y.end) k, refl)), (d, part_played old d step fed told polled played, polled.counts, refl))
 
 -- ---- it is failed by a message of its own

@@ -12,23 +12,30 @@ use Rattle.pg_wire.specs.declared.error.ServerFault.{ServerFault}
 use Rattle.pg_wire.specs.Frame.{Frame}
 use Rattle.pg_wire.specs.Parts.{heard, is_ready, parts}
 use Rattle.pg_wire.specs.Frontend.{FrontendMessage, HasFrontendFrame, CopyData, Query, Parse, DescribeStatement, Bind, Execute, ClosePortal, CloseStatement}
-use Rattle.pg_wire.specs.Backend.{BackendMessage, backend_frame}
+use Rattle.std.specs.Map.{keys_of}
+use Rattle.pg_wire.specs.Backend.{BackendMessage, Values, backend_frame}
 use Rattle.pg_wire.specs.Groups.{IsGroup, IsInner}
-use Rattle.pg_exchanges.specs.Answering.{closing}
+use Rattle.pg_exchanges.specs.Answering.{closing, running}
 use Rattle.pg_wire.proofs.PartLaws.{heard-append}
 use Rattle.pg_stream.specs.Streams.{StreamSeen}
 use Rattle.pg_call.specs.declared.request.Request.{Request}
 use Rattle.pg_call.specs.declared.answer.CallItem.{CallItem}
 use Rattle.pg_call.specs.declared.ledger.Ledger.{Ledger}
 use Rattle.pg_call.specs.declared.calling.Call.TheVariants as states
-use Rattle.pg_call.specs.Requests.{Group, said_in, spelled, kind_of, groups_of, messages_of, copy_fail, ended_by, feeding, name_of}
+use Rattle.pg_call.specs.Requests.{Group, said_in, spelled, kind_of, groups_of, messages_of, copy_fail, ended_by, feeding, name_of, parsing_by}
 use Rattle.pg_call.specs.Items.{shown}
 use Rattle.pg_call.specs.Drains.{is_copy_in, before_readys, after_readys, drain_fails}
 use Rattle.pg_call.specs.Hearing.{fails_of}
 use Rattle.pg_call.specs.Calls.{CallEnds, owner_failed}
 use Rattle.pg_call.proofs.DrainLaws.{after_nil, before_nil}
 use Rattle.pg_conn.specs.Connections.{ConnSeen, idle}
-use Rattle.pg_conn.specs.Turns.{FailsBy, ends_request, HasAllRoom}
+use Rattle.pg_lookup.specs.Lookups.{Column, IsNoRow, column_columns, type_columns}
+use Rattle.pg_resolve.specs.Tried.{unresolved}
+use Rattle.pg_learning.specs.declared.learnt.Learnt.{Learnt}
+use Rattle.pg_learning.specs.declared.learnt.Seeking.{Seeking}
+use Rattle.pg_learning.specs.declared.learnt.Seeking.TheVariants as seekings
+use Rattle.pg_learning.specs.Learning.{FailsSeeking, TakesBy, TakesRow}
+use Rattle.pg_conn.specs.Turns.{FailsBy, LookFails, ends_request, HasAllRoom}
 use Rattle.pg_report.specs.declared.outcome.Item.{Item}
 use Rattle.pg_report.specs.declared.outcome.End.{End}
 use Rattle.pg_report.specs.declared.outcome.End.TheVariants as ends
@@ -37,7 +44,7 @@ use Rattle.pg_script.specs.declared.step.Call.TheVariants as calls
 use Rattle.pg_script.specs.declared.step.Fed.{Fed}
 use Rattle.pg_play.specs.Shown.{feed_of, is_fed, request_of, item_of}
 use Rattle.pg_startup.specs.Flows.{Flows}
-use Rattle.pg_play.specs.Calls.{Bounds, bounds, EndsOn, broken_after}
+use Rattle.pg_play.specs.Calls.{Bounds, EndsOn, broken_after}
 use Rattle.pg_play.specs.Places.{Place, IsRequestGroup, readies, ended, owed, drained, is_fine, refuses_copy, unfed, queued_by, failed_next}
 use Rattle.pg_play.specs.Plays.{StandsAt, AsksForNoCopy}
 use Rattle.pg_startup.proofs.FlowLaws.{Flows-then}
@@ -66,9 +73,44 @@ nothing_done start r said hs ledger s h l = record {
   rests = λ z. rw h (after_nil (start.owed + 0));
 }
 
+-- why a lookup fails: for want of memory, since types aren't there, or by a row of a catalog that isn't one
+abbrev pub IsLookError : Error → Type 0
+IsLookError e = (e ≡ errors.OutOfMemory) ⊎ (((oids : List ℕ) × (e ≡ unresolved oids)) ⊎ ((place : ℕ) × (e ≡ errors.ColumnDecode place)))
+
+seeking_errors : (seeking : Seeking) (e : Error) → FailsSeeking seeking e → IsLookError e
+seeking_errors (seekings.Types s) e (asked, (inl memory, some)) = inl memory
+seeking_errors (seekings.Types s) e (asked, (inr types, some)) = inr (inl (keys_of s.waiting, types))
+seeking_errors seekings.Nothing e h = absurd h
+seeking_errors (seekings.Names asked) e h = absurd h
+
+no_row_errors : (columns : List Column) (values : Values) (e : Error) → IsNoRow columns values e → IsLookError e
+no_row_errors columns values e (inl memory) = inl memory
+no_row_errors columns values e (inr (place, is, unread)) = inr (inr (place, is))
+
+row_errors : (values : Values) (a b : Learnt) (e : Error) → TakesRow values a b (Err e) → IsLookError e
+row_errors values a b e h = by a.seeking h
+  where
+    by : (seeking : Seeking) → TakesBy seeking values a b (Err e) → IsLookError e
+    by (seekings.Types s) (tables, inl (none, same)) = no_row_errors type_columns values e none
+    by (seekings.Types s) (tables, inr (row, is, sound, inl memory)) = inl memory
+    by (seekings.Types s) (tables, inr (row, is, sound, inr refused)) = inr (inl (refused.0.oid ∷ [], refused.5))
+    by (seekings.Names asked) (types, inl (none, same)) = no_row_errors column_columns values e none
+    by (seekings.Names asked) (types, inr (row, is, kept, memory)) = inl memory
+    by seekings.Nothing (same, okay) = absurd cc
+
+pub look_errors : (r : Request) (hs : List Frame) (e : Error) → LookFails r hs e → IsLookError e
+look_errors r hs e (lookup, is, inl (seeking, fails)) = seeking_errors seeking e fails
+look_errors r hs e (lookup, is, inr row) = row_errors row.1 row.2 row.3 e row.6
+
+look_no_reply : (tag : ℕ) → IsLookError (errors.Protocol (protocol.Reply tag)) → ⊥
+look_no_reply tag (inl e) = cc
+look_no_reply tag (inr (inl (oids, e))) = cc
+look_no_reply tag (inr (inr (place, e))) = cc
+
 fails_plainly : (a b : ConnSeen) (start : Ledger) (r : Request) (own : List Group) (hs : List Frame) (e : Error) → FailsBy a b start r own hs e → refuses_copy (ends.Err e) ≡ false
 fails_plainly a b start r own hs (errors.Protocol (protocol.Reply tag)) (inl h) = absurd h.0
-fails_plainly a b start r own hs (errors.Protocol (protocol.Reply tag)) (inr h) = absurd h.5
+fails_plainly a b start r own hs (errors.Protocol (protocol.Reply tag)) (inr (inl h)) = absurd h.5
+fails_plainly a b start r own hs (errors.Protocol (protocol.Reply tag)) (inr (inr h)) = absurd (look_no_reply tag (look_errors r hs (errors.Protocol (protocol.Reply tag)) h))
 fails_plainly a b start r own hs (errors.Protocol _) h = refl
 fails_plainly a b start r own hs _ h = refl
 
@@ -130,7 +172,7 @@ said_is_queued start at a r said hs items ledger end st s =
 -- ---- the next place
 
 abbrev pub next_place : Place → ConnSeen → List FrontendMessage → List Group → List Frame → End → Place
-next_place at b said own fs end = record { seen = b.stream; said = at.said ++ said; groups = at.groups ++ own; frames = at.frames ++ fs; is_copy_failed = failed_next at own (heard fs) end; broken = broken_after at.broken end; rule = at.rule; has_failed = at.has_failed }
+next_place at b said own fs end = record { seen = b.stream; said = at.said ++ said; groups = at.groups ++ own; frames = at.frames ++ fs; is_copy_failed = failed_next at own (heard fs) end; broken = broken_after at.broken end; rule = at.rule; learnt = b.learnt; has_failed = at.has_failed }
 
 pub readies-append : (xs ys : List Frame) → readies (xs ++ ys) ≡ readies xs + readies ys
 readies-append xs ys = sum_by-append (λ (y : Frame). cond (is_ready y) 1 0) xs ys
@@ -188,10 +230,15 @@ plain_asked (suc left) calls.Rollback n = (inl (rollback_text left, refl), tt)
 plain_asked d calls.StartRollback n = tt
 plain_asked d (calls.Release text) n = tt
 plain_asked d (calls.Describe extended) n = (inr (Parse (name_of extended.statement) extended.sql extended.arguments.types ∷ DescribeStatement (name_of extended.statement) ∷ [], (tt, (tt, tt)), refl), tt)
-plain_asked d (calls.Run bound) n = (inr (Bind (name_of bound.statement) bound.arguments.values ∷ Execute [] 0 ∷ ClosePortal [] ∷ [], (tt, (tt, (tt, tt))), refl), tt)
+plain_asked d (calls.Run bound) n = (by bound.again, tt)
+  where
+    by : (again : Option (List ℕ)) → IsGroup (parsing_by (name_of bound.statement) bound.arguments.types again ++ running (name_of bound.statement) bound.arguments.values 0)
+    by None = inr (Bind (name_of bound.statement) bound.arguments.values ∷ Execute [] 0 ∷ ClosePortal [] ∷ [], (tt, (tt, (tt, tt))), refl)
+    by (Some sql) = inr (Parse (name_of bound.statement) sql bound.arguments.types ∷ Bind (name_of bound.statement) bound.arguments.values ∷ Execute [] 0 ∷ ClosePortal [] ∷ [], (tt, (tt, (tt, (tt, tt)))), refl)
 plain_asked d (calls.Prepare preparation) n = tt
 plain_asked d calls.Clear n = tt
 plain_asked d (calls.Evict eviction) n = (closing_group (name_of eviction.statement ∷ []), tt)
+plain_asked d (calls.Look lookup) n = (inl (lookup.text, refl), tt)
 plain_asked d (calls.Tell prepared) n = tt
 plain_asked d (calls.CloseAll statements) n = (closing_group (map name_of statements), tt)
 plain_asked d (calls.Feed fed) n = absurd cc
@@ -302,10 +349,15 @@ requests_asked (suc left) calls.Rollback = refl
 requests_asked d calls.StartRollback = refl
 requests_asked d (calls.Release text) = refl
 requests_asked d (calls.Describe extended) = refl
-requests_asked d (calls.Run bound) = refl
+requests_asked d (calls.Run bound) = by bound.again
+  where
+    by : (again : Option (List ℕ)) → count_by ends_request (said_in ((parsing_by (name_of bound.statement) bound.arguments.types again ++ running (name_of bound.statement) bound.arguments.values 0) ∷ [])) ≡ 1
+    by None = refl
+    by (Some sql) = refl
 requests_asked d (calls.Prepare preparation) = refl
 requests_asked d calls.Clear = refl
 requests_asked d (calls.Evict eviction) = requests_closing (name_of eviction.statement ∷ [])
+requests_asked d (calls.Look lookup) = refl
 requests_asked d (calls.Tell prepared) = refl
 requests_asked d (calls.CloseAll statements) = requests_closing (map name_of statements)
 requests_asked d (calls.Feed fed) = requests_fed fed
@@ -336,6 +388,7 @@ stands_next start at a b d call said fs items end st s flows broken idle rule ro
   broken = broken ∙ ap (λ (o : Option ServerFault). broken_after o end) st.broken;
   seen = refl;
   rule = rule ∙ st.rule;
+  learnt = refl;
   room = room;
   idle = idle;
   sayable = each_join HasFrontendFrame at.said said st.sayable (subst (AllByRecursion HasFrontendFrame) (sym (said_is_queued start at a (request_of d call) said (heard fs) items b.ledger end st s))

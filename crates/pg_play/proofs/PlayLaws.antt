@@ -2,7 +2,7 @@
 use Rattle.std.proofs.Common.{◌≡◌, ◌≢◌, ℕ, ◌+◌, ◌*◌, ◌^◌, ◌≤◌, ◌<◌, Bool, true, false, cond, ◌⊎◌, inl, inr, List, [], ◌∷◌, ◌++◌, length, replicate, refl, sym, ap, ap₂, ◌∙◌, subst, arith, append_assoc, append-nil, Option, Some, None, sum_by}
 use Rattle.pg_play.proofs.IdleLaws.{idles_all}
 use Rattle.pg_play.specs.Idles.{SaysIdle, statuses}
-use Rattle.pg_play.proofs.SettledLaws.{SettlesTo, settles_rollback, acts_tell, cleanup_polled, depth_other, depth_stands, moved_other, none_handed}
+use Rattle.pg_play.proofs.SettledLaws.{SettlesTo, asks_none, settles_rollback, acts_tell, cleanup_polled, depth_other, depth_stands, moved_other, none_handed}
 use Rattle.std.specs.Io.KnownBytes.{Appends}
 use Rattle.pg_wire.specs.declared.error.Error.TheVariants as errors
 use Rattle.pg_wire.specs.declared.error.Error.{Error}
@@ -26,7 +26,7 @@ use Rattle.pg_call.specs.declared.calling.Call.TheVariants as states
 use Rattle.pg_rule.specs.declared.rule.Rule.{Rule}
 use Rattle.pg_conn.specs.Statements.{asked_by, begun_as, held_by, unmoved}
 use Rattle.pg_conn.specs.Turns.{first_exchange}
-use Rattle.pg_conn.specs.Connections.{ConnSeen, ends_copy, cleaned, counted_anew, ended as ended_conn, fresh_connection, with_depth, with_spare, left}
+use Rattle.pg_conn.specs.Connections.{ConnSeen, cleaned, counted_anew, ended as ended_conn, fresh_connection, with_depth, with_spare, left}
 use Rattle.pg_report.specs.declared.outcome.Item.{Item}
 use Rattle.pg_report.specs.declared.outcome.Answer.TheVariants.{Unit as AnswersUnit}
 use Rattle.pg_report.specs.declared.outcome.End.{End}
@@ -43,7 +43,7 @@ use Rattle.pg_play.specs.Calls.{Ended, WaitsFew, PlaysCall, PlaysStep, IsUnpolle
 use Rattle.pg_play.specs.Places.{Place, owed, drained, unfed, queued_by, refuses_copy, Queues, first_place, is_fine}
 use Rattle.pg_play.specs.Told.{Numbers, CountsTo, WellAtOk}
 use Rattle.pg_play.specs.Causes.{AnsweredPending, IsDropped, IsDroppedAs, HasCause, KeepsFault, EndsDuly, OpensSavepoint}
-use Rattle.pg_play.specs.Settling.{Settles, depth_after, has_moved, held_after, statements_after, step_after}
+use Rattle.pg_play.specs.Settling.{Settles, has_moved, statements_after, step_after}
 use Rattle.pg_play.specs.WaitPlaces.{LastPlaces}
 use Rattle.pg_play.specs.Chained.{AreChained, IsChained}
 use Rattle.pg_play.specs.Locks.{Guards}
@@ -53,14 +53,15 @@ use Rattle.pg_play.specs.Starts.{Opening, IsOf, HasOpened, HasWaitedLess}
 use Rattle.pg_startup.proofs.FlowLaws.{Flows-none}
 use Rattle.pg_play.proofs.PartLaws.{take_none}
 use Rattle.pg_call.proofs.RefusalLaws.{memory_refuses}
-use Rattle.pg_play.specs.Shown.{asked_of, first_call, next_call, IsWanted}
+use Rattle.pg_play.specs.Shown.{asked_of, first_call, IsWanted}
 use Rattle.pg_play.specs.Copying.{LeavesCopy}
 use Rattle.pg_play.proofs.CopyLaws.{leaves_none, fails_nothing}
 use Rattle.pg_play.proofs.UncopiedLaws.{calls_plain}
 use Rattle.pg_play.proofs.SettleLaws.{left_link}
-use Rattle.pg_play.proofs.CallLaws.{left_idle, first_changes, unqueued_unfed, wanted_held, wanted_stays}
+use Rattle.pg_play.proofs.CallLaws.{left_idle, first_changes, wanted_held, wanted_stays}
 use Rattle.pg_play.proofs.ExchangeLaws.{first_parts, first_request, first_acts, first_begins_with, first_waits, asked_wanted}
-use Rattle.pg_play.proofs.KeptLaws.{first_known, first_sound, keeps_first, keeps_next}
+use Rattle.pg_play.proofs.KeptLaws.{first_sound, keeps_first, keeps_next}
+use Rattle.pg_play.proofs.FollowLaws.{first_holds, first_known}
 use Rattle.pg_play.specs.Kept.{Keeps}
 use Rattle.pg_call.specs.declared.kind.Keeping.{Keeping}
 use Rattle.pg_call.specs.declared.kind.Keeping.TheVariants as keepings
@@ -149,6 +150,7 @@ begins_first start at a step st k later = record {
   fits = omega arith;
   keeps = k;
   sound = first_sound at.rule step.call;
+  holds = first_holds at at.rule step.call;
 }
 
 -- what its exchanges came to is the step's
@@ -181,7 +183,7 @@ polled_step start at a b step out st k n opens later p (next ∷ more, played) =
     let r = request_of at.rule.depth (first_call at.rule step.call) in
     let t = turns_through (next ∷ more) start (begun_call r a).stream none_counted at a b step (first_call at.rule step.call) out (begins_first start at a step st k later) p refl refl (polled_most step n) (first_parts at.rule step.call) played in
     polled_turns start at a b step out t.0 st later p t.1
-    (duly_handed start at t.0 a played.0 step r next out st n opens played.1 (λ x. ap (λ (y : Call). request_of at.rule.depth (first_call at.rule y)) x) t.1.few (λ w. t.1.most (first_waits at.rule step.call w)))
+    (duly_handed start at t.0 a played.0 step r played.1.told out st n opens played.1.handed (λ x. ap (λ (y : Call). request_of at.rule.depth (first_call at.rule y)) x) t.1.few (λ w. t.1.most (first_waits at.rule step.call w)))
 
 -- a step that does nothing, and is no failure of the server
 abbrev IsQuiet : End → Type 0
@@ -265,6 +267,7 @@ quiet_call at step out end k q f c now =
         said = sym (ap (λ (x : List FrontendMessage). at.said ++ x) (quiet_said at out.end quiet) ∙ append-nil at.said);
         groups = sym (append-nil at.groups);
         rule = refl;
+        learns = ([], tt, refl);
         taken = sym (append-nil (heard at.frames));
         failed = sym (and_true at.is_copy_failed);
         broken = sym (quiet_breaks at.broken out.end quiet);
@@ -317,9 +320,10 @@ quiet_step start at a step out end st kept later f k q one none dropped duly =
     let settles : Settles at (first_step at.rule step) out out one.own one.told.response at at = record {
       cleanup = [];
       cleans = rw none (sym (cleanup_polled at.rule.depth (first_call at.rule step.call) out.end [] (owed at) waits));
+      asks = None;
+      looks = asks_none out.end call one.told.response at.learnt (none_handed out.end call one.told.response (ap is_fine ends_so ∙ f));
       rule = sym (
-          ap (λ (o : Option Request). held_after o (statements_after (keeping_of (request_of at.rule.depth call)) (has_moved one.own out.end) (with_depth (depth_after at.rule.depth call out.end) at.rule))) (none_handed out.end call one.told.response (ap is_fine ends_so ∙ f))
-          ∙ ap₂ (λ (b : Bool) (n : ℕ). statements_after (keeping_of (request_of at.rule.depth call)) b (with_depth n at.rule)) made (depth_other at.rule.depth call out.end (ap is_fine ends_so ∙ f) waits)
+          ap₂ (λ (b : Bool) (n : ℕ). statements_after (keeping_of (request_of at.rule.depth call)) b (with_depth n at.rule)) made (depth_other at.rule.depth call out.end (ap is_fine ends_so ∙ f) waits)
           ∙ first_unmoved at.rule at.rule.depth step.call
           );
       said = sym (append-nil at.said);
@@ -335,8 +339,7 @@ quiet_step start at a step out end st kept later f k q one none dropped duly =
     } in
     let none_waits : out.waits ≡ 0 = ap (λ (x : Outcome). x.waits) k in
     let leaves : LeavesCopy call one.own out.end at at = subst (λ (own : List Group). LeavesCopy call own out.end at at) (sym none) (leaves_none call [] out.end at (fails_nothing call out.end).0 (fails_nothing call out.end).1) in
-    let turns = one_turn start at at at at a step (first_call at.rule step.call) none_counted out out out one leaves (quiet_lawful at out (subst IsQuiet (sym ends_so) q)) (places_quiet at out (ap (λ (x : Outcome). x.waits) k)) (NoneFalls-refl at.seen.link) settles st kept refl refl (add_alone out) (over_same out.cache)
-    (λ z. let x = sym (ap is_fine ends_so ∙ f) ∙ z in absurd cc) in
+    let turns = one_turn start at at at at a step (first_call at.rule step.call) none_counted out out out one leaves (quiet_lawful at out (subst IsQuiet (sym ends_so) q)) (places_quiet at out (ap (λ (x : Outcome). x.waits) k)) (NoneFalls-refl at.seen.link) settles st kept refl refl (add_alone out) (over_same out.cache) refl in
     steps_to start at step out at a turns (omega (arith, none_waits)) (omega (arith, ap (λ (x : StreamSeen). x.link.calls) st.seen)) dropped (λ now. let x = sym later ∙ now in absurd cc) (λ x. duly)
 
 quiet_most : (step : Step) (out : Outcome) (end : End) → out ≡ untouched end → (out.end ≢ ends.Dropped → 0 < step.most) → WithinMost out.end out.items step.most
@@ -412,12 +415,7 @@ acts_first rule calls.StartRollback acts = refl
 acts_first rule (calls.Release text) acts = refl
 acts_first rule _ acts = absurd cc
 
-acts_last : (rule : Rule) (call : Call) → acts_at_once call ≡ true → next_call rule call [] ≡ None
-acts_last rule calls.StartRollback acts = refl
-acts_last rule (calls.Release text) acts = refl
-acts_last rule _ acts = absurd cc
-
-acted_step : (start : StreamSeen) (at : Place) (a b : ConnSeen) (step : Step) → StandsAt start at a → Keeps at → acts_at_once step.call ≡ true → SettlesTo start at (first_step at.rule step) (untouched (ends.Ok AnswersUnit)) [] [] at (ended_conn (counted_anew a)) b → StepsTo start at step (rolled_outcome b) b
+acted_step : (start : StreamSeen) (at : Place) (a b : ConnSeen) (step : Step) → StandsAt start at a → Keeps at → acts_at_once step.call ≡ true → SettlesTo start at (first_step at.rule step) (untouched (ends.Ok AnswersUnit)) [] [] None at (ended_conn (counted_anew a)) b → StepsTo start at step (rolled_outcome b) b
 unfolding quiet_call acted_call
 acted_step start at a b step st kept acts settled =
     let told : Outcome = untouched (ends.Ok AnswersUnit) in
@@ -430,8 +428,8 @@ acted_step start at a b step st kept acts settled =
     let adds : AddUp none_counted (settled.out ∷ []) (rolled_outcome b) = add_one none_counted b settled.out [] (rolled_outcome b) (counts_settled start none_counted at at (ended_conn (counted_anew a)) b first told one settled grew) (add_none b [] (ends.Ok AnswersUnit)) in
     let k = settled.settles.outcome in
     let turns = one_turn start at at settled.left settled.next b step (first_call at.rule step.call) none_counted told settled.out (rolled_outcome b) one settled.leaves (quiet_lawful at told (inr (inr (inr refl)))) (places_quiet at told refl) (NoneFalls-refl at.seen.link) settled.settles settled.stands
-    (keeps_next at at settled.left settled.next first told settled.out one settled.leaves settled.settles kept (first_sound at.rule step.call) (λ x d f. absurd (acts_none first.call x now d)))
-    (sym (ap (λ (x : Outcome). x.items) k)) (sym (ap (λ (x : Outcome). x.end) k)) adds settled.others.4 (λ f. acts_last settled.next.rule first.call now) in
+    (keeps_next at at settled.left settled.next first told settled.out one settled.leaves settled.settles kept (first_sound at.rule step.call) (first_holds at at.rule step.call) (λ x d f. absurd (acts_none first.call x now d))).0
+    (sym (ap (λ (x : Outcome). x.items) k)) (sym (ap (λ (x : Outcome). x.end) k)) adds settled.others.4 settled.asked in
     steps_to start at step (rolled_outcome b) at b turns (omega (arith, settled.others.1)) (omega (arith, ap (λ (x : StreamSeen). x.link.calls) settled.stands.seen, ap (λ (x : StreamSeen). x.link.calls) settled.settles.seen, ap (λ (x : LinkSeen). x.calls) (left_link first.call [] (ends.Ok AnswersUnit) at settled.left settled.leaves))) (λ x. absurd cc) (λ w. (rolled_so, refl)) (λ later. let x = sym later ∙ acts in absurd cc)
 
 -- a call on a connection on which none ran begins with the exchange that the place tells
@@ -554,6 +552,7 @@ stands_first opening polls link a g = rw g.fresh (record {
   broken = refl;
   seen = refl;
   rule = refl;
+  learnt = refl;
   room = rw g.fresh at g.room;
   idle = refl;
   sayable = tt;

@@ -29,7 +29,8 @@ use Rattle.pg_report.specs.declared.outcome.Outcome.{Outcome}
 use Rattle.pg_script.specs.declared.step.Call.{Call}
 use Rattle.pg_script.specs.declared.step.Call.TheVariants as calls
 use Rattle.pg_script.specs.declared.step.Step.{Step}
-use Rattle.pg_play.specs.Shown.{request_of, begins, acts_at_once, handed_by}
+use Rattle.pg_learning.specs.declared.learnt.Learnt.{Learnt}
+use Rattle.pg_play.specs.Shown.{LooksOn, request_of, begins, acts_at_once, handed_by}
 use Rattle.pg_play.specs.Places.{Place, IsRequestGroup, ended as ended_place, owed, is_fine, Queues}
 use Rattle.pg_call.specs.declared.kind.Keeping.{Keeping}
 use Rattle.pg_call.specs.declared.kind.Keeping.TheVariants as keepings
@@ -70,8 +71,8 @@ abbrev with_rule_only : Rule → CacheStep → ConnSeen → ConnSeen
 with_rule_only rule now m = record m { rule = rule; cache = now }
 
 -- and no end of a call is awaited
-abbrev with_rule : Rule → CacheStep → ConnSeen → ConnSeen
-with_rule rule now m = record m { rule = rule; cache = now; change = changes.Stays; keeping = keepings.Stays }
+abbrev with_rule : Rule → Learnt → CacheStep → ConnSeen → ConnSeen
+with_rule rule learnt now m = record m { rule = rule; learnt = learnt; cache = now; change = changes.Stays; keeping = keepings.Stays }
 
 flows_group : (start : StreamSeen) (mid : Place) (m : ConnSeen) (text : List ℕ) (rule : Rule) (now : CacheStep) → StandsAt start mid m → has_room_for (spelled (release text)) m ≡ true
     → Flows start (text_conn m text rule now).stream (spelled (mid.said ++ release text)) mid.frames
@@ -105,6 +106,7 @@ stands_group start mid m text rule now st l r room =
       broken = st.broken;
       seen = refl;
       rule = refl;
+      learnt = st.learnt;
       room = room;
       idle = st.idle;
       sayable = each_join HasFrontendFrame mid.said (release text) st.sayable (l, tt);
@@ -117,14 +119,15 @@ stands_group start mid m text rule now st l r room =
     plain_group : (mid : Place) (text : List ℕ) → mid.said ≡ said_in mid.groups → mid.said ++ release text ≡ said_in (mid.groups ++ release text ∷ [])
     plain_group mid text e = ap (λ (x : List FrontendMessage). x ++ release text) e ∙ sym (flat_map-append (λ g. g) mid.groups (release text ∷ []))
 
-pub stands_rule : (start : StreamSeen) (mid : Place) (m : ConnSeen) (rule : Rule) (now : CacheStep) → StandsAt start mid m → HasAllRoom (with_rule rule now m) → StandsAt start (record mid { rule = rule }) (with_rule rule now m)
-stands_rule start mid m rule now st room = record {
+pub stands_rule : (start : StreamSeen) (mid : Place) (m : ConnSeen) (rule : Rule) (learnt : Learnt) (now : CacheStep) → StandsAt start mid m → HasAllRoom (with_rule rule learnt now m) → StandsAt start (record mid { rule = rule; learnt = learnt }) (with_rule rule learnt now m)
+stands_rule start mid m rule learnt now st room = record {
   flows = st.flows;
   ledger = st.ledger;
   failed = st.failed;
   broken = st.broken;
   seen = st.seen;
   rule = refl;
+  learnt = refl;
   room = room;
   idle = st.idle;
   sayable = st.sayable;
@@ -162,6 +165,7 @@ opens_begins d (calls.Run bound) = refl
 opens_begins d (calls.Prepare preparation) = refl
 opens_begins d calls.Clear = refl
 opens_begins d (calls.Evict eviction) = refl
+opens_begins d (calls.Look lookup) = refl
 opens_begins d (calls.Tell prepared) = refl
 opens_begins d (calls.CloseAll statements) = refl
 
@@ -191,6 +195,7 @@ depth_ok d (calls.Run bound) groups end f a b = refl
 depth_ok d (calls.Prepare preparation) groups end f a b = refl
 depth_ok d calls.Clear groups end f a b = refl
 depth_ok d (calls.Evict eviction) groups end f a b = refl
+depth_ok d (calls.Look lookup) groups end f a b = refl
 depth_ok d (calls.Tell prepared) groups end f a b = refl
 depth_ok d (calls.CloseAll statements) groups end f a b = refl
 
@@ -218,6 +223,7 @@ depth_other d (calls.Run bound) end f a = refl
 depth_other d (calls.Prepare preparation) end f a = refl
 depth_other d calls.Clear end f a = refl
 depth_other d (calls.Evict eviction) end f a = refl
+depth_other d (calls.Look lookup) end f a = refl
 depth_other d (calls.Tell prepared) end f a = refl
 depth_other d (calls.CloseAll statements) end f a = refl
 
@@ -271,6 +277,8 @@ cleanup_polled d calls.Clear end [] n a = refl
 cleanup_polled d calls.Clear end (g ∷ gs) n a = refl
 cleanup_polled d (calls.Evict eviction) end [] n a = refl
 cleanup_polled d (calls.Evict eviction) end (g ∷ gs) n a = refl
+cleanup_polled d (calls.Look lookup) end [] n a = refl
+cleanup_polled d (calls.Look lookup) end (g ∷ gs) n a = refl
 cleanup_polled d (calls.Tell prepared) end [] n a = refl
 cleanup_polled d (calls.Tell prepared) end (g ∷ gs) n a = refl
 cleanup_polled d (calls.CloseAll statements) end [] n a = refl
@@ -305,47 +313,54 @@ depth_statements keeping true rule = depth_moved keeping rule
 depth_statements keeping false rule = depth_unmoved keeping rule
 
 -- what becomes of the statements leaves the depth
-pub depth_rule : (rule : Rule) (call : Call) (own : List Group) (response : List BackendMessage) (end : End) → (rule_after rule call own response end).depth ≡ depth_after rule.depth call end
-depth_rule rule call own response end =
+pub depth_rule : (rule : Rule) (call : Call) (own : List Group) (next : Option Request) (end : End) → (rule_after rule call own next end).depth ≡ depth_after rule.depth call end
+depth_rule rule call own next end =
     let open_rule : Rule = with_depth (depth_after rule.depth call end) rule in
     let kept : Keeping = keeping_of (request_of rule.depth call) in
-    depth_held_after (handed_at end call response) (statements_after kept (has_moved own end) open_rule) ∙ depth_statements kept (has_moved own end) open_rule
+    depth_held_after next (statements_after kept (has_moved own end) open_rule) ∙ depth_statements kept (has_moved own end) open_rule
 
--- the connection behind an end, where this was handed on
-abbrev pub conn_behind : Option Request → End → ConnSeen → ConnSeen
-conn_behind o end m = record (behind_end end m) { rule = held_after o (behind_end end m).rule }
+-- the connection behind an end, where this is asked next
+abbrev pub conn_behind : Option Request → Learnt → End → ConnSeen → ConnSeen
+conn_behind o learnt end m = record (behind_end end m) { rule = held_after o (behind_end end m).rule; learnt = learnt }
 
 -- ---- the end of a call that was polled
 
 -- The connection stands at the next place, and counts the groups of the cleanup on.
-pub record SettlesTo (start : StreamSeen) (at : Place) (step : Step) (told : Outcome) (own : List Group) (response : List BackendMessage) (mid : Place) (m d : ConnSeen) : Type 0 where
+pub record SettlesTo (start : StreamSeen) (at : Place) (step : Step) (told : Outcome) (own : List Group) (response : List BackendMessage) (asks : Option Request) (mid : Place) (m d : ConnSeen) : Type 0 where
   pub left : Place
   pub leaves : LeavesCopy step.call own told.end mid left
   pub next : Place
   pub out : Outcome
   pub settles : Settles at step told out own response left next
+  pub asked : settles.asks ≡ asks
   pub stands : StandsAt start next d
   pub groups : GrewBy (length settles.cleanup) m.groups d.groups
   pub others : (d.heard ≡ m.heard) × (d.stream.waits ≡ m.stream.waits) × (d.stream.moves ≡ m.stream.moves) × (d.earlier ≡ m.earlier) × (d.cache ≡ over m.cache out.cache)
 
 -- what is made of it: what is known of the session, and what is told
-record Makes (at : Place) (step : Step) (told : Outcome) (own : List Group) (response : List BackendMessage) (m : ConnSeen) (rule : Rule) (now : CacheStep) : Type 0 where
-  knows : rule ≡ rule_after at.rule step.call own response told.end
+record Makes (at : Place) (step : Step) (told : Outcome) (own : List Group) (asks : Option Request) (m : ConnSeen) (rule : Rule) (now : CacheStep) : Type 0 where
+  knows : rule ≡ rule_after at.rule step.call own asks told.end
   tells : now ≡ over m.cache (step_after (keeping_of (request_of at.rule.depth step.call)) (has_moved own told.end))
 
+-- what hands on nothing has nothing asked
+pub asks_none : (end : End) (call : Call) (response : List BackendMessage) (learnt : Learnt) → handed_at end call response ≡ None → LooksOn (handed_at end call response) learnt None learnt
+asks_none end call response learnt e = subst (λ (o : Option Request). LooksOn o learnt None learnt) (sym e) (refl, refl)
+
 -- nothing is queued
-settles_plain : (start : StreamSeen) (at call mid : Place) (m : ConnSeen) (step : Step) (told : Outcome) (own : List Group) (response : List BackendMessage) (rule : Rule) (now : CacheStep) → LeavesCopy step.call own told.end call mid → StandsAt start mid m → HasAllRoom (with_rule rule now m) → told.groups ≡ length own
-    → [] ≡ cleanup_of at.rule.depth step.call told.end own (owed mid) → Makes at step told own response m rule now → SettlesTo start at step told own response call m (with_rule rule now m)
-settles_plain start at call mid m step told own response rule now leaves st room counts none makes =
+settles_plain : (start : StreamSeen) (at call mid : Place) (m : ConnSeen) (step : Step) (told : Outcome) (own : List Group) (response : List BackendMessage) (asks : Option Request) (learnt : Learnt) (rule : Rule) (now : CacheStep) → LooksOn (handed_at told.end step.call response) mid.learnt asks learnt → LeavesCopy step.call own told.end call mid → StandsAt start mid m → HasAllRoom (with_rule rule learnt now m) → told.groups ≡ length own
+    → [] ≡ cleanup_of at.rule.depth step.call told.end own (owed mid) → Makes at step told own asks m rule now → SettlesTo start at step told own response asks call m (with_rule rule learnt now m)
+settles_plain start at call mid m step told own response asks learnt rule now looks leaves st room counts none makes =
     let said : CacheStep = step_after (keeping_of (request_of at.rule.depth step.call)) (has_moved own told.end) in
     record {
       left = mid;
       leaves = leaves;
-      next = record mid { rule = rule };
+      next = record mid { rule = rule; learnt = learnt };
       out = record told { cache = said };
       settles = record {
         cleanup = [];
         cleans = none;
+        asks = asks;
+        looks = looks;
         rule = makes.knows;
         said = sym (append-nil mid.said);
         groups = sym (append-nil mid.groups);
@@ -358,15 +373,16 @@ settles_plain start at call mid m step told own response rule now leaves st room
         cache = refl;
         counted = omega (arith, counts);
       };
-      stands = stands_rule start mid m rule now st room;
+      asked = refl;
+      stands = stands_rule start mid m rule learnt now st room;
       groups = omega arith;
       others = (refl, refl, refl, refl, makes.tells);
     }
 
 -- a rollback is
-settles_rolled : (start : StreamSeen) (at call mid : Place) (m : ConnSeen) (step : Step) (told : Outcome) (own : List Group) (response : List BackendMessage) (rule : Rule) (now : CacheStep) → LeavesCopy step.call own told.end call mid → StandsAt start mid m → HasAllRoom (rolled_conn m 0 rule now) → has_room_for (spelled (rollback 0)) m ≡ true → m.groups ≤ 1
-    → rollback 0 ∷ [] ≡ cleanup_of at.rule.depth step.call told.end own (owed mid) → Makes at step told own response m rule now → SettlesTo start at step told own response call m (rolled_conn m 0 rule now)
-settles_rolled start at call mid m step told own response rule now leaves st room r few cleanup makes =
+settles_rolled : (start : StreamSeen) (at call mid : Place) (m : ConnSeen) (step : Step) (told : Outcome) (own : List Group) (response : List BackendMessage) (rule : Rule) (now : CacheStep) → handed_at told.end step.call response ≡ None → LeavesCopy step.call own told.end call mid → StandsAt start mid m → HasAllRoom (rolled_conn m 0 rule now) → has_room_for (spelled (rollback 0)) m ≡ true → m.groups ≤ 1
+    → rollback 0 ∷ [] ≡ cleanup_of at.rule.depth step.call told.end own (owed mid) → Makes at step told own None m rule now → SettlesTo start at step told own response None call m (rolled_conn m 0 rule now)
+settles_rolled start at call mid m step told own response rule now hands leaves st room r few cleanup makes =
     let d = rolled_conn m 0 rule now in
     let said : CacheStep = step_after (keeping_of (request_of at.rule.depth step.call)) (has_moved own told.end) in
     record {
@@ -377,6 +393,8 @@ settles_rolled start at call mid m step told own response rule now leaves st roo
       settles = record {
         cleanup = rollback 0 ∷ [];
         cleans = cleanup;
+        asks = None;
+        looks = asks_none told.end step.call response mid.learnt hands;
         rule = makes.knows;
         said = refl;
         groups = refl;
@@ -389,6 +407,7 @@ settles_rolled start at call mid m step told own response rule now leaves st roo
         cache = refl;
         counted = omega arith;
       };
+      asked = refl;
       stands = stands_group start mid m (rollback_text 0) rule now st (rollback_said 0 (omega arith)) r room;
       groups = omega (arith, few);
       others = (refl, refl, refl, refl, makes.tells);
@@ -455,12 +474,30 @@ behind_unfine (ends.Ok answer) m f = absurd cc
 behind_unfine (ends.Err e) m f = refl
 behind_unfine ends.Dropped m f = refl
 
+-- what is learnt stays
+cleaned_learnt : (m : ConnSeen) → (cleaned m).learnt ≡ m.learnt
+cleaned_learnt m = by (may_open m.change m.groups m.rule.depth) (has_room_for (spelled (rollback 0)) (restated m))
+  where
+    restating : (g : Bool) → (cond g (record m { rule = unmoved m.keeping m.rule }) (record m { rule = moved m.keeping m.rule; cache = step_of m.keeping m.cache })).learnt ≡ m.learnt
+    restating true = refl
+    restating false = refl
+
+    by : (o r : Bool) → (ended (cond o (cond r (with_group (spelled (rollback 0)) (restated m)) (restated m)) (restated m))).learnt ≡ m.learnt
+    by true true = restating (nat_eq m.groups 0)
+    by true false = restating (nat_eq m.groups 0)
+    by false r = restating (nat_eq m.groups 0)
+
+pub behind_learnt : (end : End) (m : ConnSeen) → (behind_end end m).learnt ≡ m.learnt
+behind_learnt (ends.Ok answer) m = refl
+behind_learnt (ends.Err e) m = cleaned_learnt m
+behind_learnt ends.Dropped m = cleaned_learnt m
+
 -- behind an Ok
-fine_makes : (at : Place) (m : ConnSeen) (step : Step) (told : Outcome) (own : List Group) (response : List BackendMessage) → m.rule ≡ at.rule → m.keeping ≡ keeping_of (request_of at.rule.depth step.call) → is_fine told.end ≡ true → depth_behind m.change m.groups m.rule.depth ≡ depth_after at.rule.depth step.call told.end
-    → Makes at step told own response m (held_after (handed_at told.end step.call response) (moved m.keeping (with_depth (depth_behind m.change m.groups m.rule.depth) m.rule))) (step_of m.keeping m.cache)
-fine_makes at m step told own response same keeping f depth = record {
-  knows = ap₂ (λ (k : Keeping) (r : Rule). held_after (handed_at told.end step.call response) (moved k r)) keeping (ap₂ with_depth depth same)
-      ∙ ap (λ (b : Bool). held_after (handed_at told.end step.call response) (statements_after kept b (with_depth (depth_after at.rule.depth step.call told.end) at.rule))) (sym (moved_fine own told.end f));
+fine_makes : (at : Place) (m : ConnSeen) (step : Step) (told : Outcome) (own : List Group) (asks : Option Request) → m.rule ≡ at.rule → m.keeping ≡ keeping_of (request_of at.rule.depth step.call) → is_fine told.end ≡ true → depth_behind m.change m.groups m.rule.depth ≡ depth_after at.rule.depth step.call told.end
+    → Makes at step told own asks m (held_after asks (moved m.keeping (with_depth (depth_behind m.change m.groups m.rule.depth) m.rule))) (step_of m.keeping m.cache)
+fine_makes at m step told own asks same keeping f depth = record {
+  knows = ap₂ (λ (k : Keeping) (r : Rule). held_after asks (moved k r)) keeping (ap₂ with_depth depth same)
+      ∙ ap (λ (b : Bool). held_after asks (statements_after kept b (with_depth (depth_after at.rule.depth step.call told.end) at.rule))) (sym (moved_fine own told.end f));
   tells = step_over m.keeping m.cache ∙ ap (λ (k : Keeping). over m.cache (step_of k cache.Same)) keeping ∙ ap (λ (b : Bool). over m.cache (step_after kept b)) (sym (moved_fine own told.end f));
 }
   where
@@ -468,15 +505,12 @@ fine_makes at m step told own response same keeping f depth = record {
     kept = keeping_of (request_of at.rule.depth step.call)
 
 -- behind another end, by whether a group was queued
-other_makes : (at : Place) (m : ConnSeen) (step : Step) (told : Outcome) (own : List Group) (response : List BackendMessage) → m.rule ≡ at.rule → m.keeping ≡ keeping_of (request_of at.rule.depth step.call) → is_fine told.end ≡ false → depth_after at.rule.depth step.call told.end ≡ at.rule.depth
-    → has_group own ≡ not (nat_eq m.groups 0) → Makes at step told own response m (held_after (handed_at told.end step.call response) (restated m).rule) (restated m).cache
-other_makes at m step told own response same keeping f depth asked = by (nat_eq m.groups 0) refl
+other_makes : (at : Place) (m : ConnSeen) (step : Step) (told : Outcome) (own : List Group) → m.rule ≡ at.rule → m.keeping ≡ keeping_of (request_of at.rule.depth step.call) → is_fine told.end ≡ false → depth_after at.rule.depth step.call told.end ≡ at.rule.depth
+    → has_group own ≡ not (nat_eq m.groups 0) → Makes at step told own None m (restated m).rule (restated m).cache
+other_makes at m step told own same keeping f depth asked = by (nat_eq m.groups 0) refl
   where
     kept : Keeping
     kept = keeping_of (request_of at.rule.depth step.call)
-
-    o : Option Request
-    o = handed_at told.end step.call response
 
     old : with_depth (depth_after at.rule.depth step.call told.end) at.rule ≡ m.rule
     old = ap (λ (n : ℕ). with_depth n at.rule) depth ∙ sym same
@@ -484,15 +518,15 @@ other_makes at m step told own response same keeping f depth asked = by (nat_eq 
     is : (b : Bool) → nat_eq m.groups 0 ≡ b → has_moved own told.end ≡ not b
     is b e = moved_other own told.end f ∙ asked ∙ ap not e
 
-    by : (b : Bool) → nat_eq m.groups 0 ≡ b → Makes at step told own response m (held_after o (cond b (record m { rule = unmoved m.keeping m.rule }) (record m { rule = moved m.keeping m.rule; cache = step_of m.keeping m.cache })).rule) (cond b (record m { rule = unmoved m.keeping m.rule }) (record m { rule = moved m.keeping m.rule; cache = step_of m.keeping m.cache })).cache
+    by : (b : Bool) → nat_eq m.groups 0 ≡ b → Makes at step told own None m (cond b (record m { rule = unmoved m.keeping m.rule }) (record m { rule = moved m.keeping m.rule; cache = step_of m.keeping m.cache })).rule (cond b (record m { rule = unmoved m.keeping m.rule }) (record m { rule = moved m.keeping m.rule; cache = step_of m.keeping m.cache })).cache
     by true e = record {
-      knows = ap₂ (λ (k : Keeping) (r : Rule). held_after o (unmoved k r)) keeping (sym old)
-          ∙ ap (λ (b : Bool). held_after o (statements_after kept b (with_depth (depth_after at.rule.depth step.call told.end) at.rule))) (sym (is true e));
+      knows = ap₂ (λ (k : Keeping) (r : Rule). unmoved k r) keeping (sym old)
+          ∙ ap (λ (b : Bool). statements_after kept b (with_depth (depth_after at.rule.depth step.call told.end) at.rule)) (sym (is true e));
       tells = ap (λ (b : Bool). over m.cache (step_after kept b)) (sym (is true e));
     }
     by false e = record {
-      knows = ap₂ (λ (k : Keeping) (r : Rule). held_after o (moved k r)) keeping (sym old)
-          ∙ ap (λ (b : Bool). held_after o (statements_after kept b (with_depth (depth_after at.rule.depth step.call told.end) at.rule))) (sym (is false e));
+      knows = ap₂ (λ (k : Keeping) (r : Rule). moved k r) keeping (sym old)
+          ∙ ap (λ (b : Bool). statements_after kept b (with_depth (depth_after at.rule.depth step.call told.end) at.rule)) (sym (is false e));
       tells = step_over m.keeping m.cache ∙ ap (λ (k : Keeping). over m.cache (step_of k cache.Same)) keeping ∙ ap (λ (b : Bool). over m.cache (step_after kept b)) (sym (is false e));
     }
 
@@ -514,14 +548,11 @@ restated_stream m = by (nat_eq m.groups 0)
     by false = refl
 
 pub settles_call : (start : StreamSeen) (at mid left : Place) (m : ConnSeen) (step : Step) (told : Outcome) (one : Plays_call at step told mid) → LeavesCopy step.call one.own told.end mid left → acts_at_once step.call ≡ false → StandsAt start left m → length one.own ≤ 1 → m.groups ≡ length one.own → Acts step.call at.rule.depth m → m.keeping ≡ keeping_of (request_of at.rule.depth step.call)
-    → SettlesTo start at step told one.own one.told.response mid m (conn_behind (handed_at told.end step.call one.told.response) told.end m)
-settles_call start at mid left m step told one leaves a st small groups acts keeping = by (is_fine told.end) refl
+    → (asks : Option Request) (learnt : Learnt) → LooksOn (handed_at told.end step.call one.told.response) left.learnt asks learnt → SettlesTo start at step told one.own one.told.response asks mid m (conn_behind asks learnt told.end m)
+settles_call start at mid left m step told one leaves a st small groups acts keeping asks learnt looks = by (is_fine told.end) refl
   where
     response : List BackendMessage
     response = one.told.response
-
-    o : Option Request
-    o = handed_at told.end step.call response
 
     same : m.rule ≡ at.rule
     same = st.rule ∙ ap (λ (x : Place). x.rule) leaves ∙ one.queued.rule
@@ -538,30 +569,30 @@ settles_call start at mid left m step told one leaves a st small groups acts kee
         ∙ ap (λ (n : ℕ). not (nat_eq m.groups 0) && (nat_eq n 0 && opens (change_of (kind_of (request_of at.rule.depth step.call))))) (sym depth_is)
         ∙ ap (λ (o : Bool). not (nat_eq m.groups 0) && (nat_eq m.rule.depth 0 && o)) (sym acts.opens_so) ∙ e
 
-    fine : is_fine told.end ≡ true → SettlesTo start at step told one.own response mid m (record (settled m) { rule = held_after o (settled m).rule })
+    fine : is_fine told.end ≡ true → SettlesTo start at step told one.own response asks mid m (record (settled m) { rule = held_after asks (settled m).rule; learnt = learnt })
     fine f =
-        settles_plain start at mid left m step told one.own response (held_after o (settled m).rule) (settled m).cache leaves st (room_held o (settled m) (all_settled m st.room)) counts
+        settles_plain start at mid left m step told one.own response asks learnt (held_after asks (settled m).rule) (settled m).cache looks leaves st (room_held asks (settled m) (all_settled m st.room)) counts
         (ok_cleans_none at.rule.depth step.call one.own ∙ ap (λ (b : Bool). cleanup_by at.rule.depth step.call b one.own) (sym f) ∙ sym (cleanup_polled at.rule.depth step.call told.end one.own (owed left) a))
-        (fine_makes at m step told one.own response same keeping f (
+        (fine_makes at m step told one.own asks same keeping f (
         acts.depth_so m.rule.depth
         ∙ ap (λ (n : ℕ). depth_behind (change_of (kind_of (request_of at.rule.depth step.call))) m.groups n) depth_is
         ∙ depth_ok at.rule.depth step.call m.groups told.end f a (λ b. some_groups (length one.own) m.groups (length_some one.own (λ n. begins_one at.rule.depth step.call b (sym (fine_has told.end _ one.own f one.queued.asks) ∙ n))) groups)
         ))
 
-    other : is_fine told.end ≡ false → (b : Bool) → may_open m.change m.groups m.rule.depth ≡ b → SettlesTo start at step told one.own response mid m (record (cleaned m) { rule = held_after o (cleaned m).rule })
+    other : is_fine told.end ≡ false → (b : Bool) → may_open m.change m.groups m.rule.depth ≡ b → SettlesTo start at step told one.own response None mid m (cleaned m)
     other f false e =
-        let rule : Rule = held_after o (restated m).rule in
+        let rule : Rule = (restated m).rule in
         let now : CacheStep = (restated m).cache in
         let none = other_cleans_none at.rule.depth step.call one.own m.groups (λ n. some_groups (length one.own) m.groups (length_some one.own n) groups) (opening_is false e) in
         let is : cleaned m ≡ ended (restated m) = rw e refl in
-        let so : record (cleaned m) { rule = held_after o (cleaned m).rule } ≡ with_rule rule now m =
-        ap (λ (x : ConnSeen). record x { rule = held_after o x.rule }) (is ∙ ap (λ (x : ConnSeen). ended x) (restated_stream m)) in
-        subst (λ (x : ConnSeen). SettlesTo start at step told one.own response mid m x) (sym so)
-        (settles_plain start at mid left m step told one.own response rule now leaves st (subst (λ (x : ConnSeen). HasAllRoom x) so (room_held o (cleaned m) (all_cleaned m st.room))) counts
+        let so : cleaned m ≡ with_rule rule left.learnt now m =
+        is ∙ ap (λ (x : ConnSeen). ended x) (restated_stream m) ∙ ap (λ (x : Learnt). with_rule rule x now m) st.learnt in
+        subst (λ (x : ConnSeen). SettlesTo start at step told one.own response None mid m x) (sym so)
+        (settles_plain start at mid left m step told one.own response None left.learnt rule now (asks_none told.end step.call response left.learnt (none_handed told.end step.call response f)) leaves st (subst (λ (x : ConnSeen). HasAllRoom x) so (all_cleaned m st.room)) counts
         (none ∙ ap (λ (b : Bool). cleanup_by at.rule.depth step.call b one.own) (sym f) ∙ sym (cleanup_polled at.rule.depth step.call told.end one.own (owed left) a))
-        (other_makes at m step told one.own response same keeping f (depth_other at.rule.depth step.call told.end f a) (has_some one.own m.groups groups)))
+        (other_makes at m step told one.own same keeping f (depth_other at.rule.depth step.call told.end f a) (has_some one.own m.groups groups)))
     other f true e =
-        let rule : Rule = held_after o (restated m).rule in
+        let rule : Rule = (restated m).rule in
         let now : CacheStep = (restated m).cache in
         let cleans = other_cleans at.rule.depth step.call one.own m.groups (λ n. groups ∙ ap (λ (g : List Group). length g) n) (opening_is true e) in
         let turn : length left.groups ≤ ended_place left + 1 = subst (λ (p : Place). length p.groups ≤ ended_place p + 1) (sym leaves) (one.queued.in_turn cleans.1) in
@@ -573,16 +604,23 @@ settles_call start at mid left m step told one leaves a st small groups acts kee
         let queued : queued_group (spelled (rollback 0)) (restated m) ≡ with_rule_only (restated m).rule (restated m).cache (with_group (spelled (rollback 0)) m) =
         ap (queued_group (spelled (rollback 0))) (restated_stream m) ∙ rw r refl in
         let is : cleaned m ≡ ended (queued_group (spelled (rollback 0)) (restated m)) = rw e refl in
-        let so : record (cleaned m) { rule = held_after o (cleaned m).rule } ≡ rolled_conn m 0 rule now =
-        ap (λ (x : ConnSeen). record x { rule = held_after o x.rule }) (is ∙ ap (λ (x : ConnSeen). ended x) queued) in
-        subst (λ (x : ConnSeen). SettlesTo start at step told one.own response mid m x) (sym so)
-        (settles_rolled start at mid left m step told one.own response rule now leaves st (subst (λ (x : ConnSeen). HasAllRoom x) so (room_held o (cleaned m) (all_cleaned m st.room))) r (omega (arith, groups, small))
+        let so : cleaned m ≡ rolled_conn m 0 rule now = is ∙ ap (λ (x : ConnSeen). ended x) queued in
+        subst (λ (x : ConnSeen). SettlesTo start at step told one.own response None mid m x) (sym so)
+        (settles_rolled start at mid left m step told one.own response rule now (none_handed told.end step.call response f) leaves st (subst (λ (x : ConnSeen). HasAllRoom x) so (all_cleaned m st.room)) r (omega (arith, groups, small))
         (cleans.0 ∙ ap (λ (b : Bool). cleanup_by at.rule.depth step.call b one.own) (sym f) ∙ sym (cleanup_polled at.rule.depth step.call told.end one.own (owed left) a))
-        (other_makes at m step told one.own response same keeping f (depth_other at.rule.depth step.call told.end f a) (has_some one.own m.groups groups)))
+        (other_makes at m step told one.own same keeping f (depth_other at.rule.depth step.call told.end f a) (has_some one.own m.groups groups)))
 
-    by : (b : Bool) → is_fine told.end ≡ b → SettlesTo start at step told one.own response mid m (conn_behind o told.end m)
-    by true f = subst (λ (x : ConnSeen). SettlesTo start at step told one.own response mid m (record x { rule = held_after o x.rule })) (sym (behind_fine told.end m f)) (fine f)
-    by false f = subst (λ (x : ConnSeen). SettlesTo start at step told one.own response mid m (record x { rule = held_after o x.rule })) (sym (behind_unfine told.end m f)) (other f (may_open m.change m.groups m.rule.depth) refl)
+    -- nothing is asked behind an end that isn't Ok
+    stays : (asks : Option Request) (learnt : Learnt) → LooksOn None left.learnt asks learnt → conn_behind asks learnt told.end m ≡ behind_end told.end m
+    stays asks learnt none =
+        ap₂ (λ (o : Option Request) (l : Learnt). conn_behind o l told.end m) none.0 (none.1 ∙ sym st.learnt) ∙ ap (λ (l : Learnt). record (behind_end told.end m) { learnt = l }) (sym (behind_learnt told.end m))
+
+    by : (b : Bool) → is_fine told.end ≡ b → SettlesTo start at step told one.own response asks mid m (conn_behind asks learnt told.end m)
+    by true f = subst (λ (x : ConnSeen). SettlesTo start at step told one.own response asks mid m (record x { rule = held_after asks x.rule; learnt = learnt })) (sym (behind_fine told.end m f)) (fine f)
+    by false f =
+        let none : LooksOn None left.learnt asks learnt = subst (λ (o : Option Request). LooksOn o left.learnt asks learnt) (none_handed told.end step.call response f) looks in
+        subst (λ (o : Option Request). SettlesTo start at step told one.own response o mid m (conn_behind asks learnt told.end m)) (sym none.0)
+        (subst (λ (x : ConnSeen). SettlesTo start at step told one.own response None mid m x) (sym (stays asks learnt none ∙ behind_unfine told.end m f)) (other f (may_open m.change m.groups m.rule.depth) refl))
 
 -- ---- a rollback without waiting
 
@@ -597,6 +635,7 @@ stands_anew start at a st =
       broken = st.broken;
       seen = ap (λ (x : StreamSeen). record x { waits = 0; moves = 0 }) st.seen;
       rule = st.rule;
+      learnt = st.learnt;
       room = omega (arith, room);
       idle = st.idle;
       sayable = st.sayable;
@@ -607,8 +646,13 @@ stands_anew start at a st =
     }
 
 -- what a rollback makes of the session, and what is told of it
-rolls_knows : (start : StreamSeen) (at : Place) (a : ConnSeen) (step : Step) (depth : ℕ) → StandsAt start at a → step.call ≡ calls.StartRollback → depth ≡ at.rule.depth - 1 → with_depth depth a.rule ≡ rule_after at.rule step.call [] [] (ends.Ok AnswersUnit)
-rolls_knows start at a step depth st c after = ap₂ with_depth after st.rule ∙ ap (λ (call : Call). rule_after at.rule call [] [] (ends.Ok AnswersUnit)) (sym c)
+rolls_knows : (start : StreamSeen) (at : Place) (a : ConnSeen) (step : Step) (depth : ℕ) → StandsAt start at a → step.call ≡ calls.StartRollback → depth ≡ at.rule.depth - 1 → with_depth depth a.rule ≡ rule_after at.rule step.call [] None (ends.Ok AnswersUnit)
+rolls_knows start at a step depth st c after = ap₂ with_depth after st.rule ∙ ap (λ (call : Call). rule_after at.rule call [] None (ends.Ok AnswersUnit)) (sym c)
+
+pub acts_ask_none : (call : Call) (learnt : Learnt) → acts_at_once call ≡ true → LooksOn (handed_at (ends.Ok AnswersUnit) call []) learnt None learnt
+acts_ask_none calls.StartRollback learnt a = (refl, refl)
+acts_ask_none (calls.Release text) learnt a = (refl, refl)
+acts_ask_none _ learnt a = absurd cc
 
 pub acts_tell : (depth : ℕ) (call : Call) → acts_at_once call ≡ true → cache.Same ≡ step_after (keeping_of (request_of depth call)) (has_moved [] (ends.Ok AnswersUnit))
 acts_tell depth calls.StartRollback a = refl
@@ -619,8 +663,8 @@ rolls_tells : (at : Place) (step : Step) → step.call ≡ calls.StartRollback �
 rolls_tells at step c = acts_tell at.rule.depth step.call (ap acts_at_once c)
 
 -- nothing is open, or no reply more can be counted
-rolls_none : (start : StreamSeen) (at : Place) (a : ConnSeen) (step : Step) (depth : ℕ) → StandsAt start at a → HasAllRoom (with_rule (with_depth depth a.rule) cache.Same (ended (counted_anew a))) → step.call ≡ calls.StartRollback → [] ≡ rollback_at at.rule.depth (owed at) → depth ≡ at.rule.depth - 1
-    → SettlesTo start at step (untouched (ends.Ok AnswersUnit)) [] [] at (ended (counted_anew a)) (with_rule (with_depth depth a.rule) cache.Same (ended (counted_anew a)))
+rolls_none : (start : StreamSeen) (at : Place) (a : ConnSeen) (step : Step) (depth : ℕ) → StandsAt start at a → HasAllRoom (with_rule (with_depth depth a.rule) at.learnt cache.Same (ended (counted_anew a))) → step.call ≡ calls.StartRollback → [] ≡ rollback_at at.rule.depth (owed at) → depth ≡ at.rule.depth - 1
+    → SettlesTo start at step (untouched (ends.Ok AnswersUnit)) [] [] None at (ended (counted_anew a)) (with_rule (with_depth depth a.rule) at.learnt cache.Same (ended (counted_anew a)))
 rolls_none start at a step depth st room c none after = record {
   left = at;
   leaves = leaves_none step.call [] (ends.Ok AnswersUnit) at (fails_nothing step.call (ends.Ok AnswersUnit)).0 (fails_nothing step.call (ends.Ok AnswersUnit)).1;
@@ -629,6 +673,8 @@ rolls_none start at a step depth st room c none after = record {
   settles = record {
     cleanup = [];
     cleans = rw c none;
+    asks = None;
+    looks = acts_ask_none step.call at.learnt (ap acts_at_once c);
     rule = rolls_knows start at a step depth st c after;
     said = sym (append-nil at.said);
     groups = sym (append-nil at.groups);
@@ -641,14 +687,15 @@ rolls_none start at a step depth st room c none after = record {
     cache = rolls_tells at step c;
     counted = omega arith;
   };
-  stands = stands_rule start (record at { seen = record at.seen { waits = 0; moves = 0 } }) (ended (counted_anew a)) (with_depth depth a.rule) cache.Same (stands_anew start at a st) room;
+  asked = refl;
+  stands = stands_rule start (record at { seen = record at.seen { waits = 0; moves = 0 } }) (ended (counted_anew a)) (with_depth depth a.rule) at.learnt cache.Same (stands_anew start at a st) room;
   groups = omega arith;
   others = (refl, refl, refl, refl, refl);
 }
 
 rolls_one : (start : StreamSeen) (at : Place) (a : ConnSeen) (step : Step) (left : ℕ) → StandsAt start at a → left < 2 ^ 64 → has_room_for (spelled (rollback left)) (ended (counted_anew a)) ≡ true → HasAllRoom (rolled_conn (ended (counted_anew a)) left (with_depth left a.rule) cache.Same) → step.call ≡ calls.StartRollback
     → rollback left ∷ [] ≡ rollback_at at.rule.depth (owed at) → left ≡ at.rule.depth - 1
-    → SettlesTo start at step (untouched (ends.Ok AnswersUnit)) [] [] at (ended (counted_anew a)) (rolled_conn (ended (counted_anew a)) left (with_depth left a.rule) cache.Same)
+    → SettlesTo start at step (untouched (ends.Ok AnswersUnit)) [] [] None at (ended (counted_anew a)) (rolled_conn (ended (counted_anew a)) left (with_depth left a.rule) cache.Same)
 rolls_one start at a step left st l r room c some after =
     let m : ConnSeen = ended (counted_anew a) in
     let rule : Rule = with_depth left a.rule in
@@ -662,6 +709,8 @@ rolls_one start at a step left st l r room c some after =
       settles = record {
         cleanup = rollback left ∷ [];
         cleans = rw c some;
+        asks = None;
+        looks = acts_ask_none step.call at.learnt (ap acts_at_once c);
         rule = rolls_knows start at a step left st c after;
         said = refl;
         groups = refl;
@@ -674,6 +723,7 @@ rolls_one start at a step left st l r room c some after =
         cache = rolls_tells at step c;
         counted = omega arith;
       };
+      asked = refl;
       stands = stands_group start mid m (rollback_text left) rule cache.Same (stands_anew start at a st) (rollback_said left l) r room;
       groups = omega arith;
       others = (refl, refl, refl, refl, refl);
@@ -702,9 +752,9 @@ rolls_at depth n owed e q = subst (λ (d : ℕ). rollback n ∷ [] ≡ rollback_
 rolls_not_at : (depth n owed : ℕ) → depth ≡ suc n → ltb owed (2 ^ 64 - 1) ≡ false → [] ≡ rollback_at depth owed
 rolls_not_at depth n owed e q = subst (λ (d : ℕ). [] ≡ rollback_at d owed) (sym e) (rw q refl)
 
-pub settles_rollback : (start : StreamSeen) (at : Place) (a b : ConnSeen) (step : Step) → StandsAt start at a → a.rule.depth < 2 ^ 64 → step.call ≡ calls.StartRollback → b ≡ rolled_back a → SettlesTo start at step (untouched (ends.Ok AnswersUnit)) [] [] at (ended (counted_anew a)) b
+pub settles_rollback : (start : StreamSeen) (at : Place) (a b : ConnSeen) (step : Step) → StandsAt start at a → a.rule.depth < 2 ^ 64 → step.call ≡ calls.StartRollback → b ≡ rolled_back a → SettlesTo start at step (untouched (ends.Ok AnswersUnit)) [] [] None at (ended (counted_anew a)) b
 settles_rollback start at a b step st l c is =
-    subst (λ (x : ConnSeen). SettlesTo start at step (untouched (ends.Ok AnswersUnit)) [] [] at (ended (counted_anew a)) x) (sym (is ∙ ap (λ (x : ConnSeen). rolled (ended (counted_anew x))) idles)) (by a.rule.depth refl)
+    subst (λ (x : ConnSeen). SettlesTo start at step (untouched (ends.Ok AnswersUnit)) [] [] None at (ended (counted_anew a)) x) (sym (is ∙ ap (λ (x : ConnSeen). rolled (ended (counted_anew x))) idles)) (by a.rule.depth refl)
   where
     idles : left a ≡ a
     idles = rw st.idle refl
@@ -712,26 +762,27 @@ settles_rollback start at a b step st l c is =
     room : HasAllRoom (rolled (ended (counted_anew a)))
     room = let k = st.room in all_rolled (ended (counted_anew a)) l refl (omega (arith, k))
 
-    by : (d : ℕ) → a.rule.depth ≡ d → SettlesTo start at step (untouched (ends.Ok AnswersUnit)) [] [] at (ended (counted_anew a)) (rolled (ended (counted_anew a)))
+    by : (d : ℕ) → a.rule.depth ≡ d → SettlesTo start at step (untouched (ends.Ok AnswersUnit)) [] [] None at (ended (counted_anew a)) (rolled (ended (counted_anew a)))
     by zero e =
-        let same : rolled (ended (counted_anew a)) ≡ with_rule (with_depth 0 a.rule) cache.Same (ended (counted_anew a)) = rw e refl in
-        subst (λ (x : ConnSeen). SettlesTo start at step (untouched (ends.Ok AnswersUnit)) [] [] at (ended (counted_anew a)) x) (sym same)
+        let none : rolled (ended (counted_anew a)) ≡ with_rule (with_depth 0 a.rule) a.learnt cache.Same (ended (counted_anew a)) = rw e refl in
+        let same : rolled (ended (counted_anew a)) ≡ with_rule (with_depth 0 a.rule) at.learnt cache.Same (ended (counted_anew a)) = none ∙ ap (λ (l : Learnt). with_rule (with_depth 0 a.rule) l cache.Same (ended (counted_anew a))) st.learnt in
+        subst (λ (x : ConnSeen). SettlesTo start at step (untouched (ends.Ok AnswersUnit)) [] [] None at (ended (counted_anew a)) x) (sym same)
         (rolls_none start at a step 0 st (subst (λ (x : ConnSeen). HasAllRoom x) same room) c (rw (sym (depth_stands start at a st) ∙ e) refl) (omega (arith, depth_stands start at a st, e)))
     by (suc n) e = one (ltb a.ledger.owed (2 ^ 64 - 1)) refl
       where
         owes : ltb (owed at) (2 ^ 64 - 1) ≡ ltb a.ledger.owed (2 ^ 64 - 1)
         owes = ap (λ (o : ℕ). ltb o (2 ^ 64 - 1)) (owed_is start at a st)
 
-        one : (b : Bool) → ltb a.ledger.owed (2 ^ 64 - 1) ≡ b → SettlesTo start at step (untouched (ends.Ok AnswersUnit)) [] [] at (ended (counted_anew a)) (rolled (ended (counted_anew a)))
+        one : (b : Bool) → ltb a.ledger.owed (2 ^ 64 - 1) ≡ b → SettlesTo start at step (untouched (ends.Ok AnswersUnit)) [] [] None at (ended (counted_anew a)) (rolled (ended (counted_anew a)))
         one true q =
             let short = rollback_short n (omega (arith, l, e)) in
             let space = st.room in
             let r = has_room (spelled (rollback n)) (ended (counted_anew a)) (omega (arith, short, space, e)) (ltb-true _ _ q) in
-            let same : rolled (ended (counted_anew a)) ≡ rolled_conn (ended (counted_anew a)) n (with_depth n a.rule) cache.Same = rolled_open (ended (counted_anew a)) n (omega (arith, e)) ∙ one_group (spelled (rollback n)) (with_rule (with_depth n a.rule) cache.Same (ended (counted_anew a))) r in
-            subst (λ (x : ConnSeen). SettlesTo start at step (untouched (ends.Ok AnswersUnit)) [] [] at (ended (counted_anew a)) x) (sym same)
+            let same : rolled (ended (counted_anew a)) ≡ rolled_conn (ended (counted_anew a)) n (with_depth n a.rule) cache.Same = rolled_open (ended (counted_anew a)) n (omega (arith, e)) ∙ one_group (spelled (rollback n)) (with_rule (with_depth n a.rule) a.learnt cache.Same (ended (counted_anew a))) r in
+            subst (λ (x : ConnSeen). SettlesTo start at step (untouched (ends.Ok AnswersUnit)) [] [] None at (ended (counted_anew a)) x) (sym same)
             (rolls_one start at a step n st (omega (arith, l, e)) r (subst (λ (x : ConnSeen). HasAllRoom x) same room) c (rolls_at at.rule.depth n (owed at) (sym (depth_stands start at a st) ∙ e) (owes ∙ q)) (omega (arith, depth_stands start at a st, e)))
         one false q =
             let none : has_room_for (spelled (rollback n)) (ended (counted_anew a)) ≡ false = rw q (and_false _) in
-            let same : rolled (ended (counted_anew a)) ≡ with_rule (with_depth n a.rule) cache.Same (ended (counted_anew a)) = rolled_open (ended (counted_anew a)) n (omega (arith, e)) ∙ no_group (spelled (rollback n)) (with_rule (with_depth n a.rule) cache.Same (ended (counted_anew a))) none in
-            subst (λ (x : ConnSeen). SettlesTo start at step (untouched (ends.Ok AnswersUnit)) [] [] at (ended (counted_anew a)) x) (sym same)
+            let same : rolled (ended (counted_anew a)) ≡ with_rule (with_depth n a.rule) at.learnt cache.Same (ended (counted_anew a)) = rolled_open (ended (counted_anew a)) n (omega (arith, e)) ∙ no_group (spelled (rollback n)) (with_rule (with_depth n a.rule) a.learnt cache.Same (ended (counted_anew a))) none ∙ ap (λ (l : Learnt). with_rule (with_depth n a.rule) l cache.Same (ended (counted_anew a))) st.learnt in
+            subst (λ (x : ConnSeen). SettlesTo start at step (untouched (ends.Ok AnswersUnit)) [] [] None at (ended (counted_anew a)) x) (sym same)
             (rolls_none start at a step n st (subst (λ (x : ConnSeen). HasAllRoom x) same room) c (rolls_not_at at.rule.depth n (owed at) (sym (depth_stands start at a st) ∙ e) (owes ∙ q)) (omega (arith, depth_stands start at a st, e)))

@@ -1,5 +1,5 @@
 -- One more poll of a call that is played: of one exchange, or through its end into the next ones.
-use Rattle.std.proofs.Common.{nat_eq, cond, ◌≡◌, ℕ, ◌+◌, ◌*◌, ◌<◌, ◌≤◌, inl, inr, Bool, true, false, List, [], ◌∷◌, ◌++◌, length, map, refl, sym, ap, ◌∙◌, subst, arith, Option, Some, None, Ok, Err, ap₂, min, ◌-◌, ◌^◌}
+use Rattle.std.proofs.Common.{nat_eq, cond, ◌≡◌, ℕ, ◌+◌, ◌*◌, ◌<◌, ◌≤◌, inl, inr, ◌⊎◌, Bool, true, false, List, [], ◌∷◌, ◌++◌, length, map, refl, sym, ap, ◌∙◌, subst, arith, Option, Some, None, Ok, Err, ap₂, min, ◌-◌, ◌^◌}
 use Rattle.pg_rule.specs.declared.rule.Rule.{Rule}
 use Rattle.pg_call.specs.declared.statement.After.TheVariants as afters
 use Rattle.pg_call.specs.declared.statement.After.{After}
@@ -44,6 +44,9 @@ use Rattle.pg_call.specs.declared.judging.Part.TheVariants.{Feeding, Opening}
 use Rattle.pg_call.proofs.CopyInLaws.{came}
 use Rattle.pg_call.proofs.FitLaws.{hands_on_described, next_is}
 use Rattle.pg_conn.specs.Connections.{ConnSeen, begun_with, handed, settled, runs, left, started_call, cleaned, ended, idle, resolved, resolved_by}
+use Rattle.pg_learning.specs.declared.learnt.Learnt.{Learnt}
+use Rattle.pg_conn.specs.Looking.{AsksNext, LooksUp}
+use Rattle.pg_conn.proofs.FeedingLaws.{copies_main}
 use Rattle.pg_conn.proofs.StatementLaws.{asked_main}
 use Rattle.pg_conn.specs.Turns.{Polled, PollsThrough, HandsOver, hands_on, PollsBy, HandsOnNone, beat_of, BeatCause, SendCause, TakesBeat, is_flushed, first_exchange}
 use Rattle.pg_report.specs.declared.outcome.Item.{Item}
@@ -56,13 +59,14 @@ use Rattle.pg_play.specs.declared.tally.Pause.{Pause}
 use Rattle.pg_play.specs.declared.tally.Pause.TheVariants as pauses
 use Rattle.pg_play.specs.declared.tally.Tally.{Tally}
 use Rattle.pg_play.specs.Shown.{item_of, IsBegun, IsUncopied, IsWanted}
-use Rattle.pg_play.specs.Calls.{Bounds, bounds, Adds, change_fed, change_for, Finishes, again, InCopy, InPlay, IsCopying, Waited, IsPlayingOn, IsPlaying, Ended, EndsOn, broken_after, Counted, asking, HandedOn, handed_from, OfLastIn, OfLast, IsCallPlaying, StopsBy, Pauses, PollGives, PlaysOne, PlaysCall, outcome_of, all_groups, asked_from, first_conn}
+use Rattle.pg_play.specs.Calls.{Bounds, bounds, Adds, change_fed, change_for, Finishes, again, InCopy, InPlay, IsCopying, Waited, IsPlayingOn, IsPlaying, Ended, EndsOn, broken_after, Counted, asking, HandedOn, HandsTo, handed_from, knowing, OfLastIn, OfLast, IsCallPlaying, StopsBy, Pauses, PollGives, PlaysOne, PlaysCall, outcome_of, all_groups, asked_from, first_conn}
+use Rattle.pg_play.proofs.ExchangeLaws.{IsLooked, looks_or}
 use Rattle.pg_play.proofs.CallLaws.{AfterSome, PlayBeat, OverPoll, over_poll, after_beat, fresh_play, playing_one, plays_one, goes_waits, goes_yields, goes_ok, goes_unshown, goes_err, drops_waiting, drops_shown, goes_unkept, asked_changes, wanted_stays, not_fed, first_changes}
 
 -- what holds of the exchange that came last
 on_last_in : (later : List Request) (polls : ℕ) (first : StreamSeen) (P Q : ConnSeen → Request → Type 0) (a : ConnSeen) (r : Request) → ((at : ConnSeen) (asked : Request) → P at asked → Q at asked) → OfLastIn later polls first P a r → OfLastIn later polls first Q a r
 on_last_in [] polls first P Q a r f p = f a r p
-on_last_in (next ∷ later) polls first P Q a r f h = (h.0, h.1, on_last_in later polls first P Q (handed_from h.0 next) (asked_from h.0 next) f h.2)
+on_last_in (next ∷ later) polls first P Q a r f h = (h.0, h.1, on_last_in later polls first P Q (handed_from (knowing h.1.learnt h.0) next) (asked_from h.0 next) f h.2)
 
 pub on_last : (polls : ℕ) (first : StreamSeen) (P Q : ConnSeen → Request → Type 0) (a : ConnSeen) (r : Request) → ((at : ConnSeen) (asked : Request) → P at asked → Q at asked) → OfLast polls first P a r → OfLast polls first Q a r
 on_last polls first P Q a r f h = (h.0, on_last_in h.0 polls first P Q a r f h.1)
@@ -71,7 +75,7 @@ on_last polls first P Q a r f h = (h.0, on_last_in h.0 polls first P Q a r f h.1
 last_behind : (later : List Request) (polls : ℕ) (first : StreamSeen) (P : ConnSeen → Request → Type 0) (a : ConnSeen) (r : Request) → OfLastIn later polls first (λ at asked. OfLast polls first P at asked) a r → OfLast polls first P a r
 last_behind [] polls first P a r h = h
 last_behind (next ∷ later) polls first P a r h =
-    let behind = last_behind later polls first P (handed_from h.0 next) (asked_from h.0 next) h.2 in
+    let behind = last_behind later polls first P (handed_from (knowing h.1.learnt h.0) next) (asked_from h.0 next) h.2 in
     (next ∷ behind.0, (h.0, h.1, behind.1))
 
 -- ---- an exchange that hands on the next one
@@ -132,6 +136,11 @@ described_stays (requests.Evict eviction) k = by eviction.after
     by : (after : After) → change_of (after_kind after) ≡ changes.Stays
     by (afters.Run bound) = refl
     by (afters.Prepare prepared) = refl
+described_stays (requests.Look lookup) k = by lookup.extended.goal
+  where
+    by : (goal : Goal) → change_of (goal_kind goal) ≡ changes.Stays
+    by (goals.Run how) = refl
+    by goals.Prepare = refl
 described_stays (requests.Run bound) k = refl
 described_stays _ k = absurd cc
 
@@ -147,11 +156,26 @@ described_main (requests.Evict eviction) k e = by eviction.after e
     by : (after : After) → after_kind after ≡ kinds.CopyIn → ⊥
     by (afters.Run bound) e = cc
     by (afters.Prepare prepared) e = cc
+described_main (requests.Look lookup) k e = by lookup.extended.goal e
+  where
+    by : (goal : Goal) → goal_kind goal ≡ kinds.CopyIn → ⊥
+    by (goals.Run how) e = cc
+    by goals.Prepare e = cc
 described_main _ k e = absurd cc
 
--- what was handed on opens and closes nothing
-pub handed_stays : (polls : ℕ) (first : StreamSeen) (a m : ConnSeen) (r next : Request) → HandedOn polls first a m r next → change_for (asked_from m next) ≡ changes.Stays
-handed_stays polls first a m r next h = not_fed (asked_from m next) (λ e. described_main r (handed_described polls first a m r next h) (sym (next_is r h.ends.0.0.reply h.ends.0.0.status next h.ends.0.1).0 ∙ sym (asked_main (settled m).rule next) ∙ e)) ∙ asked_changes (settled m).rule next ∙ ap change_of (next_is r h.ends.0.0.reply h.ends.0.0.status next h.ends.0.1).0 ∙ described_stays r (handed_described polls first a m r next h)
+-- what is looked up is for the same call
+looked_main : (told next : Request) → (next ≡ told) ⊎ IsLooked told next → main_kind next ≡ main_kind told
+looked_main told next (inl same) = ap main_kind same
+looked_main told next (inr l) = ap main_kind l.asks ∙ sym (ap main_kind l.tells)
+
+handed_main : (polls : ℕ) (first : StreamSeen) (a m : ConnSeen) (r told next : Request) (learnt : Learnt) → HandedOn polls first a m r told → LooksUp told m.learnt next learnt → main_kind next ≡ main_kind r
+handed_main polls first a m r told next learnt h looks = looked_main told next (looks_or told next m.learnt learnt looks) ∙ (next_is r h.ends.0.0.reply h.ends.0.0.status told h.ends.0.1).0
+
+-- what is asked next opens and closes nothing
+pub handed_stays : (polls : ℕ) (first : StreamSeen) (a m : ConnSeen) (r told next : Request) (learnt : Learnt) → HandedOn polls first a m r told → LooksUp told m.learnt next learnt → change_for (asked_from m next) ≡ changes.Stays
+handed_stays polls first a m r told next learnt h looks =
+    let main = handed_main polls first a m r told next learnt h looks in
+    not_fed (asked_from m next) (λ e. described_main r (handed_described polls first a m r told h) (sym main ∙ sym (asked_main (settled m).rule next) ∙ e)) ∙ asked_changes (settled m).rule next ∙ ap change_of main ∙ described_stays r (handed_described polls first a m r told h)
 
 -- what a connection has counted
 abbrev pub counted_by : ConnSeen → Counted
@@ -162,8 +186,8 @@ abbrev pub held_conn : ConnSeen → Request → ConnSeen
 held_conn m next = record (settled m) { rule = held_by (settled m).rule next }
 
 -- the next exchange begins as any other, behind what was counted
-pub handed_asking : (polls : ℕ) (first : StreamSeen) (a m : ConnSeen) (r next : Request) → HandedOn polls first a m r next → handed_from m next ≡ asking (asked_from m next) (counted_by (held_conn m next)) (held_conn m next)
-handed_asking polls first a m r next h = ap (λ (x : Change). record (handed_from m next) { change = x }) (sym (handed_stays polls first a m r next h))
+pub handed_asking : (polls : ℕ) (first : StreamSeen) (a m : ConnSeen) (r next : Request) → (h : HandsTo polls first a m r next) → handed_from (knowing h.learnt m) next ≡ asking (asked_from m next) (counted_by (held_conn (knowing h.learnt m) next)) (held_conn (knowing h.learnt m) next)
+handed_asking polls first a m r next h = ap (λ (x : Change). record (handed_from (knowing h.learnt m) next) { change = x }) (sym (handed_stays polls first a m r h.told next h.learnt h.handed h.looks))
 
 -- The exchange that handed on is told of as any that ended. It ends no call.
 pub handed_ended : (limits : Bounds) (first : StreamSeen) (a m : ConnSeen) (r next : Request) → 0 < limits.most → (h : HandedOn limits.polls first a m r next) → Ended limits first a m r [] (ends.Ok AnswersUnit) h.said h.fs
@@ -214,17 +238,17 @@ later_beat first b at c r waits beat s p =
     after_beat at.stream.left at.stream first at at p.stopped r 0 waits [] beat [] [] (fresh_play at r s.whole s.asks s.change) p.turns p.whole p.says p.flush over
 
 -- the next one begins where it stopped
-begins_next : (polls : ℕ) (first : StreamSeen) (b at m : ConnSeen) (r next : Request) (waits : ℕ) → Begins first b at r waits → TakesBeat at m (beats.Ends (Ok (answers.Next next))) → HandedOn polls first at m r next → Begins first b (handed_from m next) (asked_from m next) waits
-begins_next polls first b at m r next waits s t h = record {
+begins_next : (polls : ℕ) (first : StreamSeen) (b at m : ConnSeen) (r next : Request) (waits : ℕ) → Begins first b at r waits → (h : HandsTo polls first at m r next) → TakesBeat at m (beats.Ends (Ok (answers.Next h.told))) → Begins first b (handed_from (knowing h.learnt m) next) (asked_from m next) waits
+begins_next polls first b at m r next waits s h t = record {
   queued = s.queued ++ t.0;
   frames = s.frames ++ t.1;
   moves = Moves-then (begun_with 256 b).stream at.stream m.stream s.queued t.0 s.frames t.1 s.moves t.3.moves;
   moved = AllMoved-then (begun_with 256 b).stream at.stream m.stream s.moved s.moves.left t.3.cause t.3.moves.left;
   waited = s.waited;
   made = s.made;
-  whole = h.whole.1;
+  whole = h.handed.whole.1;
   asks = refl;
-  change = sym (handed_stays polls first at m r next h);
+  change = sym (handed_stays polls first at m r h.told next h.learnt h.handed h.looks);
 }
 
 -- ---- what a poll makes of an exchange
@@ -239,6 +263,15 @@ fault_hands_none fault answer e next is = let x = sym (ap beat_of is) ∙ e in a
 turned_whole : (most : ℕ) (first : StreamSeen) (a c : ConnSeen) (r : Request) (waits : ℕ) (shown : List Item) (answer : Poll Turn) (o : Option ServerFault) → a.broken ≡ o → PlayBeat o most first a c r waits shown (beat_of answer) → HandsOnNone answer → Turned most first c waits shown answer a r
 turned_whole most first a c r waits shown answer o e h n = (subst (λ (x : Option ServerFault). PlayBeat x most first a c r waits shown (beat_of answer)) (sym e) h, n)
 
+-- what is asked behind an exchange that handed on, and the connection on which it begins
+asks_on : (polls : ℕ) (first : StreamSeen) (a m between c : ConnSeen) (r told next : Request) → HandedOn polls first a m r told → between ≡ settled m → AsksNext told between next c
+    → (h : HandsTo polls first a m r next) × (c ≡ handed next (settled (knowing h.learnt m))) × (TakesBeat a m (beats.Ends (Ok (answers.Next told))) → TakesBeat a m (beats.Ends (Ok (answers.Next h.told))))
+asks_on polls first a m between c r told next h is (learnt, looks, stands) = (
+  record { told = told; handed = h; learnt = learnt; looks = subst (λ (x : ConnSeen). LooksUp told x.learnt next learnt) is looks },
+  stands ∙ ap (λ (x : ConnSeen). handed next (knowing learnt x)) is,
+  λ t. t,
+)
+
 -- exchanges that begin in the midst of a poll, the last of which goes on behind it
 later_turns : (later : List Request) (polls most : ℕ) (first : StreamSeen) (b at last c : ConnSeen) (r : Request) (waits : ℕ) (shown : List Item) (answer : Poll Turn) → waits < polls → shown ≡ [] → length shown < most → Begins first b (resolved at) r waits → HandsOver at later last → Polled (resolved last) c (beat_of answer) → HandsOnNone answer
     → OfLastIn later polls first (Turned most first c waits shown answer) (resolved at) r
@@ -246,11 +279,14 @@ later_turns [] polls most first b at last c r waits shown answer l n few s h p n
     let p' = subst (λ (x : ConnSeen). Polled (resolved x) c (beat_of answer)) h p in
     turned_whole most first (resolved at) c r waits shown answer None s.whole ([], n, few, p'.stopped, p'.behind_is, later_beat first b (resolved at) c r waits (beat_of answer) s p', p'.asked) none
 later_turns (next ∷ later) polls most first b at last c r waits shown answer l n few s h p none =
-    let one = h.1 in
+    let told = h.1.0 in
+    let between = h.1.1 in
+    let one = h.1.2 in
+    let asks = h.1.3 in
     let m = one.stopped in
-    let over = hands_over polls first (resolved at) m r next waits [] l s.whole (later_beat first b (resolved at) h.0 r waits (beat_of (hands_on next)) s one) in
-    let further = subst (λ (x : ConnSeen). HandsOver (handed next x) later last) one.behind_is h.2 in
-    (m, over.0, later_turns later polls most first b (handed next (settled m)) last c (asked_from m next) waits shown answer l n few (begins_next polls first b (resolved at) m r next waits s one.turns over.0) further p none)
+    let over = hands_over polls first (resolved at) m r told waits [] l s.whole (later_beat first b (resolved at) between r waits (beat_of (hands_on told)) s one) in
+    let on = asks_on polls first (resolved at) m between h.0 r told next over.0 one.behind_is asks in
+    (m, on.0, later_turns later polls most first b (handed next (settled (knowing on.0.learnt m))) last c (asked_from m next) waits shown answer l n few (begins_next polls first b (resolved at) m r next waits s on.0 (on.2 one.turns)) (subst (λ (x : ConnSeen). HandsOver x later last) on.1 h.2) p none)
 
 -- a poll that may make so many calls of the link begins so, whether or not what is asked stands as an exchange
 begun_resolved : (c : ConnSeen) → resolved (begun_with 256 c) ≡ begun_with 256 (resolved c)
@@ -283,11 +319,15 @@ turns_through polls most first a b c r waits shown answer l e i t = by t.later t
         let p = polled_from c (beat_of answer) (subst (λ (x : ConnSeen). Polled (resolved x) c (beat_of answer)) h t.polled) in
         ([], turned_whole most first a c r waits shown answer None e (i.0, i.3, i.4, p.stopped, p.behind_is, goes_on c (beat_of answer) p, p.asked) t.none)
     by (next ∷ later) h =
-        let one = polled_from h.0 (beat_of (hands_on next)) h.1 in
+        let told = h.1.0 in
+        let between = h.1.1 in
+        let one = polled_from between (beat_of (hands_on told)) h.1.2 in
+        let asks = h.1.3 in
         let m = one.stopped in
-        let over = hands_over polls first a m r next waits i.0 l e (goes_on h.0 (beat_of (hands_on next)) one) in
-        let few : from.stream.link.calls ≤ first.link.calls + 256 * waits = omega (arith, i.5.calls, ap (λ (x : List CallItem). length x) over.1, described_again r (handed_described polls first a m r next over.0)) in
-        let begins : Begins first from (handed_from m next) (asked_from m next) waits = record {
+        let over = hands_over polls first a m r told waits i.0 l e (goes_on between (beat_of (hands_on told)) one) in
+        let on = asks_on polls first a m between h.0 r told next over.0 one.behind_is asks in
+        let few : from.stream.link.calls ≤ first.link.calls + 256 * waits = omega (arith, i.5.calls, ap (λ (x : List CallItem). length x) over.1, described_again r (handed_described polls first a m r told over.0)) in
+        let begins : Begins first from (handed_from (knowing on.0.learnt m) next) (asked_from m next) waits = record {
           queued = one.turns.0;
           frames = one.turns.1;
           moves = one.turns.3.moves;
@@ -296,10 +336,10 @@ turns_through polls most first a b c r waits shown answer l e i t = by t.later t
           made = few;
           whole = over.0.whole.1;
           asks = refl;
-          change = sym (handed_stays polls first a m r next over.0);
+          change = sym (handed_stays polls first a m r on.0.told next on.0.learnt on.0.handed on.0.looks);
         } in
-        let further = subst (λ (x : ConnSeen). HandsOver (handed next x) later t.last) one.behind_is h.2 in
-        (next ∷ later, (m, over.0, later_turns later polls most first from (handed next (settled m)) t.last c (asked_from m next) waits shown answer l (i.3 ∙ ap (map item_of) over.1) i.4 begins further t.polled t.none))
+        let further = subst (λ (x : ConnSeen). HandsOver x later t.last) on.1 h.2 in
+        (next ∷ later, (m, on.0, later_turns later polls most first from (handed next (settled (knowing on.0.learnt m))) t.last c (asked_from m next) waits shown answer l (i.3 ∙ ap (map item_of) over.1) i.4 begins further t.polled t.none))
 
 resolved_broken : (c : ConnSeen) → (resolved c).broken ≡ c.broken
 resolved_broken c = by c.call
@@ -414,16 +454,11 @@ poll_opened limits a b c r waits shown opened l i p =
     on_last limits.polls a.stream (Turned limits.most a.stream c waits shown (Ready (turns.Opened opened))) (λ at asked. IsCopying limits.most a.stream at c asked waits shown) a r
     (λ at asked h. opens at.broken limits.most a.stream at c asked waits shown opened refl h.0) (call_turns limits a b c r waits shown (Ready (turns.Opened opened)) l i p)
 
-kind_main : (r : Request) → kind_of r ≡ kinds.CopyIn → main_kind r ≡ kinds.CopyIn
-kind_main (requests.CopyIn feed) k = refl
-kind_main (requests.Run bound) k = absurd cc
-kind_main _ k = absurd cc
-
 unopened_in : (later : List Request) (polls most : ℕ) (first : StreamSeen) (a b : ConnSeen) (r : Request) (waits : ℕ) (shown : List Item) → (main_kind r ≡ kinds.CopyIn → ⊥) → OfLastIn later polls first (λ at asked. IsCopying most first at b asked waits shown) a r → ⊥
-unopened_in [] polls most first a b r waits shown n p = n (kind_main r p.1.5.kind)
+unopened_in [] polls most first a b r waits shown n p = n (copies_main r p.1.5.kind)
 unopened_in (next ∷ later) polls most first a b r waits shown n (m, h, rest) =
-    unopened_in later polls most first (handed_from m next) b (asked_from m next) waits shown
-    (λ e. described_main r (handed_described polls first a m r next h) (sym (next_is r h.ends.0.0.reply h.ends.0.0.status next h.ends.0.1).0 ∙ sym (asked_main (settled m).rule next) ∙ e)) rest
+    unopened_in later polls most first (handed_from (knowing h.learnt m) next) b (asked_from m next) waits shown
+    (λ e. described_main r (handed_described polls first a m r h.told h.handed) (sym (handed_main polls first a m r h.told next h.learnt h.handed h.looks) ∙ sym (asked_main (settled m).rule next) ∙ e)) rest
 
 -- what copies nothing from the client opens no copy
 pub unopened : (limits : Limits) (old b : ConnSeen) (request : Request) (waits : ℕ) (shown : List Item) → IsUncopied request → Pauses limits (first_conn request old) b (first_exchange request old) waits shown pauses.Opened → ⊥
@@ -446,6 +481,7 @@ unopened limits old b request waits shown u p =
     other (requests.CopyIn feed) u e = u
     other (requests.Describe x) u e = goals_other x.goal e
     other (requests.Evict v) u e = after_other v.after e
+    other (requests.Look lookup) u e = goals_other lookup.extended.goal e
     other (requests.Run bound) u e = cc
     other (requests.Clear statements) u e = clears (nat_eq (length (left old).rule.cache.entries) 0) statements e
     other _ u e = cc
@@ -457,7 +493,7 @@ playing_runs limits a b r waits shown i = by i.0 a r i.1
   where
     by : (later : List Request) (at : ConnSeen) (asked : Request) → OfLastIn later limits.polls a.stream (λ at asked. IsPlaying limits.most a.stream at b asked waits shown) at asked → runs b.call ≡ true
     by [] at asked i = playing_one limits.most a.stream at b asked waits shown i
-    by (next ∷ later) at asked h = by later (handed_from h.0 next) (asked_from h.0 next) h.2
+    by (next ∷ later) at asked h = by later (handed_from (knowing h.1.learnt h.0) next) (asked_from h.0 next) h.2
 
 -- a call has begun, and was not polled yet
 begun_fed : (r : Request) (change : Change) → IsBegun r → change_fed r change ≡ change

@@ -33,8 +33,10 @@ use Rattle.pg_report.specs.declared.outcome.End.TheVariants as ends
 use Rattle.pg_report.specs.declared.outcome.Outcome.{Outcome}
 use Rattle.pg_script.specs.declared.step.Call.{Call}
 use Rattle.pg_script.specs.declared.step.Step.{Step}
+use Rattle.pg_learning.specs.declared.learnt.Learnt.{Learnt}
+use Rattle.pg_conn.specs.Looking.{Learns}
 use Rattle.pg_play.specs.Shown.{request_of, items_in, shown_by, answered_by, waits_to_show, item_of, items_with, answer_of}
-use Rattle.pg_play.specs.Calls.{Bounds, bounds, Went, EndsOn, Counted, asking, all_groups}
+use Rattle.pg_play.specs.Calls.{Bounds, Went, EndsOn, Counted, asking, all_groups}
 use Rattle.pg_request.specs.declared.progress.CacheStep.TheVariants as cache
 use Rattle.pg_play.specs.Places.{Place, ended, main_frames, response_within, drained, unfed, is_fine, refuses_copy, Queues, queued_by, Queued}
 use Rattle.pg_play.specs.Told.{Carry, HasNoError, IsWell, WellAtOk, AnswersError, Told, Numbers}
@@ -92,8 +94,8 @@ asks_by None limits first a b r said hs shown ends.Dropped items copied h s = pr
 asks_by (Some fault) limits first a b r said hs shown end items copied h s = rw h.0 (prefix_queued a.ledger.owed r s.own hs s.queued)
 
 pub queued_step : (o : Option ServerFault) (limits : Bounds) (start first : StreamSeen) (old : Counted) (at : Place) (a b : ConnSeen) (step : Step) (out : Outcome) (said : List FrontendMessage) (fs : List Frame) (shown : List Item) (items : List CallItem) → StandsAt start at a
-    → EndsOn o limits first (asking (request_of at.rule.depth step.call) old a) b (request_of at.rule.depth step.call) said (heard fs) shown out.end → (s : Summary a.ledger (request_of at.rule.depth step.call) said (heard fs) items b.ledger (refuses_copy out.end)) → Queued at step out s.own (heard fs) (next_place at b said s.own fs out.end)
-queued_step o limits start first old at a b step out said fs shown items st h s = record {
+    → EndsOn o limits first (asking (request_of at.rule.depth step.call) old a) b (request_of at.rule.depth step.call) said (heard fs) shown out.end → (s : Summary a.ledger (request_of at.rule.depth step.call) said (heard fs) items b.ledger (refuses_copy out.end)) → Learns (heard fs) a.learnt b.learnt → Queued at step out s.own (heard fs) (next_place at b said s.own fs out.end)
+queued_step o limits start first old at a b step out said fs shown items st h s l = record {
   asks = asks_by o limits first (asking (request_of at.rule.depth step.call) old a) b (request_of at.rule.depth step.call) said (heard fs) shown out.end items (refuses_copy out.end) h s;
   can = λ n. elim s.queued [
     | inl e ↦ absurd (n e)
@@ -102,6 +104,7 @@ queued_step o limits start first old at a b step out said fs shown items st h s 
   said = ap (λ (x : List FrontendMessage). at.said ++ x) (said_is_queued start at a (request_of at.rule.depth step.call) said (heard fs) items b.ledger out.end st s);
   groups = refl;
   rule = refl;
+  learns = subst (λ (x : Learnt). Learns (heard fs) x b.learnt) st.learnt l;
   taken = heard-append at.frames fs;
   failed = refl;
   broken = refl;

@@ -1,8 +1,7 @@
 -- Where no step copies from the client, none is failed, and each group is one of the simple or the extended query.
-use Rattle.std.proofs.Common.{◌≡◌, ℕ, zero, suc, ◌^◌, ◌-◌, ltb, Bool, true, false, ◌||◌, cond, List, [], ◌∷◌, Option, Some, None, option_map, refl, sym, ap, ◌∙◌, subst, inl}
+use Rattle.std.proofs.Common.{◌≡◌, ℕ, zero, suc, ◌^◌, ◌-◌, ltb, Bool, true, false, ◌||◌, cond, List, [], ◌∷◌, Option, Some, None, refl, sym, ap, ◌∙◌, subst, inl}
 use Rattle.std.specs.List.{AllByRecursion}
 use Rattle.std.proofs.lemmas.Option.{same_Some}
-use Rattle.pg_wire.specs.Backend.{BackendMessage}
 use Rattle.pg_wire.specs.Groups.{IsGroup}
 use Rattle.pg_wire.proofs.Each.{each_join}
 use Rattle.pg_request.specs.Texts.{rollback_text}
@@ -21,7 +20,7 @@ use Rattle.pg_report.specs.declared.outcome.Outcome.{Outcome}
 use Rattle.pg_script.specs.declared.step.Call.{Call}
 use Rattle.pg_script.specs.declared.step.Call.TheVariants as calls
 use Rattle.pg_script.specs.declared.step.Step.{Step}
-use Rattle.pg_play.specs.Shown.{exchange_for, first_as, first_call, handed_by, is_fed, next_call, request_of}
+use Rattle.pg_play.specs.Shown.{exchange_for, first_as, first_call, is_fed, next_call, request_of}
 use Rattle.pg_play.specs.Places.{Place, Queues, owed}
 use Rattle.pg_play.specs.Copying.{fails}
 use Rattle.pg_play.specs.Settling.{cleanup_of, release_at, rollback_at}
@@ -38,6 +37,7 @@ exchange_plain : (r : Request) → is_fed (exchange_for r) ≡ false
 exchange_plain (requests.Describe x) = refl
 exchange_plain (requests.Run bound) = refl
 exchange_plain (requests.Evict v) = refl
+exchange_plain (requests.Look lookup) = refl
 exchange_plain (requests.Prepare p) = refl
 exchange_plain (requests.Clear statements) = refl
 exchange_plain _ = refl
@@ -59,10 +59,10 @@ first_plain rule calls.Clear n = exchange_plain _
 first_plain rule (calls.Feed fed) n = absurd cc
 first_plain rule _ n = refl
 
-next_plain : (rule : Rule) (call : Call) (response : List BackendMessage) (next : Call) → next_call rule call response ≡ Some next → is_fed next ≡ false
-next_plain rule call response next e = by (handed_by call response) e
+next_plain : (rule : Rule) (asks : Option Request) (next : Call) → next_call rule asks ≡ Some next → is_fed next ≡ false
+next_plain rule asks next e = by asks e
   where
-    by : (o : Option Request) → option_map (λ (r : Request). exchange_for (asked_by rule r)) o ≡ Some next → is_fed next ≡ false
+    by : (o : Option Request) → next_call rule o ≡ Some next → is_fed next ≡ false
     by None e = absurd cc
     by (Some r) e = ap is_fed (sym (same_Some (exchange_for (asked_by rule r)) next e)) ∙ exchange_plain (asked_by rule r)
 
@@ -139,7 +139,7 @@ handed_plain at (s ∷ []) (o ∷ outs) last run first rest e n h =
     (ap (λ (x : Step). is_fed x.call) same ∙ n, tt)
 handed_plain at (s ∷ t ∷ more) (o ∷ outs) last run first rest e n h =
     let same : s ≡ first = cc in
-    (ap (λ (x : Step). is_fed x.call) same ∙ n, handed_plain run.0 (t ∷ more) outs last run.2 t more refl (next_plain run.0.rule s.call run.1.call.told.response t.call h.0.1) h.1)
+    (ap (λ (x : Step). is_fed x.call) same ∙ n, handed_plain run.0 (t ∷ more) outs last run.2 t more refl (next_plain run.0.rule run.1.settles.asks t.call h.0.1) h.1)
 
 step_on : (at : Place) (step : Step) (out : Outcome) (next : Place) → Plays_step at step out next → is_fed step.call ≡ false → IsPlain at → IsPlain next
 step_on at step out next one n p = by one.exchanges refl

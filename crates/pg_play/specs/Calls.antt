@@ -28,6 +28,8 @@ use Rattle.pg_conn.specs.Connections.{ConnSeen, idle, begins_copy, ends_copy, un
 use Rattle.pg_call.specs.declared.kind.Change.{Change}
 use Rattle.pg_call.specs.declared.kind.Change.TheVariants as changes
 use Rattle.pg_conn.specs.Holding.{IsRelease, took_held}
+use Rattle.pg_learning.specs.declared.learnt.Learnt.{Learnt}
+use Rattle.pg_conn.specs.Looking.{Learns, LooksUp}
 use Rattle.pg_conn.specs.Statements.{asked_by}
 use Rattle.pg_conn.specs.Turns.{ends_request, first_exchange, EndsBy, is_flushed, HasAllRoom}
 use Rattle.pg_report.specs.declared.outcome.Item.{Item}
@@ -93,6 +95,8 @@ pub record Went (a b : ConnSeen) (said : List FrontendMessage) (fs : List Frame)
   pub flows : Flows a.stream b.stream (spelled said) fs
   pub tallies : Tallies a.stream b.stream
   pub waits : WaitsAt a.stream b.stream fs
+  -- the rows of a lookup were taken
+  pub learns : Learns (heard fs) a.learnt b.learnt
   pub groups : GrewBy (count_by ends_request said) a.groups b.groups
   pub heard : GrewBy (length (heard fs)) a.heard b.heard
   pub started : (b.sent ≡ a.sent) × (b.read ≡ a.read) × (b.rule ≡ a.rule) × (standing b ≡ standing a)
@@ -310,6 +314,16 @@ pub record HandedOn (polls : ℕ) (first : StreamSeen) (a m : ConnSeen) (r next 
   pub few : waits < polls
   pub calls : m.stream.link.calls ≤ first.link.calls + 256 * polls
 
+-- What it handed on is asked next, or before it what has to be looked up for it. So much is learnt then.
+pub record HandsTo (polls : ℕ) (first : StreamSeen) (a m : ConnSeen) (r next : Request) : Type 0 where
+  pub told : Request
+  pub handed : HandedOn polls first a m r told
+  pub learnt : Learnt
+  pub looks : LooksUp told m.learnt next learnt
+
+abbrev pub knowing : {A : Type 0} → Learnt → ConnOf A → ConnOf A
+knowing learnt c = record c { learnt = learnt }
+
 -- the next exchange begins on this connection
 abbrev pub handed_from : ConnSeen → Request → ConnSeen
 handed_from m next = resolved (handed next (settled m))
@@ -322,7 +336,7 @@ asked_from m next = asked_by (settled m).rule next
 -- handed on by the one before it.
 abbrev pub OfLastIn : List Request → ℕ → StreamSeen → (ConnSeen → Request → Type 0) → ConnSeen → Request → Type 0
 OfLastIn [] polls first P a r = P a r
-OfLastIn (next ∷ later) polls first P a r = (m : ConnSeen) × HandedOn polls first a m r next × OfLastIn later polls first P (handed_from m next) (asked_from m next)
+OfLastIn (next ∷ later) polls first P a r = (m : ConnSeen) × (h : HandsTo polls first a m r next) × OfLastIn later polls first P (handed_from (knowing h.learnt m) next) (asked_from m next)
 
 abbrev pub OfLast : ℕ → StreamSeen → (ConnSeen → Request → Type 0) → ConnSeen → Request → Type 0
 OfLast polls first P a r = (later : List Request) × OfLastIn later polls first P a r

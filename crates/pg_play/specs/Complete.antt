@@ -19,7 +19,9 @@ use Rattle.pg_call.specs.Requests.{IsRefusal}
 use Rattle.pg_report.specs.declared.outcome.End.{End}
 use Rattle.pg_report.specs.declared.outcome.End.TheVariants as ends
 use Rattle.pg_report.specs.declared.outcome.Outcome.{Outcome}
+use Rattle.pg_call.specs.declared.statement.Lookup.{Lookup}
 use Rattle.pg_script.specs.declared.step.Call.{Call}
+use Rattle.pg_script.specs.declared.step.Call.TheVariants as calls
 use Rattle.pg_script.specs.declared.step.Step.{Step}
 use Rattle.pg_script.specs.declared.step.Parting.{Parting}
 use Rattle.pg_script.specs.declared.step.Parting.TheVariants as partings
@@ -40,9 +42,13 @@ pub record IsFaultless (first : LinkSeen) (at : Place) (sent read : List Frame) 
   -- and nothing was copied from the client
   pub uncopied : (at.has_failed ≡ false) × AllByRecursion IsGroup at.groups
 
+-- one of its exchanges looks something up
+abbrev pub LooksUpFor : Call → Type 0
+LooksUpFor call = (lookup : Lookup) × IsPartOf call (calls.Look lookup)
+
 -- an error that is neither the link's nor the server's fault: want of memory; an error of the database; no row where one is wanted; a text of
--- the caller's that no frame can carry, or that would open a savepoint; a begin behind which no transaction is open; or a reply without a copy to
--- what asks for one
+-- the caller's that no frame can carry, or that would open a savepoint; a begin behind which no transaction is open; a reply without a copy to
+-- what asks for one; or types that the catalog hasn't, or a row of a catalog that isn't one
 abbrev pub IsFairError : Call → Error → Type 0
 IsFairError call errors.OutOfMemory = Unit {0}
 IsFairError call (errors.Database details) = Unit {0}
@@ -51,6 +57,8 @@ IsFairError call (errors.Protocol (protocol.Caller fault)) = (depth : ℕ) × (p
 IsFairError call (errors.BeginFailed status) = (begins call ≡ true) × (status ≢ statuses.Transaction)
 IsFairError call errors.InvalidSavePointStatement = begins_with call ≡ true
 IsFairError call (errors.Protocol (protocol.Reply tag)) = copies call ≡ true
+IsFairError call (errors.Protocol (protocol.Types oids)) = LooksUpFor call
+IsFairError call (errors.ColumnDecode place) = LooksUpFor call
 IsFairError call _ = ⊥
 
 -- it had no more polls than its waits and moves take up, or might show no more items than it showed

@@ -10,6 +10,9 @@ use Rattle.pg_wire.specs.Parts.{is_ready, parts, heard}
 use Rattle.pg_wire.specs.Server.{IsPrefixOf}
 use Rattle.pg_stream.specs.Streams.{StreamSeen}
 use Rattle.pg_rule.specs.declared.rule.Rule.{Rule}
+use Rattle.pg_learning.specs.declared.learnt.Learnt.{Learnt}
+use Rattle.pg_learning.specs.Learning.{learnt_none}
+use Rattle.pg_conn.specs.Looking.{Learns}
 use Rattle.pg_rule.specs.Rules.{new_rule}
 use Rattle.pg_wire.specs.Groups.{IsGroup}
 use Rattle.pg_call.specs.declared.feed.Feed.{Feed}
@@ -37,12 +40,14 @@ pub record Place : Type 0 where
   pub broken : Option ServerFault
   -- what is known of the session: how many transactions and savepoints are open, and which statements are kept
   pub rule : Rule
+  -- what was looked up of types and of the names of columns, and what is looked up still
+  pub learnt : Learnt
   -- whether a copy from the client that was open has been failed
   pub has_failed : Bool
 
 -- behind start-up, where so many statements may be kept
 abbrev pub first_place : ℕ → StreamSeen → Place
-first_place capacity s = record { seen = s; said = []; groups = []; frames = []; is_copy_failed = false; broken = None; rule = new_rule capacity; has_failed = false }
+first_place capacity s = record { seen = s; said = []; groups = []; frames = []; is_copy_failed = false; broken = None; rule = new_rule capacity; learnt = learnt_none; has_failed = false }
 
 -- a request group is one of the simple or the extended query, or a copy from the client with its data ("COPY Operations")
 abbrev pub IsRequestGroup : Group → Type 0
@@ -111,6 +116,8 @@ pub record Queued (at : Place) (step : Step) (out : Outcome) (own : List Group) 
   pub said : next.said ≡ at.said ++ queued_by at own slice out.end
   pub groups : next.groups ≡ at.groups ++ own
   pub rule : next.rule ≡ at.rule
+  -- the rows of a lookup were taken
+  pub learns : Learns slice at.learnt next.learnt
   -- the slice follows what was heard before, and nothing is left out
   pub taken : heard next.frames ≡ heard at.frames ++ slice
   pub failed : next.is_copy_failed ≡ failed_next at own slice out.end

@@ -1,5 +1,5 @@
 -- The theorem of a play.
-use Rattle.std.specs.Prelude.{◌≡◌, ◌≢◌, ℕ, ◌+◌, ◌*◌, ◌<◌, false, List, [], ◌∷◌, ◌++◌, length, map, flat_map, Some, None, Ok, sum_by, count_by, ◌≤◌, true, ◌-◌, ◌^◌}
+use Rattle.std.specs.Prelude.{◌≡◌, ◌≢◌, ℕ, ◌+◌, ◌*◌, ◌<◌, false, List, [], ◌∷◌, ◌++◌, length, map, flat_map, Option, Some, None, Ok, sum_by, count_by, ◌≤◌, true, ◌-◌, ◌^◌}
 use Rattle.pg_play.specs.Idles.{KeepsOrder, SaysIdle, statuses}
 use Rattle.pg_report.specs.declared.outcome.Answer.TheVariants.{Unit as AnswersUnit}
 use Rattle.pg_play.specs.Calls.{PlaysStep, untouched}
@@ -25,6 +25,7 @@ use Rattle.pg_wire.specs.Server.{Server, fresh_server, IsPrefixOf, MayHear, AreR
 use Rattle.pg_wire.specs.Groups.{IsGroup, AnswerGroups}
 use Rattle.pg_stream.specs.Links.{LinkSeen, NoneFalls, GrewBy}
 use Rattle.pg_stream.specs.Streams.{StreamSeen, Sends}
+use Rattle.pg_call.specs.declared.request.Request.{Request}
 use Rattle.pg_call.specs.declared.calling.Call.TheVariants as calls
 use Rattle.pg_call.specs.Requests.{Group, said_in, spelled}
 use Rattle.pg_call.specs.Drains.{is_copy_in, after_readys}
@@ -44,7 +45,7 @@ use Rattle.pg_startup.specs.Exchange.{client_of}
 use Rattle.pg_startup.specs.Flows.{Flows}
 use Rattle.pg_startup.specs.Handshake.{IsHandshake, IsSecured}
 use Rattle.pg_play.specs.Starts.{Opening, HasWaitedLess}
-use Rattle.pg_play.specs.Places.{Place, IsRequestGroup, Queued, queued_by, ended, owed, first_place, is_fine}
+use Rattle.pg_play.specs.Places.{Place, IsRequestGroup, Queued, queued_by, ended, owed, first_place}
 use Rattle.pg_play.specs.Told.{Told, Numbers, CountsTo}
 use Rattle.pg_play.specs.Causes.{HasCause, IsDropped, EndsDuly, KeepsFault, IsFront}
 use Rattle.pg_play.specs.Complete.{WhereFaultless}
@@ -59,7 +60,7 @@ IsNeverUnlawful at out next = (tag : ℕ) (front : Frame) → AllByRecursion IsG
 
 -- ---- an exchange: a request group and its response
 
--- What its call queued and heard, why it ended so, and what is told of it. A step describes the exchange: its call is what the exchange asks, and
+-- What its call queued, heard and learnt, why it ended so, and what is told of it. A step describes the exchange: its call is what the exchange asks, and
 -- its polls are those of all exchanges of one call.
 pub record Plays_call (at : Place) (step : Step) (out : Outcome) (next : Place) : Type 0 where
   pub own : List Group
@@ -97,15 +98,15 @@ Plays_exchanges at (step ∷ steps) (out ∷ outs) last = (next : Place) × Play
 Plays_exchanges at [] (out ∷ outs) last = ⊥
 Plays_exchanges at (step ∷ steps) [] last = ⊥
 
--- What comes behind an exchange that ended so: the next one, where there is one to ask; and it ended Ok, where one comes.
-abbrev pub Hands : Rule → Step → End → List BackendMessage → List Step → Type 0
-Hands rule step end response [] = is_fine end ≡ true → next_call rule step.call response ≡ None
-Hands rule step end response (next ∷ later) = (end ≡ ends.Ok AnswersUnit) × (next_call rule step.call response ≡ Some next.call)
+-- What comes behind an exchange that ended so: the next one, where something is asked next; and it ended Ok, where one comes.
+abbrev pub Hands : Rule → End → Option Request → List Step → Type 0
+Hands rule end asks [] = asks ≡ None
+Hands rule end asks (next ∷ later) = (end ≡ ends.Ok AnswersUnit) × (next_call rule asks ≡ Some next.call)
 
 -- so it is with each exchange
 abbrev pub HandsOn : (at : Place) (steps : List Step) (outs : List Outcome) (last : Place) → Plays_exchanges at steps outs last → Type 0
 HandsOn at [] [] last run = Unit {0}
-HandsOn at (step ∷ steps) (out ∷ outs) last run = Hands run.0.rule step out.end run.1.call.told.response steps × HandsOn run.0 steps outs last run.2
+HandsOn at (step ∷ steps) (out ∷ outs) last run = Hands run.0.rule out.end run.1.settles.asks steps × HandsOn run.0 steps outs last run.2
 HandsOn at [] (out ∷ outs) last run = ⊥
 HandsOn at (step ∷ steps) [] last run = ⊥
 
@@ -257,6 +258,7 @@ pub record StandsAt (start : StreamSeen) (at : Place) (c : ConnSeen) : Type 0 wh
   pub broken : c.broken ≡ at.broken
   pub seen : c.stream ≡ at.seen
   pub rule : c.rule ≡ at.rule
+  pub learnt : c.learnt ≡ at.learnt
   pub room : HasAllRoom c
   pub idle : c.call ≡ calls.Idle
   pub sayable : AllByRecursion HasFrontendFrame at.said

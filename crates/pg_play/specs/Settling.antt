@@ -15,7 +15,7 @@ use Rattle.pg_report.specs.declared.outcome.Outcome.{Outcome}
 use Rattle.pg_script.specs.declared.step.Call.{Call}
 use Rattle.pg_script.specs.declared.step.Call.TheVariants as calls
 use Rattle.pg_script.specs.declared.step.Step.{Step}
-use Rattle.pg_play.specs.Shown.{request_of, begins, handed_by}
+use Rattle.pg_play.specs.Shown.{LooksOn, request_of, begins, handed_by}
 use Rattle.pg_play.specs.Places.{Place, owed, is_fine}
 
 -- how many transactions and savepoints are open behind it: a begin that is Ok opens one, and a commit and a rollback that are close one
@@ -50,15 +50,15 @@ step_after keeping false = cache.Same
 abbrev pub handed_at : End → Call → List BackendMessage → Option Request
 handed_at end call response = if is_fine end then handed_by call response else None
 
--- behind a description the statement is held that is to be kept
+-- behind a description, and what was looked up for it, the statement is held that is to be kept
 abbrev pub held_after : Option Request → Rule → Rule
 held_after None rule = rule
 held_after (Some next) rule = held_by rule next
 
 -- what is known of the session behind it
-abbrev pub rule_after : Rule → Call → List Group → List BackendMessage → End → Rule
-rule_after rule call own response end =
-    held_after (handed_at end call response) (statements_after (keeping_of (request_of rule.depth call)) (has_moved own end) (with_depth (depth_after rule.depth call end) rule))
+abbrev pub rule_after : Rule → Call → List Group → Option Request → End → Rule
+rule_after rule call own next end =
+    held_after next (statements_after (keeping_of (request_of rule.depth call)) (has_moved own end) (with_depth (depth_after rule.depth call end) rule))
 
 -- ---- the cleanup
 
@@ -87,7 +87,10 @@ failed_behind (group ∷ groups) at = not (nat_eq (owed at) 0) && at.is_copy_fai
 pub record Settles (at : Place) (step : Step) (told out : Outcome) (own : List Group) (response : List BackendMessage) (ended_at next : Place) : Type 0 where
   pub cleanup : List Group
   pub cleans : cleanup ≡ cleanup_of at.rule.depth step.call told.end own (owed ended_at)
-  pub rule : next.rule ≡ rule_after at.rule step.call own response told.end
+  -- what is asked next
+  pub asks : Option Request
+  pub looks : LooksOn (handed_at told.end step.call response) ended_at.learnt asks next.learnt
+  pub rule : next.rule ≡ rule_after at.rule step.call own asks told.end
   pub said : next.said ≡ ended_at.said ++ said_in cleanup
   pub groups : next.groups ≡ ended_at.groups ++ cleanup
   -- nothing else is different: the cleanup is unsent, and takes of the room that was kept for it

@@ -6,6 +6,8 @@ use Rattle.pg_wire.specs.Completion.{rows_affected}
 use Rattle.pg_request.specs.Queries.{QueryText, ArgumentsSeen, plain_text}
 use Rattle.pg_rule.specs.declared.rule.Rule.{Rule}
 use Rattle.pg_rule.specs.Caches.{entry_at}
+use Rattle.pg_learning.specs.declared.learnt.Learnt.{Learnt}
+use Rattle.pg_conn.specs.Looking.{LooksUp}
 use Rattle.pg_conn.specs.States.{to_prepare}
 use Rattle.pg_conn.specs.Statements.{run_or_describe, asked_by, begun_as}
 use Rattle.pg_call.specs.Calls.{next_of}
@@ -68,6 +70,7 @@ request_of depth (calls.Chain chain) = requests.Flush
 request_of depth (calls.Describe extended) = requests.Describe extended
 request_of depth (calls.Run bound) = requests.Run bound
 request_of depth (calls.Evict eviction) = requests.Evict eviction
+request_of depth (calls.Look lookup) = requests.Look lookup
 request_of depth (calls.Tell prepared) = requests.Prepare prepared
 request_of depth (calls.CloseAll statements) = requests.Clear statements
 request_of depth (calls.Feed fed) = requests.CopyIn (feed_of fed)
@@ -79,6 +82,7 @@ asked_of depth calls.Clear = requests.Clear []
 asked_of depth (calls.Describe extended) = requests.Flush
 asked_of depth (calls.Run bound) = requests.Flush
 asked_of depth (calls.Evict eviction) = requests.Flush
+asked_of depth (calls.Look lookup) = requests.Flush
 asked_of depth (calls.Tell prepared) = requests.Flush
 asked_of depth (calls.CloseAll statements) = requests.Flush
 asked_of depth call = request_of depth call
@@ -88,6 +92,7 @@ abbrev pub IsWanted : Request → Type 0
 IsWanted (requests.Describe extended) = ⊥
 IsWanted (requests.Run bound) = ⊥
 IsWanted (requests.Evict eviction) = ⊥
+IsWanted (requests.Look lookup) = ⊥
 IsWanted (requests.Prepare prepared) = prepared.columns ≡ None
 IsWanted _ = Unit {0}
 
@@ -108,6 +113,7 @@ abbrev pub exchange_for : Request → Call
 exchange_for (requests.Describe extended) = calls.Describe extended
 exchange_for (requests.Run bound) = calls.Run bound
 exchange_for (requests.Evict eviction) = calls.Evict eviction
+exchange_for (requests.Look lookup) = calls.Look lookup
 exchange_for (requests.Prepare prepared) = calls.Tell prepared
 exchange_for (requests.Clear statements) = calls.CloseAll statements
 exchange_for _ = calls.Flush
@@ -131,6 +137,7 @@ first_call rule calls.Clear = exchange_for (asked_by rule (begun_as rule (reques
 first_call rule (calls.Describe extended) = calls.Flush
 first_call rule (calls.Run bound) = calls.Flush
 first_call rule (calls.Evict eviction) = calls.Flush
+first_call rule (calls.Look lookup) = calls.Flush
 first_call rule (calls.Tell prepared) = calls.Flush
 first_call rule (calls.CloseAll statements) = calls.Flush
 first_call rule call = call
@@ -139,16 +146,26 @@ first_call rule call = call
 abbrev pub handed_by : Call → List BackendMessage → Option Request
 handed_by (calls.Describe extended) response = next_of (requests.Describe extended) response
 handed_by (calls.Evict eviction) response = next_of (requests.Evict eviction) response
+handed_by (calls.Look lookup) response = next_of (requests.Look lookup) response
 handed_by call response = None
 
--- the exchange behind it, by what is known then
-abbrev pub next_call : Rule → Call → List BackendMessage → Option Call
-next_call rule call response = option_map (λ next. exchange_for (asked_by rule next)) (handed_by call response)
+-- what is asked next, by what was learnt: what was handed on, or before it what has to be looked up for it
+abbrev pub LooksOn : Option Request → Learnt → Option Request → Learnt → Type 0
+LooksOn None a next b = (next ≡ None) × (b ≡ a)
+LooksOn (Some told) a next b = (asked : Request) × (next ≡ Some asked) × LooksUp told a asked b
+
+-- the exchange that asks it, by what is known then
+abbrev pub next_call : Rule → Option Request → Option Call
+next_call rule next = option_map (λ asked. exchange_for (asked_by rule asked)) next
+
+-- so this one comes behind that response to another
+abbrev pub ComesBehind : Rule → Call → List BackendMessage → Call → Type 0
+ComesBehind rule before response part = (told : Request) × (a b : Learnt) × (next : Request) × (handed_by before response ≡ Some told) × LooksUp told a next b × (part ≡ exchange_for (asked_by rule next))
 
 -- an exchange is one of this call, with so many before it, whatever may be known of the session
 abbrev pub IsPartBehind : ℕ → Call → Call → Type 0
 IsPartBehind zero call part = (rule : Rule) × (part ≡ first_call rule call)
-IsPartBehind (suc n) call part = (rule : Rule) × (before : Call) × (response : List BackendMessage) × IsPartBehind n call before × (next_call rule before response ≡ Some part)
+IsPartBehind (suc n) call part = (rule : Rule) × (before : Call) × (response : List BackendMessage) × IsPartBehind n call before × ComesBehind rule before response part
 
 abbrev pub IsPartOf : Call → Call → Type 0
 IsPartOf call part = (n : ℕ) × IsPartBehind n call part

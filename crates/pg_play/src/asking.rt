@@ -54,6 +54,7 @@ pub(crate) fn request_of(alloc: Global, depth: u64, call: &Call) -> Result<Reque
         | Call::Describe(_)
         | Call::Run(_)
         | Call::Evict(_)
+        | Call::Look(_)
         | Call::Tell(_)
         | Call::CloseAll(_) => Request::Flush,
     })

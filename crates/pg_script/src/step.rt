@@ -1,6 +1,6 @@
 ghost use Rattle.std.specs.Prelude.{◌≡◌, IfOk, IfErr};
 
-use pg_call::{Bound, Eviction, Extended, Prepared};
+use pg_call::{Bound, Eviction, Extended, Lookup, Prepared};
 use pg_locks::PgAdvisoryLockKey;
 use pg_request::{Preparation, Query};
 use pg_wire::{Blob, Error, Sequence, StatementId, Text};
@@ -190,6 +190,8 @@ pub enum Call {
     Chain(Chain),
     /// The exchange that closes a statement for another one. No script says it alone.
     Evict(Eviction),
+    /// The one that looks up types, or the names of columns, for a statement that was described.
+    Look(Lookup),
     /// The one that tells what a statement was described to be, which asks nothing of the server.
     Tell(Prepared),
     /// The one that closes these statements.
@@ -237,6 +239,7 @@ impl Call {
             Call::CopyOut(query) => Call::CopyOut(query.to_copy(alloc)?),
             Call::Chain(chain) => Call::Chain(chain.to_copy(alloc)?),
             Call::Evict(eviction) => Call::Evict(eviction.to_copy(alloc)?),
+            Call::Look(lookup) => Call::Look(lookup.to_copy(alloc)?),
             Call::Tell(prepared) => Call::Tell(prepared.to_copy(alloc)?),
             Call::CloseAll(statements) => Call::CloseAll(copied(alloc, statements)?),
             Call::Feed(fed) => Call::Feed(fed.to_copy(alloc)?),

@@ -1,19 +1,20 @@
-ghost use Rattle.std.specs.Prelude.{◌≡◌, [], false, None, Some};
+ghost use Rattle.std.specs.Prelude.{◌≡◌, [], false, None, Some, option_map};
 ghost use Rattle.pg_call.specs.Answers.{unit_turn};
 ghost use Rattle.pg_conn.specs.Connections.{seen_by, begun_by, is_over, left_by};
-ghost use Rattle.pg_conn.specs.States.{IsCallingPlainly, PollFitsPlainly, turn_of};
+ghost use Rattle.pg_conn.specs.States.{IsCallingPlainly, KeepsCallingPlainly, PollFitsPlainly, ends_call, turn_of};
 ghost use Rattle.pg_conn.specs.Turns.{PollsCall};
 
-use crate::{PgConnection, Request};
+use crate::{Asks, PgConnection, Request};
 use pg_call::Kind;
 use pg_stream::Link;
 use pg_wire::{Error, Poll, Sequence};
 
 /// The call `clear_cached_statements`: it ends once the server has closed all statements that were kept.
 /// (PostgreSQL manual, "Message Flow", "Extended Query".)
-pub struct ClearCachedStatements<'c, L, R = Request> {
+pub struct ClearCachedStatements<'c, L, R: Asks = Request> {
     conn: &'c mut PgConnection<L>,
     request: Option<R>,
+    ghost calling: { KeepsCallingPlainly (option_map R.asked request) conn.now },
 }
 
 impl<L> PgConnection<L> {
@@ -32,7 +33,7 @@ impl<L> PgConnection<L> {
     }
 }
 
-impl<L, R: Drop> Drop for ClearCachedStatements<'_, L, R> {
+impl<L, R: Asks + Drop> Drop for ClearCachedStatements<'_, L, R> {
     fn drop(self)
         ensures { self.exit.0.now ≡ left_by self.entry.request self.entry.conn.now }
     {
@@ -54,11 +55,11 @@ impl<L: Link> ClearCachedStatements<'_, L> {
     /// Moves the call on.
     pub fn poll(&mut self) -> Poll<Result<(), Error>>
         requires over { is_over self.old.request self.old.conn.now.call ≡ false }
-        requires calling { IsCallingPlainly (begun_by self.old.request self.old.conn.now) }
         ensures same { self.new.conn.ghost_name ≡ self.old.conn.ghost_name }
         ensures asked { self.new.request ≡ None }
         ensures polls { PollsCall (seen_by L.seen (begun_by self.old.request self.old.conn.now)) (seen_by L.seen self.new.conn.now) (turn_of unit_turn result) }
-        ensures calling { PollFitsPlainly self.new.conn.now (turn_of unit_turn result) }
+        ensures over { is_over self.new.request self.new.conn.now.call ≡ ends_call (turn_of unit_turn result) }
+        ensures calling { IsCallingPlainly (begun_by self.old.request self.old.conn.now) → PollFitsPlainly self.new.conn.now (turn_of unit_turn result) }
     {
         match self.conn.poll_with(&mut self.request) {
             Poll::Pending => Poll::Pending,

@@ -1,6 +1,6 @@
 ghost use Rattle.std.specs.Prelude.{◌≡◌, false, None, Some, IsSome, option_map};
 ghost use Rattle.pg_conn.specs.Connections.{ConnOf, begun_by, left_by};
-ghost use Rattle.pg_conn.specs.States.{IsClosing, PollsClose, is_closed};
+ghost use Rattle.pg_conn.specs.States.{IsClosing, KeepsClosing, PollsClose, is_closed, is_ready};
 
 use crate::{PgConnection, Request};
 use pg_call::Kind;
@@ -13,6 +13,7 @@ use pg_wire::{Error, Poll};
 pub struct Close<L> {
     conn: Option<PgConnection<L>>,
     request: Option<Request>,
+    ghost closing: { KeepsClosing request conn },
 }
 
 impl<L> PgConnection<L> {
@@ -72,8 +73,8 @@ impl<L: Link> Close<L> {
     /// Moves the call on, and hands the link back at its end.
     pub fn poll(&mut self) -> Poll<Result<L, Error>>
         requires over { is_closed self.old.request self.old.conn ≡ false }
-        requires closing { IsClosing self.old.request self.old.conn }
         ensures asked { self.new.request ≡ None }
+        ensures over { is_closed self.new.request self.new.conn ≡ is_ready result }
         ensures polls { (c : ConnOf L) → self.old.conn ≡ Some c → PollsClose L.seen (begun_by self.old.request c) self.new.conn result }
     {
         let Some(conn) = &mut self.conn else {

@@ -1,20 +1,21 @@
-ghost use Rattle.std.specs.Prelude.{◌≡◌, false, None, Some};
+ghost use Rattle.std.specs.Prelude.{◌≡◌, false, None, Some, option_map};
 ghost use Rattle.futures.specs.declared.task.Poll.TheVariants.{Pending};
 ghost use Rattle.pg_call.specs.declared.kind.How.TheVariants as hows;
 ghost use Rattle.pg_call.specs.declared.kind.Kind.TheVariants as kinds;
 ghost use Rattle.pg_call.specs.Answers.{total_turn};
 ghost use Rattle.pg_conn.specs.Connections.{seen_by, begun_by, is_over, left_by};
-ghost use Rattle.pg_conn.specs.States.{IsCalling, PollFits, turn_of};
+ghost use Rattle.pg_conn.specs.States.{IsCalling, KeepsCalling, PollFits, ends_call, turn_of};
 ghost use Rattle.pg_conn.specs.Turns.{PollsCall};
 
-use crate::{PgConnection, PgQueryResult, Query, Request};
+use crate::{Asks, PgConnection, PgQueryResult, Query, Request};
 use pg_stream::Link;
 use pg_wire::{Error, Poll};
 
 /// The call `execute`: it answers the rows that all statements of the query count, up to `u64`'s greatest value.
-pub struct Execute<'c, L, R = Request> {
+pub struct Execute<'c, L, R: Asks = Request> {
     conn: &'c mut PgConnection<L>,
     request: Option<R>,
+    ghost calling: { KeepsCalling (kinds.Run hows.Execute) (option_map R.asked request) conn.now },
 }
 
 impl<L> PgConnection<L> {
@@ -32,7 +33,7 @@ impl<L> PgConnection<L> {
     }
 }
 
-impl<L, R: Drop> Drop for Execute<'_, L, R> {
+impl<L, R: Asks + Drop> Drop for Execute<'_, L, R> {
     fn drop(self)
         ensures { self.exit.0.now ≡ left_by self.entry.request self.entry.conn.now }
     {
@@ -54,11 +55,11 @@ impl<L: Link> Execute<'_, L> {
     /// Moves the call on.
     pub fn poll(&mut self) -> Poll<Result<PgQueryResult, Error>>
         requires over { is_over self.old.request self.old.conn.now.call ≡ false }
-        requires calling { IsCalling (kinds.Run hows.Execute) (begun_by self.old.request self.old.conn.now) }
         ensures same { self.new.conn.ghost_name ≡ self.old.conn.ghost_name }
         ensures asked { self.new.request ≡ None }
         ensures polls { PollsCall (seen_by L.seen (begun_by self.old.request self.old.conn.now)) (seen_by L.seen self.new.conn.now) (turn_of total_turn result) }
-        ensures calling { PollFits (kinds.Run hows.Execute) self.new.conn.now (turn_of total_turn result) }
+        ensures over { is_over self.new.request self.new.conn.now.call ≡ ends_call (turn_of total_turn result) }
+        ensures calling { IsCalling (kinds.Run hows.Execute) (begun_by self.old.request self.old.conn.now) → PollFits (kinds.Run hows.Execute) self.new.conn.now (turn_of total_turn result) }
     {
         match self.conn.poll_with(&mut self.request) {
             Poll::Pending => Poll::Pending,

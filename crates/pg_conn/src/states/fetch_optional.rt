@@ -1,20 +1,21 @@
-ghost use Rattle.std.specs.Prelude.{◌≡◌, false, None, Some};
+ghost use Rattle.std.specs.Prelude.{◌≡◌, false, None, Some, option_map};
 ghost use Rattle.futures.specs.declared.task.Poll.TheVariants.{Pending};
 ghost use Rattle.pg_call.specs.declared.kind.How.TheVariants as hows;
 ghost use Rattle.pg_call.specs.declared.kind.Kind.TheVariants as kinds;
 ghost use Rattle.pg_call.specs.Answers.{optional_turn};
 ghost use Rattle.pg_conn.specs.Connections.{seen_by, begun_by, is_over, left_by};
-ghost use Rattle.pg_conn.specs.States.{IsCalling, PollFits, turn_of};
+ghost use Rattle.pg_conn.specs.States.{IsCalling, KeepsCalling, PollFits, ends_call, turn_of};
 ghost use Rattle.pg_conn.specs.Turns.{PollsCall};
 
-use crate::{PgConnection, PgRow, Query, Request};
+use crate::{Asks, PgConnection, PgRow, Query, Request};
 use pg_stream::Link;
 use pg_wire::{Error, Poll};
 
 /// The call `fetch_optional`: it answers the first row of the query, or that there is none, once the reply has come to its end.
-pub struct FetchOptional<'c, L, R = Request> {
+pub struct FetchOptional<'c, L, R: Asks = Request> {
     conn: &'c mut PgConnection<L>,
     request: Option<R>,
+    ghost calling: { KeepsCalling (kinds.Run hows.FetchOptional) (option_map R.asked request) conn.now },
 }
 
 impl<L> PgConnection<L> {
@@ -32,7 +33,7 @@ impl<L> PgConnection<L> {
     }
 }
 
-impl<L, R: Drop> Drop for FetchOptional<'_, L, R> {
+impl<L, R: Asks + Drop> Drop for FetchOptional<'_, L, R> {
     fn drop(self)
         ensures { self.exit.0.now ≡ left_by self.entry.request self.entry.conn.now }
     {
@@ -54,11 +55,11 @@ impl<L: Link> FetchOptional<'_, L> {
     /// Moves the call on.
     pub fn poll(&mut self) -> Poll<Result<Option<PgRow>, Error>>
         requires over { is_over self.old.request self.old.conn.now.call ≡ false }
-        requires calling { IsCalling (kinds.Run hows.FetchOptional) (begun_by self.old.request self.old.conn.now) }
         ensures same { self.new.conn.ghost_name ≡ self.old.conn.ghost_name }
         ensures asked { self.new.request ≡ None }
         ensures polls { PollsCall (seen_by L.seen (begun_by self.old.request self.old.conn.now)) (seen_by L.seen self.new.conn.now) (turn_of optional_turn result) }
-        ensures calling { PollFits (kinds.Run hows.FetchOptional) self.new.conn.now (turn_of optional_turn result) }
+        ensures over { is_over self.new.request self.new.conn.now.call ≡ ends_call (turn_of optional_turn result) }
+        ensures calling { IsCalling (kinds.Run hows.FetchOptional) (begun_by self.old.request self.old.conn.now) → PollFits (kinds.Run hows.FetchOptional) self.new.conn.now (turn_of optional_turn result) }
     {
         match self.conn.poll_with(&mut self.request) {
             Poll::Pending => Poll::Pending,

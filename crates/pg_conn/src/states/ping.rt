@@ -1,19 +1,20 @@
-ghost use Rattle.std.specs.Prelude.{◌≡◌, false, None, Some};
+ghost use Rattle.std.specs.Prelude.{◌≡◌, false, None, Some, option_map};
 ghost use Rattle.pg_call.specs.declared.kind.Kind.TheVariants as kinds;
 ghost use Rattle.pg_call.specs.Answers.{unit_turn};
 ghost use Rattle.pg_conn.specs.Connections.{seen_by, begun_by, is_over, left_by};
-ghost use Rattle.pg_conn.specs.States.{IsCalling, PollFits, turn_of};
+ghost use Rattle.pg_conn.specs.States.{IsCalling, KeepsCalling, PollFits, ends_call, turn_of};
 ghost use Rattle.pg_conn.specs.Turns.{PollsCall};
 
-use crate::{PgConnection, Request};
+use crate::{Asks, PgConnection, Request};
 use pg_call::Kind;
 use pg_stream::Link;
 use pg_wire::{Error, Poll};
 
 /// The call `ping`: it ends once the server has answered a Sync. (PostgreSQL manual, "Message Flow", "Extended Query".)
-pub struct Ping<'c, L, R = Request> {
+pub struct Ping<'c, L, R: Asks = Request> {
     conn: &'c mut PgConnection<L>,
     request: Option<R>,
+    ghost calling: { KeepsCalling kinds.Ping (option_map R.asked request) conn.now },
 }
 
 impl<L> PgConnection<L> {
@@ -31,7 +32,7 @@ impl<L> PgConnection<L> {
     }
 }
 
-impl<L, R: Drop> Drop for Ping<'_, L, R> {
+impl<L, R: Asks + Drop> Drop for Ping<'_, L, R> {
     fn drop(self)
         ensures { self.exit.0.now ≡ left_by self.entry.request self.entry.conn.now }
     {
@@ -53,11 +54,11 @@ impl<L: Link> Ping<'_, L> {
     /// Moves the call on.
     pub fn poll(&mut self) -> Poll<Result<(), Error>>
         requires over { is_over self.old.request self.old.conn.now.call ≡ false }
-        requires calling { IsCalling kinds.Ping (begun_by self.old.request self.old.conn.now) }
         ensures same { self.new.conn.ghost_name ≡ self.old.conn.ghost_name }
         ensures asked { self.new.request ≡ None }
         ensures polls { PollsCall (seen_by L.seen (begun_by self.old.request self.old.conn.now)) (seen_by L.seen self.new.conn.now) (turn_of unit_turn result) }
-        ensures calling { PollFits kinds.Ping self.new.conn.now (turn_of unit_turn result) }
+        ensures over { is_over self.new.request self.new.conn.now.call ≡ ends_call (turn_of unit_turn result) }
+        ensures calling { IsCalling kinds.Ping (begun_by self.old.request self.old.conn.now) → PollFits kinds.Ping self.new.conn.now (turn_of unit_turn result) }
     {
         match self.conn.poll_with(&mut self.request) {
             Poll::Pending => Poll::Pending,

@@ -1,9 +1,9 @@
-ghost use Rattle.std.specs.Prelude.{◌≡◌, false, None, Some};
+ghost use Rattle.std.specs.Prelude.{◌≡◌, false, None, Some, option_map};
 ghost use Rattle.pg_call.specs.declared.kind.Kind.TheVariants as kinds;
 ghost use Rattle.pg_conn.specs.Connections.{seen_by, begun_by, is_over, left_by};
-ghost use Rattle.pg_conn.specs.States.{IsCalling, PollsPrepare, StaysPreparing, to_prepare, untyped};
+ghost use Rattle.pg_conn.specs.States.{IsCalling, KeepsCalling, PollsPrepare, StaysPreparing, is_ready, to_prepare, untyped};
 
-use crate::{PgConnection, PgStatement, Preparation, Request};
+use crate::{Asks, PgConnection, PgStatement, Preparation, Request};
 use pg_call::{Keeping, Prepared};
 use pg_stream::Link;
 use pg_wire::{Error, Oids, Poll, Text};
@@ -11,9 +11,10 @@ use std::alloc::Global;
 use std::mem;
 
 /// The call `prepare`: it answers the statement as the server has described it. (PostgreSQL manual, "Message Flow", "Extended Query".)
-pub struct Prepare<'c, L, R = Request> {
+pub struct Prepare<'c, L, R: Asks = Request> {
     conn: &'c mut PgConnection<L>,
     request: Option<R>,
+    ghost calling: { KeepsCalling kinds.Prepare (option_map R.asked request) conn.now },
 }
 
 // What asks it, without taking memory.
@@ -60,7 +61,7 @@ impl<L> PgConnection<L> {
     }
 }
 
-impl<L, R: Drop> Drop for Prepare<'_, L, R> {
+impl<L, R: Asks + Drop> Drop for Prepare<'_, L, R> {
     fn drop(self)
         ensures { self.exit.0.now ≡ left_by self.entry.request self.entry.conn.now }
     {
@@ -82,11 +83,11 @@ impl<L: Link> Prepare<'_, L> {
     /// Moves the call on.
     pub fn poll(&mut self) -> Poll<Result<PgStatement, Error>>
         requires over { is_over self.old.request self.old.conn.now.call ≡ false }
-        requires calling { IsCalling kinds.Prepare (begun_by self.old.request self.old.conn.now) }
         ensures same { self.new.conn.ghost_name ≡ self.old.conn.ghost_name }
         ensures asked { self.new.request ≡ None }
         ensures polls { PollsPrepare (seen_by L.seen (begun_by self.old.request self.old.conn.now)) (seen_by L.seen self.new.conn.now) result }
-        ensures calling { StaysPreparing self.new.conn.now result }
+        ensures over { is_over self.new.request self.new.conn.now.call ≡ is_ready result }
+        ensures calling { IsCalling kinds.Prepare (begun_by self.old.request self.old.conn.now) → StaysPreparing self.new.conn.now result }
     {
         match self.conn.poll_with(&mut self.request) {
             Poll::Pending => Poll::Pending,

@@ -1,19 +1,20 @@
-ghost use Rattle.std.specs.Prelude.{◌≡◌, false, None, Some};
+ghost use Rattle.std.specs.Prelude.{◌≡◌, false, None, Some, option_map};
 ghost use Rattle.pg_call.specs.Answers.{unit_turn};
 ghost use Rattle.pg_conn.specs.Connections.{rollback_of, seen_by, begun_by, is_over, left_by};
-ghost use Rattle.pg_conn.specs.States.{IsCallingPlainly, PollFitsPlainly, turn_of};
+ghost use Rattle.pg_conn.specs.States.{IsCallingPlainly, KeepsCallingPlainly, PollFitsPlainly, ends_call, turn_of};
 ghost use Rattle.pg_conn.specs.Turns.{PollsCall};
 
-use crate::{PgConnection, Request};
+use crate::{Asks, PgConnection, Request};
 use pg_call::Kind;
 use pg_stream::Link;
 use pg_wire::{Error, Poll};
 
 /// The call `rollback`: it ends once the transaction is rolled back, or all behind the last savepoint is.
 /// (PostgreSQL manual, "SQL Commands", ROLLBACK, ROLLBACK TO SAVEPOINT.)
-pub struct Rollback<'c, L, R = Request> {
+pub struct Rollback<'c, L, R: Asks = Request> {
     conn: &'c mut PgConnection<L>,
     request: Option<R>,
+    ghost calling: { KeepsCallingPlainly (option_map R.asked request) conn.now },
 }
 
 /// What a rollback asks where so many transactions and savepoints are open.
@@ -42,7 +43,7 @@ impl<L> PgConnection<L> {
     }
 }
 
-impl<L, R: Drop> Drop for Rollback<'_, L, R> {
+impl<L, R: Asks + Drop> Drop for Rollback<'_, L, R> {
     fn drop(self)
         ensures { self.exit.0.now ≡ left_by self.entry.request self.entry.conn.now }
     {
@@ -64,11 +65,11 @@ impl<L: Link> Rollback<'_, L> {
     /// Moves the call on.
     pub fn poll(&mut self) -> Poll<Result<(), Error>>
         requires over { is_over self.old.request self.old.conn.now.call ≡ false }
-        requires calling { IsCallingPlainly (begun_by self.old.request self.old.conn.now) }
         ensures same { self.new.conn.ghost_name ≡ self.old.conn.ghost_name }
         ensures asked { self.new.request ≡ None }
         ensures polls { PollsCall (seen_by L.seen (begun_by self.old.request self.old.conn.now)) (seen_by L.seen self.new.conn.now) (turn_of unit_turn result) }
-        ensures calling { PollFitsPlainly self.new.conn.now (turn_of unit_turn result) }
+        ensures over { is_over self.new.request self.new.conn.now.call ≡ ends_call (turn_of unit_turn result) }
+        ensures calling { IsCallingPlainly (begun_by self.old.request self.old.conn.now) → PollFitsPlainly self.new.conn.now (turn_of unit_turn result) }
     {
         match self.conn.poll_with(&mut self.request) {
             Poll::Pending => Poll::Pending,

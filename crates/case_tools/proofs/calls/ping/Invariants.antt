@@ -1,11 +1,6 @@
 use Rattle.std.proofs.Common.{◌≡◌, false}
-use Rattle.pg_call.specs.declared.kind.Kind.TheVariants as kinds
-use Rattle.pg_conn.specs.Connections.{begun_by, is_over}
-use Rattle.pg_conn.specs.States.{IsCalling}
+use Rattle.pg_conn.specs.Connections.{is_over}
 use Rattle.case_tools.proofs.calls.ping.Given as goal
 
 abbrev pub invariant-loop : goal.invariant-loop
-invariant-loop g l = record {
-  over : is_over l.state.request l.state.conn.now.call ≡ false;
-  calling : IsCalling kinds.Ping (begun_by l.state.request l.state.conn.now);
-}
+invariant-loop g l = is_over l.state.request l.state.conn.now.call ≡ false

@@ -1,6 +1,6 @@
 use Rattle.pg_call.specs.declared.kind.Kind.TheVariants as kinds
 use Rattle.pg_conn.specs.States.{IsCalling}
-use Rattle.pg_copying.proofs.CallingLaws.{not_over}
+use Rattle.pg_conn.proofs.StateLaws.{not_over}
 use Rattle.copying_cases.proofs.polling.copy_out.Goals as goal
 use Rattle.copying_cases.proofs.polling.copy_out.Goals.{in-Pending, in-Ready-Some-Ok}
 

@@ -1,5 +1,5 @@
 use Rattle.pg_call.specs.declared.kind.Kind.TheVariants as kinds
-use Rattle.pg_copying.proofs.CallingLaws.{calling_runs}
+use Rattle.pg_conn.proofs.StateLaws.{calling_runs}
 use Rattle.pg_copying.proofs.DropLaws.{fails_no_more}
 use Rattle.pg_copying.proofs.drops.a_copy_that_is_dropped_behind_its_end.Goals as goal
 

@@ -3,8 +3,7 @@ use Rattle.pg_call.specs.declared.kind.How.TheVariants as hows
 use Rattle.pg_call.specs.declared.kind.Kind.TheVariants as kinds
 use Rattle.pg_conn.specs.Connections.{seen_by}
 use Rattle.pg_conn.proofs.NewsLaws.{reads_within}
-use Rattle.pg_conn.proofs.StateLaws.{poll_fits_within}
-use Rattle.pg_listening.proofs.CallLaws.{calling_runs}
+use Rattle.pg_conn.proofs.StateLaws.{calling_runs, poll_fits_within}
 use Rattle.pg_listening.proofs.holding.poll_total.Goals as goal
 
 pub poll_call_within-requires-clause-runs : goal.poll_call_within-requires-clause-runs

@@ -2,7 +2,7 @@ use Rattle.std.proofs.Common.{ap, refl, ◌∙◌}
 use Rattle.pg_conn.specs.Connections.{seen_by}
 use Rattle.pg_play.specs.Feeding.{parts_of}
 use Rattle.pg_play.specs.Opened.{of_step}
-use Rattle.pg_play.proofs.CallLaws.{seen_left}
+use Rattle.pg_conn.proofs.ViewLaws.{seen_left}
 use Rattle.pg_play.proofs.PartingLaws.{abort_part, abort_unsaid}
 use Rattle.pg_play.proofs.copying.abort.Goals as goal
 

@@ -4,7 +4,7 @@ use Rattle.pg_play.specs.Shown.{feed_of}
 use Rattle.pg_play.specs.Calls.{first_conn}
 use Rattle.pg_play.specs.Feeding.{parts_of}
 use Rattle.pg_play.specs.Opened.{asked_of_fed, fed_of, of_step}
-use Rattle.pg_play.proofs.CallLaws.{seen_left}
+use Rattle.pg_conn.proofs.ViewLaws.{seen_left}
 use Rattle.pg_play.proofs.PartingLaws.{all_parts, ends_unfed, finish_goes, finish_told}
 use Rattle.pg_play.proofs.copying.finish.Goals as goal
 

@@ -1,7 +1,7 @@
 use Rattle.std.proofs.Common.{ap, ◌∙◌}
 use Rattle.pg_call.specs.declared.request.Request.TheVariants as requests
 use Rattle.pg_conn.specs.Connections.{seen_by}
-use Rattle.pg_play.proofs.CallLaws.{seen_left}
+use Rattle.pg_conn.proofs.ViewLaws.{seen_left}
 use Rattle.pg_play.proofs.ThroughLaws.{plays_call}
 use Rattle.pg_play.proofs.FeedingLaws.{ended_unopened}
 use Rattle.pg_play.proofs.copying.go_on.Goals as goal

@@ -3,7 +3,7 @@ use Rattle.pg_conn.specs.Connections.{ConnSeen, seen_by}
 use Rattle.pg_script.specs.declared.step.Copying.{Copying}
 use Rattle.pg_play.specs.Feeding.{parts_of}
 use Rattle.pg_play.specs.Opened.{IsFed, of_step}
-use Rattle.pg_play.proofs.CallLaws.{seen_left}
+use Rattle.pg_conn.proofs.ViewLaws.{seen_left}
 use Rattle.pg_play.proofs.PartingLaws.{leave_drops, leave_ends, leave_fails, leave_waits}
 use Rattle.pg_play.proofs.copying.leave.Goals as goal
 

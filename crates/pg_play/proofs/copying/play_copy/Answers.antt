@@ -3,7 +3,7 @@ use Rattle.pg_conn.specs.Connections.{ConnSeen, seen_by}
 use Rattle.pg_play.specs.Calls.{IsCallPlaying, first_conn}
 use Rattle.pg_play.specs.Feeding.{parts_of}
 use Rattle.pg_play.specs.Opened.{IsOpenWith, asked_of_fed, fed_of, of_step}
-use Rattle.pg_play.proofs.CallLaws.{seen_left, seen_started}
+use Rattle.pg_conn.proofs.ViewLaws.{seen_left, seen_started}
 use Rattle.pg_play.proofs.ThroughLaws.{call_starts}
 use Rattle.pg_play.proofs.PartingLaws.{ends_unfed, ends_unopened, opens_with, shows_some}
 use Rattle.pg_play.proofs.copying.play_copy.Goals as goal

@@ -3,7 +3,7 @@ use Rattle.pg_conn.specs.Connections.{ConnSeen, seen_by}
 use Rattle.pg_conn.specs.Turns.{first_exchange}
 use Rattle.pg_call.specs.declared.request.Request.{Request}
 use Rattle.pg_play.specs.Calls.{IsCallPlaying, first_conn}
-use Rattle.pg_play.proofs.CallLaws.{seen_left, seen_started}
+use Rattle.pg_conn.proofs.ViewLaws.{seen_left, seen_started}
 use Rattle.pg_play.proofs.ThroughLaws.{call_starts, plain_begins, plays_call, unopened}
 use Rattle.pg_play.proofs.stepping.play_call.Goals as goal
 

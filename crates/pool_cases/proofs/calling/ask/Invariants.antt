@@ -1,12 +1,6 @@
 use Rattle.std.proofs.Common.{◌≡◌, false}
-use Rattle.pg_call.specs.declared.kind.How.TheVariants as hows
-use Rattle.pg_call.specs.declared.kind.Kind.TheVariants as kinds
-use Rattle.pg_conn.specs.Connections.{begun_by, is_over}
-use Rattle.pg_conn.specs.States.{IsCalling}
+use Rattle.pg_conn.specs.Connections.{is_over}
 use Rattle.pool_cases.proofs.calling.ask.Given as goal
 
 abbrev pub invariant-loop : goal.invariant-loop
-invariant-loop l = record {
-  over : is_over l.call.request l.call.conn.now.call ≡ false;
-  calling : IsCalling (kinds.Run hows.Fetch) (begun_by l.call.request l.call.conn.now);
-}
+invariant-loop l = is_over l.call.request l.call.conn.now.call ≡ false

@@ -1,7 +1,7 @@
 use Rattle.std.proofs.Common.{ap, ◌∙◌}
 use Rattle.pg_call.specs.declared.kind.Kind.TheVariants as kinds
 use Rattle.pg_conn.specs.States.{IsCalling}
-use Rattle.pg_copying.proofs.CallingLaws.{not_over}
+use Rattle.pg_conn.proofs.StateLaws.{not_over}
 use Rattle.pg_listen.specs.Handed.{HeldOf}
 use Rattle.pool_cases.proofs.copying.give.Goals as goal
 use Rattle.pool_cases.proofs.copying.give.Goals.{in-Pending, in-Ready-Some-Ok}

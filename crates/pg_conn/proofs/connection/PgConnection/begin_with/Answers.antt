@@ -2,8 +2,11 @@ use Rattle.std.proofs.Common.{refl}
 use Rattle.pg_request.specs.Queries.{plain_text}
 use Rattle.pg_call.specs.declared.kind.Kind.TheVariants as kinds
 use Rattle.pg_call.specs.declared.request.Request.TheVariants as requests
-use Rattle.pg_conn.proofs.StateLaws.{started_calling}
+use Rattle.pg_conn.proofs.StateLaws.{started_calling, started_plainly}
 use Rattle.pg_conn.proofs.connection.PgConnection.begin_with.Goals as goal
 
 pub returns-clause-calling : goal.returns-clause-calling
 returns-clause-calling g c = rw c.from_text.ensures (kinds.Begin, tt, started_calling (requests.BeginWith (plain_text c.args.sql)) c.args.self.now refl)
+
+pub invariant_of-result : goal.invariant_of-result
+invariant_of-result g c = record { calling = started_plainly (requests.BeginWith c.from_text.result) c.args.self.now (kinds.Begin, tt, started_calling (requests.BeginWith c.from_text.result) c.args.self.now refl) }

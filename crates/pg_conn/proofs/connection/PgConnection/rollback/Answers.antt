@@ -1,5 +1,8 @@
-use Rattle.pg_conn.proofs.StateLaws.{rollback_calls}
+use Rattle.pg_conn.proofs.StateLaws.{rollback_calls, started_plainly}
 use Rattle.pg_conn.proofs.connection.PgConnection.rollback.Goals as goal
 
 pub returns-clause-calling : goal.returns-clause-calling
 returns-clause-calling g c = rw c.rollback_request-request.ensures (rollback_calls c.transaction_depth.result c.args.self.now)
+
+pub invariant_of-result : goal.invariant_of-result
+invariant_of-result g c = record { calling = started_plainly c.rollback_request-request.result c.args.self.now (rw c.rollback_request-request.ensures (rollback_calls c.transaction_depth.result c.args.self.now)) }

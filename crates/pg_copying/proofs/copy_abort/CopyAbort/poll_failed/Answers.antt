@@ -1,6 +1,6 @@
 use Rattle.std.proofs.Common.{None}
 use Rattle.pg_call.specs.declared.kind.Kind.TheVariants as kinds
-use Rattle.pg_copying.proofs.CallingLaws.{not_over}
+use Rattle.pg_conn.proofs.StateLaws.{not_over}
 use Rattle.pg_copying.proofs.copy_abort.CopyAbort.poll_failed.Goals as goal
 
 pub poll_turn-requires : goal.poll_turn-requires

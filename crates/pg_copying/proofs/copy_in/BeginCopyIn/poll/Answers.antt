@@ -2,7 +2,8 @@ use Rattle.std.proofs.Common.{◌≡◌, subst}
 use Rattle.std.proofs.lemmas.Option.{same_Some}
 use Rattle.pg_call.specs.declared.kind.Kind.TheVariants as kinds
 use Rattle.pg_conn.specs.Feeding.{IsFed}
-use Rattle.pg_copying.proofs.CallingLaws.{not_over, opened_fed}
+use Rattle.pg_conn.proofs.StateLaws.{not_over}
+use Rattle.pg_copying.proofs.CallingLaws.{opened_fed}
 use Rattle.pg_copying.proofs.copy_in.BeginCopyIn.poll.Goals as goal
 
 pub poll_turn-requires : goal.poll_turn-requires

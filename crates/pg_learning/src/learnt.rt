@@ -1,0 +1,169 @@
+ghost use Rattle.std.specs.Prelude.{◌≡◌, map, IfOk, IfErr, OnOk, OnErr};
+ghost use Rattle.pg_resolve.specs.Resolving.{by_oid, no_rows};
+ghost use Rattle.pg_learning.specs.Learning.{IsUnsought, Seeks, SeeksNames, SeeksOn, TakesRow, begun_with, learnt_none, types_in, unknown};
+
+use crate::pushing::{push_columns, push_names, push_oids};
+use crate::taking::{take_names, take_type};
+use pg_columns::PgColumn;
+use pg_resolve::{ColumnResolver, Resolver, TableCache, TypeCache};
+use pg_wire::{DataRow, Error, Oid, Text};
+use std::alloc::Global;
+
+/// What is looked up.
+pub enum Seeking {
+    Nothing,
+    /// Types, by their OIDs.
+    Types(Resolver),
+    /// The names of tables and of their columns.
+    Names(ColumnResolver),
+}
+
+// By hand, so that whoever lets one go makes one call, and doesn't go through its parts.
+impl Drop for Seeking {
+    fn drop(self) {
+        match self {
+            Seeking::Nothing | Seeking::Types(_) | Seeking::Names(_) => {}
+        }
+    }
+}
+
+/// What a connection has learnt of types and of the names of columns, and the lookup that is under way.
+pub struct Learnt {
+    pub types: TypeCache,
+    pub tables: TableCache,
+    pub seeking: Seeking,
+}
+
+// By hand, so that whoever lets one go makes one call, and doesn't go through its parts.
+impl Drop for Learnt {
+    fn drop(self) {
+        let Learnt {
+            types: _,
+            tables: _,
+            seeking: _,
+        } = self;
+    }
+}
+
+impl Learnt {
+    /// Nothing is known yet.
+    pub fn new(alloc: Global) -> Self
+        ensures { result ≡ learnt_none }
+    {
+        Learnt {
+            types: TypeCache::new(alloc),
+            tables: TableCache::new(alloc),
+            seeking: Seeking::Nothing,
+        }
+    }
+
+    // What isn't known of the types of parameters and of columns is asked for.
+    fn types_for(
+        &self,
+        alloc: Global,
+        parameters: &[Oid],
+        columns: &[PgColumn],
+    ) -> Result<Resolver, Error>
+        ensures ok { IfOk result (λ r. r ≡ record no_rows { pushed = map by_oid (unknown self.now.types (types_in parameters.now columns.now)) }) }
+        ensures memory { IfErr result (λ e. e ≡ Error.OutOfMemory) }
+    {
+        let mut resolver = Resolver::new(alloc);
+        push_oids(alloc, &self.types, &mut resolver, parameters)?;
+        push_columns(alloc, &self.types, &mut resolver, columns)?;
+        Ok(resolver)
+    }
+
+    /// What isn't known of the types of a statement's parameters and columns is to be looked up, in place of whatever was. An `Err` is want of memory, and
+    /// nothing has changed.
+    pub fn begin(
+        &mut self,
+        alloc: Global,
+        parameters: &[Oid],
+        columns: &[PgColumn],
+    ) -> Result<(), Error>
+        ensures ok { OnOk result (self.new ≡ begun_with parameters.now columns.now self.old) }
+        ensures err { IfErr result (λ e. (e ≡ Error.OutOfMemory) × (self.new ≡ self.old)) }
+    {
+        let resolver = self.types_for(alloc, parameters, columns)?;
+        self.seeking = Seeking::Types(resolver);
+        Ok(())
+    }
+
+    // The lookup of the names of columns, where they are wanted and one isn't known.
+    fn seek_names(
+        &mut self,
+        alloc: Global,
+        columns: &[PgColumn],
+        names: bool,
+    ) -> Result<Option<Text>, Error>
+        ensures ok { IfOk result (λ text. SeeksNames columns.now names self.old text self.new) }
+        ensures err { IfErr result (λ e. e ≡ Error.OutOfMemory) }
+        ensures kept { (self.new.types ≡ self.old.types) × (self.new.tables ≡ self.old.tables) }
+    {
+        self.seeking = Seeking::Nothing;
+        if !names {
+            return Ok(None);
+        }
+        let mut resolver = ColumnResolver::new(alloc);
+        push_names(&self.tables, &mut resolver, columns)?;
+        match resolver.query(alloc) {
+            Ok(Some(text)) => {
+                self.seeking = Seeking::Names(resolver);
+                Ok(Some(text))
+            }
+            Ok(None) => Ok(None),
+            Err(_) => Err(Error::OutOfMemory),
+        }
+    }
+
+    // The next lookup of types. There is none where nothing is asked, or 64 were made: then no row may wait.
+    fn seek_types(&mut self, alloc: Global) -> Result<Option<Text>, Error>
+        ensures ok { IfOk result (λ text. SeeksOn self.old.seeking text self.new.seeking) }
+        ensures err { IfErr result (IsUnsought self.old self.new) }
+        ensures kept { (self.new.types ≡ self.old.types) × (self.new.tables ≡ self.old.tables) }
+    {
+        let Seeking::Types(resolver) = &mut self.seeking else {
+            return Ok(None);
+        };
+        match resolver.query(alloc) {
+            Ok(Some(text)) => Ok(Some(text)),
+            Ok(None) => {
+                resolver.ended(alloc)?;
+                Ok(None)
+            }
+            Err(_) => Err(Error::OutOfMemory),
+        }
+    }
+
+    /// The text of the next lookup, where there is one: of types, in rounds, and then, where they are wanted, of the names of columns.
+    pub fn seek(
+        &mut self,
+        alloc: Global,
+        columns: &[PgColumn],
+        names: bool,
+    ) -> Result<Option<Text>, Error>
+        ensures ok { IfOk result (λ text. Seeks columns.now names self.old text self.new) }
+        ensures err { IfErr result (IsUnsought self.old self.new) }
+        ensures kept { (self.new.types ≡ self.old.types) × (self.new.tables ≡ self.old.tables) }
+    {
+        if !matches!(self.seeking, Seeking::Types(_)) {
+            self.seeking = Seeking::Nothing;
+            return Ok(None);
+        }
+        match self.seek_types(alloc)? {
+            Some(text) => Ok(Some(text)),
+            None => self.seek_names(alloc, columns, names),
+        }
+    }
+
+    /// Takes a row of the lookup that is under way.
+    pub fn take(&mut self, alloc: Global, values: &DataRow) -> Result<(), Error>
+        ensures { TakesRow values.now self.old self.new result }
+    {
+        match &mut self.seeking {
+            Seeking::Nothing => Ok(()),
+            Seeking::Types(resolver) => take_type(alloc, &mut self.types, resolver, values),
+            Seeking::Names(resolver) => take_names(alloc, &mut self.tables, resolver, values),
+        }
+    }
+}

@@ -1,0 +1,8 @@
+//! What a connection has learnt of types and of the names of columns, by lookups of the catalogs, and the lookup that is under way.
+#![tactic(auto)]
+
+mod learnt;
+mod pushing;
+mod taking;
+
+pub use learnt::{Learnt, Seeking};
