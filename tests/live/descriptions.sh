@@ -37,7 +37,7 @@ def row(n):
     step(f'step 1000 fetch_all raw "SELECT {n}"', 'ok')
 
 
-step('step 1000 describe "SELECT * FROM wide"', f'groups 3 .* cache put .* ok described - {COLUMNS}')
+step('step 1000 describe "SELECT * FROM wide"', f'groups 4 .* cache put .* ok described - {COLUMNS}')
 row(1)
 step('step 1000 describe "SELECT * FROM wide"', f'groups 2 .* cache hit .* ok described - {COLUMNS}')
 step('step 1000 describe "SELECT c0, 1, $1::text FROM wide WHERE c1 = $2"', 'groups 3 .* ok described 25,23 3')

@@ -33,7 +33,7 @@ def step(line, want):
 
 
 def row(n):
-    step(f'step 1000 fetch_all raw "SELECT {n}"', 'groups 1 .* ok rows')
+    step(f'step 1000 fetch_all raw "SELECT {n}"', 'groups 1 .* ok$')
 
 
 # the array, its element, the domain in that, the domain's array: four lookups behind the description, and a fifth for the names of columns
@@ -43,10 +43,12 @@ row(1)
 step('step 1000 prepare "SELECT $2::pair[], $1::mood, $3::span, 1"', f'groups 1 .* ok described {mine} 4')
 step('step 1000 prepare "SELECT m, s FROM seen WHERE p = $1"', f"groups 2 .* ok described {oids['_pair']} 2")
 step('step 1000 prepare "SELECT s, m FROM seen"', 'groups 1 .* ok described - 2')
-step('step 1000 fetch_all once "SELECT m, p, s FROM seen WHERE $1" bool:t', 'groups 2 .* ok rows')
+step('step 1000 fetch_all once "SELECT m, p, s FROM seen WHERE $1" bool:t', 'groups 2 .* ok$')
 row(2)
-# every type that a parameter can have, but multiranges, which are no type of a lookup
-types = psql("SELECT format_type(oid, NULL) FROM pg_type WHERE typtype IN ('b', 'c', 'd', 'e', 'r') AND typcategory <> 'Z' AND typname NOT LIKE '%multirange' AND typisdefined ORDER BY oid").splitlines()
+# every type that a parameter can have, but multiranges and those that the server keeps for itself (category Z), which a lookup refuses, and rows of tables that have one
+types = psql("WITH own AS (SELECT oid FROM pg_type WHERE typcategory = 'Z'), rows_of AS (SELECT t.oid FROM pg_type t JOIN pg_attribute ON attrelid = typrelid AND attnum > 0 WHERE atttypid IN (SELECT oid FROM own)) "
+             "SELECT format_type(oid, NULL) FROM pg_type WHERE typtype IN ('b', 'c', 'd', 'e', 'r') AND typname NOT LIKE '%multirange' "
+             "AND oid NOT IN (SELECT oid FROM own UNION SELECT oid FROM rows_of) AND typelem NOT IN (SELECT oid FROM rows_of) ORDER BY oid").splitlines()
 text = 'SELECT ' + ', '.join(f'${n + 1}::{name}' for n, name in enumerate(types))
 quoted = text.replace('\\', '\\\\').replace('"', '\\"')
 step(f'step 100000 prepare "{quoted}"', 'ok described .* %d' % len(types))
