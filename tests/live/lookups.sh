@@ -36,7 +36,7 @@ def row(n):
     step(f'step 1000 fetch_all raw "SELECT {n}"', 'groups 1 .* ok$')
 
 
-# the array, its element, the domain in that, the domain's array: four lookups behind the description, and a fifth for the names of columns
+# behind the description four lookups: the array, its element, the domain in that, the domain's array; no column is of a table, so no names are looked up
 mine = f"{oids['mood']},{oids['_pair']},{oids['span']}"
 step('step 1000 prepare "SELECT $1::mood, $2::pair[], $3::span"', f'groups 5 .* ok described {mine} 3')
 row(1)
