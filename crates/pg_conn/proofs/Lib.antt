@@ -1,3 +1,4 @@
+pub mod OwedLaws
 pub mod TurnLaws
 pub mod CleanupLaws
 pub mod StateLaws

@@ -69,13 +69,7 @@ use Rattle.pg_conn.proofs.StatementLaws.{asked_main}
 use Rattle.pg_exchanges.specs.Answering.{closing as closing_group, running}
 use Rattle.pg_conn.specs.Turns.{HearsBy, kept_for, HearsFront, running_of, ends_request, IsMissed, FailsBy, EndsBy, Tells, SendCause, BeatCause, Turns, TakesBeat, IsAsked, cleanup_of, IsSayable, GoesOn, Prepares, Refuses, Refused, Polled, beat_of, broken_by, only_sends, flushes, only_flushes, is_flushed, EndsFlush, IsAhead, wants_level, Readies, Accepts, queued_copy_fail, level_of, HasRoomBeside, behind, LearnsFrom, TakesIn}
 use Rattle.pg_startup.proofs.GreetLaws.{heard_none, heard_one}
-
--- the bytes of messages, one after another
-pub spelled-append : (xs ys : List FrontendMessage) → spelled (xs ++ ys) ≡ spelled xs ++ spelled ys
-spelled-append xs ys = ap text_of (map-append frontend_frame xs ys) ∙ text_of-append (map frontend_frame xs) (map frontend_frame ys)
-
-pub counts-append : (xs ys : List FrontendMessage) → count_by ends_request (xs ++ ys) ≡ count_by ends_request xs + count_by ends_request ys
-counts-append xs ys = sum_by-append (λ (m : FrontendMessage). cond (ends_request m) 1 0) xs ys
+use Rattle.pg_conn.proofs.OwedLaws.{InTurn-then, closes_said, counts-append, feed_asks, is_Z, no_groups, none_asked, one_asked, run_asks, spelled-append}
 
 grew-none : (a : ℕ) → GrewBy 0 a a
 grew-none a = omega arith
@@ -145,6 +139,9 @@ Turns-then a b c beat q q' fs fs' hs hs' s t = record {
   asked = λ i. s.asked (t.asked i);
   room = λ n l h. t.room n (omega (arith, l, ap (λ (r : Rule). r.depth) s.started.2, ap (λ (x : Standing). x.held) s.started.3)) (s.room n l h);
   learns = Learns-then hs hs' a.learnt b.learnt c.learnt s.learns t.learns;
+  in_turn = λ start r said heards items i.
+      let one = s.tells start r said heards items i in
+      InTurn-then a b c q q' fs fs' (s.in_turn start r said heards items i) (t.in_turn start r (said ++ one.0) (heards ++ hs) items one.3);
   tells = λ start r said heards items i.
       let one = s.tells start r said heards items i in
       let two = t.tells start r (said ++ one.0) (heards ++ hs) items one.3 in (
@@ -191,6 +188,7 @@ stays a b beat m c keep k h g s t d e l tells = (
     started = (s, t, d, e);
     learns = ([], tt, l);
     asked = keep.0;
+    in_turn = λ start r said hs items i. none_asked a b beat [] [] [] start r said hs items m refl refl i (rw (append-nil said, append-nil hs) (tells start r said hs items i));
     room = λ n l r. omega (arith, r, keep.1, m.spare, same_level a.change b.change a.groups b.groups (ap (λ (x : Standing). x.change) e) g);
     tells = λ start r said hs items i. ([], refl, rw g (grew-none a.groups), rw (append-nil said, append-nil hs) (tells start r said hs items i));
   },
@@ -252,24 +250,6 @@ refused_now a e h = (h, refl)
 
 -- ---- what waited is queued
 
-pub closes_said : (names : List (List ℕ)) → count_by ends_request (closing_group names) ≡ 1
-closes_said [] = refl
-closes_said (name ∷ names) = omega (arith, closes_said names)
-
-data_asks_none : (pieces : List (List ℕ)) (ended : Bool) → count_by ends_request (map CopyData pieces ++ ended_by ended) ≡ 0
-data_asks_none [] true = refl
-data_asks_none [] false = refl
-data_asks_none (p ∷ ps) ended = data_asks_none ps ended
-
-pub feed_asks : (feed : Feed) → count_by ends_request (feeding feed) ≡ 1
-feed_asks feed =
-    let behind = map CopyData feed.pieces ++ ended_by feed.is_ended in
-    sum_by-cons (λ (m : FrontendMessage). cond (ends_request m) 1 0) (Query feed.query.sql) behind ∙ ap (λ (n : ℕ). 1 + n) (data_asks_none feed.pieces feed.is_ended)
-
-pub run_asks : (name types : List ℕ) (values : List (Option (List ℕ))) (again : Option (List ℕ)) → count_by ends_request (parsing_by name types again ++ running name values 0) ≡ 1
-run_asks name types values None = refl
-run_asks name types values (Some sql) = refl
-
 groups_said : (r : Request) → is_flush (kind_of r) ≡ false → is_close (kind_of r) ≡ false → count_by ends_request (messages_of r) ≡ 1
 groups_said (requests.Execute query) f c = refl
 groups_said (requests.ExecuteMany query) f c = refl
@@ -323,10 +303,10 @@ flush_false true n z e = let w : true && 0 == 0 ≡ false = rw z at e in absurd 
 flush_false false n z e = refl
 
 -- the state b stands where what waited was queued
-queues_waiting : (a b : ConnSeen) (w : Waiting) → a.call ≡ calls.Waiting w → Moves a.stream b.stream w.frames [] → AllMoved a.stream b.stream → (IsAsked b.call → ⊥) → ((n : ℕ) → n ≤ kept_for a → HasRoomBeside n b) → b.broken ≡ a.broken → b.heard ≡ a.heard → b.sent ≡ a.sent → b.read ≡ a.read → b.rule ≡ a.rule → standing b ≡ standing a → b.learnt ≡ a.learnt
+queues_waiting : (a b : ConnSeen) (w : Waiting) → a.call ≡ calls.Waiting w → a.ledger.owed ≡ 0 → Moves a.stream b.stream w.frames [] → AllMoved a.stream b.stream → (IsAsked b.call → ⊥) → ((n : ℕ) → n ≤ kept_for a → HasRoomBeside n b) → b.broken ≡ a.broken → b.heard ≡ a.heard → b.sent ≡ a.sent → b.read ≡ a.read → b.rule ≡ a.rule → standing b ≡ standing a → b.learnt ≡ a.learnt
     → ((start : Ledger) (r : Request) (said : List FrontendMessage) (hs : List Frame) (items : List CallItem) → CallIs start r said hs items a.ledger (calls.Waiting w) → GrewBy (count_by ends_request (messages_of r)) a.groups b.groups × CallIs start r (said ++ messages_of r) hs items b.ledger b.call)
     → TakesBeat a b beats.More
-queues_waiting a b w k m moved asked room broken h s t d e l tells = (
+queues_waiting a b w k z m moved asked room broken h s t d e l tells = (
   w.frames,
   [],
   [],
@@ -339,6 +319,7 @@ queues_waiting a b w k m moved asked room broken h s t d e l tells = (
     started = (s, t, d, e);
     learns = ([], tt, l);
     asked = λ i. absurd (asked i);
+    in_turn = λ start r said hs items i. one_asked a b w.frames z m;
     room = λ n l r. room n l;
     tells = λ start r said hs items i.
         let j = call_at start r said hs items a.ledger a.call (calls.Waiting w) k i in
@@ -361,7 +342,7 @@ asks_reply a n g w k z f c m room grew =
     let flush : is_flush w.kind ≡ false = flush_false (is_flush w.kind) a.ledger.owed z (subst (λ (x : Call). only_sends a.ledger x ≡ false) k f) in
     let b : ConnSeen = record (queued_call n a) { ledger = owes_own; call = calls.Own (fresh_reply w); groups = g } in
     subst (λ (x : Call). Readies a (record (queued_call n a) { ledger = owes_own; call = awaits x; groups = g })) (sym k) (record {
-      beat = queues_waiting a b w k m.0 m.1 (λ i. i) (λ k l. omega (arith, room, l, level_most a.change g)) refl refl refl refl refl refl refl (λ start r said hs items i.
+      beat = queues_waiting a b w k z m.0 m.1 (λ i. i) (λ k l. omega (arith, room, l, level_most a.change g)) refl refl refl refl refl refl refl (λ start r said hs items i.
           let one = groups_said r (rw i.0 at flush) (rw i.0 at c) in
           (rw one grew, replying_from start r said hs items a.ledger w flush c z i));
       ahead = tt;
@@ -370,7 +351,7 @@ asks_reply a n g w k z f c m room grew =
 pub asks_nothing : (a : ConnSeen) (n : ℕ) (w : Waiting) → a.call ≡ calls.Waiting w → a.ledger.owed ≡ 0 → is_close w.kind ≡ true → Moves a.stream (queued_call n a).stream w.frames [] × AllMoved a.stream (queued_call n a).stream → kept_for a + level_of a.change 1 + 128 ≤ n
     → Readies a (closing (queued_call n a))
 asks_nothing a n w k z c m room = record {
-  beat = queues_waiting a (closing (queued_call n a)) w k m.0 m.1 (λ i. i) (λ k l. omega (arith, room, l, level_most a.change a.groups)) refl refl refl refl refl refl refl (λ start r said hs items i.
+  beat = queues_waiting a (closing (queued_call n a)) w k z m.0 m.1 (λ i. i) (λ k l. omega (arith, room, l, level_most a.change a.groups)) refl refl refl refl refl refl refl (λ start r said hs items i.
       let none = groups_farewell r (rw i.0 at c) in
       (rw none (grew-none a.groups), closing_from start r said hs items a.ledger w c z i));
   ahead = tt;
@@ -672,6 +653,7 @@ asides a b beat aside n m c keep k h g s t d e l tells = (
     started = (s, t, d, e);
     learns = ([], tt, l);
     asked = keep.0;
+    in_turn = λ start r said hs items i. none_asked a b beat [] aside [] start r said hs items m (heard_none aside n) refl i (rw (append-nil said, append-nil hs) (tells start r said hs items i));
     room = λ n l r. omega (arith, r, keep.1, m.spare, same_level a.change b.change a.groups b.groups (ap (λ (x : Standing). x.change) e) g);
     tells = λ start r said hs items i. ([], refl, rw g (grew-none a.groups), rw (append-nil said, append-nil hs) (tells start r said hs items i));
   },
@@ -719,13 +701,6 @@ front_refused a front body rest e f of refuses = stays a (idle a) (beats.Ends (E
 
 -- ---- a message that is taken
 
-alone_true : (b : Bool) → b || false ≡ true → b ≡ true
-alone_true true e = refl
-alone_true false e = absurd cc
-
-pub is_Z : (f : Frame) → is_ready f ≡ true → f.tag ≡ 90
-is_Z f e = eqb-true f.tag 90 (alone_true (f.tag == 90) e)
-
 -- a reply ends by its last message, for which no CopyFail is due
 ready_last : (hs : List Frame) (f : Frame) → EndsByReady (hs ++ f ∷ []) → is_ready f ≡ true
 ready_last [] f (inl e) = absurd cc
@@ -752,10 +727,6 @@ taken_cause a b (beats.Yields item) n h = h.2
 taken_cause a b (beats.Opens opened) n h = h.2
 taken_cause a b (beats.Ends (Ok answer)) n h = h
 taken_cause a b (beats.Ends (Err e)) n h = h.2
-
-pub no_groups : (fails : Bool) → count_by ends_request (fails_of fails) ≡ 0
-no_groups true = refl
-no_groups false = refl
 
 fails_fit : (fails : Bool) (n : ℕ) → (fails ≡ true → 57 ≤ n) → n ≤ (n - length (spelled (fails_of fails))) + length (spelled (fails_of fails))
 fails_fit true n h = let k = h refl in omega (arith, k)
@@ -886,6 +857,8 @@ takes_by {A} seen a b new l front body rest fails beat f of stays_in room sent a
         tells = λ start r said hs items i.
             let none = no_groups fails in
             (fails_of fails, refl, rw none (grew-none a.groups), tells c refl refl (sends_none t fails unsent) start r said hs items i);
+        in_turn = λ start r said hs items i.
+            none_asked (seen_by seen a) c beat (fails_of fails) (frame ∷ []) (frame ∷ []) start r said hs items m.0 (heard_one frame (heard_tag front a.stream.held body rest f of)) (no_groups fails) i (tells c refl refl (sends_none t fails unsent) start r said hs items i);
       },
     )
 

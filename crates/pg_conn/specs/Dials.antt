@@ -42,6 +42,7 @@ pub record IsUncalled (link : LinkSeen) : Type 0 where
   pub given : NoneTold link.given
   pub taken : NoneTold link.taken
   pub wait_places : NoneTold link.wait_places
+  pub read_places : NoneTold link.read_places
   pub calls : link.calls ≡ 0
   pub moved : link.moved ≡ 0
   pub read_waits : link.read_waits ≡ 0

@@ -12,11 +12,11 @@ use Rattle.pg_wire.specs.declared.error.IoCause.TheVariants as io
 use Rattle.pg_wire.specs.declared.error.ProtocolFault.TheVariants as protocol
 use Rattle.pg_wire.specs.declared.error.ServerFault.{ServerFault}
 use Rattle.pg_wire.specs.Frame.{Frame, bytes_of, backend_tags, IsWhole}
-use Rattle.pg_wire.specs.Parts.{heard, is_asynchronous}
+use Rattle.pg_wire.specs.Parts.{heard, is_asynchronous, is_ready}
 use Rattle.pg_wire.specs.Frontend.{FrontendMessage, Query, Sync}
 use Rattle.pg_stream.specs.declared.stream.Front.{Front}
 use Rattle.pg_stream.specs.Links.{GrewBy}
-use Rattle.pg_stream.specs.Streams.{IsFrontOf, framed, StreamOf, Moves, AllMoved, NoneWaited, Passes, WriteWaited, IsSpent, PendingCause, HeardCause, fuel_of}
+use Rattle.pg_stream.specs.Streams.{IsFrontOf, framed, StreamOf, StreamSeen, Moves, AllMoved, NoneWaited, Passes, WriteWaited, IsSpent, PendingCause, HeardCause, fuel_of}
 use Rattle.pg_call.specs.declared.ledger.Ledger.{Ledger}
 use Rattle.pg_call.specs.declared.request.Request.{Request}
 use Rattle.pg_call.specs.declared.request.Request.TheVariants as requests
@@ -141,6 +141,32 @@ BeatCause a b _ = NoneWaited a.stream b.stream
 abbrev pub TellsOf : ConnSeen → ConnSeen → Ledger → Request → List FrontendMessage → List Frame → List CallItem → Beat → List ℕ → Type 0
 TellsOf a b start r said hs items beat q = (more : List FrontendMessage) × (spelled more ≡ q) × GrewBy (count_by ends_request more) a.groups b.groups × Tells a b start r (said ++ more) hs items beat
 
+-- ---- one group at a time
+
+-- no group is queued: what is queued ends none, and each ReadyForQuery that is taken ends a reply that is owed
+pub record AsksNone (owed : ℕ) (a b : StreamSeen) (q : List ℕ) (fs : List Frame) (left : ℕ) : Type 0 where
+  pub said : List FrontendMessage
+  pub bytes : q ≡ spelled said
+  pub none : count_by ends_request said ≡ 0
+  pub moves : Moves a b q fs
+  pub counts : count_by is_ready fs + left ≡ owed
+
+-- a group is queued, where no reply is owed any more
+pub record AsksOnce (owed : ℕ) (a b : StreamSeen) (q group : List ℕ) (fs : List Frame) : Type 0 where
+  pub ready : StreamSeen
+  pub before : AsksNone owed a ready q fs 0
+  pub queues : Moves ready b group []
+
+-- these groups are queued one after another, each where all replies that were asked for before it were read to their ReadyForQuery
+-- ("Extended Query")
+abbrev pub AsksInTurn : List (List ℕ) → ℕ → StreamSeen → StreamSeen → List ℕ → List Frame → ℕ → Type 0
+AsksInTurn [] owed a b q fs left = AsksNone owed a b q fs left
+AsksInTurn (group ∷ groups) owed a b q fs left = (c : StreamSeen) × (p : List ℕ) × (later : List ℕ) × (gs : List Frame) × (hs : List Frame) × (asks : ℕ)
+    × AsksOnce owed a c p group gs × AsksInTurn groups asks c b later hs left × (q ≡ p ++ (group ++ later)) × (fs ≡ gs ++ hs)
+
+abbrev pub InTurn : ConnSeen → ConnSeen → List ℕ → List Frame → Type 0
+InTurn a b q fs = (groups : List (List ℕ)) × AsksInTurn groups a.ledger.owed a.stream b.stream q fs b.ledger.owed
+
 -- A beat queued these bytes and took these frames, of which these were heard. Whatever the call had queued, heard and shown before,
 -- the beat tells of all of it.
 pub record Turns (a b : ConnSeen) (beat : Beat) (q : List ℕ) (fs hs : List Frame) : Type 0 where
@@ -155,6 +181,7 @@ pub record Turns (a b : ConnSeen) (beat : Beat) (q : List ℕ) (fs hs : List Fra
   pub learns : Learns hs a.learnt b.learnt
   pub tells : (start : Ledger) (r : Request) (said : List FrontendMessage) (hs' : List Frame) (items : List CallItem) → CallIs start r said hs' items a.ledger a.call
       → TellsOf a b start r said (hs' ++ hs) items beat q
+  pub in_turn : (start : Ledger) (r : Request) (said : List FrontendMessage) (hs' : List Frame) (items : List CallItem) → CallIs start r said hs' items a.ledger a.call → InTurn a b q fs
 
 abbrev pub TakesBeat : ConnSeen → ConnSeen → Beat → Type 0
 TakesBeat a b beat = (q : List ℕ) × (fs : List Frame) × (hs : List Frame) × Turns a b beat q fs hs

@@ -75,7 +75,8 @@ use Rattle.pg_play.proofs.WaitLaws.{still_grown, waits_none, waits_on}
 use Rattle.pg_play.specs.Calls.{Bounds, bounds, failed_by, again, change_fed, change_for, copy_behind, Waited, Went, InPlay, IsPlayingOn, IsPlaying, EndsStarved, IsDropped, IsDroppedAs, broken_after, HasWaitedFew, IsFresh, EndsAtOnce, EndsOn, HasEnded, IsLast, EndsCall, PlaysOne, outcome_of, Ended, StopsBy, behind_end}
 use Rattle.pg_conn.specs.Looking.{Learns}
 use Rattle.pg_conn.proofs.ViewLaws.{seen_left}
-use Rattle.pg_conn.proofs.TurnLaws.{Learns-then, run_asks, tells_from, spelled-append, counts-append, cleaned_call, kept}
+use Rattle.pg_conn.proofs.OwedLaws.{run_asks, spelled-append, counts-append}
+use Rattle.pg_conn.proofs.TurnLaws.{Learns-then, tells_from, cleaned_call, kept}
 
 -- ---- the stream, over any number of polls
 

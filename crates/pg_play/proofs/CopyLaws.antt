@@ -17,7 +17,7 @@ use Rattle.pg_call.specs.Requests.{Group, copy_fail, kind_of, change_of, spelled
 use Rattle.pg_conn.specs.Connections.{ConnSeen, begins_copy, depth_behind, ends_copy, is_fed, opens, unfed, with_copy_fail}
 use Rattle.pg_conn.specs.Turns.{ends_request, level_of}
 use Rattle.pg_conn.proofs.CleanupLaws.{level_none, stays_unfed}
-use Rattle.pg_conn.proofs.TurnLaws.{spelled-append, counts-append}
+use Rattle.pg_conn.proofs.OwedLaws.{spelled-append, counts-append}
 use Rattle.pg_startup.specs.Flows.{Flows}
 use Rattle.pg_startup.proofs.FlowLaws.{Flows-then}
 use Rattle.pg_report.specs.declared.outcome.End.{End}

@@ -9,7 +9,7 @@ use Rattle.pg_wire.specs.Encoding.{Refuses}
 use Rattle.pg_wire.specs.Frontend.{FrontendMessage, CopyData}
 use Rattle.pg_conn.specs.Connections.{ConnOf, piece_of, with_messages}
 use Rattle.pg_call.specs.Requests.{spelled}
-use Rattle.pg_conn.proofs.TurnLaws.{spelled-append}
+use Rattle.pg_conn.proofs.OwedLaws.{spelled-append}
 use Rattle.pg_play.specs.Feeding.{Feeds, FeedsWhole, cut, cut_in, fed_with}
 
 cut_same : (most n m : ℕ) (bytes : List ℕ) → 0 < most → length bytes ≤ n → length bytes ≤ m → cut_in most n bytes ≡ cut_in most m bytes

@@ -26,7 +26,7 @@ use Rattle.pg_call.proofs.CopyInLaws.{came}
 use Rattle.pg_call.proofs.FeedLaws.{ended_said, feed_said, one_more, said_more}
 use Rattle.pg_conn.specs.Connections.{ConnSeen, Standing, copied, resolved, with_messages}
 use Rattle.pg_conn.specs.Turns.{IsAsked, ends_request, level_of}
-use Rattle.pg_conn.proofs.TurnLaws.{spelled-append, counts-append}
+use Rattle.pg_conn.proofs.OwedLaws.{spelled-append, counts-append}
 use Rattle.pg_conn.proofs.FeedingLaws.{same_room}
 use Rattle.pg_conn.proofs.StateLaws.{runs_on}
 use Rattle.pg_stream.specs.Streams.{StreamSeen}

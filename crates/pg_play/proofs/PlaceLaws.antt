@@ -51,7 +51,7 @@ use Rattle.pg_startup.proofs.FlowLaws.{Flows-then}
 use Rattle.pg_play.proofs.PartLaws.{after_more, fails_count, fails_none}
 use Rattle.pg_play.proofs.StepLaws.{Summary, QueuedOwn, leaves_summary, fine_summary, no_close}
 use Rattle.pg_wire.proofs.Each.{each_join}
-use Rattle.pg_conn.proofs.TurnLaws.{spelled-append, counts-append, no_groups}
+use Rattle.pg_conn.proofs.OwedLaws.{spelled-append, counts-append, no_groups}
 
 -- ---- the summary of an end
 

@@ -21,7 +21,7 @@ use Rattle.pg_call.specs.Requests.{Group, said_in, spelled, kind_of, change_of, 
 use Rattle.pg_conn.specs.Connections.{ConnSeen, opens, depth_behind, settled, cleaned, ended, may_open, has_room_for, with_group, queued_group, restated, rollback, counted_anew, rolled, rolled_back, left, with_depth}
 use Rattle.pg_conn.specs.Holding.{release}
 use Rattle.pg_conn.specs.Turns.{HasAllRoom, ends_request}
-use Rattle.pg_conn.proofs.TurnLaws.{spelled-append, counts-append}
+use Rattle.pg_conn.proofs.OwedLaws.{spelled-append, counts-append}
 use Rattle.pg_conn.proofs.CleanupLaws.{fits_room, has_room, group_moves, rollback_short, opening, all_settled, all_cleaned, all_rolled}
 use Rattle.pg_report.specs.declared.outcome.End.{End}
 use Rattle.pg_report.specs.declared.outcome.End.TheVariants as ends

@@ -43,7 +43,7 @@ use Rattle.pg_play.specs.Told.{Carry, HasNoError, IsWell, WellAtOk, AnswersError
 use Rattle.pg_play.specs.Plays.{StandsAt}
 use Rattle.pg_play.proofs.PartLaws.{nth_part, no_error}
 use Rattle.pg_play.proofs.StepLaws.{Summary, QueuedOwn, own_part, own_is_part, fine_summary}
-use Rattle.pg_conn.proofs.TurnLaws.{counts-append, no_groups}
+use Rattle.pg_conn.proofs.OwedLaws.{counts-append, no_groups}
 use Rattle.pg_play.proofs.PlaceLaws.{ShowsItems, next_place, ended_next, said_is_queued, requests_failed, requests_own}
 use Rattle.pg_play.proofs.ShownLaws.{items_told, waits_none, shown_front, all_told, answer_told, has_row}
 

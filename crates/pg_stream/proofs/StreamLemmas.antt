@@ -17,7 +17,7 @@ use Rattle.pg_stream.specs.declared.link.LinkRead.{LinkRead}
 use Rattle.pg_stream.specs.declared.link.LinkRead.TheVariants as reads
 use Rattle.pg_stream.specs.declared.link.LinkWrite.TheVariants as writes
 use Rattle.pg_stream.specs.Links.{asked_with, LinkSeen, NoneFalls, Rose, GrewBy, Rises, Counts, read_rises, write_rises, Reads, Writes}
-use Rattle.pg_stream.specs.Streams.{AskedFor, NoneWaited, StreamSeen, Sends, Takes, TakenFrom, Passes, AreFrames, Tallies, Moves, AllMoved, OneMoved, WriteWaited, ReadWaited, SendsOnce, ReadsOnce, HasNone, PollsFront, PollsFrame, PollsHeard, PollsAhead, IsHeardFront, framed, AheadOnce, HeardCause, IsMalformedFront, PassesAside, TakesFront, TakesHeard, StreamOf, stream_by, AreAsynchronous, PendingCause, ErrorCause, IsFrontOf, IsFront}
+use Rattle.pg_stream.specs.Streams.{CallsLink, CallsNone, CallsInOrder, SendsFirst, AskedFor, NoneWaited, StreamSeen, Sends, Takes, TakenFrom, Passes, AreFrames, Tallies, Moves, AllMoved, OneMoved, WriteWaited, ReadWaited, SendsOnce, ReadsOnce, HasNone, PollsFront, PollsFrame, PollsHeard, PollsAhead, IsHeardFront, framed, AheadOnce, HeardCause, IsMalformedFront, PassesAside, TakesFront, TakesHeard, StreamOf, stream_by, AreAsynchronous, PendingCause, ErrorCause, IsFrontOf, IsFront}
 use Rattle.pg_stream.specs.Parameters.{ParametersSeen, SetsBy, SetsByAll}
 use Rattle.pg_stream.specs.Asynchronous.{IsAside, TakesAside}
 use Rattle.pg_wire.specs.declared.message.notification_response.Notification.{Notification}
@@ -106,6 +106,31 @@ room_then a b c x y t p q =
     let both : length (text_of (x ++ y)) ≡ length (text_of x) + length (text_of y) = ap length (text_of-append x y) ∙ length-append (text_of x) (text_of y) in
     omega (arith, p, q, came, both)
 
+-- ---- the order of the link's calls
+
+CallsNone-then : (a b c : StreamSeen) → CallsNone a b → CallsNone b c → CallsNone a c
+CallsNone-then a b c p q = (q.0 ∙ p.0, p.1 ++ q.1, q.2 ∙ ap (λ (z : List ℕ). z ++ q.1) p.2 ∙ append_assoc a.unsent p.1 q.1)
+
+CallsNone-none : (a b : StreamSeen) → b.link ≡ a.link → b.unsent ≡ a.unsent → CallsNone a b
+CallsNone-none a b link unsent = (link, [], unsent ∙ sym (append-nil a.unsent))
+
+CallsInOrder-behind : (later : List StreamSeen) (a b c : StreamSeen) → CallsNone a b → CallsInOrder later b c → CallsInOrder later a c
+CallsInOrder-behind [] a b c p q = CallsNone-then a b c p q
+CallsInOrder-behind (d ∷ later) a b c p q = (q.0, CallsNone-then a b q.0 p q.1, q.2, q.3)
+
+CallsInOrder-append : (xs ys : List StreamSeen) (a b c : StreamSeen) → CallsInOrder xs a b → CallsInOrder ys b c → CallsInOrder (xs ++ ys) a c
+CallsInOrder-append [] ys a b c p q = CallsInOrder-behind ys a b c p q
+CallsInOrder-append (d ∷ xs) ys a b c p q = (p.0, p.1, p.2, CallsInOrder-append xs ys d b c p.3 q)
+
+SendsFirst-then : (a b c : StreamSeen) → SendsFirst a b → SendsFirst b c → SendsFirst a c
+SendsFirst-then a b c p q = (p.0 ++ q.0, CallsInOrder-append p.0 q.0 a b c p.1 q.1)
+
+SendsFirst-none : (a b : StreamSeen) → b.link ≡ a.link → b.unsent ≡ a.unsent → SendsFirst a b
+SendsFirst-none a b link unsent = ([], CallsNone-none a b link unsent)
+
+SendsFirst-once : (a b : StreamSeen) → CallsLink a b → SendsFirst a b
+SendsFirst-once a b call = (b ∷ [], (a, CallsNone-none a a refl refl, call, CallsNone-none b b refl refl))
+
 -- one call after another
 pub Moves-then : (a b c : StreamSeen) (s t : List ℕ) (x y : List Frame) → Moves a b s x → Moves b c t y → Moves a c (s ++ t) (x ++ y)
 Moves-then a b c s t x y p q = record {
@@ -114,6 +139,7 @@ Moves-then a b c s t x y p q = record {
   asked = AskedFor-then a.link b.link c.link p.asked q.asked;
   sent = Sends-then a b c s t p.sent q.sent;
   read = Takes-then a b c x y p.read q.read;
+  order = SendsFirst-then a b c p.order q.order;
   tallies = Tallies-then a b c p.tallies q.tallies;
   left = omega (arith, p.left, q.left);
   calls = GrewBy-then _ _ _ _ _ _ p.calls q.calls (omega (arith, p.left, q.left));
@@ -132,6 +158,7 @@ Moves-none a = record {
   asked = inl refl;
   sent = ([], Appends-refl a.link.taken, append-nil a.unsent);
   read = ([], Appends-refl a.link.given, append-nil a.held, tt, GrewBy-none a.taken);
+  order = SendsFirst-none a a refl refl;
   tallies = Tallies-none a a refl refl refl;
   left = omega arith;
   calls = GrewBy-spent a.left a.link.calls;
@@ -205,13 +232,15 @@ one_less left x y some grew = subst (λ (n : ℕ). GrewBy n x y) (omega (arith, 
 -- a call that took and gave these bytes, and was counted in the link and in the stream
 called : (a : StreamSeen) (link : LinkSeen) (r : Rises) (unsent held took gave : List ℕ) (room w m : ℕ) → Counts a.link link r → link.secured ≡ a.link.secured → AskedFor a.link link → room ≤ max a.room (room_for (length a.held))
     → Appends a.link.taken link.taken took → a.unsent ≡ took ++ unsent → Appends a.link.given link.given gave → held ≡ a.held ++ gave → length gave ≤ 8192 → 0 < a.left
-    → GrewBy (r.write_waits + r.read_waits) a.waits w → GrewBy r.moved a.moves m → Moves a (record a { link = link; unsent = unsent; held = held; room = room; left = a.left - 1; waits = w; moves = m }) [] []
-called a link r unsent held took gave room w m counts secured asked grows taken sent given holds fits some waits moves = record {
+    → GrewBy (r.write_waits + r.read_waits) a.waits w → GrewBy r.moved a.moves m → CallsLink a (record a { link = link; unsent = unsent; held = held; room = room; left = a.left - 1; waits = w; moves = m })
+    → Moves a (record a { link = link; unsent = unsent; held = held; room = room; left = a.left - 1; waits = w; moves = m }) [] []
+called a link r unsent held took gave room w m counts secured asked grows taken sent given holds fits some waits moves call = record {
   counts = NoneFalls-from_counts _ _ _ counts;
   secured = secured;
   asked = asked;
   sent = (took, taken, append-nil a.unsent ∙ sent);
   read = (gave, given, sym holds, tt, GrewBy-none a.taken);
+  order = SendsFirst-once a _ call;
   tallies = record { write_waits = r.write_waits; read_waits = r.read_waits; moved = r.moved; waits = waits; moves = moves; writes = counts.write_waits; reads = counts.read_waits; moving = counts.moved };
   left = omega arith;
   calls = one_less _ _ _ some counts.calls;
@@ -225,7 +254,7 @@ called a link r unsent held took gave room w m counts secured asked grows taken 
 pub sends_moved : (a : StreamSeen) (link : LinkSeen) (n m : ℕ) → Writes a.link link (writes.Moved n) a.unsent → 0 < a.left → GrewBy 1 a.moves m
     → SendsOnce a (record a { link = link; unsent = drop n a.unsent; left = a.left - 1; moves = m }) (writes.Moved n)
 sends_moved a link n m w some grew = record {
-  moves = called a link (write_rises (writes.Moved n)) (drop n a.unsent) a.held (take n a.unsent) [] a.room a.waits m w.counts w.secured (inl w.asked) (omega arith) w.takes.2 (sym (take-append-drop n a.unsent)) (Appends-from_keeps _ _ w.given) (sym (append-nil a.held)) (omega arith) some (GrewBy-none a.waits) grew;
+  moves = called a link (write_rises (writes.Moved n)) (drop n a.unsent) a.held (take n a.unsent) [] a.room a.waits m w.counts w.secured (inl w.asked) (omega arith) w.takes.2 (sym (take-append-drop n a.unsent)) (Appends-from_keeps _ _ w.given) (sym (append-nil a.held)) (omega arith) some (GrewBy-none a.waits) grew (inl (writes.Moved n, w, refl));
   held = refl;
   spare = refl;
   left = omega arith;
@@ -235,7 +264,7 @@ sends_moved a link n m w some grew = record {
 pub sends_waited : (a : StreamSeen) (link : LinkSeen) (m : ℕ) → Writes a.link link writes.NotYet a.unsent → 0 < a.left → GrewBy 1 a.waits m
     → SendsOnce a (record a { link = link; left = a.left - 1; waits = m }) writes.NotYet
 sends_waited a link m w some grew = record {
-  moves = called a link (write_rises writes.NotYet) a.unsent a.held [] [] a.room m a.moves w.counts w.secured (inl w.asked) (omega arith) (Appends-from_keeps _ _ w.takes) refl (Appends-from_keeps _ _ w.given) (sym (append-nil a.held)) (omega arith) some grew (GrewBy-none a.moves);
+  moves = called a link (write_rises writes.NotYet) a.unsent a.held [] [] a.room m a.moves w.counts w.secured (inl w.asked) (omega arith) (Appends-from_keeps _ _ w.takes) refl (Appends-from_keeps _ _ w.given) (sym (append-nil a.held)) (omega arith) some grew (GrewBy-none a.moves) (inl (writes.NotYet, w, refl));
   held = refl;
   spare = refl;
   left = omega arith;
@@ -244,7 +273,7 @@ sends_waited a link m w some grew = record {
 
 pub sends_failed : (a : StreamSeen) (link : LinkSeen) → Writes a.link link writes.Failed a.unsent → 0 < a.left → SendsOnce a (record a { link = link; left = a.left - 1 }) writes.Failed
 sends_failed a link w some = record {
-  moves = called a link (write_rises writes.Failed) a.unsent a.held [] [] a.room a.waits a.moves w.counts w.secured (inl w.asked) (omega arith) (Appends-from_keeps _ _ w.takes) refl (Appends-from_keeps _ _ w.given) (sym (append-nil a.held)) (omega arith) some (GrewBy-none a.waits) (GrewBy-none a.moves);
+  moves = called a link (write_rises writes.Failed) a.unsent a.held [] [] a.room a.waits a.moves w.counts w.secured (inl w.asked) (omega arith) (Appends-from_keeps _ _ w.takes) refl (Appends-from_keeps _ _ w.given) (sym (append-nil a.held)) (omega arith) some (GrewBy-none a.waits) (GrewBy-none a.moves) (inl (writes.Failed, w, refl));
   held = refl;
   spare = refl;
   left = omega arith;
@@ -255,20 +284,20 @@ sends_failed a link w some = record {
 asked_by : (a b : LinkSeen) (into : List ℕ) → b.asked ≡ asked_with a.asked (length into) → length into ≡ 8192 → AskedFor a b
 asked_by a b into e size = inr (e ∙ ap (asked_with a.asked) size)
 
-pub reads_moved : (a : StreamSeen) (link : LinkSeen) (into : List ℕ) (room n m : ℕ) → Reads a.link link (reads.Moved n) into → length into ≡ 8192 → room ≤ max a.room (room_for (length a.held)) → 0 < a.left → GrewBy 1 a.moves m
+pub reads_moved : (a : StreamSeen) (link : LinkSeen) (into : List ℕ) (room n m : ℕ) → a.unsent ≡ [] → Reads a.link link (reads.Moved n) into → length into ≡ 8192 → room ≤ max a.room (room_for (length a.held)) → 0 < a.left → GrewBy 1 a.moves m
     → ReadsOnce a (record a { link = link; held = a.held ++ take n into; room = room; left = a.left - 1; moves = m }) (reads.Moved n)
-reads_moved a link into room n m r size grows some grew = record {
-  moves = called a link (read_rises (reads.Moved n)) a.unsent (a.held ++ take n into) [] (take n into) room a.waits m r.counts r.secured (asked_by a.link link into r.asked size) grows (Appends-from_keeps _ _ r.taken) refl r.gives.2 refl (omega (arith, size, length-take n into)) some (GrewBy-none a.waits) grew;
+reads_moved a link into room n m sent r size grows some grew = record {
+  moves = called a link (read_rises (reads.Moved n)) a.unsent (a.held ++ take n into) [] (take n into) room a.waits m r.counts r.secured (asked_by a.link link into r.asked size) grows (Appends-from_keeps _ _ r.taken) refl r.gives.2 refl (omega (arith, size, length-take n into)) some (GrewBy-none a.waits) grew (inr (reads.Moved n, into, r, sent, sent));
   unsent = refl;
   spare = refl;
   left = omega arith;
   cause = (r.counts.moved, grew, (refl, r.gives.3, NoWaits-from_counts _ _ _ r.counts refl refl));
 }
 
-pub reads_waited : (a : StreamSeen) (link : LinkSeen) (into : List ℕ) (room m : ℕ) → Reads a.link link reads.NotYet into → length into ≡ 8192 → room ≤ max a.room (room_for (length a.held)) → 0 < a.left → GrewBy 1 a.waits m
+pub reads_waited : (a : StreamSeen) (link : LinkSeen) (into : List ℕ) (room m : ℕ) → a.unsent ≡ [] → Reads a.link link reads.NotYet into → length into ≡ 8192 → room ≤ max a.room (room_for (length a.held)) → 0 < a.left → GrewBy 1 a.waits m
     → ReadsOnce a (record a { link = link; room = room; left = a.left - 1; waits = m }) reads.NotYet
-reads_waited a link into room m r size grows some grew = record {
-  moves = called a link (read_rises reads.NotYet) a.unsent a.held [] [] room m a.moves r.counts r.secured (asked_by a.link link into r.asked size) grows (Appends-from_keeps _ _ r.taken) refl (Appends-from_keeps _ _ r.gives.0) (sym (append-nil a.held)) (omega arith) some grew (GrewBy-none a.moves);
+reads_waited a link into room m sent r size grows some grew = record {
+  moves = called a link (read_rises reads.NotYet) a.unsent a.held [] [] room m a.moves r.counts r.secured (asked_by a.link link into r.asked size) grows (Appends-from_keeps _ _ r.taken) refl (Appends-from_keeps _ _ r.gives.0) (sym (append-nil a.held)) (omega arith) some grew (GrewBy-none a.moves) (inr (reads.NotYet, into, r, sent, sent));
   unsent = refl;
   spare = refl;
   left = omega arith;
@@ -276,26 +305,26 @@ reads_waited a link into room m r size grows some grew = record {
 }
 
 -- a read that gave nothing and waited for nothing
-read_over : (a : StreamSeen) (link : LinkSeen) (answer : LinkRead) (into : List ℕ) (room : ℕ) → Reads a.link link answer into → length into ≡ 8192 → room ≤ max a.room (room_for (length a.held)) → Keeps a.link.given link.given → (read_rises answer).moved ≡ 0
+read_over : (a : StreamSeen) (link : LinkSeen) (answer : LinkRead) (into : List ℕ) (room : ℕ) → a.unsent ≡ [] → Reads a.link link answer into → length into ≡ 8192 → room ≤ max a.room (room_for (length a.held)) → Keeps a.link.given link.given → (read_rises answer).moved ≡ 0
     → (read_rises answer).write_waits + (read_rises answer).read_waits ≡ 0 → 0 < a.left → Moves a (record a { link = link; room = room; left = a.left - 1 }) [] []
-read_over a link answer into room r size grows kept still calm some =
+read_over a link answer into room sent r size grows kept still calm some =
     called a link (read_rises answer) a.unsent a.held [] [] room a.waits a.moves r.counts r.secured (asked_by a.link link into r.asked size) grows (Appends-from_keeps _ _ r.taken) refl (Appends-from_keeps _ _ kept) (sym (append-nil a.held)) (omega arith) some
-    (subst (λ (k : ℕ). GrewBy k a.waits a.waits) (sym calm) (GrewBy-none a.waits)) (subst (λ (k : ℕ). GrewBy k a.moves a.moves) (sym still) (GrewBy-none a.moves))
+    (subst (λ (k : ℕ). GrewBy k a.waits a.waits) (sym calm) (GrewBy-none a.waits)) (subst (λ (k : ℕ). GrewBy k a.moves a.moves) (sym still) (GrewBy-none a.moves)) (inr (answer, into, r, sent, sent))
 
-pub reads_ended : (a : StreamSeen) (link : LinkSeen) (into : List ℕ) (room : ℕ) → Reads a.link link reads.End into → length into ≡ 8192 → room ≤ max a.room (room_for (length a.held)) → 0 < a.left
+pub reads_ended : (a : StreamSeen) (link : LinkSeen) (into : List ℕ) (room : ℕ) → a.unsent ≡ [] → Reads a.link link reads.End into → length into ≡ 8192 → room ≤ max a.room (room_for (length a.held)) → 0 < a.left
     → ReadsOnce a (record a { link = link; room = room; left = a.left - 1 }) reads.End
-reads_ended a link into room r size grows some = record {
-  moves = read_over a link reads.End into room r size grows r.gives.0 refl (omega arith) some;
+reads_ended a link into room sent r size grows some = record {
+  moves = read_over a link reads.End into room sent r size grows r.gives.0 refl (omega arith) some;
   unsent = refl;
   spare = refl;
   left = omega arith;
   cause = (r.counts.ends.2, refl, (refl, r.gives.1, NoWaits-from_counts _ _ _ r.counts refl refl));
 }
 
-pub reads_failed : (a : StreamSeen) (link : LinkSeen) (into : List ℕ) (room : ℕ) → Reads a.link link reads.Failed into → length into ≡ 8192 → room ≤ max a.room (room_for (length a.held)) → 0 < a.left
+pub reads_failed : (a : StreamSeen) (link : LinkSeen) (into : List ℕ) (room : ℕ) → a.unsent ≡ [] → Reads a.link link reads.Failed into → length into ≡ 8192 → room ≤ max a.room (room_for (length a.held)) → 0 < a.left
     → ReadsOnce a (record a { link = link; room = room; left = a.left - 1 }) reads.Failed
-reads_failed a link into room r size grows some = record {
-  moves = read_over a link reads.Failed into room r size grows r.gives.0 refl (omega arith) some;
+reads_failed a link into room sent r size grows some = record {
+  moves = read_over a link reads.Failed into room sent r size grows r.gives.0 refl (omega arith) some;
   unsent = refl;
   spare = refl;
   left = omega arith;
@@ -441,6 +470,7 @@ takes_front a b front frame rest f t =
       asked = inl refl;
       sent = ([], Appends-refl a.link.taken, append-nil a.unsent);
       read = ([], Appends-refl a.link.given, parts, (f.whole, tt), subst (λ (n : ℕ). GrewBy n a.taken b.taken) long t.1);
+      order = SendsFirst-none a c refl refl;
       tallies = Tallies-none a c refl refl refl;
       left = omega arith;
       calls = GrewBy-spent a.left a.link.calls;
@@ -599,6 +629,7 @@ queues_by {A} seen a b bytes spare room e =
       asked = inl refl;
       sent = ([], Appends-refl s.link.taken, refl);
       read = ([], Appends-refl s.link.given, append-nil s.held, tt, GrewBy-none s.taken);
+      order = ([], (refl, bytes, refl));
       tallies = Tallies-none s t refl refl refl;
       left = omega arith;
       calls = GrewBy-spent s.left s.link.calls;

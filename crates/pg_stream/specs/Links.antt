@@ -29,6 +29,8 @@ pub record LinkSeen : Type 0 where
   pub taken : Option (List ℕ)
   -- for each read that answered NotYet, how many bytes had been given before it
   pub wait_places : Option (List ℕ)
+  -- for each read, how many bytes had been taken before it
+  pub read_places : Option (List ℕ)
   -- how many bytes reads asked for
   pub asked : Asked
   -- reads, writes and upgrades, whatever they answered
@@ -124,10 +126,10 @@ pub record Counts (a b : LinkSeen) (rises : Rises) : Type 0 where
 abbrev pub NoWaits : LinkSeen → LinkSeen → Type 0
 NoWaits a b = (b.write_waits ≡ a.write_waits) × (b.read_waits ≡ a.read_waits)
 
--- one more place of a wait, which is the number of bytes given by now
+-- one more place, which is the number of these bytes by now
 abbrev pub AddsPlace : Option (List ℕ) → Option (List ℕ) → Option (List ℕ) → Type 0
 AddsPlace None old new = Unit {0}
-AddsPlace (Some given) old new = Appends old new (length given ∷ [])
+AddsPlace (Some bytes) old new = Appends old new (length bytes ∷ [])
 
 -- what a read's answer says of the bytes given
 abbrev pub ReadGives : LinkSeen → LinkSeen → LinkRead → List ℕ → Type 0
@@ -141,6 +143,7 @@ pub record Reads (a b : LinkSeen) (answer : LinkRead) (into : List ℕ) : Type 0
   pub secured : b.secured ≡ a.secured
   pub asked : b.asked ≡ asked_with a.asked (length into)
   pub taken : Keeps a.taken b.taken
+  pub place : AddsPlace b.taken a.read_places b.read_places
   pub gives : ReadGives a b answer into
 
 -- what a write's answer says of the bytes taken
@@ -155,6 +158,7 @@ pub record Writes (a b : LinkSeen) (answer : LinkWrite) (from : List ℕ) : Type
   pub asked : b.asked ≡ a.asked
   pub given : Keeps a.given b.given
   pub places : Keeps a.wait_places b.wait_places
+  pub order : Keeps a.read_places b.read_places
   pub takes : WriteTakes a b answer from
 
 -- a handshake that is made had to verify what was wished
@@ -170,3 +174,4 @@ pub record Upgrades (a b : LinkSeen) (wish : TlsWish) (answer : LinkUpgrade) : T
   pub given : Keeps a.given b.given
   pub taken : Keeps a.taken b.taken
   pub places : Keeps a.wait_places b.wait_places
+  pub order : Keeps a.read_places b.read_places

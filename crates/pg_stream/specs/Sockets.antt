@@ -16,6 +16,7 @@ uncalled near = record {
   given = None;
   taken = None;
   wait_places = None;
+  read_places = None;
   asked = asked_none;
   calls = 0;
   moved = 0;

@@ -1,5 +1,5 @@
 -- What is seen of a stream, and how its calls move it on.
-use Rattle.std.specs.Prelude.{◌≡◌, ℕ, ◌+◌, ◌-◌, ◌*◌, ◌≤◌, max, length, ◌⊎◌, List, [], ◌∷◌, ◌++◌, Bool, true, false, Option, Some, None, Result, Ok, Err}
+use Rattle.std.specs.Prelude.{◌≡◌, ℕ, ◌+◌, ◌-◌, ◌*◌, ◌≤◌, max, drop, length, ◌⊎◌, List, [], ◌∷◌, ◌++◌, Bool, true, false, Option, Some, None, Result, Ok, Err}
 use Rattle.std.specs.List.{AllByRecursion}
 use Rattle.std.specs.Io.KnownBytes.{Keeps, Appends}
 use Rattle.futures.specs.declared.task.Poll.{Poll}
@@ -19,7 +19,7 @@ use Rattle.pg_stream.specs.declared.link.LinkRead.TheVariants as reads
 use Rattle.pg_stream.specs.declared.link.LinkWrite.{LinkWrite}
 use Rattle.pg_stream.specs.declared.link.LinkWrite.TheVariants as writes
 use Rattle.pg_wire.specs.Backend.{BackendMessage}
-use Rattle.pg_stream.specs.Links.{LinkSeen, NoneFalls, Rose, GrewBy, NoWaits, AddsPlace, asked_with}
+use Rattle.pg_stream.specs.Links.{LinkSeen, NoneFalls, Rose, GrewBy, NoWaits, AddsPlace, asked_with, Reads, Writes}
 use Rattle.pg_stream.specs.Received.{room_for}
 use Rattle.pg_stream.specs.Parameters.{ParametersSeen, no_parameters, Carries, SetsBy, SetsByAll}
 use Rattle.pg_stream.specs.Notifications.{KeptSeen, none_kept, KeepsBy, KeepsByAll}
@@ -88,6 +88,31 @@ pub record Tallies (a b : StreamSeen) : Type 0 where
 abbrev pub AskedFor : LinkSeen → LinkSeen → Type 0
 AskedFor a b = (b.asked ≡ a.asked) ⊎ (b.asked ≡ asked_with a.asked 8192)
 
+-- ---- the calls of the link, in their order
+
+-- what a write leaves
+abbrev pub left_by_write : LinkWrite → List ℕ → List ℕ
+left_by_write (writes.Moved n) unsent = drop n unsent
+left_by_write _ unsent = unsent
+
+-- one call of the link: a write of what is unsent, or a read where nothing is
+abbrev pub CallsLink : StreamSeen → StreamSeen → Type 0
+CallsLink a b = ((answer : LinkWrite) × Writes a.link b.link answer a.unsent × (b.unsent ≡ left_by_write answer a.unsent))
+    ⊎ ((answer : LinkRead) × (into : List ℕ) × Reads a.link b.link answer into × (a.unsent ≡ []) × (b.unsent ≡ []))
+
+-- the link isn't called, and bytes may be queued
+abbrev pub CallsNone : StreamSeen → StreamSeen → Type 0
+CallsNone a b = (b.link ≡ a.link) × (queued : List ℕ) × (b.unsent ≡ a.unsent ++ queued)
+
+-- these are the states behind each call of the link, one after another
+abbrev pub CallsInOrder : List StreamSeen → StreamSeen → StreamSeen → Type 0
+CallsInOrder [] a b = CallsNone a b
+CallsInOrder (c ∷ later) a b = (ready : StreamSeen) × CallsNone a ready × CallsLink ready c × CallsInOrder later c b
+
+-- a read is made only where all that was queued before it is sent
+abbrev pub SendsFirst : StreamSeen → StreamSeen → Type 0
+SendsFirst a b = (behind : List StreamSeen) × CallsInOrder behind a b
+
 -- Calls within one poll that queued these bytes and took these frames.
 pub record Moves (a b : StreamSeen) (queued : List ℕ) (frames : List Frame) : Type 0 where
   pub counts : NoneFalls a.link b.link
@@ -95,6 +120,8 @@ pub record Moves (a b : StreamSeen) (queued : List ℕ) (frames : List Frame) : 
   pub asked : AskedFor a.link b.link
   pub sent : Sends a b queued
   pub read : Takes a b frames
+  -- it sends before it reads
+  pub order : SendsFirst a b
   pub tallies : Tallies a b
   pub left : b.left ≤ a.left
   -- what is left falls by one with each call of the link

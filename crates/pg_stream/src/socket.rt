@@ -31,7 +31,7 @@ impl Model for SocketCounts {
 
     ghost Value = { LinkSeen };
 
-    ghost view = { λ c. record { plan = socket_plan c.can_upgrade c.is_local; secured = None; given = None; taken = None; wait_places = None; asked = c.asked; calls = c.calls; moved = c.moved; read_waits = c.read_waits; write_waits = c.write_waits; ends = c.ends; faults = c.faults; upgrade_faults = c.upgrade_faults } };
+    ghost view = { λ c. record { plan = socket_plan c.can_upgrade c.is_local; secured = None; given = None; taken = None; wait_places = None; read_places = None; asked = c.asked; calls = c.calls; moved = c.moved; read_waits = c.read_waits; write_waits = c.write_waits; ends = c.ends; faults = c.faults; upgrade_faults = c.upgrade_faults } };
 }
 
 impl SocketCounts {

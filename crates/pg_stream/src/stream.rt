@@ -387,9 +387,10 @@ impl<L: Link> PgStream<L> {
         }
     }
 
-    // One read behind what is held.
+    // One read behind what is held, once all is sent.
     fn read_once(&mut self) -> Result<LinkRead, AllocError>
-        requires { 0 < self.old.left }
+        requires sent { self.old.unsent ≡ [] }
+        requires left { 0 < self.old.left }
         ensures ok { IfOk result (λ answer. ReadsOnce (stream_by L.seen self.old) (stream_by L.seen self.new) answer) }
         ensures err { OnErr result (self.new ≡ self.old) }
     {
