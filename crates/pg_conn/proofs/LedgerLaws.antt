@@ -1,18 +1,13 @@
 -- What is owed between any two polls follows from where the call stands before and behind each.
 use Rattle.pg_learning.specs.declared.learnt.Learnt.{Learnt}
-use Rattle.std.proofs.Common.{◌≡◌, ◌⊎◌, inl, inr, ℕ, ◌+◌, Bool, true, false, not, ◌&&◌, ◌==◌, cond, List, [], ◌∷◌, ◌++◌, append-nil, map, length, codes, refl, sym, ap, ◌∙◌, subst, arith, Result, Ok, Err, Option, Some, None, ◌-◌, nat_eq, leb}
+use Rattle.std.proofs.Common.{◌≡◌, ℕ, Bool, true, false, not, ◌&&◌, cond, List, [], ◌∷◌, ◌++◌, length, refl, sym, ap, ◌∙◌, subst, arith, Ok, Err, Option, Some, None, ◌-◌, nat_eq, leb}
 use Rattle.pg_conn.proofs.CleanupLaws.{group_moves, fits_room}
 use Rattle.std.specs.List.{count_by}
-use Rattle.pg_exchanges.specs.Answering.{closing as closing_group}
 use Rattle.pg_conn.specs.Statements.{moved, unmoved, step_of}
-use Rattle.std.proofs.lemmas.List.Sums.{sum_by-append, sum_by-cons}
 use Rattle.futures.specs.declared.task.Poll.{Poll}
-use Rattle.pg_wire.specs.declared.error.Error.{Error}
-use Rattle.pg_wire.specs.declared.error.Error.TheVariants as errors
-use Rattle.pg_wire.specs.declared.error.ProtocolFault.TheVariants as protocol
 use Rattle.pg_wire.specs.declared.error.ServerFault.{ServerFault}
-use Rattle.pg_wire.specs.Frame.{Frame, is_known}
-use Rattle.pg_wire.specs.Parts.{heard, is_asynchronous, is_ready}
+use Rattle.pg_wire.specs.Frame.{Frame}
+use Rattle.pg_wire.specs.Parts.{is_ready}
 use Rattle.pg_wire.specs.Frontend.{FrontendMessage, Query}
 use Rattle.pg_request.specs.Texts.{rollback_text}
 use Rattle.pg_stream.specs.Streams.{Sends, Takes, StreamSeen}
@@ -20,24 +15,16 @@ use Rattle.pg_stream.proofs.StreamLemmas.{Moves-none, Sends-then, Takes-then, cl
 use Rattle.pg_stream.specs.Links.{LinkSeen}
 use Rattle.std.proofs.lemmas.Bool.{leb-true}
 use Rattle.pg_call.specs.declared.kind.Kind.{Kind}
-use Rattle.pg_call.specs.declared.kind.Kind.TheVariants as kinds
 use Rattle.pg_call.specs.declared.request.Request.{Request}
-use Rattle.pg_call.specs.declared.request.Request.TheVariants as requests
-use Rattle.pg_call.specs.declared.answer.CallItem.{CallItem}
-use Rattle.pg_call.specs.declared.answer.CallAnswer.{CallAnswer}
 use Rattle.pg_call.specs.declared.answer.Turn.{Turn}
-use Rattle.pg_call.specs.declared.ledger.Ledger.{Ledger}
 use Rattle.pg_call.specs.declared.calling.Call.{Call}
 use Rattle.pg_call.specs.declared.calling.Call.TheVariants as calls
 use Rattle.pg_call.specs.declared.calling.Beat.{Beat}
 use Rattle.pg_call.specs.declared.calling.Beat.TheVariants as beats
-use Rattle.pg_call.specs.Requests.{Group, said_in, feeding, kind_of, name_of, groups_of, messages_of, farewell, CanBeSaid, copy_fail, spelled, running_bound}
-use Rattle.pg_call.specs.Drains.{before_readys, is_copy_in, failed_behind, fails_for, drain_fails}
-use Rattle.pg_call.specs.Hearing.{fails_of}
-use Rattle.pg_call.specs.Calls.{CallIs, IsDraining, Leaves, IsFine, CallEnds}
-use Rattle.pg_conn.proofs.StateLaws.{hands_keep, last_calls, resolved_calls, handed_calls, looked_calls}
+use Rattle.pg_call.specs.Requests.{copy_fail, spelled}
+use Rattle.pg_conn.proofs.StateLaws.{hands_keep, resolved_calls, handed_calls, looked_calls}
 use Rattle.pg_conn.specs.Connections.{ConnSeen, with_depth, copies, ends_copy, owned, unfed, with_copy_fail, handed, idle, started_call, begun_with, left, cleaned, settled, ended, resolved, resolved_by, restated, rolled, rolled_back, counted_anew, queued_group, with_group, has_room_for, rollback, may_open, runs}
-use Rattle.pg_conn.specs.Turns.{ends_request, Tells, TakesBeat, Polled, PollsThrough, PollsBy, PollsWithin, hands_on, beat_of, behind, broken_by}
+use Rattle.pg_conn.specs.Turns.{ends_request, TakesBeat, Polled, PollsThrough, PollsBy, PollsWithin, hands_on, beat_of, behind, broken_by}
 use Rattle.pg_conn.specs.States.{IsCalling}
 use Rattle.pg_conn.specs.Ledgers.{Owes, OwesSome}
 use Rattle.pg_conn.proofs.OwedLaws.{call_counts, counts-append, readies-append, readies_heard, spelled-append, told_counts}

@@ -1,5 +1,5 @@
 -- What is owed follows from where a call stands, and groups are queued in turn.
-use Rattle.std.proofs.Common.{◌≡◌, ◌⊎◌, inl, inr, ℕ, ◌+◌, Bool, true, false, not, ◌&&◌, ◌==◌, cond, List, [], ◌∷◌, ◌++◌, append-nil, map, length, codes, refl, sym, ap, ◌∙◌, subst, arith, Result, Ok, Err, Option, Some, None, ◌-◌, ◌||◌, append_assoc}
+use Rattle.std.proofs.Common.{◌≡◌, ◌⊎◌, inl, inr, ℕ, ◌+◌, Bool, true, false, not, ◌&&◌, ◌==◌, cond, List, [], ◌∷◌, ◌++◌, append-nil, map, length, codes, refl, sym, ap, ◌∙◌, subst, arith, Result, Ok, Err, Option, Some, None, ◌||◌, append_assoc}
 use Rattle.std.specs.List.{count_by}
 use Rattle.pg_exchanges.specs.Answering.{closing as closing_group, running}
 use Rattle.std.proofs.lemmas.List.Sums.{sum_by-append, sum_by-cons}
@@ -28,10 +28,9 @@ use Rattle.pg_call.specs.Drains.{before_readys, is_copy_in, failed_behind, fails
 use Rattle.pg_call.specs.Hearing.{fails_of}
 use Rattle.pg_call.specs.Calls.{CallIs, IsDraining, Leaves, IsFine, CallEnds}
 use Rattle.pg_conn.specs.Connections.{ConnSeen, left, ended}
-use Rattle.pg_conn.specs.Turns.{ends_request, Tells, behind, AsksNone, AsksInTurn, InTurn}
+use Rattle.pg_conn.specs.Turns.{ends_request, Tells, AsksNone, AsksInTurn, InTurn}
 use Rattle.std.proofs.lemmas.List.{map-append}
 use Rattle.pg_call.specs.declared.feed.Feed.{Feed}
-use Rattle.pg_call.specs.declared.waiting.Waiting.{Waiting}
 
 -- the bytes of messages, one after another
 pub spelled-append : (xs ys : List FrontendMessage) → spelled (xs ++ ys) ≡ spelled xs ++ spelled ys
@@ -285,14 +284,16 @@ none_asked a b beat more fs hs start r said before items moves hears none i told
 pub one_asked : (a b : ConnSeen) (frames : List ℕ) → a.ledger.owed ≡ 0 → Moves a.stream b.stream frames [] → InTurn a b frames []
 one_asked a b frames none moves = (
   frames ∷ [],
-  b.stream,
-  [],
-  [],
-  [],
-  [],
-  b.ledger.owed,
-  record { ready = a.stream; before = record { said = []; bytes = refl; none = refl; moves = Moves-none a.stream; counts = sym none }; queues = moves },
-  record { said = []; bytes = refl; none = refl; moves = Moves-none b.stream; counts = omega arith },
-  sym (append-nil frames),
-  refl,
+  (
+    b.stream,
+    [],
+    [],
+    [],
+    [],
+    b.ledger.owed,
+    record { ready = a.stream; before = record { said = []; bytes = refl; none = refl; moves = Moves-none a.stream; counts = sym none }; queues = moves },
+    record { said = []; bytes = refl; none = refl; moves = Moves-none b.stream; counts = omega arith },
+    sym (append-nil frames),
+    refl,
+  ),
 )

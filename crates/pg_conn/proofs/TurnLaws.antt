@@ -1,5 +1,5 @@
 -- How the beats of a call follow one another.
-use Rattle.std.proofs.Common.{Some, take_at, take, drop, ap₂, ◌≡◌, ◌≢◌, ◌⊎◌, ℕ, Option, ◌+◌, ◌-◌, ◌<◌, ◌≤◌, cond, inl, inr, Bool, true, false, ◌&&◌, ◌||◌, ◌==◌, nat_eq, leb, not, List, [], ◌∷◌, ◌++◌, length, map, refl, sym, ap, ◌∙◌, subst, append_assoc, append-nil, length-append, arith, Ok, Err, None, Result, IfOk, IfErr, OnErr, ◌*◌}
+use Rattle.std.proofs.Common.{take_at, take, drop, ap₂, ◌≡◌, ◌≢◌, ◌⊎◌, ℕ, Option, ◌+◌, ◌-◌, ◌<◌, ◌≤◌, cond, inl, inr, Bool, true, false, ◌&&◌, ◌==◌, nat_eq, leb, not, List, [], ◌∷◌, ◌++◌, length, map, refl, sym, ap, ◌∙◌, subst, append_assoc, append-nil, length-append, arith, Ok, Err, None, Result, IfOk, IfErr, OnErr}
 use Rattle.pg_wire.proofs.Tests.{both_true}
 use Rattle.pg_call.specs.declared.kind.Change.{Change}
 use Rattle.pg_call.specs.declared.kind.Kind.{Kind}
@@ -14,15 +14,14 @@ use Rattle.pg_call.specs.declared.answer.Turn.TheVariants as turns
 use Rattle.pg_wire.specs.declared.error.ServerFault.{ServerFault}
 use Rattle.std.specs.List.{count_by}
 use Rattle.std.proofs.lemmas.Bool.{eqb-true}
-use Rattle.std.proofs.lemmas.List.{map-append, same_from_push}
-use Rattle.std.proofs.lemmas.List.Sums.{sum_by-append, sum_by-cons}
+use Rattle.std.proofs.lemmas.List.{same_from_push}
 use Rattle.futures.specs.declared.task.Poll.TheVariants.{Ready, Pending}
 use Rattle.pg_wire.specs.declared.error.Error.{Error}
 use Rattle.pg_wire.specs.declared.error.Error.TheVariants as errors
 use Rattle.pg_wire.specs.declared.error.IoCause.TheVariants as io
 use Rattle.pg_wire.specs.declared.error.ProtocolFault.TheVariants as protocol
-use Rattle.pg_wire.specs.Frame.{Frame, text_of}
-use Rattle.pg_wire.specs.Frontend.{FrontendMessage, frontend_frame, CopyData, Query}
+use Rattle.pg_wire.specs.Frame.{Frame}
+use Rattle.pg_wire.specs.Frontend.{FrontendMessage}
 use Rattle.pg_wire.specs.Parts.{heard, is_asynchronous, is_ready}
 use Rattle.pg_wire.specs.Backend.{Values, DataRow, backend_frame, HasBackendFrame}
 use Rattle.pg_resolve.proofs.SettlingLaws.{has_left, has_right}
@@ -39,8 +38,7 @@ use Rattle.pg_wire.proofs.PartLaws.{heard-append}
 use Rattle.pg_stream.specs.Links.{LinkSeen, NoneFalls, GrewBy}
 use Rattle.pg_stream.specs.declared.stream.Front.{Front}
 use Rattle.pg_stream.specs.Streams.{StreamOf, StreamSeen, stream_by, Moves, AllMoved, Passes, IsFrontOf, IsHeardFront, AreAsynchronous, PollsAhead, PollsSend, SendGives, PendingCause}
-use Rattle.pg_stream.proofs.StreamLemmas.{NoneWaited-none, NoneWaited-then, Moves-none, Moves-then, AllMoved-none, AllMoved-then, WriteWaited-after, PendingCause-after, text_of-append, queues_by, took_frame, GrewBy-then, HeardCause-after, front_frame, IsFront-from_heard}
-use Rattle.pg_call.specs.declared.feed.Feed.{Feed}
+use Rattle.pg_stream.proofs.StreamLemmas.{NoneWaited-none, NoneWaited-then, Moves-none, Moves-then, AllMoved-none, AllMoved-then, WriteWaited-after, PendingCause-after, queues_by, took_frame, GrewBy-then, HeardCause-after, front_frame, IsFront-from_heard}
 use Rattle.pg_call.specs.declared.request.Request.{Request}
 use Rattle.pg_call.specs.declared.request.Request.TheVariants as requests
 use Rattle.pg_call.specs.declared.answer.CallItem.{CallItem}
@@ -52,7 +50,7 @@ use Rattle.pg_call.specs.declared.calling.Beat.{Beat}
 use Rattle.pg_call.specs.declared.calling.Beat.TheVariants as beats
 use Rattle.pg_call.specs.declared.calling.Taken.{Taken}
 use Rattle.pg_call.specs.declared.running.Running.{Running}
-use Rattle.pg_call.specs.Requests.{Group, spelled, copy_fail, ended_by, feeding, kind_of, after_kind, goal_kind, main_kind, messages_of, name_of, parsing_by, rest_of, running_bound, is_flush, is_close, CanBeSaid, IsRefusal}
+use Rattle.pg_call.specs.Requests.{Group, spelled, copy_fail, feeding, kind_of, after_kind, goal_kind, main_kind, messages_of, name_of, rest_of, running_bound, is_flush, is_close, CanBeSaid, IsRefusal}
 use Rattle.pg_call.specs.Hearing.{framed, fails_of, fresh_reply, awaits, waits, waiting_for, is_look, looks_up, sent_answer, sent_rest, IsReplied}
 use Rattle.pg_call.specs.declared.statement.Rest.{Rest}
 use Rattle.pg_call.specs.declared.statement.Rest.TheVariants as rests
@@ -66,7 +64,7 @@ use Rattle.pg_rule.specs.declared.rule.Rule.{Rule}
 use Rattle.pg_conn.specs.Connections.{ConnOf, ConnSeen, Standing, handed, standing, seen_by, idle, with_spare, queued_call, awaiting, closing, copies, ends_copy, owned, frames_in, cleaned, unfed, with_copy_fail, resolved, resolved_by, restated, unasked, IsUnresolved, may_open, has_room_for, rollback, queued_group, with_group, ended}
 use Rattle.pg_conn.specs.Statements.{asked_by, moved, unmoved, step_of}
 use Rattle.pg_conn.proofs.StatementLaws.{asked_main}
-use Rattle.pg_exchanges.specs.Answering.{closing as closing_group, running}
+use Rattle.pg_exchanges.specs.Answering.{closing as closing_group}
 use Rattle.pg_conn.specs.Turns.{HearsBy, kept_for, HearsFront, running_of, ends_request, IsMissed, FailsBy, EndsBy, Tells, SendCause, BeatCause, Turns, TakesBeat, IsAsked, cleanup_of, IsSayable, GoesOn, Prepares, Refuses, Refused, Polled, beat_of, broken_by, only_sends, flushes, only_flushes, is_flushed, EndsFlush, IsAhead, wants_level, Readies, Accepts, queued_copy_fail, level_of, HasRoomBeside, behind, LearnsFrom, TakesIn}
 use Rattle.pg_startup.proofs.GreetLaws.{heard_none, heard_one}
 use Rattle.pg_conn.proofs.OwedLaws.{InTurn-then, closes_said, counts-append, feed_asks, is_Z, no_groups, none_asked, one_asked, run_asks, spelled-append}
