@@ -1,12 +1,10 @@
 -- A copy from the client that is fed stays open, until all of its data is sent.
-use Rattle.std.proofs.Common.{◌≡◌, ◌≤◌, ℕ, Bool, true, false, cond, nat_eq, List, [], ◌∷◌, ◌++◌, length, refl, sym, ap, ◌∙◌, subst, arith, Option, Some, None, Result, Ok, Err, append-nil}
+use Rattle.std.proofs.Common.{◌≡◌, ℕ, Bool, true, false, cond, nat_eq, List, [], ◌∷◌, ◌++◌, length, refl, sym, ◌∙◌, subst, arith, Option, Some, None, Result}
 use Rattle.futures.specs.declared.task.Poll.{Poll}
 use Rattle.pg_wire.specs.declared.error.Error.{Error}
 use Rattle.pg_wire.specs.declared.error.ServerFault.{ServerFault}
-use Rattle.pg_wire.specs.Frame.{Frame}
-use Rattle.pg_wire.specs.Frontend.{FrontendMessage, CopyData, CopyDone}
+use Rattle.pg_wire.specs.Frontend.{CopyData, CopyDone}
 use Rattle.pg_stream.specs.Links.{LinkSeen}
-use Rattle.pg_stream.specs.Streams.{StreamSeen}
 use Rattle.pg_call.specs.declared.kind.Kind.TheVariants as kinds
 use Rattle.pg_call.specs.declared.statement.Goal.{Goal}
 use Rattle.pg_call.specs.declared.statement.Goal.TheVariants as goals
@@ -21,7 +19,7 @@ use Rattle.pg_call.specs.Hearing.{IsOpen, fed_whole}
 use Rattle.pg_call.proofs.FitLaws.{main_alone}
 use Rattle.pg_call.proofs.FeedLaws.{feeds_one, feeds_all}
 use Rattle.pg_conn.specs.Connections.{ConnOf, ConnSeen, begun, copied, piece_of, seen_by, with_messages}
-use Rattle.pg_conn.specs.Turns.{HasRoom, cleanup_of, level_of}
+use Rattle.pg_conn.specs.Turns.{cleanup_of}
 use Rattle.pg_conn.specs.States.{IsCalling}
 use Rattle.pg_conn.specs.Feeding.{FeedsMore, IsFed, PollsFed, PollsFedBy}
 

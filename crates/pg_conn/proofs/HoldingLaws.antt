@@ -1,5 +1,5 @@
 -- What guards that hold locks make of the room for cleanups, and of the replies that are owed.
-use Rattle.std.proofs.Common.{◌≡◌, ℕ, ◌+◌, ◌-◌, ◌*◌, ◌≤◌, Bool, true, false, nat_eq, cond, List, [], ◌∷◌, ◌++◌, length, length-append, Option, Some, None, IfSome, refl, sym, ap, ◌∙◌, subst, arith}
+use Rattle.std.proofs.Common.{◌≡◌, ℕ, ◌+◌, ◌≤◌, Bool, true, false, nat_eq, cond, List, [], ◌∷◌, ◌++◌, length, length-append, Option, Some, None, IfSome, refl, ap, ◌∙◌, arith}
 use Rattle.pg_call.specs.declared.kind.Change.TheVariants as changes
 use Rattle.pg_call.specs.declared.request.Request.{Request}
 use Rattle.pg_call.specs.declared.calling.Call.{Call}
@@ -9,7 +9,7 @@ use Rattle.pg_rule.specs.declared.rule.Rule.{Rule}
 use Rattle.pg_conn.specs.Connections.{ConnOf, ConnSeen, counted_anew, ended, left, queued_group, started_next, with_spare}
 use Rattle.pg_conn.specs.Ledgers.{OwesSome}
 use Rattle.pg_conn.specs.Holding.{release, IsRelease, held_more, held_fewer, released, let_go, gave_up, took_held}
-use Rattle.pg_conn.specs.Turns.{HasAllRoom, HasRoomBeside, cleanup_of, kept_for, level_of}
+use Rattle.pg_conn.specs.Turns.{HasAllRoom, cleanup_of, kept_for, level_of}
 use Rattle.pg_conn.proofs.CleanupLaws.{all_left, all_of, change_queued, held_queued, level_none, room_queued, rule_queued, some}
 use Rattle.pg_conn.proofs.LedgerLaws.{OwesSome-then, owes_by, owes_group, owes_left, owes_same}
 

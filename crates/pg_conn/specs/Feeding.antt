@@ -1,5 +1,5 @@
 -- A copy from the client that is open, and is fed.
-use Rattle.std.specs.Prelude.{◌≡◌, Result, Ok, Err, Option, Some, None}
+use Rattle.std.specs.Prelude.{◌≡◌, Result, Err, Option, Some, None}
 use Rattle.futures.specs.declared.task.Poll.{Poll}
 use Rattle.futures.specs.declared.task.Poll.TheVariants.{Ready}
 use Rattle.pg_wire.specs.declared.error.Error.{Error}

@@ -1,5 +1,5 @@
 -- Advisory locks that guards hold on a connection (PostgreSQL manual, "Explicit Locking", "Advisory Locks"), and the room for the texts that release them.
-use Rattle.std.specs.Prelude.{◌≤◌, ℕ, ◌+◌, ◌-◌, nat_eq, List, [], ◌∷◌, length, Option, Some, None, IfSome, if◌then◌else◌}
+use Rattle.std.specs.Prelude.{◌≤◌, ℕ, ◌+◌, ◌-◌, nat_eq, List, [], ◌∷◌, length, Option, Some, None, if◌then◌else◌}
 use Rattle.pg_wire.specs.Bytes.{HasNoNul}
 use Rattle.pg_wire.specs.Frontend.{FrontendMessage, Query}
 use Rattle.pg_call.specs.Requests.{spelled}

@@ -4,7 +4,7 @@ use Rattle.std.specs.List.{AllByRecursion}
 use Rattle.pg_wire.specs.declared.error.Error.{Error}
 use Rattle.pg_wire.specs.declared.error.Error.TheVariants as errors
 use Rattle.pg_wire.specs.Frame.{Frame}
-use Rattle.pg_wire.specs.Backend.{Values, DataRow, FieldDescription, backend_frame, HasBackendFrame}
+use Rattle.pg_wire.specs.Backend.{Values, DataRow, backend_frame, HasBackendFrame}
 use Rattle.pg_columns.specs.declared.column.PgColumn.{PgColumn}
 use Rattle.pg_columns.specs.Told.{columns_of}
 use Rattle.pg_call.specs.declared.statement.Goal.{Goal}

@@ -38,7 +38,7 @@ use Rattle.pg_call.specs.declared.statement.Lookup.{Lookup}
 use Rattle.pg_learning.specs.declared.learnt.Seeking.{Seeking}
 use Rattle.pg_learning.specs.Learning.{FailsSeeking}
 use Rattle.pg_conn.specs.Looking.{AsksNext, Learns, FailsRow, TakesFront}
-use Rattle.pg_conn.specs.Connections.{ConnOf, ConnSeen, idle, left, standing, started_call, begun, begun_with, handed, resolved, settled, cleaned, ended, ends_copy, unfed}
+use Rattle.pg_conn.specs.Connections.{ConnOf, ConnSeen, idle, left, standing, started_call, begun, begun_with, resolved, settled, cleaned, ended, ends_copy, unfed}
 use Rattle.pg_conn.specs.Statements.{asked_by, begun_as}
 
 -- Query and Sync end a group ("Simple Query", "Extended Query")
