@@ -1,1 +1,3 @@
+mod AloneLaws
+mod BesideLaws
 mod ReleasingLaws
