@@ -85,6 +85,17 @@ impl<C: PgExecutor> BeginTransaction<C> {
         }
     }
 
+    // Refuses its text.
+    fn refuse(&mut self) -> Poll<Result<Transaction<C>, Error>>
+        ensures conn { self.new.conn ≡ self.old.conn }
+        ensures request { self.new.request ≡ self.old.request }
+        ensures refused { self.new.is_refused ≡ true }
+        ensures answer { result ≡ Ready (Err Error.InvalidSavePointStatement) }
+    {
+        self.is_refused = true;
+        Poll::Ready(Err(Error::InvalidSavePointStatement))
+    }
+
     /// Moves the call on, and hands the guard on at its end. A begin by a text where a transaction is open is refused by its first poll with
     /// `Error::InvalidSavePointStatement`, and nothing else is done: a savepoint has no text of its own.
     pub fn poll(&mut self) -> Poll<Result<Transaction<C>, Error>>
@@ -96,8 +107,7 @@ impl<C: PgExecutor> BeginTransaction<C> {
         ensures calling { IsBeginning C.conn self.old.request self.old.conn → StaysBeginning C.conn self.new.request self.new.conn result }
     {
         if self.is_misplaced() {
-            self.is_refused = true;
-            return Poll::Ready(Err(Error::InvalidSavePointStatement));
+            return self.refuse();
         }
         self.poll_begin()
     }
