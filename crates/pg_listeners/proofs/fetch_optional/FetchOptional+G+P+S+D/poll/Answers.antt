@@ -8,16 +8,16 @@ use Rattle.pg_reconnect.specs.Querying.{QueriesOn}
 use Rattle.pg_reconnect.proofs.QueryingLaws.{queries_on, query_fits, runs_none_cleared}
 use Rattle.pg_listeners.proofs.fetch_optional.FetchOptional+G+P+S+D.poll.Goals as goal
 
-pub into_optional-requires : goal.into_optional-requires
-into_optional-requires g c = query_fits (kinds.Run hows.FetchOptional) _ _ c.in-Ready.turn (queries_on g.D.Dial.L.Link.seen _ _ _ (kinds.Run hows.FetchOptional) _ _ _ _ (Ready c.in-Ready.turn) (runs_none_cleared hows.FetchOptional) c.requires.querying c.in-Ready.ensures.queries)
+pub into_optional-requires-clause-rest : goal.into_optional-requires-clause-rest
+into_optional-requires-clause-rest g c = query_fits (kinds.Run hows.FetchOptional) _ _ c.in-Ready.turn (queries_on g.D.L.Link.seen _ _ _ (kinds.Run hows.FetchOptional) _ _ _ _ (Ready c.in-Ready.turn) (runs_none_cleared hows.FetchOptional) c.requires.querying c.in-Ready.ensures.queries)
 
 pub returns-in-Pending-clause-querying : goal.returns-in-Pending-clause-querying
-returns-in-Pending-clause-querying g c = queries_on g.D.Dial.L.Link.seen _ _ _ (kinds.Run hows.FetchOptional) _ _ _ _ Pending (runs_none_cleared hows.FetchOptional) c.requires.querying c.in-Pending.ensures.queries
+returns-in-Pending-clause-querying g c = queries_on g.D.L.Link.seen _ _ _ (kinds.Run hows.FetchOptional) _ _ _ _ Pending (runs_none_cleared hows.FetchOptional) c.requires.querying c.in-Pending.ensures.queries
 
 pub returns-in-Ready-clause-querying : goal.returns-in-Ready-clause-querying
 returns-in-Ready-clause-querying g c =
-    let on = queries_on g.D.Dial.L.Link.seen _ _ _ (kinds.Run hows.FetchOptional) _ _ _ _ (Ready c.in-Ready.turn) (runs_none_cleared hows.FetchOptional) c.requires.querying c.in-Ready.ensures.queries in
+    let on = queries_on g.D.L.Link.seen _ _ _ (kinds.Run hows.FetchOptional) _ _ _ _ (Ready c.in-Ready.turn) (runs_none_cleared hows.FetchOptional) c.requires.querying c.in-Ready.ensures.queries in
     subst (λ (t : Turn). QueriesOn (kinds.Run hows.FetchOptional) c.poll_query.new.request c.poll_query.new.self.hearing (Ready t)) c.into_optional.ensures on
 
 pub returns-in-Ready-clause-over : goal.returns-in-Ready-clause-over
-returns-in-Ready-clause-over g c = c.ends_call.ensures ∙ ap (λ (t : Turn). ends_call (Ready t)) c.into_optional.ensures
+returns-in-Ready-clause-over g c = c.ends_call-self.ensures ∙ ap (λ (t : Turn). ends_call (Ready t)) c.into_optional.ensures
