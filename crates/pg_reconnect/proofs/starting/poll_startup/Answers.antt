@@ -18,4 +18,4 @@ returns-in-Ready-clause-fills g c =
 pub returns-in-Ready-clause-polls : goal.returns-in-Ready-clause-polls
 returns-in-Ready-clause-polls g c =
     let kept : c.give_up-link.result ≡ kept_link c.poll_within.new.self.connecting.startup.phase = search rules in
-    rw c.with_link.ensures (ends_start_up g.L.Link.seen _ _ _ _ _ c.poll_within.new.self c.in-Ready.answer c.give_up-link.result c.in-Some.is c.in-Ready.ensures.polls kept)
+    rw c.with_link.ensures (ends_start_up g.L.Link.seen _ _ _ c.take.new.self _ c.poll_within.new.self c.in-Ready.answer c.give_up-link.result c.in-Some.is c.in-Ready.ensures.polls kept)

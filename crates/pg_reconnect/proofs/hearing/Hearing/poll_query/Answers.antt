@@ -11,7 +11,7 @@ pub returns-in-Some-clause-closed : goal.returns-in-Some-clause-closed
 returns-in-Some-clause-closed g c = notes_queried g.L.Link.seen _ _ _ _ _ _ _ c.poll_unasked.result.0 c.poll_unasked.ensures.queries
 
 pub returns-in-None-clause-queries : goal.returns-in-None-clause-queries
-returns-in-None-clause-queries g c = polled_on g.L.Link.seen _ _ _ _ _ c.poll_running.result c.poll_running.ensures.polls c.poll_running.ensures.apart
+returns-in-None-clause-queries g c = rw c.in-None.is (polled_on g.L.Link.seen _ _ _ c.args.self.now c.poll_running.new.self c.poll_running.result c.poll_running.ensures.polls c.poll_running.ensures.apart)
 
 pub returns-in-None-clause-closed : goal.returns-in-None-clause-closed
 returns-in-None-clause-closed g c = notes_apart _ _ _ c.poll_running.result c.poll_running.ensures.apart

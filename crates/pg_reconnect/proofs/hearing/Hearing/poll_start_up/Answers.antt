@@ -13,7 +13,7 @@ returns-in-Ready-Err-clause-hears g c =
     rw (← c.self.view_is) (hears_kept seen _ _ _ none refl lost refl refl refl)
 
 pub returns-in-Pending-clause-causes : goal.returns-in-Pending-clause-causes
-returns-in-Pending-clause-causes g c = rw (← c.self.view_is) (waits_start g.L.Link.seen _ _ _ _ c.in-Pending.ensures.waits)
+returns-in-Pending-clause-causes g c = rw (← c.self.view_is) (waits_start g.L.Link.seen _ _ _ _ c.in-Pending.ensures.polls)
 
 pub returns-in-Ready-Err-clause-causes : goal.returns-in-Ready-Err-clause-causes
 returns-in-Ready-Err-clause-causes g c =
