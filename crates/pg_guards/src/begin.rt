@@ -85,19 +85,29 @@ impl<C: PgExecutor> BeginTransaction<C> {
         }
     }
 
+    // Refuses its text.
+    fn refuse(&mut self) -> Poll<Result<Transaction<C>, Error>>
+        ensures conn { self.new.conn ≡ self.old.conn }
+        ensures request { self.new.request ≡ self.old.request }
+        ensures refused { self.new.is_refused ≡ true }
+        ensures answer { result ≡ Ready (Err Error.InvalidSavePointStatement) }
+    {
+        self.is_refused = true;
+        Poll::Ready(Err(Error::InvalidSavePointStatement))
+    }
+
     /// Moves the call on, and hands the guard on at its end. A begin by a text where a transaction is open is refused by its first poll with
     /// `Error::InvalidSavePointStatement`, and nothing else is done: a savepoint has no text of its own.
     pub fn poll(&mut self) -> Poll<Result<Transaction<C>, Error>>
         requires over { is_done C.conn self.old.is_refused self.old.request self.old.conn ≡ false }
-        ensures refuses { (c : C) → self.old.conn ≡ Some c → is_misplaced self.old.request (C.conn c).rule.depth ≡ true → (self.new ≡ record self.old { is_refused = true }) × (result ≡ Ready (Err Error.InvalidSavePointStatement)) }
+        ensures refuses { (c : C) → self.old.conn ≡ Some c → is_misplaced self.old.request (C.conn c).rule.depth ≡ true → (self.new.conn ≡ Some c) × (self.new.request ≡ self.old.request) × (self.new.is_refused ≡ true) × (result ≡ Ready (Err Error.InvalidSavePointStatement)) }
         ensures asked { (c : C) → self.old.conn ≡ Some c → is_misplaced self.old.request (C.conn c).rule.depth ≡ false → (self.new.request ≡ None) × (self.new.is_refused ≡ self.old.is_refused) }
         ensures polls { (c : C) → self.old.conn ≡ Some c → is_misplaced self.old.request (C.conn c).rule.depth ≡ false → PollsBegin C.conn C.with_conn C.L.seen (λ guard. guard.conn) self.old.request c self.new.conn result }
         ensures over { is_done C.conn self.new.is_refused self.new.request self.new.conn ≡ is_ready result }
         ensures calling { IsBeginning C.conn self.old.request self.old.conn → StaysBeginning C.conn self.new.request self.new.conn result }
     {
         if self.is_misplaced() {
-            self.is_refused = true;
-            return Poll::Ready(Err(Error::InvalidSavePointStatement));
+            return self.refuse();
         }
         self.poll_begin()
     }
