@@ -29,11 +29,12 @@ pub struct Describing<
     S: SeatHolder<Seat = PoolSeat<G>>,
     D: Dial,
     Q = Request,
+    T = Prepared,
 > {
     listener: &'l mut PgListener<G, P, S, D>,
     request: Option<Q>,
     // The statement, once it is prepared.
-    told: Option<Prepared>,
+    told: Option<T>,
     is_over: bool,
 }
 
@@ -43,7 +44,8 @@ impl<
     S: SeatHolder<Seat = PoolSeat<G>>,
     D: Dial,
     Q: Drop,
-> Drop for Describing<'_, G, P, S, D, Q> {
+    T: Drop,
+> Drop for Describing<'_, G, P, S, D, Q, T> {
     fn drop(self)
         ensures { self.exit.0.now ≡ self.entry.listener.now }
     {
