@@ -1,39 +1,28 @@
 -- What the two calls of a description come to.
-use Rattle.std.proofs.Common.{◌≡◌, inl, inr, ℕ, List, sym, subst, Option, None, Result, Ok, Err}
+use Rattle.std.proofs.Common.{◌≡◌, ◌≤◌, inl, ℕ, [], refl, sym, subst, Option, None, Result, Ok, Err}
 use Rattle.futures.specs.declared.task.Poll.{Poll}
 use Rattle.futures.specs.declared.task.Poll.TheVariants.{Ready, Pending}
 use Rattle.pg_wire.specs.declared.error.Error.{Error}
-use Rattle.pg_wire.specs.declared.error.Error.TheVariants as errors
-use Rattle.pg_wire.specs.declared.error.ProtocolFault.TheVariants as faults
-use Rattle.pg_wire.specs.declared.error.CallerFault.TheVariants as callers
 use Rattle.pg_stream.specs.Links.{LinkSeen}
-use Rattle.pg_rows.specs.Rows.{RowSeen}
-use Rattle.pg_resolve.specs.Nullable.{RefusesColumns}
+use Rattle.pg_call.specs.Answers.{statement_turn}
 use Rattle.pg_call.specs.declared.answer.Turn.{Turn}
 use Rattle.pg_call.specs.declared.kind.How.TheVariants as hows
 use Rattle.pg_call.specs.declared.kind.Kind.TheVariants as kinds
 use Rattle.pg_call.specs.declared.request.Request.{Request}
 use Rattle.pg_call.specs.declared.statement.Prepared.{Prepared}
-use Rattle.pg_pool.specs.Seats.{SeatSeen}
-use Rattle.pg_describe.specs.Describing.{FitsNulls, HearsTurn}
-use Rattle.pg_describe.specs.Flags.{RefusesFlags}
+use Rattle.pg_conn.specs.declared.statement.PgStatement.{PgStatement}
+use Rattle.pg_describe.specs.Describing as described
+use Rattle.pg_describe.specs.Describing.{FitsNulls, HearsTurn, told_columns}
 use Rattle.pg_describe.specs.declared.description.Describe.{Describe}
-use Rattle.pg_listening.specs.Listening.{IsOpenPool}
 use Rattle.pg_reconnect.specs.Failing.{BesideSeen}
 use Rattle.pg_reconnect.specs.Hearing.{HearingOf}
-use Rattle.pg_reconnect.specs.Querying.{NotesTurn, Queries, QueriesOn}
-use Rattle.pg_reconnect.specs.Waiting.{NotesBy}
-use Rattle.pg_reconnect.proofs.FailingLaws.{notes_open}
+use Rattle.pg_reconnect.specs.Querying.{Queries, QueriesOn}
 use Rattle.pg_reconnect.proofs.QueryingLaws.{query_fits}
-use Rattle.pg_listeners.specs.Describing.{StaysDescribing}
+use Rattle.pg_listeners.specs.Describing.{GoesOn, PollsPrepare, PreparesIn, QueriesFrom, StaysDescribing, TellsStatement}
+use Rattle.pg_listeners.specs.Listeners.{ListenerOf}
 
 pub prepares_none_cleared : kinds.Prepare ≡ kinds.Clear → ⊥
 prepares_none_cleared e = absurd cc
-
--- nothing is yet to be asked behind an answer
-pub none_left : {A : Type 0} (seen : A → LinkSeen) (o : BesideSeen) (left now : ℕ) (request rest : Option Request) (a b : HearingOf A) (turn : Turn) → Queries seen o left now request rest a b (Ready turn) → rest ≡ None
-none_left seen o left now request rest a b turn (inl (asked, none)) = none
-none_left seen o left now request rest a b turn (inr (some, unasked, none)) = none
 
 -- ---- the query on nulls
 
@@ -48,24 +37,27 @@ nulls_stay p request h turn answer told q (Pending, is, (waits, kept)) =
 nulls_stay p request h turn answer told q (Ready (Err e), is, (ends, none)) = subst (λ (x : Poll (Result Describe Error)). StaysDescribing told request h x) (sym ends) tt
 nulls_stay p request h turn answer told q (Ready (Ok rows), is, (none, (d, ends, tells))) = subst (λ (x : Poll (Result Describe Error)). StaysDescribing told request h x) (sym ends) tt
 
--- ---- a pool that was closed
+-- nothing is asked where there is no column
+pub tells_at_once : {P S D A : Type 0} (seen : A → LinkSeen) (beside : ListenerOf P S D A → ListenerOf P S D A → BesideSeen) (left now : ℕ) (p : Prepared) (rest : Option Request) (a : ListenerOf P S D A) (told : Option Prepared) (d : Describe) → rest ≡ None → told ≡ None → told_columns p ≡ []
+    → described.TellsStatement p d → d.nullable.items ≡ [] → GoesOn seen beside left now p rest a a (Ready (Ok d)) told
+tells_at_once seen beside left now p rest a told d none nobody empty tells flags = inl (refl, none, inl (empty, nobody, (d, refl, tells, flags)))
 
-flags_open : (rows : List RowSeen) (e : Error) → RefusesFlags rows e → IsOpenPool e
-flags_open rows errors.OutOfMemory r = tt
-flags_open rows (errors.ColumnDecode index) r = tt
-flags_open rows _ r = absurd r
+-- ---- the preparation
 
-columns_open : (columns : ℕ) (e : Error) → RefusesColumns columns e → IsOpenPool e
-columns_open columns errors.OutOfMemory r = tt
-columns_open columns (errors.Protocol (faults.Caller (callers.TooMany n))) r = tt
-columns_open columns _ r = absurd r
+pub prepares_told : {A : Type 0} (seen : A → LinkSeen) (o : BesideSeen) (now : ℕ) (request rest : Option Request) (a b : HearingOf A) (turn : Turn) (answer : Result PgStatement Error) → TellsStatement turn answer → Queries seen o 256 now request rest a b (Ready turn)
+    → PreparesIn seen o request rest a b (Ready answer)
+prepares_told seen o now request rest a b turn answer (told, is, e) q = (Ready told, e, (now, subst (λ (t : Turn). Queries seen o 256 now request rest a b (Ready t)) is q))
 
--- neither the columns nor their rows tell of one
-pub columns_noted : (A : Type 0) (most : ℕ) (s : SeatSeen) (columns : ℕ) (e : Error) → RefusesColumns columns e → NotesBy {X = Describe} A most s (Ready (Err e))
-columns_noted A most s columns e r = notes_open A most s e (columns_open columns e r)
+pub prepare_waits : {P S D A : Type 0} (seen : A → LinkSeen) (beside : ListenerOf P S D A → ListenerOf P S D A → BesideSeen) (left now : ℕ) (request rest : Option Request) (a b : ListenerOf P S D A) (told : Option Prepared) → told ≡ None → now ≤ left → QueriesFrom seen beside left now request rest a b Pending
+    → PollsPrepare seen beside left now request rest a b Pending told
+prepare_waits seen beside left now request rest a b told none fewer q = record { mid = b; fewer = now; asked = rest; first = Pending; less = fewer; queries = q; goes = (refl, refl, refl, none) }
 
-pub nulls_noted : (A : Type 0) (most : ℕ) (s : SeatSeen) (p : Prepared) (turn : Poll Turn) (answer : Poll (Result Describe Error)) (told : Option Prepared) → NotesTurn A most s turn → HearsTurn p turn answer told → NotesBy A most s answer
-nulls_noted A most s p turn answer told n (Pending, is, (waits, kept)) = subst (λ (x : Poll (Result Describe Error)). NotesBy A most s x) (sym waits) tt
-nulls_noted A most s p turn answer told n (Ready (Err e), is, (ends, none)) = subst (λ (x : Poll (Result Describe Error)). NotesBy A most s x) (sym ends) (subst (λ (t : Poll Turn). NotesTurn A most s t) is n)
-nulls_noted A most s p turn answer told n (Ready (Ok rows), is, (none, (Ok d, ends, tells))) = subst (λ (x : Poll (Result Describe Error)). NotesBy A most s x) (sym ends) tt
-nulls_noted A most s p turn answer told n (Ready (Ok rows), is, (none, (Err e, ends, tells))) = subst (λ (x : Poll (Result Describe Error)). NotesBy A most s x) (sym ends) (notes_open A most s e (flags_open rows e tells))
+pub prepare_fails : {P S D A : Type 0} (seen : A → LinkSeen) (beside : ListenerOf P S D A → ListenerOf P S D A → BesideSeen) (left now : ℕ) (request rest : Option Request) (a b : ListenerOf P S D A) (told : Option Prepared) (turn : Turn) (e : Error) → told ≡ None → now ≤ left → turn ≡ statement_turn (Err e)
+    → QueriesFrom seen beside left now request rest a b (Ready turn) → PollsPrepare seen beside left now request rest a b (Ready (Err e)) told
+prepare_fails seen beside left now request rest a b told turn e none fewer is q =
+    record { mid = b; fewer = now; asked = rest; first = Ready (Err e); less = fewer; queries = subst (λ (t : Turn). QueriesFrom seen beside left now request rest a b (Ready t)) is q; goes = (refl, refl, refl, none) }
+
+pub prepare_goes : {P S D A : Type 0} (seen : A → LinkSeen) (beside : ListenerOf P S D A → ListenerOf P S D A → BesideSeen) (left fewer now : ℕ) (request asked rest : Option Request) (a mid b : ListenerOf P S D A) (answer : Poll (Result Describe Error)) (told : Option Prepared) (turn : Turn) (p : Prepared) → fewer ≤ left
+    → turn ≡ statement_turn (Ok p) → QueriesFrom seen beside left fewer request asked a mid (Ready turn) → GoesOn seen beside fewer now p rest mid b answer told → PollsPrepare seen beside left now request rest a b answer told
+prepare_goes seen beside left fewer now request asked rest a mid b answer told turn p less is q goes =
+    record { mid = mid; fewer = fewer; asked = asked; first = Ready (Ok p); less = less; queries = subst (λ (t : Turn). QueriesFrom seen beside left fewer request asked a mid (Ready t)) is q; goes = goes }

@@ -6,7 +6,7 @@ ghost use Rattle.pg_conn.specs.States.{to_prepare, untyped};
 ghost use Rattle.pg_reconnect.specs.Hearing.{HearsBy};
 ghost use Rattle.pg_reconnect.specs.Querying.{IsQuerying};
 ghost use Rattle.pg_reconnect.specs.Waiting.{NotesBy};
-ghost use Rattle.pg_listeners.specs.Describing.{DescribesIn, GoesOn, IsDescribing, PollsNulls, PollsPrepare, StaysDescribing};
+ghost use Rattle.pg_listeners.specs.Describing.{DescribesIn, GoesOn, IsDescribing, PollsDescribe, PollsNulls, PollsPrepare, StaysDescribing};
 ghost use Rattle.pg_listeners.specs.Listeners.{beside_of, is_answered};
 
 use crate::answering::is_answered;
@@ -29,11 +29,12 @@ pub struct Describing<
     S: SeatHolder<Seat = PoolSeat<G>>,
     D: Dial,
     Q = Request,
+    T = Prepared,
 > {
     listener: &'l mut PgListener<G, P, S, D>,
     request: Option<Q>,
     // The statement, once it is prepared.
-    told: Option<Prepared>,
+    told: Option<T>,
     is_over: bool,
 }
 
@@ -43,7 +44,8 @@ impl<
     S: SeatHolder<Seat = PoolSeat<G>>,
     D: Dial,
     Q: Drop,
-> Drop for Describing<'_, G, P, S, D, Q> {
+    T: Drop,
+> Drop for Describing<'_, G, P, S, D, Q, T> {
     fn drop(self)
         ensures { self.exit.0.now ≡ self.entry.listener.now }
     {
@@ -177,6 +179,23 @@ where
         }
     }
 
+    // One poll, but for what is noted of its end.
+    fn poll_on<R: Wait>(&mut self, rt: &R, left: &mut u16) -> Poll<Result<Describe, Error>>
+        requires left { left.old ≤ 256 }
+        requires calling { IsDescribing self.old.told self.old.request self.old.listener.now.hearing }
+        ensures same { self.new.listener.ghost_name ≡ self.old.listener.ghost_name }
+        ensures hears { HearsBy D.L.seen self.old.listener.now.hearing self.new.listener.now.hearing [] }
+        ensures channels { self.new.listener.now.hearing.listening.channels ≡ self.old.listener.now.hearing.listening.channels }
+        ensures describes { PollsDescribe D.L.seen (beside_of P.pool S.seat D.seen G.most) left.old left.new self.old.told self.old.request self.new.request self.old.listener.now self.new.listener.now result self.new.told }
+        ensures calling { StaysDescribing self.new.told self.new.request self.new.listener.now.hearing result }
+        ensures closed { NotesBy D.L G.most (S.seat self.new.listener.now.seat) result }
+    {
+        match self.told.take() {
+            Some(prepared) => self.poll_nulls(rt, prepared, left),
+            None => self.poll_prepare(rt, left),
+        }
+    }
+
     /// Moves the call on, by at most 256 calls of the link. A row of the catalog without a truth value is `ColumnDecode` with the place 0.
     pub fn poll<R: Wait>(&mut self, rt: &R) -> Poll<Result<Describe, Error>>
         requires over { self.old.is_over ≡ false }
@@ -190,10 +209,7 @@ where
         ensures closed { NotesBy D.L G.most (S.seat self.new.listener.now.seat) result }
     {
         let mut left = 256;
-        let answer = match self.told.take() {
-            Some(prepared) => self.poll_nulls(rt, prepared, &mut left),
-            None => self.poll_prepare(rt, &mut left),
-        };
+        let answer = self.poll_on(rt, &mut left);
         self.is_over = is_answered(&answer);
         answer
     }
