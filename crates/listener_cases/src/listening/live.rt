@@ -5,9 +5,7 @@ use crate::listening::opening::alone;
 use crate::listening::polling::{change, connect, let_go, try_recv};
 use pg_conn::{Dial, SocketDial};
 use pg_listen::{PoolLedger, PoolSeat};
-use pg_listeners::{
-    ChannelChange, PgListener, PgNotification, PoolHolder, SeatHolder, connect_with,
-};
+use pg_listeners::{ChannelChange, PgListener, PgNotification, PoolHolder, SeatHolder};
 use pg_wire::{Error, Poll, Text};
 use rand::rngs::SysRng;
 use std::alloc::Global;
@@ -22,6 +20,13 @@ use std::sync::ledger::Blank;
 const POLLS: u32 = 1000;
 
 const CALLS: u32 = 1_000_000;
+
+// A server, and a channel there.
+#[derive(Clone, Copy)]
+struct Place<'a> {
+    url: &'a str,
+    channel: &'a str,
+}
 
 // Tells one answer, and whether it is the last one.
 fn tell(rt: &impl Print, answer: &Poll<Result<Option<PgNotification>, Error>>) -> io::Result<bool> {
@@ -79,23 +84,24 @@ where
     }
 }
 
-fn live_over<G, R>(
+fn live_over<G, D, R>(
     rt: &R,
     alloc: Global,
-    url: &str,
-    channel: &str,
+    place: Place<'_>,
     blank: Blank,
+    dial: D,
 ) -> Result<io::Result<()>, Error>
 where
     G: PoolLedger,
-    R: Wait + Print + Net<Listener = TcpListener, Stream = TcpStream> + RandomSource,
+    D: Dial + Drop,
+    D::L: Drop + Send,
+    R: Wait + Print,
     requires most { G.most ≡ 1 }
     requires ledger { blank.name ≡ G.name }
     requires parts { (blank.parts ≡ G.parts) × (blank.parts ≡ 1) }
 {
-    let channel = Text::from_str(alloc, channel)?;
-    let dial = SocketDial::new(alloc, rt, SysRng::new(rt));
-    let mut listener = connect(rt, alone::<G, _>(alloc, url, blank, dial)?, POLLS)?;
+    let channel = Text::from_str(alloc, place.channel)?;
+    let mut listener = connect(rt, alone::<G, _>(alloc, place.url, blank, dial)?, POLLS)?;
     let heard = hear_on(rt, &mut listener, channel);
     let_go(listener.into_released(rt));
     heard
@@ -106,7 +112,9 @@ pub(crate) fn live<R>(rt: &R, alloc: Global, url: &str, channel: &str) -> io::Re
 where
     R: Wait + Print + Net<Listener = TcpListener, Stream = TcpStream> + RandomSource,
 {
-    match live_over::<Brand, R>(rt, alloc, url, channel, Blank::new(1)) {
+    let place = Place { url, channel };
+    let dial = SocketDial::new(alloc, rt, SysRng::new(rt));
+    match live_over::<Brand, _, R>(rt, alloc, place, Blank::new(1), dial) {
         Ok(heard) => heard,
         Err(error) => println!(rt; "{error:?}"),
     }

@@ -21,6 +21,13 @@ const NEXT: u32 = 3;
 
 const URL: &str = "postgres://u@h/d";
 
+// The calls of a row, and what its links give.
+#[derive(Clone, Copy)]
+struct Row<'a> {
+    calls: &'a str,
+    links: &'a str,
+}
+
 type Stream<'p, G> = NotificationStream<G, &'p Pool<G>, &'p mut PoolSeat<G>, MemoryDial>;
 
 fn ask_stream<G: PoolLedger, R: Wait>(
@@ -113,15 +120,14 @@ fn play<G: PoolLedger, R: Wait>(
 fn played<G: PoolLedger, R: Wait>(
     rt: &R,
     alloc: Global,
-    calls: &str,
-    links: &str,
+    row: Row<'_>,
     blank: Blank,
 ) -> Result<String, Error>
     requires most { G.most ≡ 1 }
     requires ledger { blank.name ≡ G.name }
     requires parts { (blank.parts ≡ G.parts) × (blank.parts ≡ 2) }
 {
-    let dial = dial(alloc, links)?;
+    let dial = dial(alloc, row.links)?;
     let (pool, mut seats) = pool::<G, _>(alloc, URL, blank)?;
     let (Some(mut other), Some(mut seat)) = (participant(&mut seats), participant(&mut seats))
     else {
@@ -129,7 +135,7 @@ fn played<G: PoolLedger, R: Wait>(
     };
     let mut out = String::new(alloc);
     let begun = connect(rt, connect_with(alloc, &pool, &mut seat, dial), POLLS);
-    play(rt, alloc, &mut out, &pool, &mut other, begun, calls)?;
+    play(rt, alloc, &mut out, &pool, &mut other, begun, row.calls)?;
     history(&mut out, &seat)?;
     Ok(out)
 }
@@ -157,18 +163,17 @@ where
 fn played_alone<G: PoolLedger, R: Wait>(
     rt: &R,
     alloc: Global,
-    calls: &str,
-    links: &str,
+    row: Row<'_>,
     blank: Blank,
 ) -> Result<String, Error>
     requires most { G.most ≡ 1 }
     requires ledger { blank.name ≡ G.name }
     requires parts { (blank.parts ≡ G.parts) × (blank.parts ≡ 1) }
 {
-    let dial = dial(alloc, links)?;
+    let dial = dial(alloc, row.links)?;
     let mut out = String::new(alloc);
     let mut listener = connect(rt, alone::<G, _>(alloc, URL, blank, dial)?, POLLS)?;
-    let made = make_each(rt, alloc, &mut out, &mut listener, calls);
+    let made = make_each(rt, alloc, &mut out, &mut listener, row.calls);
     let ended = released(&mut out, listener.into_released(rt));
     made?;
     ended?;
@@ -178,8 +183,8 @@ fn played_alone<G: PoolLedger, R: Wait>(
 /// A row, by its calls and its links.
 pub(crate) fn told<R: Wait>(rt: &R, alloc: Global, row: &str) -> Result<String, Error> {
     let (calls, links) = row.split_once(" | ").unwrap_or((row, ""));
-    if let Some(calls) = calls.strip_prefix("alone ") {
-        return played_alone::<Brand, R>(rt, alloc, calls, links, Blank::new(1));
+    match calls.strip_prefix("alone ") {
+        Some(calls) => played_alone::<Brand, R>(rt, alloc, Row { calls, links }, Blank::new(1)),
+        None => played::<Brand, R>(rt, alloc, Row { calls, links }, Blank::new(2)),
     }
-    played::<Brand, R>(rt, alloc, calls, links, Blank::new(2))
 }
