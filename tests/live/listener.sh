@@ -1,7 +1,7 @@
 #!/usr/bin/env bash
 # A listener is sent 100,000 notifications by a PostgreSQL server of its own, while its backend is ended 20 times. It fails where one comes twice or out of
-# order, where a loss isn't told, or where one is missing that was sent while a connection stood: 84,000 are sent while it listens and are heard before its
-# backend is ended, and of those that are sent as it is ended the missing ones stand in one row, where the loss is told.
+# order, where a loss isn't told or told twice, where one of the 84,000 is missing that are sent while it listens, before its backend is ended; and where of the
+# others, which are sent as it is ended, one is missing but where the loss is told.
 #
 #     tests/live/listener.sh PROGRAM [PORT]
 #
@@ -110,7 +110,7 @@ if heard[-2] != 'end' or len(runs) != LOSSES + 1:
 if numbers != sorted(set(numbers)):
     sys.exit('not so: none comes twice or out of order')
 for run, first in zip(runs, standing):
-    if run != list(range(run[0], run[-1] + 1)) or first not in run or first + STANDING - 1 not in run:
+    if first not in run or first + STANDING - 1 not in run or run != list(range(run[0], run[-1] + 1)):
         sys.exit(f'not so: those from {first} on, which were sent while a connection stood, are all there')
 print('ok')
 PY
