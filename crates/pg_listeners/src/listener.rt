@@ -93,6 +93,11 @@ impl<G: PoolLedger, P: PoolHolder<G, D::L>, S: SeatHolder<Seat = PoolSeat<G>>, D
         }
     }
 
+    // Where its memory comes from.
+    pub(crate) fn allocator(&self) -> Global {
+        self.hearing.allocator()
+    }
+
     /// The channels that it listens to, in the order in which they were asked for.
     pub fn channels(&self) -> &[Text]
         ensures { result.now ≡ self.now.hearing.listening.channels }
