@@ -22,9 +22,10 @@
 //!
 //! What a link gives is `start` for a server that accepts the user, bytes in hexadecimal, `wait`, `end` or `fail`.
 //!
-//! A row is told by its name, and then in this order: what each call answers, of a notification its payload, and that of `next` in parentheses; behind a `/` what each link has taken that was
-//! lost, in order, where `start-up` stands for the message that begins a session; what became of the connection as the listener ended, which is `kept` by the pool, `closed` with what its link has
-//! taken, or `none held`; and what the pool has noted of the listener. Links that `take` has told are lost no more.
+//! A row is told by its name, and then in this order: what each call answers, of a notification its payload, and that of `next` in parentheses; behind a
+//! `/` what each link that was lost has taken, where `start-up` stands for the message that begins a session; what became of the connection as the listener
+//! ended, which is `kept` by the pool, `closed` with what its link has taken, or `none held`; and what the pool has noted of the listener. The links that
+//! `take` has told are not told again.
 //!
 //! With the URL of a server as argument, and a channel, a listener tells what it hears on it until it hears `end`.
 #![tactic(auto)]
