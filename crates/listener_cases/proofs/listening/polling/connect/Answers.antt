@@ -1,0 +1,8 @@
+use Rattle.listener_cases.proofs.CallLaws.{still_connecting}
+use Rattle.listener_cases.proofs.listening.polling.connect.Goals as goal
+
+pub loop-preserved : goal.loop-preserved
+loop-preserved g c = record {
+  over = c.in-Pending.ensures.over;
+  listener = still_connecting g.D.L.Link.seen _ _ c.poll.new.self.listener c.in-Pending.ensures.connects;
+}

@@ -1,0 +1,10 @@
+//! Cases of listeners.
+mod calls;
+mod live;
+mod opening;
+mod polling;
+mod rows;
+mod telling;
+
+pub(crate) use live::live;
+pub(crate) use rows::told;

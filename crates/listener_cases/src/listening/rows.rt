@@ -1,0 +1,190 @@
+//! A row, over a pool of one connection.
+ghost use Rattle.std.specs.Prelude.{◌≡◌};
+
+use crate::listening::calls::{Listener, POLLS, Pool, make, make_all};
+use crate::listening::opening::{alone, dial, participant, pool};
+use crate::listening::polling::{connect, next, release};
+use crate::listening::telling::{history, lost, released, streamed};
+use case_tools::push_error;
+use pg_conn::MemoryDial;
+use pg_listen::{PoolLedger, PoolSeat};
+use pg_listeners::{NotificationStream, PgListener, PoolHolder, SeatHolder, connect_with};
+use pg_stream::MemoryLink;
+use pg_wire::{Error, Poll};
+use std::alloc::Global;
+use std::marker::Brand;
+use std::sync::Wait;
+use std::sync::ledger::Blank;
+
+// A stream is asked so often.
+const NEXT: u32 = 3;
+
+const URL: &str = "postgres://u@h/d";
+
+// The calls of a row, and what its links give.
+#[derive(Clone, Copy)]
+struct Row<'a> {
+    calls: &'a str,
+    links: &'a str,
+}
+
+type Stream<'p, G> = NotificationStream<G, &'p Pool<G>, &'p mut PoolSeat<G>, MemoryDial>;
+
+fn ask_stream<G: PoolLedger, R: Wait>(
+    rt: &R,
+    out: &mut String,
+    stream: &mut Stream<'_, G>,
+) -> Result<(), Error> {
+    for _ in 0..NEXT {
+        let answer = next(rt, stream, POLLS);
+        let told = streamed(out, &answer);
+        drop(answer);
+        told?;
+    }
+    lost(out, stream.lost())
+}
+
+// Ends a listener by its stream.
+fn end_by_stream<G: PoolLedger, R: Wait>(
+    rt: &R,
+    out: &mut String,
+    listener: Listener<'_, G>,
+) -> Result<(), Error> {
+    let mut stream = listener.into_stream();
+    let told = ask_stream(rt, out, &mut stream);
+    let ended = released(out, stream.into_released(rt));
+    told?;
+    ended
+}
+
+// Ends a listener by its `release`.
+fn end_by_release<G: PoolLedger, R: Wait>(
+    rt: &R,
+    out: &mut String,
+    listener: Listener<'_, G>,
+) -> Result<(), Error> {
+    match release(rt, listener, POLLS) {
+        Poll::Pending => out.push_str(" pending")?,
+        Poll::Ready(Ok(what)) => released(out, what)?,
+        Poll::Ready(Err(error)) => push_error(out, &error)?,
+    }
+    Ok(())
+}
+
+fn end<G: PoolLedger, R: Wait>(
+    rt: &R,
+    out: &mut String,
+    listener: Listener<'_, G>,
+    calls: &str,
+) -> Result<(), Error> {
+    if calls.ends_with("stream") {
+        return end_by_stream(rt, out, listener);
+    }
+    let told = lost(out, listener.lost());
+    let ended = if calls.ends_with("release") {
+        end_by_release(rt, out, listener)
+    } else {
+        released(out, listener.into_released(rt))
+    };
+    told?;
+    ended
+}
+
+fn play<G: PoolLedger, R: Wait>(
+    rt: &R,
+    alloc: Global,
+    out: &mut String,
+    pool: &Pool<G>,
+    other: &mut PoolSeat<G>,
+    begun: Result<Listener<'_, G>, Error>,
+    calls: &str,
+) -> Result<(), Error>
+    requires { other.old.name ≡ pool.now.name }
+{
+    match begun {
+        Ok(listener) => {
+            let mut listener = listener;
+            let made = make_all(rt, alloc, out, pool, other, &mut listener, calls);
+            let ended = end(rt, out, listener, calls);
+            made?;
+            ended
+        }
+        Err(error) => {
+            let told = push_error(out, &error);
+            drop(error);
+            told
+        }
+    }
+}
+
+fn played<G: PoolLedger, R: Wait>(
+    rt: &R,
+    alloc: Global,
+    row: Row<'_>,
+    blank: Blank,
+) -> Result<String, Error>
+    requires most { G.most ≡ 1 }
+    requires ledger { blank.name ≡ G.name }
+    requires parts { (blank.parts ≡ G.parts) × (blank.parts ≡ 2) }
+{
+    let dial = dial(alloc, row.links)?;
+    let (pool, mut seats) = pool::<G, _>(alloc, URL, blank)?;
+    let (Some(mut other), Some(mut seat)) = (participant(&mut seats), participant(&mut seats))
+    else {
+        return Err(Error::StartupPending);
+    };
+    let mut out = String::new(alloc);
+    let begun = connect(rt, connect_with(alloc, &pool, &mut seat, dial), POLLS);
+    play(rt, alloc, &mut out, &pool, &mut other, begun, row.calls)?;
+    history(&mut out, &seat)?;
+    Ok(out)
+}
+
+fn make_each<G, P, S, R>(
+    rt: &R,
+    alloc: Global,
+    out: &mut String,
+    listener: &mut PgListener<G, P, S, MemoryDial>,
+    calls: &str,
+) -> Result<(), Error>
+where
+    G: PoolLedger,
+    P: PoolHolder<G, MemoryLink>,
+    S: SeatHolder<Seat = PoolSeat<G>>,
+    R: Wait,
+{
+    for call in calls.split(' ') {
+        make(rt, alloc, out, listener, call)?;
+    }
+    lost(out, listener.lost())
+}
+
+// A row over a pool of the listener's own.
+fn played_alone<G: PoolLedger, R: Wait>(
+    rt: &R,
+    alloc: Global,
+    row: Row<'_>,
+    blank: Blank,
+) -> Result<String, Error>
+    requires most { G.most ≡ 1 }
+    requires ledger { blank.name ≡ G.name }
+    requires parts { (blank.parts ≡ G.parts) × (blank.parts ≡ 1) }
+{
+    let dial = dial(alloc, row.links)?;
+    let mut out = String::new(alloc);
+    let mut listener = connect(rt, alone::<G, _>(alloc, URL, blank, dial)?, POLLS)?;
+    let made = make_each(rt, alloc, &mut out, &mut listener, row.calls);
+    let ended = released(&mut out, listener.into_released(rt));
+    made?;
+    ended?;
+    Ok(out)
+}
+
+/// A row, by its calls and its links.
+pub(crate) fn told<R: Wait>(rt: &R, alloc: Global, row: &str) -> Result<String, Error> {
+    let (calls, links) = row.split_once(" | ").unwrap_or((row, ""));
+    match calls.strip_prefix("alone ") {
+        Some(calls) => played_alone::<Brand, R>(rt, alloc, Row { calls, links }, Blank::new(1)),
+        None => played::<Brand, R>(rt, alloc, Row { calls, links }, Blank::new(2)),
+    }
+}

@@ -1,0 +1,51 @@
+//! Cases of listeners over links and dials in memory.
+//!
+//! Each line of standard input is a row: its name, the calls on a listener, and behind a bar what the links of a dial give, one link behind another with bars
+//! between them. A call is one of these:
+//!
+//!     listen:A      `listen` to the channel `A`; in a name `~` stands for a zero byte
+//!     all:A,B       `listen_all`
+//!     unlisten:A    `unlisten`
+//!     unlisten_all  `unlisten_all`
+//!     try           `try_recv`, and `poll` the same, polled once and let go
+//!     recv          `recv`
+//!     many          `fetch_many` of a query, told by how many rows it gives
+//!     first         `fetch_optional` of it, told by whether it gives one
+//!     next          `next_buffered`
+//!     take          `take_lost`, told by what each link has taken
+//!     lazy          a loss is told before the reconnect
+//!     ignore        it listens on where its pool was closed
+//!     close         its pool is closed by another participant
+//!     stream        as the last one: it is turned into a stream, which is asked three times
+//!     alone         as the first one: the listener has a pool of its own, of which no entries are told
+//!     release       as the last one: `release`
+//!
+//! What a link gives is `start` for a server that accepts the user, bytes in hexadecimal, `wait`, `end` or `fail`.
+//!
+//! A row is told by its name, and then in this order: what each call answers, of a notification its payload, and that of `next` in parentheses; behind a
+//! `/` what each link that was lost has taken, where `start-up` stands for the message that begins a session; what became of the connection as the listener
+//! ended, which is `kept` by the pool, `closed` with what its link has taken, or `none held`; and what the pool has noted of the listener. The links that
+//! `take` has told are not told again.
+//!
+//! With the URL of a server as argument, and a channel, a listener tells what it hears on it until it hears `end`.
+#![tactic(auto)]
+
+mod listening;
+
+use std::{env, io};
+
+fn main(rt: HostRuntime) -> io::Result<()> {
+    let mut words = env::args(&rt)?.skip(1);
+    if let (Some(url), Some(channel)) = (words.next(), words.next()) {
+        return listening::live(&rt, rt.alloc(), url.as_str(), channel.as_str());
+    }
+    for row in rt.lines(rt.alloc()) {
+        let row = row?;
+        let (name, case) = row.as_str().split_once(' ').unwrap_or((row.as_str(), ""));
+        match listening::told(&rt, rt.alloc(), case) {
+            Ok(told) => println!(rt; "{name}:{told}")?,
+            Err(error) => println!(rt; "{name}: {error:?}")?,
+        }
+    }
+    Ok(())
+}
