@@ -4,6 +4,7 @@ mod live;
 mod opening;
 mod polling;
 mod rows;
+mod statements;
 mod telling;
 
 pub(crate) use live::live;

@@ -2,6 +2,7 @@
 ghost use Rattle.std.specs.Prelude.{◌≡◌};
 
 use crate::listening::polling::{change, fetch_many, fetch_optional, recv, try_recv};
+use crate::listening::statements::{make_describe, make_prepare};
 use crate::listening::telling::{changed, lost, received, tried};
 use case_tools::push_error;
 use pg_conn::{MemoryDial, Query};
@@ -192,6 +193,8 @@ where
         "poll" => return make_try(rt, out, listener, 1),
         "many" => return make_fetch(rt, alloc, out, listener),
         "first" => return make_first(rt, alloc, out, listener),
+        "prepare" => return make_prepare(rt, alloc, out, listener),
+        "describe" => return make_describe(rt, alloc, out, listener),
         "next" => return next(out, listener),
         "take" => return take(out, listener),
         "lazy" => listener.eager_reconnect(false),

@@ -1,0 +1,124 @@
+//! A listener that prepares and describes a statement.
+ghost use Rattle.std.specs.Prelude.{◌≡◌};
+
+use crate::listening::calls::POLLS;
+use case_tools::push_error;
+use pg_conn::{Dial, MemoryDial, PgStatement, Preparation};
+use pg_listen::{PoolLedger, PoolSeat};
+use pg_listeners::{Describe, PgListener, PoolHolder, SeatHolder};
+use pg_stream::MemoryLink;
+use pg_wire::{Error, Oids, Poll, Text};
+use std::alloc::Global;
+use std::sync::Wait;
+
+fn prepare<G, P, S, D, R>(
+    rt: &R,
+    listener: &mut PgListener<G, P, S, D>,
+    preparation: Preparation,
+) -> Poll<Result<PgStatement, Error>>
+where
+    G: PoolLedger,
+    P: PoolHolder<G, D::L>,
+    S: SeatHolder<Seat = PoolSeat<G>>,
+    D: Dial,
+    D::L: Drop,
+    R: Wait,
+{
+    let mut state = listener.prepare_with(preparation);
+    for _ in 0..POLLS {
+        match state.poll(rt) {
+            Poll::Pending => {}
+            answer => return answer,
+        }
+    }
+    Poll::Pending
+}
+
+fn describe<G, P, S, D, R>(
+    rt: &R,
+    listener: &mut PgListener<G, P, S, D>,
+    sql: Text,
+) -> Poll<Result<Describe, Error>>
+where
+    G: PoolLedger,
+    P: PoolHolder<G, D::L>,
+    S: SeatHolder<Seat = PoolSeat<G>>,
+    D: Dial,
+    D::L: Drop,
+    R: Wait,
+{
+    let mut state = listener.describe(sql);
+    for _ in 0..POLLS {
+        match state.poll(rt) {
+            Poll::Pending => {}
+            answer => return answer,
+        }
+    }
+    Poll::Pending
+}
+
+/// A statement is prepared, and told by how many parameters and columns it has.
+pub(crate) fn make_prepare<G, P, S, R>(
+    rt: &R,
+    alloc: Global,
+    out: &mut String,
+    listener: &mut PgListener<G, P, S, MemoryDial>,
+) -> Result<(), Error>
+where
+    G: PoolLedger,
+    P: PoolHolder<G, MemoryLink>,
+    S: SeatHolder<Seat = PoolSeat<G>>,
+    R: Wait,
+{
+    let sql = Text::from_str(alloc, "SELECT")?;
+    let types = Oids::new(alloc);
+    match prepare(rt, listener, Preparation { sql, types }) {
+        Poll::Pending => out.push_str(" pending")?,
+        Poll::Ready(Ok(told)) => {
+            write!(
+                out,
+                " parameters {} columns {}",
+                told.parameter_oids().len(),
+                told.columns().len()
+            )?;
+        }
+        Poll::Ready(Err(error)) => push_error(out, &error)?,
+    }
+    Ok(())
+}
+
+// Whether a column may be null.
+fn nullable(flag: Option<bool>) -> &'static str {
+    match flag {
+        Some(true) => " nullable",
+        Some(false) => " never-null",
+        None => " unknown",
+    }
+}
+
+/// A statement is described in full, and told by its columns and by whether each may be null.
+pub(crate) fn make_describe<G, P, S, R>(
+    rt: &R,
+    alloc: Global,
+    out: &mut String,
+    listener: &mut PgListener<G, P, S, MemoryDial>,
+) -> Result<(), Error>
+where
+    G: PoolLedger,
+    P: PoolHolder<G, MemoryLink>,
+    S: SeatHolder<Seat = PoolSeat<G>>,
+    R: Wait,
+{
+    let sql = Text::from_str(alloc, "SELECT")?;
+    match describe(rt, listener, sql) {
+        Poll::Pending => out.push_str(" pending")?,
+        Poll::Ready(Ok(told)) => {
+            write!(out, " columns {}", told.columns().len())?;
+            for flag in told.nullable() {
+                out.push_str(nullable(*flag))?;
+            }
+        }
+        Poll::Ready(Err(error)) => push_error(out, &error)?,
+    }
+    Ok(())
+}
