@@ -2,19 +2,19 @@
 
 ghost use Rattle.pg_call.specs.declared.kind.How.TheVariants as hows;
 ghost use Rattle.pg_call.specs.declared.kind.Kind.TheVariants as kinds;
-ghost use Rattle.pg_databases.specs.Forcing.{GoesForce};
-ghost use Rattle.pg_databases.specs.Sessions.{Goes};
+ghost use Rattle.pg_migrating.specs.Forcing.{GoesForce};
+ghost use Rattle.pg_migrating.specs.Sessions.{Goes};
 
 use crate::telling::{push_bool, push_done};
 use case_tools::push_bytes;
 use pg_conn::{Dial, PgConnection};
-use pg_databases::{DatabaseExists, DatabaseStatement, ForceDropDatabase, MigrateDatabase};
+use pg_migrating::{DatabaseExists, DatabaseStatement, ForceDropDatabase, MigrateDatabase};
 use pg_options::PgSettings;
 use pg_stream::{Link, MemoryLink, SocketLink};
 use pg_wire::{Error, Poll};
 use std::alloc::Global;
 
-type Answer<T> = Result<Poll<Result<T, Error>>, Error>;
+type Answer<T> = Poll<Result<T, Error>>;
 
 /// A link that shows what was sent over it, where it knows.
 pub(crate) trait Shown: Link {
@@ -33,14 +33,13 @@ impl Shown for SocketLink {
     }
 }
 
-// What was sent, where a connection waits.
-fn push_sent<L: Shown>(conn: Option<&PgConnection<L>>, told: &mut String) -> Result<(), Error> {
-    let Some(conn) = conn else {
-        return Ok(());
-    };
-    match conn.link().sent() {
-        [] => Ok(()),
-        sent => push_bytes(told, sent),
+// What was sent, where a connection waits. What there is no memory for is missing in what is printed.
+fn tell_sent<L: Shown>(conn: Option<&PgConnection<L>>, told: &mut String) {
+    if let Some(conn) = conn {
+        match conn.link().sent() {
+            [] => {}
+            sent => drop(push_bytes(told, sent)),
+        }
     }
 }
 
@@ -56,11 +55,11 @@ where
 {
     for _ in 0..polls {
         match state.poll() {
-            Poll::Pending => push_sent(state.conn(), told)?,
-            answer => return Ok(answer),
+            Poll::Pending => tell_sent(state.conn(), told),
+            answer => return answer,
         }
     }
-    Ok(Poll::Pending)
+    Poll::Pending
 }
 
 fn existence<D: Dial>(
@@ -74,11 +73,11 @@ where
 {
     for _ in 0..polls {
         match state.poll() {
-            Poll::Pending => push_sent(state.conn(), told)?,
-            answer => return Ok(answer),
+            Poll::Pending => tell_sent(state.conn(), told),
+            answer => return answer,
         }
     }
-    Ok(Poll::Pending)
+    Poll::Pending
 }
 
 fn forcing<D: Dial>(
@@ -92,11 +91,11 @@ where
 {
     for _ in 0..polls {
         match state.poll() {
-            Poll::Pending => push_sent(state.conn(), told)?,
-            answer => return Ok(answer),
+            Poll::Pending => tell_sent(state.conn(), told),
+            answer => return answer,
         }
     }
-    Ok(Poll::Pending)
+    Poll::Pending
 }
 
 // The answer of a call on the database of a URL that tells nothing.
@@ -140,7 +139,7 @@ where
     D::L: Shown + Drop,
 {
     let state = MigrateDatabase::database_exists(alloc, settings, url, dial);
-    let answer = existence(state, polls, told)?;
+    let answer = existence(state, polls, told);
     let pushed = push_bool(told, "exists", &answer);
     drop(answer);
     pushed
@@ -162,7 +161,7 @@ where
     if word == "exists" {
         return exists(alloc, settings, dial, url, polls, told);
     }
-    let answer = done(alloc, settings, dial, word, url, polls, told)?;
+    let answer = done(alloc, settings, dial, word, url, polls, told);
     let pushed = push_done(told, word, &answer);
     drop(answer);
     pushed

@@ -69,41 +69,6 @@ fn run_by<L: Link, K: Clock>(
     }
 }
 
-fn push_statement<L: Link>(
-    alloc: Global,
-    conn: &mut PgConnection<L>,
-    word: &str,
-    migration: &Migration,
-    told: &mut String,
-) -> Result<(), Error> {
-    let answer = statement(alloc, conn, word, migration);
-    let pushed = push_unit(&answer, told);
-    drop(answer);
-    pushed
-}
-
-fn push_dirty<L: Link>(
-    alloc: Global,
-    conn: &mut PgConnection<L>,
-    told: &mut String,
-) -> Result<(), Error> {
-    let answer = Migrate::dirty_version(alloc, conn, TABLE).poll();
-    let pushed = push_version(&answer, told);
-    drop(answer);
-    pushed
-}
-
-fn push_applied<L: Link>(
-    alloc: Global,
-    conn: &mut PgConnection<L>,
-    told: &mut String,
-) -> Result<(), Error> {
-    let answer = Migrate::list_applied_migrations(alloc, conn, TABLE).poll();
-    let pushed = push_list(&answer, told);
-    drop(answer);
-    pushed
-}
-
 // Sends what is unsent, and reads what is owed.
 fn push_flush<L: Link>(conn: &mut PgConnection<L>, told: &mut String) -> Result<(), Error> {
     let answer = flush(conn, FLUSH_POLLS);
@@ -129,10 +94,23 @@ pub(crate) fn call<L: Link, K: Clock>(
     write!(told, "  {word}: ")?;
     match word {
         "schema" | "table" | "skip" | "lock" | "unlock" => {
-            push_statement(alloc, conn, word, migration, told)
+            let answer = statement(alloc, conn, word, migration);
+            let pushed = push_unit(&answer, told);
+            drop(answer);
+            pushed
         }
-        "dirty" => push_dirty(alloc, conn, told),
-        "list" => push_applied(alloc, conn, told),
+        "dirty" => {
+            let answer = Migrate::dirty_version(alloc, conn, TABLE).poll();
+            let pushed = push_version(&answer, told);
+            drop(answer);
+            pushed
+        }
+        "list" => {
+            let answer = Migrate::list_applied_migrations(alloc, conn, TABLE).poll();
+            let pushed = push_list(&answer, told);
+            drop(answer);
+            pushed
+        }
         "apply" | "revert" => {
             let answer = run_by(alloc, conn, word, migration, clock, polls);
             let pushed = push_nanos(&answer, told);

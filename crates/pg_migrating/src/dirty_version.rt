@@ -1,6 +1,6 @@
 //! Which migration did not end well.
 
-ghost use Rattle.std.specs.Prelude.{◌≡◌, true, false, not, None, Some, IfOk, IfErr, Result};
+ghost use Rattle.std.specs.Prelude.{◌≡◌, true, false, not, None, IfOk, IfErr, Result};
 ghost use Rattle.pg_wire.specs.declared.error.Error as declared_error;
 ghost use Rattle.pg_rows.specs.Rows.{Misreads, Reads};
 ghost use Rattle.pg_call.specs.declared.kind.How.TheVariants as hows;
@@ -12,7 +12,7 @@ ghost use Rattle.pg_migrating.specs.Asking.{CallsFor, StandsAt, StaysFor, is_ask
 ghost use Rattle.pg_migrating.specs.Answers.{EndsBy, HidesDirty, IsDirty, TellsBy, int8};
 
 use crate::asking::Asking;
-use pg_call::{Request, Turn};
+use pg_call::Turn;
 use pg_guards::PgExecutor;
 use pg_migrate::MigrateError;
 use pg_rows::PgRow;
@@ -21,8 +21,8 @@ use std::alloc::Global;
 
 /// The state of `Migrate::dirty_version`, which owns what holds the connection. It does nothing before its first poll, and is dropped as any call.
 pub struct DirtyVersion<C: PgExecutor> {
-    alloc: Global,
-    asking: Asking<C>,
+    pub(crate) alloc: Global,
+    pub(crate) asking: Asking<C>,
 }
 
 // The version in a row.
@@ -49,16 +49,6 @@ fn version_in(alloc: Global, turn: Turn) -> Result<Option<i64>, MigrateError>
 }
 
 impl<C: PgExecutor> DirtyVersion<C> {
-    pub(crate) fn new(alloc: Global, conn: C, question: Result<Request, Error>) -> Self
-        ensures conn { result.asking.conn ≡ conn }
-        ensures question { result.asking.question ≡ Some question }
-    {
-        DirtyVersion {
-            alloc,
-            asking: Asking::new(conn, question),
-        }
-    }
-
     /// Whether a poll has ended the call.
     pub fn is_finished(&self) -> bool
         ensures { result ≡ not (is_asked self.now.asking.question (C.conn self.now.asking.conn).call) }

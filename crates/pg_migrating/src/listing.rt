@@ -1,6 +1,6 @@
 //! Which migrations were applied.
 
-ghost use Rattle.std.specs.Prelude.{◌≡◌, true, false, not, None, Some, IfOk, IfErr, Result};
+ghost use Rattle.std.specs.Prelude.{◌≡◌, true, false, not, None, IfOk, IfErr, Result};
 ghost use Rattle.pg_wire.specs.declared.error.Error as declared_error;
 ghost use Rattle.pg_call.specs.declared.kind.How.TheVariants as hows;
 ghost use Rattle.pg_call.specs.declared.kind.Kind.TheVariants as kinds;
@@ -11,7 +11,7 @@ ghost use Rattle.pg_migrating.specs.Asking.{CallsFor, StandsAt, StaysFor, is_ask
 ghost use Rattle.pg_migrating.specs.Answers.{AllApplied, AreApplied, EndsBy, HideApplied, HidesApplied, HidesSome, IsApplied, TellsBy};
 
 use crate::asking::Asking;
-use pg_call::{Request, Turn};
+use pg_call::Turn;
 use pg_guards::PgExecutor;
 use pg_migrate::{AppliedMigration, MigrateError};
 use pg_rows::PgRow;
@@ -21,8 +21,8 @@ use std::alloc::Global;
 /// The state of `Migrate::list_applied_migrations`, which owns what holds the connection. It does nothing before its first poll, and is dropped
 /// as any call.
 pub struct ListAppliedMigrations<C: PgExecutor> {
-    alloc: Global,
-    asking: Asking<C>,
+    pub(crate) alloc: Global,
+    pub(crate) asking: Asking<C>,
 }
 
 // The migration that a row tells of.
@@ -62,16 +62,6 @@ fn listed(alloc: Global, turn: Turn) -> Result<Vec<AppliedMigration>, MigrateErr
 }
 
 impl<C: PgExecutor> ListAppliedMigrations<C> {
-    pub(crate) fn new(alloc: Global, conn: C, question: Result<Request, Error>) -> Self
-        ensures conn { result.asking.conn ≡ conn }
-        ensures question { result.asking.question ≡ Some question }
-    {
-        ListAppliedMigrations {
-            alloc,
-            asking: Asking::new(conn, question),
-        }
-    }
-
     /// Whether a poll has ended the call.
     pub fn is_finished(&self) -> bool
         ensures { result ≡ not (is_asked self.now.asking.question (C.conn self.now.asking.conn).call) }

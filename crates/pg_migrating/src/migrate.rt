@@ -12,6 +12,7 @@ ghost use Rattle.pg_migrating.specs.Requests.{Asks};
 ghost use Rattle.pg_migrating.specs.declared.course.Way.TheVariants as ways;
 ghost use Rattle.pg_migrating.specs.declared.lock.LockWay.TheVariants as lock_ways;
 
+use crate::asking::Asking;
 use crate::course::Way;
 use crate::lock::LockWay;
 use crate::{
@@ -38,7 +39,9 @@ impl Migrate {
         ensures goes { is_asked result.asking.question (C.conn result.asking.conn).call ≡ true }
         ensures calling { CallsQuietly result.asking.question (C.conn result.asking.conn) }
     {
-        MigrateStatement::new(conn, requests::create_schema(alloc, schema))
+        MigrateStatement {
+            asking: Asking::new(conn, requests::create_schema(alloc, schema)),
+        }
     }
 
     /// Makes the table of migrations, unless it is there. (PostgreSQL manual, "SQL Commands", CREATE TABLE.)
@@ -52,7 +55,9 @@ impl Migrate {
         ensures goes { is_asked result.asking.question (C.conn result.asking.conn).call ≡ true }
         ensures calling { CallsQuietly result.asking.question (C.conn result.asking.conn) }
     {
-        MigrateStatement::new(conn, requests::create_table(alloc, table))
+        MigrateStatement {
+            asking: Asking::new(conn, requests::create_table(alloc, table)),
+        }
     }
 
     /// Asks for the first version whose migration did not end well: there is none where all did.
@@ -62,7 +67,10 @@ impl Migrate {
         ensures goes { is_asked result.asking.question (C.conn result.asking.conn).call ≡ true }
         ensures calling { CallsFor (kinds.Run hows.FetchOptional) result.asking.question (C.conn result.asking.conn) }
     {
-        DirtyVersion::new(alloc, conn, requests::dirty_version(alloc, table))
+        DirtyVersion {
+            alloc,
+            asking: Asking::new(conn, requests::dirty_version(alloc, table)),
+        }
     }
 
     /// Asks for version and checksum of each migration that was applied, by their versions.
@@ -76,7 +84,10 @@ impl Migrate {
         ensures goes { is_asked result.asking.question (C.conn result.asking.conn).call ≡ true }
         ensures calling { CallsFor (kinds.Run hows.FetchAll) result.asking.question (C.conn result.asking.conn) }
     {
-        ListAppliedMigrations::new(alloc, conn, requests::list(alloc, table))
+        ListAppliedMigrations {
+            alloc,
+            asking: Asking::new(conn, requests::list(alloc, table)),
+        }
     }
 
     /// Adds the row of a migration without running its script. A description or a checksum of more than 2147483647 bytes is `Error::Encode`.
@@ -91,7 +102,9 @@ impl Migrate {
         ensures goes { is_asked result.asking.question (C.conn result.asking.conn).call ≡ true }
         ensures calling { CallsQuietly result.asking.question (C.conn result.asking.conn) }
     {
-        MigrateStatement::new(conn, requests::insert_row(alloc, table, migration))
+        MigrateStatement {
+            asking: Asking::new(conn, requests::insert_row(alloc, table, migration)),
+        }
     }
 
     /// Takes the lock of migrations of the database that the connection is on, and waits for it.

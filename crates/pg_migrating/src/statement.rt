@@ -1,6 +1,6 @@
 //! Calls of one statement whose answer tells nothing.
 
-ghost use Rattle.std.specs.Prelude.{◌≡◌, true, false, not, None, Some, Result};
+ghost use Rattle.std.specs.Prelude.{◌≡◌, true, false, not, None, Result};
 ghost use Rattle.pg_wire.specs.declared.error.Error as declared_error;
 ghost use Rattle.pg_call.specs.declared.request.Request as declared_request;
 ghost use Rattle.pg_conn.specs.Connections.{ConnOf};
@@ -8,7 +8,6 @@ ghost use Rattle.pg_migrating.specs.Asking.{CallsQuietly, StandsAt, StaysQuiet, 
 ghost use Rattle.pg_migrating.specs.Answers.{IsTold, TellsBy, is_done, never};
 
 use crate::asking::Asking;
-use pg_call::Request;
 use pg_guards::PgExecutor;
 use pg_migrate::MigrateError;
 use pg_wire::{Error, Poll};
@@ -16,7 +15,7 @@ use pg_wire::{Error, Poll};
 /// The state of `create_schema_if_not_exists`, `ensure_migrations_table` and `skip` of `Migrate`, which owns what holds the connection. It does
 /// nothing before its first poll, and is dropped as any call.
 pub struct MigrateStatement<C: PgExecutor> {
-    asking: Asking<C>,
+    pub(crate) asking: Asking<C>,
 }
 
 /// How a call of a migration ended that is no script's.
@@ -30,15 +29,6 @@ pub(crate) fn told(end: Result<(), Error>) -> Result<(), MigrateError>
 }
 
 impl<C: PgExecutor> MigrateStatement<C> {
-    pub(crate) fn new(conn: C, question: Result<Request, Error>) -> Self
-        ensures conn { result.asking.conn ≡ conn }
-        ensures question { result.asking.question ≡ Some question }
-    {
-        MigrateStatement {
-            asking: Asking::new(conn, question),
-        }
-    }
-
     /// Whether a poll has ended the call.
     pub fn is_finished(&self) -> bool
         ensures { result ≡ not (is_asked self.now.asking.question (C.conn self.now.asking.conn).call) }

@@ -1,4 +1,4 @@
-use Rattle.pg_databases.specs.Forcing.{GoesForce}
+use Rattle.pg_migrating.specs.Forcing.{GoesForce}
 use Rattle.migrating_cases.proofs.asking.forcing.Given as goal
 
 abbrev pub invariant-loop : goal.invariant-loop

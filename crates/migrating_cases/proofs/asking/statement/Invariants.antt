@@ -1,6 +1,6 @@
 use Rattle.pg_call.specs.declared.kind.How.TheVariants as hows
 use Rattle.pg_call.specs.declared.kind.Kind.TheVariants as kinds
-use Rattle.pg_databases.specs.Sessions.{Goes}
+use Rattle.pg_migrating.specs.Sessions.{Goes}
 use Rattle.migrating_cases.proofs.asking.statement.Given as goal
 
 abbrev pub invariant-loop : goal.invariant-loop
