@@ -15,18 +15,15 @@ use Rattle.pg_call.specs.declared.answer.CallAnswer.TheVariants as answers
 use Rattle.pg_call.specs.declared.answer.Turn.{Turn}
 use Rattle.pg_call.specs.declared.answer.Turn.TheVariants as turns
 use Rattle.pg_conn.specs.Connections.{ConnOf}
-use Rattle.pg_conn.specs.Dials.{DialSeen}
 use Rattle.pg_migrating.specs.Errands.{AsksAt, AsksOf}
-use Rattle.pg_migrating.specs.Openings.{Handing}
-use Rattle.pg_migrating.specs.Sessions.{CameTo, Fails, Goes, Stands, fresh_session, is_over}
+use Rattle.pg_migrating.specs.Sessions.{CameTo, Fails, Goes, Opening, SessionSeen, Stands, fresh_session, is_over}
 use Rattle.pg_migrating.specs.declared.errand.Errand.{Errand}
 use Rattle.pg_migrating.specs.declared.errand.Task.{Task}
-use Rattle.pg_migrating.specs.declared.session.Session.{Session}
 
 -- ---- a call of one statement
 
 -- its session is new, for this task on the database that a URL names
-abbrev pub AsksFor : {A : Type 0} → Task → PgSettings → List ℕ → Session A → Type 0
+abbrev pub AsksFor : {S A : Type 0} → Task → PgSettings → List ℕ → SessionSeen S A → Type 0
 AsksFor task env url s = (asked : Result Errand Error) × (s ≡ fresh_session asked) × AsksOf (AsksAt task) env url asked
 
 -- what is made of its end
@@ -38,17 +35,17 @@ EndsBy reads misreads turn result = ⊥
 
 -- What a poll tells: at Ok, what is read of the answer that its own call has come to; else that call's error, or that there was no call, or that its
 -- answer can't be read.
-abbrev pub TellsBy : {D A X : Type 0} → (CallAnswer → X → Type 0) → (CallAnswer → Error → Type 0) → (A → LinkSeen) → Handing D A → (D → DialSeen) → Result Errand Error → D → Session A → D → Poll (Result X Error) → Type 0
-TellsBy reads misreads seen hands counts asked d s e Pending = Stands seen hands asked d s e
-TellsBy {D} {A} reads misreads seen hands counts asked d s e (Ready (Ok x)) = (answer : CallAnswer) × (conn : ConnOf A) × CameTo seen hands asked d e (turns.Ok answer) conn × reads answer x
-TellsBy {D} {A} reads misreads seen hands counts asked d s e (Ready (Err error)) = ((conn : ConnOf A) × CameTo seen hands asked d e (turns.Err error) conn)
-    ⊎ Fails seen hands counts asked d e error
-    ⊎ ((answer : CallAnswer) × (conn : ConnOf A) × CameTo seen hands asked d e (turns.Ok answer) conn × misreads answer error)
+abbrev pub TellsBy : {D S A X : Type 0} → (CallAnswer → X → Type 0) → (CallAnswer → Error → Type 0) → (A → LinkSeen) → Opening D S A → Result Errand Error → D → SessionSeen S A → D → Poll (Result X Error) → Type 0
+TellsBy reads misreads seen o asked d s e Pending = Stands seen o asked d s e
+TellsBy {D} {S} {A} reads misreads seen o asked d s e (Ready (Ok x)) = (answer : CallAnswer) × (conn : ConnOf A) × CameTo seen o asked d e (turns.Ok answer) conn × reads answer x
+TellsBy {D} {S} {A} reads misreads seen o asked d s e (Ready (Err error)) = ((conn : ConnOf A) × CameTo seen o asked d e (turns.Err error) conn)
+    ⊎ Fails seen o asked d e error
+    ⊎ ((answer : CallAnswer) × (conn : ConnOf A) × CameTo seen o asked d e (turns.Ok answer) conn × misreads answer error)
 
 -- it goes on while it waits, and then nothing is left of it
-abbrev pub Stays : {A X : Type 0} → Kind → Session A → Poll X → Type 0
-Stays kind s Pending = Goes kind s
-Stays kind s (Ready x) = is_over s ≡ true
+abbrev pub Stays : {D S A X : Type 0} → Opening D S A → Kind → SessionSeen S A → Poll X → Type 0
+Stays o kind s Pending = Goes o kind s
+Stays o kind s (Ready x) = is_over s ≡ true
 
 -- ---- the answers
 

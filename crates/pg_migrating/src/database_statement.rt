@@ -1,30 +1,27 @@
 //! Databases that are made, or dropped.
 
-ghost use Rattle.std.specs.Prelude.{◌≡◌, Result, option_copied};
+ghost use Rattle.std.specs.Prelude.{◌≡◌, Result, option_copied, option_map};
 ghost use Rattle.pg_wire.specs.declared.error.Error as declared_error;
 ghost use Rattle.pg_call.specs.declared.kind.How.TheVariants as hows;
 ghost use Rattle.pg_call.specs.declared.kind.Kind.TheVariants as kinds;
 ghost use Rattle.pg_call.specs.Answers.{TurnFits};
-ghost use Rattle.pg_conn.specs.Dials.{HandsOut};
 ghost use Rattle.pg_migrating.specs.Databases.{EndsBy, Stays, TellsBy, is_done, never};
 ghost use Rattle.pg_migrating.specs.Sessions.{Goes, Stands, is_over};
 ghost use Rattle.pg_migrating.specs.declared.errand.Errand as declared_errand;
 
-use crate::session::{Session, poll};
+use crate::opening::Sessions;
+use crate::session::{SessionOf, poll};
 use pg_call::Turn;
-use pg_conn::{Dial, PgConnection};
 use pg_wire::{Error, Poll};
 use std::alloc::Global;
 
 /// The state of `create_database` and `drop_database` of `MigrateDatabase`. Its first poll dials; once its statement is answered, its connection is let
 /// go. A drop lets go what it has opened, and leaves the dial as it is.
-pub struct DatabaseStatement<'d, D: Dial>
-where
-    D::L: Drop,
+pub struct DatabaseStatement<'d, D: Sessions>
 {
     pub(crate) alloc: Global,
     pub(crate) dial: &'d mut D,
-    pub(crate) session: Session<D::L>,
+    pub(crate) session: SessionOf<D>,
 }
 
 // How a call of one text ended.
@@ -38,9 +35,7 @@ pub(crate) fn ended(turn: Turn) -> Result<(), Error>
     }
 }
 
-impl<'d, D: Dial> DatabaseStatement<'d, D>
-where
-    D::L: Drop,
+impl<'d, D: Sessions> DatabaseStatement<'d, D>
 {
     /// Whether a poll has ended the call.
     pub fn is_finished(&self) -> bool
@@ -50,18 +45,18 @@ where
     }
 
     /// The connection, once the start-up has come to it and until the call has ended.
-    pub fn conn(&self) -> Option<&PgConnection<D::L>>
-        ensures { option_copied result ≡ self.now.session.conn }
+    pub fn conn(&self) -> Option<&D::Conn>
+        ensures { option_map D.Conn.conn (option_copied result) ≡ self.now.session.conn }
     {
         self.session.conn()
     }
 
     /// Moves the call on, by at most 256 calls of the link.
     pub fn poll(&mut self) -> Poll<Result<(), Error>>
-        requires goes { Goes (kinds.Run hows.Execute) self.old.session }
+        requires goes { Goes D.opens (kinds.Run hows.Execute) self.old.session }
         ensures same { self.new.dial.ghost_name ≡ self.old.dial.ghost_name }
-        ensures goes { Stays (kinds.Run hows.Execute) self.new.session result }
-        ensures tells { (asked : Result declared_errand.Errand declared_error.Error) (first : D) → Stands D.L.seen (HandsOut D.gives D.draws) asked first self.old.session self.old.dial.now → TellsBy is_done never D.L.seen (HandsOut D.gives D.draws) D.seen asked first self.new.session self.new.dial.now result }
+        ensures goes { Stays D.opens (kinds.Run hows.Execute) self.new.session result }
+        ensures tells { (asked : Result declared_errand.Errand declared_error.Error) (first : D) → Stands D.L.seen D.opens asked first self.old.session self.old.dial.now → TellsBy is_done never D.L.seen D.opens asked first self.new.session self.new.dial.now result }
     {
         let mut left = 256;
         match poll(self.alloc, &mut self.session, self.dial, &mut left) {
@@ -74,9 +69,7 @@ where
     }
 }
 
-impl<D: Dial> Drop for DatabaseStatement<'_, D>
-where
-    D::L: Drop,
+impl<D: Sessions> Drop for DatabaseStatement<'_, D>
 {
     fn drop(self) {
         let DatabaseStatement {

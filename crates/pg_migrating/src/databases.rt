@@ -11,9 +11,9 @@ ghost use Rattle.pg_migrating.specs.declared.errand.Task.TheVariants as tasks;
 
 use crate::errand::{Task, errand_of};
 use crate::forcing::forcing_of;
+use crate::opening::Sessions;
 use crate::session::Session;
 use crate::{DatabaseExists, DatabaseStatement, ForceDropDatabase};
-use pg_conn::Dial;
 use pg_options::PgSettings;
 use std::alloc::Global;
 
@@ -24,18 +24,16 @@ pub struct MigrateDatabase;
 
 impl MigrateDatabase {
     /// Makes the database. (PostgreSQL manual, "SQL Commands", CREATE DATABASE.)
-    pub fn create_database<'d, D: Dial>(
+    pub fn create_database<'d, D: Sessions>(
         alloc: Global,
         env: &PgSettings,
         url: &str,
         dial: &'d mut D,
     ) -> DatabaseStatement<'d, D>
-    where
-        D::L: Drop,
         ensures dial { result.dial.now ≡ dial.old }
         ensures same { result.dial.ghost_name ≡ dial.entry.ghost_name }
         ensures asks { AsksFor tasks.Create env.now url.now result.session }
-        ensures goes { Goes (kinds.Run hows.Execute) result.session }
+        ensures goes { Goes D.opens (kinds.Run hows.Execute) result.session }
     {
         DatabaseStatement {
             alloc,
@@ -45,18 +43,16 @@ impl MigrateDatabase {
     }
 
     /// Asks whether there is the database. (PostgreSQL manual, "System Catalogs", pg_database.)
-    pub fn database_exists<'d, D: Dial>(
+    pub fn database_exists<'d, D: Sessions>(
         alloc: Global,
         env: &PgSettings,
         url: &str,
         dial: &'d mut D,
     ) -> DatabaseExists<'d, D>
-    where
-        D::L: Drop,
         ensures dial { result.dial.now ≡ dial.old }
         ensures same { result.dial.ghost_name ≡ dial.entry.ghost_name }
         ensures asks { AsksFor tasks.Exists env.now url.now result.session }
-        ensures goes { Goes (kinds.Run hows.FetchOne) result.session }
+        ensures goes { Goes D.opens (kinds.Run hows.FetchOne) result.session }
     {
         DatabaseExists {
             alloc,
@@ -66,18 +62,16 @@ impl MigrateDatabase {
     }
 
     /// Drops the database, if it is there. (PostgreSQL manual, "SQL Commands", DROP DATABASE.)
-    pub fn drop_database<'d, D: Dial>(
+    pub fn drop_database<'d, D: Sessions>(
         alloc: Global,
         env: &PgSettings,
         url: &str,
         dial: &'d mut D,
     ) -> DatabaseStatement<'d, D>
-    where
-        D::L: Drop,
         ensures dial { result.dial.now ≡ dial.old }
         ensures same { result.dial.ghost_name ≡ dial.entry.ghost_name }
         ensures asks { AsksFor tasks.Remove env.now url.now result.session }
-        ensures goes { Goes (kinds.Run hows.Execute) result.session }
+        ensures goes { Goes D.opens (kinds.Run hows.Execute) result.session }
     {
         DatabaseStatement {
             alloc,
@@ -87,19 +81,17 @@ impl MigrateDatabase {
     }
 
     /// Drops the database, if it is there, though there are sessions on it: these are ended first.
-    pub fn force_drop_database<'d, D: Dial>(
+    pub fn force_drop_database<'d, D: Sessions>(
         alloc: Global,
         env: &PgSettings,
         url: &str,
         dial: &'d mut D,
     ) -> ForceDropDatabase<'d, D>
-    where
-        D::L: Drop,
         ensures dial { result.dial.now ≡ dial.old }
         ensures same { result.dial.ghost_name ≡ dial.entry.ghost_name }
         ensures step { result.step ≡ steps.Version }
         ensures asks { AsksToForce env.now url.now result.database result.session result.last }
-        ensures goes { GoesForce steps.Version result.session result.last }
+        ensures goes { GoesForce D.opens steps.Version result.session result.last }
     {
         ForceDropDatabase::new(alloc, dial, forcing_of(alloc, env, url))
     }

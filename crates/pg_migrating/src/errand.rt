@@ -20,7 +20,7 @@ pub(crate) enum Task {
 }
 
 /// Where a session is opened, and what is asked there.
-pub(crate) struct Errand {
+pub struct Errand {
     pub(crate) options: PgConnectOptions,
     pub(crate) request: Request,
 }

@@ -1,32 +1,29 @@
 //! Whether there is a database.
 
-ghost use Rattle.std.specs.Prelude.{◌≡◌, IfOk, IfErr, Result, option_copied};
+ghost use Rattle.std.specs.Prelude.{◌≡◌, IfOk, IfErr, Result, option_copied, option_map};
 ghost use Rattle.pg_wire.specs.declared.error.Error as declared_error;
 ghost use Rattle.pg_call.specs.declared.kind.How.TheVariants as hows;
 ghost use Rattle.pg_call.specs.declared.kind.Kind.TheVariants as kinds;
 ghost use Rattle.pg_call.specs.Answers.{TurnFits};
 ghost use Rattle.pg_rows.specs.Rows.{Misreads, Reads};
-ghost use Rattle.pg_conn.specs.Dials.{HandsOut};
 ghost use Rattle.pg_migrating.specs.Databases.{EndsBy, Stays, TellsBy, HidesBool, Says, boolean};
 ghost use Rattle.pg_migrating.specs.Sessions.{Goes, Stands, is_over};
 ghost use Rattle.pg_migrating.specs.declared.errand.Errand as declared_errand;
 
-use crate::session::{Session, poll};
+use crate::opening::Sessions;
+use crate::session::{SessionOf, poll};
 use pg_call::Turn;
-use pg_conn::{Dial, PgConnection};
 use pg_rows::PgRow;
 use pg_wire::{Error, Poll};
 use std::alloc::Global;
 
 /// The state of `MigrateDatabase::database_exists`. Its first poll dials; once its statement is answered, its connection is let
 /// go. A drop lets go what it has opened, and leaves the dial as it is.
-pub struct DatabaseExists<'d, D: Dial>
-where
-    D::L: Drop,
+pub struct DatabaseExists<'d, D: Sessions>
 {
     pub(crate) alloc: Global,
     pub(crate) dial: &'d mut D,
-    pub(crate) session: Session<D::L>,
+    pub(crate) session: SessionOf<D>,
 }
 
 // The bool in a row.
@@ -48,9 +45,7 @@ fn told(alloc: Global, turn: Turn) -> Result<bool, Error>
     }
 }
 
-impl<'d, D: Dial> DatabaseExists<'d, D>
-where
-    D::L: Drop,
+impl<'d, D: Sessions> DatabaseExists<'d, D>
 {
     /// Whether a poll has ended the call.
     pub fn is_finished(&self) -> bool
@@ -60,18 +55,18 @@ where
     }
 
     /// The connection, once the start-up has come to it and until the call has ended.
-    pub fn conn(&self) -> Option<&PgConnection<D::L>>
-        ensures { option_copied result ≡ self.now.session.conn }
+    pub fn conn(&self) -> Option<&D::Conn>
+        ensures { option_map D.Conn.conn (option_copied result) ≡ self.now.session.conn }
     {
         self.session.conn()
     }
 
     /// Moves the call on, by at most 256 calls of the link, and answers whether the database is there.
     pub fn poll(&mut self) -> Poll<Result<bool, Error>>
-        requires goes { Goes (kinds.Run hows.FetchOne) self.old.session }
+        requires goes { Goes D.opens (kinds.Run hows.FetchOne) self.old.session }
         ensures same { self.new.dial.ghost_name ≡ self.old.dial.ghost_name }
-        ensures goes { Stays (kinds.Run hows.FetchOne) self.new.session result }
-        ensures tells { (asked : Result declared_errand.Errand declared_error.Error) (first : D) → Stands D.L.seen (HandsOut D.gives D.draws) asked first self.old.session self.old.dial.now → TellsBy Says HidesBool D.L.seen (HandsOut D.gives D.draws) D.seen asked first self.new.session self.new.dial.now result }
+        ensures goes { Stays D.opens (kinds.Run hows.FetchOne) self.new.session result }
+        ensures tells { (asked : Result declared_errand.Errand declared_error.Error) (first : D) → Stands D.L.seen D.opens asked first self.old.session self.old.dial.now → TellsBy Says HidesBool D.L.seen D.opens asked first self.new.session self.new.dial.now result }
     {
         let mut left = 256;
         match poll(self.alloc, &mut self.session, self.dial, &mut left) {
@@ -84,9 +79,7 @@ where
     }
 }
 
-impl<D: Dial> Drop for DatabaseExists<'_, D>
-where
-    D::L: Drop,
+impl<D: Sessions> Drop for DatabaseExists<'_, D>
 {
     fn drop(self) {
         let DatabaseExists {

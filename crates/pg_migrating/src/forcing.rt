@@ -1,6 +1,6 @@
 //! A database that is dropped though there are sessions on it.
 
-ghost use Rattle.std.specs.Prelude.{◌≡◌, ◌≤◌, ◌^◌, IfOk, IfErr, None, Some, Result, option_copied};
+ghost use Rattle.std.specs.Prelude.{◌≡◌, ◌≤◌, ◌^◌, IfOk, IfErr, None, Some, Result, option_copied, option_map};
 ghost use Rattle.futures.specs.declared.task.Poll.TheVariants.{Ready};
 ghost use Rattle.pg_wire.specs.declared.error.Error as declared_error;
 ghost use Rattle.pg_options.specs.Numbers.{number_below};
@@ -8,7 +8,6 @@ ghost use Rattle.pg_call.specs.declared.answer.CallAnswer.TheVariants as answers
 ghost use Rattle.pg_call.specs.declared.kind.How.TheVariants as hows;
 ghost use Rattle.pg_call.specs.declared.kind.Kind.TheVariants as kinds;
 ghost use Rattle.pg_call.specs.Answers.{TurnFits};
-ghost use Rattle.pg_conn.specs.Dials.{HandsOut};
 ghost use Rattle.pg_migrating.specs.Databases.{EndsBy};
 ghost use Rattle.pg_migrating.specs.Errands.{AsksOf};
 ghost use Rattle.pg_migrating.specs.Forcing.{AsksForce, EndsTerminate, EndsVersion, GoesForce, HidesNumber, HidesVersion, IsNumber, StandsBy, StandsForce, StaysForce, StepGoes, TellsForce, TellsForceStep, Terminating, conn_at, is_forced, version_in};
@@ -19,10 +18,10 @@ ghost use Rattle.pg_migrating.specs.declared.forcing.ForceStep.TheVariants as st
 use crate::errand::{Errand, Task, errand_at};
 use crate::names::database_of;
 use crate::database_requests::terminate;
-use crate::session::{Session, poll};
+use crate::opening::Sessions;
+use crate::session::{Session, SessionOf, poll};
 use crate::database_statement::ended;
 use pg_call::{Request, Turn};
-use pg_conn::{Dial, PgConnection};
 use pg_options::{PgConnectOptions, PgSettings};
 use pg_rows::PgRow;
 use pg_wire::{Error, Poll, Text};
@@ -47,16 +46,14 @@ pub(crate) enum ForceStep {
 /// The state of `MigrateDatabase::force_drop_database`. Its first poll dials. From one connection it asks for the server's version and ends all other
 /// sessions on the database; then it lets that connection go, dials again, and drops the database. A drop of the state lets go what it has opened, and
 /// leaves the dial as it is.
-pub struct ForceDropDatabase<'d, D: Dial>
-where
-    D::L: Drop,
+pub struct ForceDropDatabase<'d, D: Sessions>
 {
     alloc: Global,
     dial: &'d mut D,
     step: ForceStep,
     database: Text,
-    session: Session<D::L>,
-    last: Session<D::L>,
+    session: SessionOf<D>,
+    last: SessionOf<D>,
 }
 
 // What is asked, of the database that options name.
@@ -132,9 +129,7 @@ fn terminating(alloc: Global, turn: Turn, database: &str) -> Result<Request, Err
     }
 }
 
-impl<'d, D: Dial> ForceDropDatabase<'d, D>
-where
-    D::L: Drop,
+impl<'d, D: Sessions> ForceDropDatabase<'d, D>
 {
     pub(crate) fn new(alloc: Global, dial: &'d mut D, forcing: Result<Forcing, Error>) -> Self
         ensures dial { result.dial.now ≡ dial.old }
@@ -181,8 +176,8 @@ where
     }
 
     /// The connection that the call is on, once a start-up has come to it.
-    pub fn conn(&self) -> Option<&PgConnection<D::L>>
-        ensures { option_copied result ≡ conn_at self.now.step self.now.session.conn self.now.last.conn }
+    pub fn conn(&self) -> Option<&D::Conn>
+        ensures { option_map D.Conn.conn (option_copied result) ≡ conn_at self.now.step self.now.session.conn self.now.last.conn }
     {
         match self.step {
             ForceStep::Version | ForceStep::Terminate => self.session.conn(),
@@ -226,11 +221,11 @@ where
     fn poll_version(&mut self, left: &mut u16) -> Option<Poll<Result<(), Error>>>
         requires left { left.old ≤ 256 }
         requires step { self.old.step ≡ steps.Version }
-        requires goes { GoesForce steps.Version self.old.session self.old.last }
+        requires goes { GoesForce D.opens steps.Version self.old.session self.old.last }
         ensures left { left.new ≤ left.old }
         ensures same { self.new.dial.ghost_name ≡ self.old.dial.ghost_name }
-        ensures goes { StepGoes steps.Terminate self.new.step self.new.session self.new.last result }
-        ensures tells { (asked : Result declared_forcing.Forcing declared_error.Error) (first : D) → StandsForce D.L.seen (HandsOut D.gives D.draws) asked first steps.Version self.old.database self.old.session self.old.last self.old.dial.now → TellsForceStep D.L.seen (HandsOut D.gives D.draws) D.seen asked first self.new.step self.new.database self.new.session self.new.last self.new.dial.now result }
+        ensures goes { StepGoes D.opens steps.Terminate self.new.step self.new.session self.new.last result }
+        ensures tells { (asked : Result declared_forcing.Forcing declared_error.Error) (first : D) → StandsForce D.L.seen D.opens asked first steps.Version self.old.database self.old.session self.old.last self.old.dial.now → TellsForceStep D.L.seen D.opens asked first self.new.step self.new.database self.new.session self.new.last self.new.dial.now result }
     {
         match poll(self.alloc, &mut self.session, self.dial, left) {
             Poll::Pending => Some(Poll::Pending),
@@ -260,11 +255,11 @@ where
     fn poll_terminate(&mut self, left: &mut u16) -> Option<Poll<Result<(), Error>>>
         requires left { left.old ≤ 256 }
         requires step { self.old.step ≡ steps.Terminate }
-        requires goes { GoesForce steps.Terminate self.old.session self.old.last }
+        requires goes { GoesForce D.opens steps.Terminate self.old.session self.old.last }
         ensures left { left.new ≤ left.old }
         ensures same { self.new.dial.ghost_name ≡ self.old.dial.ghost_name }
-        ensures goes { StepGoes steps.Remove self.new.step self.new.session self.new.last result }
-        ensures tells { (asked : Result declared_forcing.Forcing declared_error.Error) (first : D) → StandsForce D.L.seen (HandsOut D.gives D.draws) asked first steps.Terminate self.old.database self.old.session self.old.last self.old.dial.now → TellsForceStep D.L.seen (HandsOut D.gives D.draws) D.seen asked first self.new.step self.new.database self.new.session self.new.last self.new.dial.now result }
+        ensures goes { StepGoes D.opens steps.Remove self.new.step self.new.session self.new.last result }
+        ensures tells { (asked : Result declared_forcing.Forcing declared_error.Error) (first : D) → StandsForce D.L.seen D.opens asked first steps.Terminate self.old.database self.old.session self.old.last self.old.dial.now → TellsForceStep D.L.seen D.opens asked first self.new.step self.new.database self.new.session self.new.last self.new.dial.now result }
     {
         match self.session.poll_call(left) {
             Poll::Pending => Some(Poll::Pending),
@@ -276,10 +271,10 @@ where
     fn poll_remove(&mut self, left: &mut u16) -> Poll<Result<(), Error>>
         requires left { left.old ≤ 256 }
         requires step { self.old.step ≡ steps.Remove }
-        requires goes { GoesForce steps.Remove self.old.session self.old.last }
+        requires goes { GoesForce D.opens steps.Remove self.old.session self.old.last }
         ensures same { self.new.dial.ghost_name ≡ self.old.dial.ghost_name }
-        ensures goes { StaysForce self.new.step self.new.session self.new.last result }
-        ensures tells { (asked : Result declared_forcing.Forcing declared_error.Error) (first : D) → StandsForce D.L.seen (HandsOut D.gives D.draws) asked first steps.Remove self.old.database self.old.session self.old.last self.old.dial.now → TellsForce D.L.seen (HandsOut D.gives D.draws) D.seen asked first self.new.step self.new.database self.new.session self.new.last self.new.dial.now result }
+        ensures goes { StaysForce D.opens self.new.step self.new.session self.new.last result }
+        ensures tells { (asked : Result declared_forcing.Forcing declared_error.Error) (first : D) → StandsForce D.L.seen D.opens asked first steps.Remove self.old.database self.old.session self.old.last self.old.dial.now → TellsForce D.L.seen D.opens asked first self.new.step self.new.database self.new.session self.new.last self.new.dial.now result }
     {
         match poll(self.alloc, &mut self.last, self.dial, left) {
             Poll::Pending => Poll::Pending,
@@ -291,10 +286,10 @@ where
     fn poll_others(&mut self, left: &mut u16) -> Poll<Result<(), Error>>
         requires left { left.old ≤ 256 }
         requires step { self.old.step ≡ steps.Terminate }
-        requires goes { GoesForce steps.Terminate self.old.session self.old.last }
+        requires goes { GoesForce D.opens steps.Terminate self.old.session self.old.last }
         ensures same { self.new.dial.ghost_name ≡ self.old.dial.ghost_name }
-        ensures goes { StaysForce self.new.step self.new.session self.new.last result }
-        ensures tells { (asked : Result declared_forcing.Forcing declared_error.Error) (first : D) → StandsForce D.L.seen (HandsOut D.gives D.draws) asked first steps.Terminate self.old.database self.old.session self.old.last self.old.dial.now → TellsForce D.L.seen (HandsOut D.gives D.draws) D.seen asked first self.new.step self.new.database self.new.session self.new.last self.new.dial.now result }
+        ensures goes { StaysForce D.opens self.new.step self.new.session self.new.last result }
+        ensures tells { (asked : Result declared_forcing.Forcing declared_error.Error) (first : D) → StandsForce D.L.seen D.opens asked first steps.Terminate self.old.database self.old.session self.old.last self.old.dial.now → TellsForce D.L.seen D.opens asked first self.new.step self.new.database self.new.session self.new.last self.new.dial.now result }
     {
         match self.poll_terminate(left) {
             Some(answer) => answer,
@@ -304,10 +299,10 @@ where
 
     /// Moves the call on, by at most 256 calls of the links. A version that is no number is `Decode`.
     pub fn poll(&mut self) -> Poll<Result<(), Error>>
-        requires goes { GoesForce self.old.step self.old.session self.old.last }
+        requires goes { GoesForce D.opens self.old.step self.old.session self.old.last }
         ensures same { self.new.dial.ghost_name ≡ self.old.dial.ghost_name }
-        ensures goes { StaysForce self.new.step self.new.session self.new.last result }
-        ensures tells { (asked : Result declared_forcing.Forcing declared_error.Error) (first : D) → StandsForce D.L.seen (HandsOut D.gives D.draws) asked first self.old.step self.old.database self.old.session self.old.last self.old.dial.now → TellsForce D.L.seen (HandsOut D.gives D.draws) D.seen asked first self.new.step self.new.database self.new.session self.new.last self.new.dial.now result }
+        ensures goes { StaysForce D.opens self.new.step self.new.session self.new.last result }
+        ensures tells { (asked : Result declared_forcing.Forcing declared_error.Error) (first : D) → StandsForce D.L.seen D.opens asked first self.old.step self.old.database self.old.session self.old.last self.old.dial.now → TellsForce D.L.seen D.opens asked first self.new.step self.new.database self.new.session self.new.last self.new.dial.now result }
     {
         let mut left = 256;
         match self.step {
@@ -322,9 +317,7 @@ where
     }
 }
 
-impl<D: Dial> Drop for ForceDropDatabase<'_, D>
-where
-    D::L: Drop,
+impl<D: Sessions> Drop for ForceDropDatabase<'_, D>
 {
     fn drop(self) {
         let ForceDropDatabase {

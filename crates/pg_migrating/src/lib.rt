@@ -34,5 +34,6 @@ pub use forcing::ForceDropDatabase;
 pub use listing::ListAppliedMigrations;
 pub use lock::MigrationLock;
 pub use migrate::Migrate;
+pub use opening::Sessions;
 pub use running::RunMigration;
 pub use statement::MigrateStatement;
