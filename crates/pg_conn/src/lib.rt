@@ -42,5 +42,5 @@ pub use statement::PgStatement;
 pub use states::{
     Asks, Begin, ClearCachedStatements, Close, Commit, Execute, ExecuteMany, Fetch, FetchAll,
     FetchMany, FetchOne, FetchOptional, Flush, Ping, Prepare, Rollback, commit_request,
-    rollback_request,
+    prepare_request, rollback_request,
 };

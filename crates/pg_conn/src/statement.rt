@@ -32,8 +32,8 @@ impl Drop for PgStatement {
 }
 
 impl PgStatement {
-    // What is told of it, without taking memory.
-    pub(crate) fn told(prepared: Prepared) -> Self
+    /// What is told of a statement that was prepared, without taking memory.
+    pub fn told(prepared: Prepared) -> Self
         ensures { result ≡ statement_of prepared }
     {
         let mut prepared = prepared;

@@ -35,5 +35,5 @@ pub use fetch_one::FetchOne;
 pub use fetch_optional::FetchOptional;
 pub use flush::Flush;
 pub use ping::Ping;
-pub use prepare::Prepare;
+pub use prepare::{Prepare, prepare_request};
 pub use rollback::{Rollback, rollback_request};

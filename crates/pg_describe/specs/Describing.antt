@@ -15,7 +15,7 @@ use Rattle.pg_call.specs.declared.kind.Kind.TheVariants as kinds
 use Rattle.pg_call.specs.declared.request.Request.TheVariants as requests
 use Rattle.pg_call.specs.declared.statement.Prepared.{Prepared}
 use Rattle.pg_call.specs.declared.answer.Turn.{Turn}
-use Rattle.pg_call.specs.Answers.{rows_turn, statement_turn}
+use Rattle.pg_call.specs.Answers.{TurnFits, rows_turn, statement_turn}
 use Rattle.pg_conn.specs.Connections.{ConnOf, seen_by, started_next}
 use Rattle.pg_conn.specs.States.{IsCalling, turn_of}
 use Rattle.pg_conn.specs.Turns.{PollsCall, PollsMore}
@@ -42,6 +42,11 @@ abbrev pub HearsNulls : Prepared → Poll (Result (List RowSeen) Error) → Poll
 HearsNulls p Pending answer told = (answer ≡ Pending) × (told ≡ Some p)
 HearsNulls p (Ready (Err e)) answer told = (answer ≡ Ready (Err e)) × (told ≡ None)
 HearsNulls p (Ready (Ok rows)) answer told = (told ≡ None) × ((d : Result Describe Error) × (answer ≡ Ready d) × TellsNulls p rows d)
+
+-- an answer to it gives rows, or fails
+abbrev pub FitsNulls : Poll Turn → Type 0
+FitsNulls Pending = Unit {0}
+FitsNulls (Ready turn) = TurnFits (kinds.Run hows.FetchAll) turn
 
 -- the same, by what the core answers
 abbrev pub HearsTurn : Prepared → Poll Turn → Poll (Result Describe Error) → Option Prepared → Type 0

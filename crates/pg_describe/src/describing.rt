@@ -7,14 +7,12 @@ ghost use Rattle.pg_conn.specs.States.{PollFits, to_prepare, untyped};
 ghost use Rattle.pg_describe.specs.Describing.{GoesOn, HearsTurn, IsDescribing, PollsDescribe, StaysDescribing, TellsNulls};
 
 use crate::Describe;
-use crate::flags::read_flags;
-use pg_call::{Keeping, Prepared, Request, Turn};
-use pg_columns::{PgColumn, PgColumns};
-use pg_conn::PgRow;
+use crate::telling::{columns_in, hear};
+use pg_call::{Prepared, Request, Turn};
+use pg_conn::{Preparation, prepare_request};
 use pg_guards::{PgExecutor, holding};
 use pg_nullable::nulls_query;
-use pg_wire::{Error, Oids, Poll, Sequence, Text};
-use std::alloc::Global;
+use pg_wire::{Error, Oids, Poll, Text};
 
 /// The state of `describe`, which owns what holds the connection. It does nothing before its first poll. It is made of two calls, whose numbers `progress`
 /// tells together. Where it is dropped before its end, what was sent stays owed: the next call on the connection reads it away.
@@ -33,37 +31,13 @@ pub fn describe<C: PgExecutor>(conn: C, sql: Text) -> Describing<C>
     ensures told { result.told ≡ None }
     ensures calling { IsDescribing result.told (begun_by result.request (C.conn result.conn)) }
 {
-    let parameters = Oids::new(conn.conn_ref().allocator());
-    let request = Request::Prepare(Prepared {
-        sql,
-        parameters,
-        columns: None,
-        keeping: Keeping::Stays,
-    });
+    let alloc = conn.conn_ref().allocator();
+    let types = Oids::new(alloc);
+    let request = prepare_request(alloc, Preparation { sql, types });
     Describing {
         conn,
         request: Some(request),
         told: None,
-    }
-}
-
-// The columns that were told.
-fn columns_in(told: &Option<PgColumns>) -> &[PgColumn]
-    ensures { result.now ≡ columns_of (unwrap_or told.now []) }
-{
-    match told {
-        Some(columns) => columns.as_slice(),
-        None => &[],
-    }
-}
-
-// The whole of a statement, and of the rows that tell of its columns.
-fn described(alloc: Global, prepared: Prepared, rows: Sequence<PgRow>) -> Result<Describe, Error>
-    ensures { TellsNulls prepared rows result }
-{
-    match read_flags(alloc, rows.as_slice()) {
-        Ok(nullable) => Ok(Describe::new(prepared, nullable)),
-        Err(e) => Err(e),
     }
 }
 
@@ -84,19 +58,10 @@ impl<C: PgExecutor> Describing<C> {
         ensures hears { HearsTurn prepared answer result self.new.told }
         ensures stays { StaysDescribing self.new.told (C.conn self.new.conn) result }
     {
-        match answer {
-            Poll::Pending => {
-                self.told = Some(prepared);
-                Poll::Pending
-            }
-            Poll::Ready(turn) => match turn.into_rows() {
-                Ok(rows) => {
-                    let alloc = self.conn.conn_ref().allocator();
-                    Poll::Ready(described(alloc, prepared, rows))
-                }
-                Err(e) => Poll::Ready(Err(e)),
-            },
-        }
+        let alloc = self.conn.conn_ref().allocator();
+        let (answer, told) = hear(alloc, prepared, answer);
+        self.told = told;
+        answer
     }
 
     // The first poll of the query on nulls, behind the preparation. Where there is no column, nothing is asked.

@@ -28,7 +28,7 @@ impl Drop for Describe {
 
 impl Describe {
     /// What was told of a statement, and then of its columns.
-    pub(crate) fn new(prepared: Prepared, nullable: Vec<Option<bool>>) -> Self
+    pub fn new(prepared: Prepared, nullable: Vec<Option<bool>>) -> Self
         ensures statement { TellsStatement prepared result }
         ensures nullable { result.nullable.items ≡ nullable.items }
     {

@@ -6,6 +6,7 @@
 mod describing;
 mod description;
 mod flags;
+pub mod telling;
 
 pub use describing::{Describing, describe};
 pub use description::Describe;

@@ -1,1 +1,4 @@
+mod AloneLaws
+mod BesideLaws
+mod DescribingLaws
 mod ReleasingLaws

@@ -1,1 +1,2 @@
+pub mod Describing
 pub mod Listeners

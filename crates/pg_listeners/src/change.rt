@@ -1,8 +1,8 @@
 //! The calls of a listener that change its channels.
 ghost use Rattle.std.specs.Prelude.{◌≡◌, true, false, [], None, Some};
 ghost use Rattle.pg_reconnect.specs.Hearing.{HearsBy};
-ghost use Rattle.pg_reconnect.specs.Waiting.{OnPending};
-ghost use Rattle.pg_listeners.specs.Listeners.{MakesChange, WaitsBegun, goes_on, is_answered};
+ghost use Rattle.pg_reconnect.specs.Waiting.{NotesBy};
+ghost use Rattle.pg_listeners.specs.Listeners.{CausedBegun, MakesChange, beside_of, goes_on, is_answered};
 
 use crate::answering::is_answered;
 use crate::{ChannelChange, PgListener, PoolHolder, SeatHolder};
@@ -130,7 +130,8 @@ where
         ensures hears { HearsBy D.L.seen self.old.listener.now.hearing self.new.listener.now.hearing [] }
         ensures changes { MakesChange self.old.change self.old.listener.now.hearing self.new.listener.now.hearing result }
         ensures begun { self.new.change ≡ None }
-        ensures pending { OnPending result (WaitsBegun D.L.seen self.old.listener.now.hearing self.new.listener.now.hearing) }
+        ensures causes { CausedBegun D.L.seen (beside_of P.pool S.seat D.seen G.most self.old.listener.now self.new.listener.now) self.old.listener.now.hearing self.new.listener.now.hearing result }
+        ensures closed { NotesBy D.L G.most (S.seat self.new.listener.now.seat) result }
     {
         let mut left = 256;
         let answer = self.listener.poll_asking(rt, &mut self.change, &mut left);

@@ -3,10 +3,15 @@ ghost use Rattle.std.specs.Prelude.{◌≡◌, ◌⊎◌, ◌≤◌, ◌++◌, t
 ghost use Rattle.pg_conn.specs.News.{given};
 ghost use Rattle.pg_listening.specs.Buffers.{buffered};
 ghost use Rattle.pg_reconnect.specs.Hearing.{Changes, GivesOldest, HearsBy, OnReady, TellsLoss, buffers_of, channels_at_ok, fresh_hearing, gave_by, is_changing};
+ghost use Rattle.pg_reconnect.specs.Failing.{CausedBy, Fails, OnFailed};
+ghost use Rattle.pg_reconnect.specs.Leaving.{OnReleased};
+ghost use Rattle.pg_call.specs.declared.kind.Kind.{Kind};
+ghost use Rattle.pg_reconnect.specs.Querying.{IsQuerying, NotesTurn, Queries};
 ghost use Rattle.pg_reconnect.specs.Waiting.{AsksClosed, NotesBy, OnNone, OnPending, ReadiesBy, WaitsBy};
-ghost use Rattle.pg_listeners.specs.Listeners.{MakesChange, WaitsBehind, goes_on, stored_by, wanted_by};
+ghost use Rattle.pg_listeners.specs.Listeners.{CausedBehind, MakesChange, beside_of, goes_on, stored_by, wanted_by};
 
 use crate::{ChannelChange, PgNotification, PoolHolder, SeatHolder};
+use pg_call::{Request, Turn};
 use pg_conn::Dial;
 use pg_listen::{PoolLedger, PoolSeat, Released};
 use pg_reconnect::Hearing;
@@ -88,6 +93,11 @@ impl<G: PoolLedger, P: PoolHolder<G, D::L>, S: SeatHolder<Seat = PoolSeat<G>>, D
         }
     }
 
+    // Where its memory comes from.
+    pub(crate) fn allocator(&self) -> Global {
+        self.hearing.allocator()
+    }
+
     /// The channels that it listens to, in the order in which they were asked for.
     pub fn channels(&self) -> &[Text]
         ensures { result.now ≡ self.now.hearing.listening.channels }
@@ -97,14 +107,14 @@ impl<G: PoolLedger, P: PoolHolder<G, D::L>, S: SeatHolder<Seat = PoolSeat<G>>, D
 
     /// Whether a loss is told behind a reconnect, or else before it.
     pub fn eager_reconnect(&mut self, yes: bool)
-        ensures hearing { self.new.hearing ≡ record self.old.hearing { is_eager = yes } }
+        ensures { self.new ≡ record self.old { hearing = record self.old.hearing { is_eager = yes } } }
     {
         self.hearing.eager_reconnect(yes);
     }
 
     /// Whether it listens on where its pool was closed.
     pub fn ignore_pool_close_event(&mut self, yes: bool)
-        ensures hearing { self.new.hearing ≡ record self.old.hearing { ignores_close = yes } }
+        ensures { self.new ≡ record self.old { hearing = record self.old.hearing { ignores_close = yes } } }
     {
         self.hearing.ignore_pool_close_event(yes);
     }
@@ -119,7 +129,7 @@ impl<G: PoolLedger, P: PoolHolder<G, D::L>, S: SeatHolder<Seat = PoolSeat<G>>, D
     /// Takes them.
     pub fn take_lost(&mut self) -> Vec<D::L>
         ensures lost { result.items ≡ self.old.hearing.lost }
-        ensures rest { self.new.hearing ≡ record self.old.hearing { lost = [] } }
+        ensures rest { self.new ≡ record self.old { hearing = record self.old.hearing { lost = [] } } }
     {
         self.hearing.take_lost()
     }
@@ -127,6 +137,7 @@ impl<G: PoolLedger, P: PoolHolder<G, D::L>, S: SeatHolder<Seat = PoolSeat<G>>, D
     /// Takes the oldest notification that is buffered. It asks nothing of the link.
     pub fn next_buffered(&mut self) -> Option<PgNotification>
         ensures hears { HearsBy D.L.seen self.old.hearing self.new.hearing (option_to_list result) }
+        ensures rest { self.new ≡ record self.old { hearing = self.new.hearing } }
         ensures channels { self.new.hearing.listening.channels ≡ self.old.hearing.listening.channels }
         ensures oldest { option_to_list result ++ buffered (buffers_of D.L.seen self.new.hearing) ≡ buffered (buffers_of D.L.seen self.old.hearing) }
     {
@@ -150,6 +161,7 @@ impl<G: PoolLedger, P: PoolHolder<G, D::L>, S: SeatHolder<Seat = PoolSeat<G>>, D
         ensures channels { OnOk result (self.new.hearing.listening.channels ≡ stored_by change.old self.old.hearing) }
         ensures next { OnOk result (channels_at_ok self.new.hearing ≡ wanted_by change.old self.old.hearing) }
         ensures changing { OnOk result (is_changing self.new.hearing ≡ true) }
+        ensures rest { self.new ≡ record self.old { hearing = self.new.hearing } }
         ensures begun { change.new ≡ None }
         ensures err { OnErr result ((self.new ≡ self.old) × (result ≡ Err Error.OutOfMemory)) }
     {
@@ -166,7 +178,8 @@ impl<G: PoolLedger, P: PoolHolder<G, D::L>, S: SeatHolder<Seat = PoolSeat<G>>, D
         S: Drop,
         D: Drop,
         D::L: Drop,
-        ensures { is_some result ≡ is_some self.hearing.listening.conn }
+        ensures some { is_some result ≡ is_some self.hearing.listening.conn }
+        ensures releases { OnReleased G.most self.hearing.listening.conn result }
     {
         let PgListener {
             pool,
@@ -197,7 +210,7 @@ where
         ensures hears { HearsBy D.L.seen self.old.hearing self.new.hearing [] }
         ensures changes { Changes self.old.hearing.listening.channels (channels_at_ok self.old.hearing) self.new.hearing result }
         ensures left { left.new ≤ left.old }
-        ensures pending { OnPending result (WaitsBy D.L.seen left.old left.new self.old.hearing self.new.hearing) }
+        ensures causes { CausedBy D.L.seen (beside_of P.pool S.seat D.seen G.most self.old self.new) left.old left.new self.old.hearing self.new.hearing result }
     {
         let pool = self.pool.pool_ref();
         let seat = self.seat.seat_mut();
@@ -218,13 +231,39 @@ where
         ensures changes { MakesChange change.old self.old.hearing self.new.hearing result }
         ensures begun { change.new ≡ None }
         ensures left { left.new ≤ left.old }
-        ensures pending { OnPending result (WaitsBehind D.L.seen left.old left.new self.old.hearing self.new.hearing) }
+        ensures causes { CausedBehind D.L.seen (beside_of P.pool S.seat D.seen G.most self.old self.new) left.old left.new self.old.hearing self.new.hearing result }
+        ensures closed { NotesBy D.L G.most (S.seat self.new.seat) result }
     {
         match self.begin_asked(change) {
             Ok(()) => {}
             Err(e) => return Poll::Ready(Err(e)),
         }
         self.poll_change(rt, left)
+    }
+
+    // Asks what is yet to be asked, and moves its call on.
+    pub(crate) fn poll_query<R: Wait>(
+        &mut self,
+        rt: &R,
+        request: &mut Option<Request>,
+        left: &mut u16,
+    ) -> Poll<Turn>
+        requires left { left.old ≤ 256 }
+        requires querying { (kind : Kind) × IsQuerying kind request.old self.old.hearing }
+        ensures hears { HearsBy D.L.seen self.old.hearing self.new.hearing [] }
+        ensures channels { self.new.hearing.listening.channels ≡ self.old.hearing.listening.channels }
+        ensures left { left.new ≤ left.old }
+        ensures queries { Queries D.L.seen (beside_of P.pool S.seat D.seen G.most self.old self.new) left.old left.new request.old request.new self.old.hearing self.new.hearing result }
+        ensures closed { NotesTurn D.L G.most (S.seat self.new.seat) result }
+    {
+        let pool = self.pool.pool_ref();
+        let seat = self.seat.seat_mut();
+        let asked = request.take();
+        let (answer, rest) = self
+            .hearing
+            .poll_query(rt, pool, seat, &mut self.dial, asked, left);
+        *request = rest;
+        answer
     }
 
     // Goes on until a first connection is held.
@@ -238,7 +277,7 @@ where
         ensures channels { self.new.hearing.listening.channels ≡ self.old.hearing.listening.channels }
         ensures left { left.new ≤ left.old }
         ensures held { OnReady result (IsSome self.new.hearing.listening.conn) }
-        ensures pending { OnPending result (WaitsBy D.L.seen left.old left.new self.old.hearing self.new.hearing) }
+        ensures causes { CausedBy D.L.seen (beside_of P.pool S.seat D.seen G.most self.old self.new) left.old left.new self.old.hearing self.new.hearing result }
         ensures closed { NotesBy D.L G.most (S.seat self.new.seat) result }
     {
         let pool = self.pool.pool_ref();
@@ -260,7 +299,7 @@ where
         ensures loss { TellsLoss D.L.seen self.old.hearing self.new.hearing result }
         ensures oldest { self.old.hearing.is_lost ≡ false → GivesOldest (buffered (buffers_of D.L.seen self.old.hearing)) result }
         ensures again { OnNone result (self.old.hearing.is_eager ≡ true → ReadiesBy D.L.seen self.old.hearing self.new.hearing) }
-        ensures pending { OnPending result (WaitsBy D.L.seen left.old left.new self.old.hearing self.new.hearing) }
+        ensures causes { CausedBy D.L.seen (beside_of P.pool S.seat D.seen G.most self.old self.new) left.old left.new self.old.hearing self.new.hearing result }
         ensures closed { NotesBy D.L G.most (S.seat self.new.seat) result }
         ensures asks { self.old.hearing.is_lost ≡ false → buffered (buffers_of D.L.seen self.old.hearing) ≡ [] → self.old.hearing.ignores_close ≡ false → AsksClosed D.L G.most (S.seat self.old.seat) result }
     {
@@ -283,6 +322,7 @@ where
         ensures channels { self.new.hearing.listening.channels ≡ self.old.hearing.listening.channels }
         ensures left { left.new ≤ left.old }
         ensures pending { OnPending result (WaitsBy D.L.seen left.old left.new self.old.hearing self.new.hearing ⊎ (left.new ≡ 0)) }
+        ensures fails { OnFailed (Fails D.L.seen (beside_of P.pool S.seat D.seen G.most self.old self.new) left.old left.new self.old.hearing self.new.hearing) result }
         ensures closed { NotesBy D.L G.most (S.seat self.new.seat) result }
     {
         let pool = self.pool.pool_ref();

@@ -2,9 +2,10 @@
 ghost use Rattle.std.specs.Prelude.{◌≡◌, true, false, []};
 ghost use Rattle.pg_conn.specs.News.{given};
 ghost use Rattle.pg_listening.specs.Buffers.{buffered};
+ghost use Rattle.pg_reconnect.specs.Failing.{OnFailed};
 ghost use Rattle.pg_reconnect.specs.Hearing.{GivesOldest, HearsBy, TellsLoss, buffers_of, gave_by};
 ghost use Rattle.pg_reconnect.specs.Waiting.{AsksClosed, NotesBy, OnNone, OnPending, ReadiesBy};
-ghost use Rattle.pg_listeners.specs.Listeners.{Waits, WaitsOrSpent, is_answered};
+ghost use Rattle.pg_listeners.specs.Listeners.{Caused, FailsWithin, WaitsOrSpent, beside_of, is_answered};
 
 use crate::answering::is_answered;
 use crate::{PgListener, PgNotification, PoolHolder, SeatHolder};
@@ -121,7 +122,7 @@ where
         ensures loss { TellsLoss D.L.seen self.old.listener.now.hearing self.new.listener.now.hearing result }
         ensures oldest { self.old.listener.now.hearing.is_lost ≡ false → GivesOldest (buffered (buffers_of D.L.seen self.old.listener.now.hearing)) result }
         ensures again { OnNone result (self.old.listener.now.hearing.is_eager ≡ true → ReadiesBy D.L.seen self.old.listener.now.hearing self.new.listener.now.hearing) }
-        ensures pending { OnPending result (Waits D.L.seen self.old.listener.now.hearing self.new.listener.now.hearing) }
+        ensures causes { Caused D.L.seen (beside_of P.pool S.seat D.seen G.most self.old.listener.now self.new.listener.now) self.old.listener.now.hearing self.new.listener.now.hearing result }
         ensures closed { NotesBy D.L G.most (S.seat self.new.listener.now.seat) result }
         ensures asks { self.old.listener.now.hearing.is_lost ≡ false → buffered (buffers_of D.L.seen self.old.listener.now.hearing) ≡ [] → self.old.listener.now.hearing.ignores_close ≡ false → AsksClosed D.L G.most (S.seat self.old.listener.now.seat) result }
     {
@@ -157,6 +158,7 @@ where
         ensures hears { HearsBy D.L.seen self.old.listener.now.hearing self.new.listener.now.hearing (given result) }
         ensures channels { self.new.listener.now.hearing.listening.channels ≡ self.old.listener.now.hearing.listening.channels }
         ensures pending { OnPending result (WaitsOrSpent D.L.seen self.old.listener.now.hearing self.new.listener.now.hearing) }
+        ensures fails { OnFailed (FailsWithin D.L.seen (beside_of P.pool S.seat D.seen G.most self.old.listener.now self.new.listener.now) self.old.listener.now.hearing self.new.listener.now.hearing) result }
         ensures closed { NotesBy D.L G.most (S.seat self.new.listener.now.seat) result }
     {
         let mut left = 256;

@@ -1,6 +1,6 @@
 //! How a listener ends.
 ghost use Rattle.std.specs.Prelude.{◌≡◌, true, false, None, Some, IsSome, is_some};
-ghost use Rattle.pg_listeners.specs.Listeners.{Releases, goes_on_in, holds, is_answered};
+ghost use Rattle.pg_listeners.specs.Listeners.{LetsGo, Releases, beside_of, goes_on_in, holds, is_answered};
 
 use crate::answering::is_answered;
 use crate::{ChannelChange, PgListener, PoolHolder, SeatHolder};
@@ -72,7 +72,8 @@ where
         requires { IsSome self.old.listener }
         ensures gone { self.new.listener ≡ None }
         ensures rest { (self.new.change ≡ self.old.change) × (self.new.is_over ≡ self.old.is_over) }
-        ensures released { is_some result ≡ holds self.old.listener }
+        ensures some { is_some result ≡ holds self.old.listener }
+        ensures released { LetsGo G.most self.old.listener result }
     {
         match self.listener.take() {
             Some(listener) => listener.into_released(rt),
@@ -83,7 +84,7 @@ where
     // One poll, but for what is noted of its end.
     fn poll_on<R: Wait>(&mut self, rt: &R) -> Poll<Result<Option<Released<D::L>>, Error>>
         requires goes { goes_on_in self.old.change self.old.listener ≡ true }
-        ensures releases { Releases D.L.seen self.old.listener self.new.listener result }
+        ensures releases { Releases D.L.seen (beside_of P.pool S.seat D.seen G.most) G.most self.old.listener self.new.listener result }
         ensures begun { self.new.change ≡ None }
     {
         let Some(listener) = &mut self.listener else {
@@ -109,7 +110,7 @@ where
         requires over { self.old.is_over ≡ false }
         requires goes { goes_on_in self.old.change self.old.listener ≡ true }
         ensures over { self.new.is_over ≡ is_answered result }
-        ensures releases { Releases D.L.seen self.old.listener self.new.listener result }
+        ensures releases { Releases D.L.seen (beside_of P.pool S.seat D.seen G.most) G.most self.old.listener self.new.listener result }
         ensures begun { self.new.change ≡ None }
     {
         let answer = self.poll_on(rt);

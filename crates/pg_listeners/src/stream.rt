@@ -1,8 +1,9 @@
 //! The notifications of a listener, one after another.
 ghost use Rattle.std.specs.Prelude.{◌≡◌, [], false, is_some};
 ghost use Rattle.pg_reconnect.specs.Hearing.{HearsBy};
+ghost use Rattle.pg_reconnect.specs.Leaving.{NotesClosed, OnReleased};
 ghost use Rattle.pg_reconnect.specs.Waiting.{OnPending};
-ghost use Rattle.pg_listeners.specs.Listeners.{AnswersNone, WaitsOrSpent, ends_by, told_by};
+ghost use Rattle.pg_listeners.specs.Listeners.{AnswersNone, FailsWithin, OnTold, WaitsOrSpent, beside_of, ends_by, told_by};
 
 use crate::{PgListener, PgNotification, PoolHolder, SeatHolder};
 use pg_conn::Dial;
@@ -54,8 +55,7 @@ impl<
     /// Takes them.
     pub fn take_lost(&mut self) -> Vec<D::L>
         ensures lost { result.items ≡ self.old.listener.hearing.lost }
-        ensures rest { self.new.listener.hearing ≡ record self.old.listener.hearing { lost = [] } }
-        ensures over { self.new.is_over ≡ self.old.is_over }
+        ensures rest { self.new ≡ record self.old { listener = record self.old.listener { hearing = record self.old.listener.hearing { lost = [] } } } }
     {
         self.listener.take_lost()
     }
@@ -67,7 +67,8 @@ impl<
         S: Drop,
         D: Drop,
         D::L: Drop,
-        ensures { is_some result ≡ is_some self.listener.hearing.listening.conn }
+        ensures some { is_some result ≡ is_some self.listener.hearing.listening.conn }
+        ensures releases { OnReleased G.most self.listener.hearing.listening.conn result }
     {
         let NotificationStream {
             listener,
@@ -93,6 +94,8 @@ where
         ensures none { AnswersNone self.old.is_over result }
         ensures channels { self.new.listener.hearing.listening.channels ≡ self.old.listener.hearing.listening.channels }
         ensures pending { OnPending result (WaitsOrSpent D.L.seen self.old.listener.hearing self.new.listener.hearing) }
+        ensures fails { OnTold (FailsWithin D.L.seen (beside_of P.pool S.seat D.seen G.most self.old.listener self.new.listener) self.old.listener.hearing self.new.listener.hearing) result }
+        ensures closed { OnTold (NotesClosed D.L G.most (S.seat self.new.listener.seat)) result }
     {
         if self.is_over {
             return Poll::Ready(None);

@@ -1,4 +1,5 @@
 pub mod BufferLaws
 mod HeldLaws
 pub mod ListeningLaws
+pub mod OpenLaws
 mod SaveLaws

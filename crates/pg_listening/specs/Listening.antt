@@ -11,13 +11,16 @@ use Rattle.pg_stream.specs.Streams.{StreamSeen, stream_by}
 use Rattle.pg_request.specs.Queries.{plain_text}
 use Rattle.pg_call.specs.Answers.{total_turn}
 use Rattle.pg_call.specs.declared.kind.How.TheVariants as hows
+use Rattle.pg_call.specs.declared.kind.Kind.{Kind}
 use Rattle.pg_call.specs.declared.kind.Kind.TheVariants as kinds
+use Rattle.pg_call.specs.declared.answer.Turn.{Turn}
+use Rattle.pg_call.specs.declared.answer.Turn.TheVariants as turns
 use Rattle.pg_call.specs.declared.query_result.PgQueryResult.{PgQueryResult}
 use Rattle.pg_call.specs.declared.request.Request.{Request}
 use Rattle.pg_call.specs.declared.request.Request.TheVariants as requests
 use Rattle.pg_conn.specs.Connections.{ConnOf, ConnSeen, seen_by, started_call}
 use Rattle.pg_conn.specs.News.{with_kept}
-use Rattle.pg_conn.specs.States.{IsCalling, turn_of}
+use Rattle.pg_conn.specs.States.{IsCalling, PollFits, turn_of}
 use Rattle.pg_conn.specs.Turns.{PollsWithin}
 use Rattle.pg_listener.specs.declared.changing.ChannelChange.{ChannelChange}
 use Rattle.pg_listener.specs.declared.changing.ChannelChange.TheVariants as changes
@@ -79,6 +82,18 @@ abbrev pub Starts : {C A : Type 0} → (C → ConnOf A) → (C → ConnOf A → 
 Starts conn with_conn request (Some c) held = held ≡ Some (with_conn c (started_call request (conn c)))
 Starts conn with_conn request None held = ⊥
 
+-- ---- a call that its user asks
+
+-- one of this kind runs on what is held
+abbrev pub CallsOn : {C A : Type 0} → (C → ConnOf A) → Kind → Option C → Type 0
+CallsOn conn kind None = ⊥
+CallsOn conn kind (Some c) = IsCalling kind (conn c)
+
+-- what a poll answers is of the call's kind, which still runs where it waits or has given an item
+abbrev pub FitsOn : {C A : Type 0} → (C → ConnOf A) → Kind → Option C → Poll Turn → Type 0
+FitsOn conn kind None answer = ⊥
+FitsOn conn kind (Some c) answer = PollFits kind (conn c) answer
+
 -- where a poll fails by its link, the link's bytes have ended in it, or it has failed
 abbrev pub FailsOn : Poll (Result Notification Error) → Option StreamSeen → Option StreamSeen → Type 0
 FailsOn (Ready (Err (errors.Io cause))) (Some a) (Some b) = FailsBy a.link b.link
@@ -114,6 +129,23 @@ abbrev pub without_total : Poll (Result PgQueryResult Error) → Poll (Result (U
 without_total Pending = Pending
 without_total (Ready (Err e)) = Ready (Err e)
 without_total (Ready (Ok total)) = Ready (Ok tt)
+
+-- ---- no pool
+
+-- it doesn't say that a pool was closed
+abbrev pub IsOpenPool : Error → Type 0
+IsOpenPool (errors.PoolClosed place) = ⊥
+IsOpenPool e = Unit {0}
+
+abbrev pub NoneClosed : {X : Type 0} → Poll (Result X Error) → Type 0
+NoneClosed (Ready (Err e)) = IsOpenPool e
+NoneClosed answer = Unit {0}
+
+abbrev pub TurnsOpen : Poll Turn → Type 0
+TurnsOpen (Ready (turns.Err e)) = IsOpenPool e
+TurnsOpen answer = Unit {0}
+
+-- ---- statements
 
 -- one poll of a statement, within so many calls of the link
 abbrev pub PollsStatement : ℕ → ConnSeen → ConnSeen → Poll (Result (Unit {0}) Error) → Type 0

@@ -2,6 +2,7 @@
 ghost use Rattle.std.specs.Prelude.{◌≡◌, ◌≤◌, true, []};
 ghost use Rattle.pg_call.specs.Answers.{total_turn};
 ghost use Rattle.pg_call.specs.declared.kind.How.TheVariants as hows;
+ghost use Rattle.pg_call.specs.declared.kind.Kind.{Kind};
 ghost use Rattle.pg_call.specs.declared.kind.Kind.TheVariants as kinds;
 ghost use Rattle.pg_stream.specs.Notifications.{TakesOldest, none_kept};
 ghost use Rattle.pg_stream.specs.Streams.{stream_by};
@@ -10,10 +11,10 @@ ghost use Rattle.pg_conn.specs.News.{PollsNews, ReadsNews, with_kept};
 ghost use Rattle.pg_conn.specs.States.{IsCalling, PollFits, turn_of};
 ghost use Rattle.pg_conn.specs.Turns.{PollsWithin};
 ghost use Rattle.pg_listening.specs.Buffers.{news_begun};
-ghost use Rattle.pg_listening.specs.Listening.{Saves};
+ghost use Rattle.pg_listening.specs.Listening.{NoneClosed, Saves, TurnsOpen};
 
 use pg_call::Request;
-use pg_conn::{PgConnection, PgQueryResult};
+use pg_conn::{PgConnection, PgQueryResult, Turn};
 use pg_guards::PgExecutor;
 use pg_stream::Link;
 use pg_wire::{Error, Notification, Poll};
@@ -109,6 +110,33 @@ pub(crate) fn start_statement<C: PgExecutor>(holder: &mut C, request: Request)
     holder.conn_mut().start(request);
 }
 
+// One poll of a call.
+fn poll_turn<L: Link>(conn: &mut PgConnection<L>, left: &mut u16) -> Poll<Turn>
+    requires calling { (kind : Kind) × IsCalling kind conn.old }
+    requires keeping { conn.old.stream.notifications.keeping ≡ true }
+    requires left { left.old ≤ 256 }
+    ensures polls { PollsWithin left.old (seen_by L.seen conn.old) (seen_by L.seen conn.new) result }
+    ensures left { left.new ≤ left.old }
+    ensures news { ReadsNews (stream_by L.seen conn.old.stream) (stream_by L.seen conn.new.stream) [] }
+    ensures apart { TurnsOpen result }
+{
+    conn.poll_call_within(left)
+}
+
+/// One poll of a call on the connection that is held.
+pub(crate) fn poll_running<C: PgExecutor>(holder: &mut C, left: &mut u16) -> Poll<Turn>
+    requires calling { (kind : Kind) × IsCalling kind (C.conn holder.old) }
+    requires keeping { (C.conn holder.old).stream.notifications.keeping ≡ true }
+    requires left { left.old ≤ 256 }
+    ensures holder { holder.new ≡ C.with_conn holder.old (C.conn holder.new) }
+    ensures polls { PollsWithin left.old (seen_by C.L.seen (C.conn holder.old)) (seen_by C.L.seen (C.conn holder.new)) result }
+    ensures left { left.new ≤ left.old }
+    ensures news { ReadsNews (stream_by C.L.seen (C.conn holder.old).stream) (stream_by C.L.seen (C.conn holder.new).stream) [] }
+    ensures apart { TurnsOpen result }
+{
+    poll_turn(holder.conn_mut(), left)
+}
+
 // One poll of a statement.
 fn poll_total<L: Link>(
     conn: &mut PgConnection<L>,
@@ -121,6 +149,7 @@ fn poll_total<L: Link>(
     ensures left { left.new ≤ left.old }
     ensures calling { PollFits (kinds.Run hows.Execute) conn.new (turn_of total_turn result) }
     ensures news { ReadsNews (stream_by L.seen conn.old.stream) (stream_by L.seen conn.new.stream) [] }
+    ensures apart { NoneClosed result }
 {
     match conn.poll_call_within(left) {
         Poll::Pending => Poll::Pending,
@@ -141,6 +170,7 @@ pub(crate) fn poll_statement<C: PgExecutor>(
     ensures left { left.new ≤ left.old }
     ensures calling { PollFits (kinds.Run hows.Execute) (C.conn holder.new) (turn_of total_turn result) }
     ensures news { ReadsNews (stream_by C.L.seen (C.conn holder.old).stream) (stream_by C.L.seen (C.conn holder.new).stream) [] }
+    ensures apart { NoneClosed result }
 {
     poll_total(holder.conn_mut(), left)
 }

@@ -5,15 +5,19 @@ ghost use Rattle.pg_wire.specs.declared.message.notification_response.Notificati
 ghost use Rattle.pg_request.specs.Queries.{plain_text};
 ghost use Rattle.pg_stream.specs.Notifications.{none_kept};
 ghost use Rattle.pg_conn.specs.Connections.{left};
+ghost use Rattle.pg_call.specs.declared.kind.Kind.{Kind};
+ghost use Rattle.pg_conn.specs.Turns.{PollsWithin};
 ghost use Rattle.pg_conn.specs.News.{PollsNews, given, with_kept};
 ghost use Rattle.pg_listener.specs.Changes.{changed};
 ghost use Rattle.pg_listener.specs.Channels.{listen_each_text};
 ghost use Rattle.pg_listening.specs.Buffers.{Hears, kept_on, buffered, news_begun};
-ghost use Rattle.pg_listening.specs.Listening.{FailsOn, OnHeld, OnlyKept, PollsStatement, Starts, StaysHeld, behind_after, buffers_by, channels_behind, query_of, stored_behind, stream_in, waits};
+ghost use Rattle.pg_listening.specs.Listening.{CallsOn, FailsOn, NoneClosed, OnHeld, OnlyKept, PollsStatement, Starts, StaysHeld, TurnsOpen, behind_after, buffers_by, channels_behind, query_of, stored_behind, stream_in, waits};
 
 use crate::ChannelChange;
-use crate::holding::{begin, end, poll_news, poll_statement, save, start_statement, take_oldest};
-use pg_conn::{Query, Request};
+use crate::holding::{
+    begin, end, poll_news, poll_running, poll_statement, save, start_statement, take_oldest,
+};
+use pg_conn::{Query, Request, Turn};
 use pg_guards::PgExecutor;
 use pg_listener::listen_each_text;
 use pg_wire::{Error, Notification, Poll, Sequence, Text};
@@ -246,6 +250,7 @@ impl<C: PgExecutor> Listening<C> {
         ensures channels { self.new.channels ≡ channels_behind result self.old.behind self.old.channels }
         ensures behind { self.new.behind ≡ behind_after result self.old.behind }
         ensures asking { self.new.is_asking ≡ waits result }
+        ensures apart { NoneClosed result }
     {
         let Some(conn) = &mut self.conn else {
             unreachable!()
@@ -264,6 +269,42 @@ impl<C: PgExecutor> Listening<C> {
                 Poll::Ready(Ok(()))
             }
         }
+    }
+
+    /// Begins a call on the connection that is held, which does nothing before its first poll. One that still runs is given up, a statement of a change
+    /// too.
+    pub fn start(&mut self, request: Request)
+        requires { IsSome self.old.conn }
+        ensures starts { Starts C.conn C.with_conn request self.old.conn self.new.conn }
+        ensures hears { Hears [] (buffers_by C.conn C.L.seen self.old) (buffers_by C.conn C.L.seen self.new) [] }
+        ensures holder { StaysHeld C.conn C.with_conn self.old.conn self.new.conn }
+        ensures channels { self.new.channels ≡ self.old.channels }
+        ensures asking { self.new.is_asking ≡ false }
+    {
+        let Some(conn) = &mut self.conn else {
+            unreachable!()
+        };
+        start_statement(conn, request);
+        self.is_asking = false;
+    }
+
+    /// Moves the call on that runs, within so many calls of the link.
+    pub fn poll_call(&mut self, left: &mut u16) -> Poll<Turn>
+        requires calling { (kind : Kind) × CallsOn C.conn kind self.old.conn }
+        requires left { left.old ≤ 256 }
+        ensures hears { Hears [] (buffers_by C.conn C.L.seen self.old) (buffers_by C.conn C.L.seen self.new) [] }
+        ensures left { left.new ≤ left.old }
+        ensures polls { OnHeld (λ a b. PollsWithin left.old a b result) C.conn C.L.seen self.old.conn self.new.conn }
+        ensures holder { StaysHeld C.conn C.with_conn self.old.conn self.new.conn }
+        ensures channels { self.new.channels ≡ self.old.channels }
+        ensures asking { self.new.is_asking ≡ false }
+        ensures apart { TurnsOpen result }
+    {
+        self.is_asking = false;
+        let Some(conn) = &mut self.conn else {
+            unreachable!()
+        };
+        poll_running(conn, left)
     }
 
     /// Hands back what holds the connection, which keeps no notifications any longer. A call that runs is given up.

@@ -1,5 +1,5 @@
 -- Neither a connection nor a start-up says that a pool was closed.
-use Rattle.std.proofs.Common.{◌≡◌, inl, inr, ℕ, Bool, true, false, cond, List, refl, sym, ap, ◌∙◌, subst, Option, Some, None, Result, Ok, Err, IfOk, IfErr}
+use Rattle.std.proofs.Common.{◌≡◌, inl, inr, ℕ, Bool, true, false, List, refl, sym, ap, ◌∙◌, subst, Option, Some, None, Result, Ok, Err, IfOk}
 use Rattle.futures.specs.declared.task.Poll.{Poll}
 use Rattle.futures.specs.declared.task.Poll.TheVariants.{Ready, Pending}
 use Rattle.pg_wire.specs.declared.error.Error.{Error}
@@ -8,28 +8,15 @@ use Rattle.pg_wire.specs.declared.error.ServerFault.{ServerFault}
 use Rattle.pg_wire.specs.declared.message.authentication.Authentication.{Authentication}
 use Rattle.pg_wire.specs.declared.message.authentication.Authentication.TheVariants as requests
 use Rattle.pg_wire.specs.Frame.{Frame}
-use Rattle.pg_wire.specs.Frontend.{FrontendMessage}
 use Rattle.pg_stream.specs.Links.{LinkPlan, LinkSeen}
 use Rattle.pg_options.specs.Options.{ConnectOptions}
-use Rattle.pg_options.specs.declared.ssl_mode.PgSslMode.{PgSslMode}
-use Rattle.pg_auth.specs.Tls.{asks, is_required, tls_plan, wish_of}
 use Rattle.pg_auth.specs.declared.tls.TlsPlan.{TlsPlan}
 use Rattle.pg_auth.specs.declared.tls.TlsPlan.TheVariants.{Ask, Plain}
-use Rattle.pg_wire.specs.declared.error.TlsCause.TheVariants.{CannotUpgrade}
-use Rattle.pg_call.specs.Answers.{total_turn}
-use Rattle.pg_call.specs.declared.answer.CallItem.{CallItem}
-use Rattle.pg_call.specs.declared.answer.Turn.TheVariants as turns
-use Rattle.pg_call.specs.declared.kind.How.TheVariants as hows
-use Rattle.pg_call.specs.declared.kind.Kind.{Kind}
-use Rattle.pg_call.specs.declared.kind.Kind.TheVariants as kinds
-use Rattle.pg_call.specs.declared.ledger.Ledger.{Ledger}
-use Rattle.pg_call.specs.declared.query_result.PgQueryResult.{PgQueryResult}
-use Rattle.pg_call.specs.declared.request.Request.{Request}
 use Rattle.pg_startup.specs.declared.stage.Stage.{Stage}
 use Rattle.pg_startup.specs.declared.stage.Stage.TheVariants as stages
 use Rattle.pg_startup.specs.declared.starting.Phase.{Phase}
 use Rattle.pg_startup.specs.declared.starting.Phase.TheVariants as phases
-use Rattle.pg_startup.specs.Establishing.{Begins, EstablishSeen, FirstPhase, RefusesStart, kept_link, HasLink, IsStarting, IsUnderWay, PollsStart, StartFails, establish_by, ready_seen}
+use Rattle.pg_startup.specs.Establishing.{Begins, EstablishSeen, FirstPhase, kept_link, HasLink, IsStarting, IsUnderWay, PollsStart, StartFails, establish_by, ready_seen}
 use Rattle.pg_startup.specs.Exchange.{ClientSeen, client_of}
 use Rattle.pg_startup.specs.Startups.{startup_of}
 use Rattle.pg_startup.proofs.EstablishLaws.{begins_under_way}
@@ -37,20 +24,13 @@ use Rattle.pg_startup.specs.Greeting.{GreetingOf}
 use Rattle.pg_startup.specs.Handshake.{ReadyOf}
 use Rattle.pg_startup.specs.Refusals.{RefusesFirst, RefusesMessage, RefusesRequest, RefusesScram, out_of_turn}
 use Rattle.pg_conn.specs.Connecting.{ConnectingOf, PollsConnect, connected}
-use Rattle.pg_conn.specs.Connections.{ConnSeen, begun_with, resolved}
+use Rattle.pg_conn.specs.Connections.{ConnSeen}
 use Rattle.pg_conn.specs.News.{NewsFails, PollsNews, flushing}
-use Rattle.pg_conn.specs.States.{IsCalling, turn_of}
-use Rattle.pg_conn.specs.Turns.{EndsBy, PollsBy, PollsThrough}
-use Rattle.pg_conn.proofs.StateLaws.{last_calls, resolved_calls}
-use Rattle.pg_listening.specs.Listening.{PollsStatement, without_total}
+use Rattle.pg_listening.specs.Listening.{IsOpenPool}
+use Rattle.pg_listening.proofs.OpenLaws.{open_unless}
 use Rattle.pg_conn.specs.Dials.{IsUncalled}
 use Rattle.pg_listen.specs.Handed.{FillingOf, HeldOf, TicketSeen, UsesLeave, connection_of}
-use Rattle.pg_reconnect.specs.Leaving.{Fills, FillsOn, IsFresh, IsOpenPool, TicketIs, ended}
-
--- it is not that error
-pub open_unless : (e : Error) → ((place : ℕ) → e ≡ errors.PoolClosed place → ⊥) → IsOpenPool e
-open_unless (errors.PoolClosed place) f = absurd (f place refl)
-open_unless _ f = tt
+use Rattle.pg_reconnect.specs.Leaving.{Fills, FillsOn, IsFresh, PollsStartUp, TicketIs, ended}
 
 -- ---- a connection
 
@@ -199,3 +179,9 @@ pub fills_ended : {A : Type 0} (seen : A → LinkSeen) (name left now : ℕ) (f 
     → PollsConnect seen left now f.connecting g.connecting (connection_of (Ready answer)) → FillsOn seen name startup (Ready (ended answer link))
 fills_ended seen name left now f g (Ok held) link startup i none leave polls = (none, subst (λ (t : Option TicketSeen). TicketIs name t) leave.0 i.leave)
 fills_ended seen name left now f g (Err e) link startup i none leave polls = (none, connect_open seen left now f.connecting g.connecting i.first e i.starting polls)
+
+-- what has failed is told with the link that it had
+pub ends_start_up : {A : Type 0} (seen : A → LinkSeen) (left now : ℕ) (startup behind : Option (FillingOf A)) (f g : FillingOf A) (answer : Result (HeldOf A) Error) (link : Option A) → startup ≡ Some f → PollsConnect seen left now f.connecting g.connecting (connection_of (Ready answer))
+    → link ≡ kept_link g.connecting.startup.phase → PollsStartUp seen left now startup behind (Ready (ended answer link))
+ends_start_up seen left now startup behind f g (Ok held) link is polls kept = tt
+ends_start_up seen left now startup behind f g (Err e) link is polls kept = record { last = f; ended = g; is = is; polls = polls; link_is = kept }

@@ -1,5 +1,9 @@
 pub mod BufferingLaws
 pub mod ClosedLaws
+pub mod DialLaws
+pub mod FailingLaws
 pub mod HearingLaws
+pub mod QueryingLaws
+pub mod ReleasingLaws
 pub mod TellingLaws
 pub mod WaitingLaws

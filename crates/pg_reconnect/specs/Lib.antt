@@ -1,3 +1,5 @@
+pub mod Failing
 pub mod Hearing
 pub mod Leaving
+pub mod Querying
 pub mod Waiting

@@ -11,7 +11,7 @@ use Rattle.pg_listen.specs.Handed.{FillingOf}
 use Rattle.pg_listen.specs.Pools.{Section}
 use Rattle.pg_listening.specs.Listening.{OnHeld, PollsStatement}
 use Rattle.pg_reconnect.specs.Hearing.{AsksAgain, HearingOf, HearsBy}
-use Rattle.pg_reconnect.specs.Leaving.{IsFresh, IsOpenPool, NotesClosed, PollsOn, RefusesClosed}
+use Rattle.pg_reconnect.specs.Leaving.{IsFresh, NotesClosed, PollsOn, RefusesClosed}
 
 -- a start-up stays as it is; or it is over, or one began meanwhile
 abbrev pub StartsFrom : {A : Type 0} → (A → LinkSeen) → Option (FillingOf A) → Option (FillingOf A) → Type 0
@@ -73,10 +73,6 @@ OnNone answer P = Unit {0}
 abbrev pub NotesBy : {X : Type 0} → (A : Type 0) → ℕ → SeatSeen → Poll (Result X Error) → Type 0
 NotesBy A most t (Ready (Err e)) = NotesClosed A most t e
 NotesBy A most t answer = Unit {0}
-
-abbrev pub NoneClosed : {X : Type 0} → Poll (Result X Error) → Type 0
-NoneClosed (Ready (Err e)) = IsOpenPool e
-NoneClosed answer = Unit {0}
 
 -- the pool is asked first whether it was closed, and where it was, that is the answer
 abbrev pub AsksClosed : {X : Type 0} → (A : Type 0) → ℕ → SeatSeen → Poll (Result X Error) → Type 0

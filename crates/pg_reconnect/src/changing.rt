@@ -2,8 +2,8 @@
 ghost use Rattle.std.specs.Prelude.{◌≡◌, ◌≤◌, true, false, [], None, Some, Err, IsSome, OnErr, OnOk, unwrap_or};
 ghost use Rattle.pg_listener.specs.Changes.{changed, listens};
 ghost use Rattle.pg_listening.specs.Listening.{stored_behind};
+ghost use Rattle.pg_reconnect.specs.Failing.{CausedBy, CausedOn};
 ghost use Rattle.pg_reconnect.specs.Hearing.{Changes, HearsBy, channels_at_ok, is_changing, is_stored_first, stored_first};
-ghost use Rattle.pg_reconnect.specs.Waiting.{OnPending, WaitsBy};
 
 use crate::Hearing;
 use pg_conn::Dial;
@@ -75,7 +75,7 @@ impl<L: Link + Drop> Hearing<L> {
         ensures changes { Changes self.old.listening.channels (unwrap_or (stored_behind change.now self.old.listening.channels) self.old.listening.channels) self.new result }
         ensures left { left.new ≤ left.old }
         ensures loss { self.new.is_lost ≡ self.old.is_lost }
-        ensures pending { OnPending result (WaitsBy L.seen left.old left.new self.old self.new) }
+        ensures causes { CausedOn L.seen left.old left.new self.old self.new result }
     {
         self.asked = None;
         self.is_again = false;
@@ -94,7 +94,7 @@ impl<L: Link + Drop> Hearing<L> {
         ensures changes { Changes self.old.listening.channels (unwrap_or (stored_behind change.now self.old.listening.channels) self.old.listening.channels) self.new result }
         ensures left { left.new ≤ left.old }
         ensures loss { self.new.is_lost ≡ self.old.is_lost }
-        ensures pending { OnPending result (WaitsBy L.seen left.old left.new self.old self.new) }
+        ensures causes { CausedOn L.seen left.old left.new self.old self.new result }
     {
         if self.listening.is_held() {
             return self.poll_asked_held(change, left);
@@ -124,7 +124,7 @@ impl<L: Link + Drop> Hearing<L> {
         ensures seat { seat.new.name ≡ seat.old.name }
         ensures left { left.new ≤ left.old }
         ensures loss { self.new.is_lost ≡ self.old.is_lost }
-        ensures pending { OnPending result (WaitsBy L.seen left.old left.new self.old self.new) }
+        ensures causes { CausedBy L.seen (record { most = G.most; options = pool.now.options; seat = seat.new; before = (D.seen dial.old).faults; behind = (D.seen dial.new).faults }) left.old left.new self.old self.new result }
     {
         if !change.listens() {
             return self.poll_fewer(&change, left);
@@ -158,7 +158,7 @@ impl<L: Link + Drop> Hearing<L> {
         ensures seat { seat.new.name ≡ seat.old.name }
         ensures left { left.new ≤ left.old }
         ensures loss { self.new.is_lost ≡ self.old.is_lost }
-        ensures pending { OnPending result (WaitsBy L.seen left.old left.new self.old self.new) }
+        ensures causes { CausedBy L.seen (record { most = G.most; options = pool.now.options; seat = seat.new; before = (D.seen dial.old).faults; behind = (D.seen dial.new).faults }) left.old left.new self.old self.new result }
     {
         match self.asked.take() {
             Some(change) => self.poll_asked(rt, pool, seat, dial, change, left),

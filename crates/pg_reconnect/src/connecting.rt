@@ -1,8 +1,10 @@
 //! How a listener comes by a connection, and how it loses one.
-ghost use Rattle.std.specs.Prelude.{◌≡◌, ◌≤◌, ◌<◌, ◌++◌, true, false, [], None, Some, IfErr, IsSome, OnErr, OnOk, option_to_list, vec_capacity, vec_len};
+ghost use Rattle.std.specs.Prelude.{◌≡◌, ◌⊎◌, ◌≤◌, ◌<◌, ◌++◌, true, false, [], None, Some, IfErr, IsSome, OnErr, OnOk, option_to_list, vec_capacity, vec_len};
+ghost use Rattle.pg_listening.specs.Listening.{NoneClosed};
+ghost use Rattle.pg_reconnect.specs.Failing.{CausedBy, CausedOn, FailsToFind, LosesBy, PollsAgain};
 ghost use Rattle.pg_reconnect.specs.Hearing.{AsksAgain, HearsBy, LosesHeld, OnReady};
-ghost use Rattle.pg_reconnect.specs.Leaving.{Fills, IsOpenPool, NotesClosed};
-ghost use Rattle.pg_reconnect.specs.Waiting.{EndsWell, NoneClosed, NotesBy, OnPending, ReadiesBy, StartsFrom, WaitsBy};
+ghost use Rattle.pg_reconnect.specs.Leaving.{Fills};
+ghost use Rattle.pg_reconnect.specs.Waiting.{ReadiesBy, StartsFrom};
 
 use crate::Hearing;
 use crate::dialling::{Found, find};
@@ -13,16 +15,6 @@ use pg_listen::{EstablishPooled, PgPool, PoolConnection, PoolLedger, PoolSeat};
 use pg_stream::Link;
 use pg_wire::{Error, Poll};
 use std::sync::Wait;
-
-// An error of a connection: none of them tells of a pool.
-fn of_connection(e: Error) -> Error
-    ensures { IsOpenPool result }
-{
-    match e {
-        Error::PoolClosed { place: _ } => Error::OutOfMemory,
-        e => e,
-    }
-}
 
 // Keeps a link that was lost, if there is one, in room for it.
 fn keep_lost<L>(lost: &mut Vec<L>, link: Option<L>)
@@ -55,7 +47,7 @@ impl<L: Link> Hearing<L> {
         ensures lost { OnErr result (self.new.lost ≡ self.old.lost) }
         ensures startup { self.new.startup ≡ self.old.startup }
         ensures ready { self.new.is_ready ≡ false }
-        ensures open { IfErr result IsOpenPool }
+        ensures memory { IfErr result (λ e. e ≡ Error.OutOfMemory) }
     {
         self.is_again = false;
         self.is_ready = false;
@@ -120,7 +112,8 @@ impl<L: Link> Hearing<L> {
         ensures found { OnOk result (self.new.listening.conn ≡ None → IsSome self.new.startup) }
         ensures startup { OnOk result (StartsFrom L.seen self.old.startup self.new.startup) }
         ensures ready { self.new.is_ready ≡ false }
-        ensures closed { IfErr result (NotesClosed L G.most seat.new) }
+        ensures faults { OnOk result ((D.seen dial.new).faults ≡ (D.seen dial.old).faults) }
+        ensures fails { IfErr result (λ e. (e ≡ Error.OutOfMemory) ⊎ FailsToFind L.seen (record { most = G.most; options = pool.now.options; seat = seat.new; before = (D.seen dial.old).faults; behind = (D.seen dial.new).faults }) self.old self.new e) }
     {
         self.lost.reserve(1)?;
         match find(rt, self.alloc, pool, seat, dial) {
@@ -164,8 +157,7 @@ impl<L: Link + Drop> Hearing<L> {
         ensures held { OnReady result (IsSome self.new.listening.conn) }
         ensures startup { OnReady result (StartsFrom L.seen self.old.startup self.new.startup) }
         ensures ready { OnReady result (self.new.is_ready ≡ false) }
-        ensures pending { OnPending result (WaitsBy L.seen left.old left.new self.old self.new) }
-        ensures open { NoneClosed result }
+        ensures causes { CausedOn L.seen left.old left.new self.old self.new result }
     {
         match self.lost.reserve(1) {
             Ok(()) => {}
@@ -206,8 +198,7 @@ impl<L: Link + Drop> Hearing<L> {
         ensures held { OnReady result (IsSome self.new.listening.conn) }
         ensures startup { OnReady result (StartsFrom L.seen self.old.startup self.new.startup) }
         ensures ready { OnReady result (self.new.is_ready ≡ true → self.new ≡ self.old) }
-        ensures pending { OnPending result (WaitsBy L.seen left.old left.new self.old self.new) }
-        ensures open { NoneClosed result }
+        ensures causes { CausedOn L.seen left.old left.new self.old self.new result }
     {
         if self.listening.is_held() {
             return Poll::Ready(Ok(()));
@@ -238,8 +229,7 @@ impl<L: Link + Drop> Hearing<L> {
         ensures held { OnReady result (IsSome self.new.listening.conn) }
         ensures startup { OnReady result (StartsFrom L.seen self.old.startup self.new.startup) }
         ensures ready { OnReady result (self.new.is_ready ≡ true → self.new ≡ self.old) }
-        ensures pending { OnPending result (WaitsBy L.seen left.old left.new self.old self.new) }
-        ensures closed { NotesBy L G.most seat.new result }
+        ensures causes { CausedBy L.seen (record { most = G.most; options = pool.now.options; seat = seat.new; before = (D.seen dial.old).faults; behind = (D.seen dial.new).faults }) left.old left.new self.old self.new result }
     {
         if self.listening.is_held() {
             return Poll::Ready(Ok(()));
@@ -273,8 +263,7 @@ impl<L: Link + Drop> Hearing<L> {
         ensures left { left.new ≤ left.old }
         ensures held { OnReady result (IsSome self.new.listening.conn) }
         ensures startup { OnReady result (StartsFrom L.seen self.old.startup self.new.startup) }
-        ensures pending { OnPending result (WaitsBy L.seen left.old left.new self.old self.new) }
-        ensures closed { NotesBy L G.most seat.new result }
+        ensures causes { CausedBy L.seen (record { most = G.most; options = pool.now.options; seat = seat.new; before = (D.seen dial.old).faults; behind = (D.seen dial.new).faults }) left.old left.new self.old self.new result }
     {
         match self.poll_held(rt, pool, seat, dial, left) {
             Poll::Pending => Poll::Pending,
@@ -302,11 +291,14 @@ impl<L: Link + Drop> Hearing<L> {
         ensures channels { self.new.listening.channels ≡ self.old.listening.channels }
         ensures seat { seat.new.name ≡ seat.old.name }
         ensures loss { self.new.is_lost ≡ self.old.is_lost }
-        ensures open { IsOpenPool result }
+        ensures fails { LosesBy e self.old self.new result }
     {
         match self.lose(rt, pool, seat) {
-            Ok(()) => of_connection(e),
-            Err(wanting) => wanting,
+            Ok(()) => e,
+            Err(wanting) => {
+                drop(e);
+                wanting
+            }
         }
     }
 
@@ -322,7 +314,7 @@ impl<L: Link + Drop> Hearing<L> {
         ensures lost { self.new.lost ≡ self.old.lost }
         ensures loss { self.new.is_lost ≡ self.old.is_lost }
         ensures startup { self.new.startup ≡ self.old.startup }
-        ensures open { IfErr result IsOpenPool }
+        ensures memory { IfErr result (λ e. e ≡ Error.OutOfMemory) }
     {
         if self.is_again && self.listening.is_asking() {
             return Ok(());
@@ -346,8 +338,8 @@ impl<L: Link + Drop> Hearing<L> {
         ensures lost { self.new.lost ≡ self.old.lost }
         ensures held { IsSome self.new.listening.conn }
         ensures startup { self.new.startup ≡ self.old.startup }
-        ensures ends { OnReady result (EndsWell L.seen left.old self.old self.new) }
-        ensures pending { OnPending result (WaitsBy L.seen left.old left.new self.old self.new) }
+        ensures polls { PollsAgain L.seen left.old self.old self.new result }
+        ensures apart { NoneClosed result }
     {
         match self.lost.reserve(1) {
             Ok(()) => {}
@@ -385,8 +377,7 @@ impl<L: Link + Drop> Hearing<L> {
         ensures held { OnReady result (IsSome self.new.listening.conn) }
         ensures startup { OnReady result (self.new.startup ≡ self.old.startup) }
         ensures ready { OnReady result (ReadiesBy L.seen self.old self.new) }
-        ensures pending { OnPending result (WaitsBy L.seen left.old left.new self.old self.new) }
-        ensures open { NoneClosed result }
+        ensures causes { CausedOn L.seen left.old left.new self.old self.new result }
     {
         if self.is_ready {
             return Poll::Ready(Ok(()));
@@ -425,8 +416,7 @@ impl<L: Link + Drop> Hearing<L> {
         ensures held { OnReady result (IsSome self.new.listening.conn) }
         ensures startup { OnReady result (StartsFrom L.seen self.old.startup self.new.startup) }
         ensures ready { OnReady result (ReadiesBy L.seen self.old self.new) }
-        ensures pending { OnPending result (WaitsBy L.seen left.old left.new self.old self.new) }
-        ensures closed { NotesBy L G.most seat.new result }
+        ensures causes { CausedBy L.seen (record { most = G.most; options = pool.now.options; seat = seat.new; before = (D.seen dial.old).faults; behind = (D.seen dial.new).faults }) left.old left.new self.old self.new result }
     {
         match self.poll_held(rt, pool, seat, dial, left) {
             Poll::Pending => Poll::Pending,

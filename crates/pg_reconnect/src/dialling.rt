@@ -1,8 +1,11 @@
 //! A connection out of a pool: one that is idle, or a start-up over a link that a dial opens.
-ghost use Rattle.std.specs.Prelude.{◌≡◌, IfErr, IfOk, Some};
+ghost use Rattle.std.specs.Prelude.{◌≡◌, ◌⊎◌, IfErr, IfOk, Some};
 ghost use Rattle.pg_auth.specs.Nonce.{IsNonce};
 ghost use Rattle.pg_conn.specs.Dials.{IsUncalled};
-ghost use Rattle.pg_reconnect.specs.Leaving.{Fills, IsFound, IsFresh, IsOpenPool, NotesClosed};
+ghost use Rattle.pg_startup.specs.Establishing.{RefusesStart};
+ghost use Rattle.pg_listening.specs.Listening.{IsOpenPool};
+ghost use Rattle.pg_reconnect.specs.Failing.{CountsFaults, FailsDial, FillsNone, FindsNone, dial_error};
+ghost use Rattle.pg_reconnect.specs.Leaving.{Fills, IsFound, IsFresh};
 
 use arrayvec::ArrayString;
 use pg_auth::nonce_of;
@@ -20,7 +23,7 @@ pub(crate) enum Found<L> {
 }
 
 fn dial_error(failed: DialFailed) -> Error
-    ensures { IsOpenPool result }
+    ensures { result ≡ dial_error failed }
 {
     match failed {
         DialFailed::Fault => Error::Io(IoCause::Fault),
@@ -28,25 +31,20 @@ fn dial_error(failed: DialFailed) -> Error
     }
 }
 
-// The words that a nonce is made of.
-fn draw<D: Dial>(dial: &mut D) -> Result<[u32; 128], Error>
-    ensures { IfErr result IsOpenPool }
+// A nonce of the words that the dial draws.
+fn draw_nonce<D: Dial>(dial: &mut D) -> Result<ArrayString<127>, DialFailed>
+    ensures nonce { IfOk result (λ nonce. IsNonce nonce.bytes) }
+    ensures faults { CountsFaults (D.seen dial.old).faults (D.seen dial.new).faults result }
 {
     let mut words = [0; 128];
     for word in words.iter_mut() {
-        *word = dial.word().map_err(dial_error)?;
+        *word = dial.word()?;
     }
-    Ok(words)
-}
-
-fn nonce<D: Dial>(dial: &mut D) -> Result<ArrayString<127>, Error>
-    ensures nonce { IfOk result (λ nonce. IsNonce nonce.bytes) }
-    ensures open { IfErr result IsOpenPool }
-{
-    Ok(nonce_of(&draw(dial)?))
+    Ok(nonce_of(&words))
 }
 
 // Begins a start-up, or hands back the leave and the link.
+#[tactic(auto, using(crate::proofs::DialLaws::dial_apart, crate::proofs::DialLaws::words_fail))]
 fn establish<L: Link, D: Dial<L = L>, G: PoolLedger>(
     alloc: Global,
     pool: &PgPool<G, L>,
@@ -57,20 +55,23 @@ fn establish<L: Link, D: Dial<L = L>, G: PoolLedger>(
     requires mine { ticket.name ≡ pool.now.name }
     requires uncalled { IsUncalled (L.seen link) }
     ensures ok { IfOk result (λ state. Fills L.seen pool.now.name state × IsFresh L.seen (Some state)) }
-    ensures err { IfErr result (λ e. (e.1 ≡ ticket) × IsOpenPool e.0) }
+    ensures faults { IfOk result (λ state. (D.seen dial.new).faults ≡ (D.seen dial.old).faults) }
+    ensures err { IfErr result (λ e. (e.1 ≡ ticket) × (e.2 ≡ link) × IsOpenPool e.0) }
+    ensures refuses { IfErr result (λ e. FailsDial (D.seen dial.old).faults (D.seen dial.new).faults e.0 ⊎ RefusesStart pool.now.options (L.seen link).plan e.0) }
 {
-    match nonce(dial) {
+    match draw_nonce(dial) {
         Ok(nonce) => ticket.establish(
             alloc,
             pool.connect_options(),
             nonce.as_str().as_bytes(),
             link,
         ),
-        Err(e) => Err((e, ticket, link)),
+        Err(failed) => Err((dial_error(failed), ticket, link)),
     }
 }
 
 // Begins a start-up over a link that the dial opens. Where it fails its leave is given back, and its link, if there is one, is handed back.
+#[tactic(auto, using(crate::proofs::DialLaws::dial_apart, crate::proofs::DialLaws::link_fails, crate::proofs::DialLaws::fills_none))]
 fn fill<G: PoolLedger, L: Link, D: Dial<L = L>, R: Wait>(
     rt: &R,
     alloc: Global,
@@ -82,7 +83,9 @@ fn fill<G: PoolLedger, L: Link, D: Dial<L = L>, R: Wait>(
     requires theirs { seat.old.name ≡ pool.now.name }
     requires mine { ticket.name ≡ pool.now.name }
     ensures found { IfOk result (λ state. Fills L.seen pool.now.name state × IsFresh L.seen (Some state)) }
+    ensures faults { IfOk result (λ state. (D.seen dial.new).faults ≡ (D.seen dial.old).faults) }
     ensures open { IfErr result (λ e. IsOpenPool e.0) }
+    ensures none { IfErr result (λ e. FillsNone L.seen pool.now.options (D.seen dial.old).faults (D.seen dial.new).faults e.0 e.1) }
     ensures seat { seat.new.name ≡ seat.old.name }
 {
     match dial.dial(pool.connect_options()) {
@@ -110,7 +113,8 @@ pub(crate) fn find<G: PoolLedger, L: Link, D: Dial<L = L>, R: Wait>(
 ) -> Result<Found<L>, (Error, Option<L>)>
     requires { seat.old.name ≡ pool.now.name }
     ensures found { IfOk result (IsFound L.seen pool.now.name) }
-    ensures closed { IfErr result (λ e. NotesClosed L G.most seat.new e.0) }
+    ensures faults { IfOk result (λ found. (D.seen dial.new).faults ≡ (D.seen dial.old).faults) }
+    ensures none { IfErr result (λ e. FindsNone L.seen (record { most = G.most; options = pool.now.options; seat = seat.new; before = (D.seen dial.old).faults; behind = (D.seen dial.new).faults }) e.0 e.1) }
     ensures seat { seat.new.name ≡ seat.old.name }
 {
     match pool.acquire(rt, seat) {

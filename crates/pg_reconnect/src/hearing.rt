@@ -56,6 +56,11 @@ impl<L: Link> Hearing<L> {
         }
     }
 
+    /// Where its memory comes from.
+    pub fn allocator(&self) -> Global {
+        self.alloc
+    }
+
     /// The channels.
     pub fn channels(&self) -> &[Text]
         ensures { result.now ≡ self.now.listening.channels }

@@ -8,6 +8,7 @@ mod connecting;
 mod dialling;
 mod hearing;
 mod leaving;
+mod querying;
 mod receiving;
 mod releasing;
 mod starting;

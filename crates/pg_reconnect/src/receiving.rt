@@ -1,12 +1,14 @@
 //! How a listener gives what it hears, and tells what it loses.
-ghost use Rattle.std.specs.Prelude.{◌≡◌, ◌⊎◌, ◌<◌, ◌≤◌, true, false, [], IfErr, IsSome};
+ghost use Rattle.std.specs.Prelude.{◌≡◌, ◌⊎◌, ◌<◌, ◌≤◌, true, false, [], Err, IfErr, IsSome};
+ghost use Rattle.pg_pool.specs.Seats.{SeatSeen};
 ghost use Rattle.pg_listen.specs.Pools.{Section};
 ghost use Rattle.pg_conn.specs.News.{given};
 ghost use Rattle.pg_listening.specs.Buffers.{buffered};
 ghost use Rattle.pg_listening.specs.Listening.{FailsOn, stream_in};
+ghost use Rattle.pg_reconnect.specs.Failing.{CausedBy, CausedOn, Fails, OnFailed};
 ghost use Rattle.pg_reconnect.specs.Hearing.{GivesOldest, HearsBy, LossBehind, OnReady, TellsHeld, TellsLoss, buffers_of, gave_by};
-ghost use Rattle.pg_reconnect.specs.Leaving.{NotesClosed, RefusesClosed};
-ghost use Rattle.pg_reconnect.specs.Waiting.{AsksClosed, ListensAgain, NoneClosed, NotesBy, OnNone, OnPending, ReadiesBy, StartsFrom, WaitsBy};
+ghost use Rattle.pg_reconnect.specs.Leaving.{RefusesClosed};
+ghost use Rattle.pg_reconnect.specs.Waiting.{AsksClosed, ListensAgain, NotesBy, OnNone, OnPending, ReadiesBy, StartsFrom, WaitsBy};
 
 use crate::Hearing;
 use crate::leaving::refuse_closed;
@@ -57,7 +59,7 @@ impl<L: Link> Hearing<L> {
     ) -> Result<(), Error>
         requires { seat.old.name ≡ pool.now.name }
         ensures seat { seat.new.name ≡ seat.old.name }
-        ensures closed { IfErr result (NotesClosed L G.most seat.new) }
+        ensures refuses { IfErr result (λ e. Section {A = L} G.most (λ a b. (s : SeatSeen) × RefusesClosed s seat.new a b (Err e))) }
         ensures asks { self.now.ignores_close ≡ false → Section {A = L} G.most (λ a b. RefusesClosed seat.old seat.new a b result) }
     {
         if self.ignores_close {
@@ -79,8 +81,7 @@ impl<L: Link> Hearing<L> {
         ensures lost { self.new.lost ≡ self.old.lost }
         ensures loss { self.new.is_lost ≡ self.old.is_lost }
         ensures startup { self.new.startup ≡ self.old.startup }
-        ensures pending { OnPending result (WaitsBy L.seen left.old left.new self.old self.new) }
-        ensures open { NoneClosed result }
+        ensures causes { CausedOn L.seen left.old left.new self.old self.new result }
     {
         match self.lost.reserve(1) {
             Ok(()) => {}
@@ -113,8 +114,7 @@ impl<L: Link + Drop> Hearing<L> {
         ensures none { gave_by result ≡ [] }
         ensures startup { OnReady result (StartsFrom L.seen self.old.startup self.new.startup) }
         ensures again { OnNone result (self.old.is_eager ≡ true → ReadiesBy L.seen self.old self.new) }
-        ensures pending { OnPending result (WaitsBy L.seen left.old left.new self.old self.new) }
-        ensures closed { NotesBy L G.most seat.new result }
+        ensures causes { CausedBy L.seen (record { most = G.most; options = pool.now.options; seat = seat.new; before = (D.seen dial.old).faults; behind = (D.seen dial.new).faults }) left.old left.new self.old self.new result }
     {
         if !self.is_eager {
             self.set_lost(false);
@@ -151,8 +151,7 @@ impl<L: Link + Drop> Hearing<L> {
         ensures loss { TellsHeld self.old.listening.conn self.old.lost self.new.lost self.old.is_lost self.new.is_lost result }
         ensures startup { OnReady result (StartsFrom L.seen self.old.startup self.new.startup) }
         ensures again { OnNone result (self.old.is_eager ≡ true → ListensAgain L.seen self.old.listening.channels self.new) }
-        ensures pending { OnPending result (WaitsBy L.seen left.old left.new self.old self.new) }
-        ensures closed { NotesBy L G.most seat.new result }
+        ensures causes { CausedBy L.seen (record { most = G.most; options = pool.now.options; seat = seat.new; before = (D.seen dial.old).faults; behind = (D.seen dial.new).faults }) left.old left.new self.old self.new result }
     {
         match self.lose(rt, pool, seat) {
             Ok(()) => {
@@ -184,8 +183,7 @@ impl<L: Link + Drop> Hearing<L> {
         ensures loss { TellsLoss L.seen self.old self.new result }
         ensures startup { OnReady result (StartsFrom L.seen self.old.startup self.new.startup) }
         ensures again { OnNone result (self.old.is_eager ≡ true → ListensAgain L.seen self.old.listening.channels self.new) }
-        ensures pending { OnPending result (WaitsBy L.seen left.old left.new self.old self.new) }
-        ensures closed { NotesBy L G.most seat.new result }
+        ensures causes { CausedBy L.seen (record { most = G.most; options = pool.now.options; seat = seat.new; before = (D.seen dial.old).faults; behind = (D.seen dial.new).faults }) left.old left.new self.old self.new result }
     {
         match self.wait(left) {
             Poll::Pending => Poll::Pending,
@@ -215,8 +213,7 @@ impl<L: Link + Drop> Hearing<L> {
         ensures loss { TellsLoss L.seen self.old self.new result }
         ensures startup { OnReady result (StartsFrom L.seen self.old.startup self.new.startup) }
         ensures again { OnNone result (self.old.is_eager ≡ true → ListensAgain L.seen self.old.listening.channels self.new) }
-        ensures pending { OnPending result (WaitsBy L.seen left.old left.new self.old self.new) }
-        ensures closed { NotesBy L G.most seat.new result }
+        ensures causes { CausedBy L.seen (record { most = G.most; options = pool.now.options; seat = seat.new; before = (D.seen dial.old).faults; behind = (D.seen dial.new).faults }) left.old left.new self.old self.new result }
     {
         match self.poll_connected(rt, pool, seat, dial, left) {
             Poll::Pending => Poll::Pending,
@@ -245,8 +242,7 @@ impl<L: Link + Drop> Hearing<L> {
         ensures loss { TellsLoss L.seen self.old self.new result }
         ensures startup { OnReady result (StartsFrom L.seen self.old.startup self.new.startup) }
         ensures again { OnNone result (self.old.is_eager ≡ true → ListensAgain L.seen self.old.listening.channels self.new) }
-        ensures pending { OnPending result (WaitsBy L.seen left.old left.new self.old self.new) }
-        ensures closed { NotesBy L G.most seat.new result }
+        ensures causes { CausedBy L.seen (record { most = G.most; options = pool.now.options; seat = seat.new; before = (D.seen dial.old).faults; behind = (D.seen dial.new).faults }) left.old left.new self.old self.new result }
         ensures asks { self.old.ignores_close ≡ false → AsksClosed L G.most seat.old result }
     {
         match self.refuse_closed(rt, pool, seat) {
@@ -276,8 +272,7 @@ impl<L: Link + Drop> Hearing<L> {
         ensures oldest { GivesOldest (buffered (buffers_of L.seen self.old)) result }
         ensures startup { OnReady result (StartsFrom L.seen self.old.startup self.new.startup) }
         ensures again { OnNone result (self.old.is_eager ≡ true → ListensAgain L.seen self.old.listening.channels self.new) }
-        ensures pending { OnPending result (WaitsBy L.seen left.old left.new self.old self.new) }
-        ensures closed { NotesBy L G.most seat.new result }
+        ensures causes { CausedBy L.seen (record { most = G.most; options = pool.now.options; seat = seat.new; before = (D.seen dial.old).faults; behind = (D.seen dial.new).faults }) left.old left.new self.old self.new result }
         ensures asks { buffered (buffers_of L.seen self.old) ≡ [] → self.old.ignores_close ≡ false → AsksClosed L G.most seat.old result }
     {
         match self.next_buffered() {
@@ -308,7 +303,7 @@ impl<L: Link + Drop> Hearing<L> {
         ensures oldest { self.old.is_lost ≡ false → GivesOldest (buffered (buffers_of L.seen self.old)) result }
         ensures startup { OnReady result (StartsFrom L.seen self.old.startup self.new.startup) }
         ensures again { OnNone result (self.old.is_eager ≡ true → ReadiesBy L.seen self.old self.new) }
-        ensures pending { OnPending result (WaitsBy L.seen left.old left.new self.old self.new) }
+        ensures causes { CausedBy L.seen (record { most = G.most; options = pool.now.options; seat = seat.new; before = (D.seen dial.old).faults; behind = (D.seen dial.new).faults }) left.old left.new self.old self.new result }
         ensures closed { NotesBy L G.most seat.new result }
         ensures asks { self.old.is_lost ≡ false → buffered (buffers_of L.seen self.old) ≡ [] → self.old.ignores_close ≡ false → AsksClosed L G.most seat.old result }
     {
@@ -338,6 +333,7 @@ impl<L: Link + Drop> Hearing<L> {
         ensures seat { seat.new.name ≡ seat.old.name }
         ensures left { left.new ≤ left.old }
         ensures pending { OnPending result (WaitsBy L.seen left.old left.new self.old self.new ⊎ (left.new ≡ 0)) }
+        ensures fails { OnFailed (Fails L.seen (record { most = G.most; options = pool.now.options; seat = seat.new; before = (D.seen dial.old).faults; behind = (D.seen dial.new).faults }) left.old left.new self.old self.new) result }
         ensures closed { NotesBy L G.most seat.new result }
     {
         loop {

@@ -1,5 +1,6 @@
 //! How a listener lets its connection go.
 ghost use Rattle.std.specs.Prelude.{◌≡◌, is_some};
+ghost use Rattle.pg_reconnect.specs.Leaving.{OnReleased};
 
 use crate::Hearing;
 use crate::starting::give_up;
@@ -18,6 +19,7 @@ impl<L: Link + Drop> Hearing<L> {
         requires mine { self.name ≡ pool.now.name }
         requires theirs { seat.old.name ≡ pool.now.name }
         ensures some { is_some result ≡ is_some self.listening.conn }
+        ensures releases { OnReleased G.most self.listening.conn result }
         ensures seat { seat.new.name ≡ seat.old.name }
     {
         let Hearing {

@@ -1,7 +1,7 @@
 //! A start-up of a listener's connection.
 ghost use Rattle.std.specs.Prelude.{◌≡◌, ◌≤◌, IsSome, option_and_then};
-ghost use Rattle.pg_reconnect.specs.Leaving.{FillsOn, PollsOn, StartsIn, TicketIs, ended};
-ghost use Rattle.pg_reconnect.specs.Waiting.{OnPending};
+ghost use Rattle.pg_startup.specs.Establishing.{kept_link};
+ghost use Rattle.pg_reconnect.specs.Leaving.{FillsOn, PollsStartUp, StartsIn, TicketIs, ended};
 
 use crate::leaving::give_back;
 use pg_listen::{EstablishPooled, PgPool, PoolConnection, PoolLedger, PoolSeat, Ticket};
@@ -11,7 +11,8 @@ use std::sync::Wait;
 
 // The leave of a start-up that is given up, and its link.
 fn parts_of<L>(startup: Option<EstablishPooled<L>>) -> (Option<Ticket>, Option<L>)
-    ensures { result.0 ≡ option_and_then (λ f. f.ticket) startup }
+    ensures leave { result.0 ≡ option_and_then (λ f. f.ticket) startup }
+    ensures link { result.1 ≡ option_and_then (λ f. kept_link f.connecting.startup.phase) startup }
 {
     match startup {
         Some(state) => state.into_parts(),
@@ -28,7 +29,8 @@ pub(crate) fn give_up<G: PoolLedger, L, R: Wait>(
 ) -> Option<L>
     requires mine { TicketIs pool.now.name (option_and_then (λ f. f.ticket) startup) }
     requires theirs { seat.old.name ≡ pool.now.name }
-    ensures { seat.new.name ≡ seat.old.name }
+    ensures seat { seat.new.name ≡ seat.old.name }
+    ensures link { result ≡ option_and_then (λ f. kept_link f.connecting.startup.phase) startup }
 {
     let (ticket, link) = parts_of(startup);
     give_back(rt, ticket, pool, seat);
@@ -66,7 +68,7 @@ pub(crate) fn poll_startup<G: PoolLedger, L: Link + Drop, R: Wait>(
     ensures fills { FillsOn L.seen pool.now.name startup.new result }
     ensures seat { seat.new.name ≡ seat.old.name }
     ensures left { left.new ≤ left.old }
-    ensures waits { OnPending result (PollsOn L.seen left.old left.new startup.old startup.new) }
+    ensures polls { PollsStartUp L.seen left.old left.new startup.old startup.new result }
 {
     let Some(state) = startup else { unreachable!() };
     match state.poll_within(left) {

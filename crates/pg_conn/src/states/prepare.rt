@@ -17,8 +17,8 @@ pub struct Prepare<'c, L, R: Asks = Request> {
     ghost calling: { KeepsCalling kinds.Prepare (option_map R.asked request) conn.now },
 }
 
-// What asks it, without taking memory.
-pub(super) fn request_of(alloc: Global, preparation: Preparation) -> Request
+/// What prepares a statement, without taking memory.
+pub fn prepare_request(alloc: Global, preparation: Preparation) -> Request
     ensures { result ≡ to_prepare preparation }
 {
     let mut preparation = preparation;
@@ -53,7 +53,7 @@ impl<L> PgConnection<L> {
         ensures request { result.request ≡ Some (to_prepare preparation) }
         ensures calling { IsCalling kinds.Prepare (begun_by result.request result.conn.now) }
     {
-        let request = request_of(self.alloc, preparation);
+        let request = prepare_request(self.alloc, preparation);
         Prepare {
             conn: self,
             request: Some(request),

@@ -4,6 +4,7 @@ use Rattle.pg_call.specs.declared.kind.Kind.TheVariants as kinds
 use Rattle.pg_conn.specs.Connections.{seen_by}
 use Rattle.pg_conn.proofs.NewsLaws.{reads_within}
 use Rattle.pg_conn.proofs.StateLaws.{calling_runs, poll_fits_within}
+use Rattle.pg_listening.proofs.OpenLaws.{statement_open}
 use Rattle.pg_listening.proofs.holding.poll_total.Goals as goal
 
 pub poll_call_within-requires-clause-runs : goal.poll_call_within-requires-clause-runs
@@ -20,3 +21,8 @@ returns-in-Pending-clause-news g c = reads_within c.args.left.now (seen_by g.L.L
 
 pub returns-in-Ready-clause-news : goal.returns-in-Ready-clause-news
 returns-in-Ready-clause-news g c = reads_within c.args.left.now (seen_by g.L.Link.seen c.args.conn.now) (seen_by g.L.Link.seen c.poll_call_within.new.self) (Ready c.in-Ready.turn) c.in-Ready.ensures.polls c.requires.keeping
+
+pub returns-in-Ready-clause-apart : goal.returns-in-Ready-clause-apart
+returns-in-Ready-clause-apart g c =
+    let polls = rw c.into_total.ensures at c.in-Ready.ensures.polls in
+    statement_open g.L.Link.seen c.args.left.now c.args.conn.now c.poll_call_within.new.self (kinds.Run hows.Execute) (Ready c.into_total.result) c.requires.calling polls

@@ -1,5 +1,6 @@
-use Rattle.std.proofs.Common.{refl, rules}
-use Rattle.pg_reconnect.proofs.ClosedLaws.{fills_ended, fills_waits}
+use Rattle.std.proofs.Common.{◌≡◌, refl, rules}
+use Rattle.pg_startup.specs.Establishing.{kept_link}
+use Rattle.pg_reconnect.proofs.ClosedLaws.{ends_start_up, fills_ended, fills_waits}
 use Rattle.pg_reconnect.proofs.starting.poll_startup.Goals as goal
 
 pub returns-in-Pending-clause-fills : goal.returns-in-Pending-clause-fills
@@ -13,3 +14,8 @@ returns-in-Ready-clause-fills g c =
     let fills = rw c.in-Some.is at c.requires.mine in
     let told = c.in-Ready.ensures in
     rw c.with_link.ensures (fills_ended g.L.Link.seen _ _ _ _ c.poll_within.new.self c.in-Ready.answer c.give_up-link.result _ fills (search rules) told.ticket told.polls)
+
+pub returns-in-Ready-clause-polls : goal.returns-in-Ready-clause-polls
+returns-in-Ready-clause-polls g c =
+    let kept : c.give_up-link.result ≡ kept_link c.poll_within.new.self.connecting.startup.phase = search rules in
+    rw c.with_link.ensures (ends_start_up g.L.Link.seen _ _ _ _ _ c.poll_within.new.self c.in-Ready.answer c.give_up-link.result c.in-Some.is c.in-Ready.ensures.polls kept)

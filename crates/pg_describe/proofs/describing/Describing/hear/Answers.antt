@@ -1,19 +1,8 @@
-use Rattle.std.proofs.Common.{Ok, Err, refl, ap, ◌∙◌}
-use Rattle.futures.specs.declared.task.Poll.TheVariants.{Ready}
-use Rattle.pg_call.specs.declared.answer.Turn.{Turn}
-use Rattle.pg_call.specs.Answers.{rows_turn}
+use Rattle.pg_describe.proofs.DescribingLaws.{fits_nulls, hears_stays}
 use Rattle.pg_describe.proofs.describing.Describing.hear.Goals as goal
 
-pub returns-in-Ok-clause-hears : goal.returns-in-Ok-clause-hears
-returns-in-Ok-clause-hears g c = (
-  Ready (Ok c.in-Ok.rows),
-  c.in-Ready.is ∙ ap (λ (turn : Turn). Ready turn) (c.into_rows.ensures ∙ ap rows_turn c.in-Ok.is),
-  (c.requires.told, (c.described.result, refl, c.described.ensures)),
-)
+pub hear-requires : goal.hear-requires
+hear-requires g c = fits_nulls (g.C.PgExecutor.conn c.args.self.now.conn) c.args.answer c.requires.fits
 
-pub returns-in-Err-clause-hears : goal.returns-in-Err-clause-hears
-returns-in-Err-clause-hears g c = (
-  Ready (Err c.in-Err.e),
-  c.in-Ready.is ∙ ap (λ (turn : Turn). Ready turn) (c.into_rows.ensures ∙ ap rows_turn c.in-Err.is),
-  (refl, c.requires.told),
-)
+pub returns-clause-stays : goal.returns-clause-stays
+returns-clause-stays g c = hears_stays (g.C.PgExecutor.conn c.args.self.now.conn) c.args.prepared c.args.answer _ _ c.requires.fits c.hear.ensures

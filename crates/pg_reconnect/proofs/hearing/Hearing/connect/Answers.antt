@@ -1,6 +1,7 @@
 use Rattle.std.proofs.Common.{◌≡◌, ◌++◌, ◌∙◌, ap, refl, rules, option_to_list}
 use Rattle.pg_listening.specs.Listening.{stream_in}
 use Rattle.pg_reconnect.proofs.BufferingLaws.{hears_kept}
+use Rattle.pg_reconnect.proofs.FailingLaws.{not_found}
 use Rattle.pg_reconnect.proofs.hearing.Hearing.connect.Goals as goal
 
 pub returns-in-Err-clause-hears : goal.returns-in-Err-clause-hears
@@ -9,3 +10,8 @@ returns-in-Err-clause-hears g c =
     let none = ap (λ h. stream_in (λ held. held.conn) seen h.listening.conn) c.self.view_is ∙ ap (λ o. stream_in (λ held. held.conn) seen o) c.requires.none in
     let lost : c.keep_lost.new.lost.items ≡ c.self.inside.lost.items ++ option_to_list c.in-Err.link = search rules in
     rw (← c.self.view_is) (hears_kept seen _ _ _ none refl lost refl refl refl)
+
+pub returns-in-Err-clause-fails : goal.returns-in-Err-clause-fails
+returns-in-Err-clause-fails g c =
+    let lost : c.keep_lost.new.lost.items ≡ c.self.inside.lost.items ++ option_to_list c.in-Err.link = search rules in
+    rw (← c.self.view_is) (not_found g.L.Link.seen _ _ _ c.in-Err.e c.in-Err.link lost c.in-Err.ensures.none)

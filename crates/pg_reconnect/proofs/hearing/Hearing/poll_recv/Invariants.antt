@@ -7,6 +7,7 @@ abbrev pub invariant-loop-e : goal.invariant-loop-e
 invariant-loop-e g l = record {
   hears : HearsBy g.L.Link.seen l.initial.self l.self [];
   startup : StartsFrom g.L.Link.seen l.initial.self.startup l.self.startup;
+  faults : (g.D.Dial.seen l.dial).faults ≡ (g.D.Dial.seen l.initial.dial).faults;
   channels : l.self.listening.channels ≡ l.initial.self.listening.channels;
   seat : l.seat.name ≡ l.initial.seat.name;
   theirs : l.initial.seat.name ≡ l.pool.name;

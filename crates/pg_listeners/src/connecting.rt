@@ -1,7 +1,7 @@
 //! How a listener begins.
 ghost use Rattle.std.specs.Prelude.{◌≡◌, false, None, Some, IsSome, is_some};
 ghost use Rattle.pg_reconnect.specs.Hearing.{fresh_hearing};
-ghost use Rattle.pg_listeners.specs.Listeners.{Connects, HandsOn, holds, is_answered};
+ghost use Rattle.pg_listeners.specs.Listeners.{Connects, HandsOn, LetsGo, beside_of, holds, is_answered};
 
 use crate::answering::is_answered;
 use crate::{PgListener, PoolHolder, SeatHolder};
@@ -33,10 +33,7 @@ pub fn connect_with<
     ensures listener { result.listener ≡ Some (record { pool = pool; seat = seat; dial = dial; hearing = fresh_hearing (P.pool pool).name false }) }
     ensures over { result.is_over ≡ false }
 {
-    Connect {
-        listener: Some(PgListener::over(alloc, pool, seat, dial, false)),
-        is_over: false,
-    }
+    Connect::over(PgListener::over(alloc, pool, seat, dial, false))
 }
 
 impl<G: PoolLedger, P: PoolHolder<G, D::L>, S: SeatHolder<Seat = PoolSeat<G>>, D: Dial> Connect<
@@ -45,6 +42,15 @@ impl<G: PoolLedger, P: PoolHolder<G, D::L>, S: SeatHolder<Seat = PoolSeat<G>>, D
     S,
     D,
 > {
+    pub(crate) fn over(listener: PgListener<G, P, S, D>) -> Self
+        ensures { result ≡ record { listener = Some listener; is_over = false } }
+    {
+        Connect {
+            listener: Some(listener),
+            is_over: false,
+        }
+    }
+
     /// Whether a poll has ended the call.
     pub fn is_finished(&self) -> bool
         ensures { result ≡ self.now.is_over }
@@ -59,7 +65,8 @@ impl<G: PoolLedger, P: PoolHolder<G, D::L>, S: SeatHolder<Seat = PoolSeat<G>>, D
         S: Drop,
         D: Drop,
         D::L: Drop,
-        ensures { is_some result ≡ holds self.listener }
+        ensures some { is_some result ≡ holds self.listener }
+        ensures releases { LetsGo G.most self.listener result }
     {
         let Connect {
             listener,
@@ -94,7 +101,7 @@ where
     // One poll, but for what is noted of its end.
     fn poll_on<R: Wait>(&mut self, rt: &R) -> Poll<Result<PgListener<G, P, S, D>, Error>>
         requires { IsSome self.old.listener }
-        ensures { Connects D.L.seen self.old.listener self.new.listener result }
+        ensures { Connects D.L.seen (beside_of P.pool S.seat D.seen G.most) self.old.listener self.new.listener result }
     {
         let Some(listener) = &mut self.listener else {
             unreachable!()
@@ -112,7 +119,7 @@ where
         requires over { self.old.is_over ≡ false }
         requires listener { IsSome self.old.listener }
         ensures over { self.new.is_over ≡ is_answered result }
-        ensures connects { Connects D.L.seen self.old.listener self.new.listener result }
+        ensures connects { Connects D.L.seen (beside_of P.pool S.seat D.seen G.most) self.old.listener self.new.listener result }
     {
         let answer = self.poll_on(rt);
         self.is_over = is_answered(&answer);

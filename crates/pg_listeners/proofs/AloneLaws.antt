@@ -1,0 +1,26 @@
+-- A listener on a pool of its own: the one participant of a pool of one, and what it begins with.
+use Rattle.std.proofs.Common.{◌≡◌, ℕ, true, false, List, [], ◌∷◌, ◌++◌, ◌∙◌, Some, Result, Ok, ap, refl, subst, sym}
+use Rattle.pg_wire.specs.declared.error.Error.{Error}
+use Rattle.pg_options.specs.Options.{ConnectOptions}
+use Rattle.pg_pool.specs.declared.seat.Receipt.{Receipt}
+use Rattle.pg_pool.specs.Seats.{SeatSeen}
+use Rattle.pg_listen.specs.Handed.{PoolSeen, new_seats, told_seats}
+use Rattle.pg_reconnect.specs.Hearing.{fresh_hearing}
+use Rattle.pg_listeners.specs.Listeners.{BeginsAlone, IsFirst, ListenerOf}
+
+one_head : {T : Type 0} (x y : T) → x ∷ [] ≡ y ∷ [] → x ≡ y
+one_head x y e = cc
+
+first_by : (name : ℕ) (s : SeatSeen) → ◌≡◌ {A = ℕ × ℕ × List Receipt × List ℕ} (s.number, s.name, s.receipts, s.ids) (0, name, [], []) → IsFirst name s
+first_by name s e = (ap (λ (p : ℕ × ℕ × List Receipt × List ℕ). p.0) e, ap (λ (p : ℕ × ℕ × List Receipt × List ℕ). p.1) e, ap (λ (p : ℕ × ℕ × List Receipt × List ℕ). p.2) e, ap (λ (p : ℕ × ℕ × List Receipt × List ℕ). p.3) e)
+
+pub the_first : (name : ℕ) (xs : List SeatSeen) (s : SeatSeen) → told_seats (xs ++ s ∷ []) ≡ new_seats name 1 → IsFirst name s
+the_first name [] s e = first_by name s (one_head (s.number, s.name, s.receipts, s.ids) (0, name, [], []) e)
+the_first name (x ∷ []) s e = absurd cc
+the_first name (x ∷ y ∷ xs) s e = absurd cc
+
+-- it begins over such a pool, and ignores a close of it
+pub begins_alone : {D A : Type 0} (name : ℕ) (options : Result ConnectOptions Error) (read : ConnectOptions) (dial : D) (pool : PoolSeen) (seat : SeatSeen) (l : ListenerOf PoolSeen SeatSeen D A) → options ≡ Ok read → pool ≡ record { name = name; options = read } → IsFirst name seat
+    → (l.pool ≡ pool) × (l.seat ≡ seat) × (l.dial ≡ dial) → l.hearing ≡ fresh_hearing pool.name true → BeginsAlone name options dial (Some l) false
+begins_alone {D} {A} name options read dial pool seat l is made first (p, s, d) h =
+    (read, l, is, refl, (p ∙ made, subst (λ (x : SeatSeen). IsFirst name x) (sym s) first, d, h ∙ ap (λ (x : PoolSeen). fresh_hearing {A = A} x.name true) made), refl)

@@ -1,0 +1,43 @@
+-- What lies beside a listener is told through what holds its pool and its participant.
+use Rattle.std.proofs.Common.{◌≡◌, inl, ℕ, [], ap, subst, Option, Result, Err}
+use Rattle.futures.specs.declared.task.Poll.{Poll}
+use Rattle.futures.specs.declared.task.Poll.TheVariants.{Ready}
+use Rattle.pg_wire.specs.declared.error.Error.{Error}
+use Rattle.pg_wire.specs.declared.error.Error.TheVariants as errors
+use Rattle.pg_stream.specs.Links.{LinkSeen}
+use Rattle.pg_call.specs.declared.answer.Turn.{Turn}
+use Rattle.pg_call.specs.declared.request.Request.{Request}
+use Rattle.pg_options.specs.Options.{ConnectOptions}
+use Rattle.pg_conn.specs.Dials.{DialSeen}
+use Rattle.pg_pool.specs.Seats.{SeatSeen}
+use Rattle.pg_listen.specs.Handed.{PoolSeen}
+use Rattle.pg_reconnect.specs.Failing.{BesideSeen, CausedBy, Fails, OnFailed}
+use Rattle.pg_reconnect.specs.Hearing.{HearingOf, HearsBy}
+use Rattle.pg_reconnect.specs.Querying.{Queries}
+use Rattle.pg_reconnect.proofs.FailingLaws.{memory_fails}
+use Rattle.pg_listeners.specs.Listeners.{CausedBehind, ListenerOf, beside_of}
+
+beside_at : (P : BesideSeen → Type 0) (o : BesideSeen) (options : ConnectOptions) (seat : SeatSeen) → options ≡ o.options → seat ≡ o.seat → P (record o { options = options; seat = seat }) → P o
+beside_at P o options seat pool held p = subst (λ (x : ConnectOptions). P (record o { options = x })) pool (subst (λ (s : SeatSeen). P (record o { options = options; seat = s })) held p)
+
+pub caused_at : {A X : Type 0} (seen : A → LinkSeen) (o : BesideSeen) (options : ConnectOptions) (seat : SeatSeen) (left now : ℕ) (a b : HearingOf A) (answer : Poll (Result X Error)) → options ≡ o.options → seat ≡ o.seat → CausedBy seen (record o { options = options; seat = seat }) left now a b answer
+    → CausedBy seen o left now a b answer
+caused_at {A} {X} seen o options seat left now a b answer pool held p = beside_at (λ x. CausedBy seen x left now a b answer) o options seat pool held p
+
+pub fails_at : {A X : Type 0} (seen : A → LinkSeen) (o : BesideSeen) (options : ConnectOptions) (seat : SeatSeen) (left now : ℕ) (a b : HearingOf A) (answer : Poll (Result X Error)) → options ≡ o.options → seat ≡ o.seat → OnFailed (Fails seen (record o { options = options; seat = seat }) left now a b) answer
+    → OnFailed (Fails seen o left now a b) answer
+fails_at {A} {X} seen o options seat left now a b answer pool held p = beside_at (λ x. OnFailed (Fails seen x left now a b) answer) o options seat pool held p
+
+pub queries_at : {A : Type 0} (seen : A → LinkSeen) (o : BesideSeen) (options : ConnectOptions) (seat : SeatSeen) (left now : ℕ) (request asked rest : Option Request) (a b : HearingOf A) (answer : Poll Turn) → options ≡ o.options → seat ≡ o.seat → asked ≡ request
+    → Queries seen (record o { options = options; seat = seat }) left now asked rest a b answer → Queries seen o left now request rest a b answer
+queries_at {A} seen o options seat left now request asked rest a b answer pool held taken p =
+    subst (λ (r : Option Request). Queries seen o left now r rest a b answer) taken (beside_at (λ x. Queries seen x left now asked rest a b answer) o options seat pool held p)
+
+-- behind the begin of a change, whose want of memory changes nothing
+pub unbegun : {A : Type 0} (X : Type 0) (seen : A → LinkSeen) (o : BesideSeen) (left now : ℕ) (a b : HearingOf A) (e : Error) → HearsBy seen a a [] → e ≡ errors.OutOfMemory → CausedBehind {A = A} {X = X} seen o left now a b (Ready (Err e))
+unbegun X seen o left now a b e none wanting = (a, none, inl (memory_fails seen left now a b e wanting))
+
+pub begun_causes : {P S D A X : Type 0} (seen : A → LinkSeen) (pool : P → PoolSeen) (seat : S → SeatSeen) (dial : D → DialSeen) (most left now : ℕ) (a m b : ListenerOf P S D A) (answer : Poll (Result X Error)) → m ≡ record a { hearing = m.hearing } → HearsBy seen a.hearing m.hearing []
+    → CausedBy seen (beside_of pool seat dial most m b) left now m.hearing b.hearing answer → CausedBehind seen (beside_of pool seat dial most a b) left now a.hearing b.hearing answer
+begun_causes {P} {S} {D} {A} seen pool seat dial most left now a m b answer same hears causes =
+    (m.hearing, hears, subst (λ (x : BesideSeen). CausedBy seen x left now m.hearing b.hearing answer) (ap (λ (l : ListenerOf P S D A). beside_of pool seat dial most l b) same) causes)

@@ -1,0 +1,200 @@
+//! The call `describe` of a listener.
+ghost use Rattle.std.specs.Prelude.{◌≡◌, ◌≤◌, false, [], None, Some};
+ghost use Rattle.pg_call.specs.declared.kind.How.TheVariants as hows;
+ghost use Rattle.pg_call.specs.declared.kind.Kind.TheVariants as kinds;
+ghost use Rattle.pg_conn.specs.States.{to_prepare, untyped};
+ghost use Rattle.pg_reconnect.specs.Hearing.{HearsBy};
+ghost use Rattle.pg_reconnect.specs.Querying.{IsQuerying};
+ghost use Rattle.pg_reconnect.specs.Waiting.{NotesBy};
+ghost use Rattle.pg_listeners.specs.Describing.{DescribesIn, GoesOn, IsDescribing, PollsNulls, PollsPrepare, StaysDescribing};
+ghost use Rattle.pg_listeners.specs.Listeners.{beside_of, is_answered};
+
+use crate::answering::is_answered;
+use crate::{PgListener, PoolHolder, SeatHolder};
+use pg_call::{Prepared, Request};
+use pg_conn::{Dial, Preparation, prepare_request};
+use pg_describe::Describe;
+use pg_describe::telling::{columns_in, hear};
+use pg_listen::{PoolLedger, PoolSeat};
+use pg_nullable::nulls_query;
+use pg_wire::{Error, Oids, Poll, Text};
+use std::sync::Wait;
+
+/// The state of `PgListener::describe`, which is made of two calls. It does nothing before its first poll. Dropped before its end it leaves the listener as it
+/// stands, and what was read of notifications is buffered.
+pub struct Describing<
+    'l,
+    G: PoolLedger,
+    P: PoolHolder<G, D::L>,
+    S: SeatHolder<Seat = PoolSeat<G>>,
+    D: Dial,
+    Q = Request,
+> {
+    listener: &'l mut PgListener<G, P, S, D>,
+    request: Option<Q>,
+    // The statement, once it is prepared.
+    told: Option<Prepared>,
+    is_over: bool,
+}
+
+impl<
+    G: PoolLedger,
+    P: PoolHolder<G, D::L>,
+    S: SeatHolder<Seat = PoolSeat<G>>,
+    D: Dial,
+    Q: Drop,
+> Drop for Describing<'_, G, P, S, D, Q> {
+    fn drop(self)
+        ensures { self.exit.0.now ≡ self.entry.listener.now }
+    {
+        let Describing {
+            listener: _,
+            request,
+            told,
+            is_over: _,
+        } = self;
+        drop(request);
+        drop(told);
+    }
+}
+
+impl<G: PoolLedger, P: PoolHolder<G, D::L>, S: SeatHolder<Seat = PoolSeat<G>>, D: Dial> PgListener<
+    G,
+    P,
+    S,
+    D,
+> {
+    /// Describes a statement in full: what `prepare_with` tells of it, and of each column whether it may be null, which the catalog is asked for. More than 21845
+    /// columns are `TooMany` behind the preparation, which stands. It takes up a connection where none is held. An error of the link is answered, and no loss:
+    /// that is told by the next call of `try_recv`. (PostgreSQL manual, "Message Flow", "Extended Query"; "System Catalogs", pg_attribute.)
+    pub fn describe(&mut self, sql: Text) -> Describing<'_, G, P, S, D>
+        ensures same { result.listener.ghost_name ≡ self.entry.ghost_name }
+        ensures listener { result.listener.now ≡ self.old }
+        ensures request { result.request ≡ Some (to_prepare (untyped sql)) }
+        ensures told { result.told ≡ None }
+        ensures over { result.is_over ≡ false }
+    {
+        let alloc = self.allocator();
+        let types = Oids::new(alloc);
+        let request = prepare_request(alloc, Preparation { sql, types });
+        Describing {
+            listener: self,
+            request: Some(request),
+            told: None,
+            is_over: false,
+        }
+    }
+}
+
+impl<G: PoolLedger, P: PoolHolder<G, D::L>, S: SeatHolder<Seat = PoolSeat<G>>, D: Dial> Describing<
+    '_,
+    G,
+    P,
+    S,
+    D,
+>
+where
+    D::L: Drop,
+{
+    /// Whether a poll has ended the call.
+    pub fn is_finished(&self) -> bool
+        ensures { result ≡ self.now.is_over }
+    {
+        self.is_over
+    }
+
+    // One poll of the query on nulls, of a statement that is prepared.
+    fn poll_nulls<R: Wait>(
+        &mut self,
+        rt: &R,
+        prepared: Prepared,
+        left: &mut u16,
+    ) -> Poll<Result<Describe, Error>>
+        requires left { left.old ≤ 256 }
+        requires querying { IsQuerying (kinds.Run hows.FetchAll) self.old.request self.old.listener.now.hearing }
+        ensures same { self.new.listener.ghost_name ≡ self.old.listener.ghost_name }
+        ensures hears { HearsBy D.L.seen self.old.listener.now.hearing self.new.listener.now.hearing [] }
+        ensures channels { self.new.listener.now.hearing.listening.channels ≡ self.old.listener.now.hearing.listening.channels }
+        ensures left { left.new ≤ left.old }
+        ensures nulls { PollsNulls D.L.seen (beside_of P.pool S.seat D.seen G.most) left.old left.new prepared self.old.request self.new.request self.old.listener.now self.new.listener.now result self.new.told }
+        ensures stays { StaysDescribing self.new.told self.new.request self.new.listener.now.hearing result }
+        ensures closed { NotesBy D.L G.most (S.seat self.new.listener.now.seat) result }
+    {
+        let answer = self.listener.poll_query(rt, &mut self.request, left);
+        let (answer, told) = hear(self.listener.allocator(), prepared, answer);
+        self.told = told;
+        answer
+    }
+
+    // The first poll of the query on nulls, behind the preparation. Where there is no column, nothing is asked.
+    fn go_on<R: Wait>(
+        &mut self,
+        rt: &R,
+        prepared: Prepared,
+        left: &mut u16,
+    ) -> Poll<Result<Describe, Error>>
+        requires left { left.old ≤ 256 }
+        requires told { self.old.told ≡ None }
+        requires asked { self.old.request ≡ None }
+        ensures same { self.new.listener.ghost_name ≡ self.old.listener.ghost_name }
+        ensures hears { HearsBy D.L.seen self.old.listener.now.hearing self.new.listener.now.hearing [] }
+        ensures channels { self.new.listener.now.hearing.listening.channels ≡ self.old.listener.now.hearing.listening.channels }
+        ensures left { left.new ≤ left.old }
+        ensures goes { GoesOn D.L.seen (beside_of P.pool S.seat D.seen G.most) left.old left.new prepared self.new.request self.old.listener.now self.new.listener.now result self.new.told }
+        ensures stays { StaysDescribing self.new.told self.new.request self.new.listener.now.hearing result }
+        ensures closed { NotesBy D.L G.most (S.seat self.new.listener.now.seat) result }
+    {
+        let alloc = self.listener.allocator();
+        match nulls_query(alloc, columns_in(&prepared.columns)) {
+            Ok(Some(query)) => {
+                self.request = Some(Request::FetchAll(query));
+                self.poll_nulls(rt, prepared, left)
+            }
+            Ok(None) => Poll::Ready(Ok(Describe::new(prepared, Vec::new(alloc)))),
+            Err(e) => Poll::Ready(Err(e)),
+        }
+    }
+
+    // One poll of the preparation, and of what comes behind it.
+    fn poll_prepare<R: Wait>(&mut self, rt: &R, left: &mut u16) -> Poll<Result<Describe, Error>>
+        requires left { left.old ≤ 256 }
+        requires told { self.old.told ≡ None }
+        requires querying { IsQuerying kinds.Prepare self.old.request self.old.listener.now.hearing }
+        ensures same { self.new.listener.ghost_name ≡ self.old.listener.ghost_name }
+        ensures hears { HearsBy D.L.seen self.old.listener.now.hearing self.new.listener.now.hearing [] }
+        ensures channels { self.new.listener.now.hearing.listening.channels ≡ self.old.listener.now.hearing.listening.channels }
+        ensures left { left.new ≤ left.old }
+        ensures prepares { PollsPrepare D.L.seen (beside_of P.pool S.seat D.seen G.most) left.old left.new self.old.request self.new.request self.old.listener.now self.new.listener.now result self.new.told }
+        ensures stays { StaysDescribing self.new.told self.new.request self.new.listener.now.hearing result }
+        ensures closed { NotesBy D.L G.most (S.seat self.new.listener.now.seat) result }
+    {
+        match self.listener.poll_query(rt, &mut self.request, left) {
+            Poll::Pending => Poll::Pending,
+            Poll::Ready(turn) => match turn.into_statement() {
+                Ok(prepared) => self.go_on(rt, prepared, left),
+                Err(e) => Poll::Ready(Err(e)),
+            },
+        }
+    }
+
+    /// Moves the call on, by at most 256 calls of the link. A row of the catalog without a truth value is `ColumnDecode` with the place 0.
+    pub fn poll<R: Wait>(&mut self, rt: &R) -> Poll<Result<Describe, Error>>
+        requires over { self.old.is_over ≡ false }
+        requires calling { IsDescribing self.old.told self.old.request self.old.listener.now.hearing }
+        ensures over { self.new.is_over ≡ is_answered result }
+        ensures same { self.new.listener.ghost_name ≡ self.old.listener.ghost_name }
+        ensures hears { HearsBy D.L.seen self.old.listener.now.hearing self.new.listener.now.hearing [] }
+        ensures channels { self.new.listener.now.hearing.listening.channels ≡ self.old.listener.now.hearing.listening.channels }
+        ensures describes { DescribesIn D.L.seen (beside_of P.pool S.seat D.seen G.most) self.old.told self.old.request self.new.request self.old.listener.now self.new.listener.now result self.new.told }
+        ensures calling { StaysDescribing self.new.told self.new.request self.new.listener.now.hearing result }
+        ensures closed { NotesBy D.L G.most (S.seat self.new.listener.now.seat) result }
+    {
+        let mut left = 256;
+        let answer = match self.told.take() {
+            Some(prepared) => self.poll_nulls(rt, prepared, &mut left),
+            None => self.poll_prepare(rt, &mut left),
+        };
+        self.is_over = is_answered(&answer);
+        answer
+    }
+}

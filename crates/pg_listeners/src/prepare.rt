@@ -1,0 +1,127 @@
+//! The call `prepare_with` of a listener.
+ghost use Rattle.std.specs.Prelude.{◌≡◌, false, [], None, Some};
+ghost use Rattle.pg_call.specs.Answers.{TurnFits};
+ghost use Rattle.pg_call.specs.declared.kind.Kind.TheVariants as kinds;
+ghost use Rattle.pg_conn.specs.States.{to_prepare};
+ghost use Rattle.pg_reconnect.specs.Hearing.{HearsBy};
+ghost use Rattle.pg_reconnect.specs.Querying.{IsQuerying};
+ghost use Rattle.pg_reconnect.specs.Waiting.{NotesBy};
+ghost use Rattle.pg_listeners.specs.Describing.{PreparesIn, StaysQuerying, TellsStatement};
+ghost use Rattle.pg_listeners.specs.Listeners.{beside_of, is_answered};
+
+use crate::answering::is_answered;
+use crate::{PgListener, PoolHolder, SeatHolder};
+use pg_call::{Request, Turn};
+use pg_conn::{Dial, PgStatement, Preparation, prepare_request};
+use pg_listen::{PoolLedger, PoolSeat};
+use pg_wire::{Error, Poll};
+use std::sync::Wait;
+
+/// The state of `PgListener::prepare_with`. It does nothing before its first poll. Dropped before its end it leaves the listener as it stands, and what was
+/// read of notifications is buffered.
+pub struct PrepareWith<
+    'l,
+    G: PoolLedger,
+    P: PoolHolder<G, D::L>,
+    S: SeatHolder<Seat = PoolSeat<G>>,
+    D: Dial,
+    Q = Request,
+> {
+    listener: &'l mut PgListener<G, P, S, D>,
+    request: Option<Q>,
+    is_over: bool,
+}
+
+impl<
+    G: PoolLedger,
+    P: PoolHolder<G, D::L>,
+    S: SeatHolder<Seat = PoolSeat<G>>,
+    D: Dial,
+    Q: Drop,
+> Drop for PrepareWith<'_, G, P, S, D, Q> {
+    fn drop(self)
+        ensures { self.exit.0.now ≡ self.entry.listener.now }
+    {
+        let PrepareWith {
+            listener: _,
+            request,
+            is_over: _,
+        } = self;
+        drop(request);
+    }
+}
+
+impl<G: PoolLedger, P: PoolHolder<G, D::L>, S: SeatHolder<Seat = PoolSeat<G>>, D: Dial> PgListener<
+    G,
+    P,
+    S,
+    D,
+> {
+    /// Prepares a statement, of which the caller says the types of the first parameters; the server finds each that the caller doesn't say. It takes up a
+    /// connection where none is held. An error of the link is answered, and no loss: that is told by the next call of `try_recv`.
+    /// (PostgreSQL manual, "Message Flow", "Extended Query".)
+    pub fn prepare_with(&mut self, preparation: Preparation) -> PrepareWith<'_, G, P, S, D>
+        ensures same { result.listener.ghost_name ≡ self.entry.ghost_name }
+        ensures listener { result.listener.now ≡ self.old }
+        ensures request { result.request ≡ Some (to_prepare preparation) }
+        ensures over { result.is_over ≡ false }
+    {
+        let request = prepare_request(self.allocator(), preparation);
+        PrepareWith {
+            listener: self,
+            request: Some(request),
+            is_over: false,
+        }
+    }
+}
+
+// The statement that was told.
+fn prepared(turn: Turn) -> Result<PgStatement, Error>
+    requires { TurnFits kinds.Prepare turn }
+    ensures { TellsStatement turn result }
+{
+    match turn.into_statement() {
+        Ok(prepared) => Ok(PgStatement::told(prepared)),
+        Err(e) => Err(e),
+    }
+}
+
+impl<G: PoolLedger, P: PoolHolder<G, D::L>, S: SeatHolder<Seat = PoolSeat<G>>, D: Dial> PrepareWith<
+    '_,
+    G,
+    P,
+    S,
+    D,
+>
+where
+    D::L: Drop,
+{
+    /// Whether a poll has ended the call.
+    pub fn is_finished(&self) -> bool
+        ensures { result ≡ self.now.is_over }
+    {
+        self.is_over
+    }
+
+    /// Moves the call on, by at most 256 calls of the link.
+    pub fn poll<R: Wait>(&mut self, rt: &R) -> Poll<Result<PgStatement, Error>>
+        requires over { self.old.is_over ≡ false }
+        requires querying { IsQuerying kinds.Prepare self.old.request self.old.listener.now.hearing }
+        ensures over { self.new.is_over ≡ is_answered result }
+        ensures same { self.new.listener.ghost_name ≡ self.old.listener.ghost_name }
+        ensures hears { HearsBy D.L.seen self.old.listener.now.hearing self.new.listener.now.hearing [] }
+        ensures channels { self.new.listener.now.hearing.listening.channels ≡ self.old.listener.now.hearing.listening.channels }
+        ensures prepares { PreparesIn D.L.seen (beside_of P.pool S.seat D.seen G.most self.old.listener.now self.new.listener.now) self.old.request self.new.request self.old.listener.now.hearing self.new.listener.now.hearing result }
+        ensures querying { StaysQuerying kinds.Prepare self.new.request self.new.listener.now.hearing result }
+        ensures closed { NotesBy D.L G.most (S.seat self.new.listener.now.seat) result }
+    {
+        let mut left = 256;
+        match self.listener.poll_query(rt, &mut self.request, &mut left) {
+            Poll::Pending => Poll::Pending,
+            Poll::Ready(turn) => {
+                self.is_over = true;
+                Poll::Ready(prepared(turn))
+            }
+        }
+    }
+}

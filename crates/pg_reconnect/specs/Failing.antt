@@ -1,0 +1,142 @@
+-- Why a poll of a listener ends by an error.
+use Rattle.std.specs.Prelude.{◌≡◌, ◌⊎◌, ◌≤◌, ℕ, [], ◌++◌, Option, Some, option_to_list, Result, Ok, Err}
+use Rattle.futures.specs.declared.task.Poll.{Poll}
+use Rattle.futures.specs.declared.task.Poll.TheVariants.{Ready, Pending}
+use Rattle.pg_wire.specs.declared.error.Error.{Error}
+use Rattle.pg_wire.specs.declared.error.Error.TheVariants as errors
+use Rattle.pg_wire.specs.declared.error.IoCause.TheVariants as io
+use Rattle.pg_stream.specs.Links.{LinkSeen}
+use Rattle.pg_options.specs.Options.{ConnectOptions}
+use Rattle.pg_startup.specs.Establishing.{RefusesStart, kept_link}
+use Rattle.pg_conn.specs.Cleanliness.{is_clean}
+use Rattle.pg_conn.specs.Connecting.{PollsConnect}
+use Rattle.pg_conn.specs.Dials.{one_more}
+use Rattle.pg_conn.specs.News.{PollsNews}
+use Rattle.pg_conn.specs.declared.dial.DialFailed.{DialFailed}
+use Rattle.pg_conn.specs.declared.dial.DialFailed.TheVariants as failed
+use Rattle.pg_pool.specs.Sections.{Acquires}
+use Rattle.pg_pool.specs.Seats.{SeatSeen}
+use Rattle.pg_listen.specs.Handed.{FillingOf}
+use Rattle.pg_listen.specs.Pools.{Section}
+use Rattle.pg_listening.specs.Listening.{IsOpenPool, PollsStatement}
+use Rattle.pg_reconnect.specs.Hearing.{AsksAgain, HearingOf, HearsBy, LosesHeld}
+use Rattle.pg_reconnect.specs.Leaving.{RefusesClosed}
+use Rattle.pg_reconnect.specs.Waiting.{OnConn, StartsFrom, WaitsBy}
+
+-- ---- no connection is found
+
+abbrev pub dial_error : DialFailed → Error
+dial_error failed.Fault = errors.Io io.Fault
+dial_error failed.OutOfMemory = errors.OutOfMemory
+
+-- a dial counts a fault exactly where it fails by one
+abbrev pub CountsFaults : {X : Type 0} → ℕ → ℕ → Result X DialFailed → Type 0
+CountsFaults a b (Ok x) = b ≡ a
+CountsFaults a b (Err failed.Fault) = b ≡ one_more a
+CountsFaults a b (Err failed.OutOfMemory) = Unit {0}
+
+-- the dial counted a fault, or memory was refused to it
+abbrev pub FailsDial : ℕ → ℕ → Error → Type 0
+FailsDial a b (errors.Io io.Fault) = b ≡ one_more a
+FailsDial a b errors.OutOfMemory = Unit {0}
+FailsDial a b e = ⊥
+
+-- the dial fails, or the options are refused before its link is touched, which is handed back then
+abbrev pub FillsNone : {A : Type 0} → (A → LinkSeen) → ConnectOptions → ℕ → ℕ → Error → Option A → Type 0
+FillsNone {A} seen options before behind e handed = FailsDial before behind e ⊎ ((link : A) × (handed ≡ Some link) × RefusesStart options (seen link).plan e)
+
+-- the pool has neither a connection nor leave to make one
+abbrev pub AcquiresNone : (A : Type 0) → ℕ → SeatSeen → Error → Type 0
+AcquiresNone A most t e = Section {A = A} most (λ a b. (s : SeatSeen) × Acquires is_clean s t a b (Err e))
+
+-- What lies beside a listener in one poll: its pool, by its maximum and its options, its participant behind the poll, and how many faults its dial had
+-- counted before it and behind it.
+pub record BesideSeen : Type 0 where
+  pub most : ℕ
+  pub options : ConnectOptions
+  pub seat : SeatSeen
+  pub before : ℕ
+  pub behind : ℕ
+
+abbrev pub FindsNone : {A : Type 0} → (A → LinkSeen) → BesideSeen → Error → Option A → Type 0
+FindsNone {A} seen o e handed = AcquiresNone A o.most o.seat e ⊎ (IsOpenPool e × FillsNone seen o.options o.before o.behind e handed)
+
+-- ---- what is held fails
+
+-- the read of a notification answered it
+abbrev pub ReadFails : {A : Type 0} → (A → LinkSeen) → ℕ → ℕ → HearingOf A → HearingOf A → Error → Type 0
+ReadFails seen left now a b e = OnConn (λ c d. PollsNews left now c d (Ready (Err e))) seen a b
+
+-- so did the statement of a change
+abbrev pub ChangeFails : {A : Type 0} → (A → LinkSeen) → ℕ → HearingOf A → HearingOf A → Error → Type 0
+ChangeFails seen left a b e = OnConn (λ c d. PollsStatement left c d (Ready (Err e))) seen a b
+
+-- so did the statement that listens to all of the channels, behind which its connection is lost
+pub record ListenFails {A : Type 0} (seen : A → LinkSeen) (left : ℕ) (a b : HearingOf A) (e : Error) : Type 0 where
+  pub asked : HearingOf A
+  pub polled : HearingOf A
+  pub asks : AsksAgain a asked
+  pub ends : OnConn (λ c d. PollsStatement left c d (Ready (Err e))) seen asked polled
+  pub lost : LosesHeld polled.listening.conn polled.lost b.lost
+
+-- so did a start-up that was there before, or one over a link that was not called yet; what link it had is lost
+pub record StartUpFails {A : Type 0} (seen : A → LinkSeen) (left now : ℕ) (startup : Option (FillingOf A)) (a b : HearingOf A) (e : Error) : Type 0 where
+  pub last : FillingOf A
+  pub ended : FillingOf A
+  pub from : StartsFrom seen startup (Some last)
+  pub polls : PollsConnect seen left now last.connecting ended.connecting (Ready (Err e))
+  pub lost : b.lost ≡ a.lost ++ option_to_list (kept_link ended.connecting.startup.phase)
+
+-- memory is wanting for the room of its link, or the statement on the connection that is held was polled, and answers this
+abbrev pub PollsAgain : {A : Type 0} → (A → LinkSeen) → ℕ → HearingOf A → HearingOf A → Poll (Result (Unit {0}) Error) → Type 0
+PollsAgain seen left a b answer = (answer ≡ Ready (Err errors.OutOfMemory)) ⊎ OnConn (λ c d. PollsStatement left c d answer) seen a b
+
+-- the error of that statement, behind which its connection was lost; or memory was wanting for that
+abbrev pub LosesBy : {A : Type 0} → Error → HearingOf A → HearingOf A → Error → Type 0
+LosesBy e a b told = ((told ≡ e) × LosesHeld a.listening.conn a.lost b.lost) ⊎ (told ≡ errors.OutOfMemory)
+
+-- memory is wanting, or what was polled last answered the error, with the calls of its link that were left to it
+abbrev pub LastFails : {A : Type 0} → (A → LinkSeen) → ℕ → ℕ → Option (FillingOf A) → HearingOf A → HearingOf A → Error → Type 0
+LastFails seen left now startup a b e = (e ≡ errors.OutOfMemory) ⊎ ReadFails seen left now a b e ⊎ ChangeFails seen left a b e ⊎ ListenFails seen left a b e ⊎ StartUpFails seen left now startup a b e
+
+-- Why a poll ends by an error within so many calls of links, of which these are left: nothing was given, and what it did last has failed.
+pub record FailsOn {A : Type 0} (seen : A → LinkSeen) (left now : ℕ) (a b : HearingOf A) (e : Error) : Type 0 where
+  pub last : HearingOf A
+  pub rest : ℕ
+  pub fewer : rest ≤ left
+  pub leads : HearsBy seen a last []
+  pub apart : IsOpenPool e
+  pub fails : LastFails seen rest now a.startup last b e
+
+-- ---- and what lies beside
+
+-- no connection was found, and what link was dialled is lost
+pub record FailsToFind {A : Type 0} (seen : A → LinkSeen) (o : BesideSeen) (a b : HearingOf A) (e : Error) : Type 0 where
+  pub last : HearingOf A
+  pub link : Option A
+  pub leads : HearsBy seen a last []
+  pub lost : b.lost ≡ last.lost ++ option_to_list link
+  pub none : FindsNone seen o e link
+
+-- or the pool was closed, which it is asked before anything else
+abbrev pub Fails : {A : Type 0} → (A → LinkSeen) → BesideSeen → ℕ → ℕ → HearingOf A → HearingOf A → Error → Type 0
+Fails {A} seen o left now a b e = FailsOn seen left now a b e ⊎ FailsToFind seen o a b e ⊎ Section {A = A} o.most (λ c d. (s : SeatSeen) × RefusesClosed s o.seat c d (Err e))
+
+-- ---- why a poll answers
+
+-- why it waits, or fails, where it works on what is held alone
+abbrev pub CausedOn : {A X : Type 0} → (A → LinkSeen) → ℕ → ℕ → HearingOf A → HearingOf A → Poll (Result X Error) → Type 0
+CausedOn seen left now a b Pending = WaitsBy seen left now a b
+CausedOn seen left now a b (Ready (Err e)) = FailsOn seen left now a b e
+CausedOn seen left now a b (Ready (Ok x)) = Unit {0}
+
+-- why any other waits, or fails; at its Ok its dial has counted no fault
+abbrev pub CausedBy : {A X : Type 0} → (A → LinkSeen) → BesideSeen → ℕ → ℕ → HearingOf A → HearingOf A → Poll (Result X Error) → Type 0
+CausedBy seen o left now a b Pending = WaitsBy seen left now a b
+CausedBy seen o left now a b (Ready (Err e)) = Fails seen o left now a b e
+CausedBy seen o left now a b (Ready (Ok x)) = o.behind ≡ o.before
+
+-- this holds of the error that it ends by
+abbrev pub OnFailed : {X : Type 0} → (Error → Type 0) → Poll (Result X Error) → Type 0
+OnFailed P (Ready (Err e)) = P e
+OnFailed P answer = Unit {0}
