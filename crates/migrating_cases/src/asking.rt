@@ -7,8 +7,10 @@ ghost use Rattle.pg_migrating.specs.Sessions.{Goes};
 
 use crate::telling::{push_bool, push_done};
 use case_tools::push_bytes;
-use pg_conn::{Dial, PgConnection};
-use pg_migrating::{DatabaseExists, DatabaseStatement, ForceDropDatabase, MigrateDatabase};
+use pg_guards::PgExecutor;
+use pg_migrating::{
+    DatabaseExists, DatabaseStatement, ForceDropDatabase, MigrateDatabase, Sessions,
+};
 use pg_options::PgSettings;
 use pg_stream::{Link, MemoryLink, SocketLink};
 use pg_wire::{Error, Poll};
@@ -34,9 +36,12 @@ impl Shown for SocketLink {
 }
 
 // What was sent, where a connection waits. What there is no memory for is missing in what is printed.
-fn tell_sent<L: Shown>(conn: Option<&PgConnection<L>>, told: &mut String) {
+fn tell_sent<C: PgExecutor>(conn: Option<&C>, told: &mut String)
+where
+    C::L: Shown,
+{
     if let Some(conn) = conn {
-        match conn.link().sent() {
+        match conn.conn_ref().link().sent() {
             [] => {}
             sent => drop(push_bytes(told, sent)),
         }
@@ -44,14 +49,14 @@ fn tell_sent<L: Shown>(conn: Option<&PgConnection<L>>, told: &mut String) {
 }
 
 // Polls a call of one statement, so often at most.
-fn statement<D: Dial>(
+fn statement<D: Sessions>(
     mut state: DatabaseStatement<'_, D>,
     polls: u64,
     told: &mut String,
 ) -> Answer<()>
 where
-    D::L: Shown + Drop,
-    requires { Goes (kinds.Run hows.Execute) state.session }
+    D::L: Shown,
+    requires { Goes D.opens (kinds.Run hows.Execute) state.session }
 {
     for _ in 0..polls {
         match state.poll() {
@@ -62,14 +67,14 @@ where
     Poll::Pending
 }
 
-fn existence<D: Dial>(
+fn existence<D: Sessions>(
     mut state: DatabaseExists<'_, D>,
     polls: u64,
     told: &mut String,
 ) -> Answer<bool>
 where
-    D::L: Shown + Drop,
-    requires { Goes (kinds.Run hows.FetchOne) state.session }
+    D::L: Shown,
+    requires { Goes D.opens (kinds.Run hows.FetchOne) state.session }
 {
     for _ in 0..polls {
         match state.poll() {
@@ -80,14 +85,14 @@ where
     Poll::Pending
 }
 
-fn forcing<D: Dial>(
+fn forcing<D: Sessions>(
     mut state: ForceDropDatabase<'_, D>,
     polls: u64,
     told: &mut String,
 ) -> Answer<()>
 where
-    D::L: Shown + Drop,
-    requires { GoesForce state.step state.session state.last }
+    D::L: Shown,
+    requires { GoesForce D.opens state.step state.session state.last }
 {
     for _ in 0..polls {
         match state.poll() {
@@ -99,7 +104,7 @@ where
 }
 
 // The answer of a call on the database of a URL that tells nothing.
-fn done<D: Dial>(
+fn done<D: Sessions>(
     alloc: Global,
     settings: &PgSettings,
     dial: &mut D,
@@ -109,7 +114,7 @@ fn done<D: Dial>(
     told: &mut String,
 ) -> Answer<()>
 where
-    D::L: Shown + Drop,
+    D::L: Shown,
 {
     match word {
         "create" => {
@@ -127,7 +132,7 @@ where
     }
 }
 
-fn exists<D: Dial>(
+fn exists<D: Sessions>(
     alloc: Global,
     settings: &PgSettings,
     dial: &mut D,
@@ -136,7 +141,7 @@ fn exists<D: Dial>(
     told: &mut String,
 ) -> Result<(), Error>
 where
-    D::L: Shown + Drop,
+    D::L: Shown,
 {
     let state = MigrateDatabase::database_exists(alloc, settings, url, dial);
     let answer = existence(state, polls, told);
@@ -146,7 +151,7 @@ where
 }
 
 /// Makes a call on the database of a URL, and tells what it answered.
-pub(crate) fn call<D: Dial>(
+pub(crate) fn call<D: Sessions>(
     alloc: Global,
     settings: &PgSettings,
     dial: &mut D,
@@ -155,7 +160,7 @@ pub(crate) fn call<D: Dial>(
     told: &mut String,
 ) -> Result<(), Error>
 where
-    D::L: Shown + Drop,
+    D::L: Shown,
 {
     let (word, url) = words.split_once(' ').unwrap_or((words, ""));
     if word == "exists" {

@@ -4,4 +4,4 @@ use Rattle.pg_migrating.specs.Sessions.{Goes}
 use Rattle.migrating_cases.proofs.asking.statement.Given as goal
 
 abbrev pub invariant-loop : goal.invariant-loop
-invariant-loop g l = Goes (kinds.Run hows.Execute) l.state.session
+invariant-loop g l = Goes g.D.Sessions.opens (kinds.Run hows.Execute) l.state.session
