@@ -5,10 +5,9 @@ ghost use Rattle.pg_migrating.specs.Asking.{CallsQuietly, is_asked};
 
 use crate::telling::{push_list, push_nanos, push_unit, push_version};
 use case_tools::flush;
-use pg_conn::PgConnection;
+use pg_guards::PgExecutor;
 use pg_migrate::{Clock, MigrateError, Migration};
 use pg_migrating::{Migrate, RunMigration};
-use pg_stream::Link;
 use pg_wire::{Error, Poll};
 use std::alloc::Global;
 use std::fmt::Write;
@@ -21,12 +20,12 @@ const TABLE: &str = "m";
 const FLUSH_POLLS: u64 = 100;
 
 // Polls a migration, so often at most.
-fn run<L: Link, K: Clock>(
-    mut state: RunMigration<'_, &mut PgConnection<L>, K>,
+fn run<C: PgExecutor + Drop, K: Clock>(
+    mut state: RunMigration<'_, C, K>,
     polls: u64,
 ) -> Answer<u64>
-    requires over { is_asked state.asking.question state.asking.conn.now.call ≡ true }
-    requires calling { CallsQuietly state.asking.question state.asking.conn.now }
+    requires over { is_asked state.asking.question (C.conn state.asking.conn).call ≡ true }
+    requires calling { CallsQuietly state.asking.question (C.conn state.asking.conn) }
 {
     for _ in 0..polls {
         match state.poll() {
@@ -38,9 +37,9 @@ fn run<L: Link, K: Clock>(
 }
 
 // Makes a call of one statement whose answer tells nothing.
-fn statement<L: Link>(
+fn statement<C: PgExecutor>(
     alloc: Global,
-    conn: &mut PgConnection<L>,
+    conn: &mut C,
     word: &str,
     migration: &Migration,
 ) -> Answer<()> {
@@ -54,9 +53,9 @@ fn statement<L: Link>(
 }
 
 // Runs a migration, or takes it back.
-fn run_by<L: Link, K: Clock>(
+fn run_by<C: PgExecutor, K: Clock>(
     alloc: Global,
-    conn: &mut PgConnection<L>,
+    conn: &mut C,
     word: &str,
     migration: &Migration,
     clock: &mut K,
@@ -70,8 +69,8 @@ fn run_by<L: Link, K: Clock>(
 }
 
 // Sends what is unsent, and reads what is owed.
-fn push_flush<L: Link>(conn: &mut PgConnection<L>, told: &mut String) -> Result<(), Error> {
-    let answer = flush(conn, FLUSH_POLLS);
+fn push_flush<C: PgExecutor>(conn: &mut C, told: &mut String) -> Result<(), Error> {
+    let answer = flush(conn.conn_mut(), FLUSH_POLLS);
     let word = match &answer {
         Poll::Pending => "waits\n",
         Poll::Ready(Ok(())) => "ok\n",
@@ -82,9 +81,9 @@ fn push_flush<L: Link>(conn: &mut PgConnection<L>, told: &mut String) -> Result<
 }
 
 /// Makes a call, and tells what it answered.
-pub(crate) fn call<L: Link, K: Clock>(
+pub(crate) fn call<C: PgExecutor, K: Clock>(
     alloc: Global,
-    conn: &mut PgConnection<L>,
+    conn: &mut C,
     word: &str,
     migration: &Migration,
     clock: &mut K,

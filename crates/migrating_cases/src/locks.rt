@@ -11,14 +11,15 @@ use crate::locks::exchange::exchange;
 use crate::locks::live::live;
 use case_tools::{behind, connect_to, entry, number, push_sent};
 use pg_conn::PgConnection;
+use pg_guards::PgExecutor;
 use pg_stream::MemoryLink;
 use pg_wire::Error;
 use std::alloc::Global;
 
 // Makes the calls of a case, one behind the other.
-fn make_calls(
+fn make_calls<C: PgExecutor>(
     case: &str,
-    conn: &mut PgConnection<MemoryLink>,
+    conn: &mut C,
     told: &mut String,
 ) -> Result<(), Error> {
     let key = case::key(case);

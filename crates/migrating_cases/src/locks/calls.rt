@@ -8,16 +8,12 @@ ghost use Rattle.pg_locking.specs.Locking.{IsLocking};
 use crate::locks::telling::push_progress;
 use case_tools::{flush, ping, word};
 use either::Either;
-use pg_conn::PgConnection;
 use pg_guards::PgExecutor;
 use pg_locking::{
     AcquireLock, ForceRelease, PgAdvisoryLock, PgAdvisoryLockGuard, PgAdvisoryLockKey, ReleaseNow,
     TryAcquireLock,
 };
-use pg_stream::MemoryLink;
 use pg_wire::{Error, Poll};
-
-type Connection = PgConnection<MemoryLink>;
 
 type Answer<T> = Poll<Result<T, Error>>;
 
@@ -99,14 +95,14 @@ fn push_short<T: Drop>(answer: Answer<T>, told: &mut String) -> Result<(), Error
 }
 
 // What is done with a guard that was taken.
-fn spend(
-    guard: PgAdvisoryLockGuard<&mut Connection>,
+fn spend<C: PgExecutor + Drop>(
+    guard: PgAdvisoryLockGuard<C>,
     word: &str,
     polls: u64,
     told: &mut String,
 ) -> Result<(), Error> {
     told.push_str("taken")?;
-    push_progress(guard.conn_ref(), told)?;
+    push_progress(&guard, told)?;
     told.push_str(", ")?;
     match word {
         "leak" => {
@@ -138,12 +134,12 @@ fn spend(
 }
 
 // A state that is dropped before its first poll.
-fn ask_not(conn: &mut Connection, lock: &PgAdvisoryLock) {
+fn ask_not<C: PgExecutor>(conn: &mut C, lock: &PgAdvisoryLock) {
     let _ = PgAdvisoryLockGuard::acquire(lock, conn);
 }
 
-fn take_and(
-    conn: &mut Connection,
+fn take_and<C: PgExecutor>(
+    conn: &mut C,
     lock: &PgAdvisoryLock,
     word: &str,
     polls: u64,
@@ -155,8 +151,8 @@ fn take_and(
     }
 }
 
-fn try_and_drop(
-    conn: &mut Connection,
+fn try_and_drop<C: PgExecutor>(
+    conn: &mut C,
     lock: &PgAdvisoryLock,
     polls: u64,
     told: &mut String,
@@ -168,8 +164,8 @@ fn try_and_drop(
     }
 }
 
-fn force_and_tell(
-    conn: &mut Connection,
+fn force_and_tell<C: PgExecutor>(
+    conn: &mut C,
     lock: &PgAdvisoryLock,
     polls: u64,
     told: &mut String,
@@ -182,8 +178,8 @@ fn force_and_tell(
 }
 
 /// Makes a call, and tells what it answered.
-pub(crate) fn call(
-    conn: &mut Connection,
+pub(crate) fn call<C: PgExecutor>(
+    conn: &mut C,
     word: &str,
     key: PgAdvisoryLockKey,
     polls: u64,
@@ -197,8 +193,8 @@ pub(crate) fn call(
         "unasked" => ask_not(conn, &lock),
         "try" => try_and_drop(conn, &lock, polls, told)?,
         "force" => force_and_tell(conn, &lock, polls, told)?,
-        "ping" => push_short(ping(conn, 1), told)?,
-        "flush" => push_short(flush(conn, 1), told)?,
+        "ping" => push_short(ping(conn.conn_mut(), 1), told)?,
+        "flush" => push_short(flush(conn.conn_mut(), 1), told)?,
         _ => take_and(conn, &lock, word, polls, told)?,
     }
     push_progress(conn, told)?;

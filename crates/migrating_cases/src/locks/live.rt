@@ -3,14 +3,11 @@
 use crate::locks::calls::{force, take, try_take};
 use either::Either;
 use pg_conn::{PgConnection, PgRow, Query};
+use pg_guards::PgExecutor;
 use pg_locking::{PgAdvisoryLock, PgAdvisoryLockGuard, PgAdvisoryLockKey};
-use pg_stream::SocketLink;
+use pg_stream::Link;
 use pg_wire::{Error, Poll};
 use std::fmt::Write;
-
-type Connection = PgConnection<SocketLink>;
-
-type Guard<'c> = PgAdvisoryLockGuard<&'c mut Connection>;
 
 // A poll that answers `Pending` has waited for the socket's own timeout.
 const POLLS: u64 = 1000;
@@ -22,11 +19,11 @@ fn lock() -> PgAdvisoryLock {
 }
 
 // The next call on a connection: it sends what is unsent, and reads what is owed.
-fn ping(conn: &mut Connection) -> Result<(), Error> {
-    ready(case_tools::ping(conn, POLLS))
+fn ping<C: PgExecutor>(conn: &mut C) -> Result<(), Error> {
+    ready(case_tools::ping(conn.conn_mut(), POLLS))
 }
 
-fn row(conn: &mut Connection, query: Query) -> Result<PgRow, Error> {
+fn row<L: Link>(conn: &mut PgConnection<L>, query: Query) -> Result<PgRow, Error> {
     let mut call = conn.fetch_one(query);
     for _ in 0..POLLS {
         match call.poll() {
@@ -38,10 +35,10 @@ fn row(conn: &mut Connection, query: Query) -> Result<PgRow, Error> {
 }
 
 // How many advisory locks are held in the server, or waited for.
-fn count(conn: &mut Connection) -> Result<i64, Error> {
-    let alloc = conn.allocator();
+fn count<C: PgExecutor>(conn: &mut C) -> Result<i64, Error> {
+    let alloc = conn.conn_ref().allocator();
     let query = Query::new(alloc, HELD)?;
-    let row = row(conn, query)?;
+    let row = row(conn.conn_mut(), query)?;
     row.try_get(alloc, 0)
 }
 
@@ -52,12 +49,12 @@ fn ready<T: Drop>(answer: Poll<Result<T, Error>>) -> Result<T, Error> {
     }
 }
 
-fn hold(conn: &mut Connection) -> Result<Guard<'_>, Error> {
+fn hold<C: PgExecutor>(conn: &mut C) -> Result<PgAdvisoryLockGuard<&mut C>, Error> {
     ready(take(PgAdvisoryLockGuard::acquire(&lock(), conn), POLLS))
 }
 
 // Takes the lock within so many polls, and drops its guard, or what asks for it.
-fn take_and_drop(conn: &mut Connection, polls: u64) -> Result<bool, Error> {
+fn take_and_drop<C: PgExecutor>(conn: &mut C, polls: u64) -> Result<bool, Error> {
     match take(PgAdvisoryLockGuard::acquire(&lock(), conn), polls) {
         Poll::Ready(Ok(guard)) => {
             drop(guard);
@@ -69,7 +66,7 @@ fn take_and_drop(conn: &mut Connection, polls: u64) -> Result<bool, Error> {
 }
 
 // The same where nobody waits for it.
-fn try_and_drop(conn: &mut Connection) -> Result<bool, Error> {
+fn try_and_drop<C: PgExecutor>(conn: &mut C) -> Result<bool, Error> {
     match try_take(PgAdvisoryLockGuard::try_acquire(&lock(), conn), POLLS) {
         Poll::Ready(Ok(Either::Left(guard))) => {
             drop(guard);
@@ -82,15 +79,15 @@ fn try_and_drop(conn: &mut Connection) -> Result<bool, Error> {
 }
 
 // Whether the session held it.
-fn was_held(conn: &mut Connection) -> Result<bool, Error> {
+fn was_held<C: PgExecutor>(conn: &mut C) -> Result<bool, Error> {
     let (_, held) = ready(force(PgAdvisoryLockGuard::force_release(&lock(), conn), POLLS))?;
     Ok(held)
 }
 
 // One that is free, and dropped behind so many polls.
-fn alone(
-    conn: &mut Connection,
-    other: &mut Connection,
+fn alone<C: PgExecutor>(
+    conn: &mut C,
+    other: &mut C,
     polls: u64,
     told: &mut String,
 ) -> Result<(), Error> {
@@ -105,9 +102,9 @@ fn alone(
 }
 
 // One that the other connection holds meanwhile.
-fn contend(
-    conn: &mut Connection,
-    other: &mut Connection,
+fn contend<C: PgExecutor>(
+    conn: &mut C,
+    other: &mut C,
     polls: u64,
     told: &mut String,
 ) -> Result<(), Error> {
@@ -127,9 +124,9 @@ fn contend(
 }
 
 /// Takes and drops locks on these connections, and tells what came of each.
-pub(crate) fn live(
-    conn: &mut Connection,
-    other: &mut Connection,
+pub(crate) fn live<C: PgExecutor>(
+    conn: &mut C,
+    other: &mut C,
     told: &mut String,
 ) -> Result<(), Error> {
     for polls in 1..12 {

@@ -1,15 +1,12 @@
 //! What is written of a connection.
 
-use pg_conn::PgConnection;
-use pg_stream::MemoryLink;
+use pg_guards::PgExecutor;
 use pg_wire::Error;
 use std::fmt::Write;
 
 /// How far the last call has come, and how many locks are held by guards.
-pub(crate) fn push_progress(
-    conn: &PgConnection<MemoryLink>,
-    told: &mut String,
-) -> Result<(), Error> {
+pub(crate) fn push_progress<C: PgExecutor>(holder: &C, told: &mut String) -> Result<(), Error> {
+    let conn = holder.conn_ref();
     let progress = conn.progress();
     write!(
         told,

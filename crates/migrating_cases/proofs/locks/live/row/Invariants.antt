@@ -3,4 +3,4 @@ use Rattle.pg_conn.specs.Connections.{is_over}
 use Rattle.migrating_cases.proofs.locks.live.row.Given as goal
 
 abbrev pub invariant-loop : goal.invariant-loop
-invariant-loop l = is_over l.call.request l.call.conn.now.call ≡ false
+invariant-loop g l = is_over l.call.request l.call.conn.now.call ≡ false
