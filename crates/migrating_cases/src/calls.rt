@@ -20,10 +20,7 @@ const TABLE: &str = "m";
 const FLUSH_POLLS: u64 = 100;
 
 // Polls a migration, so often at most.
-fn run<C: PgExecutor + Drop, K: Clock>(
-    mut state: RunMigration<'_, C, K>,
-    polls: u64,
-) -> Answer<u64>
+fn run<C: PgExecutor + Drop, K: Clock>(mut state: RunMigration<'_, C, K>, polls: u64) -> Answer<u64>
     requires over { is_asked state.asking.question (C.conn state.asking.conn).call ≡ true }
     requires calling { CallsQuietly state.asking.question (C.conn state.asking.conn) }
 {

@@ -17,11 +17,7 @@ use pg_wire::Error;
 use std::alloc::Global;
 
 // Makes the calls of a case, one behind the other.
-fn make_calls<C: PgExecutor>(
-    case: &str,
-    conn: &mut C,
-    told: &mut String,
-) -> Result<(), Error> {
+fn make_calls<C: PgExecutor>(case: &str, conn: &mut C, told: &mut String) -> Result<(), Error> {
     let key = case::key(case);
     let polls = number(case, "polls", 1);
     for line in case.lines() {

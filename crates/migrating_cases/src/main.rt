@@ -57,7 +57,9 @@ fn play(rt: &HostRuntime, case: &str, told: &mut String) -> Result<(), Error> {
     if case.starts_with("postgres://") {
         return locks::contend(rt, case, told);
     }
-    let about = entry(case, "database").or(entry(case, "lock")).or(entry(case, "case"));
+    let about = entry(case, "database")
+        .or(entry(case, "lock"))
+        .or(entry(case, "case"));
     play_about(rt, case, about.unwrap_or(""), told)
 }
 

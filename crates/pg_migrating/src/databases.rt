@@ -13,9 +13,10 @@ use crate::errand::{Task, errand_of};
 use crate::forcing::forcing_of;
 use crate::opening::Sessions;
 use crate::session::Session;
-use crate::{DatabaseExists, DatabaseStatement, ForceDropDatabase};
+use crate::{DatabaseCall, DatabaseExists, DatabaseStatement, ForceDropDatabase};
 use pg_options::PgSettings;
 use std::alloc::Global;
+use std::marker::PhantomData;
 
 /// The calls on the database that a URL names, over settings of the surroundings: each is a state over a dial, which is polled. It connects to another
 /// database of the same server, `postgres`, or `template1` where the database is `postgres` itself. A URL that can't be read is told by the first poll.
@@ -35,10 +36,11 @@ impl MigrateDatabase {
         ensures asks { AsksFor tasks.Create env.now url.now result.session }
         ensures goes { Goes D.opens (kinds.Run hows.Execute) result.session }
     {
-        DatabaseStatement {
+        DatabaseCall {
             alloc,
             dial,
             session: Session::new(errand_of(alloc, env, url, Task::Create)),
+            reading: PhantomData,
         }
     }
 
@@ -54,10 +56,11 @@ impl MigrateDatabase {
         ensures asks { AsksFor tasks.Exists env.now url.now result.session }
         ensures goes { Goes D.opens (kinds.Run hows.FetchOne) result.session }
     {
-        DatabaseExists {
+        DatabaseCall {
             alloc,
             dial,
             session: Session::new(errand_of(alloc, env, url, Task::Exists)),
+            reading: PhantomData,
         }
     }
 
@@ -73,10 +76,11 @@ impl MigrateDatabase {
         ensures asks { AsksFor tasks.Remove env.now url.now result.session }
         ensures goes { Goes D.opens (kinds.Run hows.Execute) result.session }
     {
-        DatabaseStatement {
+        DatabaseCall {
             alloc,
             dial,
             session: Session::new(errand_of(alloc, env, url, Task::Remove)),
+            reading: PhantomData,
         }
     }
 

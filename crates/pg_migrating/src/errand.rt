@@ -3,8 +3,8 @@
 ghost use Rattle.std.specs.Prelude.{◌≡◌, IfOk, IfErr};
 ghost use Rattle.pg_migrating.specs.Errands.{AsksAt, AsksOf, IsErrand, RefusesErrand};
 
-use crate::names::{database_of, maintenance};
 use crate::database_requests::request;
+use crate::names::{database_of, maintenance};
 use pg_call::Request;
 use pg_options::{PgConnectOptions, PgSettings};
 use pg_wire::Error;

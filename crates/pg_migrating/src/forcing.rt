@@ -15,12 +15,13 @@ ghost use Rattle.pg_migrating.specs.Sessions.{fresh_session};
 ghost use Rattle.pg_migrating.specs.declared.forcing.Forcing as declared_forcing;
 ghost use Rattle.pg_migrating.specs.declared.forcing.ForceStep.TheVariants as steps;
 
+use crate::database_requests::terminate;
 use crate::errand::{Errand, Task, errand_at};
 use crate::names::database_of;
-use crate::database_requests::terminate;
 use crate::opening::Sessions;
+use crate::reading::Reading;
 use crate::session::{Session, SessionOf, poll};
-use crate::database_statement::ended;
+use crate::statement::Done;
 use pg_call::{Request, Turn};
 use pg_options::{PgConnectOptions, PgSettings};
 use pg_rows::PgRow;
@@ -46,8 +47,7 @@ pub(crate) enum ForceStep {
 /// The state of `MigrateDatabase::force_drop_database`. Its first poll dials. From one connection it asks for the server's version and ends all other
 /// sessions on the database; then it lets that connection go, dials again, and drops the database. A drop of the state lets go what it has opened, and
 /// leaves the dial as it is.
-pub struct ForceDropDatabase<'d, D: Sessions>
-{
+pub struct ForceDropDatabase<'d, D: Sessions> {
     alloc: Global,
     dial: &'d mut D,
     step: ForceStep,
@@ -129,8 +129,7 @@ fn terminating(alloc: Global, turn: Turn, database: &str) -> Result<Request, Err
     }
 }
 
-impl<'d, D: Sessions> ForceDropDatabase<'d, D>
-{
+impl<'d, D: Sessions> ForceDropDatabase<'d, D> {
     pub(crate) fn new(alloc: Global, dial: &'d mut D, forcing: Result<Forcing, Error>) -> Self
         ensures dial { result.dial.now ≡ dial.old }
         ensures same { result.dial.ghost_name ≡ dial.entry.ghost_name }
@@ -241,7 +240,7 @@ impl<'d, D: Sessions> ForceDropDatabase<'d, D>
         ensures ends { EndsTerminate turn self.new.step result }
         ensures last { result ≡ None → self.new.last ≡ self.old.last }
     {
-        match ended(turn) {
+        match Done::read(self.alloc, turn) {
             Ok(()) => {
                 self.session.close();
                 self.step = ForceStep::Remove;
@@ -278,7 +277,10 @@ impl<'d, D: Sessions> ForceDropDatabase<'d, D>
     {
         match poll(self.alloc, &mut self.last, self.dial, left) {
             Poll::Pending => Poll::Pending,
-            Poll::Ready(turn) => self.finish(ended(turn)),
+            Poll::Ready(turn) => {
+                let end = Done::read(self.alloc, turn);
+                self.finish(end)
+            },
         }
     }
 
@@ -317,8 +319,7 @@ impl<'d, D: Sessions> ForceDropDatabase<'d, D>
     }
 }
 
-impl<D: Sessions> Drop for ForceDropDatabase<'_, D>
-{
+impl<D: Sessions> Drop for ForceDropDatabase<'_, D> {
     fn drop(self) {
         let ForceDropDatabase {
             alloc: _,

@@ -16,11 +16,13 @@ use crate::asking::Asking;
 use crate::course::Way;
 use crate::lock::LockWay;
 use crate::{
-    DirtyVersion, ListAppliedMigrations, MigrateStatement, MigrationLock, RunMigration, requests,
+    DirtyVersion, ListAppliedMigrations, MigrateCall, MigrateStatement, MigrationLock,
+    RunMigration, requests,
 };
 use pg_guards::PgExecutor;
 use pg_migrate::{Clock, Migration};
 use std::alloc::Global;
+use std::marker::PhantomData;
 
 /// The calls of migrations, on whatever holds a connection: each is a state, which is polled. The table of migrations and a schema are named as
 /// they stand in SQL.
@@ -37,10 +39,12 @@ impl Migrate {
         ensures conn { result.asking.conn ≡ conn }
         ensures asks { Asks hows.Execute 0 (Script (create_schema_text schema.now)) result.asking.question }
         ensures goes { is_asked result.asking.question (C.conn result.asking.conn).call ≡ true }
-        ensures calling { CallsQuietly result.asking.question (C.conn result.asking.conn) }
+        ensures calling { CallsFor (kinds.Run hows.Execute) result.asking.question (C.conn result.asking.conn) }
     {
-        MigrateStatement {
+        MigrateCall {
+            alloc,
             asking: Asking::new(conn, requests::create_schema(alloc, schema)),
+            reading: PhantomData,
         }
     }
 
@@ -53,10 +57,12 @@ impl Migrate {
         ensures conn { result.asking.conn ≡ conn }
         ensures asks { Asks hows.Execute 0 (Script (create_table_text table.now)) result.asking.question }
         ensures goes { is_asked result.asking.question (C.conn result.asking.conn).call ≡ true }
-        ensures calling { CallsQuietly result.asking.question (C.conn result.asking.conn) }
+        ensures calling { CallsFor (kinds.Run hows.Execute) result.asking.question (C.conn result.asking.conn) }
     {
-        MigrateStatement {
+        MigrateCall {
+            alloc,
             asking: Asking::new(conn, requests::create_table(alloc, table)),
+            reading: PhantomData,
         }
     }
 
@@ -67,9 +73,10 @@ impl Migrate {
         ensures goes { is_asked result.asking.question (C.conn result.asking.conn).call ≡ true }
         ensures calling { CallsFor (kinds.Run hows.FetchOptional) result.asking.question (C.conn result.asking.conn) }
     {
-        DirtyVersion {
+        MigrateCall {
             alloc,
             asking: Asking::new(conn, requests::dirty_version(alloc, table)),
+            reading: PhantomData,
         }
     }
 
@@ -84,9 +91,10 @@ impl Migrate {
         ensures goes { is_asked result.asking.question (C.conn result.asking.conn).call ≡ true }
         ensures calling { CallsFor (kinds.Run hows.FetchAll) result.asking.question (C.conn result.asking.conn) }
     {
-        ListAppliedMigrations {
+        MigrateCall {
             alloc,
             asking: Asking::new(conn, requests::list(alloc, table)),
+            reading: PhantomData,
         }
     }
 
@@ -100,10 +108,12 @@ impl Migrate {
         ensures conn { result.asking.conn ≡ conn }
         ensures asks { Asks hows.Execute 0 (row_of table.now migration.now) result.asking.question }
         ensures goes { is_asked result.asking.question (C.conn result.asking.conn).call ≡ true }
-        ensures calling { CallsQuietly result.asking.question (C.conn result.asking.conn) }
+        ensures calling { CallsFor (kinds.Run hows.Execute) result.asking.question (C.conn result.asking.conn) }
     {
-        MigrateStatement {
+        MigrateCall {
+            alloc,
             asking: Asking::new(conn, requests::insert_row(alloc, table, migration)),
+            reading: PhantomData,
         }
     }
 

@@ -1,6 +1,0 @@
-use Rattle.pg_migrating.specs.Databases.{HidesBool, Says}
-use Rattle.pg_migrating.proofs.EndLaws.{tells_by}
-use Rattle.pg_migrating.proofs.existence.DatabaseExists.poll.Goals as goal
-
-pub returns-in-Ready-clause-tells : goal.returns-in-Ready-clause-tells
-returns-in-Ready-clause-tells g c asked first s = tells_by Says HidesBool g.D.L.Link.seen g.D.Sessions.opens asked first c.poll.new.session c.close.new.self c.poll.new.dial c.in-Ready.turn c.told.result c.told.ensures (c.in-Ready.ensures.tells asked first s)
