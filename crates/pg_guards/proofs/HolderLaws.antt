@@ -1,10 +1,8 @@
 -- What follows from the laws of what holds a connection.
-use Rattle.std.proofs.Common.{◌≡◌, ap, ◌∙◌, sym, subst, Option, None, Some, Bool}
+use Rattle.std.proofs.Common.{◌≡◌, ap, ◌∙◌, Option, None, Bool}
 use Rattle.pg_call.specs.declared.request.Request.{Request}
-use Rattle.pg_wire.proofs.Tests.{same_found}
 use Rattle.pg_conn.specs.Connections.{ConnOf, left, left_by, rolled_back}
-use Rattle.pg_conn.specs.States.{KeepsCallingPlainly}
-use Rattle.pg_guards.specs.Holders.{KeepsBeginning, left_due}
+use Rattle.pg_guards.specs.Holders.{left_due}
 
 module _ {C A : Type 0} (conn : C → ConnOf A) (with_conn : C → ConnOf A → C) (again : (x : C) (v w : ConnOf A) → with_conn (with_conn x v) w ≡ with_conn x w) where
   -- of a holder that changed in its connection alone, another connection makes the same
@@ -26,13 +24,3 @@ module _ {C A : Type 0} (conn : C → ConnOf A) (with_conn : C → ConnOf A → 
   -- and a rollback that is due or not
   pub due_behind : (c d result : C) (due before : Bool) → d ≡ with_conn c (conn d) → due ≡ before → result ≡ with_conn d (left_due due (conn d)) → result ≡ with_conn c (left_due before (conn d))
   due_behind c d result due before e b r = (rw b at r) ∙ given_another c d (left_due before (conn d)) e
-
--- ---- what a begin keeps
-
--- of the holder that is there
-pub keeps_held : {C A : Type 0} (conn : C → ConnOf A) (request : Option Request) (held : Option C) (d : C) → held ≡ Some d → KeepsCallingPlainly request (conn d) → KeepsBeginning conn request held
-keeps_held {C} conn request held d e k c f = subst (λ (x : C). KeepsCallingPlainly request (conn x)) (same_found held d c e f) k
-
--- and of none
-pub keeps_none : {C A : Type 0} (conn : C → ConnOf A) (request : Option Request) (held : Option C) → held ≡ None → KeepsBeginning conn request held
-keeps_none conn request held e c f = let none : None ≡ Some c = sym e ∙ f in absurd cc
