@@ -8,4 +8,4 @@ returns-in-Pending-clause-tells g c asked first (f, same, (m, done, k)) = rw c.r
 pub returns-in-Ready-clause-tells : goal.returns-in-Ready-clause-tells
 returns-in-Ready-clause-tells g c asked first (f, same, (m, done, k)) =
     let new = c.finish.new.self in
-    removed_on g.D.L.Link.seen g.D.Sessions.opens asked first m c.poll.new.dial new.dial.now f c.in-Ready.turn new.step new.database new.session c.poll.new.session new.last c.read.result c.finish.result c.finish.ensures.dial c.finish.ensures.answer same done c.read.ensures (c.in-Ready.ensures.tells (Ok f.last) m k)
+    removed_on g.D.L.Link.seen g.D.Sessions.opens asked first m c.poll.new.dial new.dial.now f c.in-Ready.turn new.step new.database new.session c.poll.new.session new.last c.read-end.result c.finish.result c.finish.ensures.dial c.finish.ensures.answer same done c.read-end.ensures (c.in-Ready.ensures.tells (Ok f.last) m k)
