@@ -1,16 +1,13 @@
 //! Each call on databases by its own state: it is polled, and dropped.
 
-ghost use Rattle.pg_call.specs.declared.kind.How.TheVariants as hows;
 ghost use Rattle.pg_call.specs.declared.kind.Kind.TheVariants as kinds;
 ghost use Rattle.pg_migrating.specs.Forcing.{GoesForce};
 ghost use Rattle.pg_migrating.specs.Sessions.{Goes};
 
-use crate::telling::{push_bool, push_done};
+use crate::telling::push_call;
 use case_tools::push_bytes;
 use pg_guards::PgExecutor;
-use pg_migrating::{
-    DatabaseExists, DatabaseStatement, ForceDropDatabase, MigrateDatabase, Sessions,
-};
+use pg_migrating::{DatabaseCall, ForceDropDatabase, MigrateDatabase, Reading, Sessions};
 use pg_options::PgSettings;
 use pg_stream::{Link, MemoryLink, SocketLink};
 use pg_wire::{Error, Poll};
@@ -49,32 +46,14 @@ where
 }
 
 // Polls a call of one statement, so often at most.
-fn statement<D: Sessions>(
-    mut state: DatabaseStatement<'_, D>,
+fn statement<D: Sessions, R: Reading>(
+    mut state: DatabaseCall<'_, D, R>,
     polls: u64,
     told: &mut String,
-) -> Answer<()>
+) -> Answer<R::Value>
 where
     D::L: Shown,
-    requires { Goes D.opens (kinds.Run hows.Execute) state.session }
-{
-    for _ in 0..polls {
-        match state.poll() {
-            Poll::Pending => tell_sent(state.conn(), told),
-            answer => return answer,
-        }
-    }
-    Poll::Pending
-}
-
-fn existence<D: Sessions>(
-    mut state: DatabaseExists<'_, D>,
-    polls: u64,
-    told: &mut String,
-) -> Answer<bool>
-where
-    D::L: Shown,
-    requires { Goes D.opens (kinds.Run hows.FetchOne) state.session }
+    requires { Goes D.opens (kinds.Run R.how) state.session }
 {
     for _ in 0..polls {
         match state.poll() {
@@ -132,24 +111,6 @@ where
     }
 }
 
-fn exists<D: Sessions>(
-    alloc: Global,
-    settings: &PgSettings,
-    dial: &mut D,
-    url: &str,
-    polls: u64,
-    told: &mut String,
-) -> Result<(), Error>
-where
-    D::L: Shown,
-{
-    let state = MigrateDatabase::database_exists(alloc, settings, url, dial);
-    let answer = existence(state, polls, told);
-    let pushed = push_bool(told, "exists", &answer);
-    drop(answer);
-    pushed
-}
-
 /// Makes a call on the database of a URL, and tells what it answered.
 pub(crate) fn call<D: Sessions>(
     alloc: Global,
@@ -164,10 +125,10 @@ where
 {
     let (word, url) = words.split_once(' ').unwrap_or((words, ""));
     if word == "exists" {
-        return exists(alloc, settings, dial, url, polls, told);
+        let state = MigrateDatabase::database_exists(alloc, settings, url, dial);
+        let answer = statement(state, polls, told);
+        return push_call(told, word, answer);
     }
     let answer = done(alloc, settings, dial, word, url, polls, told);
-    let pushed = push_done(told, word, &answer);
-    drop(answer);
-    pushed
+    push_call(told, word, answer)
 }
