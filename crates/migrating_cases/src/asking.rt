@@ -1,20 +1,19 @@
 //! Each call on databases by its own state: it is polled, and dropped.
 
-ghost use Rattle.pg_call.specs.declared.kind.How.TheVariants as hows;
 ghost use Rattle.pg_call.specs.declared.kind.Kind.TheVariants as kinds;
-ghost use Rattle.pg_databases.specs.Forcing.{GoesForce};
-ghost use Rattle.pg_databases.specs.Sessions.{Goes};
+ghost use Rattle.pg_migrating.specs.Forcing.{GoesForce};
+ghost use Rattle.pg_migrating.specs.Sessions.{Goes};
 
-use crate::telling::{push_bool, push_done};
+use crate::telling::push_call;
 use case_tools::push_bytes;
-use pg_conn::{Dial, PgConnection};
-use pg_databases::{DatabaseExists, DatabaseStatement, ForceDropDatabase, MigrateDatabase};
+use pg_guards::PgExecutor;
+use pg_migrating::{DatabaseCall, ForceDropDatabase, MigrateDatabase, Reading, Sessions};
 use pg_options::PgSettings;
 use pg_stream::{Link, MemoryLink, SocketLink};
 use pg_wire::{Error, Poll};
 use std::alloc::Global;
 
-type Answer<T> = Result<Poll<Result<T, Error>>, Error>;
+type Answer<T> = Poll<Result<T, Error>>;
 
 /// A link that shows what was sent over it, where it knows.
 pub(crate) trait Shown: Link {
@@ -33,74 +32,58 @@ impl Shown for SocketLink {
     }
 }
 
-// What was sent, where a connection waits.
-fn push_sent<L: Shown>(conn: Option<&PgConnection<L>>, told: &mut String) -> Result<(), Error> {
-    let Some(conn) = conn else {
-        return Ok(());
-    };
-    match conn.link().sent() {
-        [] => Ok(()),
-        sent => push_bytes(told, sent),
+// What was sent, where a connection waits. What there is no memory for is missing in what is printed.
+fn tell_sent<C: PgExecutor>(conn: Option<&C>, told: &mut String)
+where
+    C::L: Shown,
+{
+    if let Some(conn) = conn {
+        match conn.conn_ref().link().sent() {
+            [] => {}
+            sent => drop(push_bytes(told, sent)),
+        }
     }
 }
 
 // Polls a call of one statement, so often at most.
-fn statement<D: Dial>(
-    mut state: DatabaseStatement<'_, D>,
+fn statement<D: Sessions, R: Reading>(
+    mut state: DatabaseCall<'_, D, R>,
     polls: u64,
     told: &mut String,
-) -> Answer<()>
+) -> Answer<R::Value>
 where
-    D::L: Shown + Drop,
-    requires { Goes (kinds.Run hows.Execute) state.session }
+    D::L: Shown,
+    requires { Goes D.opens (kinds.Run R.how) state.session }
 {
     for _ in 0..polls {
         match state.poll() {
-            Poll::Pending => push_sent(state.conn(), told)?,
-            answer => return Ok(answer),
+            Poll::Pending => tell_sent(state.conn(), told),
+            answer => return answer,
         }
     }
-    Ok(Poll::Pending)
+    Poll::Pending
 }
 
-fn existence<D: Dial>(
-    mut state: DatabaseExists<'_, D>,
-    polls: u64,
-    told: &mut String,
-) -> Answer<bool>
-where
-    D::L: Shown + Drop,
-    requires { Goes (kinds.Run hows.FetchOne) state.session }
-{
-    for _ in 0..polls {
-        match state.poll() {
-            Poll::Pending => push_sent(state.conn(), told)?,
-            answer => return Ok(answer),
-        }
-    }
-    Ok(Poll::Pending)
-}
-
-fn forcing<D: Dial>(
+fn forcing<D: Sessions>(
     mut state: ForceDropDatabase<'_, D>,
     polls: u64,
     told: &mut String,
 ) -> Answer<()>
 where
-    D::L: Shown + Drop,
-    requires { GoesForce state.step state.session state.last }
+    D::L: Shown,
+    requires { GoesForce D.opens state.step state.session state.last }
 {
     for _ in 0..polls {
         match state.poll() {
-            Poll::Pending => push_sent(state.conn(), told)?,
-            answer => return Ok(answer),
+            Poll::Pending => tell_sent(state.conn(), told),
+            answer => return answer,
         }
     }
-    Ok(Poll::Pending)
+    Poll::Pending
 }
 
 // The answer of a call on the database of a URL that tells nothing.
-fn done<D: Dial>(
+fn done<D: Sessions>(
     alloc: Global,
     settings: &PgSettings,
     dial: &mut D,
@@ -110,7 +93,7 @@ fn done<D: Dial>(
     told: &mut String,
 ) -> Answer<()>
 where
-    D::L: Shown + Drop,
+    D::L: Shown,
 {
     match word {
         "create" => {
@@ -128,26 +111,8 @@ where
     }
 }
 
-fn exists<D: Dial>(
-    alloc: Global,
-    settings: &PgSettings,
-    dial: &mut D,
-    url: &str,
-    polls: u64,
-    told: &mut String,
-) -> Result<(), Error>
-where
-    D::L: Shown + Drop,
-{
-    let state = MigrateDatabase::database_exists(alloc, settings, url, dial);
-    let answer = existence(state, polls, told)?;
-    let pushed = push_bool(told, "exists", &answer);
-    drop(answer);
-    pushed
-}
-
 /// Makes a call on the database of a URL, and tells what it answered.
-pub(crate) fn call<D: Dial>(
+pub(crate) fn call<D: Sessions>(
     alloc: Global,
     settings: &PgSettings,
     dial: &mut D,
@@ -156,14 +121,14 @@ pub(crate) fn call<D: Dial>(
     told: &mut String,
 ) -> Result<(), Error>
 where
-    D::L: Shown + Drop,
+    D::L: Shown,
 {
     let (word, url) = words.split_once(' ').unwrap_or((words, ""));
     if word == "exists" {
-        return exists(alloc, settings, dial, url, polls, told);
+        let state = MigrateDatabase::database_exists(alloc, settings, url, dial);
+        let answer = statement(state, polls, told);
+        return push_call(told, word, answer);
     }
-    let answer = done(alloc, settings, dial, word, url, polls, told)?;
-    let pushed = push_done(told, word, &answer);
-    drop(answer);
-    pushed
+    let answer = done(alloc, settings, dial, word, url, polls, told);
+    push_call(told, word, answer)
 }

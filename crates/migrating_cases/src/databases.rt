@@ -3,14 +3,15 @@
 use crate::asking::{Shown, call};
 use crate::dialling::dial;
 use case_tools::{behind, entry, number};
-use pg_conn::{Dial, SocketDial};
+use pg_conn::SocketDial;
+use pg_migrating::Sessions;
 use pg_options::PgSettings;
 use pg_wire::Error;
 use rand::rngs::SysRng;
 use std::alloc::Global;
 
 // Makes the calls of a case, one behind the other.
-fn make_calls<D: Dial>(
+fn make_calls<D: Sessions>(
     alloc: Global,
     settings: &PgSettings,
     case: &str,
@@ -18,7 +19,7 @@ fn make_calls<D: Dial>(
     told: &mut String,
 ) -> Result<(), Error>
 where
-    D::L: Shown + Drop,
+    D::L: Shown,
 {
     let polls = number(case, "polls", 9);
     for line in case.lines() {
@@ -30,14 +31,14 @@ where
 }
 
 // Makes them where nothing is set in the surroundings.
-fn make_all<D: Dial>(
+fn make_all<D: Sessions>(
     alloc: Global,
     case: &str,
     dial: &mut D,
     told: &mut String,
 ) -> Result<(), Error>
 where
-    D::L: Shown + Drop,
+    D::L: Shown,
 {
     let settings = PgSettings::empty();
     let made = make_calls(alloc, &settings, case, dial, told);

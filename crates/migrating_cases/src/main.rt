@@ -1,9 +1,10 @@
-//! Cases of migrations, and of databases that are made, asked for and dropped, over links in memory.
+//! Cases of migrations, of databases that are made, asked for and dropped, and of advisory locks, over links in memory.
 //!
 //! They stand in the files that its words name, with an empty line between two. Each line of a case begins with a mark:
 //!
 //!     case      what a case of migrations is about
 //!     database  what a case of databases is about
+//!     lock      what a case of advisory locks is about
 //!     link      the next link that is dialled, of databases
 //!     server    bytes that the server sends, in hexadecimal
 //!     wait      the next read gives nothing yet
@@ -16,15 +17,20 @@
 //!     patience  how long a read of that socket waits, in milliseconds, where it is not 10
 //!     live      the links to databases are sockets
 //!     call      a call: on migrations perhaps with the number and the script of another migration, and on databases with the URL of one
+//!     other     bytes that the server of another connection sends, of locks
+//!     key       a number, or two, that a lock is taken on, where it is not 5
+//!     exchange  the connection of a lock's guard is exchanged for the other one
 //!
 //! For each it prints what the calls answered. Of migrations it prints what was sent behind the start-up, and of databases what was sent over a connection
-//! each time that a poll waited on it, from its start-up message on.
+//! each time that a poll waited on it, from its start-up message on. Of locks a `url` says how to connect, where it is not `postgres://u@h`. A word that is a
+//! URL, as `postgres://USER@HOST:PORT/DATABASE`, is a server on which two connections contend for a lock.
 #![tactic(auto)]
 
 mod asking;
 mod calls;
 mod databases;
 mod dialling;
+mod locks;
 mod migrating;
 mod opening;
 mod telling;
@@ -37,33 +43,50 @@ use std::{env, fs, io};
 fn play_about(rt: &HostRuntime, case: &str, about: &str, told: &mut String) -> Result<(), Error> {
     told.push_str(about)?;
     told.push_str("\n")?;
-    match entry(case, "database") {
-        Some(_) => databases::play(rt, case, told),
-        None => migrating::play(rt, case, told),
+    if entry(case, "database").is_some() {
+        databases::play(rt, case, told)
+    } else if entry(case, "lock").is_some() {
+        locks::play(rt.alloc(), case, told)
+    } else {
+        migrating::play(rt, case, told)
     }
 }
 
-fn play(rt: &HostRuntime, case: &str) -> Result<String, Error> {
-    let mut told = String::new(rt.alloc());
-    let about = entry(case, "database").or(entry(case, "case"));
-    play_about(rt, case, about.unwrap_or(""), &mut told)?;
-    Ok(told)
+// Plays a case, or what two connections do at a server.
+fn play(rt: &HostRuntime, case: &str, told: &mut String) -> Result<(), Error> {
+    if case.starts_with("postgres://") {
+        return locks::contend(rt, case, told);
+    }
+    let about = entry(case, "database")
+        .or(entry(case, "lock"))
+        .or(entry(case, "case"));
+    play_about(rt, case, about.unwrap_or(""), told)
 }
 
-fn play_file(rt: &HostRuntime, file: &str) -> io::Result<()> {
+fn print_case(rt: &HostRuntime, case: &str) -> io::Result<()> {
+    let mut told = String::new(rt.alloc());
+    match play(rt, case, &mut told) {
+        Ok(()) => print!(rt; "{told}"),
+        Err(error) => println!(rt; "{error:?}"),
+    }
+}
+
+fn print_file(rt: &HostRuntime, file: &str) -> io::Result<()> {
     let text = fs::read_to_string(rt, file)?;
     for case in text.split("\n\n") {
-        match play(rt, case) {
-            Ok(told) => print!(rt; "{told}")?,
-            Err(error) => println!(rt; "{error:?}")?,
-        }
+        print_case(rt, case)?;
     }
     Ok(())
 }
 
 fn main(rt: HostRuntime) -> io::Result<()> {
-    for file in env::args(&rt)?.skip(1) {
-        play_file(&rt, file.as_str())?;
+    for word in env::args(&rt)?.skip(1) {
+        let word = word.as_str();
+        if word.starts_with("postgres://") {
+            print_case(&rt, word)?;
+        } else {
+            print_file(&rt, word)?;
+        }
     }
     Ok(())
 }

@@ -3,9 +3,8 @@
 use crate::calls::call;
 use crate::opening::connect;
 use case_tools::{behind, entry, number, push_sent, reads};
-use pg_conn::PgConnection;
+use pg_guards::PgExecutor;
 use pg_migrate::{Clock, MemoryClock, Migration, SystemClock};
-use pg_stream::Link;
 use pg_wire::{Blob, Error, Sequence, Text};
 use std::alloc::Global;
 use std::collections::VecDeque;
@@ -39,10 +38,10 @@ fn migration(alloc: Global, case: &str, words: &str) -> Result<Migration, Error>
 }
 
 // Makes the calls of a case, one behind the other.
-fn make_calls<L: Link, K: Clock>(
+fn make_calls<C: PgExecutor, K: Clock>(
     alloc: Global,
     case: &str,
-    conn: &mut PgConnection<L>,
+    conn: &mut C,
     clock: &mut K,
     told: &mut String,
 ) -> Result<(), Error> {

@@ -6,7 +6,6 @@ use pg_options::PgConnectOptions;
 use pg_stream::{SocketLink, TcpLink};
 use pg_wire::Error;
 use std::alloc::Global;
-use std::io;
 use std::net::{Net, TcpStream};
 use std::time::Duration;
 
@@ -15,11 +14,11 @@ fn link<N: Net<Stream = TcpStream>>(
     net: &N,
     options: &PgConnectOptions,
     patience: u64,
-) -> io::Result<SocketLink> {
-    let stream = TcpStream::connect(net, (options.get_host(), options.get_port()))?;
-    stream.set_nodelay(true)?;
-    let patience = Duration::from_millis(patience);
-    Ok(SocketLink::Tcp(TcpLink::with_timeout(stream, patience)?))
+) -> Option<SocketLink> {
+    let stream = TcpStream::connect(net, (options.get_host(), options.get_port())).ok()?;
+    stream.set_nodelay(true).ok()?;
+    let link = TcpLink::with_timeout(stream, Duration::from_millis(patience)).ok()?;
+    Some(SocketLink::Tcp(link))
 }
 
 /// The connection to the server of this URL.
@@ -31,8 +30,8 @@ pub(crate) fn connect<N: Net<Stream = TcpStream>>(
 ) -> Option<PgConnection<SocketLink>> {
     let options = options(alloc, url).ok()?;
     let conn = match link(net, &options, patience) {
-        Ok(link) => start(alloc, &options, b"n", link).ok(),
-        Err(_) => None,
+        Some(link) => start(alloc, &options, b"n", link).ok(),
+        None => None,
     };
     drop(options);
     conn

@@ -5,7 +5,60 @@ use pg_migrate::{AppliedMigration, MigrateError};
 use pg_wire::{Error, Poll};
 use std::fmt::Write;
 
-type Answer<T> = Poll<Result<T, MigrateError>>;
+/// What a call answers, or why it failed, as a line is written of it.
+pub(crate) trait Told: Drop {
+    fn push(&self, out: &mut String) -> Result<(), Error>;
+}
+
+impl Told for () {
+    fn push(&self, out: &mut String) -> Result<(), Error> {
+        Ok(out.push_str("ok\n")?)
+    }
+}
+
+impl Told for u64 {
+    fn push(&self, out: &mut String) -> Result<(), Error> {
+        Ok(write!(out, "ok {self}\n")?)
+    }
+}
+
+impl Told for bool {
+    fn push(&self, out: &mut String) -> Result<(), Error> {
+        Ok(write!(out, "ok {self}\n")?)
+    }
+}
+
+impl Told for Option<i64> {
+    fn push(&self, out: &mut String) -> Result<(), Error> {
+        match self {
+            None => Ok(out.push_str("ok none\n")?),
+            Some(version) => Ok(write!(out, "ok {version}\n")?),
+        }
+    }
+}
+
+impl Told for Vec<AppliedMigration> {
+    fn push(&self, out: &mut String) -> Result<(), Error> {
+        out.push_str("ok")?;
+        for one in self.as_slice() {
+            write!(out, " {}:", one.version)?;
+            for byte in one.checksum.as_bytes() {
+                push_byte(out, *byte)?;
+            }
+        }
+        Ok(out.push_str("\n")?)
+    }
+}
+
+impl Told for Error {
+    fn push(&self, out: &mut String) -> Result<(), Error> {
+        match self {
+            Error::Database(error) => write!(out, "Database {}\n", error.code())?,
+            error => write!(out, "{error:?}\n")?,
+        }
+        Ok(())
+    }
+}
 
 // Why a call of a migration failed, in a word.
 fn word_of(error: &Error) -> &'static str {
@@ -15,107 +68,46 @@ fn word_of(error: &Error) -> &'static str {
     }
 }
 
-// Why a call of a migration failed.
-fn push_error(out: &mut String, error: &MigrateError) -> Result<(), Error> {
-    match error {
-        MigrateError::Execute(error) => write!(out, "Execute {}\n", word_of(error))?,
-        MigrateError::ExecuteMigration(error, version) => {
-            write!(out, "ExecuteMigration {} {version}\n", word_of(error))?;
+impl Told for MigrateError {
+    fn push(&self, out: &mut String) -> Result<(), Error> {
+        match self {
+            MigrateError::Execute(error) => write!(out, "Execute {}\n", word_of(error))?,
+            MigrateError::ExecuteMigration(error, version) => {
+                write!(out, "ExecuteMigration {} {version}\n", word_of(error))?;
+            }
         }
+        Ok(())
     }
-    Ok(())
 }
 
-// Migrations that were applied.
-fn push_applied(out: &mut String, applied: &[AppliedMigration]) -> Result<(), Error> {
-    out.push_str("ok")?;
-    for one in applied {
-        write!(out, " {}:", one.version)?;
-        for byte in one.checksum.as_bytes() {
-            push_byte(out, *byte)?;
-        }
-    }
-    out.push_str("\n")?;
-    Ok(())
+// The word of a call.
+fn push_word(out: &mut String, word: &str) -> Result<(), Error> {
+    out.push_str("  ")?;
+    out.push_str(word)?;
+    Ok(out.push_str(": ")?)
 }
 
-/// The answer of a call of migrations that tells nothing.
-pub(crate) fn push_unit(answer: &Answer<()>, told: &mut String) -> Result<(), Error> {
-    match answer {
-        Poll::Pending => told.push_str("waits\n")?,
-        Poll::Ready(Ok(())) => told.push_str("ok\n")?,
-        Poll::Ready(Err(error)) => push_error(told, error)?,
-    }
-    Ok(())
-}
-
-/// Of one that tells how long it took.
-pub(crate) fn push_nanos(answer: &Answer<u64>, told: &mut String) -> Result<(), Error> {
-    match answer {
-        Poll::Pending => told.push_str("waits\n")?,
-        Poll::Ready(Ok(nanos)) => write!(told, "ok {nanos}\n")?,
-        Poll::Ready(Err(error)) => push_error(told, error)?,
-    }
-    Ok(())
-}
-
-/// Of one that tells a version.
-pub(crate) fn push_version(answer: &Answer<Option<i64>>, told: &mut String) -> Result<(), Error> {
-    match answer {
-        Poll::Pending => told.push_str("waits\n")?,
-        Poll::Ready(Ok(None)) => told.push_str("ok none\n")?,
-        Poll::Ready(Ok(Some(version))) => write!(told, "ok {version}\n")?,
-        Poll::Ready(Err(error)) => push_error(told, error)?,
-    }
-    Ok(())
-}
-
-/// Of one that lists what was applied.
-pub(crate) fn push_list(
-    answer: &Answer<Vec<AppliedMigration>>,
-    told: &mut String,
+fn push_answer<T: Told, E: Told>(
+    out: &mut String,
+    answer: &Poll<Result<T, E>>,
 ) -> Result<(), Error> {
     match answer {
-        Poll::Pending => told.push_str("waits\n")?,
-        Poll::Ready(Ok(applied)) => push_applied(told, applied)?,
-        Poll::Ready(Err(error)) => push_error(told, error)?,
+        Poll::Pending => Ok(out.push_str("waits\n")?),
+        Poll::Ready(Ok(value)) => value.push(out),
+        Poll::Ready(Err(error)) => error.push(out),
     }
-    Ok(())
 }
 
-// Why a call on a database failed.
-fn push_failure(out: &mut String, error: &Error) -> Result<(), Error> {
-    match error {
-        Error::Database(error) => write!(out, "Database {}\n", error.code())?,
-        error => write!(out, "{error:?}\n")?,
-    }
-    Ok(())
-}
-
-/// The answer of a call on a database that tells nothing.
-pub(crate) fn push_done(
-    told: &mut String,
+/// A line of a call and its answer.
+pub(crate) fn push_call<T: Told, E: Told>(
+    out: &mut String,
     word: &str,
-    answer: &Poll<Result<(), Error>>,
+    answer: Poll<Result<T, E>>,
 ) -> Result<(), Error> {
-    write!(told, "  {word}: ")?;
-    match answer {
-        Poll::Pending => Ok(told.push_str("waits\n")?),
-        Poll::Ready(Ok(())) => Ok(told.push_str("ok\n")?),
-        Poll::Ready(Err(error)) => push_failure(told, error),
-    }
-}
-
-/// The answer of one that tells a bool.
-pub(crate) fn push_bool(
-    told: &mut String,
-    word: &str,
-    answer: &Poll<Result<bool, Error>>,
-) -> Result<(), Error> {
-    write!(told, "  {word}: ")?;
-    match answer {
-        Poll::Pending => Ok(told.push_str("waits\n")?),
-        Poll::Ready(Ok(answer)) => Ok(write!(told, "ok {answer}\n")?),
-        Poll::Ready(Err(error)) => push_failure(told, error),
-    }
+    let pushed = match push_word(out, word) {
+        Ok(()) => push_answer(out, &answer),
+        Err(error) => Err(error),
+    };
+    drop(answer);
+    pushed
 }

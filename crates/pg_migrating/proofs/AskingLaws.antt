@@ -19,7 +19,7 @@ use Rattle.pg_conn.specs.Connections.{ConnOf, seen_by, left, runs, started_call}
 use Rattle.pg_conn.specs.States.{IsCalling}
 use Rattle.pg_conn.specs.Turns.{PollsWithin}
 use Rattle.pg_conn.proofs.StateLaws.{started_calling}
-use Rattle.pg_migrate.specs.Orders.{Statement, Begin, Commit, Script, Prepared}
+use Rattle.pg_migrate.specs.Orders.{Bound, Statement, Begin, Commit, Script, Prepared}
 use Rattle.pg_migrating.specs.Calls.{Waits}
 use Rattle.pg_migrating.specs.Requests.{IsRequestOf, request_of}
 use Rattle.pg_migrating.specs.Asking.{Question, CallsFor, CallsQuietly, EndsAs, IsEnd, IsQuiet, StandsAt, Tells, TellsEnd, asked_by, is_asked, refusal}
@@ -36,9 +36,13 @@ calls_raw hows.FetchOptional query c = started_calling (requests.FetchOptional q
 calls_raw hows.FetchOne query c = started_calling (requests.FetchOne query) c refl
 
 -- a statement that is no begin and no commit
-pub calls_prepared : {A : Type 0} (how : How) (sql : List ℕ) (asked : Result Request Error) (c : ConnOf A) → IsRequestOf how 0 (Prepared sql []) asked → CallsFor (kinds.Run how) (Some asked) c
-calls_prepared how sql (Ok r) c e = rw e (calls_raw how _ c)
-calls_prepared how sql (Err error) c e = tt
+pub calls_prepared : {A : Type 0} (how : How) (sql : List ℕ) (bounds : List Bound) (asked : Result Request Error) (c : ConnOf A) → IsRequestOf how 0 (Prepared sql bounds) asked → CallsFor (kinds.Run how) (Some asked) c
+calls_prepared how sql bounds (Ok r) c e = rw e (calls_raw how _ c)
+calls_prepared how sql bounds (Err error) c e = tt
+
+pub calls_script : {A : Type 0} (how : How) (sql : List ℕ) (asked : Result Request Error) (c : ConnOf A) → IsRequestOf how 0 (Script sql) asked → CallsFor (kinds.Run how) (Some asked) c
+calls_script how sql (Ok r) c e = rw e (calls_raw how _ c)
+calls_script how sql (Err error) c e = tt
 
 quiet_run : IsQuiet (kinds.Run hows.Execute)
 quiet_run = (λ item e. absurd cc, λ opens. opens)

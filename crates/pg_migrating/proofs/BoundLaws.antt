@@ -14,7 +14,7 @@ use Rattle.pg_arguments.specs.Builtin.{builtin_types}
 use Rattle.pg_arguments.specs.Encoded.{Encoded, plain, wires}
 use Rattle.pg_arguments.specs.Encoding.{Image, value_of, RefusesArgument}
 use Rattle.pg_arguments.specs.Arguments.{Arguments, AddsArgument, AddsToValues}
-use Rattle.pg_call.specs.declared.kind.How.TheVariants as hows
+use Rattle.pg_call.specs.declared.kind.How.{How}
 use Rattle.pg_call.specs.declared.request.Request.{Request}
 use Rattle.pg_call.specs.Requests.{raw}
 use Rattle.pg_migrate.specs.Orders.{Bound, Int8, Words, Bytes, Prepared}
@@ -108,16 +108,20 @@ refuses_at bounds place b errors.OutOfMemory at r = tt
 refuses_at bounds place b (errors.Encode index) at r = (b, rw r.0 at, r.1)
 refuses_at bounds place b e at r = absurd r
 
+-- the only one is refused
+pub refuses_one : (types : List TypeParts) (b : Bound) (e : Error) → types ≡ [] → RefusesBound (length types) b e → RefusesBounds (b ∷ []) e
+refuses_one types b e none r = refuses_at (b ∷ []) 0 b e refl (subst (λ (ts : List TypeParts). RefusesBound (length ts) b e) none r)
+
 -- so many have stood before it
 pub bound_length : (bounds : List Bound) (a : Arguments) → AreBound bounds a → length a.types ≡ length bounds
 bound_length bounds a h = rw h.types (length-map bounds bound_type)
 
 -- ---- the request
 
-pub request_is : (sql given : List ℕ) (bounds : List Bound) (a : Arguments) (result : Result Request Error) → given ≡ sql → AreBound bounds a
-    → IfOk result (λ r. (bounds : List Bound) → AreBound bounds a → r ≡ raw hows.Execute (kept_query given (arguments_of bounds))) → IfErr result (λ e. (bounds : List Bound) → AreBound bounds a → e ≡ errors.OutOfMemory) → IsRequestOf hows.Execute 0 (Prepared sql bounds) result
-request_is sql given bounds a (Ok r) e h ok err = rw (← e) (ok bounds h)
-request_is sql given bounds a (Err error) e h ok err = rw (err bounds h) tt
+pub request_is : (how : How) (sql given : List ℕ) (bounds : List Bound) (a : Arguments) (result : Result Request Error) → given ≡ sql → AreBound bounds a
+    → IfOk result (λ r. (bounds : List Bound) → AreBound bounds a → r ≡ raw how (kept_query given (arguments_of bounds))) → IfErr result (λ e. (bounds : List Bound) → AreBound bounds a → e ≡ errors.OutOfMemory) → IsRequestOf how 0 (Prepared sql bounds) result
+request_is how sql given bounds a (Ok r) e h ok err = rw (← e) (ok bounds h)
+request_is how sql given bounds a (Err error) e h ok err = rw (err bounds h) tt
 
 -- a number that was handed to a call is the same
 pub kept_int8 : (P : ℤ → Type 0) (z : ℤ) → FitsSigned w64 z → P (to_z w64 (of_z w64 z)) → P z

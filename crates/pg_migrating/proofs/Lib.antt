@@ -4,3 +4,7 @@ pub mod AnswerLaws
 pub mod CourseLaws
 pub mod LockLaws
 pub mod DropLaws
+pub mod OpeningLaws
+pub mod SessionLaws
+pub mod EndLaws
+pub mod ForceLaws

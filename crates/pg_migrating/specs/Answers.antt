@@ -46,8 +46,8 @@ abbrev pub never : CallAnswer → Error → Type 0
 never answer e = ⊥
 
 -- its end as that of a migration's call
-abbrev pub IsTold : Result (Unit {0}) Error → Result (Unit {0}) MigrateError → Type 0
-IsTold (Ok u) (Ok v) = Unit {0}
+abbrev pub IsTold : {X : Type 0} → Result X Error → Result X MigrateError → Type 0
+IsTold (Ok x) (Ok y) = y ≡ x
 IsTold (Err e) (Err (failed.Execute f)) = f ≡ e
 IsTold _ _ = ⊥
 

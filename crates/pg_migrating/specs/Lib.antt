@@ -5,3 +5,9 @@ pub mod Answers
 pub mod Courses
 pub mod Migrating
 pub mod Locks
+pub mod Names
+pub mod Errands
+pub mod Openings
+pub mod Sessions
+pub mod Databases
+pub mod Forcing

@@ -50,6 +50,18 @@ pub(crate) fn two_int8(alloc: Global, first: i64, second: i64) -> Result<PgArgum
     Ok(arguments)
 }
 
+/// One text.
+pub(crate) fn one_text(alloc: Global, text: &str) -> Result<PgArguments, Error>
+    ensures ok { IfOk result (AreBound (Words text.now ∷ [])) }
+    ensures err { IfErr result (RefusesBounds (Words text.now ∷ [])) }
+{
+    let mut arguments = PgArguments::new(alloc);
+    match bind_text(alloc, &mut arguments, text) {
+        Ok(()) => Ok(arguments),
+        Err(e) => Err(e),
+    }
+}
+
 // A version and a description.
 fn described(alloc: Global, version: i64, description: &str) -> Result<PgArguments, Error>
     ensures ok { IfOk result (AreBound (Int8 version ∷ Words description.now ∷ [])) }

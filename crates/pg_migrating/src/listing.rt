@@ -1,29 +1,23 @@
 //! Which migrations were applied.
 
-ghost use Rattle.std.specs.Prelude.{◌≡◌, true, false, not, None, Some, IfOk, IfErr, Result};
-ghost use Rattle.pg_wire.specs.declared.error.Error as declared_error;
+ghost use Rattle.std.specs.Prelude.{IfOk, IfErr};
 ghost use Rattle.pg_call.specs.declared.kind.How.TheVariants as hows;
-ghost use Rattle.pg_call.specs.declared.kind.Kind.TheVariants as kinds;
-ghost use Rattle.pg_call.specs.declared.request.Request as declared_request;
-ghost use Rattle.pg_call.specs.Answers.{TurnFits};
-ghost use Rattle.pg_conn.specs.Connections.{ConnOf};
-ghost use Rattle.pg_migrating.specs.Asking.{CallsFor, StandsAt, StaysFor, is_asked, left_of};
-ghost use Rattle.pg_migrating.specs.Answers.{AllApplied, AreApplied, EndsBy, HideApplied, HidesApplied, HidesSome, IsApplied, TellsBy};
+ghost use Rattle.pg_migrating.specs.Answers.{AllApplied, AreApplied, HideApplied, HidesApplied, HidesSome, IsApplied};
 
-use crate::asking::Asking;
-use pg_call::{Request, Turn};
-use pg_guards::PgExecutor;
-use pg_migrate::{AppliedMigration, MigrateError};
+use crate::reading::Reading;
+use crate::statement::MigrateCall;
+use pg_call::Turn;
+use pg_migrate::AppliedMigration;
 use pg_rows::PgRow;
-use pg_wire::{Error, Poll};
+use pg_wire::Error;
 use std::alloc::Global;
 
-/// The state of `Migrate::list_applied_migrations`, which owns what holds the connection. It does nothing before its first poll, and is dropped
-/// as any call.
-pub struct ListAppliedMigrations<C: PgExecutor> {
-    alloc: Global,
-    asking: Asking<C>,
-}
+/// Version and checksum of each row, in order.
+#[derive(Clone, Copy)]
+pub struct Applied;
+
+/// The state of `Migrate::list_applied_migrations`.
+pub type ListAppliedMigrations<C> = MigrateCall<C, Applied>;
 
 // The migration that a row tells of.
 fn applied_in(alloc: Global, row: &PgRow) -> Result<AppliedMigration, Error>
@@ -47,66 +41,19 @@ fn all_applied(alloc: Global, rows: &[PgRow]) -> Result<Vec<AppliedMigration>, E
     Ok(applied)
 }
 
-// The migrations in all rows.
-fn listed(alloc: Global, turn: Turn) -> Result<Vec<AppliedMigration>, MigrateError>
-    requires { TurnFits (kinds.Run hows.FetchAll) turn }
-    ensures { EndsBy (λ answer applied. AreApplied answer applied.items) HideApplied turn result }
-{
-    match turn.into_rows() {
-        Ok(rows) => match all_applied(alloc, rows.as_slice()) {
-            Ok(applied) => Ok(applied),
-            Err(e) => Err(MigrateError::Execute(e)),
-        },
-        Err(e) => Err(MigrateError::Execute(e)),
-    }
-}
+impl Reading for Applied {
+    type Value = Vec<AppliedMigration>;
 
-impl<C: PgExecutor> ListAppliedMigrations<C> {
-    pub(crate) fn new(alloc: Global, conn: C, question: Result<Request, Error>) -> Self
-        ensures conn { result.asking.conn ≡ conn }
-        ensures question { result.asking.question ≡ Some question }
-    {
-        ListAppliedMigrations {
-            alloc,
-            asking: Asking::new(conn, question),
+    ghost how = { hows.FetchAll };
+
+    ghost reads = { λ answer applied. AreApplied answer applied.items };
+
+    ghost misreads = { HideApplied };
+
+    fn read(alloc: Global, turn: Turn) -> Result<Vec<AppliedMigration>, Error> {
+        match turn.into_rows() {
+            Ok(rows) => all_applied(alloc, rows.as_slice()),
+            Err(e) => Err(e),
         }
-    }
-
-    /// Whether a poll has ended the call.
-    pub fn is_finished(&self) -> bool
-        ensures { result ≡ not (is_asked self.now.asking.question (C.conn self.now.asking.conn).call) }
-    {
-        !self.asking.is_asked()
-    }
-
-    /// Moves the call on, by at most 256 calls of the link, and answers version and checksum of each row, in order.
-    pub fn poll(&mut self) -> Poll<Result<Vec<AppliedMigration>, MigrateError>>
-        requires over { is_asked self.old.asking.question (C.conn self.old.asking.conn).call ≡ true }
-        requires calling { CallsFor (kinds.Run hows.FetchAll) self.old.asking.question (C.conn self.old.asking.conn) }
-        ensures holder { self.new.asking.conn ≡ C.with_conn self.old.asking.conn (C.conn self.new.asking.conn) }
-        ensures asked { self.new.asking.question ≡ None }
-        ensures tells { (asked : Result declared_request.Request declared_error.Error) (first : ConnOf C.L) → StandsAt C.L.seen asked first self.old.asking.question (C.conn self.old.asking.conn) → TellsBy (λ answer applied. AreApplied answer applied.items) HideApplied C.L.seen asked first (C.conn self.new.asking.conn) result }
-        ensures calling { StaysFor (kinds.Run hows.FetchAll) (C.conn self.new.asking.conn) result }
-    {
-        let mut left = 256;
-        match self.asking.poll(&mut left) {
-            Poll::Pending => Poll::Pending,
-            Poll::Ready(turn) => Poll::Ready(listed(self.alloc, turn)),
-        }
-    }
-
-    /// Hands back what holds the connection, as the drop of the state leaves it: a call that runs is given up.
-    pub fn into_conn(self) -> C
-        ensures { result ≡ C.with_conn self.asking.conn (left_of false self.asking.question (C.conn self.asking.conn)) }
-    {
-        let ListAppliedMigrations { alloc: _, asking } = self;
-        asking.into_conn(false)
-    }
-}
-
-impl<C: PgExecutor + Drop> Drop for ListAppliedMigrations<C> {
-    fn drop(self) {
-        let conn = self.into_conn();
-        let _ = conn;
     }
 }

@@ -18,8 +18,8 @@ ghost use Rattle.pg_migrating.specs.Locks.{CallsLock, HidesName, IsNamed, NameGo
 ghost use Rattle.pg_migrating.specs.Requests.{Asks, IsRequestOf};
 
 use crate::asking::Asking;
+use crate::reading::told;
 use crate::requests;
-use crate::statement::told;
 use pg_call::{Request, Turn};
 use pg_guards::PgExecutor;
 use pg_migrate::{MigrateError, generate_lock_id};

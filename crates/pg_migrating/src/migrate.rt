@@ -12,14 +12,17 @@ ghost use Rattle.pg_migrating.specs.Requests.{Asks};
 ghost use Rattle.pg_migrating.specs.declared.course.Way.TheVariants as ways;
 ghost use Rattle.pg_migrating.specs.declared.lock.LockWay.TheVariants as lock_ways;
 
+use crate::asking::Asking;
 use crate::course::Way;
 use crate::lock::LockWay;
 use crate::{
-    DirtyVersion, ListAppliedMigrations, MigrateStatement, MigrationLock, RunMigration, requests,
+    DirtyVersion, ListAppliedMigrations, MigrateCall, MigrateStatement, MigrationLock,
+    RunMigration, requests,
 };
 use pg_guards::PgExecutor;
 use pg_migrate::{Clock, Migration};
 use std::alloc::Global;
+use std::marker::PhantomData;
 
 /// The calls of migrations, on whatever holds a connection: each is a state, which is polled. The table of migrations and a schema are named as
 /// they stand in SQL.
@@ -36,9 +39,13 @@ impl Migrate {
         ensures conn { result.asking.conn ≡ conn }
         ensures asks { Asks hows.Execute 0 (Script (create_schema_text schema.now)) result.asking.question }
         ensures goes { is_asked result.asking.question (C.conn result.asking.conn).call ≡ true }
-        ensures calling { CallsQuietly result.asking.question (C.conn result.asking.conn) }
+        ensures calling { CallsFor (kinds.Run hows.Execute) result.asking.question (C.conn result.asking.conn) }
     {
-        MigrateStatement::new(conn, requests::create_schema(alloc, schema))
+        MigrateCall {
+            alloc,
+            asking: Asking::new(conn, requests::create_schema(alloc, schema)),
+            reading: PhantomData,
+        }
     }
 
     /// Makes the table of migrations, unless it is there. (PostgreSQL manual, "SQL Commands", CREATE TABLE.)
@@ -50,9 +57,13 @@ impl Migrate {
         ensures conn { result.asking.conn ≡ conn }
         ensures asks { Asks hows.Execute 0 (Script (create_table_text table.now)) result.asking.question }
         ensures goes { is_asked result.asking.question (C.conn result.asking.conn).call ≡ true }
-        ensures calling { CallsQuietly result.asking.question (C.conn result.asking.conn) }
+        ensures calling { CallsFor (kinds.Run hows.Execute) result.asking.question (C.conn result.asking.conn) }
     {
-        MigrateStatement::new(conn, requests::create_table(alloc, table))
+        MigrateCall {
+            alloc,
+            asking: Asking::new(conn, requests::create_table(alloc, table)),
+            reading: PhantomData,
+        }
     }
 
     /// Asks for the first version whose migration did not end well: there is none where all did.
@@ -62,7 +73,11 @@ impl Migrate {
         ensures goes { is_asked result.asking.question (C.conn result.asking.conn).call ≡ true }
         ensures calling { CallsFor (kinds.Run hows.FetchOptional) result.asking.question (C.conn result.asking.conn) }
     {
-        DirtyVersion::new(alloc, conn, requests::dirty_version(alloc, table))
+        MigrateCall {
+            alloc,
+            asking: Asking::new(conn, requests::dirty_version(alloc, table)),
+            reading: PhantomData,
+        }
     }
 
     /// Asks for version and checksum of each migration that was applied, by their versions.
@@ -76,7 +91,11 @@ impl Migrate {
         ensures goes { is_asked result.asking.question (C.conn result.asking.conn).call ≡ true }
         ensures calling { CallsFor (kinds.Run hows.FetchAll) result.asking.question (C.conn result.asking.conn) }
     {
-        ListAppliedMigrations::new(alloc, conn, requests::list(alloc, table))
+        MigrateCall {
+            alloc,
+            asking: Asking::new(conn, requests::list(alloc, table)),
+            reading: PhantomData,
+        }
     }
 
     /// Adds the row of a migration without running its script. A description or a checksum of more than 2147483647 bytes is `Error::Encode`.
@@ -89,9 +108,13 @@ impl Migrate {
         ensures conn { result.asking.conn ≡ conn }
         ensures asks { Asks hows.Execute 0 (row_of table.now migration.now) result.asking.question }
         ensures goes { is_asked result.asking.question (C.conn result.asking.conn).call ≡ true }
-        ensures calling { CallsQuietly result.asking.question (C.conn result.asking.conn) }
+        ensures calling { CallsFor (kinds.Run hows.Execute) result.asking.question (C.conn result.asking.conn) }
     {
-        MigrateStatement::new(conn, requests::insert_row(alloc, table, migration))
+        MigrateCall {
+            alloc,
+            asking: Asking::new(conn, requests::insert_row(alloc, table, migration)),
+            reading: PhantomData,
+        }
     }
 
     /// Takes the lock of migrations of the database that the connection is on, and waits for it.

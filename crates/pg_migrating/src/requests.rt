@@ -28,27 +28,32 @@ pub(crate) fn script(alloc: Global, sql: &str) -> Result<Request, Error>
     Ok(Request::Execute(Query::raw(alloc, sql)?))
 }
 
-// The same of a text that is owned.
-fn owned_script(sql: String) -> Request
+/// The same of a text that is owned.
+pub(crate) fn owned_script(sql: String) -> Request
     ensures { result ≡ raw hows.Execute (plain_text (string_bytes sql)) }
 {
     Request::Execute(Query::from_text(Text::from_string(sql)))
 }
 
-// A statement without arguments.
-fn bare(alloc: Global, how: How, sql: &str) -> Result<Request, Error>
+/// A statement without arguments.
+pub(crate) fn bare(alloc: Global, how: How, sql: &str) -> Result<Request, Error>
     ensures { IsRequestOf how 0 (Prepared sql.now []) result }
 {
     Ok(Request::raw(how, Query::new(alloc, sql)?))
 }
 
-// A statement with these arguments.
-fn prepared(alloc: Global, sql: &str, arguments: &PgArguments) -> Result<Request, Error>
-    ensures ok { IfOk result (λ r. (bounds : List Bound) → AreBound bounds arguments.now → r ≡ raw hows.Execute (kept_query sql.now (arguments_of bounds))) }
+/// A statement with these arguments.
+pub(crate) fn prepared(
+    alloc: Global,
+    how: How,
+    sql: &str,
+    arguments: &PgArguments,
+) -> Result<Request, Error>
+    ensures ok { IfOk result (λ r. (bounds : List Bound) → AreBound bounds arguments.now → r ≡ raw how (kept_query sql.now (arguments_of bounds))) }
     ensures err { IfErr result (λ e. (bounds : List Bound) → AreBound bounds arguments.now → e ≡ errors.OutOfMemory) }
 {
     match Query::with(alloc, sql, arguments) {
-        Ok(query) => Ok(Request::Execute(query)),
+        Ok(query) => Ok(Request::raw(how, query)),
         Err(e) => Err(e),
     }
 }
@@ -94,13 +99,23 @@ pub(crate) fn current_database(alloc: Global) -> Result<Request, Error>
 pub(crate) fn lock(alloc: Global, id: i64) -> Result<Request, Error>
     ensures { IsRequestOf hows.Execute 0 (Prepared lock_text (Int8 id ∷ [])) result }
 {
-    prepared(alloc, lock_text(), &binding::one_int8(alloc, id)?)
+    prepared(
+        alloc,
+        How::Execute,
+        lock_text(),
+        &binding::one_int8(alloc, id)?,
+    )
 }
 
 pub(crate) fn unlock(alloc: Global, id: i64) -> Result<Request, Error>
     ensures { IsRequestOf hows.Execute 0 (Prepared unlock_text (Int8 id ∷ [])) result }
 {
-    prepared(alloc, unlock_text(), &binding::one_int8(alloc, id)?)
+    prepared(
+        alloc,
+        How::Execute,
+        unlock_text(),
+        &binding::one_int8(alloc, id)?,
+    )
 }
 
 pub(crate) fn insert_row(
@@ -112,7 +127,12 @@ pub(crate) fn insert_row(
 {
     let mut sql = String::new(alloc);
     put_insert_row(&mut sql, table)?;
-    prepared(alloc, sql.as_str(), &binding::row(alloc, migration)?)
+    prepared(
+        alloc,
+        How::Execute,
+        sql.as_str(),
+        &binding::row(alloc, migration)?,
+    )
 }
 
 pub(crate) fn delete_row(
@@ -125,7 +145,7 @@ pub(crate) fn delete_row(
     let mut sql = String::new(alloc);
     put_delete_row(&mut sql, table)?;
     let arguments = binding::one_int8(alloc, binding::version_of(migration))?;
-    prepared(alloc, sql.as_str(), &arguments)
+    prepared(alloc, How::Execute, sql.as_str(), &arguments)
 }
 
 pub(crate) fn update_time(
@@ -140,5 +160,5 @@ pub(crate) fn update_time(
     put_update_time(&mut sql, table)?;
     let version = binding::version_of(migration);
     let arguments = binding::two_int8(alloc, as_int8(nanos), version)?;
-    prepared(alloc, sql.as_str(), &arguments)
+    prepared(alloc, How::Execute, sql.as_str(), &arguments)
 }

@@ -1,7 +1,6 @@
-use Rattle.pg_call.specs.declared.kind.How.TheVariants as hows
 use Rattle.pg_call.specs.declared.kind.Kind.TheVariants as kinds
-use Rattle.pg_databases.specs.Sessions.{Goes}
+use Rattle.pg_migrating.specs.Sessions.{Goes}
 use Rattle.migrating_cases.proofs.asking.statement.Given as goal
 
 abbrev pub invariant-loop : goal.invariant-loop
-invariant-loop g l = Goes (kinds.Run hows.Execute) l.state.session
+invariant-loop g l = Goes g.D.Sessions.opens (kinds.Run g.R.Reading.how) l.state.session

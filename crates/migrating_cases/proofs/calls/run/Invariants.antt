@@ -4,6 +4,6 @@ use Rattle.migrating_cases.proofs.calls.run.Given as goal
 
 abbrev pub invariant-loop : goal.invariant-loop
 invariant-loop g l = record {
-  over : is_asked l.state.asking.question l.state.asking.conn.now.call ≡ true;
-  calling : CallsQuietly l.state.asking.question l.state.asking.conn.now;
+  over : is_asked l.state.asking.question (g.C.PgExecutor.conn l.state.asking.conn).call ≡ true;
+  calling : CallsQuietly l.state.asking.question (g.C.PgExecutor.conn l.state.asking.conn);
 }

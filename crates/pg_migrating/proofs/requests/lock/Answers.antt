@@ -9,4 +9,4 @@ use Rattle.pg_migrating.proofs.requests.lock.Goals as goal
 
 pub returns : goal.returns
 returns c =
-    kept_int8 (λ (z : ℤ). IsRequestOf hows.Execute 0 (Prepared lock_text (Int8 z ∷ [])) c.prepared.result) c.args.id c.ranges.id (request_is lock_text c.lock_text.result.now (Int8 _ ∷ []) c.in_ok-one_int8.field-0 c.prepared.result c.lock_text.ensures c.in_ok-one_int8.ensures.ok c.prepared.ensures.ok c.prepared.ensures.err)
+    kept_int8 (λ (z : ℤ). IsRequestOf hows.Execute 0 (Prepared lock_text (Int8 z ∷ [])) c.prepared.result) c.args.id c.ranges.id (request_is hows.Execute lock_text c.lock_text.result.now (Int8 _ ∷ []) c.in_ok-one_int8.field-0 c.prepared.result c.lock_text.ensures c.in_ok-one_int8.ensures.ok c.prepared.ensures.ok c.prepared.ensures.err)

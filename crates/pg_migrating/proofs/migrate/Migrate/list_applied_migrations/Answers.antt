@@ -1,7 +1,8 @@
+use Rattle.std.proofs.Common.{[]}
 use Rattle.pg_call.specs.declared.kind.How.TheVariants as hows
 use Rattle.pg_migrate.specs.Texts.{list_text}
 use Rattle.pg_migrating.proofs.AskingLaws.{calls_prepared}
 use Rattle.pg_migrating.proofs.migrate.Migrate.list_applied_migrations.Goals as goal
 
 pub returns-clause-calling : goal.returns-clause-calling
-returns-clause-calling g c = rw c.new.ensures.question (calls_prepared hows.FetchAll (list_text c.args.table.now) c.list.result (g.C.PgExecutor.conn c.new.result.asking.conn) c.list.ensures)
+returns-clause-calling g c = rw c.new.ensures (calls_prepared hows.FetchAll (list_text c.args.table.now) [] c.list.result (g.C.PgExecutor.conn c.args.conn) c.list.ensures)

@@ -1,6 +1,11 @@
-use Rattle.pg_migrate.specs.Orders.{row_of}
-use Rattle.pg_migrating.proofs.AskingLaws.{asks_quietly}
+use Rattle.std.proofs.Common.{◌∷◌, []}
+use Rattle.pg_call.specs.declared.kind.How.TheVariants as hows
+use Rattle.pg_migrate.specs.Orders.{Int8, Words, Bytes}
+use Rattle.pg_migrate.specs.Texts.{insert_row_text}
+use Rattle.pg_migrating.proofs.AskingLaws.{calls_prepared}
 use Rattle.pg_migrating.proofs.migrate.Migrate.skip.Goals as goal
 
 pub returns-clause-calling : goal.returns-clause-calling
-returns-clause-calling g c = rw c.new.ensures.question (asks_quietly 0 (row_of c.args.table.now c.args.migration.now) c.insert_row.result (g.C.PgExecutor.conn c.new.result.asking.conn) c.insert_row.ensures)
+returns-clause-calling g c =
+    let m = c.args.migration.now in
+    rw c.new.ensures (calls_prepared hows.Execute (insert_row_text c.args.table.now) (Int8 m.version ∷ Words m.description ∷ Bytes m.checksum ∷ []) c.insert_row.result (g.C.PgExecutor.conn c.args.conn) c.insert_row.ensures)

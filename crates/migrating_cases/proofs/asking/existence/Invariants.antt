@@ -1,7 +1,0 @@
-use Rattle.pg_call.specs.declared.kind.How.TheVariants as hows
-use Rattle.pg_call.specs.declared.kind.Kind.TheVariants as kinds
-use Rattle.pg_databases.specs.Sessions.{Goes}
-use Rattle.migrating_cases.proofs.asking.existence.Given as goal
-
-abbrev pub invariant-loop : goal.invariant-loop
-invariant-loop g l = Goes (kinds.Run hows.FetchOne) l.state.session

@@ -1,0 +1,203 @@
+//! Each call by its own state: it is polled, and dropped.
+
+ghost use Rattle.std.specs.Prelude.{◌≡◌, None};
+ghost use Rattle.pg_locking.specs.Flags.{IsAsking};
+ghost use Rattle.pg_locking.specs.Held.{OnHeld};
+ghost use Rattle.pg_locking.specs.Locking.{IsLocking};
+
+use crate::locks::telling::push_progress;
+use case_tools::{flush, ping, word};
+use either::Either;
+use pg_guards::PgExecutor;
+use pg_locking::{
+    AcquireLock, ForceRelease, PgAdvisoryLock, PgAdvisoryLockGuard, PgAdvisoryLockKey, ReleaseNow,
+    TryAcquireLock,
+};
+use pg_wire::{Error, Poll};
+
+type Answer<T> = Poll<Result<T, Error>>;
+
+/// Polls a lock that is waited for, so often at most.
+pub(crate) fn take<C: PgExecutor + Drop>(
+    mut state: AcquireLock<C>,
+    polls: u64,
+) -> Answer<PgAdvisoryLockGuard<C>>
+    requires { OnHeld C.conn (IsLocking state.call.stage) state.conn }
+{
+    for _ in 0..polls {
+        match state.poll() {
+            Poll::Pending => {}
+            answer => return answer,
+        }
+    }
+    Poll::Pending
+}
+
+/// The same of a lock that is asked for.
+pub(crate) fn try_take<C: PgExecutor + Drop>(
+    mut state: TryAcquireLock<C>,
+    polls: u64,
+) -> Answer<Either<PgAdvisoryLockGuard<C>, C>>
+    requires { OnHeld C.conn (IsAsking state.call.asking) state.conn }
+{
+    for _ in 0..polls {
+        match state.poll() {
+            Poll::Pending => {}
+            answer => return answer,
+        }
+    }
+    Poll::Pending
+}
+
+// Of one that is released by its guard.
+fn release<C: PgExecutor + Drop>(mut state: ReleaseNow<C>, polls: u64) -> Answer<C>
+    requires { OnHeld C.conn (IsAsking state.call.asking) state.conn }
+{
+    for _ in 0..polls {
+        match state.poll() {
+            Poll::Pending => {}
+            answer => return answer,
+        }
+    }
+    Poll::Pending
+}
+
+/// And of one that is released without it.
+pub(crate) fn force<C: PgExecutor + Drop>(
+    mut state: ForceRelease<C>,
+    polls: u64,
+) -> Answer<(C, bool)>
+    requires { OnHeld C.conn (IsAsking state.call.asking) state.conn }
+{
+    for _ in 0..polls {
+        match state.poll() {
+            Poll::Pending => {}
+            answer => return answer,
+        }
+    }
+    Poll::Pending
+}
+
+// What a call has come to.
+fn short<T>(answer: &Answer<T>) -> &'static str {
+    match answer {
+        Poll::Pending => "waits",
+        Poll::Ready(Ok(_)) => "ok",
+        Poll::Ready(Err(error)) => word(error),
+    }
+}
+
+// The same of one that hands nothing on.
+fn push_short<T: Drop>(answer: Answer<T>, told: &mut String) -> Result<(), Error> {
+    let short = short(&answer);
+    drop(answer);
+    Ok(told.push_str(short)?)
+}
+
+// What is done with a guard that was taken.
+fn spend<C: PgExecutor + Drop>(
+    guard: PgAdvisoryLockGuard<C>,
+    word: &str,
+    polls: u64,
+    told: &mut String,
+) -> Result<(), Error> {
+    told.push_str("taken")?;
+    push_progress(&guard, told)?;
+    told.push_str(", ")?;
+    match word {
+        "leak" => {
+            let _ = guard.leak();
+            Ok(())
+        }
+        "parts" => {
+            let (mut conn, lock) = guard.into_parts();
+            lock.drop_on(&mut conn);
+            Ok(())
+        }
+        "release" => push_short(release(guard.release_now(), polls), told),
+        "unpolled" => {
+            let _ = guard.release_now();
+            Ok(())
+        }
+        "within" => {
+            let lock = PgAdvisoryLock::with_key(PgAdvisoryLockKey::BigInt(6));
+            push_short(
+                take(PgAdvisoryLockGuard::acquire(&lock, guard), polls),
+                told,
+            )
+        }
+        _ => {
+            drop(guard);
+            Ok(())
+        }
+    }
+}
+
+// A state that is dropped before its first poll.
+fn ask_not<C: PgExecutor>(conn: &mut C, lock: &PgAdvisoryLock) {
+    let _ = PgAdvisoryLockGuard::acquire(lock, conn);
+}
+
+fn take_and<C: PgExecutor>(
+    conn: &mut C,
+    lock: &PgAdvisoryLock,
+    word: &str,
+    polls: u64,
+    told: &mut String,
+) -> Result<(), Error> {
+    match take(PgAdvisoryLockGuard::acquire(lock, conn), polls) {
+        Poll::Ready(Ok(guard)) => spend(guard, word, polls, told),
+        answer => push_short(answer, told),
+    }
+}
+
+fn try_and_drop<C: PgExecutor>(
+    conn: &mut C,
+    lock: &PgAdvisoryLock,
+    polls: u64,
+    told: &mut String,
+) -> Result<(), Error> {
+    match try_take(PgAdvisoryLockGuard::try_acquire(lock, conn), polls) {
+        Poll::Ready(Ok(Either::Left(guard))) => spend(guard, "drop", polls, told),
+        Poll::Ready(Ok(Either::Right(_))) => Ok(told.push_str("somebody has it")?),
+        answer => push_short(answer, told),
+    }
+}
+
+fn force_and_tell<C: PgExecutor>(
+    conn: &mut C,
+    lock: &PgAdvisoryLock,
+    polls: u64,
+    told: &mut String,
+) -> Result<(), Error> {
+    match force(PgAdvisoryLockGuard::force_release(lock, conn), polls) {
+        Poll::Ready(Ok((_, true))) => Ok(told.push_str("was held")?),
+        Poll::Ready(Ok((_, false))) => Ok(told.push_str("was not held")?),
+        answer => push_short(answer, told),
+    }
+}
+
+/// Makes a call, and tells what it answered.
+pub(crate) fn call<C: PgExecutor>(
+    conn: &mut C,
+    word: &str,
+    key: PgAdvisoryLockKey,
+    polls: u64,
+    told: &mut String,
+) -> Result<(), Error> {
+    let lock = PgAdvisoryLock::with_key(key);
+    told.push_str("  ")?;
+    told.push_str(word)?;
+    told.push_str(": ")?;
+    match word {
+        "unasked" => ask_not(conn, &lock),
+        "try" => try_and_drop(conn, &lock, polls, told)?,
+        "force" => force_and_tell(conn, &lock, polls, told)?,
+        "ping" => push_short(ping(conn.conn_mut(), 1), told)?,
+        "flush" => push_short(flush(conn.conn_mut(), 1), told)?,
+        _ => take_and(conn, &lock, word, polls, told)?,
+    }
+    push_progress(conn, told)?;
+    told.push_str("\n")?;
+    Ok(())
+}

@@ -1,5 +1,0 @@
-pub mod OpeningLaws
-pub mod RequestLaws
-pub mod SessionLaws
-pub mod AnswerLaws
-pub mod ForceLaws

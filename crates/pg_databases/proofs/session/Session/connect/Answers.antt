@@ -1,5 +1,0 @@
-use Rattle.std.proofs.Common.{refl, sym, ◌∙◌}
-use Rattle.pg_databases.proofs.session.Session.connect.Goals as goal
-
-pub returns-in-Opens-clause-connects : goal.returns-in-Opens-clause-connects
-returns-in-Opens-clause-connects g c = rw (sym c.take.ensures.value ∙ c.in-Some.is) (c.in-Opens.conn, rw c.take.ensures.after refl, c.in-Opens.ensures.connects)

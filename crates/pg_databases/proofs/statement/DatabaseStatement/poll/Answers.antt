@@ -1,7 +1,0 @@
-use Rattle.pg_conn.specs.Dials.{HandsOut}
-use Rattle.pg_databases.specs.Databases.{is_done, never}
-use Rattle.pg_databases.proofs.AnswerLaws.{tells_by}
-use Rattle.pg_databases.proofs.statement.DatabaseStatement.poll.Goals as goal
-
-pub returns-in-Ready-clause-tells : goal.returns-in-Ready-clause-tells
-returns-in-Ready-clause-tells g c asked first s = tells_by is_done never g.D.L.Link.seen (HandsOut g.D.Dial.gives g.D.Dial.draws) g.D.Dial.seen asked first c.poll.new.session c.close.new.self c.poll.new.dial c.in-Ready.turn c.ended.result c.ended.ensures (c.in-Ready.ensures.tells asked first s)

@@ -1,6 +1,0 @@
-pub mod Names
-pub mod Errands
-pub mod Openings
-pub mod Sessions
-pub mod Databases
-pub mod Forcing

@@ -1,0 +1,182 @@
+-- How a database is dropped though there are sessions on it.
+use Rattle.std.proofs.Common.{◌≡◌, ◌⊎◌, ℕ, ◌≤◌, inl, inr, List, [], ◌∷◌, Option, Some, None, option_map, Result, Ok, Err, refl, sym, ap, ◌∙◌, subst}
+use Rattle.std.specs.Prelude.{IfOk, IfErr, IsSome}
+use Rattle.futures.specs.declared.task.Poll.{Poll}
+use Rattle.futures.specs.declared.task.Poll.TheVariants.{Ready, Pending}
+use Rattle.pg_wire.specs.declared.error.Error.{Error}
+use Rattle.pg_stream.specs.Links.{LinkSeen}
+use Rattle.pg_wire.specs.declared.error.Error.TheVariants as errors
+use Rattle.pg_rows.specs.Rows.{RowSeen}
+use Rattle.pg_call.specs.declared.kind.How.TheVariants as hows
+use Rattle.pg_call.specs.declared.kind.Kind.TheVariants as kinds
+use Rattle.pg_call.specs.declared.answer.CallAnswer.{CallAnswer}
+use Rattle.pg_call.specs.declared.answer.CallAnswer.TheVariants as answers
+use Rattle.pg_call.specs.declared.answer.Turn.{Turn}
+use Rattle.pg_call.specs.declared.answer.Turn.TheVariants as turns
+use Rattle.pg_call.specs.declared.request.Request.{Request}
+use Rattle.pg_call.specs.Answers.{TurnFits}
+use Rattle.pg_conn.specs.Connections.{ConnOf, seen_by, started_call}
+use Rattle.pg_conn.specs.States.{IsCalling}
+use Rattle.pg_conn.specs.Turns.{PollsWithin}
+use Rattle.pg_migrate.specs.Orders.{Script}
+use Rattle.pg_migrate.specs.Texts.{terminate_text}
+use Rattle.pg_migrating.specs.Calls.{Called, Waits}
+use Rattle.pg_migrating.specs.Requests.{IsRequestOf}
+use Rattle.pg_migrating.proofs.AskingLaws.{calls_raw}
+use Rattle.pg_migrating.specs.Databases.{EndsBy, is_done, never}
+use Rattle.pg_migrating.specs.Forcing.{AsksTerminate, EndsTerminate, EndsVersion, FailsForce, FailsVersion, GoesForce, HidesNumber, HidesVersion, IsNotTerminated, IsNumber, StandsBy, StandsForce, StaysForce, StepGoes, TellsForce, TellsForceStep, Terminated, Terminates, Terminating, version_in}
+use Rattle.pg_migrating.specs.Openings.{FailsToOpen}
+use Rattle.pg_migrating.specs.Sessions.{Comes, ConnRuns, Goes, GoesBy, GoesOn, KeepsConn, Opening, PollsSession, SessionSeen, Stands, Tells}
+use Rattle.pg_migrating.proofs.SessionLaws.{call_fits, conn_runs}
+use Rattle.pg_migrating.specs.declared.errand.Errand.{Errand}
+use Rattle.pg_migrating.specs.declared.forcing.ForceStep.{ForceStep}
+use Rattle.pg_migrating.specs.declared.forcing.ForceStep.TheVariants as steps
+use Rattle.pg_migrating.specs.declared.forcing.Forcing.{Forcing}
+
+-- ---- the request that ends the other sessions
+
+-- only want of memory refuses a text without arguments
+only_memory : (sql : List ℕ) (e : Error) → IsRequestOf hows.Execute 0 (Script sql) (Err e) → e ≡ errors.OutOfMemory
+only_memory sql errors.OutOfMemory r = refl
+only_memory sql e r = absurd r
+
+pub terminates_ok : (row : RowSeen) (database : List ℕ) (version : ℕ) (result : Result Request Error) → IsNumber row version → IsRequestOf hows.Execute 0 (Script (terminate_text version database)) result → IfOk result (Terminating database (answers.OneRow (Some row)))
+terminates_ok row database version (Ok r) is asks = (version, is, asks)
+terminates_ok row database version (Err e) is asks = tt
+
+pub terminates_err : (row : RowSeen) (sql : List ℕ) (result : Result Request Error) → IsRequestOf hows.Execute 0 (Script sql) result → IfErr result (HidesNumber row)
+terminates_err row sql (Ok r) asks = tt
+terminates_err row sql (Err e) asks = inl (only_memory sql e asks)
+
+-- ---- the version
+
+module _ {D S A : Type 0} (seen : A → LinkSeen) (o : Opening D S A) where
+  -- what comes behind the version's answer
+  pub version_goes : (turn : Turn) (database : List ℕ) (s t last last_now : SessionSeen S A) (step : ForceStep) (result : Option (Poll (Result (Unit {0}) Error))) → EndsVersion turn database s step t result → (result ≡ None → last_now ≡ last) → GoesOn o (kinds.Run hows.FetchOne) s (Ready turn) → Goes o (kinds.Run hows.Execute) last → StepGoes o steps.Terminate step t last_now result
+  version_goes (turns.Ok answer) database s t last last_now step None p same g l = by s.conn refl g.3
+    where
+      by : (conn : Option (ConnOf A)) → s.conn ≡ conn → KeepsConn (turns.Ok answer) conn → StepGoes {X = Result (Unit {0}) Error} o steps.Terminate step t last_now None
+      by None e k = absurd k
+      by (Some c) e k =
+          let errand : t.errand ≡ None = ap (λ (x : SessionSeen S A). x.errand) p.3 ∙ g.0 in
+          let start : t.start ≡ None = ap (λ (x : SessionSeen S A). x.start) p.3 ∙ g.1 in
+          let conn : t.conn ≡ Some (started_call p.0 c) = ap (λ (x : SessionSeen S A). x.conn) p.3 ∙ ap (option_map (started_call p.0)) e in
+          let calls : IsCalling (kinds.Run hows.Execute) (started_call p.0 c) = rw p.1.2 (calls_raw hows.Execute _ c) in
+          let goes : Goes o (kinds.Run hows.Execute) t = rw (errand, start, conn) calls in
+          (p.2, (errand, start, goes, rw (same refl) l))
+  version_goes (turns.Err e) database s t last last_now step None p same g l = absurd p.1
+  version_goes (turns.Item item) database s t last last_now step None p same g l = absurd p.1
+  version_goes (turns.Opened opened) database s t last last_now step None p same g l = absurd p.1
+  version_goes turn database s t last last_now step (Some Pending) p same g l = absurd p
+  version_goes turn database s t last last_now step (Some (Ready (Ok u))) p same g l = absurd p
+  version_goes turn database s t last last_now step (Some (Ready (Err e))) p same g l = p.1
+
+  -- what was asked is the errand that was answered
+  of_errand : (P : Errand → Type 0) (a b : Errand) → ◌≡◌ {A = Result Errand Error} (Ok a) (Ok b) → P b → P a
+  of_errand P a b e p = let same : a ≡ b = cc in subst P (sym same) p
+
+  asks_next : (asked : Result Forcing Error) (first e : D) (answer : CallAnswer) (database now : List ℕ) (s t last last_now : SessionSeen S A) (step : ForceStep) → EndsVersion (turns.Ok answer) database s step t None → now ≡ database → last_now ≡ last → Tells seen o (version_in asked) first s e (Ready (turns.Ok answer)) → StandsBy asked database last → TellsForceStep seen o asked first step now t last_now e None
+  asks_next (Err x) first e answer database now s t last last_now step p d l k b = absurd cc
+  asks_next (Ok f) first e answer database now s t last last_now step p d l k b =
+      let comes : Comes seen o f.version first e (turns.Ok answer) k.0 = of_errand (λ (x : Errand). Comes seen o x first e (turns.Ok answer) k.0) f.version k.2.0 k.2.1 k.2.2 in
+      let asks : AsksTerminate seen o f first e k.0 p.0 = record { answer = answer; comes = comes; asks = subst (λ (x : List ℕ). Terminating x answer p.0) b.0 p.1 } in
+      let waits : Terminates seen o f first e (started_call p.0 k.0) = record { middle = k.0; request = p.0; asks = asks; waits = record { earlier = []; waited = refl } } in
+      let is : t.conn ≡ Some (started_call p.0 k.0) = ap (λ (x : SessionSeen S A). x.conn) p.3 ∙ ap (option_map (started_call p.0)) k.1 in
+      let later : StandsBy (Ok f) now last_now = rw (d, l) b in
+      subst (λ (x : ForceStep). StandsForce seen o (Ok f) first x now t last_now e) (sym p.2) (f, refl, (started_call p.0 k.0, is, waits), later)
+
+  pub version_tells : (asked : Result Forcing Error) (first e : D) (turn : Turn) (database now : List ℕ) (s t last last_now : SessionSeen S A) (step : ForceStep) (result : Option (Poll (Result (Unit {0}) Error))) → EndsVersion turn database s step t result → (result ≡ None → now ≡ database) → (result ≡ None → last_now ≡ last) → Tells seen o (version_in asked) first s e (Ready turn) → StandsBy asked database last → TellsForceStep seen o asked first step now t last_now e result
+  version_tells asked first e (turns.Ok answer) database now s t last last_now step None p d l k b = asks_next asked first e answer database now s t last last_now step p (d refl) (l refl) k b
+  version_tells asked first e (turns.Err x) database now s t last last_now step None p d l k b = absurd p.1
+  version_tells asked first e (turns.Item item) database now s t last last_now step None p d l k b = absurd p.1
+  version_tells asked first e (turns.Opened opened) database now s t last last_now step None p d l k b = absurd p.1
+  version_tells asked first e turn database now s t last last_now step (Some Pending) p d l k b = absurd p
+  version_tells asked first e turn database now s t last last_now step (Some (Ready (Ok u))) p d l k b = absurd p
+  version_tells asked first e (turns.Ok answer) database now s t last last_now step (Some (Ready (Err error))) p d l k b = inl (inr (inr (answer, k.0, k.2, p.0)))
+  version_tells asked first e (turns.Err x) database now s t last last_now step (Some (Ready (Err error))) p d l (inl k) b = inl (inl (rw p.0 k))
+  version_tells asked first e (turns.Err x) database now s t last last_now step (Some (Ready (Err error))) p d l (inr k) b = inl (inr (inl (rw p.0 k)))
+  version_tells asked first e (turns.Item item) database now s t last last_now step (Some (Ready (Err error))) p d l k b = absurd p.0
+  version_tells asked first e (turns.Opened opened) database now s t last last_now step (Some (Ready (Err error))) p d l k b = absurd p.0
+
+  -- ---- the other sessions
+
+  pub terminate_runs : (s : SessionSeen S A) → s.errand ≡ None → s.start ≡ None → Goes o (kinds.Run hows.Execute) s → ConnRuns s.conn
+  terminate_runs s e b g = conn_runs o (kinds.Run hows.Execute) s.errand s.start s.conn e b g
+
+  pub terminate_fits : (s t : SessionSeen S A) (left : ℕ) (answer : Poll Turn) → s.errand ≡ None → s.start ≡ None → Goes o (kinds.Run hows.Execute) s → PollsSession seen left s.conn s t answer → GoesOn o (kinds.Run hows.Execute) t answer
+  terminate_fits s t left answer e b g p = call_fits seen o (kinds.Run hows.Execute) s.errand s.start s.conn t left answer e b p g
+
+  -- only its connection changes
+  alone : (s t : SessionSeen S A) (left : ℕ) (conn : Option (ConnOf A)) (answer : Poll Turn) → PollsSession seen left conn s t answer → (t.errand ≡ s.errand) × (t.start ≡ s.start)
+  alone s t left None answer p = absurd p
+  alone s t left (Some c) answer p = rw p.1 (refl, refl)
+
+  pub terminate_waits : (s t last : SessionSeen S A) (step : ForceStep) (left : ℕ) → step ≡ steps.Terminate → GoesForce o steps.Terminate s last → PollsSession seen left s.conn s t Pending → GoesForce o step t last
+  terminate_waits s t last step left is g p =
+      let k = alone s t left s.conn Pending p in
+      rw is (k.0 ∙ g.0, k.1 ∙ g.1, terminate_fits s t left Pending g.0 g.1 g.2 p, g.3)
+
+  pub remove_goes : (turn : Turn) (t last last_now : SessionSeen S A) (step : ForceStep) (result : Option (Poll (Result (Unit {0}) Error))) → EndsTerminate turn step result → (result ≡ None → last_now ≡ last) → Goes o (kinds.Run hows.Execute) last → StepGoes o steps.Remove step t last_now result
+  remove_goes turn t last last_now step None p same g = (p.1, rw (same refl) g)
+  remove_goes turn t last last_now step (Some Pending) p same g = absurd p
+  remove_goes turn t last last_now step (Some (Ready (Ok u))) p same g = absurd p
+  remove_goes turn t last last_now step (Some (Ready (Err e))) p same g = p.1
+
+  -- where its connection stands behind a poll
+  polled : (s t : SessionSeen S A) (a : ConnOf A) (left : ℕ) (answer : Poll Turn) → s.conn ≡ Some a → PollsSession seen left s.conn s t answer → (b : ConnOf A) × (t.conn ≡ Some b) × PollsWithin left (seen_by seen a) (seen_by seen b) answer
+  polled s t a left answer e p =
+      let q : PollsSession seen left (Some a) s t answer = subst (λ (x : Option (ConnOf A)). PollsSession seen left x s t answer) e p in
+      (q.0, ap (λ (x : SessionSeen S A). x.conn) q.1, q.2)
+
+  pub terminate_stands : (asked : Result Forcing Error) (first e : D) (database : List ℕ) (s t last : SessionSeen S A) (step : ForceStep) (left : ℕ) → step ≡ steps.Terminate → left ≤ 256 → PollsSession seen left s.conn s t Pending → StandsForce seen o asked first steps.Terminate database s last e → StandsForce seen o asked first step database t last e
+  terminate_stands asked first e database s t last step left is few p (f, same, (a, held, k), b) =
+      let q = polled s t a left Pending held p in
+      let more : Terminates seen o f first e q.0 = record { middle = k.middle; request = k.request; asks = k.asks; waits = record { earlier = a ∷ k.waits.earlier; waited = (record { left = left; few = few; polls = q.2 }, k.waits.waited) } } in
+      subst (λ (x : ForceStep). StandsForce seen o asked first x database t last e) (sym is) (f, same, (q.0, q.1, more), b)
+
+  -- the last session is new
+  last_new : (asked : Result Forcing Error) (f : Forcing) (database : List ℕ) (last : SessionSeen S A) (e : D) → asked ≡ Ok f → StandsBy asked database last → Stands seen o (Ok f.last) e last e
+  last_new asked f database last e same b =
+      let k : StandsBy (Ok f) database last = subst (λ (x : Result Forcing Error). StandsBy x database last) same b in
+      rw k.1 (refl, refl)
+
+  pub terminate_tells : (asked : Result Forcing Error) (first e : D) (turn : Turn) (database now : List ℕ) (s t u last last_now : SessionSeen S A) (step : ForceStep) (left : ℕ) (result : Option (Poll (Result (Unit {0}) Error))) → left ≤ 256 → PollsSession seen left s.conn s t (Ready turn) → EndsTerminate turn step result → (result ≡ None → last_now ≡ last) → StandsForce seen o asked first steps.Terminate database s last e → TellsForceStep seen o asked first step now u last_now e result
+  terminate_tells asked first e (turns.Ok answer) database now s t u last last_now step left None few p q l (f, same, (a, held, k), b) =
+      let w = polled s t a left (Ready (turns.Ok answer)) held p in
+      let done : Terminated seen o f first e = record { middle = k.middle; conn = w.0; request = k.request; answer = answer; asks = k.asks; called = record { last = a; waits = k.waits; ends = record { left = left; few = few; polls = w.2 } } } in
+      let new : Stands seen o (Ok f.last) e last_now e = rw (l refl) (last_new asked f database last e same b) in
+      subst (λ (x : ForceStep). StandsForce seen o asked first x now u last_now e) (sym q.1) (f, same, (e, done, new))
+  terminate_tells asked first e (turns.Err x) database now s t u last last_now step left None few p q l k = absurd q.0
+  terminate_tells asked first e (turns.Item item) database now s t u last last_now step left None few p q l k = absurd q.0
+  terminate_tells asked first e (turns.Opened opened) database now s t u last last_now step left None few p q l k = absurd q.0
+  terminate_tells asked first e turn database now s t u last last_now step left (Some Pending) few p q l k = absurd q
+  terminate_tells asked first e turn database now s t u last last_now step left (Some (Ready (Ok v))) few p q l k = absurd q
+  terminate_tells asked first e (turns.Ok answer) database now s t u last last_now step left (Some (Ready (Err error))) few p q l k = absurd q.0
+  terminate_tells asked first e (turns.Err x) database now s t u last last_now step left (Some (Ready (Err error))) few p q l (f, same, (a, held, k), b) =
+      let w = polled s t a left (Ready (turns.Err x)) held p in
+      let called : Called seen k.request k.middle w.0 (turns.Err x) = record { last = a; waits = k.waits; ends = record { left = left; few = few; polls = w.2 } } in
+      let failed : IsNotTerminated seen o f first e error = record { middle = k.middle; conn = w.0; request = k.request; asks = k.asks; called = rw q.0 called } in
+      inr (f, same, inl failed)
+  terminate_tells asked first e (turns.Item item) database now s t u last last_now step left (Some (Ready (Err error))) few p q l k = absurd q.0
+  terminate_tells asked first e (turns.Opened opened) database now s t u last last_now step left (Some (Ready (Err error))) few p q l k = absurd q.0
+
+  -- ---- the drop
+
+  pub removed : (asked : Result Forcing Error) (first m e : D) (f : Forcing) (turn : Turn) (step : ForceStep) (now : List ℕ) (s last last_now : SessionSeen S A) (result : Result (Unit {0}) Error) → asked ≡ Ok f → Terminated seen o f first m → EndsBy is_done never turn result → Tells seen o (Ok f.last) m last e (Ready turn) → TellsForce seen o asked first step now s last_now e (Ready result)
+  removed asked first m e f (turns.Item item) step now s last last_now result same done h k = absurd h
+  removed asked first m e f (turns.Opened opened) step now s last last_now result same done h k = absurd h
+  removed asked first m e f (turns.Ok answer) step now s last last_now (Ok u) same done h k =
+      (f, same, (m, answer, k.0, done, of_errand (λ (x : Errand). Comes seen o x m e (turns.Ok answer) k.0) f.last k.2.0 k.2.1 k.2.2))
+  removed asked first m e f (turns.Ok answer) step now s last last_now (Err error) same done h k = absurd h
+  removed asked first m e f (turns.Err x) step now s last last_now (Ok u) same done h k = absurd h
+  removed asked first m e f (turns.Err x) step now s last last_now (Err error) same done h (inl k) =
+      let comes : Comes seen o f.last m e (turns.Err x) k.0 = of_errand (λ (y : Errand). Comes seen o y m e (turns.Err x) k.0) f.last k.1.0 k.1.1 k.1.2 in
+      inr (f, same, inr (m, done, inl (k.0, rw h comes)))
+  removed asked first m e f (turns.Err x) step now s last last_now (Err error) same done h (inr (inl k)) = absurd (let e : ◌≡◌ {A = Result Errand Error} (Ok f.last) (Err x) = k.0 in cc)
+  removed asked first m e f (turns.Err x) step now s last last_now (Err error) same done h (inr (inr k)) =
+      inr (f, same, inr (m, done, inr (rw h (of_errand (λ (y : Errand). FailsToOpen seen o.hands o.counts y.options m e x) f.last k.0 k.1 k.2))))
+
+  -- the dial is as the last poll left it
+  pub removed_on : (asked : Result Forcing Error) (first m e now_on : D) (f : Forcing) (turn : Turn) (step : ForceStep) (now : List ℕ) (s last last_now : SessionSeen S A) (end : Result (Unit {0}) Error) (result : Poll (Result (Unit {0}) Error)) → now_on ≡ e → result ≡ Ready end → asked ≡ Ok f → Terminated seen o f first m → EndsBy is_done never turn end → Tells seen o (Ok f.last) m last e (Ready turn) → TellsForce seen o asked first step now s last_now now_on result
+  removed_on asked first m e now_on f turn step now s last last_now end result d r same done h k =
+      rw (d, r) (removed asked first m e f turn step now s last last_now end same done h k)

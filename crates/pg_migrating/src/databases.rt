@@ -1,0 +1,102 @@
+//! The calls on databases.
+
+ghost use Rattle.std.specs.Prelude.{◌≡◌};
+ghost use Rattle.pg_call.specs.declared.kind.How.TheVariants as hows;
+ghost use Rattle.pg_call.specs.declared.kind.Kind.TheVariants as kinds;
+ghost use Rattle.pg_migrating.specs.Databases.{AsksFor};
+ghost use Rattle.pg_migrating.specs.Forcing.{AsksToForce, GoesForce};
+ghost use Rattle.pg_migrating.specs.Sessions.{Goes};
+ghost use Rattle.pg_migrating.specs.declared.forcing.ForceStep.TheVariants as steps;
+ghost use Rattle.pg_migrating.specs.declared.errand.Task.TheVariants as tasks;
+
+use crate::errand::{Task, errand_of};
+use crate::forcing::forcing_of;
+use crate::opening::Sessions;
+use crate::session::Session;
+use crate::{DatabaseCall, DatabaseExists, DatabaseStatement, ForceDropDatabase};
+use pg_options::PgSettings;
+use std::alloc::Global;
+use std::marker::PhantomData;
+
+/// The calls on the database that a URL names, over settings of the surroundings: each is a state over a dial, which is polled. It connects to another
+/// database of the same server, `postgres`, or `template1` where the database is `postgres` itself. A URL that can't be read is told by the first poll.
+#[derive(Clone, Copy)]
+pub struct MigrateDatabase;
+
+impl MigrateDatabase {
+    /// Makes the database. (PostgreSQL manual, "SQL Commands", CREATE DATABASE.)
+    pub fn create_database<'d, D: Sessions>(
+        alloc: Global,
+        env: &PgSettings,
+        url: &str,
+        dial: &'d mut D,
+    ) -> DatabaseStatement<'d, D>
+        ensures dial { result.dial.now ≡ dial.old }
+        ensures same { result.dial.ghost_name ≡ dial.entry.ghost_name }
+        ensures asks { AsksFor tasks.Create env.now url.now result.session }
+        ensures goes { Goes D.opens (kinds.Run hows.Execute) result.session }
+    {
+        DatabaseCall {
+            alloc,
+            dial,
+            session: Session::new(errand_of(alloc, env, url, Task::Create)),
+            reading: PhantomData,
+        }
+    }
+
+    /// Asks whether there is the database. (PostgreSQL manual, "System Catalogs", pg_database.)
+    pub fn database_exists<'d, D: Sessions>(
+        alloc: Global,
+        env: &PgSettings,
+        url: &str,
+        dial: &'d mut D,
+    ) -> DatabaseExists<'d, D>
+        ensures dial { result.dial.now ≡ dial.old }
+        ensures same { result.dial.ghost_name ≡ dial.entry.ghost_name }
+        ensures asks { AsksFor tasks.Exists env.now url.now result.session }
+        ensures goes { Goes D.opens (kinds.Run hows.FetchOne) result.session }
+    {
+        DatabaseCall {
+            alloc,
+            dial,
+            session: Session::new(errand_of(alloc, env, url, Task::Exists)),
+            reading: PhantomData,
+        }
+    }
+
+    /// Drops the database, if it is there. (PostgreSQL manual, "SQL Commands", DROP DATABASE.)
+    pub fn drop_database<'d, D: Sessions>(
+        alloc: Global,
+        env: &PgSettings,
+        url: &str,
+        dial: &'d mut D,
+    ) -> DatabaseStatement<'d, D>
+        ensures dial { result.dial.now ≡ dial.old }
+        ensures same { result.dial.ghost_name ≡ dial.entry.ghost_name }
+        ensures asks { AsksFor tasks.Remove env.now url.now result.session }
+        ensures goes { Goes D.opens (kinds.Run hows.Execute) result.session }
+    {
+        DatabaseCall {
+            alloc,
+            dial,
+            session: Session::new(errand_of(alloc, env, url, Task::Remove)),
+            reading: PhantomData,
+        }
+    }
+
+    /// Drops the database, if it is there, though there are sessions on it: these are ended first.
+    pub fn force_drop_database<'d, D: Sessions>(
+        alloc: Global,
+        env: &PgSettings,
+        url: &str,
+        dial: &'d mut D,
+    ) -> ForceDropDatabase<'d, D>
+        ensures dial { result.dial.now ≡ dial.old }
+        ensures same { result.dial.ghost_name ≡ dial.entry.ghost_name }
+        ensures step { result.step ≡ steps.Version }
+        ensures asks { AsksToForce env.now url.now result.database result.session result.last }
+        ensures goes { GoesForce D.opens steps.Version result.session result.last }
+    {
+        ForceDropDatabase::new(alloc, dial, forcing_of(alloc, env, url))
+    }
+}

@@ -1,0 +1,171 @@
+//! A session that is opened for one call.
+
+ghost use Rattle.std.specs.Prelude.{◌≡◌, ◌≤◌, None, Some, Result, option_copied, option_map};
+ghost use Rattle.pg_wire.specs.declared.error.Error as declared_error;
+ghost use Rattle.pg_call.specs.declared.kind.Kind as declared_kind;
+ghost use Rattle.pg_conn.specs.Connections.{started_call};
+ghost use Rattle.pg_migrating.specs.Sessions.{ConnRuns, ConnectsSession, DialsFirst, Goes, GoesOn, IsBefore, IsGoing, PollsSession, StartGoes, Stands, Tells, fresh_session, is_over, without_conn};
+ghost use Rattle.pg_migrating.specs.declared.errand.Errand as declared_errand;
+
+use crate::errand::Errand;
+use crate::holding;
+use crate::opening::{Connected, Sessions};
+use pg_call::{Request, Turn};
+use pg_guards::PgExecutor;
+use pg_wire::{Error, Poll};
+use std::alloc::Global;
+use std::marker::Model;
+
+/// A session on its way: what it is opened for, or why it can't be; its start-up; its connection, on which the call runs. At most one of them is
+/// there.
+pub(crate) struct Session<S, C: PgExecutor> {
+    errand: Option<Result<Errand, Error>>,
+    start: Option<S>,
+    conn: Option<C>,
+}
+
+/// The session of a dial.
+pub(crate) type SessionOf<D> = Session<<D as Sessions>::Start, <D as Sessions>::Conn>;
+
+impl<S, C: PgExecutor> Model for Session<S, C> {
+    ghost use Rattle.std.specs.Prelude.{option_map};
+    ghost use Rattle.pg_migrating.specs.Sessions.{SessionSeen};
+
+    ghost Value = { SessionSeen S C.L };
+
+    ghost view = { λ s. record { errand = s.errand; start = s.start; conn = option_map C.conn s.conn } };
+}
+
+// By hand, so that whoever lets one go makes one call.
+impl<S: Drop, C: PgExecutor + Drop> Drop for Session<S, C> {
+    fn drop(self) {
+        let Session {
+            errand: _,
+            start: _,
+            conn: _,
+        } = self;
+    }
+}
+
+impl<S, C: PgExecutor> Session<S, C> {
+    pub(crate) fn new(errand: Result<Errand, Error>) -> Self
+        ensures { result ≡ fresh_session errand }
+    {
+        Session {
+            errand: Some(errand),
+            start: None,
+            conn: None,
+        }
+    }
+
+    /// What holds the connection, once the start-up has come to it.
+    pub(crate) fn conn(&self) -> Option<&C>
+        ensures { option_map C.conn (option_copied result) ≡ self.now.conn }
+    {
+        self.conn.as_ref()
+    }
+
+    /// Whether nothing is left to be polled.
+    pub(crate) fn is_over(&self) -> bool
+        ensures { result ≡ is_over self.now }
+    {
+        self.errand.is_none() && self.start.is_none() && self.conn.is_none()
+    }
+
+    /// Begins another call on the connection, behind one that has ended.
+    pub(crate) fn ask(&mut self, request: Request)
+        ensures { self.new ≡ record self.old { conn = option_map (started_call request) self.old.conn } }
+    {
+        match &mut self.conn {
+            Some(conn) => holding::start(conn, request),
+            None => drop(request),
+        }
+    }
+
+    /// Moves the call on that runs on the connection.
+    pub(crate) fn poll_call(&mut self, left: &mut u16) -> Poll<Turn>
+        requires runs { ConnRuns self.old.conn }
+        requires left { left.old ≤ 256 }
+        ensures left { left.new ≤ left.old }
+        ensures polls { PollsSession C.L.seen left.old self.old.conn self.old self.new result }
+    {
+        match &mut self.conn {
+            Some(conn) => holding::poll(conn, left),
+            None => unreachable!(),
+        }
+    }
+}
+
+impl<S: Drop, C: PgExecutor + Drop> Session<S, C> {
+    /// Lets the connection go.
+    pub(crate) fn close(&mut self)
+        ensures { self.new ≡ without_conn self.old }
+    {
+        self.conn = None;
+    }
+}
+
+// Begins the start-up where that was not done yet.
+fn dial_first<D: Sessions>(
+    alloc: Global,
+    session: &mut SessionOf<D>,
+    dial: &mut D,
+) -> Result<(), Error>
+    requires { IsBefore session.old.errand session.old.start session.old.conn }
+    ensures { DialsFirst D.L.seen D.opens session.old.errand session.old session.new dial.old dial.new result }
+{
+    match session.errand.take() {
+        None => Ok(()),
+        Some(Err(e)) => Err(e),
+        Some(Ok(errand)) => {
+            session.start = Some(dial.begin_session(alloc, errand)?);
+            Ok(())
+        }
+    }
+}
+
+// Moves the start-up on, where there is one.
+fn connect<D: Sessions>(session: &mut SessionOf<D>, left: &mut u16) -> Poll<Result<(), Error>>
+    requires goes { StartGoes D.opens session.old.start }
+    requires left { left.old ≤ 256 }
+    ensures left { left.new ≤ left.old }
+    ensures connects { ConnectsSession D.L.seen D.opens session.old.start session.old session.new result }
+{
+    match session.start.take() {
+        None => Poll::Ready(Ok(())),
+        Some(start) => match D::connect_session(start, left) {
+            Connected::Waits(start) => {
+                session.start = Some(start);
+                Poll::Pending
+            }
+            Connected::Opens(conn) => {
+                session.conn = Some(conn);
+                Poll::Ready(Ok(()))
+            }
+            Connected::Fails(e) => Poll::Ready(Err(e)),
+        },
+    }
+}
+
+/// Moves a session on, within so many calls of the link, which it takes off: it is opened over the dial, and then its call is polled.
+pub(crate) fn poll<D: Sessions>(
+    alloc: Global,
+    session: &mut SessionOf<D>,
+    dial: &mut D,
+    left: &mut u16,
+) -> Poll<Turn>
+    requires left { left.old ≤ 256 }
+    requires goes { IsGoing D.opens session.old }
+    ensures left { left.new ≤ left.old }
+    ensures goes { (kind : declared_kind.Kind) → Goes D.opens kind session.old → GoesOn D.opens kind session.new result }
+    ensures tells { (asked : Result declared_errand.Errand declared_error.Error) (first : D) → Stands D.L.seen D.opens asked first session.old dial.old → Tells D.L.seen D.opens asked first session.new dial.new result }
+{
+    match dial_first(alloc, session, dial) {
+        Ok(()) => match connect::<D>(session, left) {
+            Poll::Ready(Ok(())) => session.poll_call(left),
+            Poll::Ready(Err(e)) => Poll::Ready(Turn::Err(e)),
+            Poll::Pending => Poll::Pending,
+        },
+        Err(e) => Poll::Ready(Turn::Err(e)),
+    }
+}
