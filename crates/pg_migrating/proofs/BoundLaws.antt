@@ -1,8 +1,8 @@
 -- The arguments of statements, as a caller adds them and as the server gets them.
-use Rattle.std.proofs.Common.{◌≡◌, ℕ, ◌∷◌, ◌++◌, [], List, Option, Some, None, Bool, true, false, cond, nat_lt, length, map, refl, sym, ap, ◌∙◌, subst, Result, Ok, Err, to_z, of_z}
+use Rattle.std.proofs.Common.{◌≡◌, ℕ, zero, suc, ◌∷◌, ◌++◌, [], List, Option, Some, None, Bool, true, false, cond, nat_lt, length, map, refl, sym, ap, ◌∙◌, subst, Result, to_z, of_z}
 use Rattle.std.proofs.lemmas.Int.{to_z-of_z}
 use Rattle.std.specs.Int.{w64}
-use Rattle.std.specs.Prelude.{ℤ, FitsSigned, slice_get, OnOk, IfOk, IfErr}
+use Rattle.std.specs.Prelude.{ℤ, FitsSigned, slice_get}
 use Rattle.std.proofs.lemmas.List.{map-append, length-map}
 use Rattle.std.proofs.lemmas.Bool.{ltb-true}
 use Rattle.pg_wire.specs.declared.error.Error.{Error}
@@ -16,9 +16,8 @@ use Rattle.pg_arguments.specs.Encoding.{Image, value_of, RefusesArgument}
 use Rattle.pg_arguments.specs.Arguments.{Arguments, AddsArgument, AddsToValues}
 use Rattle.pg_call.specs.declared.kind.How.{How}
 use Rattle.pg_call.specs.declared.request.Request.{Request}
-use Rattle.pg_call.specs.Requests.{raw}
 use Rattle.pg_migrate.specs.Orders.{Bound, Int8, Words, Bytes, Prepared}
-use Rattle.pg_migrating.specs.Requests.{AreBound, RefusesBound, RefusesBounds, IsRequestOf, IsTooLong, arguments_of, bound_bytes, bound_oid, bound_type, bound_value}
+use Rattle.pg_migrating.specs.Requests.{AreBound, RefusesBounds, RefusesStatement, IsRequestOf, IsTooLong, arguments_of, bound_bytes, bound_oid, bound_type, bound_value}
 
 -- ---- their types have OIDs, and none is open in their values
 
@@ -50,7 +49,7 @@ none_missing bounds a h =
     rw (h.types, all_known bounds, closed) refl
 
 -- so want of memory alone refuses them
-pub never_missing : (bounds : List Bound) (a : Arguments) (e : Error) → AreBound bounds a → RefusesType (missing_type a) e → e ≡ errors.OutOfMemory
+never_missing : (bounds : List Bound) (a : Arguments) (e : Error) → AreBound bounds a → RefusesType (missing_type a) e → e ≡ errors.OutOfMemory
 never_missing bounds a errors.OutOfMemory h r = refl
 never_missing bounds a (errors.TypeNotFound name) h r = absurd (none_some name (sym (none_missing bounds a h) ∙ r))
   where
@@ -88,40 +87,44 @@ too_long b = by (nat_lt 2147483647 (length (bound_bytes b))) refl
     by true is e = ltb-true 2147483647 (length (bound_bytes b)) is
     by false is e = absurd cc
 
-pub refuses : (place : ℕ) (b : Bound) (e : Error) → RefusesArgument place (value_of (Image (plain (bound_bytes b)))) e → RefusesBound place b e
-refuses place b errors.OutOfMemory r = tt
-refuses place b (errors.Encode index) r = (r.0, too_long b r.1)
-refuses place b e r = absurd r
-
--- an argument that was added, or not
-pub added : (result : Result (Unit {0}) Error) (b : Bound) (old new : Arguments) → OnOk result (AddsArgument (bound_type b) (value_of (Image (plain (bound_bytes b)))) old new) → OnOk result (AddsToValues (value_of (Image (plain (bound_bytes b)))) old new) → OnOk result ((before : List Bound) → AreBound before old → AreBound (before ++ b ∷ []) new)
-added (Ok u) b old new a v = λ before h. one_more before b old new h a v
-added (Err e) b old new a v = tt
-
-pub unadded : (result : Result (Unit {0}) Error) (place : ℕ) (b : Bound) → IfErr result (RefusesArgument place (value_of (Image (plain (bound_bytes b))))) → IfErr result (RefusesBound place b)
-unadded (Ok u) place b r = tt
-unadded (Err e) place b r = refuses place b e r
-
--- the first that is refused is one of them
-pub refuses_at : (bounds : List Bound) (place : ℕ) (b : Bound) (e : Error) → slice_get bounds place ≡ Some b → RefusesBound place b e → RefusesBounds bounds e
-refuses_at bounds place b errors.OutOfMemory at r = tt
-refuses_at bounds place b (errors.Encode index) at r = (b, rw r.0 at, r.1)
-refuses_at bounds place b e at r = absurd r
-
--- the only one is refused
-pub refuses_one : (types : List TypeParts) (b : Bound) (e : Error) → types ≡ [] → RefusesBound (length types) b e → RefusesBounds (b ∷ []) e
-refuses_one types b e none r = refuses_at (b ∷ []) 0 b e refl (subst (λ (ts : List TypeParts). RefusesBound (length ts) b e) none r)
-
 -- so many have stood before it
-pub bound_length : (bounds : List Bound) (a : Arguments) → AreBound bounds a → length a.types ≡ length bounds
+bound_length : (bounds : List Bound) (a : Arguments) → AreBound bounds a → length a.types ≡ length bounds
 bound_length bounds a h = rw h.types (length-map bounds bound_type)
+
+-- what was refused before is refused
+get_before : (bounds : List Bound) (b : Bound) (place : ℕ) (found : Bound) → slice_get bounds place ≡ Some found → slice_get (bounds ++ b ∷ []) place ≡ Some found
+get_before [] b place found e = absurd cc
+get_before (first ∷ more) b zero found e = e
+get_before (first ∷ more) b (suc place) found e = get_before more b place found e
+
+pub refuses_more : (before : List Bound) (b : Bound) (e : Error) → RefusesBounds before e → RefusesBounds (before ++ b ∷ []) e
+refuses_more before b errors.OutOfMemory r = tt
+refuses_more before b (errors.Encode index) r = (r.0, get_before before b index r.0 r.1, r.2)
+refuses_more before b e r = absurd r
+
+-- or the one that is added
+get_last : (bounds : List Bound) (b : Bound) → slice_get (bounds ++ b ∷ []) (length bounds) ≡ Some b
+get_last [] b = refl
+get_last (first ∷ more) b = get_last more b
+
+pub refuses_last : (before : List Bound) (b : Bound) (a : Arguments) (e : Error) → AreBound before a → RefusesArgument (length a.types) (value_of (Image (plain (bound_bytes b)))) e → RefusesBounds (before ++ b ∷ []) e
+refuses_last before b a errors.OutOfMemory h r = tt
+refuses_last before b a (errors.Encode index) h r = (b, rw (r.0 ∙ bound_length before a h) (get_last before b), too_long b r.1)
+refuses_last before b a e h r = absurd r
 
 -- ---- the request
 
-pub request_is : (how : How) (sql given : List ℕ) (bounds : List Bound) (a : Arguments) (result : Result Request Error) → given ≡ sql → AreBound bounds a
-    → IfOk result (λ r. (bounds : List Bound) → AreBound bounds a → r ≡ raw how (kept_query given (arguments_of bounds))) → IfErr result (λ e. (bounds : List Bound) → AreBound bounds a → e ≡ errors.OutOfMemory) → IsRequestOf how 0 (Prepared sql bounds) result
-request_is how sql given bounds a (Ok r) e h ok err = rw (← e) (ok bounds h)
-request_is how sql given bounds a (Err error) e h ok err = rw (err bounds h) tt
+pub refuses_bounds : (sql : List ℕ) (bounds : List Bound) (e : Error) → RefusesBounds bounds e → RefusesStatement (Prepared sql bounds) e
+refuses_bounds sql bounds errors.OutOfMemory r = tt
+refuses_bounds sql bounds (errors.Encode index) r = r
+refuses_bounds sql bounds e r = absurd r
+
+pub refuses_query : (sql : List ℕ) (bounds : List Bound) (a : Arguments) (e : Error) → AreBound bounds a → RefusesType (missing_type a) e → RefusesStatement (Prepared sql bounds) e
+refuses_query sql bounds a e h r = rw (never_missing bounds a e h r) tt
+
+-- by another name of its text
+pub asks_text : (how : How) (sql given : List ℕ) (bounds : List Bound) (result : Result Request Error) → given ≡ sql → IsRequestOf how 0 (Prepared given bounds) result → IsRequestOf how 0 (Prepared sql bounds) result
+asks_text how sql given bounds result e h = subst (λ (text : List ℕ). IsRequestOf how 0 (Prepared text bounds) result) e h
 
 -- a number that was handed to a call is the same
 pub kept_int8 : (P : ℤ → Type 0) (z : ℤ) → FitsSigned w64 z → P (to_z w64 (of_z w64 z)) → P z

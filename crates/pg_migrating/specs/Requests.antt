@@ -47,16 +47,15 @@ pub record AreBound (bounds : List Bound) (a : Arguments) : Type 0 where
 abbrev pub IsTooLong : Bound → Type 0
 IsTooLong b = 2147483647 < length (bound_bytes b)
 
--- this argument, at this place, is refused
-abbrev pub RefusesBound : ℕ → Bound → Error → Type 0
-RefusesBound place b errors.OutOfMemory = Unit {0}
-RefusesBound place b (errors.Encode index) = (index ≡ place) × IsTooLong b
-RefusesBound place b _ = ⊥
-
 abbrev pub RefusesBounds : List Bound → Error → Type 0
 RefusesBounds bounds errors.OutOfMemory = Unit {0}
 RefusesBounds bounds (errors.Encode index) = (b : Bound) × (slice_get bounds index ≡ Some b) × IsTooLong b
 RefusesBounds bounds _ = ⊥
+
+-- all of them are bound, or one is refused
+abbrev pub Binds : List Bound → Result Arguments Error → Type 0
+Binds bounds (Ok a) = AreBound bounds a
+Binds bounds (Err e) = RefusesBounds bounds e
 
 -- ---- statements
 

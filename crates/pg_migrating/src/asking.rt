@@ -73,7 +73,7 @@ impl<C: PgExecutor> Asking<C> {
     pub(crate) fn ask(&mut self, question: Result<Request, Error>)
         ensures { self.new ≡ record { conn = self.old.conn; question = Some question } }
     {
-        self.question = Some(question);
+        drop(self.question.replace(question));
     }
 
     // Begins the call where it was not, and tells why it can't be asked.

@@ -7,7 +7,7 @@ ghost use Rattle.pg_migrate.specs.Texts.{create_database_text, database_exists_t
 ghost use Rattle.pg_migrating.specs.Requests.{IsRequestOf};
 ghost use Rattle.pg_migrating.specs.Errands.{how_of, statement_of};
 
-use crate::binding::one_text;
+use crate::binding;
 use crate::errand::Task;
 use crate::requests::{bare, owned_script, prepared};
 use pg_call::{How, Request};
@@ -36,8 +36,8 @@ fn remove(alloc: Global, database: &str) -> Result<Request, Error>
 fn exists(alloc: Global, database: &str) -> Result<Request, Error>
     ensures { IsRequestOf hows.FetchOne 0 (Prepared database_exists_text (Words database.now ∷ [])) result }
 {
-    let arguments = one_text(alloc, database)?;
-    prepared(alloc, How::FetchOne, database_exists_text(), &arguments)
+    let arguments = binding::with_text(alloc, binding::none(alloc), database);
+    prepared(alloc, How::FetchOne, database_exists_text(), arguments)
 }
 
 fn version(alloc: Global) -> Result<Request, Error>

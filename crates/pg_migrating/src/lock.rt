@@ -22,7 +22,7 @@ use crate::reading::told;
 use crate::requests;
 use pg_call::{Request, Turn};
 use pg_guards::PgExecutor;
-use pg_migrate::{MigrateError, generate_lock_id};
+use pg_migrate::{MigrateError, generate_lock_id, lock_text, unlock_text};
 use pg_rows::PgRow;
 use pg_wire::{Error, Poll, Text};
 use std::alloc::Global;
@@ -49,8 +49,8 @@ fn request(alloc: Global, way: LockWay, id: i64) -> Result<Request, Error>
     ensures { IsRequestOf hows.Execute 0 (lock_statement way id) result }
 {
     match way {
-        LockWay::Lock => requests::lock(alloc, id),
-        LockWay::Unlock => requests::unlock(alloc, id),
+        LockWay::Lock => requests::keyed(alloc, lock_text(), id),
+        LockWay::Unlock => requests::keyed(alloc, unlock_text(), id),
     }
 }
 

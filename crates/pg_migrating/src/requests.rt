@@ -1,21 +1,19 @@
 //! The requests of the statements.
 
-ghost use Rattle.std.specs.Prelude.{◌≡◌, ◌∷◌, [], List, IfOk, IfErr, string_bytes};
-ghost use Rattle.pg_wire.specs.declared.error.Error.TheVariants as errors;
-ghost use Rattle.pg_request.specs.Asked.{kept_query};
+ghost use Rattle.std.specs.Prelude.{◌≡◌, ◌∷◌, [], List, string_bytes};
 ghost use Rattle.pg_request.specs.Queries.{plain_text};
 ghost use Rattle.pg_call.specs.declared.kind.How.TheVariants as hows;
 ghost use Rattle.pg_call.specs.Requests.{raw};
 ghost use Rattle.pg_migrate.specs.Orders.{Bound, Int8, Prepared, Script, row_of, time_of, without_row};
-ghost use Rattle.pg_migrate.specs.Texts.{create_schema_text, create_table_text, current_database_text, dirty_version_text, list_text, lock_text, unlock_text};
-ghost use Rattle.pg_migrating.specs.Requests.{AreBound, IsRequestOf, arguments_of};
+ghost use Rattle.pg_migrate.specs.Texts.{create_schema_text, create_table_text, current_database_text, dirty_version_text, list_text};
+ghost use Rattle.pg_migrating.specs.Requests.{Binds, IsRequestOf};
 
 use crate::binding;
 use pg_arguments::PgArguments;
 use pg_call::{How, Request};
 use pg_migrate::{
-    Migration, as_int8, current_database_text, lock_text, put_create_schema, put_create_table,
-    put_delete_row, put_dirty_version, put_insert_row, put_list, put_update_time, unlock_text,
+    Migration, as_int8, current_database_text, put_create_schema, put_create_table, put_delete_row,
+    put_dirty_version, put_insert_row, put_list, put_update_time,
 };
 use pg_request::Query;
 use pg_wire::{Error, Text};
@@ -42,17 +40,20 @@ pub(crate) fn bare(alloc: Global, how: How, sql: &str) -> Result<Request, Error>
     Ok(Request::raw(how, Query::new(alloc, sql)?))
 }
 
-/// A statement with these arguments.
+/// A statement with these arguments, where there are such.
 pub(crate) fn prepared(
     alloc: Global,
     how: How,
     sql: &str,
-    arguments: &PgArguments,
+    arguments: Result<PgArguments, Error>,
 ) -> Result<Request, Error>
-    ensures ok { IfOk result (λ r. (bounds : List Bound) → AreBound bounds arguments.now → r ≡ raw how (kept_query sql.now (arguments_of bounds))) }
-    ensures err { IfErr result (λ e. (bounds : List Bound) → AreBound bounds arguments.now → e ≡ errors.OutOfMemory) }
+    ensures { (bounds : List Bound) → Binds bounds arguments → IsRequestOf how 0 (Prepared sql.now bounds) result }
 {
-    match Query::with(alloc, sql, arguments) {
+    let arguments = match arguments {
+        Ok(arguments) => arguments,
+        Err(e) => return Err(e),
+    };
+    match Query::with(alloc, sql, &arguments) {
         Ok(query) => Ok(Request::raw(how, query)),
         Err(e) => Err(e),
     }
@@ -96,26 +97,12 @@ pub(crate) fn current_database(alloc: Global) -> Result<Request, Error>
     bare(alloc, How::FetchOne, current_database_text())
 }
 
-pub(crate) fn lock(alloc: Global, id: i64) -> Result<Request, Error>
-    ensures { IsRequestOf hows.Execute 0 (Prepared lock_text (Int8 id ∷ [])) result }
+/// A statement whose one argument is this number.
+pub(crate) fn keyed(alloc: Global, sql: &str, id: i64) -> Result<Request, Error>
+    ensures { IsRequestOf hows.Execute 0 (Prepared sql.now (Int8 id ∷ [])) result }
 {
-    prepared(
-        alloc,
-        How::Execute,
-        lock_text(),
-        &binding::one_int8(alloc, id)?,
-    )
-}
-
-pub(crate) fn unlock(alloc: Global, id: i64) -> Result<Request, Error>
-    ensures { IsRequestOf hows.Execute 0 (Prepared unlock_text (Int8 id ∷ [])) result }
-{
-    prepared(
-        alloc,
-        How::Execute,
-        unlock_text(),
-        &binding::one_int8(alloc, id)?,
-    )
+    let arguments = binding::with_int8(binding::none(alloc), id);
+    prepared(alloc, How::Execute, sql, arguments)
 }
 
 pub(crate) fn insert_row(
@@ -127,12 +114,8 @@ pub(crate) fn insert_row(
 {
     let mut sql = String::new(alloc);
     put_insert_row(&mut sql, table)?;
-    prepared(
-        alloc,
-        How::Execute,
-        sql.as_str(),
-        &binding::row(alloc, migration)?,
-    )
+    let arguments = binding::row(alloc, migration);
+    prepared(alloc, How::Execute, sql.as_str(), arguments)
 }
 
 pub(crate) fn delete_row(
@@ -144,8 +127,7 @@ pub(crate) fn delete_row(
 {
     let mut sql = String::new(alloc);
     put_delete_row(&mut sql, table)?;
-    let arguments = binding::one_int8(alloc, binding::version_of(migration))?;
-    prepared(alloc, How::Execute, sql.as_str(), &arguments)
+    keyed(alloc, sql.as_str(), binding::version_of(migration))
 }
 
 pub(crate) fn update_time(
@@ -158,7 +140,7 @@ pub(crate) fn update_time(
 {
     let mut sql = String::new(alloc);
     put_update_time(&mut sql, table)?;
-    let version = binding::version_of(migration);
-    let arguments = binding::two_int8(alloc, as_int8(nanos), version)?;
-    prepared(alloc, How::Execute, sql.as_str(), &arguments)
+    let time = binding::with_int8(binding::none(alloc), as_int8(nanos));
+    let arguments = binding::with_int8(time, binding::version_of(migration));
+    prepared(alloc, How::Execute, sql.as_str(), arguments)
 }

@@ -40,10 +40,13 @@ impl<S, C: PgExecutor> Model for Session<S, C> {
 impl<S: Drop, C: PgExecutor + Drop> Drop for Session<S, C> {
     fn drop(self) {
         let Session {
-            errand: _,
-            start: _,
-            conn: _,
+            errand,
+            start,
+            conn,
         } = self;
+        drop(errand);
+        drop(start);
+        drop(conn);
     }
 }
 
