@@ -80,8 +80,8 @@ impl Told for MigrateError {
     }
 }
 
-// The word of a call.
-fn push_word(out: &mut String, word: &str) -> Result<(), Error> {
+/// The word of a call.
+pub(crate) fn push_word(out: &mut String, word: &str) -> Result<(), Error> {
     out.push_str("  ")?;
     out.push_str(word)?;
     Ok(out.push_str(": ")?)

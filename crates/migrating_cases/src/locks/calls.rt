@@ -6,6 +6,7 @@ ghost use Rattle.pg_locking.specs.Held.{OnHeld};
 ghost use Rattle.pg_locking.specs.Locking.{IsLocking};
 
 use crate::locks::telling::push_progress;
+use crate::telling::push_word;
 use case_tools::{flush, ping, word};
 use either::Either;
 use pg_guards::PgExecutor;
@@ -95,42 +96,75 @@ fn push_short<T: Drop>(answer: Answer<T>, told: &mut String) -> Result<(), Error
 }
 
 // What is done with a guard that was taken.
+#[derive(Clone, Copy)]
+enum Spending {
+    Drop,
+    Leak,
+    Parts,
+    Release,
+    Unpolled,
+    Within,
+}
+
+fn spending(word: &str) -> Spending {
+    match word {
+        "leak" => Spending::Leak,
+        "parts" => Spending::Parts,
+        "release" => Spending::Release,
+        "unpolled" => Spending::Unpolled,
+        "within" => Spending::Within,
+        _ => Spending::Drop,
+    }
+}
+
+// Takes another lock on the connection of the guard, and lets both go.
+fn take_within<C: PgExecutor + Drop>(
+    guard: PgAdvisoryLockGuard<C>,
+    polls: u64,
+    told: &mut String,
+) -> Result<(), Error> {
+    let lock = PgAdvisoryLock::with_key(PgAdvisoryLockKey::BigInt(6));
+    push_short(
+        take(PgAdvisoryLockGuard::acquire(&lock, guard), polls),
+        told,
+    )
+}
+
+fn let_go<C: PgExecutor + Drop>(
+    guard: PgAdvisoryLockGuard<C>,
+    spending: Spending,
+    polls: u64,
+    told: &mut String,
+) -> Result<(), Error> {
+    match spending {
+        Spending::Drop => drop(guard),
+        Spending::Leak => drop(guard.leak()),
+        Spending::Parts => {
+            let (mut conn, lock) = guard.into_parts();
+            lock.drop_on(&mut conn);
+            drop(conn);
+        }
+        Spending::Unpolled => drop(guard.release_now()),
+        Spending::Release => return push_short(release(guard.release_now(), polls), told),
+        Spending::Within => return take_within(guard, polls, told),
+    }
+    Ok(())
+}
+
+fn push_taken<C: PgExecutor>(guard: &C, told: &mut String) -> Result<(), Error> {
+    told.push_str("taken")?;
+    push_progress(guard, told)?;
+    Ok(told.push_str(", ")?)
+}
+
 fn spend<C: PgExecutor + Drop>(
     guard: PgAdvisoryLockGuard<C>,
     word: &str,
     polls: u64,
     told: &mut String,
 ) -> Result<(), Error> {
-    told.push_str("taken")?;
-    push_progress(&guard, told)?;
-    told.push_str(", ")?;
-    match word {
-        "leak" => {
-            let _ = guard.leak();
-            Ok(())
-        }
-        "parts" => {
-            let (mut conn, lock) = guard.into_parts();
-            lock.drop_on(&mut conn);
-            Ok(())
-        }
-        "release" => push_short(release(guard.release_now(), polls), told),
-        "unpolled" => {
-            let _ = guard.release_now();
-            Ok(())
-        }
-        "within" => {
-            let lock = PgAdvisoryLock::with_key(PgAdvisoryLockKey::BigInt(6));
-            push_short(
-                take(PgAdvisoryLockGuard::acquire(&lock, guard), polls),
-                told,
-            )
-        }
-        _ => {
-            drop(guard);
-            Ok(())
-        }
-    }
+    let pushed = push_taken(&guard, told);
+    pushed.and(let_go(guard, spending(word), polls, told))
 }
 
 // A state that is dropped before its first poll.
@@ -177,6 +211,26 @@ fn force_and_tell<C: PgExecutor>(
     }
 }
 
+fn made<C: PgExecutor>(
+    conn: &mut C,
+    word: &str,
+    lock: &PgAdvisoryLock,
+    polls: u64,
+    told: &mut String,
+) -> Result<(), Error> {
+    match word {
+        "unasked" => {
+            ask_not(conn, lock);
+            Ok(())
+        }
+        "try" => try_and_drop(conn, lock, polls, told),
+        "force" => force_and_tell(conn, lock, polls, told),
+        "ping" => push_short(ping(conn.conn_mut(), 1), told),
+        "flush" => push_short(flush(conn.conn_mut(), 1), told),
+        _ => take_and(conn, lock, word, polls, told),
+    }
+}
+
 /// Makes a call, and tells what it answered.
 pub(crate) fn call<C: PgExecutor>(
     conn: &mut C,
@@ -186,18 +240,8 @@ pub(crate) fn call<C: PgExecutor>(
     told: &mut String,
 ) -> Result<(), Error> {
     let lock = PgAdvisoryLock::with_key(key);
-    told.push_str("  ")?;
-    told.push_str(word)?;
-    told.push_str(": ")?;
-    match word {
-        "unasked" => ask_not(conn, &lock),
-        "try" => try_and_drop(conn, &lock, polls, told)?,
-        "force" => force_and_tell(conn, &lock, polls, told)?,
-        "ping" => push_short(ping(conn.conn_mut(), 1), told)?,
-        "flush" => push_short(flush(conn.conn_mut(), 1), told)?,
-        _ => take_and(conn, &lock, word, polls, told)?,
-    }
+    push_word(told, word)?;
+    made(conn, word, &lock, polls, told)?;
     push_progress(conn, told)?;
-    told.push_str("\n")?;
-    Ok(())
+    Ok(told.push_str("\n")?)
 }

@@ -39,7 +39,9 @@ fn count<C: PgExecutor>(conn: &mut C) -> Result<i64, Error> {
     let alloc = conn.conn_ref().allocator();
     let query = Query::new(alloc, HELD)?;
     let row = row(conn.conn_mut(), query)?;
-    row.try_get(alloc, 0)
+    let count = row.try_get(alloc, 0);
+    drop(row);
+    count
 }
 
 fn ready<T: Drop>(answer: Poll<Result<T, Error>>) -> Result<T, Error> {
@@ -101,6 +103,27 @@ fn alone<C: PgExecutor>(
     Ok(())
 }
 
+// What a connection comes to while somebody holds the lock: whether it is free, whether its own session holds it, and whether it is taken within so many
+// polls.
+fn without_it<C: PgExecutor>(conn: &mut C, polls: u64) -> Result<(bool, bool, bool), Error> {
+    let free = try_and_drop(conn)?;
+    let held = was_held(conn)?;
+    let taken = take_and_drop(conn, polls)?;
+    Ok((free, held, taken))
+}
+
+// The same while the other connection is the one that holds it.
+fn held_meanwhile<C: PgExecutor>(
+    conn: &mut C,
+    other: &mut C,
+    polls: u64,
+) -> Result<(bool, bool, bool), Error> {
+    let guard = hold(other)?;
+    let seen = without_it(conn, polls);
+    drop(guard);
+    seen
+}
+
 // One that the other connection holds meanwhile.
 fn contend<C: PgExecutor>(
     conn: &mut C,
@@ -108,11 +131,7 @@ fn contend<C: PgExecutor>(
     polls: u64,
     told: &mut String,
 ) -> Result<(), Error> {
-    let guard = hold(other)?;
-    let free = try_and_drop(conn)?;
-    let held = was_held(conn)?;
-    let taken = take_and_drop(conn, polls)?;
-    drop(guard);
+    let (free, held, taken) = held_meanwhile(conn, other, polls)?;
     ping(other)?;
     ping(conn)?;
     let left = count(other)?;
