@@ -20,6 +20,42 @@ const TABLE: &str = "m";
 // How often a flush is polled.
 const FLUSH_POLLS: u64 = 100;
 
+// A call whose answer tells nothing.
+#[derive(Clone, Copy)]
+enum Statement {
+    Schema,
+    Table,
+    Skip,
+    Lock,
+    Unlock,
+}
+
+#[derive(Clone, Copy)]
+enum Call {
+    Statement(Statement),
+    Dirty,
+    List,
+    Apply,
+    Revert,
+    Flush,
+}
+
+// The call of this word.
+fn call_of(word: &str) -> Call {
+    match word {
+        "schema" => Call::Statement(Statement::Schema),
+        "table" => Call::Statement(Statement::Table),
+        "skip" => Call::Statement(Statement::Skip),
+        "lock" => Call::Statement(Statement::Lock),
+        "unlock" => Call::Statement(Statement::Unlock),
+        "dirty" => Call::Dirty,
+        "list" => Call::List,
+        "apply" => Call::Apply,
+        "revert" => Call::Revert,
+        _ => Call::Flush,
+    }
+}
+
 // Polls a migration, so often at most.
 fn run<C: PgExecutor + Drop, K: Clock>(mut state: RunMigration<'_, C, K>, polls: u64) -> Answer<u64>
     requires over { is_asked state.asking.question (C.conn state.asking.conn).call ≡ true }
@@ -55,34 +91,18 @@ fn lock_once<C: PgExecutor + Drop>(mut state: MigrationLock<C>) -> Answer<()>
 }
 
 // Makes a call whose answer tells nothing.
-fn statement<C: PgExecutor>(
+fn make<C: PgExecutor>(
     alloc: Global,
     conn: &mut C,
-    word: &str,
+    statement: Statement,
     migration: &Migration,
 ) -> Answer<()> {
-    match word {
-        "schema" => once(Migrate::create_schema_if_not_exists(alloc, conn, TABLE)),
-        "table" => once(Migrate::ensure_migrations_table(alloc, conn, TABLE)),
-        "skip" => once(Migrate::skip(alloc, conn, TABLE, migration)),
-        "lock" => lock_once(Migrate::lock(alloc, conn)),
-        _ => lock_once(Migrate::unlock(alloc, conn)),
-    }
-}
-
-// Runs a migration, or takes it back.
-fn run_by<C: PgExecutor, K: Clock>(
-    alloc: Global,
-    conn: &mut C,
-    word: &str,
-    migration: &Migration,
-    clock: &mut K,
-    polls: u64,
-) -> Answer<u64> {
-    if word == "apply" {
-        run(Migrate::apply(alloc, conn, TABLE, migration, clock), polls)
-    } else {
-        run(Migrate::revert(alloc, conn, TABLE, migration, clock), polls)
+    match statement {
+        Statement::Schema => once(Migrate::create_schema_if_not_exists(alloc, conn, TABLE)),
+        Statement::Table => once(Migrate::ensure_migrations_table(alloc, conn, TABLE)),
+        Statement::Skip => once(Migrate::skip(alloc, conn, TABLE, migration)),
+        Statement::Lock => lock_once(Migrate::lock(alloc, conn)),
+        Statement::Unlock => lock_once(Migrate::unlock(alloc, conn)),
     }
 }
 
@@ -108,19 +128,23 @@ pub(crate) fn call<C: PgExecutor, K: Clock>(
     polls: u64,
     told: &mut String,
 ) -> Result<(), Error> {
-    match word {
-        "schema" | "table" | "skip" | "lock" | "unlock" => {
-            push_call(told, word, statement(alloc, conn, word, migration))
+    match call_of(word) {
+        Call::Statement(statement) => {
+            push_call(told, word, make(alloc, conn, statement, migration))
         }
-        "dirty" => push_call(told, word, once(Migrate::dirty_version(alloc, conn, TABLE))),
-        "list" => {
+        Call::Dirty => push_call(told, word, once(Migrate::dirty_version(alloc, conn, TABLE))),
+        Call::List => {
             let state = Migrate::list_applied_migrations(alloc, conn, TABLE);
             push_call(told, word, once(state))
         }
-        "apply" | "revert" => {
-            let answer = run_by(alloc, conn, word, migration, clock, polls);
-            push_call(told, word, answer)
+        Call::Apply => {
+            let state = Migrate::apply(alloc, conn, TABLE, migration, clock);
+            push_call(told, word, run(state, polls))
         }
-        _ => push_flush(conn, told),
+        Call::Revert => {
+            let state = Migrate::revert(alloc, conn, TABLE, migration, clock);
+            push_call(told, word, run(state, polls))
+        }
+        Call::Flush => push_flush(conn, told),
     }
 }
