@@ -1,9 +1,8 @@
 //! Each call by its own state: it is polled so often at most, and dropped.
 
-ghost use Rattle.pg_call.specs.declared.kind.Kind.TheVariants as kinds;
-ghost use Rattle.pg_conn.specs.Connections.{begun_by};
+ghost use Rattle.std.specs.Prelude.{◌≡◌, false};
+ghost use Rattle.pg_conn.specs.Connections.{is_over};
 ghost use Rattle.pg_conn.specs.Feeding.{IsFed};
-ghost use Rattle.pg_conn.specs.States.{IsCalling};
 ghost use Rattle.pg_copying.specs.Aborts.{IsAborting};
 ghost use Rattle.pg_copying.specs.Copies.{HandsOpen, IsFinishing, IsOpening};
 
@@ -93,7 +92,7 @@ pub(crate) fn read<C: PgExecutor, S: Source>(
 
 /// Polls a copy to the client, and counts its pieces.
 pub(crate) fn copy_out<C: PgExecutor + Drop>(mut state: CopyOut<C>, polls: u64) -> Answer<u64>
-    requires { IsCalling kinds.CopyOut (begun_by state.request (C.conn state.conn)) }
+    requires { is_over state.request (C.conn state.conn).call ≡ false }
 {
     let mut pieces: u64 = 0;
     for _ in 0..polls {

@@ -10,7 +10,7 @@ use Rattle.pg_call.specs.declared.answer.CallAnswer.TheVariants as answers
 use Rattle.pg_call.specs.declared.answer.Turn.{Turn}
 use Rattle.pg_call.specs.declared.answer.Turn.TheVariants as turns
 use Rattle.pg_conn.specs.Connections.{ConnOf, begun_by, is_over, left, rolled_back, seen_by}
-use Rattle.pg_conn.specs.States.{IsCallingPlainly, turn_of}
+use Rattle.pg_conn.specs.States.{IsCallingPlainly, KeepsCallingPlainly, turn_of}
 use Rattle.pg_conn.specs.Turns.{PollsCall}
 
 -- ---- a begin
@@ -29,6 +29,10 @@ is_done conn refused request (Some c) = refused || is_over request (conn c).call
 abbrev pub IsBeginning : {C A : Type 0} → (C → ConnOf A) → Option Request → Option C → Type 0
 IsBeginning conn request None = Unit {0}
 IsBeginning conn request (Some c) = IsCallingPlainly (begun_by request (conn c))
+
+-- until it is over its call is so, of whatever is held
+abbrev pub KeepsBeginning : {C A : Type 0} → (C → ConnOf A) → Option Request → Option C → Type 0
+KeepsBeginning {C} conn request held = (c : C) → held ≡ Some c → KeepsCallingPlainly request (conn c)
 
 -- and still is while it waits
 abbrev pub StaysBeginning : {C A X : Type 0} → (C → ConnOf A) → Option Request → Option C → Poll X → Type 0

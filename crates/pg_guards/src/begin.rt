@@ -1,7 +1,8 @@
 ghost use Rattle.std.specs.Prelude.{◌≡◌, true, false, None, Some, IsSome, option_map, Err};
 ghost use Rattle.futures.specs.declared.task.Poll.TheVariants.{Ready};
 ghost use Rattle.pg_conn.specs.Connections.{left_by};
-ghost use Rattle.pg_guards.specs.Holders.{IsBeginning, PollsBegin, StaysBeginning, is_done, is_misplaced};
+ghost use Rattle.pg_conn.specs.States.{is_ready};
+ghost use Rattle.pg_guards.specs.Holders.{IsBeginning, KeepsBeginning, PollsBegin, StaysBeginning, is_done, is_misplaced};
 
 use crate::holding::{leave, poll_held};
 use crate::{PgExecutor, Transaction};
@@ -12,9 +13,10 @@ use pg_wire::{Error, Poll};
 /// before its first poll. Where the begin is refused, or the state dropped, no transaction stays open: a ROLLBACK is queued behind a begin that
 /// was sent. (PostgreSQL manual, "SQL Commands", BEGIN, SAVEPOINT.)
 pub struct BeginTransaction<C: PgExecutor> {
-    conn: Option<C>,
-    request: Option<Request>,
-    is_refused: bool,
+    pub(crate) conn: Option<C>,
+    pub(crate) request: Option<Request>,
+    pub(crate) is_refused: bool,
+    ghost calling: { KeepsBeginning C.conn request conn },
 }
 
 // Whether a savepoint would be opened by a text.
@@ -28,17 +30,6 @@ fn is_misplaced(request: &Option<Request>, depth: u64) -> bool
 }
 
 impl<C: PgExecutor> BeginTransaction<C> {
-    /// The state that asks this on what is held.
-    pub(crate) fn new(conn: C, request: Request) -> Self
-        ensures { result ≡ record { conn = Some conn; request = Some request; is_refused = false } }
-    {
-        BeginTransaction {
-            conn: Some(conn),
-            request: Some(request),
-            is_refused: false,
-        }
-    }
-
     /// Whether a poll has ended the call.
     pub fn is_finished(&self) -> bool
         ensures { result ≡ is_done C.conn self.now.is_refused self.now.request self.now.conn }
@@ -78,11 +69,11 @@ impl<C: PgExecutor> BeginTransaction<C> {
     // One poll of a begin that is not refused for its text.
     fn poll_begin(&mut self) -> Poll<Result<Transaction<C>, Error>>
         requires over { is_done C.conn self.old.is_refused self.old.request self.old.conn ≡ false }
-        requires calling { IsBeginning C.conn self.old.request self.old.conn }
         ensures asked { self.new.request ≡ None }
         ensures refused { self.new.is_refused ≡ self.old.is_refused }
         ensures polls { (c : C) → self.old.conn ≡ Some c → PollsBegin C.conn C.with_conn C.L.seen (λ guard. guard.conn) self.old.request c self.new.conn result }
-        ensures calling { StaysBeginning C.conn self.new.request self.new.conn result }
+        ensures over { is_done C.conn self.new.is_refused self.new.request self.new.conn ≡ is_ready result }
+        ensures calling { IsBeginning C.conn self.old.request self.old.conn → StaysBeginning C.conn self.new.request self.new.conn result }
     {
         let Some(conn) = &mut self.conn else {
             unreachable!()
@@ -94,19 +85,29 @@ impl<C: PgExecutor> BeginTransaction<C> {
         }
     }
 
+    // Refuses its text.
+    fn refuse(&mut self) -> Poll<Result<Transaction<C>, Error>>
+        ensures conn { self.new.conn ≡ self.old.conn }
+        ensures request { self.new.request ≡ self.old.request }
+        ensures refused { self.new.is_refused ≡ true }
+        ensures answer { result ≡ Ready (Err Error.InvalidSavePointStatement) }
+    {
+        self.is_refused = true;
+        Poll::Ready(Err(Error::InvalidSavePointStatement))
+    }
+
     /// Moves the call on, and hands the guard on at its end. A begin by a text where a transaction is open is refused by its first poll with
     /// `Error::InvalidSavePointStatement`, and nothing else is done: a savepoint has no text of its own.
     pub fn poll(&mut self) -> Poll<Result<Transaction<C>, Error>>
         requires over { is_done C.conn self.old.is_refused self.old.request self.old.conn ≡ false }
-        requires calling { IsBeginning C.conn self.old.request self.old.conn }
-        ensures refuses { (c : C) → self.old.conn ≡ Some c → is_misplaced self.old.request (C.conn c).rule.depth ≡ true → (self.new ≡ record self.old { is_refused = true }) × (result ≡ Ready (Err Error.InvalidSavePointStatement)) }
+        ensures refuses { (c : C) → self.old.conn ≡ Some c → is_misplaced self.old.request (C.conn c).rule.depth ≡ true → (self.new.conn ≡ Some c) × (self.new.request ≡ self.old.request) × (self.new.is_refused ≡ true) × (result ≡ Ready (Err Error.InvalidSavePointStatement)) }
         ensures asked { (c : C) → self.old.conn ≡ Some c → is_misplaced self.old.request (C.conn c).rule.depth ≡ false → (self.new.request ≡ None) × (self.new.is_refused ≡ self.old.is_refused) }
         ensures polls { (c : C) → self.old.conn ≡ Some c → is_misplaced self.old.request (C.conn c).rule.depth ≡ false → PollsBegin C.conn C.with_conn C.L.seen (λ guard. guard.conn) self.old.request c self.new.conn result }
-        ensures calling { StaysBeginning C.conn self.new.request self.new.conn result }
+        ensures over { is_done C.conn self.new.is_refused self.new.request self.new.conn ≡ is_ready result }
+        ensures calling { IsBeginning C.conn self.old.request self.old.conn → StaysBeginning C.conn self.new.request self.new.conn result }
     {
         if self.is_misplaced() {
-            self.is_refused = true;
-            return Poll::Ready(Err(Error::InvalidSavePointStatement));
+            return self.refuse();
         }
         self.poll_begin()
     }

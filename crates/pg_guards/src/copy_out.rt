@@ -4,7 +4,7 @@ ghost use Rattle.pg_call.specs.declared.kind.Kind.TheVariants as kinds;
 ghost use Rattle.pg_call.specs.declared.request.Request.TheVariants as requests;
 ghost use Rattle.pg_call.specs.Answers.{piece_turn};
 ghost use Rattle.pg_conn.specs.Connections.{begun_by, is_over, left_by, seen_by};
-ghost use Rattle.pg_conn.specs.States.{IsCalling, PollFits, turn_of};
+ghost use Rattle.pg_conn.specs.States.{IsCalling, KeepsCalling, PollFits, ends_call, turn_of};
 ghost use Rattle.pg_conn.specs.Turns.{PollsCall};
 
 use crate::PgExecutor;
@@ -18,6 +18,7 @@ use pg_wire::{Blob, Error, Poll, Text};
 pub struct CopyOut<C: PgExecutor> {
     conn: C,
     request: Option<Request>,
+    ghost calling: { KeepsCalling kinds.CopyOut request (C.conn conn) },
 }
 
 /// Copies to the client by this text, such as `COPY t TO STDOUT`. A text that copies nothing to the client, or goes on behind its copy, ends the call with
@@ -44,11 +45,11 @@ impl<C: PgExecutor> CopyOut<C> {
     /// Moves the call on to its next piece: the bytes of one message, any number of them. None ends it.
     pub fn poll_next(&mut self) -> Poll<Option<Result<Blob, Error>>>
         requires over { is_over self.old.request (C.conn self.old.conn).call ≡ false }
-        requires calling { IsCalling kinds.CopyOut (begun_by self.old.request (C.conn self.old.conn)) }
         ensures holder { self.new.conn ≡ C.with_conn self.old.conn (C.conn self.new.conn) }
         ensures asked { self.new.request ≡ None }
         ensures polls { PollsCall (seen_by C.L.seen (begun_by self.old.request (C.conn self.old.conn))) (seen_by C.L.seen (C.conn self.new.conn)) (turn_of piece_turn result) }
-        ensures calling { PollFits kinds.CopyOut (C.conn self.new.conn) (turn_of piece_turn result) }
+        ensures over { is_over self.new.request (C.conn self.new.conn).call ≡ ends_call (turn_of piece_turn result) }
+        ensures calling { IsCalling kinds.CopyOut (begun_by self.old.request (C.conn self.old.conn)) → PollFits kinds.CopyOut (C.conn self.new.conn) (turn_of piece_turn result) }
     {
         match poll_turn(&mut self.conn, &mut self.request) {
             Poll::Pending => Poll::Pending,

@@ -1,7 +1,7 @@
 ghost use Rattle.std.specs.Prelude.{◌≡◌, true, false, None, Some};
 ghost use Rattle.pg_call.specs.Answers.{unit_turn};
 ghost use Rattle.pg_conn.specs.Connections.{begun_by, is_over, seen_by};
-ghost use Rattle.pg_conn.specs.States.{IsCallingPlainly, PollFitsPlainly, turn_of};
+ghost use Rattle.pg_conn.specs.States.{IsCallingPlainly, KeepsCallingPlainly, PollFitsPlainly, ends_call, turn_of};
 ghost use Rattle.pg_conn.specs.Turns.{PollsCall};
 ghost use Rattle.pg_guards.specs.Holders.{left_due, stays_due};
 
@@ -17,9 +17,10 @@ use pg_wire::{Error, Poll};
 /// A commit of a savepoint that was sent, and is dropped before its answer, is followed by a rollback to that savepoint. If it was released by then, the
 /// server refuses that, and the transaction around it is aborted. (PostgreSQL manual, "SQL Commands", ROLLBACK TO SAVEPOINT.)
 pub struct EndTransaction<C: PgExecutor> {
-    conn: C,
-    request: Option<Request>,
-    is_due: bool,
+    pub(crate) conn: C,
+    pub(crate) request: Option<Request>,
+    pub(crate) is_due: bool,
+    ghost calling: { KeepsCallingPlainly request (C.conn conn) },
 }
 
 // Whether a rollback stays due behind this answer.
@@ -33,17 +34,6 @@ fn stays_due(is_due: bool, answer: &Poll<Result<(), Error>>) -> bool
 }
 
 impl<C: PgExecutor> EndTransaction<C> {
-    /// The state that asks this in the transaction of what is held.
-    pub(crate) fn new(conn: C, request: Request) -> Self
-        ensures { result ≡ record { conn = conn; request = Some request; is_due = true } }
-    {
-        EndTransaction {
-            conn,
-            request: Some(request),
-            is_due: true,
-        }
-    }
-
     /// Whether a poll has ended the call.
     pub fn is_finished(&self) -> bool
         ensures { result ≡ is_over self.now.request (C.conn self.now.conn).call }
@@ -54,12 +44,12 @@ impl<C: PgExecutor> EndTransaction<C> {
     /// Moves the call on.
     pub fn poll(&mut self) -> Poll<Result<(), Error>>
         requires over { is_over self.old.request (C.conn self.old.conn).call ≡ false }
-        requires calling { IsCallingPlainly (begun_by self.old.request (C.conn self.old.conn)) }
         ensures holder { self.new.conn ≡ C.with_conn self.old.conn (C.conn self.new.conn) }
         ensures asked { self.new.request ≡ None }
         ensures due { self.new.is_due ≡ stays_due self.old.is_due result }
         ensures polls { PollsCall (seen_by C.L.seen (begun_by self.old.request (C.conn self.old.conn))) (seen_by C.L.seen (C.conn self.new.conn)) (turn_of unit_turn result) }
-        ensures calling { PollFitsPlainly (C.conn self.new.conn) (turn_of unit_turn result) }
+        ensures over { is_over self.new.request (C.conn self.new.conn).call ≡ ends_call (turn_of unit_turn result) }
+        ensures calling { IsCallingPlainly (begun_by self.old.request (C.conn self.old.conn)) → PollFitsPlainly (C.conn self.new.conn) (turn_of unit_turn result) }
     {
         let answer = poll_held(&mut self.conn, &mut self.request);
         self.is_due = stays_due(self.is_due, &answer);

@@ -2,7 +2,7 @@
 ghost use Rattle.std.specs.Prelude.{◌≡◌, false, None};
 ghost use Rattle.pg_call.specs.Answers.{unit_turn};
 ghost use Rattle.pg_conn.specs.Connections.{begun_by, is_over, left_by, rolled_back, seen_by, started_next};
-ghost use Rattle.pg_conn.specs.States.{IsCalling, IsCallingPlainly, PollFits, PollFitsPlainly, turn_of};
+ghost use Rattle.pg_conn.specs.States.{IsCalling, IsCallingPlainly, KeepsCallingPlainly, PollFits, PollFitsPlainly, ends_call, turn_of};
 ghost use Rattle.pg_conn.specs.Turns.{PollsCall, PollsMore};
 ghost use Rattle.pg_call.specs.declared.kind.Kind as declared_kind;
 
@@ -18,10 +18,12 @@ fn poll_unit<L: Link>(
     request: &mut Option<Request>,
 ) -> Poll<Result<(), Error>>
     requires over { is_over request.old conn.old.call ≡ false }
-    requires calling { IsCallingPlainly (begun_by request.old conn.old) }
+    requires calling { KeepsCallingPlainly request.old conn.old }
     ensures asked { request.new ≡ None }
     ensures polls { PollsCall (seen_by L.seen (begun_by request.old conn.old)) (seen_by L.seen conn.new) (turn_of unit_turn result) }
-    ensures calling { PollFitsPlainly conn.new (turn_of unit_turn result) }
+    ensures over { is_over request.new conn.new.call ≡ ends_call (turn_of unit_turn result) }
+    ensures keeps { KeepsCallingPlainly request.new conn.new }
+    ensures calling { IsCallingPlainly (begun_by request.old conn.old) → PollFitsPlainly conn.new (turn_of unit_turn result) }
 {
     match conn.poll_with(request) {
         Poll::Pending => Poll::Pending,
@@ -35,11 +37,13 @@ pub(crate) fn poll_held<C: PgExecutor>(
     request: &mut Option<Request>,
 ) -> Poll<Result<(), Error>>
     requires over { is_over request.old (C.conn holder.old).call ≡ false }
-    requires calling { IsCallingPlainly (begun_by request.old (C.conn holder.old)) }
+    requires calling { KeepsCallingPlainly request.old (C.conn holder.old) }
     ensures holder { holder.new ≡ C.with_conn holder.old (C.conn holder.new) }
     ensures asked { request.new ≡ None }
     ensures polls { PollsCall (seen_by C.L.seen (begun_by request.old (C.conn holder.old))) (seen_by C.L.seen (C.conn holder.new)) (turn_of unit_turn result) }
-    ensures calling { PollFitsPlainly (C.conn holder.new) (turn_of unit_turn result) }
+    ensures over { is_over request.new (C.conn holder.new).call ≡ ends_call (turn_of unit_turn result) }
+    ensures keeps { KeepsCallingPlainly request.new (C.conn holder.new) }
+    ensures calling { IsCallingPlainly (begun_by request.old (C.conn holder.old)) → PollFitsPlainly (C.conn holder.new) (turn_of unit_turn result) }
 {
     poll_unit(holder.conn_mut(), request)
 }

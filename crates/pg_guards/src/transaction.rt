@@ -30,7 +30,11 @@ impl<C: PgExecutor> Transaction<C> {
         ensures calling { IsBeginning C.conn result.request result.conn }
     {
         let request = Request::Begin(conn.conn_ref().transaction_depth());
-        BeginTransaction::new(conn, request)
+        BeginTransaction {
+            conn: Some(conn),
+            request: Some(request),
+            is_refused: false,
+        }
     }
 
     /// Opens a transaction by this text. Where one is open the first poll refuses it, since a savepoint has no text of its own.
@@ -41,7 +45,11 @@ impl<C: PgExecutor> Transaction<C> {
         ensures refused { result.is_refused ≡ false }
         ensures calling { IsBeginning C.conn result.request result.conn }
     {
-        BeginTransaction::new(conn, Request::BeginWith(Query::from_text(sql)))
+        BeginTransaction {
+            conn: Some(conn),
+            request: Some(Request::BeginWith(Query::from_text(sql))),
+            is_refused: false,
+        }
     }
 
     /// The guard of what a begin has opened on what is held.
@@ -60,7 +68,11 @@ impl<C: PgExecutor> Transaction<C> {
     {
         let Transaction { conn } = self;
         let request = commit_request(conn.conn_ref().transaction_depth());
-        EndTransaction::new(conn, request)
+        EndTransaction {
+            conn,
+            request: Some(request),
+            is_due: true,
+        }
     }
 
     /// Rolls the transaction back, or what was done behind its savepoint.
@@ -73,7 +85,11 @@ impl<C: PgExecutor> Transaction<C> {
     {
         let Transaction { conn } = self;
         let request = rollback_request(conn.conn_ref().transaction_depth());
-        EndTransaction::new(conn, request)
+        EndTransaction {
+            conn,
+            request: Some(request),
+            is_due: true,
+        }
     }
 
     /// Rolls back what it opened, as its drop does, and hands back what holds the connection.

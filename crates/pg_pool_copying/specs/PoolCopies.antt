@@ -19,26 +19,28 @@ use Rattle.pg_listen.specs.Pools.{Section, acquired_as, released_as}
 use Rattle.pg_pool_copying.specs.declared.pool_copy.PoolCopy.{PoolCopy}
 use Rattle.pg_pool_copying.specs.declared.pool_copy.PoolCopy.TheVariants as copies
 
--- a copy by this text over what holds a connection, before its first poll
-abbrev pub new_copy_in : {C A : Type 0} → List ℕ → C → BeginCopyIn C A
-new_copy_in sql c = record { conn = Some c; request = Some (requests.CopyIn (unfed_copy sql)) }
+-- it is the copy by this text over what holds a connection, before its first poll
+abbrev pub IsNewCopyIn : {C A : Type 0} → List ℕ → C → BeginCopyIn C A → Type 0
+IsNewCopyIn sql c state = state ≡ record { conn = Some c; request = Some (requests.CopyIn (unfed_copy sql)) }
 
-abbrev pub new_copy_out : {C A : Type 0} → List ℕ → C → CopyOut C A
-new_copy_out sql c = record { conn = c; request = Some (requests.CopyOut (plain_text sql)) }
+abbrev pub IsNewCopyOut : {C A : Type 0} {g : _} → List ℕ → C → CopyOut C A {g} → Type 0
+IsNewCopyOut sql c state = (state.conn ≡ c) × (state.request ≡ Some (requests.CopyOut (plain_text sql)))
 
 -- what is made of what was acquired: a copy begins over the connection, and leave is handed on
-abbrev pub begun_over : {A S : Type 0} → (HeldOf A → S) → Acquired A → PoolCopy S
-begun_over begins (acquired.Idle held) = copies.Started (begins held)
-begun_over begins (acquired.New ticket) = copies.New ticket
+abbrev pub BegunOver : {A S : Type 0} → (HeldOf A → S → Type 0) → Acquired A → PoolCopy S → Type 0
+BegunOver begins (acquired.Idle held) (copies.Started state) = begins held state
+BegunOver begins (acquired.New ticket) (copies.New handed) = handed ≡ ticket
+BegunOver begins _ _ = ⊥
 
 -- and so is a refusal
-abbrev pub copied_over : {A S : Type 0} → (HeldOf A → S) → Result (Acquired A) Error → Result (PoolCopy S) Error
-copied_over begins (Ok got) = Ok (begun_over begins got)
-copied_over begins (Err e) = Err e
+abbrev pub CopiedOver : {A S : Type 0} → (HeldOf A → S → Type 0) → Result (Acquired A) Error → Result (PoolCopy S) Error → Type 0
+CopiedOver begins (Ok got) (Ok copy) = BegunOver begins got copy
+CopiedOver begins (Err e) (Err told) = told ≡ e
+CopiedOver begins _ _ = ⊥
 
 -- The lock is taken once, for an acquire, and the answer is made of what that one was answered. So a refusal has the place of the entry that this acquire added.
-abbrev pub AcquiresFor : {A S : Type 0} → ℕ → SeatSeen → SeatSeen → (HeldOf A → S) → Result (PoolCopy S) Error → Type 0
-AcquiresFor {A} most s t begins result = (answer : Result (Acquired A) Error) × Section most (λ a b. Acquires is_clean s t a b (acquired_as answer)) × (result ≡ copied_over begins answer)
+abbrev pub AcquiresFor : {A S : Type 0} → ℕ → SeatSeen → SeatSeen → (HeldOf A → S → Type 0) → Result (PoolCopy S) Error → Type 0
+AcquiresFor {A} most s t begins result = (answer : Result (Acquired A) Error) × Section most (λ a b. Acquires is_clean s t a b (acquired_as answer)) × CopiedOver begins answer result
 
 -- the connection that it begins over is of the pool of this name, or it is leave of that pool
 abbrev pub IsOfPool : {A S : Type 0} → ℕ → (S → Option (HeldOf A)) → PoolCopy S → Type 0

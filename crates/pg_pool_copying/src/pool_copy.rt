@@ -3,7 +3,7 @@ ghost use Rattle.pg_call.specs.declared.kind.Kind.TheVariants as kinds;
 ghost use Rattle.pg_conn.specs.Connections.{begun_by};
 ghost use Rattle.pg_conn.specs.States.{IsCalling};
 ghost use Rattle.pg_copying.specs.Copies.{IsOpening};
-ghost use Rattle.pg_pool_copying.specs.PoolCopies.{AcquiresFor, IfStarted, IsOfPool, begun_over, new_copy_in, new_copy_out};
+ghost use Rattle.pg_pool_copying.specs.PoolCopies.{AcquiresFor, BegunOver, IfStarted, IsNewCopyIn, IsNewCopyOut, IsOfPool};
 
 use pg_copying::{BeginCopyIn, copy_in_raw};
 use pg_guards::{CopyOut, copy_out_raw};
@@ -45,7 +45,7 @@ pub trait PgPoolCopyExt {
         ensures named { IfOk result (IsOfPool (name self.now) (λ s. s.conn)) }
         ensures calling { IfOk result (IfStarted (λ s. IsOpening (λ p. p.conn) s.request s.conn)) }
         ensures seat { seat.new.name ≡ seat.old.name }
-        ensures acquires { AcquiresFor Self.G.most seat.old seat.new (new_copy_in statement) result };
+        ensures acquires { AcquiresFor Self.G.most seat.old seat.new (IsNewCopyIn statement) result };
 
     /// The same with `copy_out_raw` of `pg_guards`.
     fn copy_out_raw(
@@ -58,7 +58,7 @@ pub trait PgPoolCopyExt {
         ensures named { IfOk result (IsOfPool (name self.now) (λ s. Some s.conn)) }
         ensures calling { IfOk result (IfStarted (λ s. IsCalling kinds.CopyOut (begun_by s.request s.conn.conn))) }
         ensures seat { seat.new.name ≡ seat.old.name }
-        ensures acquires { AcquiresFor Self.G.most seat.old seat.new (new_copy_out statement) result };
+        ensures acquires { AcquiresFor Self.G.most seat.old seat.new (IsNewCopyOut statement) result };
 }
 
 // A copy from the client over a connection that was idle, or leave.
@@ -66,7 +66,7 @@ fn begin_in<L: Link>(
     acquired: Acquired<L>,
     statement: Text,
 ) -> PoolCopy<BeginCopyIn<PoolConnection<L>>>
-    ensures over { result ≡ begun_over (new_copy_in statement) acquired }
+    ensures over { BegunOver (IsNewCopyIn statement) acquired result }
     ensures calling { IfStarted (λ s. IsOpening (λ p. p.conn) s.request s.conn) result }
 {
     match acquired {
@@ -80,7 +80,7 @@ fn begin_out<L: Link>(
     acquired: Acquired<L>,
     statement: Text,
 ) -> PoolCopy<CopyOut<PoolConnection<L>>>
-    ensures over { result ≡ begun_over (new_copy_out statement) acquired }
+    ensures over { BegunOver (IsNewCopyOut statement) acquired result }
     ensures calling { IfStarted (λ s. IsCalling kinds.CopyOut (begun_by s.request s.conn.conn)) result }
 {
     match acquired {

@@ -1,9 +1,7 @@
 //! Copies on a connection of a pool, each to its end or given up before it.
-ghost use Rattle.std.specs.Prelude.{◌≡◌, IfSome};
-ghost use Rattle.pg_call.specs.declared.kind.Kind.TheVariants as kinds;
-ghost use Rattle.pg_conn.specs.Connections.{begun_by};
+ghost use Rattle.std.specs.Prelude.{◌≡◌, false, IfSome};
+ghost use Rattle.pg_conn.specs.Connections.{is_over};
 ghost use Rattle.pg_conn.specs.Feeding.{IsFed};
-ghost use Rattle.pg_conn.specs.States.{IsCalling};
 ghost use Rattle.pg_copying.specs.Copies.{IsOpening};
 
 use crate::opening::POLLS;
@@ -110,7 +108,7 @@ pub(crate) fn copied_in(state: BeginCopyIn<Held>, how: How) -> (Option<Held>, En
 
 // Polls it so often at most.
 fn give(state: CopyOut<Held>, polls: u32) -> (Held, End)
-    requires calling { IsCalling kinds.CopyOut (begun_by state.request state.conn.conn) }
+    requires over { is_over state.request state.conn.conn.call ≡ false }
     requires named { state.conn.name ≡ 7 }
     ensures { result.0.name ≡ 7 }
 {
@@ -135,7 +133,7 @@ fn give(state: CopyOut<Held>, polls: u32) -> (Held, End)
 
 /// A copy to the client.
 pub(crate) fn copied_out(state: CopyOut<Held>, how: How) -> (Held, End)
-    requires calling { IsCalling kinds.CopyOut (begun_by state.request state.conn.conn) }
+    requires over { is_over state.request state.conn.conn.call ≡ false }
     requires named { state.conn.name ≡ 7 }
     ensures { result.0.name ≡ 7 }
 {

@@ -1,5 +1,10 @@
-use Rattle.pg_conn.proofs.StateLaws.{rollback_calls}
+use Rattle.pg_conn.proofs.StateLaws.{rollback_calls, started_plainly}
 use Rattle.pg_guards.proofs.transaction.Transaction.rollback.Goals as goal
 
 pub returns-clause-calling : goal.returns-clause-calling
-returns-clause-calling g c = rw (c.new.ensures, c.rollback_request-request.ensures) (rollback_calls c.transaction_depth.result (g.C.PgExecutor.conn c.args.self.conn))
+returns-clause-calling g c = rw c.rollback_request-request.ensures (rollback_calls c.transaction_depth.result (g.C.PgExecutor.conn c.args.self.conn))
+
+pub invariant_of-result : goal.invariant_of-result
+invariant_of-result g c =
+    let conn = g.C.PgExecutor.conn c.args.self.conn in
+    record { calling = started_plainly c.rollback_request-request.result conn (rw c.rollback_request-request.ensures (rollback_calls c.transaction_depth.result conn)) }
