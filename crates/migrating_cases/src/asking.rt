@@ -119,7 +119,7 @@ pub(crate) fn call<D: Sessions>(
     words: &str,
     polls: u64,
     told: &mut String,
-) -> Result<(), Error>
+)
 where
     D::L: Shown,
 {
@@ -127,8 +127,9 @@ where
     if word == "exists" {
         let state = MigrateDatabase::database_exists(alloc, settings, url, dial);
         let answer = statement(state, polls, told);
-        return push_call(told, word, answer);
+        push_call(told, word, answer);
+    } else {
+        let answer = done(alloc, settings, dial, word, url, polls, told);
+        push_call(told, word, answer);
     }
-    let answer = done(alloc, settings, dial, word, url, polls, told);
-    push_call(told, word, answer)
 }

@@ -5,12 +5,12 @@ ghost use Rattle.pg_call.specs.declared.kind.Kind.TheVariants as kinds;
 ghost use Rattle.pg_migrating.specs.Asking.{CallsFor, CallsQuietly, is_asked};
 ghost use Rattle.pg_migrating.specs.Locks.{CallsLock};
 
-use crate::telling::push_call;
+use crate::telling::{push, push_call};
 use case_tools::flush;
 use pg_guards::PgExecutor;
 use pg_migrate::{Clock, MigrateError, Migration};
 use pg_migrating::{Migrate, MigrateCall, MigrationLock, Reading, RunMigration};
-use pg_wire::{Error, Poll};
+use pg_wire::Poll;
 use std::alloc::Global;
 
 type Answer<T> = Poll<Result<T, MigrateError>>;
@@ -91,9 +91,9 @@ fn lock_once<C: PgExecutor + Drop>(mut state: MigrationLock<C>) -> Answer<()>
 }
 
 // Makes a call whose answer tells nothing.
-fn make<C: PgExecutor>(
+fn make<C: PgExecutor + Drop>(
     alloc: Global,
-    conn: &mut C,
+    conn: C,
     statement: Statement,
     migration: &Migration,
 ) -> Answer<()> {
@@ -107,27 +107,28 @@ fn make<C: PgExecutor>(
 }
 
 // Sends what is unsent, and reads what is owed.
-fn push_flush<C: PgExecutor>(conn: &mut C, told: &mut String) -> Result<(), Error> {
+fn push_flush<C: PgExecutor + Drop>(mut conn: C, told: &mut String) {
     let answer = flush(conn.conn_mut(), FLUSH_POLLS);
+    drop(conn);
     let line = match &answer {
         Poll::Pending => "  flush: waits\n",
         Poll::Ready(Ok(())) => "  flush: ok\n",
         Poll::Ready(Err(_)) => "  flush: failed\n",
     };
+    push(told, line);
     drop(answer);
-    Ok(told.push_str(line)?)
 }
 
-/// Makes a call, and tells what it answered.
-pub(crate) fn call<C: PgExecutor, K: Clock>(
+/// Makes a call on what holds a connection, and tells what it answered.
+pub(crate) fn call<C: PgExecutor + Drop, K: Clock>(
     alloc: Global,
-    conn: &mut C,
+    conn: C,
     word: &str,
     migration: &Migration,
     clock: &mut K,
     polls: u64,
     told: &mut String,
-) -> Result<(), Error> {
+) {
     match call_of(word) {
         Call::Statement(statement) => {
             push_call(told, word, make(alloc, conn, statement, migration))

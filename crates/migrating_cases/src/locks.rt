@@ -9,6 +9,7 @@ mod telling;
 use crate::locks::calls::call;
 use crate::locks::exchange::exchange;
 use crate::locks::live::live;
+use crate::telling::push;
 use case_tools::{behind, connect_to, entry, number, push_sent};
 use pg_conn::PgConnection;
 use pg_guards::PgExecutor;
@@ -17,27 +18,20 @@ use pg_wire::Error;
 use std::alloc::Global;
 
 // Makes the calls of a case, one behind the other.
-fn make_calls<C: PgExecutor>(case: &str, conn: &mut C, told: &mut String) -> Result<(), Error> {
+fn make_calls<C: PgExecutor>(case: &str, conn: &mut C, told: &mut String) {
     let key = case::key(case);
     let polls = number(case, "polls", 1);
     for line in case.lines() {
         if let Some(word) = behind(line, "call") {
-            call(conn, word, key, polls, told)?;
+            call(conn, word, key, polls, told);
         }
     }
-    Ok(())
 }
 
-fn play_calls(
-    case: &str,
-    mut conn: PgConnection<MemoryLink>,
-    told: &mut String,
-) -> Result<(), Error> {
-    let made = make_calls(case, &mut conn, told);
-    let sent = push_sent(told, &conn);
+fn play_calls(case: &str, mut conn: PgConnection<MemoryLink>, told: &mut String) {
+    make_calls(case, &mut conn, told);
+    drop(push_sent(told, &conn));
     drop(conn);
-    made?;
-    sent
 }
 
 // Makes them on this connection.
@@ -48,7 +42,8 @@ fn play_on(
     told: &mut String,
 ) -> Result<(), Error> {
     if entry(case, "exchange").is_none() {
-        return play_calls(case, conn, told);
+        play_calls(case, conn, told);
+        return Ok(());
     }
     match case::connect(alloc, case, "other") {
         Ok(other) => exchange(conn, other, case::key(case), told),
@@ -65,7 +60,8 @@ pub(crate) fn play(alloc: Global, case: &str, told: &mut String) -> Result<(), E
         Ok(conn) => play_on(alloc, case, conn, told),
         Err(error) => {
             drop(error);
-            Ok(told.push_str("  no connection\n")?)
+            push(told, "  no connection\n");
+            Ok(())
         }
     }
 }

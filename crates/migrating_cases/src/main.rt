@@ -35,14 +35,15 @@ mod migrating;
 mod opening;
 mod telling;
 
+use crate::telling::push;
 use case_tools::entry;
 use pg_wire::Error;
 use std::{env, fs, io};
 
 // Plays a case that is about this.
 fn play_about(rt: &HostRuntime, case: &str, about: &str, told: &mut String) -> Result<(), Error> {
-    told.push_str(about)?;
-    told.push_str("\n")?;
+    push(told, about);
+    push(told, "\n");
     if entry(case, "database").is_some() {
         databases::play(rt, case, told)
     } else if entry(case, "lock").is_some() {

@@ -1,4 +1,4 @@
-//! What is written of answers.
+//! What is written of answers. What there is no memory for is missing in what is printed.
 
 use case_tools::{push_byte, word};
 use pg_migrate::{AppliedMigration, MigrateError};
@@ -7,56 +7,66 @@ use std::fmt::Write;
 
 /// What a call answers, or why it failed, as a line is written of it.
 pub(crate) trait Told: Drop {
-    fn push(&self, out: &mut String) -> Result<(), Error>;
+    fn push(&self, out: &mut String);
+}
+
+/// Writes a text.
+pub(crate) fn push(out: &mut String, text: &str) {
+    let _ = out.push_str(text);
 }
 
 impl Told for () {
-    fn push(&self, out: &mut String) -> Result<(), Error> {
-        Ok(out.push_str("ok\n")?)
+    fn push(&self, out: &mut String) {
+        push(out, "ok\n");
     }
 }
 
 impl Told for u64 {
-    fn push(&self, out: &mut String) -> Result<(), Error> {
-        Ok(write!(out, "ok {self}\n")?)
+    fn push(&self, out: &mut String) {
+        let _ = write!(out, "ok {self}\n");
     }
 }
 
 impl Told for bool {
-    fn push(&self, out: &mut String) -> Result<(), Error> {
-        Ok(write!(out, "ok {self}\n")?)
+    fn push(&self, out: &mut String) {
+        let _ = write!(out, "ok {self}\n");
     }
 }
 
 impl Told for Option<i64> {
-    fn push(&self, out: &mut String) -> Result<(), Error> {
+    fn push(&self, out: &mut String) {
         match self {
-            None => Ok(out.push_str("ok none\n")?),
-            Some(version) => Ok(write!(out, "ok {version}\n")?),
+            None => push(out, "ok none\n"),
+            Some(version) => {
+                let _ = write!(out, "ok {version}\n");
+            }
         }
+    }
+}
+
+fn push_applied(one: &AppliedMigration, out: &mut String) {
+    let _ = write!(out, " {}:", one.version);
+    for byte in one.checksum.as_bytes() {
+        drop(push_byte(out, *byte));
     }
 }
 
 impl Told for Vec<AppliedMigration> {
-    fn push(&self, out: &mut String) -> Result<(), Error> {
-        out.push_str("ok")?;
+    fn push(&self, out: &mut String) {
+        push(out, "ok");
         for one in self.as_slice() {
-            write!(out, " {}:", one.version)?;
-            for byte in one.checksum.as_bytes() {
-                push_byte(out, *byte)?;
-            }
+            push_applied(one, out);
         }
-        Ok(out.push_str("\n")?)
+        push(out, "\n");
     }
 }
 
 impl Told for Error {
-    fn push(&self, out: &mut String) -> Result<(), Error> {
-        match self {
-            Error::Database(error) => write!(out, "Database {}\n", error.code())?,
-            error => write!(out, "{error:?}\n")?,
-        }
-        Ok(())
+    fn push(&self, out: &mut String) {
+        let _ = match self {
+            Error::Database(error) => write!(out, "Database {}\n", error.code()),
+            error => write!(out, "{error:?}\n"),
+        };
     }
 }
 
@@ -69,30 +79,26 @@ fn word_of(error: &Error) -> &'static str {
 }
 
 impl Told for MigrateError {
-    fn push(&self, out: &mut String) -> Result<(), Error> {
-        match self {
-            MigrateError::Execute(error) => write!(out, "Execute {}\n", word_of(error))?,
+    fn push(&self, out: &mut String) {
+        let _ = match self {
+            MigrateError::Execute(error) => write!(out, "Execute {}\n", word_of(error)),
             MigrateError::ExecuteMigration(error, version) => {
-                write!(out, "ExecuteMigration {} {version}\n", word_of(error))?;
+                write!(out, "ExecuteMigration {} {version}\n", word_of(error))
             }
-        }
-        Ok(())
+        };
     }
 }
 
 /// The word of a call.
-pub(crate) fn push_word(out: &mut String, word: &str) -> Result<(), Error> {
-    out.push_str("  ")?;
-    out.push_str(word)?;
-    Ok(out.push_str(": ")?)
+pub(crate) fn push_word(out: &mut String, word: &str) {
+    push(out, "  ");
+    push(out, word);
+    push(out, ": ");
 }
 
-fn push_answer<T: Told, E: Told>(
-    out: &mut String,
-    answer: &Poll<Result<T, E>>,
-) -> Result<(), Error> {
+fn push_answer<T: Told, E: Told>(out: &mut String, answer: &Poll<Result<T, E>>) {
     match answer {
-        Poll::Pending => Ok(out.push_str("waits\n")?),
+        Poll::Pending => push(out, "waits\n"),
         Poll::Ready(Ok(value)) => value.push(out),
         Poll::Ready(Err(error)) => error.push(out),
     }
@@ -103,11 +109,8 @@ pub(crate) fn push_call<T: Told, E: Told>(
     out: &mut String,
     word: &str,
     answer: Poll<Result<T, E>>,
-) -> Result<(), Error> {
-    let pushed = match push_word(out, word) {
-        Ok(()) => push_answer(out, &answer),
-        Err(error) => Err(error),
-    };
+) {
+    push_word(out, word);
+    push_answer(out, &answer);
     drop(answer);
-    pushed
 }

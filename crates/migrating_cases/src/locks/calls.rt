@@ -6,7 +6,7 @@ ghost use Rattle.pg_locking.specs.Held.{OnHeld};
 ghost use Rattle.pg_locking.specs.Locking.{IsLocking};
 
 use crate::locks::telling::push_progress;
-use crate::telling::push_word;
+use crate::telling::{push, push_word};
 use case_tools::{flush, ping, word};
 use either::Either;
 use pg_guards::PgExecutor;
@@ -89,10 +89,9 @@ fn short<T>(answer: &Answer<T>) -> &'static str {
 }
 
 // The same of one that hands nothing on.
-fn push_short<T: Drop>(answer: Answer<T>, told: &mut String) -> Result<(), Error> {
-    let short = short(&answer);
+fn push_short<T: Drop>(answer: Answer<T>, told: &mut String) {
+    push(told, short(&answer));
     drop(answer);
-    Ok(told.push_str(short)?)
 }
 
 // What is done with a guard that was taken.
@@ -118,16 +117,12 @@ fn spending(word: &str) -> Spending {
 }
 
 // Takes another lock on the connection of the guard, and lets both go.
-fn take_within<C: PgExecutor + Drop>(
-    guard: PgAdvisoryLockGuard<C>,
-    polls: u64,
-    told: &mut String,
-) -> Result<(), Error> {
+fn take_within<C: PgExecutor + Drop>(guard: PgAdvisoryLockGuard<C>, polls: u64, told: &mut String) {
     let lock = PgAdvisoryLock::with_key(PgAdvisoryLockKey::BigInt(6));
     push_short(
         take(PgAdvisoryLockGuard::acquire(&lock, guard), polls),
         told,
-    )
+    );
 }
 
 fn let_go<C: PgExecutor + Drop>(
@@ -135,7 +130,7 @@ fn let_go<C: PgExecutor + Drop>(
     spending: Spending,
     polls: u64,
     told: &mut String,
-) -> Result<(), Error> {
+) {
     match spending {
         Spending::Drop => drop(guard),
         Spending::Leak => drop(guard.leak()),
@@ -144,17 +139,10 @@ fn let_go<C: PgExecutor + Drop>(
             lock.drop_on(&mut conn);
             drop(conn);
         }
+        Spending::Release => push_short(release(guard.release_now(), polls), told),
         Spending::Unpolled => drop(guard.release_now()),
-        Spending::Release => return push_short(release(guard.release_now(), polls), told),
-        Spending::Within => return take_within(guard, polls, told),
+        Spending::Within => take_within(guard, polls, told),
     }
-    Ok(())
-}
-
-fn push_taken<C: PgExecutor>(guard: &C, told: &mut String) -> Result<(), Error> {
-    told.push_str("taken")?;
-    push_progress(guard, told)?;
-    Ok(told.push_str(", ")?)
 }
 
 fn spend<C: PgExecutor + Drop>(
@@ -162,71 +150,81 @@ fn spend<C: PgExecutor + Drop>(
     word: &str,
     polls: u64,
     told: &mut String,
-) -> Result<(), Error> {
-    let pushed = push_taken(&guard, told);
-    pushed.and(let_go(guard, spending(word), polls, told))
+) {
+    push(told, "taken");
+    push_progress(&guard, told);
+    push(told, ", ");
+    let_go(guard, spending(word), polls, told);
 }
 
 // A state that is dropped before its first poll.
-fn ask_not<C: PgExecutor>(conn: &mut C, lock: &PgAdvisoryLock) {
-    let _ = PgAdvisoryLockGuard::acquire(lock, conn);
+fn ask_not<C: PgExecutor + Drop>(conn: C, lock: &PgAdvisoryLock) {
+    drop(PgAdvisoryLockGuard::acquire(lock, conn));
 }
 
-fn take_and<C: PgExecutor>(
-    conn: &mut C,
+fn take_and<C: PgExecutor + Drop>(
+    conn: C,
     lock: &PgAdvisoryLock,
     word: &str,
     polls: u64,
     told: &mut String,
-) -> Result<(), Error> {
+) {
     match take(PgAdvisoryLockGuard::acquire(lock, conn), polls) {
         Poll::Ready(Ok(guard)) => spend(guard, word, polls, told),
         answer => push_short(answer, told),
     }
 }
 
-fn try_and_drop<C: PgExecutor>(
-    conn: &mut C,
+fn try_and_drop<C: PgExecutor + Drop>(
+    conn: C,
     lock: &PgAdvisoryLock,
     polls: u64,
     told: &mut String,
-) -> Result<(), Error> {
+) {
     match try_take(PgAdvisoryLockGuard::try_acquire(lock, conn), polls) {
         Poll::Ready(Ok(Either::Left(guard))) => spend(guard, "drop", polls, told),
-        Poll::Ready(Ok(Either::Right(_))) => Ok(told.push_str("somebody has it")?),
+        Poll::Ready(Ok(Either::Right(conn))) => {
+            drop(conn);
+            push(told, "somebody has it");
+        }
         answer => push_short(answer, told),
     }
 }
 
-fn force_and_tell<C: PgExecutor>(
-    conn: &mut C,
+fn force_and_tell<C: PgExecutor + Drop>(
+    conn: C,
     lock: &PgAdvisoryLock,
     polls: u64,
     told: &mut String,
-) -> Result<(), Error> {
+) {
     match force(PgAdvisoryLockGuard::force_release(lock, conn), polls) {
-        Poll::Ready(Ok((_, true))) => Ok(told.push_str("was held")?),
-        Poll::Ready(Ok((_, false))) => Ok(told.push_str("was not held")?),
+        Poll::Ready(Ok((conn, held))) => {
+            drop(conn);
+            push(told, if held { "was held" } else { "was not held" });
+        }
         answer => push_short(answer, told),
     }
 }
 
-fn made<C: PgExecutor>(
-    conn: &mut C,
+fn made<C: PgExecutor + Drop>(
+    mut conn: C,
     word: &str,
     lock: &PgAdvisoryLock,
     polls: u64,
     told: &mut String,
-) -> Result<(), Error> {
+) {
     match word {
-        "unasked" => {
-            ask_not(conn, lock);
-            Ok(())
-        }
+        "unasked" => ask_not(conn, lock),
         "try" => try_and_drop(conn, lock, polls, told),
         "force" => force_and_tell(conn, lock, polls, told),
-        "ping" => push_short(ping(conn.conn_mut(), 1), told),
-        "flush" => push_short(flush(conn.conn_mut(), 1), told),
+        "ping" => {
+            push_short(ping(conn.conn_mut(), 1), told);
+            drop(conn);
+        }
+        "flush" => {
+            push_short(flush(conn.conn_mut(), 1), told);
+            drop(conn);
+        }
         _ => take_and(conn, lock, word, polls, told),
     }
 }
@@ -238,10 +236,10 @@ pub(crate) fn call<C: PgExecutor>(
     key: PgAdvisoryLockKey,
     polls: u64,
     told: &mut String,
-) -> Result<(), Error> {
+) {
     let lock = PgAdvisoryLock::with_key(key);
-    push_word(told, word)?;
-    made(conn, word, &lock, polls, told)?;
-    push_progress(conn, told)?;
-    Ok(told.push_str("\n")?)
+    push_word(told, word);
+    made(&mut *conn, word, &lock, polls, told);
+    push_progress(conn, told);
+    push(told, "\n");
 }

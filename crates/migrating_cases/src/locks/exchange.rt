@@ -2,6 +2,7 @@
 
 use crate::locks::calls::take;
 use crate::locks::telling::push_progress;
+use crate::telling::push;
 use case_tools::push_sent;
 use pg_conn::PgConnection;
 use pg_guards::PgExecutor;
@@ -12,15 +13,20 @@ use std::mem;
 
 type Connection = PgConnection<MemoryLink>;
 
-fn push_both(first: &Connection, second: &Connection, told: &mut String) -> Result<(), Error> {
-    told.push_str("  first")?;
-    push_progress(first, told)?;
-    told.push_str("\n")?;
-    push_sent(told, first)?;
-    told.push_str("  other")?;
-    push_progress(second, told)?;
-    told.push_str("\n")?;
-    push_sent(told, second)
+fn push_one(mark: &str, conn: &Connection, told: &mut String) {
+    push(told, mark);
+    push_progress(conn, told);
+    push(told, "\n");
+    drop(push_sent(told, conn));
+}
+
+// Takes the lock by one poll.
+fn polled_once<C: PgExecutor + Drop>(
+    conn: C,
+    key: PgAdvisoryLockKey,
+) -> Poll<Result<PgAdvisoryLockGuard<C>, Error>> {
+    let lock = PgAdvisoryLock::with_key(key);
+    take(PgAdvisoryLockGuard::acquire(&lock, conn), 1)
 }
 
 /// Takes the lock, puts the other connection in its place, and drops the guard there.
@@ -30,15 +36,15 @@ pub(crate) fn exchange(
     key: PgAdvisoryLockKey,
     told: &mut String,
 ) -> Result<(), Error> {
-    let lock = PgAdvisoryLock::with_key(key);
-    match take(PgAdvisoryLockGuard::acquire(&lock, conn), 1) {
+    match polled_once(conn, key) {
         Poll::Ready(Ok(mut guard)) => {
             let first = mem::replace(guard.conn_mut(), other);
             let second = guard.into_conn();
-            let pushed = push_both(&first, &second, told);
+            push_one("  first", &first, told);
+            push_one("  other", &second, told);
             drop(first);
             drop(second);
-            pushed
+            Ok(())
         }
         Poll::Ready(Err(error)) => {
             drop(other);
@@ -46,7 +52,8 @@ pub(crate) fn exchange(
         }
         Poll::Pending => {
             drop(other);
-            Ok(told.push_str("  waits\n")?)
+            push(told, "  waits\n");
+            Ok(())
         }
     }
 }

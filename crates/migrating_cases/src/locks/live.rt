@@ -51,12 +51,12 @@ fn ready<T: Drop>(answer: Poll<Result<T, Error>>) -> Result<T, Error> {
     }
 }
 
-fn hold<C: PgExecutor>(conn: &mut C) -> Result<PgAdvisoryLockGuard<&mut C>, Error> {
+fn hold<C: PgExecutor + Drop>(conn: C) -> Result<PgAdvisoryLockGuard<C>, Error> {
     ready(take(PgAdvisoryLockGuard::acquire(&lock(), conn), POLLS))
 }
 
 // Takes the lock within so many polls, and drops its guard, or what asks for it.
-fn take_and_drop<C: PgExecutor>(conn: &mut C, polls: u64) -> Result<bool, Error> {
+fn take_and_drop<C: PgExecutor + Drop>(conn: C, polls: u64) -> Result<bool, Error> {
     match take(PgAdvisoryLockGuard::acquire(&lock(), conn), polls) {
         Poll::Ready(Ok(guard)) => {
             drop(guard);
@@ -68,21 +68,25 @@ fn take_and_drop<C: PgExecutor>(conn: &mut C, polls: u64) -> Result<bool, Error>
 }
 
 // The same where nobody waits for it.
-fn try_and_drop<C: PgExecutor>(conn: &mut C) -> Result<bool, Error> {
+fn try_and_drop<C: PgExecutor + Drop>(conn: C) -> Result<bool, Error> {
     match try_take(PgAdvisoryLockGuard::try_acquire(&lock(), conn), POLLS) {
         Poll::Ready(Ok(Either::Left(guard))) => {
             drop(guard);
             Ok(true)
         }
-        Poll::Ready(Ok(Either::Right(_))) => Ok(false),
+        Poll::Ready(Ok(Either::Right(conn))) => {
+            drop(conn);
+            Ok(false)
+        }
         Poll::Ready(Err(error)) => Err(error),
         Poll::Pending => Err(Error::StartupPending),
     }
 }
 
 // Whether the session held it.
-fn was_held<C: PgExecutor>(conn: &mut C) -> Result<bool, Error> {
-    let (_, held) = ready(force(PgAdvisoryLockGuard::force_release(&lock(), conn), POLLS))?;
+fn was_held<C: PgExecutor + Drop>(conn: C) -> Result<bool, Error> {
+    let (conn, held) = ready(force(PgAdvisoryLockGuard::force_release(&lock(), conn), POLLS))?;
+    drop(conn);
     Ok(held)
 }
 
@@ -93,21 +97,21 @@ fn alone<C: PgExecutor>(
     polls: u64,
     told: &mut String,
 ) -> Result<(), Error> {
-    let taken = take_and_drop(conn, polls)?;
+    let taken = take_and_drop(&mut *conn, polls)?;
     ping(conn)?;
     let left = count(other)?;
-    write!(
+    let _ = write!(
         told,
         "free, dropped at poll {polls}: taken {taken}, {left} left\n"
-    )?;
+    );
     Ok(())
 }
 
 // What a connection comes to while somebody holds the lock: whether it is free, whether its own session holds it, and whether it is taken within so many
 // polls.
 fn without_it<C: PgExecutor>(conn: &mut C, polls: u64) -> Result<(bool, bool, bool), Error> {
-    let free = try_and_drop(conn)?;
-    let held = was_held(conn)?;
+    let free = try_and_drop(&mut *conn)?;
+    let held = was_held(&mut *conn)?;
     let taken = take_and_drop(conn, polls)?;
     Ok((free, held, taken))
 }
@@ -135,10 +139,10 @@ fn contend<C: PgExecutor>(
     ping(other)?;
     ping(conn)?;
     let left = count(other)?;
-    write!(
+    let _ = write!(
         told,
         "held, dropped at poll {polls}: free {free}, its own {held}, taken {taken}, {left} left\n"
-    )?;
+    );
     Ok(())
 }
 
