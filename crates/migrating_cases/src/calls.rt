@@ -31,7 +31,7 @@ enum Statement {
 }
 
 #[derive(Clone, Copy)]
-enum Call {
+enum Asked {
     Statement(Statement),
     Dirty,
     List,
@@ -41,18 +41,18 @@ enum Call {
 }
 
 // The call of this word.
-fn call_of(word: &str) -> Call {
+fn call_of(word: &str) -> Asked {
     match word {
-        "schema" => Call::Statement(Statement::Schema),
-        "table" => Call::Statement(Statement::Table),
-        "skip" => Call::Statement(Statement::Skip),
-        "lock" => Call::Statement(Statement::Lock),
-        "unlock" => Call::Statement(Statement::Unlock),
-        "dirty" => Call::Dirty,
-        "list" => Call::List,
-        "apply" => Call::Apply,
-        "revert" => Call::Revert,
-        _ => Call::Flush,
+        "schema" => Asked::Statement(Statement::Schema),
+        "table" => Asked::Statement(Statement::Table),
+        "skip" => Asked::Statement(Statement::Skip),
+        "lock" => Asked::Statement(Statement::Lock),
+        "unlock" => Asked::Statement(Statement::Unlock),
+        "dirty" => Asked::Dirty,
+        "list" => Asked::List,
+        "apply" => Asked::Apply,
+        "revert" => Asked::Revert,
+        _ => Asked::Flush,
     }
 }
 
@@ -130,22 +130,22 @@ pub(crate) fn call<C: PgExecutor + Drop, K: Clock>(
     told: &mut String,
 ) {
     match call_of(word) {
-        Call::Statement(statement) => {
+        Asked::Statement(statement) => {
             push_call(told, word, make(alloc, conn, statement, migration))
         }
-        Call::Dirty => push_call(told, word, once(Migrate::dirty_version(alloc, conn, TABLE))),
-        Call::List => {
+        Asked::Dirty => push_call(told, word, once(Migrate::dirty_version(alloc, conn, TABLE))),
+        Asked::List => {
             let state = Migrate::list_applied_migrations(alloc, conn, TABLE);
             push_call(told, word, once(state))
         }
-        Call::Apply => {
+        Asked::Apply => {
             let state = Migrate::apply(alloc, conn, TABLE, migration, clock);
             push_call(told, word, run(state, polls))
         }
-        Call::Revert => {
+        Asked::Revert => {
             let state = Migrate::revert(alloc, conn, TABLE, migration, clock);
             push_call(told, word, run(state, polls))
         }
-        Call::Flush => push_flush(conn, told),
+        Asked::Flush => push_flush(conn, told),
     }
 }

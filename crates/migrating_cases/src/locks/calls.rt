@@ -105,7 +105,7 @@ enum Spending {
     Within,
 }
 
-fn spending(word: &str) -> Spending {
+fn spending_of(word: &str) -> Spending {
     match word {
         "leak" => Spending::Leak,
         "parts" => Spending::Parts,
@@ -154,7 +154,7 @@ fn spend<C: PgExecutor + Drop>(
     push(told, "taken");
     push_progress(&guard, told);
     push(told, ", ");
-    let_go(guard, spending(word), polls, told);
+    let_go(guard, spending_of(word), polls, told);
 }
 
 // A state that is dropped before its first poll.
