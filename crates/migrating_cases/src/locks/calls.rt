@@ -116,13 +116,10 @@ fn spending_of(word: &str) -> Spending {
     }
 }
 
-// Takes another lock on the connection of the guard, and lets both go.
-fn take_within<C: PgExecutor + Drop>(guard: PgAdvisoryLockGuard<C>, polls: u64, told: &mut String) {
+// Takes another lock on what holds the connection, and lets both go.
+fn take_within<C: PgExecutor + Drop>(conn: C, polls: u64, told: &mut String) {
     let lock = PgAdvisoryLock::with_key(PgAdvisoryLockKey::BigInt(6));
-    push_short(
-        take(PgAdvisoryLockGuard::acquire(&lock, guard), polls),
-        told,
-    );
+    push_short(take(PgAdvisoryLockGuard::acquire(&lock, conn), polls), told);
 }
 
 fn let_go<C: PgExecutor + Drop>(
