@@ -1,3 +1,4 @@
 pub mod Aborts
 pub mod Copies
 pub mod Feeds
+pub mod PoolCopies

@@ -1,9 +1,9 @@
 //! What a caller knows of a copy over a pool that is given up: each law as the contract of the shortest user.
 ghost use Rattle.std.specs.Prelude.{◌≡◌, None, Some, IfSome};
 ghost use Rattle.pg_conn.specs.Feeding.{IsFed};
-ghost use Rattle.pg_pool_copying.specs.PoolCopies.{ReleasesIfHeld, ReleasesLeft};
+ghost use Rattle.pg_copying.specs.PoolCopies.{ReleasesIfHeld, ReleasesLeft};
 
-use pg_copying::{BeginCopyIn, PgCopyIn, copy_in_raw};
+use crate::{BeginCopyIn, PgCopyIn, copy_in_raw};
 use pg_guards::{CopyOut, copy_out_raw};
 use pg_listen::{PgPool, PoolConnection, PoolLedger, PoolSeat, Released};
 use pg_stream::Link;

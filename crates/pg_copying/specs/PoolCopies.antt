@@ -16,8 +16,8 @@ use Rattle.pg_listen.specs.declared.handed.Acquired.TheVariants as acquired
 use Rattle.pg_listen.specs.declared.handed.Released.{Released}
 use Rattle.pg_listen.specs.Handed.{HeldOf}
 use Rattle.pg_listen.specs.Pools.{Section, acquired_as, released_as}
-use Rattle.pg_pool_copying.specs.declared.pool_copy.PoolCopy.{PoolCopy}
-use Rattle.pg_pool_copying.specs.declared.pool_copy.PoolCopy.TheVariants as copies
+use Rattle.pg_copying.specs.declared.pool_copy.PoolCopy.{PoolCopy}
+use Rattle.pg_copying.specs.declared.pool_copy.PoolCopy.TheVariants as copies
 
 -- it is the copy by this text over what holds a connection, before its first poll
 abbrev pub IsNewCopyIn : {C A : Type 0} → List ℕ → C → BeginCopyIn C A → Type 0

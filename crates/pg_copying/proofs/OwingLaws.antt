@@ -20,7 +20,7 @@ use Rattle.pg_pool.specs.Seats.{SeatSeen}
 use Rattle.pg_listen.specs.declared.handed.Released.{Released}
 use Rattle.pg_listen.specs.declared.handed.Released.TheVariants as released
 use Rattle.pg_listen.specs.Handed.{HeldOf}
-use Rattle.pg_pool_copying.specs.PoolCopies.{ReleasesLeft}
+use Rattle.pg_copying.specs.PoolCopies.{ReleasesLeft}
 
 -- ---- what a copy owes while it is open
 

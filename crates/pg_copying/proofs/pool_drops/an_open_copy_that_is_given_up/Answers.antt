@@ -1,5 +1,5 @@
-use Rattle.pg_pool_copying.proofs.OwingLaws.{never_kept}
-use Rattle.pg_pool_copying.proofs.drops.an_open_copy_that_is_given_up.Goals as goal
+use Rattle.pg_copying.proofs.OwingLaws.{never_kept}
+use Rattle.pg_copying.proofs.pool_drops.an_open_copy_that_is_given_up.Goals as goal
 
 pub returns-clause-releases : goal.returns-clause-releases
 returns-clause-releases g c = rw c.into_conn.ensures at c.release.ensures.releases

@@ -3,9 +3,9 @@ ghost use Rattle.pg_call.specs.declared.kind.Kind.TheVariants as kinds;
 ghost use Rattle.pg_conn.specs.Connections.{begun_by};
 ghost use Rattle.pg_conn.specs.States.{IsCalling};
 ghost use Rattle.pg_copying.specs.Copies.{IsOpening};
-ghost use Rattle.pg_pool_copying.specs.PoolCopies.{AcquiresFor, BegunOver, IfStarted, IsNewCopyIn, IsNewCopyOut, IsOfPool};
+ghost use Rattle.pg_copying.specs.PoolCopies.{AcquiresFor, BegunOver, IfStarted, IsNewCopyIn, IsNewCopyOut, IsOfPool};
 
-use pg_copying::{BeginCopyIn, copy_in_raw};
+use crate::{BeginCopyIn, copy_in_raw};
 use pg_guards::{CopyOut, copy_out_raw};
 use pg_listen::{Acquired, PgPool, PoolConnection, PoolLedger, PoolSeat, Ticket};
 use pg_stream::Link;
@@ -33,7 +33,7 @@ pub trait PgPoolCopyExt {
     /// The name of the pool.
     ghost name: { Self → ℕ };
 
-    /// Acquires as `PgPool::acquire` does, with its refusals and in one critical section. Where a connection is idle it is handed to `copy_in_raw` of `pg_copying`,
+    /// Acquires as `PgPool::acquire` does, with its refusals and in one critical section. Where a connection is idle it is handed to `copy_in_raw` of this crate,
     /// whose state does nothing before its first poll.
     fn copy_in_raw(
         &self,

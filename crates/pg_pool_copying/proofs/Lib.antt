@@ -1,2 +1,0 @@
-mod LeavingLaws
-mod OwingLaws
