@@ -23,24 +23,24 @@ use Rattle.pg_copying.specs.declared.pool_copy.PoolCopy.TheVariants as copies
 abbrev pub IsNewCopyIn : {C A : Type 0} → List ℕ → C → BeginCopyIn C A → Type 0
 IsNewCopyIn sql c state = state ≡ record { conn = Some c; request = Some (requests.CopyIn (unfed_copy sql)) }
 
-abbrev pub IsNewCopyOut : {C A : Type 0} {g : _} → List ℕ → C → CopyOut C A {g} → Type 0
-IsNewCopyOut sql c state = (state.conn ≡ c) × (state.request ≡ Some (requests.CopyOut (plain_text sql)))
+abbrev pub IsNewCopyOut : {C : Type 0} → List ℕ → C → C → Option Request → Type 0
+IsNewCopyOut sql c conn request = (conn ≡ c) × (request ≡ Some (requests.CopyOut (plain_text sql)))
 
 -- what is made of what was acquired: a copy begins over the connection, and leave is handed on
-abbrev pub BegunOver : {A S : Type 0} → (HeldOf A → S → Type 0) → Acquired A → PoolCopy S → Type 0
-BegunOver begins (acquired.Idle held) (copies.Started state) = begins held state
-BegunOver begins (acquired.New ticket) (copies.New handed) = handed ≡ ticket
-BegunOver begins _ _ = ⊥
+abbrev pub BegunOver : {A S : Type 0} → Acquired A → PoolCopy S → (HeldOf A → S → Type 0) → Type 0
+BegunOver (acquired.Idle held) (copies.Started state) begins = begins held state
+BegunOver (acquired.New ticket) (copies.New handed) begins = handed ≡ ticket
+BegunOver _ _ begins = ⊥
 
 -- and so is a refusal
-abbrev pub CopiedOver : {A S : Type 0} → (HeldOf A → S → Type 0) → Result (Acquired A) Error → Result (PoolCopy S) Error → Type 0
-CopiedOver begins (Ok got) (Ok copy) = BegunOver begins got copy
-CopiedOver begins (Err e) (Err told) = told ≡ e
-CopiedOver begins _ _ = ⊥
+abbrev pub CopiedOver : {A S : Type 0} → Result (Acquired A) Error → Result (PoolCopy S) Error → (HeldOf A → S → Type 0) → Type 0
+CopiedOver (Ok got) (Ok copy) begins = BegunOver got copy begins
+CopiedOver (Err e) (Err told) begins = told ≡ e
+CopiedOver _ _ begins = ⊥
 
 -- The lock is taken once, for an acquire, and the answer is made of what that one was answered. So a refusal has the place of the entry that this acquire added.
-abbrev pub AcquiresFor : {A S : Type 0} → ℕ → SeatSeen → SeatSeen → (HeldOf A → S → Type 0) → Result (PoolCopy S) Error → Type 0
-AcquiresFor {A} most s t begins result = (answer : Result (Acquired A) Error) × Section most (λ a b. Acquires is_clean s t a b (acquired_as answer)) × CopiedOver begins answer result
+abbrev pub AcquiresFor : {A S : Type 0} → ℕ → SeatSeen → SeatSeen → Result (PoolCopy S) Error → (HeldOf A → S → Type 0) → Type 0
+AcquiresFor {A} most s t result begins = (answer : Result (Acquired A) Error) × Section most (λ a b. Acquires is_clean s t a b (acquired_as answer)) × CopiedOver answer result begins
 
 -- the connection that it begins over is of the pool of this name, or it is leave of that pool
 abbrev pub IsOfPool : {A S : Type 0} → ℕ → (S → Option (HeldOf A)) → PoolCopy S → Type 0

@@ -45,7 +45,7 @@ pub trait PgPoolCopyExt {
         ensures named { IfOk result (IsOfPool (name self.now) (λ s. s.conn)) }
         ensures calling { IfOk result (IfStarted (λ s. IsOpening (λ p. p.conn) s.request s.conn)) }
         ensures seat { seat.new.name ≡ seat.old.name }
-        ensures acquires { AcquiresFor Self.G.most seat.old seat.new (IsNewCopyIn statement) result };
+        ensures acquires { AcquiresFor Self.G.most seat.old seat.new result (IsNewCopyIn statement) };
 
     /// The same with `copy_out_raw` of `pg_guards`.
     fn copy_out_raw(
@@ -58,7 +58,7 @@ pub trait PgPoolCopyExt {
         ensures named { IfOk result (IsOfPool (name self.now) (λ s. Some s.conn)) }
         ensures calling { IfOk result (IfStarted (λ s. IsCalling kinds.CopyOut (begun_by s.request s.conn.conn))) }
         ensures seat { seat.new.name ≡ seat.old.name }
-        ensures acquires { AcquiresFor Self.G.most seat.old seat.new (IsNewCopyOut statement) result };
+        ensures acquires { AcquiresFor Self.G.most seat.old seat.new result (λ held s. IsNewCopyOut statement held s.conn s.request) };
 }
 
 // A copy from the client over a connection that was idle, or leave.
@@ -66,7 +66,7 @@ fn begin_in<L: Link>(
     acquired: Acquired<L>,
     statement: Text,
 ) -> PoolCopy<BeginCopyIn<PoolConnection<L>>>
-    ensures over { BegunOver (IsNewCopyIn statement) acquired result }
+    ensures over { BegunOver acquired result (IsNewCopyIn statement) }
     ensures calling { IfStarted (λ s. IsOpening (λ p. p.conn) s.request s.conn) result }
 {
     match acquired {
@@ -80,7 +80,7 @@ fn begin_out<L: Link>(
     acquired: Acquired<L>,
     statement: Text,
 ) -> PoolCopy<CopyOut<PoolConnection<L>>>
-    ensures over { BegunOver (IsNewCopyOut statement) acquired result }
+    ensures over { BegunOver acquired result (λ held s. IsNewCopyOut statement held s.conn s.request) }
     ensures calling { IfStarted (λ s. IsCalling kinds.CopyOut (begun_by s.request s.conn.conn)) result }
 {
     match acquired {
