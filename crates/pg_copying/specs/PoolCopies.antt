@@ -6,7 +6,6 @@ use Rattle.pg_call.specs.declared.request.Request.{Request}
 use Rattle.pg_call.specs.declared.request.Request.TheVariants as requests
 use Rattle.pg_conn.specs.Connections.{left_by}
 use Rattle.pg_conn.specs.Cleanliness.{is_clean}
-use Rattle.pg_guards.specs.declared.copy_out.CopyOut.{CopyOut}
 use Rattle.pg_copying.specs.declared.copy_in.BeginCopyIn.{BeginCopyIn}
 use Rattle.pg_copying.specs.Copies.{unfed_copy}
 use Rattle.pg_pool.specs.Seats.{SeatSeen}
