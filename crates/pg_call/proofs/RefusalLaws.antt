@@ -40,8 +40,9 @@ again_is bound (Some sql) e h = refuses_is _ _ _ e h
 
 pub refusal_is : (r : Request) (e : Error) → IsRefusal r e → IsCallers e
 refusal_is (requests.Describe extended) e h = extended_is extended e h
-refusal_is (requests.Run bound) e (inl h) = again_is bound bound.again e h
-refusal_is (requests.Run bound) e (inr h) = refuses_is _ _ _ e h
+refusal_is (requests.Run bound) e (inl h) = refuses_is _ _ _ e h
+refusal_is (requests.Run bound) e (inr (inl h)) = again_is bound bound.again e h
+refusal_is (requests.Run bound) e (inr (inr h)) = refuses_is _ _ _ e h
 refusal_is (requests.Look lookup) e h = query_is (query_of (requests.Look lookup)) e h
 refusal_is (requests.Execute query) e h = query_is (Some query) e h
 refusal_is (requests.ExecuteMany query) e h = query_is (Some query) e h
@@ -67,7 +68,7 @@ refusal_is requests.Close e h = query_is None e h
 -- want of memory may refuse each
 pub memory_refuses : (r : Request) → IsRefusal r errors.OutOfMemory
 memory_refuses (requests.Describe extended) = tt
-memory_refuses (requests.Run bound) = inr tt
+memory_refuses (requests.Run bound) = inl tt
 memory_refuses (requests.Evict eviction) = refl
 memory_refuses (requests.Prepare prepared) = refl
 memory_refuses (requests.Clear statements) = refl

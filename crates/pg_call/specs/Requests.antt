@@ -11,6 +11,9 @@ use Rattle.pg_wire.specs.declared.error.CallerFault.TheVariants as callers
 use Rattle.pg_wire.specs.Encoding.{Refuses, body_max}
 use Rattle.pg_exchanges.specs.Expecting.{Widths}
 use Rattle.pg_exchanges.specs.Answering.{closing, describing, running}
+use Rattle.pg_request.specs.declared.naming.Declared.{Declared}
+use Rattle.pg_request.specs.declared.naming.Declared.TheVariants as declared
+use Rattle.pg_request.specs.Asked.{numbered}
 use Rattle.pg_request.specs.Queries.{QueryText, ArgumentsSeen, plain_text}
 use Rattle.pg_request.specs.Texts.{begin_text, commit_text, rollback_text}
 use Rattle.pg_wire.specs.Backend.{FieldDescription}
@@ -208,6 +211,10 @@ behind_goal goals.Prepare x d keeping = afters.Prepare (record { sql = x.sql; pa
 abbrev pub told : List ℕ → Option (List FieldDescription) → Extended → Extended
 told parameters columns x = record x { described = Some (record { parameters = parameters; columns = columns }) }
 
+-- a statement whose types are known by their OIDs, and behind whose Parse nothing was looked up
+abbrev pub numbered_by : List ℕ → Extended → Extended
+numbered_by types x = record x { arguments = numbered types x.arguments; is_looked_up = false }
+
 -- what an exchange hands on, or answers: the statement that it describes, what comes behind a close, or the statement that it tells of
 abbrev pub rest_of : Request → Rest
 rest_of (requests.Describe extended) = rests.Describe extended
@@ -280,9 +287,19 @@ farewell _ = []
 abbrev pub messages_of : Request → List FrontendMessage
 messages_of request = said_in (groups_of request) ++ farewell (kind_of request)
 
--- what is asked behind it can be said too, and there is a number for its name
+-- a name under which a type is asked for has no zero byte
+abbrev pub IsNamed : Declared → Type 0
+IsNamed (declared.Number oid) = Unit {0}
+IsNamed (declared.Name name) = HasNoNul name
+IsNamed (declared.ArrayOf element) = HasNoNul element
+
+abbrev pub AreNamed : List Declared → Type 0
+AreNamed names = AllByRecursion IsNamed names
+
+-- what is asked before it and behind it can be said too, and there is a number for its name
 abbrev pub LaterCanBeSaid : Request → Type 0
-LaterCanBeSaid (requests.Describe extended) = HasFrontendFrame (Bind (name_of extended.statement) extended.arguments.values) × (extended.is_numbered ≡ true)
+LaterCanBeSaid (requests.Describe extended) = HasFrontendFrame (Bind (name_of extended.statement) extended.arguments.values) × (extended.is_numbered ≡ true) × AreNamed extended.arguments.names
+LaterCanBeSaid (requests.Run bound) = AreNamed bound.arguments.names
 LaterCanBeSaid _ = Unit {0}
 
 -- a frame can carry each of them: its texts have no zero byte, and there are at most 65535 arguments
@@ -312,15 +329,23 @@ AreFew arguments = (length arguments.values ≤ 65535) × (length arguments.type
 abbrev pub IsTooLong : Extended → ℕ → Type 0
 IsTooLong x n = ((n ≡ parse_size x) × (body_max < n)) ⊎ ((parse_size x ≤ body_max) × (n ≡ bind_size x.statement x.arguments) × (body_max < n))
 
--- why a query with arguments is refused, the first cause that holds: too many arguments or types, a zero byte in the text, a message that is too long, or no number
+-- no zero byte stands in the text, nor in the name of a type
+abbrev pub AreTexts : Extended → Type 0
+AreTexts x = HasNoNul x.sql × AreNamed x.arguments.names
+
+-- why a query with arguments is refused, the first cause that holds: too many arguments or types, a zero byte in a text, a message that is too long, or no number
 -- that is left for its name
 abbrev pub RefusesExtended : Extended → Error → Type 0
 RefusesExtended x (errors.Protocol (protocol.Caller (callers.TooMany n))) = IsTooMany x.arguments n
-RefusesExtended x (errors.Protocol (protocol.Caller callers.Nul)) = AreFew x.arguments × (HasNoNul x.sql → ⊥)
-RefusesExtended x (errors.Protocol (protocol.Caller (callers.TooLong n))) = AreFew x.arguments × HasNoNul x.sql × IsTooLong x n
-RefusesExtended x (errors.Protocol (protocol.Caller callers.NoStatementNumber)) = AreFew x.arguments × HasNoNul x.sql × (parse_size x ≤ body_max) × (bind_size x.statement x.arguments ≤ body_max) × (x.is_numbered ≡ false)
+RefusesExtended x (errors.Protocol (protocol.Caller callers.Nul)) = AreFew x.arguments × (AreTexts x → ⊥)
+RefusesExtended x (errors.Protocol (protocol.Caller (callers.TooLong n))) = AreFew x.arguments × AreTexts x × IsTooLong x n
+RefusesExtended x (errors.Protocol (protocol.Caller callers.NoStatementNumber)) = AreFew x.arguments × AreTexts x × (parse_size x ≤ body_max) × (bind_size x.statement x.arguments ≤ body_max) × (x.is_numbered ≡ false)
 RefusesExtended x errors.OutOfMemory = Unit {0}
 RefusesExtended x _ = ⊥
+
+-- why names are refused under which nothing can be asked for: too many arguments come before that
+abbrev pub RefusesNames : ArgumentsSeen → Error → Type 0
+RefusesNames arguments e = Refuses (length arguments.values) (AreNamed arguments.names) 0 e
 
 abbrev pub RefusesBind : Bound → Error → Type 0
 RefusesBind bound e = Refuses (length bound.arguments.values) (Unit {0}) (bind_size bound.statement bound.arguments) e
@@ -331,7 +356,7 @@ RefusesAgain bound None e = ⊥
 RefusesAgain bound (Some sql) e = Refuses (length bound.arguments.types) (HasNoNul sql) (length (frontend_frame (Parse (name_of bound.statement) sql bound.arguments.types)).body) e
 
 abbrev pub RefusesRun : Bound → Error → Type 0
-RefusesRun bound e = RefusesAgain bound bound.again e ⊎ RefusesBind bound e
+RefusesRun bound e = RefusesNames bound.arguments e ⊎ (RefusesAgain bound bound.again e ⊎ RefusesBind bound e)
 
 -- a piece that is too long for a frame
 abbrev pub RefusesPieces : List (List ℕ) → Error → Type 0

@@ -208,7 +208,7 @@ impl Request {
         }
     }
 
-    /// The frames that ask it, or why no frame can: too many arguments, a zero byte in the text, a text that is too long for a frame, or no number that is
+    /// The frames that ask it, or why no frame can: too many arguments, a zero byte in the text or in the name of a type, a text that is too long for a frame, or no number that is
     /// left for a name.
     pub fn encode(&self, alloc: Global) -> Result<Blob, Error>
         ensures ok { IfOk result (λ frames. frames ≡ spelled (messages_of self.now)) }

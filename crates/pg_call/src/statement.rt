@@ -1,6 +1,6 @@
 ghost use Rattle.std.specs.Prelude.{◌≡◌, true, IfOk, IfErr, IsSome, Some};
 ghost use Rattle.pg_call.specs.declared.statement.Described.{Described as DescribedOf};
-ghost use Rattle.pg_call.specs.Requests.{after_kind, behind_goal, goal_kind, heading_of, is_parsed_again, named_keeping, parsed_again, request_behind, told, width_of};
+ghost use Rattle.pg_call.specs.Requests.{after_kind, behind_goal, goal_kind, heading_of, is_parsed_again, named_keeping, numbered_by, parsed_again, request_behind, told, width_of};
 
 use crate::heading::heading;
 use crate::{How, Keeping, Kind, Request};
@@ -218,6 +218,30 @@ impl Extended {
             arguments,
             described,
             is_looked_up: true,
+        }
+    }
+
+    /// The same, once the OIDs of its types are known.
+    pub fn numbered(self, alloc: Global, types: Oids) -> Self
+        ensures { result ≡ numbered_by types self }
+    {
+        let Extended {
+            goal,
+            statement,
+            is_numbered,
+            sql,
+            arguments,
+            described,
+            is_looked_up: _,
+        } = self;
+        Extended {
+            goal,
+            statement,
+            is_numbered,
+            sql,
+            arguments: arguments.numbered(alloc, types),
+            described,
+            is_looked_up: false,
         }
     }
 

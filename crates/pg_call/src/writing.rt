@@ -1,12 +1,13 @@
 ghost use Rattle.std.specs.Prelude.{◌≡◌, ◌<◌, ◌≤◌, ◌++◌, length, map, true, false, IfErr, OnOk};
 ghost use Rattle.std.specs.List.{AllByRecursion};
 ghost use Rattle.pg_wire.specs.Encoding.{body_max};
+ghost use Rattle.pg_wire.specs.Bytes.{HasNoNul};
 ghost use Rattle.pg_wire.specs.Frontend.{Bind, CopyData, FitsValue, HasFrontendFrame};
 ghost use Rattle.pg_exchanges.specs.Answering.{closing, describing, running};
-ghost use Rattle.pg_call.specs.Requests.{close_of, ended_by, feeding, name_of, parsing_again, running_bound, spelled, bind_size, RefusesAgain, RefusesExtended, RefusesBind, RefusesFeed, RefusesPieces, RefusesRun};
+ghost use Rattle.pg_call.specs.Requests.{close_of, ended_by, feeding, name_of, parsing_again, running_bound, spelled, bind_size, AreFew, AreNamed, IsNamed, RefusesAgain, RefusesExtended, RefusesBind, RefusesFeed, RefusesNames, RefusesPieces, RefusesRun};
 
 use crate::{Bound, Extended, Feed};
-use pg_request::Arguments;
+use pg_request::{Arguments, Declared};
 use pg_wire::{
     Blob, CallerFault, Error, PortalId, ProtocolFault, StatementId, check_body, encode_bind,
     encode_close_portal, encode_close_statement, encode_copy_bytes, encode_copy_done,
@@ -19,6 +20,18 @@ fn check_count(arguments: &Arguments) -> Result<(), Error>
     ensures many { IfErr result (λ e. (e ≡ Error.Protocol (ProtocolFault.Caller (CallerFault.TooMany (length arguments.now.values)))) × (65535 < length arguments.now.values)) }
 {
     let count = arguments.count();
+    if count > 65535 {
+        return Err(Error::Protocol(ProtocolFault::Caller(CallerFault::TooMany { count })));
+    }
+    Ok(())
+}
+
+// The same of their types.
+fn check_types(arguments: &Arguments) -> Result<(), Error>
+    ensures few { OnOk result (length arguments.now.types ≤ 65535) }
+    ensures many { IfErr result (λ e. (e ≡ Error.Protocol (ProtocolFault.Caller (CallerFault.TooMany (length arguments.now.types)))) × (65535 < length arguments.now.types)) }
+{
+    let count = arguments.types().len() as u64;
     if count > 65535 {
         return Err(Error::Protocol(ProtocolFault::Caller(CallerFault::TooMany { count })));
     }
@@ -59,15 +72,73 @@ fn check_number(extended: &Extended) -> Result<(), Error>
     }
 }
 
+// Refuses a name with a zero byte, under which no type can be asked for.
+fn check_name(name: &str) -> Result<(), Error>
+    ensures ok { OnOk result (HasNoNul name.now) }
+    ensures err { IfErr result (λ e. (e ≡ Error.Protocol (ProtocolFault.Caller CallerFault.Nul)) × (HasNoNul name.now → ⊥)) }
+{
+    if name.as_bytes().contains(&0) {
+        return Err(Error::Protocol(ProtocolFault::Caller(CallerFault::Nul)));
+    }
+    Ok(())
+}
+
+// The same of the type of an argument.
+fn check_declared(of: &Declared) -> Result<(), Error>
+    ensures ok { OnOk result (IsNamed of.now) }
+    ensures err { IfErr result (λ e. (e ≡ Error.Protocol (ProtocolFault.Caller CallerFault.Nul)) × (IsNamed of.now → ⊥)) }
+{
+    match of {
+        Declared::Number(_) => Ok(()),
+        Declared::Name(name) => check_name(name.as_str()),
+        Declared::ArrayOf(element) => check_name(element.as_str()),
+    }
+}
+
+// And of the types of all arguments.
+fn check_names(names: &[Declared]) -> Result<(), Error>
+    ensures ok { OnOk result (AreNamed names.now) }
+    ensures err { IfErr result (λ e. (e ≡ Error.Protocol (ProtocolFault.Caller CallerFault.Nul)) × (AreNamed names.now → ⊥)) }
+{
+    match names {
+        [] => Ok(()),
+        [of, rest @ ..] => {
+            check_declared(of)?;
+            check_names(rest)
+        }
+    }
+}
+
+// Refuses arguments by their number, and by a zero byte in the name of a type. A text of which a statement is kept asks for no name, and is refused all
+// the same.
+fn check_arguments(arguments: &Arguments) -> Result<(), Error>
+    ensures named { OnOk result (AreNamed arguments.now.names) }
+    ensures err { IfErr result (RefusesNames arguments.now) }
+{
+    check_count(arguments)?;
+    check_names(arguments.names())
+}
+
+// The same of what describes a statement, with the number of their types before any name.
+fn check_declared_arguments(extended: &Extended) -> Result<(), Error>
+    ensures few { OnOk result (AreFew extended.now.arguments) }
+    ensures named { OnOk result (AreNamed extended.now.arguments.names) }
+    ensures err { IfErr result (RefusesExtended extended.now) }
+{
+    check_count(&extended.arguments)?;
+    check_types(&extended.arguments)?;
+    check_names(extended.arguments.names())
+}
+
 /// Adds the frames that prepare and describe a statement. What runs it later is looked at first, so that it is refused before anything is asked.
 /// (PostgreSQL manual, "Message Flow", "Extended Query".)
 pub(crate) fn encode_description(out: &mut Blob, extended: &Extended) -> Result<(), Error>
     ensures ok { OnOk result (out.new ≡ out.old ++ spelled (describing (name_of extended.now.statement) extended.now.sql extended.now.arguments.types)) }
     ensures said { OnOk result (AllByRecursion HasFrontendFrame (describing (name_of extended.now.statement) extended.now.sql extended.now.arguments.types)) }
-    ensures later { OnOk result (HasFrontendFrame (Bind (name_of extended.now.statement) extended.now.arguments.values) × (extended.now.is_numbered ≡ true)) }
+    ensures later { OnOk result (HasFrontendFrame (Bind (name_of extended.now.statement) extended.now.arguments.values) × (extended.now.is_numbered ≡ true) × AreNamed extended.now.arguments.names) }
     ensures err { IfErr result (RefusesExtended extended.now) }
 {
-    check_count(&extended.arguments)?;
+    check_declared_arguments(extended)?;
     let sql = extended.sql.as_str();
     encode_parse(out, extended.statement, sql, extended.arguments.types())?;
     check_bind(extended.statement, &extended.arguments)?;
@@ -92,8 +163,10 @@ fn encode_again(out: &mut Blob, bound: &Bound) -> Result<(), Error>
 pub(crate) fn encode_run(out: &mut Blob, bound: &Bound) -> Result<(), Error>
     ensures ok { OnOk result (out.new ≡ out.old ++ spelled (running_bound bound.now)) }
     ensures said { OnOk result (AllByRecursion HasFrontendFrame (running_bound bound.now)) }
+    ensures named { OnOk result (AreNamed bound.now.arguments.names) }
     ensures err { IfErr result (RefusesRun bound.now) }
 {
+    check_arguments(&bound.arguments)?;
     encode_again(out, bound)?;
     encode_bound(out, bound)
 }

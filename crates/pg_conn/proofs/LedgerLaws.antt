@@ -22,8 +22,9 @@ use Rattle.pg_call.specs.declared.calling.Call.TheVariants as calls
 use Rattle.pg_call.specs.declared.calling.Beat.{Beat}
 use Rattle.pg_call.specs.declared.calling.Beat.TheVariants as beats
 use Rattle.pg_call.specs.Requests.{copy_fail, spelled}
-use Rattle.pg_conn.proofs.StateLaws.{hands_keep, resolved_calls, handed_calls, looked_calls}
+use Rattle.pg_conn.proofs.StateLaws.{begins_keep, hands_keep, resolved_calls, handed_calls, looked_calls}
 use Rattle.pg_conn.specs.Connections.{ConnSeen, with_depth, copies, ends_copy, owned, unfed, with_copy_fail, handed, idle, started_call, begun_with, left, cleaned, settled, ended, resolved, resolved_by, restated, rolled, rolled_back, counted_anew, queued_group, with_group, has_room_for, rollback, may_open, runs}
+use Rattle.pg_conn.specs.Looking.{LooksUp}
 use Rattle.pg_conn.specs.Turns.{ends_request, TakesBeat, Polled, PollsThrough, PollsBy, PollsWithin, hands_on, beat_of, behind, broken_by}
 use Rattle.pg_conn.specs.States.{IsCalling}
 use Rattle.pg_conn.specs.Ledgers.{Owes, OwesSome}
@@ -206,13 +207,21 @@ owes_handed kind begun a b next p i = (
   OwesSome-then begun a (handed next b) i.1 (owes_by a b (handed next b) (owes_resolved kind a b (beat_of (hands_on next)) i.0 p) refl refl),
 )
 
+owes_stands : (begun c : ConnSeen) → OwesSome begun c → OwesSome begun (resolved c)
+owes_stands begun c o = OwesSome-then begun c (resolved c) o ([], [], owes_same c (resolved c) (resolved_stream c) (resolved_ledger c))
+
 -- what is looked up asks nothing before it is polled
 owes_looked : (begun b : ConnSeen) (told next : Request) (learnt : Learnt) → OwesSome begun (handed told b) → OwesSome begun (handed next (record b { learnt = learnt }))
 owes_looked begun b told next learnt o = (o.0, o.1, record { sent = o.2.sent; read = o.2.read; owed = o.2.owed })
 
+looks_owed : (kind : Kind) (begun b : ConnSeen) (told next : Request) (learnt : Learnt) → LooksUp told b.learnt next learnt → IsCalling kind (handed told b) × OwesSome begun (handed told b)
+    → IsCalling kind (handed next (record b { learnt = learnt })) × OwesSome begun (handed next (record b { learnt = learnt }))
+looks_owed kind begun b told next learnt u h = (looked_calls kind b told next learnt u h.0, owes_looked begun b told next learnt h.1)
+
 owes_through : (kind : Kind) (begun b : ConnSeen) (answer : Poll Turn) → IsCalling kind begun → PollsThrough begun b answer → OwesSome begun b
-owes_through kind begun b answer i p =
-    let k = hands_keep (λ (c : ConnSeen). IsCalling kind c × OwesSome begun c) (owes_handed kind begun) (λ b told next learnt u h. (looked_calls kind b told next learnt u h.0, owes_looked begun b told next learnt h.1)) p.later begun p.last p.hands (i, ([], [], owes_same begun begun refl refl)) in
+owes_through kind begun b answer i (now, asks, p) =
+    let first = begins_keep (λ (c : ConnSeen). IsCalling kind c × OwesSome begun c) (λ c h. (resolved_calls kind c h.0, owes_stands begun c h.1)) (looks_owed kind begun) begun now b answer asks (i, ([], [], owes_same begun begun refl refl)) in
+    let k = hands_keep (λ (c : ConnSeen). IsCalling kind c × OwesSome begun c) (owes_handed kind begun) (looks_owed kind begun) p.later now p.last p.hands first in
     OwesSome-then begun p.last b k.1 (owes_resolved kind p.last b (beat_of answer) k.0 p.polled)
 
 pub owes_poll : (kind : Kind) (left : ℕ) (a b : ConnSeen) (answer : Poll Turn) → IsCalling kind a → PollsWithin left a b answer → OwesSome a b

@@ -10,3 +10,4 @@ pub mod CrossingLaws
 pub mod ViewLaws
 pub mod NewsLaws
 pub mod FeedingLaws
+pub mod FirstLaws

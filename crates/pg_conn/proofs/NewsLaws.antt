@@ -38,11 +38,11 @@ use Rattle.pg_wire.specs.Frontend.{FrontendMessage}
 use Rattle.pg_call.specs.Requests.{Group, copy_fail, spelled}
 use Rattle.pg_conn.specs.Connections.{ConnOf, ConnSeen, begun_by, begun_with, cleaned, ended, has_room_for, Standing, idle, left, may_open, queued_group, resolved, resolved_by, restated, rollback, runs, seen_by, settled, started_call, with_group, with_copy_fail, copies, ends_copy, has_fed, owned, unfed}
 use Rattle.pg_conn.specs.States.{turn_of}
-use Rattle.pg_conn.specs.Turns.{EndsBy, FailsBy, FrontFails, HandsOver, Polled, PollsBy, PollsCall, PollsMore, PollsThrough, PollsWithin, beat_of, behind, broken_by, hands_on}
+use Rattle.pg_conn.specs.Turns.{BeginsBy, EndsBy, FailsBy, FrontFails, HandsOver, Polled, PollsBy, PollsCall, PollsMore, PollsThrough, PollsWithin, beat_of, behind, broken_by, hands_on}
 use Rattle.pg_conn.specs.News.{AwaitsNews, AwaitsOn, AwaitsOnce, BreaksBy, DrainCause, Drains, FindsNews, GivesKept, NewsCause, NewsFails, NewsFault, NewsStep, PollsNews, ReadsNews, UnaskedCause, UnaskedFault, flushing, given, with_kept, without_news}
 use Rattle.pg_conn.proofs.CleanupLaws.{stays_unfed}
 use Rattle.pg_conn.proofs.RefusalLaws.{broken_started}
-use Rattle.pg_conn.proofs.StateLaws.{hands_keep}
+use Rattle.pg_conn.proofs.StateLaws.{begins_keep, hands_keep}
 use Rattle.pg_conn.proofs.TurnLaws.{kept}
 use Rattle.pg_conn.proofs.ViewLaws.{seen_started}
 
@@ -293,8 +293,12 @@ fine_unit start ledger said hs items next f = absurd (differs next f.1)
     differs next e = cc
 
 flush_alone : (l : ℕ) (c b : ConnSeen) (answer : Poll Turn) → PollsThrough (flushing l c) b answer → Polled (flush l c) b (beat_of answer)
-flush_alone l c b answer p = by p.later p.last p.hands p.polled
+flush_alone l c b answer (now, asks, p) = by p.later p.last (subst (λ (x : ConnSeen). HandsOver x p.later p.last) (first now asks) p.hands) p.polled
   where
+    first : (now : ConnSeen) → BeginsBy (flushing l c) now b answer → now ≡ flushing l c
+    first now (inl is) = is
+    first now (inr (is, refuses)) = is
+
     by : (later : List Request) (last : ConnSeen) → HandsOver (flushing l c) later last → Polled (resolved last) b (beat_of answer) → Polled (flush l c) b (beat_of answer)
     by [] last h polled = subst (λ (x : ConnSeen). Polled (resolved x) b (beat_of answer)) h polled
     by (next ∷ later) last h polled =
@@ -521,9 +525,10 @@ reads_polled a b beat p k =
     ReadsNews-then a.stream p.stopped.stream b.stream [] [] first (subst (λ (c : ConnSeen). ReadsNews p.stopped.stream c.stream []) (sym p.behind_is) (reads_behind beat p.stopped first.keeping))
 
 reads_through : (a begun b : ConnSeen) (answer : Poll Turn) → PollsThrough begun b answer → ReadsNews a.stream begun.stream [] → ReadsNews a.stream b.stream []
-reads_through a begun b answer p first =
+reads_through a begun b answer (now, asks, p) begins =
+    let first = begins_keep (λ (c : ConnSeen). ReadsNews a.stream c.stream []) (λ c h. subst (λ (s : StreamSeen). ReadsNews a.stream s []) (sym (resolved_stream c)) h) (λ b told next learnt u h. h) begun now b answer asks begins in
     let on = λ (x m : ConnSeen) (next : Request) (q : Polled (resolved x) m (beat_of (hands_on next))) (h : ReadsNews a.stream x.stream []). ReadsNews-then a.stream x.stream m.stream [] [] h (reads_polled x m (beat_of (hands_on next)) q h.keeping) in
-    let last = hands_keep (λ (c : ConnSeen). ReadsNews a.stream c.stream []) on (λ b told next learnt u h. h) p.later begun p.last p.hands first in
+    let last = hands_keep (λ (c : ConnSeen). ReadsNews a.stream c.stream []) on (λ b told next learnt u h. h) p.later now p.last p.hands first in
     ReadsNews-then a.stream p.last.stream b.stream [] [] last (reads_polled p.last b (beat_of answer) p.polled last.keeping)
 
 reads_by : (o : Option ServerFault) (a begun b : ConnSeen) (answer : Poll Turn) → PollsBy o begun a b answer → a.stream.notifications.keeping ≡ true → ReadsNews a.stream begun.stream [] → ReadsNews a.stream b.stream []

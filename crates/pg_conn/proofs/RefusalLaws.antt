@@ -1,5 +1,5 @@
 -- A request that no frame can say is refused by its first poll, and a flush with nothing to do is done by its first poll.
-use Rattle.std.proofs.Common.{◌≡◌, ◌⊎◌, inl, inr, List, [], ◌∷◌, refl, ap, ◌∙◌, subst, Ok, Err, Option, None, Bool, true, false, cond, nat_eq, sym, ℕ, ◌+◌, ◌-◌, ◌^◌, min, arith, leb, not, ◌&&◌, length}
+use Rattle.std.proofs.Common.{◌≡◌, ◌⊎◌, inl, inr, List, [], ◌∷◌, refl, ap, ◌∙◌, subst, Ok, Err, Option, Some, None, Bool, true, false, cond, nat_eq, sym, ℕ, ◌+◌, ◌-◌, ◌^◌, min, arith, leb, not, ◌&&◌, length}
 use Rattle.futures.specs.declared.task.Poll.{Poll}
 use Rattle.futures.specs.declared.task.Poll.TheVariants.{Ready, Pending}
 use Rattle.pg_wire.specs.declared.error.Error.{Error}
@@ -10,14 +10,18 @@ use Rattle.pg_call.specs.declared.answer.CallAnswer.TheVariants as answers
 use Rattle.pg_call.specs.declared.answer.Turn.{Turn}
 use Rattle.pg_call.specs.declared.answer.Turn.TheVariants as turns
 use Rattle.pg_call.specs.declared.calling.Beat.TheVariants as beats
+use Rattle.pg_call.specs.declared.calling.Call.TheVariants as calls
 use Rattle.pg_call.specs.Requests.{CanBeSaid, IsRefusal, copy_fail, spelled}
 use Rattle.pg_call.proofs.RefusalLaws.{refusal_is}
 use Rattle.pg_conn.specs.Connections.{ConnSeen, idle, started_call, begun, left, cleaned, copies, ends_copy, owned, unfed, with_copy_fail, settled, ended, resolved, restated, runs, may_open, has_room_for, with_group, rollback}
+use Rattle.pg_call.specs.declared.statement.Extended.{Extended}
+use Rattle.pg_conn.specs.Looking.{AsksNamed, named_by}
 use Rattle.pg_conn.specs.Statements.{moved, unmoved, step_of}
-use Rattle.pg_conn.specs.Turns.{Refused, Polled, PollsThrough, HandsOver, PollsBy, PollsCall, hands_on, beat_of, broken_by, first_exchange, RefusesAtOnce, FlushesAtOnce, behind}
+use Rattle.pg_conn.specs.Turns.{BeginsBy, Refused, Polled, PollsThrough, HandsOver, PollsBy, PollsCall, hands_on, beat_of, broken_by, first_exchange, RefusesAtOnce, FlushesAtOnce, behind}
+use Rattle.pg_conn.proofs.StateLaws.{named_asked}
 
 -- a refusal is no fault of the server
-refusal_breaks_none : (r : Request) (e : Error) → IsRefusal r e → broken_by (beats.Ends (Err e)) ≡ None
+pub refusal_breaks_none : (r : Request) (e : Error) → IsRefusal r e → broken_by (beats.Ends (Err e)) ≡ None
 refusal_breaks_none r e h = elim (refusal_is r e h) [
   | inl memory ↦ ap (λ (x : Error). broken_by (beats.Ends (Err x))) memory
   | inr (fault, is) ↦ ap (λ (x : Error). broken_by (beats.Ends (Err x))) is
@@ -83,8 +87,20 @@ refuses_once a b request answer polled unsaid = elim polled.says [
 pub refuses_at_once : (a b : ConnSeen) (request : Request) (answer : Poll Turn) → a.broken ≡ None → PollsCall (started_call request a) b answer → (CanBeSaid (first_exchange request a) → ⊥) → RefusesAtOnce request a b answer
 refuses_at_once a b request answer whole p unsaid =
     let t = first_polls a b request answer whole p in
-    by t.later t.last t.hands t.polled
+    by t.2.later t.2.last (subst (λ (c : ConnSeen). HandsOver c t.2.later t.2.last) (first t.0 t.1) t.2.hands) t.2.polled
   where
+    same : (x : Extended) → calls.Asked (first_exchange request a) ≡ calls.Asked (requests.Describe x) → first_exchange request a ≡ requests.Describe x
+    same x e = cc
+
+    named : (c : ConnSeen) (o : Option Extended) → named_by (calls.Asked (first_exchange request a)) ≡ o → AsksNamed o (begun (started_call request a)) c → c ≡ begun (started_call request a)
+    named c None e asks = asks
+    named c (Some x) e (can, asks) = absurd (unsaid (subst CanBeSaid (sym (same x (named_asked (calls.Asked (first_exchange request a)) x e))) can))
+
+    -- so nothing is looked up for it
+    first : (c : ConnSeen) → BeginsBy (begun (started_call request a)) c b answer → c ≡ begun (started_call request a)
+    first c (inl asks) = named c (named_by (calls.Asked (first_exchange request a))) refl asks
+    first c (inr (is, refuses)) = is
+
     said : CanBeSaid (first_exchange request a) ⊎ ⊥ → ⊥
     said (inl can) = unsaid can
     said (inr refused) = refused
@@ -111,8 +127,12 @@ flushes_once a b answer owed sent polled =
 pub flushes_at_once : (a b : ConnSeen) (answer : Poll Turn) → a.broken ≡ None → (left a).ledger.owed ≡ 0 → (left a).stream.unsent ≡ [] → PollsCall (started_call requests.Flush a) b answer → FlushesAtOnce a b answer
 flushes_at_once a b answer whole owed sent p =
     let t = first_polls a b requests.Flush answer whole p in
-    by t.later t.last t.hands t.polled
+    by t.2.later t.2.last (subst (λ (c : ConnSeen). HandsOver c t.2.later t.2.last) (first t.0 t.1) t.2.hands) t.2.polled
   where
+    first : (c : ConnSeen) → BeginsBy (begun (started_call requests.Flush a)) c b answer → c ≡ begun (started_call requests.Flush a)
+    first c (inl is) = is
+    first c (inr (is, refuses)) = is
+
     other : (next : Request) → hands_on next ≡ Ready (turns.Ok answers.Unit) → ⊥
     other next e = cc
 

@@ -1,10 +1,12 @@
 -- What a poll answers is of the call's kind.
-use Rattle.pg_conn.specs.Looking.{LooksFor, LooksUp, looked, no_text, IsDescribed, IsUnlooked, unlooked}
+use Rattle.pg_request.specs.declared.naming.Declared.{Declared}
+use Rattle.pg_conn.specs.Looking.{AsksFirst, AsksNamed, IsNumbered, LooksFor, LooksNamed, LooksUp, MayLook, MayLookFor, looked, no_text, if_named, named_by, named_in, IsUnlooked, unlooked}
 use Rattle.pg_learning.specs.declared.learnt.Learnt.{Learnt}
 use Rattle.pg_call.specs.declared.statement.Described.{Described}
 use Rattle.pg_call.specs.declared.statement.Extended.{Extended}
 use Rattle.pg_call.specs.declared.statement.Lookup.{Lookup}
-use Rattle.std.proofs.Common.{inl, inr, ◌≡◌, ◌≤◌, ◌+◌, ap₂, ℕ, List, [], ◌∷◌, ◌++◌, refl, sym, ap, ◌∙◌, subst, arith, Result, Ok, Err, Option, Some, None, ◌-◌, ◌*◌, nat_eq, cond, length, Bool, true, false, leb, not, ◌&&◌, option_map, IsSome}
+use Rattle.std.proofs.lemmas.Option.{same_Some}
+use Rattle.std.proofs.Common.{inl, inr, ◌≡◌, ◌≢◌, ◌≤◌, ◌+◌, ap₂, ℕ, List, [], ◌∷◌, ◌++◌, refl, sym, ap, ◌∙◌, subst, arith, Result, Ok, Err, Option, Some, None, ◌-◌, ◌*◌, nat_eq, cond, length, Bool, true, false, leb, not, ◌&&◌, option_map}
 use Rattle.pg_wire.specs.declared.status.TransactionStatus.{TransactionStatus}
 use Rattle.pg_wire.specs.Backend.{BackendMessage}
 use Rattle.pg_wire.specs.Frame.{Frame}
@@ -43,7 +45,7 @@ use Rattle.pg_conn.proofs.StatementLaws.{asked_main}
 use Rattle.pg_conn.proofs.TurnLaws.{behind_call, unlooks}
 use Rattle.pg_call.specs.declared.calling.Call.{Call}
 use Rattle.pg_call.specs.declared.calling.Call.TheVariants as calls
-use Rattle.pg_conn.specs.Turns.{HasRoom, TakesBeat, Polled, PollsThrough, HandsOver, PollsBy, PollsWithin, PollsCall, PollsMore, HandsOnNone, hands_on, beat_of, HasRoomBeside, HasAllRoom, kept_for, behind, broken_by, HandsNext}
+use Rattle.pg_conn.specs.Turns.{BeginsBy, HasRoom, TakesBeat, Polled, PollsOn, PollsThrough, HandsOver, PollsBy, PollsWithin, PollsCall, PollsMore, HandsOnNone, hands_on, beat_of, HasRoomBeside, HasAllRoom, kept_for, behind, broken_by, HandsNext}
 use Rattle.pg_conn.specs.States.{IsCalling, PollFits, turn_of, closing_turn, KeepsConn, PollsClose, IsCallingPlainly, KeepsCalling, KeepsCallingPlainly, KeepsClosing, PollFitsPlainly, ends_call}
 
 -- a call that was started
@@ -173,11 +175,20 @@ looked_main : (x : Extended) (text : Option (List ℕ)) → main_kind (looked x 
 looked_main x None = refl
 looked_main x (Some text) = refl
 
+numbered_main : (x : Extended) (text : Option (List ℕ)) (b : Learnt) (next : Request) → IsNumbered x b text next → main_kind next ≡ goal_kind x.goal
+numbered_main x None b next h = ap (λ (r : Request). main_kind r) h.1
+numbered_main x (Some text) b next h = ap (λ (r : Request). main_kind r) h
+
+named_main : (x : Extended) (names : List Declared) (next : Request) (a b : Learnt) → LooksNamed x names a next b → main_kind next ≡ goal_kind x.goal
+named_main x [] next a b h = ap (λ (r : Request). main_kind r) h.0
+named_main x (name ∷ names) next a b (inl h) = numbered_main x h.0 b next h.2
+named_main x (name ∷ names) next a b (inr h) = ap (λ (r : Request). main_kind r) h.0
+
 looks_main : (told next : Request) (a b : Learnt) → LooksUp told a next b → main_kind next ≡ main_kind told
 looks_main (requests.Describe x) next a b h = by x.described h
   where
     by : (d : Option Described) → LooksFor x d a next b → main_kind next ≡ goal_kind x.goal
-    by None h = ap (λ (r : Request). main_kind r) h.0
+    by None h = named_main x x.arguments.names next a b h
     by (Some d) (inl h) = ap (λ (r : Request). main_kind r) h.2 ∙ looked_main x h.0
     by (Some d) (inr h) = ap (λ (r : Request). main_kind r) h.0
 looks_main _ next a b h = ap (λ (r : Request). main_kind r) h.0
@@ -194,42 +205,85 @@ hands_keep P on asks [] begun last h i = subst P (sym h) i
 hands_keep P on asks (next ∷ later) begun last (c, (told, between, p, (learnt, u, is)), h) i =
     hands_keep P on asks later c last h (subst P (sym is) (asks between told next learnt u (on begun between told p i)))
 
+-- the statement whose names are looked up is what is asked first
+pub named_asked : (c : Call) (x : Extended) → named_by c ≡ Some x → c ≡ calls.Asked (requests.Describe x)
+named_asked c x e = by c e
+  where
+    described : (y : Extended) (names : List Declared) (d : Option Described) → if_named y names d ≡ Some x → y ≡ x
+    described y [] d e = absurd cc
+    described y (name ∷ names) None e = same_Some y x e
+    described y (name ∷ names) (Some d) e = absurd cc
+
+    asked : (r : Request) → named_in r ≡ Some x → r ≡ requests.Describe x
+    asked (requests.Describe y) e = ap (λ (z : Extended). requests.Describe z) (described y y.arguments.names y.described e)
+    asked _ e = absurd cc
+
+    by : (call : Call) → named_by call ≡ Some x → call ≡ calls.Asked (requests.Describe x)
+    by (calls.Asked r) e = ap (λ (q : Request). calls.Asked q) (asked r e)
+    by _ e = absurd cc
+
+-- what is kept as a call's first exchange stands, and what is looked up before it
+pub first_keeps : (P : ConnSeen → Type 0) → ((c : ConnSeen) → P c → P (resolved c))
+    → ((b : ConnSeen) (told next : Request) (learnt : Learnt) → LooksUp told b.learnt next learnt → P (handed told b) → P (handed next (record b { learnt = learnt })))
+    → (begun first : ConnSeen) → AsksFirst begun first → P begun → P first
+first_keeps P stands asks begun first h i = by (named_by (resolved begun).call) refl h
+  where
+    by : (o : Option Extended) → named_by (resolved begun).call ≡ o → AsksNamed o begun first → P first
+    by None e h = subst P (sym h) i
+    by (Some x) e (can, (next, (learnt, looks, is))) =
+        let now = subst (λ (call : Call). P (record (resolved begun) { call = call })) (named_asked (resolved begun).call x e) (stands begun i) in
+        subst P (sym is) (asks (resolved begun) (requests.Describe x) next learnt looks now)
+
+-- the same, where it may be refused before that
+pub begins_keep : (P : ConnSeen → Type 0) → ((c : ConnSeen) → P c → P (resolved c))
+    → ((b : ConnSeen) (told next : Request) (learnt : Learnt) → LooksUp told b.learnt next learnt → P (handed told b) → P (handed next (record b { learnt = learnt })))
+    → (begun first b : ConnSeen) (answer : Poll Turn) → BeginsBy begun first b answer → P begun → P first
+begins_keep P stands asks begun first b answer (inl h) i = first_keeps P stands asks begun first h i
+begins_keep P stands asks begun first b answer (inr (same, refuses)) i = subst P (sym same) i
+
 -- one more exchange ended, and handed on the next one
 pub hands_more : (later : List Request) (begun now c : ConnSeen) (next : Request) → HandsOver begun later now → HandsNext now next c → HandsOver begun (later ++ next ∷ []) c
 hands_more [] begun now c next h p = (c, subst (λ (x : ConnSeen). HandsNext x next c) h p, refl)
 hands_more (one ∷ later) begun now c next h p = (h.0, h.1, hands_more later h.0 now c next h.2 p)
 
 -- a lookup isn't asked where this was handed on, and the call is over
-unasked_lookup : (x : Extended) (d : Option Described) (a b : Learnt) → IsSome d → b.types ≡ a.types → b.tables ≡ a.tables → LooksFor x d a (looked x (Some no_text)) b
-unasked_lookup x None a b some types tables = absurd cc
-unasked_lookup x (Some d) a b some types tables = inr (refl, types, tables)
+unasked_named : (x : Extended) (names : List Declared) (a b : Learnt) → names ≢ [] → b.types ≡ a.types → b.tables ≡ a.tables → LooksNamed x names a (looked x (Some no_text)) b
+unasked_named x [] a b some types tables = absurd (some refl)
+unasked_named x (name ∷ names) a b some types tables = inr (refl, types, tables)
 
-pub fails_looking : (begun now between m b : ConnSeen) (later : List Request) (told : Request) (e : Error) → HandsOver begun later now → Polled (resolved now) between (beat_of (hands_on told)) → between.broken ≡ None → IsDescribed told → IsUnlooked between m e → b ≡ unlooked m
-    → PollsThrough begun b (Ready (turns.Err e))
-fails_looking begun now between m b later (requests.Describe x) e hands polled whole described (same, types, tables, cause) is =
+pub unasked_lookup : (x : Extended) (d : Option Described) (a b : Learnt) → MayLookFor x d → b.types ≡ a.types → b.tables ≡ a.tables → LooksFor x d a (looked x (Some no_text)) b
+unasked_lookup x None a b may types tables = unasked_named x x.arguments.names a b may types tables
+unasked_lookup x (Some d) a b may types tables = inr (refl, types, tables)
+
+pub fails_looking : (begun now between m b : ConnSeen) (later : List Request) (told : Request) (e : Error) → HandsOver begun later now → Polled (resolved now) between (beat_of (hands_on told)) → between.broken ≡ None → MayLook told → IsUnlooked told between m e → b ≡ unlooked m
+    → PollsOn begun b (Ready (turns.Err e))
+fails_looking begun now between m b later (requests.Describe x) e hands polled whole may (same, types, tables, cause) is =
     let next = looked x (Some no_text) in
     let c = handed next (record between { learnt = m.learnt }) in
     let lookup : Lookup = record { text = []; extended = record x { is_looked_up = true } } in
     record {
       later = later ++ next ∷ [];
       last = c;
-      hands = hands_more later begun now c next hands (requests.Describe x, between, polled, (m.learnt, unasked_lookup x x.described between.learnt m.learnt described types tables, refl));
+      hands = hands_more later begun now c next hands (requests.Describe x, between, polled, (m.learnt, unasked_lookup x x.described between.learnt m.learnt may types tables, refl));
       polled = unlooks (record between { learnt = m.learnt }) b lookup e whole refl cause (is ∙ ap (λ (d : ConnSeen). unlooked d) same);
       none = λ next e. absurd cc;
     }
-fails_looking begun now between m b later told e hands polled whole described unlooks is = absurd described
+fails_looking begun now between m b later told e hands polled whole may unlooks is = absurd may
 
 -- the call of the exchange that came last is of the same kind
 pub last_calls : (kind : Kind) (later : List Request) (begun last : ConnSeen) → HandsOver begun later last → IsCalling kind begun → IsCalling kind last
 last_calls kind later begun last h i = hands_keep (λ (c : ConnSeen). IsCalling kind c) (λ a b next p k. handed_calls a b kind next p k) (looked_calls kind) later begun last h i
 
-fits_through : (begun b : ConnSeen) (kind : Kind) (answer : Poll Turn) → PollsThrough begun b answer → IsCalling kind begun → PollFits kind b answer
+pub first_calls : (kind : Kind) (begun first b : ConnSeen) (answer : Poll Turn) → BeginsBy begun first b answer → IsCalling kind begun → IsCalling kind first
+first_calls kind begun first b answer h i = begins_keep (λ (c : ConnSeen). IsCalling kind c) (resolved_calls kind) (looked_calls kind) begun first b answer h i
+
+fits_through : (begun b : ConnSeen) (kind : Kind) (answer : Poll Turn) → PollsOn begun b answer → IsCalling kind begun → PollFits kind b answer
 fits_through begun b kind answer p i =
     let k = resolved_calls kind p.last (last_calls kind p.later begun p.last p.hands i) in
     fits_main kind k.1 b answer k.5 p.none (answered_by (resolved p.last) b k.1 answer p.polled (k.0, k.2, k.3, k.4, k.6, k.7))
 
 fits_by : (o : Option ServerFault) (begun a b : ConnSeen) (kind : Kind) (answer : Poll Turn) → PollsBy o begun a b answer → IsCalling kind begun → PollFits kind b answer
-fits_by None begun a b kind answer p i = fits_through begun b kind answer p i
+fits_by None begun a b kind answer p i = fits_through p.0 b kind answer p.2 (first_calls kind begun p.0 b answer p.1 i)
 fits_by (Some fault) begun a b kind answer p i = fits_fault b kind fault answer p.1
 
 -- over a link
@@ -278,8 +332,8 @@ rests_at_once call (Ready (turns.Ok answer)) e = e
 rests_at_once call (Ready (turns.Err error)) e = e
 
 rests_by : (o : Option ServerFault) (begun a b : ConnSeen) (kind : Kind) (answer : Poll Turn) → PollsBy o begun a b answer → IsCalling kind begun → Rests b.call answer
-rests_by None begun a b kind answer p i =
-    let k = resolved_calls kind p.last (last_calls kind p.later begun p.last p.hands i) in
+rests_by None begun a b kind answer (first, asks, p) i =
+    let k = resolved_calls kind p.last (last_calls kind p.later first p.last p.hands (first_calls kind begun first b answer asks i)) in
     rests_polled (resolved p.last) b k.1 answer p.polled (k.0, k.2, k.3, k.4, k.6, k.7)
 rests_by (Some fault) begun a b kind answer p i = rests_at_once b.call answer (ap (λ (c : ConnSeen). c.call) p.0)
 
@@ -434,8 +488,9 @@ left_polled a b beat p = omega (arith, ap (λ (c : ConnSeen). c.stream.left) p.b
 
 -- a poll takes calls off, and adds none
 pub left_through : (begun b : ConnSeen) (answer : Poll Turn) → PollsThrough begun b answer → b.stream.left ≤ begun.stream.left
-left_through begun b answer p =
-    let last = hands_keep (λ (c : ConnSeen). c.stream.left ≤ begun.stream.left) (λ a m next q l. omega (arith, l, left_polled (resolved a) m (beat_of (hands_on next)) q, left_resolved a)) (λ b told next learnt u l. l) p.later begun p.last p.hands (omega arith) in
+left_through begun b answer (now, asks, p) =
+    let first = begins_keep (λ (c : ConnSeen). c.stream.left ≤ begun.stream.left) (λ c l. omega (arith, l, left_resolved c)) (λ b told next learnt u l. l) begun now b answer asks (omega arith) in
+    let last = hands_keep (λ (c : ConnSeen). c.stream.left ≤ begun.stream.left) (λ a m next q l. omega (arith, l, left_polled (resolved a) m (beat_of (hands_on next)) q, left_resolved a)) (λ b told next learnt u l. l) p.later now p.last p.hands first in
     omega (arith, last, left_polled (resolved p.last) b (beat_of answer) p.polled, left_resolved p.last)
 
 -- ---- the room for cleanup
@@ -447,7 +502,9 @@ pub keeps_room : (left : ℕ) (a b : ConnSeen) (answer : Poll Turn) → HasRoom 
 keeps_room left a b answer h p = by a.broken p
   where
     by : (o : Option ServerFault) → PollsBy o (begun_with left a) a b answer → HasRoom b
-    by None p = keeps_polled (resolved p.last) b (beat_of answer) (room_resolved p.last (hands_keep (λ (c : ConnSeen). HasRoom c) room_handed (λ b told next learnt u h. h) p.later (begun_with left a) p.last p.hands h)) p.polled
+    by None (now, asks, p) =
+        let first = begins_keep (λ (c : ConnSeen). HasRoom c) room_resolved (λ b told next learnt u h. h) (begun_with left a) now b answer asks h in
+        keeps_polled (resolved p.last) b (beat_of answer) (room_resolved p.last (hands_keep (λ (c : ConnSeen). HasRoom c) room_handed (λ b told next learnt u h. h) p.later now p.last p.hands first)) p.polled
     by (Some fault) p = subst (λ (c : ConnSeen). HasRoom c) (sym p.0) (omega (arith, h, level_none a.groups))
 
 -- what no beat changes keeps the same room
@@ -466,7 +523,9 @@ pub keeps_all_room : (left : ℕ) (a b : ConnSeen) (answer : Poll Turn) → HasA
 keeps_all_room left a b answer h p = by a.broken p
   where
     by : (o : Option ServerFault) → PollsBy o (begun_with left a) a b answer → HasAllRoom b
-    by None p = keeps_all_polled (resolved p.last) b (beat_of answer) (all_resolved p.last (hands_keep (λ (c : ConnSeen). HasAllRoom c) all_handed (λ b told next learnt u h. h) p.later (begun_with left a) p.last p.hands h)) p.polled
+    by None (now, asks, p) =
+        let first = begins_keep (λ (c : ConnSeen). HasAllRoom c) all_resolved (λ b told next learnt u h. h) (begun_with left a) now b answer asks h in
+        keeps_all_polled (resolved p.last) b (beat_of answer) (all_resolved p.last (hands_keep (λ (c : ConnSeen). HasAllRoom c) all_handed (λ b told next learnt u h. h) p.later now p.last p.hands first)) p.polled
     by (Some fault) p = subst (λ (c : ConnSeen). HasAllRoom c) (sym p.0) (omega (arith, h, level_none a.groups))
 
 pub starts_with_room : (a : ConnSeen) (request : Request) → HasRoom (started_call request a)

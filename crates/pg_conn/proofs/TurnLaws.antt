@@ -25,13 +25,13 @@ use Rattle.pg_wire.specs.Frontend.{FrontendMessage}
 use Rattle.pg_wire.specs.Parts.{heard, is_asynchronous, is_ready}
 use Rattle.pg_wire.specs.Backend.{Values, DataRow, backend_frame, HasBackendFrame}
 use Rattle.pg_resolve.proofs.SettlingLaws.{has_left, has_right}
-use Rattle.pg_learning.specs.declared.learnt.Learnt.{Learnt}
 use Rattle.pg_learning.specs.declared.learnt.Seeking.{Seeking}
 use Rattle.pg_learning.specs.declared.learnt.Seeking.TheVariants as seekings
 use Rattle.pg_learning.specs.Learning.{FailsSeeking, TakesRow}
-use Rattle.pg_resolve.specs.Tried.{unresolved as unresolved_at}
-use Rattle.std.specs.Map.{keys_of}
-use Rattle.pg_conn.specs.Looking.{AreHeard, Learns, LearnsRows, TakesFront, unlooked}
+use Rattle.pg_request.specs.Asked.{RefusesType}
+use Rattle.pg_learning.specs.declared.learnt.Learnt.{Learnt}
+use Rattle.pg_learning.specs.Naming.{unknown_name}
+use Rattle.pg_conn.specs.Looking.{AreHeard, Learns, LearnsRows, MissesName, TakesFront, unlooked}
 use Rattle.pg_call.specs.declared.statement.Lookup.{Lookup}
 use Rattle.pg_wire.specs.Decoding.{Says}
 use Rattle.pg_wire.proofs.PartLaws.{heard-append}
@@ -574,51 +574,54 @@ unresolved {A} seen a b answer e whole (r, asked, is, wants) memory answers =
     })
 
 -- a lookup that can't be asked ends the call, as an exchange that has done nothing
-fails_unasked : (seeking : Seeking) (e : Error) → FailsSeeking seeking e → (e ≡ errors.OutOfMemory) ⊎ ((oids : List ℕ) × (e ≡ unresolved_at oids))
-fails_unasked (seekings.Types s) e h = elim h.1.0 [
-  | inl memory ↦ inl memory
-  | inr is ↦ inr (keys_of s.waiting, is)
+abbrev pub CantLook : Lookup → Learnt → Error → Type 0
+CantLook lookup learnt e = (e ≡ errors.OutOfMemory) ⊎ (FailsSeeking learnt.seeking e ⊎ MissesName lookup.extended learnt e)
+
+-- such an error breaks nothing, and ends no copy
+abbrev IsHarmless : Error → Type 0
+IsHarmless e = (broken_by (beats.Ends (Err e)) ≡ None) × (ends_copy e ≡ false)
+
+fails_harmless : (seeking : Seeking) (e : Error) → FailsSeeking seeking e → IsHarmless e
+fails_harmless (seekings.Types s) e h = elim h.1.0 [
+  | inl memory ↦ rw memory (refl, refl)
+  | inr is ↦ rw is (refl, refl)
 ]
-fails_unasked _ e h = absurd h
+fails_harmless _ e h = absurd h
+
+missed_harmless : (missing : Option (List ℕ)) (e : Error) → RefusesType missing e → IsHarmless e
+missed_harmless missing errors.OutOfMemory h = (refl, refl)
+missed_harmless missing (errors.TypeNotFound name) h = (refl, refl)
+missed_harmless missing _ h = absurd h
+
+unlooked_harmless : (lookup : Lookup) (learnt : Learnt) (e : Error) → CantLook lookup learnt e → IsHarmless e
+unlooked_harmless lookup learnt e (inl memory) = rw memory (refl, refl)
+unlooked_harmless lookup learnt e (inr (inl fails)) = fails_harmless learnt.seeking e fails
+unlooked_harmless lookup learnt e (inr (inr misses)) = missed_harmless (unknown_name learnt.types lookup.extended.arguments.names) e misses
 
 abbrev look_at : Lookup → ConnSeen → ConnSeen
 look_at lookup m = handed (requests.Look lookup) m
 
-unlooked_turns : (m : ConnSeen) (lookup : Lookup) (e : Error) → (e ≡ errors.OutOfMemory) ⊎ FailsSeeking m.learnt.seeking e → TakesBeat (resolved (look_at lookup m)) (idle (resolved (look_at lookup m))) (beats.Ends (Err e))
+unlooked_turns : (m : ConnSeen) (lookup : Lookup) (e : Error) → CantLook lookup m.learnt e → TakesBeat (resolved (look_at lookup m)) (idle (resolved (look_at lookup m))) (beats.Ends (Err e))
 unlooked_turns m lookup e h =
     let a = resolved (look_at lookup m) in
     stays a (idle a) (beats.Ends (Err e)) (Moves-none a.stream) (NoneWaited-none a.stream) (keeps_idle a.call) refl refl refl refl refl refl refl refl (λ start r said hs items i.
     (refl, inr (leaves_call start r said hs items a.ledger a.call i, call_well start r said hs items a.ledger a.call i, by start r said hs items i h)))
   where
-    by : (start : Ledger) (r : Request) (said : List FrontendMessage) (hs : List Frame) (items : List CallItem) (i : CallIs start r said hs items m.ledger (calls.Asked (requests.Look lookup))) → (e ≡ errors.OutOfMemory) ⊎ FailsSeeking m.learnt.seeking e
+    by : (start : Ledger) (r : Request) (said : List FrontendMessage) (hs : List Frame) (items : List CallItem) (i : CallIs start r said hs items m.ledger (calls.Asked (requests.Look lookup))) → CantLook lookup m.learnt e
         → FailsBy (resolved (look_at lookup m)) (idle (resolved (look_at lookup m))) start r (leaves_call start r said hs items m.ledger (calls.Asked (requests.Look lookup)) i).own hs e
     by start r said hs items i (inl memory) = rw memory (inl (tt, tt))
-    by start r said hs items i (inr fails) = inr (inr (lookup, sym i.0, inl (m.learnt.seeking, fails)))
-
--- such an error breaks nothing
-breaks_none : (seeking : Seeking) (e : Error) → (e ≡ errors.OutOfMemory) ⊎ FailsSeeking seeking e → broken_by (beats.Ends (Err e)) ≡ None
-breaks_none seeking e (inl memory) = rw memory refl
-breaks_none seeking e (inr fails) = elim (fails_unasked seeking e fails) [
-  | inl memory ↦ rw memory refl
-  | inr (oids, is) ↦ rw is refl
-]
-
-over_copies : (seeking : Seeking) (e : Error) → (e ≡ errors.OutOfMemory) ⊎ FailsSeeking seeking e → ends_copy e ≡ false
-over_copies seeking e (inl memory) = rw memory refl
-over_copies seeking e (inr fails) = elim (fails_unasked seeking e fails) [
-  | inl memory ↦ rw memory refl
-  | inr (oids, is) ↦ rw is refl
-]
+    by start r said hs items i (inr (inl fails)) = inr (inr (lookup, sym i.0, inl (m.learnt.seeking, fails)))
+    by start r said hs items i (inr (inr misses)) = inr (inr (lookup, sym i.0, inr (inr (m.learnt, misses))))
 
 said_nothing : (lookup : Lookup) → lookup.text ≡ [] → CanBeSaid (requests.Look lookup)
 said_nothing lookup e = rw e ((refl, tt), tt)
 
-pub unlooks : (m b : ConnSeen) (lookup : Lookup) (e : Error) → m.broken ≡ None → lookup.text ≡ [] → (e ≡ errors.OutOfMemory) ⊎ FailsSeeking m.learnt.seeking e → b ≡ unlooked m → Polled (resolved (look_at lookup m)) b (beats.Ends (Err e))
+pub unlooks : (m b : ConnSeen) (lookup : Lookup) (e : Error) → m.broken ≡ None → lookup.text ≡ [] → CantLook lookup m.learnt e → b ≡ unlooked m → Polled (resolved (look_at lookup m)) b (beats.Ends (Err e))
 unlooks m b lookup e whole none h is = record {
   stopped = idle (resolved (look_at lookup m));
   turns = unlooked_turns m lookup e h;
   whole = whole;
-  behind_is = is ∙ ap (λ (o : Option ServerFault). unlooked (record m { broken = o })) whole ∙ ap₂ (λ (o : Option ServerFault) (copies : Bool). cleaned (unfed copies (record (idle (resolved (look_at lookup m))) { broken = o }))) (sym (breaks_none m.learnt.seeking e h)) (sym (over_copies m.learnt.seeking e h));
+  behind_is = is ∙ ap (λ (o : Option ServerFault). unlooked (record m { broken = o })) whole ∙ ap₂ (λ (o : Option ServerFault) (copies : Bool). cleaned (unfed copies (record (idle (resolved (look_at lookup m))) { broken = o }))) (sym (unlooked_harmless lookup m.learnt e h).0) (sym (unlooked_harmless lookup m.learnt e h).1);
   says = inl (said_nothing lookup none);
   flush = λ f. absurd cc;
   asked = λ i. subst IsAsked (ap (λ (c : ConnSeen). c.call) is) i;
@@ -942,7 +945,7 @@ looks_by start r said hs items ledger _ i e = absurd cc
 
 -- a row of it that isn't taken ends the call
 fails_at : (a c : ConnSeen) (start : Ledger) (r : Request) (own : List Group) (hs : List Frame) (f : Frame) (lookup : Lookup) (x y : Learnt) (e : Error) → r ≡ requests.Look lookup → TakesFront f x y (Err e) → Unit {0} → FailsBy a c start r own (hs ++ f ∷ []) e
-fails_at a c start r own hs f lookup x y e is (inl (values, same, have, takes)) m = inr (inr (lookup, is, inr (hs, values, x, y, ap (λ (g : Frame). hs ++ g ∷ []) same, have, takes)))
+fails_at a c start r own hs f lookup x y e is (inl (values, same, have, takes)) m = inr (inr (lookup, is, inr (inl (hs, values, x, y, ap (λ (g : Frame). hs ++ g ∷ []) same, have, takes))))
 fails_at a c start r own hs f lookup x y e is (inr (same, refused)) m = rw (refused_by e refused) (inl (tt, tt))
   where
     refused_by : (e : Error) → ◌≡◌ {A = Result (Unit {0}) Error} (Err e) (Err errors.OutOfMemory) → e ≡ errors.OutOfMemory

@@ -4,6 +4,7 @@ use Rattle.std.specs.Prelude.{ℕ, Bool, true, false, not, ◌&&◌, ◌||◌, n
 use Rattle.std.specs.List.{last_or}
 use Rattle.pg_wire.specs.Backend.{FieldDescription}
 use Rattle.pg_request.specs.Queries.{QueryText, ArgumentsSeen}
+use Rattle.pg_request.specs.Asked.{typed_arguments}
 use Rattle.pg_request.specs.declared.progress.CacheStep.{CacheStep}
 use Rattle.pg_request.specs.declared.progress.CacheStep.TheVariants as steps
 use Rattle.pg_rule.specs.declared.cache.Entry.{Entry}
@@ -55,7 +56,7 @@ query_by rule how query (Some arguments) request = run_or_describe rule how quer
 
 abbrev pub tell_or_describe : Rule → Prepared → Option Entry → Request
 tell_or_describe rule p (Some e) = requests.Prepare (record { sql = p.sql; parameters = e.parameters; columns = Some e.columns; keeping = keepings.Hits e.statement })
-tell_or_describe rule p None = describe goals.Prepare p.sql (record { types = p.parameters; values = [] }) true rule
+tell_or_describe rule p None = describe goals.Prepare p.sql (typed_arguments p.parameters) true rule
 
 abbrev pub prepare_by : Rule → Prepared → Option (List FieldDescription) → Request
 prepare_by rule p (Some columns) = requests.Prepare p

@@ -34,10 +34,12 @@ use Rattle.pg_call.specs.Hearing.{IsOpen, fails_of, looks_up, sent_answer}
 use Rattle.pg_call.specs.declared.calling.Taken.{Taken}
 use Rattle.pg_call.specs.declared.running.Running.{Running}
 use Rattle.pg_call.specs.Calls.{CallIs, IsAwaiting, Leaves, CallEnds, IsFrontFault, TakesMessage, RefusesMessage, StaysIn}
+use Rattle.pg_call.specs.declared.statement.Extended.{Extended}
 use Rattle.pg_call.specs.declared.statement.Lookup.{Lookup}
 use Rattle.pg_learning.specs.declared.learnt.Seeking.{Seeking}
 use Rattle.pg_learning.specs.Learning.{FailsSeeking}
-use Rattle.pg_conn.specs.Looking.{AsksNext, Learns, FailsRow, TakesFront}
+use Rattle.pg_learning.specs.declared.learnt.Learnt.{Learnt}
+use Rattle.pg_conn.specs.Looking.{AsksFirst, AsksNext, Learns, FailsRow, MissesName, TakesFront, named_by}
 use Rattle.pg_conn.specs.Connections.{ConnOf, ConnSeen, idle, left, standing, started_call, begun, begun_with, resolved, settled, cleaned, ended, ends_copy, unfed}
 use Rattle.pg_conn.specs.Statements.{asked_by, begun_as}
 
@@ -58,9 +60,9 @@ IsMissed ledger _ = Unit {0}
 abbrev pub FrontFails : ConnSeen → Ledger → Request → List Group → List Frame → Error → Type 0
 FrontFails b start r own hs e = (front : Frame) × (rest : List ℕ) × IsWhole backend_tags front × (is_asynchronous front ≡ false) × (b.stream.held ≡ bytes_of front ++ rest) × IsFrontFault start r own hs front e
 
--- a lookup isn't asked since rows wait for types that nothing more asks for, or its last row can't be taken
+-- a lookup isn't asked since rows wait for types that nothing more asks for, or since a name has no OID; or its last row can't be taken
 abbrev pub LookFails : Request → List Frame → Error → Type 0
-LookFails r hs e = (lookup : Lookup) × (r ≡ requests.Look lookup) × (((seeking : Seeking) × FailsSeeking seeking e) ⊎ FailsRow hs e)
+LookFails r hs e = (lookup : Lookup) × (r ≡ requests.Look lookup) × (((seeking : Seeking) × FailsSeeking seeking e) ⊎ (FailsRow hs e ⊎ ((learnt : Learnt) × MissesName lookup.extended learnt e)))
 
 -- the stream fails, memory is wanting, the front is refused, or a lookup fails
 abbrev pub FailsBy : ConnSeen → ConnSeen → Ledger → Request → List Group → List Frame → Error → Type 0
@@ -332,12 +334,25 @@ HandsOver begun (next ∷ later) last = (c : ConnSeen) × HandsNext begun next c
 
 -- One poll of a call: of the exchange that runs, and of those that are asked behind it in this poll, each of which goes on with the calls of the link that
 -- were left.
-pub record PollsThrough (begun b : ConnSeen) (answer : Poll Turn) : Type 0 where
+pub record PollsOn (begun b : ConnSeen) (answer : Poll Turn) : Type 0 where
   pub later : List Request
   pub last : ConnSeen
   pub hands : HandsOver begun later last
   pub polled : Polled (resolved last) b (beat_of answer)
   pub none : HandsOnNone answer
+
+-- this is refused before anything is looked up for it
+abbrev pub RefusesNamed : Option Extended → ConnSeen → ConnSeen → Poll Turn → Type 0
+RefusesNamed (Some x) begun b (Ready (turns.Err e)) = IsRefusal (requests.Describe x) e × (b ≡ cleaned (idle (resolved begun)))
+RefusesNamed named begun b answer = ⊥
+
+-- what is asked first is asked, or before it what has to be looked up for it, or it is refused before that
+abbrev pub BeginsBy : ConnSeen → ConnSeen → ConnSeen → Poll Turn → Type 0
+BeginsBy begun first b answer = AsksFirst begun first ⊎ ((first ≡ begun) × RefusesNamed (named_by (resolved begun).call) begun b answer)
+
+-- the same from where nothing was asked yet
+abbrev pub PollsThrough : ConnSeen → ConnSeen → Poll Turn → Type 0
+PollsThrough begun b answer = (first : ConnSeen) × BeginsBy begun first b answer × PollsOn first b answer
 
 -- one poll of a call, which begins with this connection, or answers at once where the connection is broken
 abbrev pub PollsBy : Option ServerFault → ConnSeen → ConnSeen → ConnSeen → Poll Turn → Type 0

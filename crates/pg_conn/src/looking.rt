@@ -1,13 +1,20 @@
-//! What is looked up behind the description of a statement.
-ghost use Rattle.std.specs.Prelude.{◌≡◌, ◌⊎◌, Some, None, unwrap_or, IsSome, IfOk, IfErr, OnOk, OnErr};
+//! What is looked up before a statement is described, and behind that.
+ghost use Rattle.std.specs.Prelude.{◌≡◌, ◌≢◌, ◌⊎◌, ℕ, List, [], Option as OptionOf, Some, None, false, not, is_some, ◌&&◌, unwrap_or, IsSome, IfOk, IfErr, OnOk, OnErr};
+ghost use Rattle.pg_request.specs.Queries.{names_by};
+ghost use Rattle.pg_rule.specs.Caches.{entry_at};
+ghost use Rattle.pg_call.specs.Hearing.{asked_in, without_asked};
+ghost use Rattle.pg_call.specs.Requests.{CanBeSaid, IsRefusal, numbered_by};
 ghost use Rattle.pg_call.specs.declared.request.Request as request;
 ghost use Rattle.pg_learning.specs.Learning.{FailsSeeking, Seeks};
-ghost use Rattle.pg_conn.specs.Connections.{ConnOf};
-ghost use Rattle.pg_conn.specs.Looking.{AsksNext, IsDescribed, IsUnlooked, LooksFor, LooksUp, begun_for, columns_in, looked, unlooked, wants_names};
+ghost use Rattle.pg_learning.specs.Naming.{oids_under, unknown_name};
+ghost use Rattle.pg_conn.specs.Connections.{ConnOf, cleaned};
+ghost use Rattle.pg_conn.specs.Looking.{AsksFirst, AsksNext, FailsFirst, IsNumbered, IsUnlooked, LooksFor, LooksNamed, LooksUp, MayLook, MayLookFor, MissesName, asks_by, asks_names, begun_for, begun_named, columns_in, has_names, looked, unlooked, wants_names};
 
 use crate::{PgConnection, Request};
-use pg_call::{Described, Extended, Goal, Lookup};
+use pg_call::{Call, Described, Extended, Goal, Lookup};
 use pg_columns::PgColumn;
+use pg_request::{Declared, Query};
+use pg_rule::Rule;
 use pg_wire::{Error, Text};
 
 // Whether the names of columns are told.
@@ -40,6 +47,42 @@ fn looked(extended: Extended, text: Option<Text>) -> Request
     }
 }
 
+// Whether there are any.
+fn has_names(names: &[Declared]) -> bool
+    ensures { result ≡ has_names names.now }
+{
+    match names {
+        [] => false,
+        [_, ..] => true,
+    }
+}
+
+// Whether a query has types that are known by their names alone, and no statement of its text is kept.
+fn query_names(rule: &Rule, query: &Query) -> bool
+    ensures { result ≡ has_names (names_by query.now.arguments) && not (is_some (entry_at query.now.sql rule.now.cache.entries)) }
+{
+    has_names(query.names()) && rule.cache.get(query.sql()).is_none()
+}
+
+// The same of anything that is asked first.
+fn asks_names(rule: &Rule, request: &Request) -> bool
+    ensures { result ≡ asks_names rule.now request.now }
+{
+    match request {
+        Request::Execute(query)
+        | Request::ExecuteMany(query)
+        | Request::Fetch(query)
+        | Request::FetchMany(query)
+        | Request::FetchAll(query)
+        | Request::FetchOptional(query)
+        | Request::FetchOne(query) => query_names(rule, query),
+        Request::Describe(extended) => {
+            has_names(extended.arguments.names()) && extended.described.is_none()
+        }
+        _ => false,
+    }
+}
+
 impl<L> PgConnection<L> {
     // Behind the description itself, lookups begin.
     fn begin_lookups(&mut self, extended: &Extended, described: &Described) -> Result<(), Error>
@@ -64,22 +107,78 @@ impl<L> PgConnection<L> {
         self.learnt.seek(self.alloc, columns_in(described), names)
     }
 
-    // What is asked where an exchange has handed this on.
+    // Before a statement is described, lookups begin for the types that are known by their names alone.
+    fn begin_named(&mut self, extended: &Extended) -> Result<(), Error>
+        ensures ok { OnOk result (self.new ≡ record self.old { learnt = begun_named extended.now self.old.learnt }) }
+        ensures err { IfErr result (λ e. (e ≡ Error.OutOfMemory) × (self.new ≡ self.old)) }
+    {
+        if !extended.is_looked_up {
+            self.learnt
+                .begin_names(self.alloc, extended.arguments.names())?;
+        }
+        Ok(())
+    }
+
+    // The text of the next lookup for them.
+    fn seek_named(&mut self, extended: &Extended) -> Result<Option<Text>, Error>
+        ensures ok { IfOk result (λ text. (self.new ≡ record self.old { learnt = self.new.learnt }) × Seeks [] false (begun_named extended.now self.old.learnt) text self.new.learnt) }
+        ensures err { IfErr result (λ e. (self.new ≡ record self.old { learnt = self.new.learnt }) × (self.new.learnt.types ≡ self.old.learnt.types) × (self.new.learnt.tables ≡ self.old.learnt.tables) × ((e ≡ Error.OutOfMemory) ⊎ FailsSeeking self.new.learnt.seeking e)) }
+    {
+        self.begin_named(extended)?;
+        self.learnt.seek(self.alloc, &[], false)
+    }
+
+    // The statement with the OIDs of its types, where each is known.
+    fn numbered(&self, extended: Extended) -> Result<Request, Error>
+        ensures ok { IfOk result (λ next. (unknown_name self.now.learnt.types extended.arguments.names ≡ None) × (next ≡ Request.Describe (numbered_by (oids_under self.now.learnt.types extended.arguments.names) extended))) }
+        ensures err { IfErr result (MissesName extended self.now.learnt) }
+    {
+        let oids = self.learnt.oids(self.alloc, extended.arguments.names())?;
+        Ok(Request::Describe(extended.numbered(self.alloc, oids)))
+    }
+
+    // What is asked of a statement whose types are known by their names alone.
+    fn look_for_names(&mut self, extended: Extended) -> Result<Request, Error>
+        ensures ok { IfOk result (λ next. (self.new ≡ record self.old { learnt = self.new.learnt }) × ((text : OptionOf (List ℕ)) × Seeks [] false (begun_named extended self.old.learnt) text self.new.learnt × IsNumbered extended self.new.learnt text next)) }
+        ensures err { IfErr result (IsUnlooked (Request.Describe extended) self.old self.new) }
+    {
+        match self.seek_named(&extended)? {
+            Some(text) => Ok(looked(extended, Some(text))),
+            None => {
+                let next = self.numbered(extended)?;
+                Ok(next)
+            }
+        }
+    }
+
+    // What is asked of a statement that isn't described yet.
+    fn look_for_undescribed(&mut self, extended: Extended) -> Result<Request, Error>
+        ensures ok { IfOk result (λ next. (self.new ≡ record self.old { learnt = self.new.learnt }) × LooksNamed extended extended.arguments.names self.old.learnt next self.new.learnt) }
+        ensures err { IfErr result (λ e. IsUnlooked (Request.Describe extended) self.old self.new e × (extended.arguments.names ≢ [])) }
+    {
+        if !has_names(extended.arguments.names()) {
+            return Ok(Request::Describe(extended));
+        }
+        let next = self.look_for_names(extended)?;
+        Ok(next)
+    }
+
+    // What is asked where an exchange has handed this on, or a call begins by it.
     fn look_for(&mut self, extended: Extended) -> Result<Request, Error>
         ensures ok { IfOk result (λ next. (self.new ≡ record self.old { learnt = self.new.learnt }) × LooksFor extended extended.described self.old.learnt next self.new.learnt) }
-        ensures err { IfErr result (λ e. IsUnlooked self.old self.new e × IsSome extended.described) }
+        ensures err { IfErr result (λ e. IsUnlooked (Request.Describe extended) self.old self.new e × MayLookFor extended extended.described) }
     {
-        let text = match &extended.described {
-            Some(described) => self.seek(&extended, described)?,
-            None => None,
+        let Some(described) = &extended.described else {
+            return self.look_for_undescribed(extended);
         };
+        let text = self.seek(&extended, described)?;
         Ok(looked(extended, text))
     }
 
     // The same of anything else, which is asked as it is.
     fn look_up(&mut self, told: Request) -> Result<Request, Error>
         ensures ok { IfOk result (λ next. (self.new ≡ record self.old { learnt = self.new.learnt }) × LooksUp told self.old.learnt next self.new.learnt) }
-        ensures err { IfErr result (λ e. IsUnlooked self.old self.new e × IsDescribed told) }
+        ensures err { IfErr result (λ e. IsUnlooked told self.old self.new e × MayLook told) }
     {
         match told.into_extended() {
             Ok(extended) => self.look_for(extended),
@@ -99,7 +198,7 @@ impl<L> PgConnection<L> {
     /// What is asked next stands where an exchange has handed this on. An `Err` is a lookup that can't be asked, and then the call is over.
     pub(crate) fn hand_on(&mut self, told: Request) -> Result<(), Error>
         ensures ok { OnOk result ((next : request.Request) × AsksNext told self.old next self.new) }
-        ensures err { IfErr result (λ e. IsDescribed told × ((m : ConnOf L) × IsUnlooked self.old m e × (self.new ≡ unlooked m))) }
+        ensures err { IfErr result (λ e. MayLook told × ((m : ConnOf L) × IsUnlooked told self.old m e × (self.new ≡ unlooked m))) }
     {
         match self.look_up(told) {
             Ok(next) => {
@@ -110,6 +209,57 @@ impl<L> PgConnection<L> {
                 self.end_lookups();
                 Err(e)
             }
+        }
+    }
+
+    // Whether what is asked first has types that are known by their names alone.
+    fn asks_names(&self) -> bool
+        ensures { result ≡ asks_by self.now.rule self.now.call }
+    {
+        match &self.running.call {
+            Call::Asked(request) => asks_names(&self.rule, request),
+            Call::Idle | Call::Waiting(_) | Call::Own(_) | Call::Closing => false,
+        }
+    }
+
+    // What is asked, which is taken out where it was not begun yet.
+    fn take_asked(&mut self) -> Option<Request>
+        ensures asked { result ≡ asked_in self.old.call }
+        ensures now { self.new ≡ record self.old { call = without_asked self.old.call } }
+    {
+        self.running.take_asked()
+    }
+
+    // A statement that a call begins by is asked as if it had been handed on, once frames can say it.
+    fn ask_first(&mut self, told: Request) -> Result<(), Error>
+        ensures ok { OnOk result (CanBeSaid told × ((next : request.Request) × AsksNext told self.old next self.new)) }
+        ensures err { IfErr result (λ e. (IsRefusal told e × (self.new ≡ cleaned self.old)) ⊎ (CanBeSaid told × MayLook told × ((m : ConnOf L) × IsUnlooked told self.old m e × (self.new ≡ unlooked m)))) }
+    {
+        match told.encode(self.alloc) {
+            Ok(frames) => {
+                drop(frames);
+                self.hand_on(told)
+            }
+            Err(e) => {
+                self.clean();
+                Err(e)
+            }
+        }
+    }
+
+    /// Where a call begins by a statement whose types are known by their names alone, that is asked as if it had been handed on. An `Err` is want of memory,
+    /// a statement that no frame can say, or a lookup that can't be asked, and then the call is over.
+    pub(crate) fn look_first(&mut self) -> Result<(), Error>
+        ensures ok { OnOk result (AsksFirst self.old self.new) }
+        ensures err { IfErr result (FailsFirst self.old self.new) }
+    {
+        if !self.asks_names() {
+            return Ok(());
+        }
+        self.resolve()?;
+        match self.take_asked() {
+            Some(told) => self.ask_first(told),
+            None => Ok(()),
         }
     }
 }

@@ -10,7 +10,7 @@ ghost use Rattle.pg_conn.specs.States.{IsCalling, PollFits};
 ghost use Rattle.std.specs.declared.result.Result.{Result as ResultOf};
 ghost use Rattle.pg_wire.specs.declared.error.Error.{Error as ErrorOf};
 ghost use Rattle.pg_conn.specs.Connections.{ConnOf};
-ghost use Rattle.pg_conn.specs.Turns.{LearnsFront, LearnsFrom, TakesIn, level_of, kept_for, TakesBeat, Falls, GoesOn, HearsFront, Prepares, Readies, Refuses, Accepts, IsAsked, IsSayable, Refused, IsAhead, only_sends, flushes, is_flushed, EndsFlush, queued_copy_fail, Polled, PollsThrough, PollsWithin, PollsCall, PollsMore, beat_of, broken_by, hands_on, HandsOnNone};
+ghost use Rattle.pg_conn.specs.Turns.{LearnsFront, LearnsFrom, TakesIn, level_of, kept_for, TakesBeat, Falls, GoesOn, HearsFront, Prepares, Readies, Refuses, Accepts, IsAsked, IsSayable, Refused, IsAhead, only_sends, flushes, is_flushed, EndsFlush, queued_copy_fail, Polled, PollsOn, PollsThrough, PollsWithin, PollsCall, PollsMore, beat_of, broken_by, hands_on, HandsOnNone};
 
 use crate::connection::COPY_FAIL;
 use crate::{PgConnection, Request, Turn};
@@ -503,10 +503,21 @@ impl<L: Link> PgConnection<L> {
         Poll::Ready(Turn::Err(Error::Protocol(ProtocolFault::Server(fault))))
     }
 
-    // One poll. Where an exchange ends in it, and hands on the next one, that one goes on in it too.
+    // One poll. Where it is the first of a call, what has to be looked up before it is looked up.
     fn poll_through(&mut self) -> Poll<Turn>
         requires { self.old.broken ≡ None }
         ensures { PollsThrough (seen_by L.seen self.old) (seen_by L.seen self.new) result }
+    {
+        if let Err(e) = self.look_first() {
+            return Poll::Ready(Turn::Err(e));
+        }
+        self.poll_exchanges()
+    }
+
+    // Where an exchange ends in a poll, and hands on the next one, that one goes on in it too.
+    fn poll_exchanges(&mut self) -> Poll<Turn>
+        requires { self.old.broken ≡ None }
+        ensures { PollsOn (seen_by L.seen self.old) (seen_by L.seen self.new) result }
     {
         loop {
             match next_of(self.poll_on()) {

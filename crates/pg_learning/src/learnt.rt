@@ -1,12 +1,16 @@
 ghost use Rattle.std.specs.Prelude.{◌≡◌, map, IfOk, IfErr, OnOk, OnErr};
 ghost use Rattle.pg_resolve.specs.Resolving.{by_oid, no_rows};
+ghost use Rattle.pg_request.specs.Asked.{RefusesType};
+ghost use Rattle.pg_learning.specs.Naming.{begun_names, oids_under, unknown_name, unnumbered};
 ghost use Rattle.pg_learning.specs.Learning.{IsUnsought, Seeks, SeeksNames, SeeksOn, TakesRow, begun_with, learnt_none, types_in, unknown};
 
+use crate::naming::{oids_under, push_unnumbered};
 use crate::pushing::{push_columns, push_names, push_oids};
 use crate::taking::{take_names, take_type};
 use pg_columns::PgColumn;
+use pg_request::Declared;
 use pg_resolve::{ColumnResolver, Resolver, TableCache, TypeCache};
-use pg_wire::{DataRow, Error, Oid, Text};
+use pg_wire::{DataRow, Error, Oid, Oids, Text};
 use std::alloc::Global;
 
 /// What is looked up.
@@ -87,6 +91,35 @@ impl Learnt {
         let resolver = self.types_for(alloc, parameters, columns)?;
         self.seeking = Seeking::Types(resolver);
         Ok(())
+    }
+
+    // What isn't known of types that are declared by their names is asked for.
+    fn names_for(&self, alloc: Global, names: &[Declared]) -> Result<Resolver, Error>
+        ensures ok { IfOk result (λ r. r ≡ record no_rows { pushed = unnumbered self.now.types names.now }) }
+        ensures memory { IfErr result (λ e. e ≡ Error.OutOfMemory) }
+    {
+        let mut resolver = Resolver::new(alloc);
+        push_unnumbered(alloc, &self.types, &mut resolver, names)?;
+        Ok(resolver)
+    }
+
+    /// What isn't known of types that are declared by their names is to be looked up, in place of whatever was; no names of columns come behind it. An
+    /// `Err` is want of memory, and nothing has changed.
+    pub fn begin_names(&mut self, alloc: Global, names: &[Declared]) -> Result<(), Error>
+        ensures ok { OnOk result (self.new ≡ begun_names names.now self.old) }
+        ensures err { IfErr result (λ e. (e ≡ Error.OutOfMemory) × (self.new ≡ self.old)) }
+    {
+        self.seeking = Seeking::Types(self.names_for(alloc, names)?);
+        Ok(())
+    }
+
+    /// The OIDs of types. `TypeNotFound` comes exactly where one isn't known, and has the name of the first, but for want of memory.
+    pub fn oids(&self, alloc: Global, names: &[Declared]) -> Result<Oids, Error>
+        ensures oids { IfOk result (λ oids. oids ≡ oids_under self.now.types names.now) }
+        ensures known { OnOk result (unknown_name self.now.types names.now ≡ None) }
+        ensures cause { IfErr result (RefusesType (unknown_name self.now.types names.now)) }
+    {
+        oids_under(alloc, &self.types, names)
     }
 
     // The lookup of the names of columns, where they are wanted and one isn't known.

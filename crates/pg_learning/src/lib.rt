@@ -2,6 +2,7 @@
 #![tactic(auto)]
 
 mod learnt;
+mod naming;
 mod pushing;
 mod taking;
 

@@ -25,8 +25,8 @@ use Rattle.pg_learning.specs.declared.learnt.Seeking.TheVariants as seekings
 use Rattle.pg_learning.specs.Learning.{FailsSeeking, TakesBy}
 use Rattle.pg_conn.specs.Connections.{ConnOf, ConnSeen, begun_with, resolved, seen_by}
 use Rattle.pg_conn.specs.States.{IsCalling, turn_of}
-use Rattle.pg_conn.specs.Turns.{EndsBy, FailsBy, LookFails, PollsBy, PollsThrough, PollsWithin}
-use Rattle.pg_conn.proofs.StateLaws.{last_calls, resolved_calls}
+use Rattle.pg_conn.specs.Turns.{EndsBy, FailsBy, LookFails, PollsBy, PollsOn, PollsWithin}
+use Rattle.pg_conn.proofs.StateLaws.{first_calls, last_calls, resolved_calls}
 use Rattle.pg_listening.specs.Listening.{IsOpenPool, NoneClosed, TurnsOpen}
 
 -- it is not that error
@@ -57,7 +57,8 @@ row_closed seekings.Nothing values a b place (same, e) = absurd cc
 
 look_closed : (r : Request) (hs : List Frame) (place : ℕ) → LookFails r hs (errors.PoolClosed place) → ⊥
 look_closed r hs place (lookup, is, inl (seeking, f)) = seeking_closed seeking place f
-look_closed r hs place (lookup, is, inr (front, values, before, behind, parts, has, takes)) = row_closed before.seeking values before behind place takes
+look_closed r hs place (lookup, is, inr (inl (front, values, before, behind, parts, has, takes))) = row_closed before.seeking values before behind place takes
+look_closed r hs place (lookup, is, inr (inr (learnt, misses))) = misses
 
 -- ---- an exchange
 
@@ -70,7 +71,7 @@ ends_closed : (a b : ConnSeen) (start : Ledger) (r : Request) (said : List Front
 ends_closed a b start r said hs items place (inl f) = f
 ends_closed a b start r said hs items place (inr f) = fails_closed a b start r f.0.own hs place f.2
 
-through_closed : (begun b : ConnSeen) (kind : Kind) (place : ℕ) → PollsThrough begun b (Ready (turns.Err (errors.PoolClosed place))) → IsCalling kind begun → ⊥
+through_closed : (begun b : ConnSeen) (kind : Kind) (place : ℕ) → PollsOn begun b (Ready (turns.Err (errors.PoolClosed place))) → IsCalling kind begun → ⊥
 through_closed begun b kind place p i =
     let k = resolved_calls kind p.last (last_calls kind p.later begun p.last p.hands i) in
     let turned = p.polled.turns.3 in
@@ -78,7 +79,7 @@ through_closed begun b kind place p i =
     ends_closed (resolved p.last) p.polled.stopped k.0 k.1 (k.2 ++ told.0) (k.3 ++ p.polled.turns.2) k.4 place told.3.1
 
 within_closed : (o : Option ServerFault) (begun a b : ConnSeen) (kind : Kind) (place : ℕ) → PollsBy o begun a b (Ready (turns.Err (errors.PoolClosed place))) → IsCalling kind begun → ⊥
-within_closed None begun a b kind place p i = through_closed begun b kind place p i
+within_closed None begun a b kind place p i = through_closed p.0 b kind place p.2 (first_calls kind begun p.0 b (Ready (turns.Err (errors.PoolClosed place))) p.1 i)
 within_closed (Some fault) begun a b kind place p i = absurd cc
 
 -- ---- a call of any kind

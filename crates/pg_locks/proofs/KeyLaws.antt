@@ -3,7 +3,7 @@ use Rattle.std.proofs.Common.{◌≡◌, List, ℕ, refl, ap, ◌∙◌, subst}
 use Rattle.pg_arguments.specs.Builtin.{builtin_types}
 use Rattle.pg_arguments.specs.Arguments.{Arguments}
 use Rattle.pg_request.specs.Queries.{QueryText}
-use Rattle.pg_request.specs.Asked.{AsksWith, HasBytesOf, bytes_of, kept_query, oids_in, sent_as}
+use Rattle.pg_request.specs.Asked.{AsksWith, HasBytesOf, bytes_of, kept_query, names_in, oids_in, sent_as}
 use Rattle.pg_locks.specs.declared.key.PgAdvisoryLockKey.{PgAdvisoryLockKey}
 use Rattle.pg_locks.specs.declared.key.PgAdvisoryLockKey.TheVariants.{BigInt, IntPair}
 use Rattle.pg_locks.specs.Keys.{HasKey, key_arguments, key_types, key_values, with_key}
@@ -13,6 +13,11 @@ unfolding builtin_types
 types_sent (BigInt number) = refl
 types_sent (IntPair first second) = refl
 
+names_sent : (key : PgAdvisoryLockKey) → names_in (key_types key) ≡ (key_arguments key).names
+unfolding builtin_types
+names_sent (BigInt number) = refl
+names_sent (IntPair first second) = refl
+
 values_sent : (key : PgAdvisoryLockKey) → bytes_of (key_values key) ≡ (key_arguments key).values
 values_sent (BigInt number) = refl
 values_sent (IntPair first second) = refl
@@ -21,4 +26,5 @@ pub query_is : (key : PgAdvisoryLockKey) (sql : List ℕ) (a : Arguments) (q : Q
 query_is key sql a q h v e =
     let types : oids_in a.types ≡ (key_arguments key).types = ap oids_in h.types ∙ types_sent key in
     let values : HasBytesOf a (sent_as a) = subst (λ (x : QueryText). AsksWith a x.arguments) e v in
-    rw (e, types, values (key_values key) h.values, values_sent key) refl
+    let names : names_in a.types ≡ (key_arguments key).names = ap names_in h.types ∙ names_sent key in
+    rw (e, types, names, values (key_values key) h.values, values_sent key) refl

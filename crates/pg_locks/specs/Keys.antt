@@ -12,8 +12,8 @@ use Rattle.pg_request.specs.Asked.{kept_query}
 
 -- an int8, or two int4, in their binary form
 abbrev pub key_arguments : PgAdvisoryLockKey → ArgumentsSeen
-key_arguments (BigInt number) = record { types = 20 ∷ []; values = Some (signed64_bytes number) ∷ [] }
-key_arguments (IntPair first second) = record { types = 23 ∷ 23 ∷ []; values = Some (signed32_bytes first) ∷ Some (signed32_bytes second) ∷ [] }
+key_arguments (BigInt number) = record { types = 20 ∷ []; values = Some (signed64_bytes number) ∷ []; names = [] }
+key_arguments (IntPair first second) = record { types = 23 ∷ 23 ∷ []; values = Some (signed32_bytes first) ∷ Some (signed32_bytes second) ∷ []; names = [] }
 
 -- a query of this text with them, whose statement is kept
 abbrev pub with_key : List ℕ → PgAdvisoryLockKey → QueryText

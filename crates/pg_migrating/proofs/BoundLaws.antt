@@ -8,7 +8,7 @@ use Rattle.std.proofs.lemmas.Bool.{ltb-true}
 use Rattle.pg_wire.specs.declared.error.Error.{Error}
 use Rattle.pg_wire.specs.declared.error.Error.TheVariants as errors
 use Rattle.pg_request.specs.Queries.{QueryText}
-use Rattle.pg_request.specs.Asked.{oids_in, unknown_type, missing_type, sent_as, bytes_of, HasBytesOf, AsksWith, RefusesType, kept_query}
+use Rattle.pg_request.specs.Asked.{are_numbered, names_in, oids_in, missing_type, sent_as, bytes_of, HasBytesOf, AsksWith, RefusesType, kept_query}
 use Rattle.pg_arguments.specs.Types.{TypeParts, oid_of}
 use Rattle.pg_arguments.specs.Builtin.{builtin_types}
 use Rattle.pg_arguments.specs.Encoded.{Encoded, plain, wires}
@@ -27,9 +27,12 @@ has_oid (Int8 z) = refl
 has_oid (Words text) = refl
 has_oid (Bytes bytes) = refl
 
-all_known : (bounds : List Bound) → unknown_type (map bound_type bounds) ≡ None
-all_known [] = refl
-all_known (b ∷ more) = rw (has_oid b) (all_known more)
+all_numbered : (bounds : List Bound) → are_numbered (map bound_type bounds) ≡ true
+all_numbered [] = refl
+all_numbered (b ∷ more) = rw (has_oid b) (all_numbered more)
+
+none_named : (bounds : List Bound) → names_in (map bound_type bounds) ≡ []
+none_named bounds = rw (all_numbered bounds) refl
 
 all_oids : (bounds : List Bound) → oids_in (map bound_type bounds) ≡ map bound_oid bounds
 all_oids [] = refl
@@ -46,7 +49,7 @@ all_bytes (b ∷ more) = ap (λ (vs : List (Option (List ℕ))). Some (bound_byt
 none_missing : (bounds : List Bound) (a : Arguments) → AreBound bounds a → missing_type a ≡ None
 none_missing bounds a h =
     let closed : a.encoded.holes ≡ [] = ap (λ (e : Encoded). e.holes) h.values.2 ∙ none_open bounds in
-    rw (h.types, all_known bounds, closed) refl
+    rw closed refl
 
 -- so want of memory alone refuses them
 never_missing : (bounds : List Bound) (a : Arguments) (e : Error) → AreBound bounds a → RefusesType (missing_type a) e → e ≡ errors.OutOfMemory
@@ -63,7 +66,8 @@ pub query_is : (bounds : List Bound) (sql : List ℕ) (a : Arguments) (q : Query
 query_is bounds sql a q h v e =
     let types : oids_in a.types ≡ map bound_oid bounds = ap oids_in h.types ∙ all_oids bounds in
     let values : HasBytesOf a (sent_as a) = subst (λ (x : QueryText). AsksWith a x.arguments) e v in
-    rw (e, types, values (map bound_value bounds) h.values, all_bytes bounds) refl
+    let names : names_in a.types ≡ [] = ap names_in h.types ∙ none_named bounds in
+    rw (e, types, names, values (map bound_value bounds) h.values, all_bytes bounds) refl
 
 -- ---- one after the other
 

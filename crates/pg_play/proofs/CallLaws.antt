@@ -72,8 +72,8 @@ use Rattle.pg_play.specs.Shown.{item_of, items_with, has_rows, answer_of, IsWant
 use Rattle.pg_startup.specs.Flows.{Flows}
 use Rattle.pg_startup.proofs.FlowLaws.{Flows-then, Flows-none, flows_begun}
 use Rattle.pg_play.proofs.WaitLaws.{still_grown, waits_none, waits_on}
-use Rattle.pg_play.specs.Calls.{Bounds, bounds, failed_by, again, change_fed, change_for, copy_behind, Waited, Went, InPlay, IsPlayingOn, IsPlaying, EndsStarved, IsDropped, IsDroppedAs, broken_after, HasWaitedFew, IsFresh, EndsAtOnce, EndsOn, HasEnded, IsLast, EndsCall, PlaysOne, outcome_of, Ended, StopsBy, behind_end}
-use Rattle.pg_conn.specs.Looking.{Learns}
+use Rattle.pg_play.specs.Calls.{Bounds, bounds, failed_by, again, change_fed, change_for, copy_behind, Waited, Went, InPlay, IsPlayingOn, IsPlaying, EndsStarved, IsDropped, IsDroppedAs, broken_after, HasWaitedFew, IsFresh, IsHeldBack, EndsAtOnce, EndsOn, HasEnded, IsLast, EndsCall, PlaysOne, outcome_of, Ended, StopsBy, behind_end}
+use Rattle.pg_conn.specs.Looking.{Learns, named_by, named_in}
 use Rattle.pg_conn.proofs.ViewLaws.{seen_left}
 use Rattle.pg_conn.proofs.OwedLaws.{run_asks, spelled-append, counts-append}
 use Rattle.pg_conn.proofs.TurnLaws.{Learns-then, tells_from, cleaned_call, kept}
@@ -145,7 +145,15 @@ waited_none a b e = rw (← e) (record { write_waits = 0; read_waits = 0; spent 
 abbrev pub BeatStays : ConnSeen → ConnSeen → List CallItem → List Frame → Type 0
 BeatStays a c items fs = (items ≡ []) × (fs ≡ []) × (record c { stream = record c.stream { left = a.stream.left } } ≡ idle a)
 
--- what no frame can say is refused by the beat, which does nothing else
+-- what can be said, and has no such type, is asked
+pub not_held_back : (r : Request) → CanBeSaid r → named_in r ≡ None → IsHeldBack r → ⊥
+not_held_back r can none (inl u) = u can
+not_held_back r can none (inr (x, e)) = none_some (sym none ∙ e)
+  where
+    none_some : None ≡ Some x → ⊥
+    none_some e = cc
+
+-- what isn't asked is refused by the beat, which does nothing else
 abbrev pub BeatRefuses : ConnSeen → ConnSeen → Request → List CallItem → List Frame → Beat → Type 0
 BeatRefuses a c r items fs (beats.Ends (Err e)) = IsRefusal r e × BeatStays a c items fs
 BeatRefuses a c r items fs _ = ⊥
@@ -170,7 +178,7 @@ pub record AfterBeat (first : StreamSeen) (a c : ConnSeen) (r : Request) (waits 
   pub room : HasAllRoom a → HasAllRoom c
   pub tells : Tells a c a.ledger r said (heard fs) items beat
   pub over : OverPoll first a c waits (length items + again r) beat
-  pub unsaid : (CanBeSaid r → ⊥) → BeatRefuses a c r items fs beat
+  pub unsaid : IsHeldBack r → BeatRefuses a c r items fs beat
   pub unflushed : is_flushed a ≡ true → BeatFlushes a c items fs beat
 
 pub heard_cause : (a b c : StreamSeen) (e : Error) → NoneFalls a.link b.link → HeardCause (record b { left = 256 }) c e → HeardCause a c e
@@ -258,10 +266,10 @@ first_stays left first a b c r waits items said fs gs q i f m e = (
     no_frame [] k = refl
     no_frame (x ∷ xs) k = absurd (omega (arith, k))
 
-refuses_beat : (left : ℕ) (first : StreamSeen) (a b c : ConnSeen) (r : Request) (waits : ℕ) (items : List CallItem) (beat : Beat) (said : List FrontendMessage) (fs gs : List Frame) (q : List ℕ) → InPlay first a b r waits items said fs → IsSayable b.call ⊎ Refused (begun_with left b) c beat → Moves (record b.stream { left = left }) c.stream q gs
-    → (CanBeSaid r → ⊥) → BeatRefuses a c r items (fs ++ gs) beat
+refuses_beat : (left : ℕ) (first : StreamSeen) (a b c : ConnSeen) (r : Request) (waits : ℕ) (items : List CallItem) (beat : Beat) (said : List FrontendMessage) (fs gs : List Frame) (q : List ℕ) → InPlay first a b r waits items said fs → (IsSayable b.call × (named_by b.call ≡ None)) ⊎ Refused (begun_with left b) c beat → Moves (record b.stream { left = left }) c.stream q gs
+    → IsHeldBack r → BeatRefuses a c r items (fs ++ gs) beat
 refuses_beat left first a b c r waits items beat said fs gs q i says m u = elim says [
-  | inl can ↦ absurd (u (subst IsSayable asked can))
+  | inl can ↦ absurd (not_held_back r (subst IsSayable asked can.0) (sym (ap named_by asked) ∙ can.1) u)
   | inr refused ↦ by beat refused
 ]
   where
@@ -321,7 +329,7 @@ fed_shows_none start (requests.CopyIn feed) said hs items item ledger calls.Idle
 fed_shows_none start _ said hs items item ledger call i = refl
 
 pub after_beat : (left : ℕ) (old first : StreamSeen) (a b m : ConnSeen) (r : Request) (before waits : ℕ) (items : List CallItem) (beat : Beat) (said : List FrontendMessage) (fs : List Frame) → InPlay old a b r before items said fs → TakesBeat (begun_with left b) m beat → m.broken ≡ None
-    → IsSayable b.call ⊎ Refused (begun_with left b) m beat → EndsFlush (begun_with left b) m beat → OverPoll first a m waits (length items + again r) beat → AfterSome first a m r waits items beat
+    → (IsSayable b.call × (named_by b.call ≡ None)) ⊎ Refused (begun_with left b) m beat → EndsFlush (begun_with left b) m beat → OverPoll first a m waits (length items + again r) beat → AfterSome first a m r waits items beat
 after_beat left old first a b m r before waits items beat said fs i t whole says flush over =
     let turns = t.3 in
     let told = turns.tells a.ledger r said (heard fs) items i.call in
@@ -384,7 +392,7 @@ goes_yields None most first a c r waits shown item n h =
 goes_yields (Some fault) most first a c r waits shown item n h = let e = h.1 in absurd cc
 
 -- an end that the first poll doesn't make
-pub not_at_once : (a c : ConnSeen) (r : Request) (shown : List Item) (end : End) (fs : List Frame) → ((CanBeSaid r → ⊥) → ⊥) → (is_flushed a ≡ true → ⊥) → EndsAtOnce a c r shown end fs
+pub not_at_once : (a c : ConnSeen) (r : Request) (shown : List Item) (end : End) (fs : List Frame) → (IsHeldBack r → ⊥) → (is_flushed a ≡ true → ⊥) → EndsAtOnce a c r shown end fs
 not_at_once a c r shown end fs n m = record { refused = λ u. absurd (n u); flushed = λ f. absurd (m f) }
 
 -- an end on a connection that was whole
@@ -619,7 +627,7 @@ goes_err limits (Some fault) first a c r waits shown err l e h = rw (same_error 
 
 -- a call that runs can be polled again
 drops : (limits : Limits) (o : Option ServerFault) (most : ℕ) (first : StreamSeen) (a c : ConnSeen) (r : Request) (waits : ℕ) (items : List CallItem) (shown : List Item) (said : List FrontendMessage) (fs : List Frame) → a.broken ≡ None → shown ≡ map item_of items → InPlay first a c r waits items said fs
-    → ((CanBeSaid r → ⊥) → ⊥) → (is_flushed a ≡ true → ⊥) → waits ≤ limits.polls → IsDropped (bounds limits) first a c [] [] shown → length shown ≤ limits.most → length items + again r ≤ limits.most → StopsBy (bounds limits) first a c r shown ends.Dropped
+    → (IsHeldBack r → ⊥) → (is_flushed a ≡ true → ⊥) → waits ≤ limits.polls → IsDropped (bounds limits) first a c [] [] shown → length shown ≤ limits.most → length items + again r ≤ limits.most → StopsBy (bounds limits) first a c r shown ends.Dropped
 drops limits o most first a c r waits items shown said fs e k i n m l d b x =
     let ended = ended_whole (bounds limits) first a c r shown ends.Dropped said fs e i.went i.broken (waits, i.waited, (λ n. absurd (n refl), l)) i.room (omega (arith, i.calls, l, x)) (not_at_once a c r shown ends.Dropped fs n m)
     (items, k, leaves_call a.ledger r said (heard fs) items c.ledger c.call i.call, call_well a.ledger r said (heard fs) items c.ledger c.call i.call, d, b) tt in

@@ -216,7 +216,8 @@ look_cause at step own slice next e h = by e fails (look_errors (request_of at.r
     by : (e : Error) → FailsToLook step slice e → IsLookError e → Causes at step own slice next e
     by e f (inl memory) = subst (Causes at step own slice next) (sym memory) tt
     by e f (inr (inl (oids, is))) = subst (Causes at step own slice next) (sym is) (subst (FailsToLook step slice) is f)
-    by e f (inr (inr (place, is))) = subst (Causes at step own slice next) (sym is) (subst (FailsToLook step slice) is f)
+    by e f (inr (inr (inl (place, is)))) = subst (Causes at step own slice next) (sym is) (subst (FailsToLook step slice) is f)
+    by e f (inr (inr (inr (name, is)))) = subst (Causes at step own slice next) (sym is) (subst (FailsToLook step slice) is f)
 
 -- ---- an end, of whatever kind
 

@@ -33,9 +33,9 @@ use Rattle.pg_play.specs.Causes.{IsAskedToCopy, Causes, IsDropped, IsDroppedAs, 
 use Rattle.pg_play.specs.Complete.{IsFaultless, IsFairError, WasCutShort, IsGivenUp, IsFairEnd, EndFairly, WhereFaultless}
 use Rattle.pg_script.specs.declared.step.Call.{Call}
 use Rattle.pg_rule.specs.declared.rule.Rule.{Rule}
-use Rattle.pg_play.proofs.ExchangeLaws.{IsOf, first_is_of, next_is_of, wants_so}
+use Rattle.pg_play.proofs.ExchangeLaws.{IsOf, first_is_of, next_is_of, wants_so, before_is_of, describes_call}
 use Rattle.pg_play.proofs.SettleLaws.{left_frames, left_link}
-use Rattle.pg_play.specs.Plays.{Plays_call, Plays_exchange, Plays_exchanges, last_of, FirstIs, Hands, HandsOn, Plays_step, Plays_from, AsksForNoCopy}
+use Rattle.pg_play.specs.Plays.{Plays_call, Plays_exchange, Plays_exchanges, last_of, FirstIs, Hands, HandsOn, Plays_step, Plays_from, AsksForNoCopy, BeginsAs, begun_at}
 use Rattle.pg_call.specs.Replies.{awaits_first, awaits_run, begins_copy}
 use Rattle.pg_call.proofs.RefusedLaws.{IsPlain, closing_plain, copies_begin, plain_after}
 use Rattle.pg_script.specs.declared.step.Call.TheVariants as calls
@@ -44,10 +44,14 @@ use Rattle.pg_script.specs.declared.step.Parting.TheVariants as partings
 use Rattle.pg_call.specs.declared.request.Request.{Request}
 use Rattle.pg_conn.specs.Statements.{asked_by}
 use Rattle.pg_report.specs.declared.outcome.Answer.TheVariants.{Unit as AnswersUnit}
-use Rattle.pg_play.specs.Shown.{ComesBehind, IsPartOf, LooksOn, parting_of, request_of, copies, exchange_for, handed_by, next_call}
+use Rattle.pg_play.specs.Shown.{ComesBehind, IsPartOf, LooksOn, parting_of, request_of, copies, exchange_for, handed_by, next_call, first_call}
 use Rattle.pg_play.proofs.RepliesLaws.{starts_copy, StartsNoCopy, all_prefix, replies_start_no_copy, replies_are_said}
 use Rattle.pg_play.proofs.LinkLaws.{Refutes, breaks_first, fault_breaks, broken_in, broken_stays, some_first, front_read, front_heard, taken_heard, hears_groups, unlawful_refuted}
 use Rattle.pg_wire.proofs.Each.{each_last}
+use Rattle.pg_learning.specs.declared.learnt.Learnt.{Learnt}
+use Rattle.pg_call.specs.declared.statement.Extended.{Extended}
+use Rattle.pg_conn.specs.Looking.{named_in}
+use Rattle.pg_play.proofs.ThroughLaws.{named_is}
 
 -- ---- lists
 
@@ -67,7 +71,7 @@ counts_on : (at : Place) (steps : List Step) (outs : List Outcome) (last : Place
 counts_on at [] [] last run = subst (λ (p : Place). NoneFalls at.seen.link p.seen.link) (sym run) (NoneFalls-refl at.seen.link)
 counts_on at [] (o ∷ outs) last run = absurd run
 counts_on at (s ∷ steps) [] last run = absurd run
-counts_on at (s ∷ steps) (o ∷ outs) last run = NoneFalls-then at.seen.link run.0.seen.link last.seen.link (counts_in at run.1.exchanges run.1.outs run.0 run.1.run) (counts_on run.0 steps outs last run.2)
+counts_on at (s ∷ steps) (o ∷ outs) last run = NoneFalls-then at.seen.link run.0.seen.link last.seen.link (counts_in (begun_at at run.1.learnt) run.1.exchanges run.1.outs run.0 run.1.run) (counts_on run.0 steps outs last run.2)
 
 heard_still : (at last : Place) → last ≡ at → IsPrefixOf (heard at.frames) (heard last.frames)
 heard_still at last run = ([], append-nil (heard at.frames) ∙ sym (ap (λ (p : Place). heard p.frames) run))
@@ -82,7 +86,7 @@ heard_on : (at : Place) (steps : List Step) (outs : List Outcome) (last : Place)
 heard_on at [] [] last run = heard_still at last run
 heard_on at [] (o ∷ outs) last run = absurd run
 heard_on at (s ∷ steps) [] last run = absurd run
-heard_on at (s ∷ steps) (o ∷ outs) last run = prefix_trans (heard at.frames) (heard run.0.frames) (heard last.frames) (heard_in at run.1.exchanges run.1.outs run.0 run.1.run) (heard_on run.0 steps outs last run.2)
+heard_on at (s ∷ steps) (o ∷ outs) last run = prefix_trans (heard at.frames) (heard run.0.frames) (heard last.frames) (heard_in (begun_at at run.1.learnt) run.1.exchanges run.1.outs run.0 run.1.run) (heard_on run.0 steps outs last run.2)
 
 -- ---- the last place isn't broken
 
@@ -164,6 +168,7 @@ fair_error first at call step own slice next last (errors.BeginFailed status) pa
 fair_error first at call step own slice next last errors.InvalidSavePointStatement part g a b n k c = part.opens_with c.0.0
 fair_error first at call step own slice next last (errors.Protocol (protocol.Types oids)) part g a b n k c = (c.0, subst (IsPartOf call) c.1 part.is_part)
 fair_error first at call step own slice next last (errors.ColumnDecode place) part g a b n k c = (c.0, subst (IsPartOf call) c.1 part.is_part)
+fair_error first at call step own slice next last (errors.TypeNotFound name) part g a b n k c = (c.0, subst (IsPartOf call) c.1 part.is_part)
 fair_error first at call step own slice next last errors.RowNotFound part g a b n k c = part.wants (wants_so step.call c.wants)
 fair_error first at call step own slice next last _ part g a b n k c = absurd c
 
@@ -233,11 +238,18 @@ are_of call at (s ∷ steps) (o ∷ outs) last run rule end asks of h k =
     let mine = of s.call h.0 h.1 in
     (mine, are_of call run.0 steps outs last run.2 run.0.rule o.end run.1.settles.asks (λ part e c. next_is_of run.0.rule call s.call part run.1.call.told.response mine (comes_behind at s o run.0 run.1 part e c)) k.0 k.1)
 
-all_are_of : (step : Step) (at : Place) (steps : List Step) (outs : List Outcome) (last : Place) (run : Plays_exchanges at steps outs last) → FirstIs at.rule step steps → HandsOn at steps outs last run → AreOf step.call steps
-all_are_of step at [] outs last run f k = tt
-all_are_of step at (s ∷ steps) [] last run f k = absurd run
-all_are_of step at (s ∷ steps) (o ∷ outs) last run f k =
-    let mine = subst (IsOf step.call) (sym (ap (λ (x : Step). x.call) f)) (first_is_of at.rule step.call) in
+-- the first exchange, or what comes before it
+begins_of : (at : Place) (step : Step) (o : Option Extended) (groups : ℕ) (call : Call) (learnt : Learnt) → named_in (request_of at.rule.depth (first_call at.rule step.call)) ≡ o → BeginsAs o (first_call at.rule step.call) at.learnt groups call learnt → IsOf step.call call
+begins_of at step None groups call learnt n (same, l) = subst (IsOf step.call) (sym same) (first_is_of at.rule step.call)
+begins_of at step (Some x) groups call learnt n (inl (same, l, g)) = subst (IsOf step.call) (sym same) (first_is_of at.rule step.call)
+begins_of at step (Some x) groups call learnt n (inr (next, looks, is)) =
+    subst (IsOf step.call) (sym is) (before_is_of at.rule step.call x next at.learnt learnt (describes_call at.rule.depth (first_call at.rule step.call) x (named_is (request_of at.rule.depth (first_call at.rule step.call)) x n)) looks)
+
+all_are_of : (step : Step) (origin : Place) (out : Outcome) (learnt : Learnt) (at : Place) (steps : List Step) (outs : List Outcome) (last : Place) (run : Plays_exchanges at steps outs last) → FirstIs origin step out learnt steps → HandsOn at steps outs last run → AreOf step.call steps
+all_are_of step origin out learnt at [] outs last run f k = tt
+all_are_of step origin out learnt at (s ∷ steps) [] last run f k = absurd run
+all_are_of step origin out learnt at (s ∷ steps) (o ∷ outs) last run f k =
+    let mine = begins_of origin step (named_in (request_of origin.rule.depth (first_call origin.rule step.call))) out.groups s.call learnt refl f.0 in
     (mine, are_of step.call run.0 steps outs last run.2 run.0.rule o.end run.1.settles.asks (λ part e c. next_is_of run.0.rule step.call s.call part run.1.call.told.response mine (comes_behind at s o run.0 run.1 part e c)) k.0 k.1)
 
 fair_in : (first : LinkSeen) (call : Call) (before : Outcome) (at : Place) (steps : List Step) (outs : List Outcome) (next last : Place) → Holds first last → NoneFalls first at.seen.link → Plays_exchanges at steps outs next → LeadsTo next last → AreOf call steps
@@ -252,15 +264,15 @@ fair_in first call before at (s ∷ steps) (o ∷ outs) next last g a run l part
 step_fair : (first : LinkSeen) (at : Place) (step : Step) (out : Outcome) (next last : Place) → Holds first last → NoneFalls first at.seen.link → (one : Plays_step at step out next) → LeadsTo next last → IsFairEnd step out out.end
 step_fair first at step out next last g a one l = by out.end refl
   where
-    error_at : (xs : List Step) (ys : List Outcome) → Plays_exchanges at xs ys next → FirstIs at.rule step xs → AreOf step.call xs → (e : Error) → (last_of out ys).end ≡ ends.Err e → IsFairError step.call e
-    error_at [] ys run f parts e k = absurd (some_first at.rule step f)
+    error_at : (xs : List Step) (ys : List Outcome) → Plays_exchanges (begun_at at one.learnt) xs ys next → FirstIs at step out one.learnt xs → AreOf step.call xs → (e : Error) → (last_of out ys).end ≡ ends.Err e → IsFairError step.call e
+    error_at [] ys run f parts e k = absurd (some_first at step out one.learnt f)
     error_at (x ∷ xs) [] run f parts e k = absurd run
-    error_at (x ∷ xs) (y ∷ ys) run f parts e k = fair_in first step.call y run.0 xs ys next last g (NoneFalls-then first at.seen.link run.0.seen.link a run.1.counts) run.2 l parts.1 (λ z h. exchange_fair first at step.call x y run.0 last parts.0 g a run.1 (leads_in run.0 xs ys next last run.2 l) z h) e k
+    error_at (x ∷ xs) (y ∷ ys) run f parts e k = fair_in first step.call y run.0 xs ys next last g (NoneFalls-then first at.seen.link run.0.seen.link a run.1.counts) run.2 l parts.1 (λ z h. exchange_fair first (begun_at at one.learnt) step.call x y run.0 last parts.0 g a run.1 (leads_in run.0 xs ys next last run.2 l) z h) e k
 
     by : (end : End) → out.end ≡ end → IsFairEnd step out end
     by (ends.Ok answer) e = tt
     by ends.Dropped e = cut_short at step out one.stop (one.dropped e)
-    by (ends.Err x) e = error_at one.exchanges one.outs one.run one.first (all_are_of step at one.exchanges one.outs next one.run one.first one.hands) x (sym one.tells.ends ∙ e)
+    by (ends.Err x) e = error_at one.exchanges one.outs one.run one.first (all_are_of step at out one.learnt (begun_at at one.learnt) one.exchanges one.outs next one.run one.first one.hands) x (sym one.tells.ends ∙ e)
 
 all_fair : (first : LinkSeen) (at : Place) (steps : List Step) (outs : List Outcome) (last : Place) → Holds first last → NoneFalls first at.seen.link → Plays_from at steps outs last → EndFairly steps outs
 all_fair first at [] [] last g a run = tt
@@ -270,7 +282,7 @@ all_fair first at (s ∷ steps) (o ∷ outs) last g a run =
     let next = run.0 in
     let one = run.1 in (
       step_fair first at s o next last g a one (leads_on next steps outs last run.2),
-      all_fair first next steps outs last g (NoneFalls-then first at.seen.link next.seen.link a (counts_in at one.exchanges one.outs next one.run)) run.2,
+      all_fair first next steps outs last g (NoneFalls-then first at.seen.link next.seen.link a (counts_in (begun_at at one.learnt) one.exchanges one.outs next one.run)) run.2,
     )
 
 pub where_faultless : (first : LinkSeen) (at last : Place) (steps : List Step) (outs : List Outcome) → Plays_from at steps outs last → NoneFalls first at.seen.link → at.broken ≡ None → AllByRecursion HasFrontendFrame last.said → AllByRecursion (IsWhole backend_tags) last.frames

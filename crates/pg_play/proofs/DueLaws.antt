@@ -200,7 +200,7 @@ duly_step start at a b step r out said fs items st n o p e s k flush most = reco
         inl (untouched_by b out (ends.Err (errors.Protocol (protocol.Server fault))) k h.3 h.0 (did_nothing r a _ h.4)),
         kept_place start at a b r said s.own fs out.end fault st w h.1 own (e.kept fault broken) h.4,
       );
-  refused = λ w m x u. refused_step start at a b r out said fs items st w u k ((e.at_once (st.broken ∙ w)).refused u) s;
+  refused = λ w m x u. refused_step start at a b r out said fs items st w u k ((e.at_once (st.broken ∙ w)).refused (inl u)) s;
   flushed = λ w m c o u. flushed_step start at a b r out said fs items st (flush c) k ((e.at_once (st.broken ∙ w)).flushed (flush_at start at a r st (flush c) o u)) s;
   few = few_of (begun_call r a).stream b step out refl refl k p e.few;
   most = most;

@@ -1,10 +1,11 @@
 -- The exchanges of a call.
-use Rattle.std.proofs.Common.{◌≡◌, ◌⊎◌, ℕ, zero, suc, nat_eq, Bool, true, false, cond, List, [], length, subst, refl, sym, ap, ◌∙◌, Option, Some, None, option_map, Ok, inl, inr}
+use Rattle.std.proofs.Common.{◌≡◌, ◌⊎◌, ℕ, zero, suc, nat_eq, Bool, true, false, cond, List, [], ◌∷◌, length, subst, refl, sym, ap, ◌∙◌, Option, Some, None, option_map, Ok, inl, inr}
 use Rattle.std.proofs.lemmas.Option.{same_Some}
 use Rattle.pg_wire.specs.declared.status.TransactionStatus.{TransactionStatus}
 use Rattle.pg_wire.specs.Backend.{BackendMessage, FieldDescription}
 use Rattle.pg_exchanges.specs.Answering.{described}
 use Rattle.pg_request.specs.Queries.{QueryText, ArgumentsSeen}
+use Rattle.pg_request.specs.declared.naming.Declared.{Declared}
 use Rattle.pg_request.specs.declared.preparation.Preparation.{Preparation}
 use Rattle.pg_call.specs.declared.kind.How.{How}
 use Rattle.pg_call.specs.declared.kind.How.TheVariants as hows
@@ -22,14 +23,15 @@ use Rattle.pg_call.specs.declared.request.Request.TheVariants as requests
 use Rattle.pg_call.specs.declared.answer.CallAnswer.TheVariants as answers
 use Rattle.pg_call.specs.declared.statement.Goal.{Goal}
 use Rattle.pg_call.specs.declared.statement.Goal.TheVariants as goals
-use Rattle.pg_call.specs.Requests.{kind_of, groups_of, request_behind, behind_goal}
+use Rattle.pg_call.specs.Requests.{kind_of, groups_of, numbered_by, request_behind, behind_goal}
 use Rattle.pg_call.specs.Items.{parameters_after}
 use Rattle.pg_rule.specs.declared.cache.Entry.{Entry}
 use Rattle.pg_rule.specs.declared.rule.Rule.{Rule}
 use Rattle.pg_rule.specs.Caches.{entry_at}
 use Rattle.pg_rule.specs.Rules.{holding}
 use Rattle.pg_learning.specs.declared.learnt.Learnt.{Learnt}
-use Rattle.pg_conn.specs.Looking.{LooksFor, LooksUp, looked, no_text}
+use Rattle.pg_learning.specs.Naming.{oids_under}
+use Rattle.pg_conn.specs.Looking.{IsNumbered, LooksFor, LooksNamed, LooksUp, looked, no_text}
 use Rattle.pg_conn.specs.Statements.{asked_by, begun_as, behind_description, by_leaving, entry_of, held_behind, held_by, leaving, prepare_by, query_by, run_or_describe, tell_or_describe}
 use Rattle.pg_conn.specs.States.{to_prepare}
 use Rattle.pg_call.specs.Calls.{answer_by}
@@ -192,7 +194,7 @@ copies_none _ how e = refl
 first_copies : (rule : Rule) (call : Call) → copies (first_call rule call) ≡ copies call
 first_copies rule call = kept_first copies (record { queries = copies_none; exchanges = λ r. (exchange_polled r).3; prepares = λ p. refl; clears = refl }) rule call
 
-exchange_parts : (r : Request) → parting_of (exchange_for r) ≡ partings.None
+pub exchange_parts : (r : Request) → parting_of (exchange_for r) ≡ partings.None
 exchange_parts (requests.Describe x) = refl
 exchange_parts (requests.Run bound) = refl
 exchange_parts (requests.Evict eviction) = refl
@@ -219,7 +221,7 @@ first_parts rule calls.Clear = exchange_parts (asked_by rule (begun_as rule (req
 first_parts rule _ = refl
 
 -- how the query is run that an exchange is of
-abbrev goal_how : Goal → Option How
+abbrev pub goal_how : Goal → Option How
 goal_how (goals.Run how) = Some how
 goal_how goals.Prepare = None
 
@@ -405,31 +407,66 @@ hands_so rule _ reply next e = absurd cc
 
 -- ---- what is looked up before it
 
--- a lookup for a statement that was described
+-- a statement that wasn't described yet is asked for as it is, and is not held
+pub undescribed_asks : (rule : Rule) (x : Extended) → x.described ≡ None → asked_by rule (requests.Describe x) ≡ requests.Describe x
+undescribed_asks rule x e = ap (λ (o : Option Described). behind_description rule x o) e
+
+pub undescribed_held : (rule : Rule) (x : Extended) → x.described ≡ None → held_by rule (requests.Describe x) ≡ rule
+undescribed_held rule x e = ap (λ (o : Option Described). held_behind rule x o) e
+
+-- a lookup for a statement: behind its description, or before that for the types of its arguments
 pub record IsLooked (told next : Request) : Type 0 where
   pub extended : Extended
-  pub description : Described
   pub text : List ℕ
   pub tells : told ≡ requests.Describe extended
-  pub is_described : extended.described ≡ Some description
   pub asks : next ≡ requests.Look (record { text = text; extended = record extended { is_looked_up = true } })
 
-pub looks_or : (told next : Request) (a b : Learnt) → LooksUp told a next b → (next ≡ told) ⊎ IsLooked told next
+-- its description, once the OIDs of these types are known
+pub record IsFound (told next : Request) : Type 0 where
+  pub extended : Extended
+  pub oids : List ℕ
+  pub tells : told ≡ requests.Describe extended
+  pub undescribed : extended.described ≡ None
+  pub asks : next ≡ requests.Describe (numbered_by oids extended)
+
+-- so this is asked where that was handed on
+abbrev pub LeadsTo : Request → Request → Type 0
+LeadsTo told next = (next ≡ told) ⊎ (IsLooked told next ⊎ IsFound told next)
+
+pub looks_or : (told next : Request) (a b : Learnt) → LooksUp told a next b → LeadsTo told next
 looks_or (requests.Describe x) next a b h = by x.described refl h
   where
-    by_text : (d : Described) → x.described ≡ Some d → (text : Option (List ℕ)) → next ≡ looked x text → (next ≡ requests.Describe x) ⊎ IsLooked (requests.Describe x) next
-    by_text d e None is = inl is
-    by_text d e (Some text) is = inr (record { extended = x; description = d; text = text; tells = refl; is_described = e; asks = is })
+    by_text : (text : Option (List ℕ)) → next ≡ looked x text → LeadsTo (requests.Describe x) next
+    by_text None is = inl is
+    by_text (Some text) is = inr (inl (record { extended = x; text = text; tells = refl; asks = is }))
 
-    by : (o : Option Described) → x.described ≡ o → LooksFor x o a next b → (next ≡ requests.Describe x) ⊎ IsLooked (requests.Describe x) next
-    by None e h = inl h.0
-    by (Some d) e (inl (text, seeks, is)) = by_text d e text is
-    by (Some d) e (inr h) = by_text d e (Some no_text) h.0
+    found : (text : Option (List ℕ)) → x.described ≡ None → IsNumbered x b text next → LeadsTo (requests.Describe x) next
+    found None e h = inr (inr (record { extended = x; oids = oids_under b.types x.arguments.names; tells = refl; undescribed = e; asks = h.1 }))
+    found (Some text) e h = by_text (Some text) h
+
+    named : (names : List Declared) → x.described ≡ None → LooksNamed x names a next b → LeadsTo (requests.Describe x) next
+    named [] e h = inl h.0
+    named (name ∷ names) e (inl (text, seeks, is)) = found text e is
+    named (name ∷ names) e (inr h) = by_text (Some no_text) h.0
+
+    by : (o : Option Described) → x.described ≡ o → LooksFor x o a next b → LeadsTo (requests.Describe x) next
+    by None e h = named x.arguments.names e h
+    by (Some d) e (inl (text, seeks, is)) = by_text text is
+    by (Some d) e (inr h) = by_text (Some no_text) h.0
 looks_or _ next a b h = inl h.0
 
-looks_so : (rule : Rule) (told next : Request) → (next ≡ told) ⊎ IsLooked told next → HandsSo rule told → HandsSo rule next
+looks_so : (rule : Rule) (told next : Request) → LeadsTo told next → HandsSo rule told → HandsSo rule next
 looks_so rule told next (inl same) h = subst (HandsSo rule) (sym same) h
-looks_so rule told next (inr l) h = subst (HandsSo rule) (sym l.asks) (record { stands = tt; same = refl })
+looks_so rule told next (inr (inl l)) h = subst (HandsSo rule) (sym l.asks) (record { stands = tt; same = refl })
+looks_so rule told next (inr (inr f)) h =
+    let x = numbered_by f.oids f.extended in
+    subst (HandsSo rule) (sym f.asks) (record { stands = described_exchange rule x; same = described_held rule x })
+
+-- what isn't described yet is held neither as it is handed on nor as it is asked
+pub undescribed_next : (rule : Rule) (told next : Request) (x : Extended) → told ≡ requests.Describe x → x.described ≡ None → LeadsTo told next → held_by rule next ≡ rule
+undescribed_next rule told next x tells e (inl same) = ap (held_by rule) (same ∙ tells) ∙ undescribed_held rule x e
+undescribed_next rule told next x tells e (inr (inl l)) = ap (held_by rule) l.asks
+undescribed_next rule told next x tells e (inr (inr f)) = ap (held_by rule) f.asks ∙ undescribed_held rule (numbered_by f.oids f.extended) f.undescribed
 
 -- What comes behind an exchange of one group asks what was handed on, or what is looked up for it, wherever it begins, and is polled.
 pub record NextIs (rule : Rule) (d : ℕ) (call : Call) (reply : List BackendMessage) (told next : Request) : Type 0 where
@@ -511,9 +548,13 @@ handed_how rule _ response told e = absurd cc
 pub next_how : (rule : Rule) (call : Call) (response : List BackendMessage) (part : Call) → ComesBehind rule call response part → runs_how part ≡ runs_how call
 next_how rule call response part (told, a, b, next, handed, looks, is) = ap runs_how is ∙ by (looks_or told next a b looks) ∙ handed_how rule call response told handed
   where
-    by : (next ≡ told) ⊎ IsLooked told next → runs_how (exchange_for (asked_by rule next)) ≡ runs_how (exchange_for (asked_by rule told))
-    by (inl same) = ap (λ (r : Request). runs_how (exchange_for (asked_by rule r))) same
-    by (inr l) = ap (λ (r : Request). runs_how (exchange_for (asked_by rule r))) l.asks ∙ sym (ap (λ (r : Request). runs_how (exchange_for (asked_by rule r))) l.tells ∙ described_how rule l.extended)
+    how : Request → Option How
+    how r = runs_how (exchange_for (asked_by rule r))
+
+    by : LeadsTo told next → how next ≡ how told
+    by (inl same) = ap how same
+    by (inr (inl l)) = ap how l.asks ∙ sym (ap how l.tells ∙ described_how rule l.extended)
+    by (inr (inr f)) = ap how f.asks ∙ described_how rule (numbered_by f.oids f.extended) ∙ sym (ap how f.tells ∙ described_how rule f.extended)
 
 -- no exchange of a copy from the client comes behind another
 pub next_parts : (rule : Rule) (call : Call) (response : List BackendMessage) (part : Call) → ComesBehind rule call response part → parting_of part ≡ parting_of call
@@ -541,12 +582,53 @@ pub record IsOf (call part : Call) : Type 0 where
 
 pub first_is_of : (rule : Rule) (call : Call) → IsOf call (first_call rule call)
 first_is_of rule call = record {
-  is_part = (0, (rule, refl));
+  is_part = (0, (rule, inl refl));
   opens = λ b. sym (first_begins rule call) ∙ b;
   opens_with = λ b. sym (first_begins_with rule call) ∙ b;
   wants = first_wants rule call;
   copies = λ b. sym (first_copies rule call) ∙ b;
 }
+
+-- a description stands as one
+pub describes_call : (d : ℕ) (call : Call) (x : Extended) → request_of d call ≡ requests.Describe x → call ≡ calls.Describe x
+describes_call d call x is = by (hands_by d call (ap kind_of is)) is
+  where
+    same : (y : Extended) → requests.Describe y ≡ requests.Describe x → calls.Describe y ≡ calls.Describe x
+    same y e = cc
+
+    closes : (v : Eviction) → requests.Evict v ≡ requests.Describe x → ⊥
+    closes v e = cc
+
+    looks : (l : Lookup) → requests.Look l ≡ requests.Describe x → ⊥
+    looks l e = cc
+
+    by : HandsBy call → request_of d call ≡ requests.Describe x → call ≡ calls.Describe x
+    by (inl (y, c)) e = c ∙ same y (sym (ap (request_of d) c) ∙ e)
+    by (inr (inl (v, c))) e = absurd (closes v (sym (ap (request_of d) c) ∙ e))
+    by (inr (inr (l, c))) e = absurd (looks l (sym (ap (request_of d) c) ∙ e))
+
+-- what comes before it is of the same query
+pub before_how : (x : Extended) (next : Request) (a b : Learnt) → LooksUp (requests.Describe x) a next b → runs_how (exchange_for next) ≡ goal_how x.goal
+before_how x next a b looks = by (looks_or (requests.Describe x) next a b looks)
+  where
+    same : (y : Extended) → requests.Describe x ≡ requests.Describe y → goal_how y.goal ≡ goal_how x.goal
+    same y e = ap (λ (r : Request). runs_how (exchange_for r)) (sym e)
+
+    by : LeadsTo (requests.Describe x) next → runs_how (exchange_for next) ≡ goal_how x.goal
+    by (inl is) = ap (λ (r : Request). runs_how (exchange_for r)) is
+    by (inr (inl l)) = ap (λ (r : Request). runs_how (exchange_for r)) l.asks ∙ same l.extended l.tells
+    by (inr (inr f)) = ap (λ (r : Request). runs_how (exchange_for r)) f.asks ∙ same f.extended f.tells
+
+pub before_is_of : (rule : Rule) (call : Call) (x : Extended) (next : Request) (a b : Learnt) → first_call rule call ≡ calls.Describe x → LooksUp (requests.Describe x) a next b → IsOf call (exchange_for next)
+before_is_of rule call x next a b is looks =
+    let none = exchange_polled next in
+    record {
+      is_part = (0, (rule, inr (x, a, b, next, is, looks, refl)));
+      opens = λ k. let y = sym none.1 ∙ k in absurd cc;
+      opens_with = λ k. let y = sym none.2 ∙ k in absurd cc;
+      copies = λ k. let y = sym none.3 ∙ k in absurd cc;
+      wants = λ w. first_wants rule call (ap (λ (c : Call). wants_how (runs_how c)) is ∙ ap wants_how (sym (before_how x next a b looks)) ∙ w);
+    }
 
 pub next_is_of : (rule : Rule) (call part next : Call) (response : List BackendMessage) → IsOf call part → ComesBehind rule part response next → IsOf call next
 next_is_of rule call part next response of k =

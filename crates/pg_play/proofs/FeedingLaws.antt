@@ -17,7 +17,9 @@ use Rattle.pg_call.specs.declared.answer.CallItem.{CallItem}
 use Rattle.pg_call.specs.declared.ledger.Ledger.{Ledger}
 use Rattle.pg_call.specs.declared.judging.Part.{Part}
 use Rattle.pg_call.specs.declared.judging.Part.TheVariants.{Feeding, Opening}
-use Rattle.pg_call.specs.Requests.{spelled, CanBeSaid, ended_by, feeding}
+use Rattle.pg_call.specs.declared.kind.Kind.{Kind}
+use Rattle.pg_call.specs.declared.kind.Kind.TheVariants as kinds
+use Rattle.pg_call.specs.Requests.{spelled, CanBeSaid, ended_by, feeding, kind_of}
 use Rattle.pg_call.specs.Replies.{part_after}
 use Rattle.pg_call.specs.Drains.{before_readys, drain_fails}
 use Rattle.pg_call.specs.Hearing.{IsOpen, fed_part, fed_whole}
@@ -38,7 +40,7 @@ use Rattle.pg_play.specs.Shown.{item_of}
 use Rattle.pg_play.specs.declared.tally.Pause.TheVariants as pauses
 use Rattle.pg_play.proofs.ThroughLaws.{handed_described}
 use Rattle.pg_play.specs.Calls.{bounds, InCopy, InPlay, IsCopying, OfLast, Pauses, StopsBy, IsUnpolled, untouched, Waited, Went, change_for}
-use Rattle.pg_play.proofs.CallLaws.{below_items, ended_whole, ends_few, few_calls, not_at_once, unasked_stays}
+use Rattle.pg_play.proofs.CallLaws.{below_items, ended_whole, ends_few, few_calls, not_at_once, not_held_back, unasked_stays}
 use Rattle.pg_report.specs.declared.outcome.Outcome.{Outcome}
 use Rattle.pg_script.specs.declared.step.Step.{Step}
 use Rattle.pg_script.specs.declared.step.Call.TheVariants as calls
@@ -240,7 +242,7 @@ copy_ended first c b feed waits items said fs g i =
       room = λ h. let k = room (omega (arith, h, level_at_first c.groups g changes.Copies, ap (λ (x : Change). level_of x c.groups) (unended_changes feed e))) in omega (arith, k, same_room b.call i.is_open, no_level b.groups);
       waited = waited_fed waits first b (CopyDone ∷ []) i.waited;
       calls = omega (arith, i.calls);
-      unsaid = λ u. absurd (u (feed_said feed (fed_all feed) refl (said_can c.ledger (requests.CopyIn feed) said (heard fs) items b.ledger b.call i.is_open i.call)));
+      unsaid = λ u. absurd (not_held_back (requests.CopyIn (fed_all feed)) (feed_said feed (fed_all feed) refl (said_can c.ledger (requests.CopyIn feed) said (heard fs) items b.ledger b.call i.is_open i.call)) refl u);
       unflushed = λ f. absurd cc;
     }
   where
@@ -255,14 +257,17 @@ copy_stops limits c b feed waits shown items said fs l s m w i =
     let e = unended c.ledger feed said (heard fs) items b.ledger b.call i.is_open i.call in
     let ended = ended_whole (bounds limits) c.stream (asked_with feed c) b (requests.CopyIn feed) shown (ends.Err errors.OutOfMemory) said fs w i.went i.broken (ends_few (bounds limits) c.stream b.stream waits (ends.Err errors.OutOfMemory) l i.waited) i.room
     (few_calls c.stream b (requests.CopyIn feed) waits (length items) (bounds limits) l (below_items shown items limits.most s m) (omega (arith, i.calls)))
-    (not_at_once (asked_with feed c) b (requests.CopyIn feed) shown (ends.Err errors.OutOfMemory) fs (λ u. u can) (λ f. absurd cc))
+    (not_at_once (asked_with feed c) b (requests.CopyIn feed) shown (ends.Err errors.OutOfMemory) fs (not_held_back (requests.CopyIn feed) can refl) (λ f. absurd cc))
     (inl (items, s, m, inr (leaves_call c.ledger (requests.CopyIn feed) said (heard fs) items b.ledger b.call i.call, call_well c.ledger (requests.CopyIn feed) said (heard fs) items b.ledger b.call i.call, inl (tt, tt)))) tt in
     (b, ended, inr (runs_on c.ledger (requests.CopyIn feed) said (heard fs) items b.ledger b.call i.call, refl, λ x. refl, refl))
 
 -- a copy is one exchange
 pub of_copy : (polls : ℕ) (first : StreamSeen) (P : ConnSeen → Request → Type 0) (a : ConnSeen) (feed : Feed) → OfLast polls first P a (requests.CopyIn feed) → P a (requests.CopyIn feed)
-of_copy polls first P a feed ([], p) = p
-of_copy polls first P a feed (next ∷ later, (m, h, rest)) = let k = handed_described polls first a m (requests.CopyIn feed) h.told h.handed in absurd cc
+of_copy polls first P a feed (from, asked, inl (f, q), ([], p)) = subst (λ (r : Request). P a r) q (subst (λ (x : ConnSeen). P x asked) f p)
+of_copy polls first P a feed (from, asked, inl (f, q), (next ∷ later, (m, h, rest))) =
+    let k : ◌≡◌ {A = Kind} kinds.CopyIn kinds.Describe = sym (ap (λ (r : Request). kind_of r) q) ∙ handed_described polls first from m asked h.told h.handed in
+    absurd cc
+of_copy polls first P a feed (from, asked, inr h, on) = absurd h
 
 -- it is open still where it was fed these parts
 pub copy_feeds : (limits : Limits) (c b d : ConnSeen) (feed : Feed) (waits : ℕ) (shown : List Item) (front : List (List ℕ)) → Pauses limits (asked_with feed c) b (requests.CopyIn feed) waits shown pauses.Opened → d ≡ fed_with front b
@@ -271,7 +276,7 @@ copy_feeds limits c b d feed waits shown front p e =
     let i = of_copy limits.polls c.stream (λ at asked. IsCopying limits.most c.stream at b asked waits shown) (asked_with feed c) feed p in
     let h = i.1 in
     subst (λ (x : ConnSeen). Pauses limits (asked_with (fed_parts front feed) c) x (requests.CopyIn (fed_parts front feed)) waits shown pauses.Opened) (sym e)
-    ([], (i.0, (h.0, h.1 ++ map CopyData front, h.2, h.3, h.4, copy_fed_with front c.stream c b feed waits h.0 h.1 h.2 h.5)))
+    (asked_with (fed_parts front feed) c, requests.CopyIn (fed_parts front feed), inl (refl, refl), ([], (i.0, (h.0, h.1 ++ map CopyData front, h.2, h.3, h.4, copy_fed_with front c.stream c b feed waits h.0 h.1 h.2 h.5))))
 
 pub open_stays : (c : ConnSeen) → IsOpen c.call → resolved (copied c) ≡ copied c
 open_stays c o = unasked_stays (copied c) (by c.call o)

@@ -1,5 +1,5 @@
 -- What is so of the exchange that comes next: what it knows of its statement, and what may be held of it.
-use Rattle.std.proofs.Common.{◌≡◌, ◌⊎◌, ◌-◌, Ok, ℕ, zero, suc, ◌+◌, ◌<◌, nat_eq, Bool, true, false, cond, ◌&&◌, List, [], ◌∷◌, ◌++◌, length, map, subst, refl, sym, ap, ◌∙◌, arith, append_assoc, Option, Some, None, option_map, inl, inr, bytes_eq}
+use Rattle.std.proofs.Common.{◌≡◌, ◌-◌, Ok, ℕ, zero, suc, ◌+◌, ◌<◌, nat_eq, Bool, true, false, cond, ◌&&◌, List, [], ◌∷◌, ◌++◌, length, map, subst, refl, sym, ap, ◌∙◌, arith, append_assoc, Option, Some, None, option_map, inl, inr, bytes_eq}
 use Rattle.std.specs.List.{AllByRecursion}
 use Rattle.std.proofs.lemmas.Option.{same_Some}
 use Rattle.pg_wire.specs.Frame.{Frame}
@@ -37,7 +37,7 @@ use Rattle.pg_call.specs.declared.answer.CallItem.{CallItem}
 use Rattle.pg_call.specs.declared.answer.CallAnswer.TheVariants as answers
 use Rattle.pg_call.specs.Calls.{EndsFine}
 use Rattle.pg_call.proofs.FitLaws.{hands_on_described, next_is}
-use Rattle.pg_call.specs.Requests.{is_parsed_again, known as known_under, parsed_again, width_by, said_in, widths_of, Group, name_of, groups_of, behind_goal, request_behind}
+use Rattle.pg_call.specs.Requests.{is_parsed_again, known as known_under, parsed_again, width_by, said_in, widths_of, Group, name_of, groups_of, behind_goal, numbered_by, request_behind}
 use Rattle.pg_call.specs.Items.{parameters_after}
 use Rattle.pg_call.specs.Drains.{after_readys}
 use Rattle.pg_conn.specs.Connections.{ConnSeen}
@@ -55,10 +55,10 @@ use Rattle.pg_play.proofs.PlaceLaws.{owed_is}
 use Rattle.pg_play.proofs.PartLaws.{after_more}
 use Rattle.pg_play.proofs.KnownLaws.{lawful_keeps}
 use Rattle.pg_play.proofs.CalledLaws.{KnownAt, known_none}
-use Rattle.pg_play.proofs.ExchangeLaws.{HandsBy, IsLooked, hands_by, told_by}
+use Rattle.pg_play.proofs.ExchangeLaws.{HandsBy, IsLooked, LeadsTo, hands_by, told_by, undescribed_asks, undescribed_held}
 use Rattle.pg_play.proofs.NameLaws.{each_known, named_nothing}
 use Rattle.pg_play.proofs.NextLaws.{after_further, described_known}
-use Rattle.pg_play.proofs.KeptLaws.{CanHold, CanHoldTold, ClosesNone, IsAfter, IsHeldFor, IsLooking, held_after_close, looked_holds, spares_asked}
+use Rattle.pg_play.proofs.KeptLaws.{CanHold, CanHoldTold, ClosesNone, IsAfter, IsHeldFor, IsLooking, IsSought, held_after_close, looked_holds, spares_asked}
 
 -- ---- what is known of a statement that is kept
 
@@ -194,9 +194,17 @@ known_looked rule start next c x st s h =
         subst (λ (o : Option (List FieldDescription)). KnownAt (known_under (name_of x.statement) (option_map (λ (cs : List FieldDescription). length cs) o)) next) (sym s.was.columns)
         (known_kept start next c (entry_of x s.was.description) st (named x.statement has) (h s.was.description s.was.is has))
 
+-- and what isn't described yet knows nothing
+known_undescribed : (rule : Rule) (start : StreamSeen) (next : Place) (c : ConnSeen) (x : Extended) → x.described ≡ None → StandsAt start next c → KnownAt (widths_of (asked_by rule (requests.Describe x))) next
+known_undescribed rule start next c x e st = subst (λ (q : Request). KnownAt (widths_of q) next) (sym (undescribed_asks rule x e)) (known_none start next c st)
+
+known_sought : (rule : Rule) (start : StreamSeen) (next : Place) (c : ConnSeen) (old : Rule) (x : Extended) (o : Option Described) → x.described ≡ o → StandsAt start next c → IsSought old x o → ((d : Described) → x.described ≡ Some d → nat_eq x.statement 0 ≡ false → IsKeptAt next (entry_of x d)) → KnownAt (widths_of (asked_by rule (requests.Describe x))) next
+known_sought rule start next c old x None e st s h = known_undescribed rule start next c x e st
+known_sought rule start next c old x (Some d) e st s h = known_looked rule start next c x st s h
+
 -- what the exchange knows that is handed on
 handed_known : (rule : Rule) (start : StreamSeen) (at next : Place) (a c : ConnSeen) (d : ℕ) (call : Call) (after : Request) (said : List FrontendMessage) (slice : List Frame) (items : List CallItem) → StandsAt start at a → StandsAt start next c → Keeps next → next.groups ≡ at.groups ++ groups_of (request_of d call) → heard next.frames ≡ heard at.frames ++ slice
-    → ((v : Eviction) → call ≡ calls.Evict v → IsAfter next.rule v.after) → ((l : Lookup) → call ≡ calls.Look l → IsLooking l.extended × ((t : Described) → l.extended.described ≡ Some t → nat_eq l.extended.statement 0 ≡ false → IsKeptAt next (entry_of l.extended t)))
+    → ((v : Eviction) → call ≡ calls.Evict v → IsAfter next.rule v.after) → ((l : Lookup) → call ≡ calls.Look l → IsSought at.rule l.extended l.extended.described × ((t : Described) → l.extended.described ≡ Some t → nat_eq l.extended.statement 0 ≡ false → IsKeptAt next (entry_of l.extended t)))
     → EndsFine a.ledger (request_of d call) said slice items c.ledger (Ok (answers.Next after)) → KnownAt (widths_of (asked_by rule after)) next
 handed_known rule start at next a c d call after said slice items st st' k groups frames evicts looks e =
     by (hands_by d call (hands_on_described (request_of d call) e.0.reply e.0.status after e.1))
@@ -212,19 +220,21 @@ handed_known rule start at next a c d call after said slice items st st' k group
         let fine = subst (λ (y : Call). EndsFine a.ledger (request_of d y) said slice items c.ledger (Ok (answers.Next after))) is e in
         let told : requests.Describe l.extended ≡ after = same_Some (requests.Describe l.extended) after (next_is (requests.Look l) fine.0.reply fine.0.status after fine.1).1 in
         let h = looks l is in
-        subst (λ (r : Request). KnownAt (widths_of (asked_by rule r)) next) told (known_looked rule start next c l.extended st' h.0 h.1)
+        subst (λ (r : Request). KnownAt (widths_of (asked_by rule r)) next) told (known_sought rule start next c at.rule l.extended l.extended.described refl st' h.0 h.1)
 
 -- and the one that is asked next
 pub known_next : (rule : Rule) (start : StreamSeen) (at next : Place) (a c : ConnSeen) (d : ℕ) (call : Call) (told asked : Request) (said : List FrontendMessage) (slice : List Frame) (items : List CallItem) → StandsAt start at a → StandsAt start next c → Keeps next → next.groups ≡ at.groups ++ groups_of (request_of d call) → heard next.frames ≡ heard at.frames ++ slice
-    → ((v : Eviction) → call ≡ calls.Evict v → IsAfter next.rule v.after) → ((l : Lookup) → call ≡ calls.Look l → IsLooking l.extended × ((t : Described) → l.extended.described ≡ Some t → nat_eq l.extended.statement 0 ≡ false → IsKeptAt next (entry_of l.extended t)))
-    → EndsFine a.ledger (request_of d call) said slice items c.ledger (Ok (answers.Next told)) → (asked ≡ told) ⊎ IsLooked told asked → KnownAt (widths_of (asked_by rule asked)) next
+    → ((v : Eviction) → call ≡ calls.Evict v → IsAfter next.rule v.after) → ((l : Lookup) → call ≡ calls.Look l → IsSought at.rule l.extended l.extended.described × ((t : Described) → l.extended.described ≡ Some t → nat_eq l.extended.statement 0 ≡ false → IsKeptAt next (entry_of l.extended t)))
+    → EndsFine a.ledger (request_of d call) said slice items c.ledger (Ok (answers.Next told)) → LeadsTo told asked → KnownAt (widths_of (asked_by rule asked)) next
 known_next rule start at next a c d call told asked said slice items st st' k groups frames evicts looks e (inl same) =
     subst (λ (r : Request). KnownAt (widths_of (asked_by rule r)) next) (sym same) (handed_known rule start at next a c d call told said slice items st st' k groups frames evicts looks e)
-known_next rule start at next a c d call told asked said slice items st st' k groups frames evicts looks e (inr l) =
+known_next rule start at next a c d call told asked said slice items st st' k groups frames evicts looks e (inr (inl l)) =
     subst (λ (r : Request). KnownAt (widths_of (asked_by rule r)) next) (sym l.asks) (known_none start next c st')
+known_next rule start at next a c d call told asked said slice items st st' k groups frames evicts looks e (inr (inr f)) =
+    subst (λ (r : Request). KnownAt (widths_of (asked_by rule r)) next) (sym f.asks) (known_undescribed rule start next c (numbered_by f.oids f.extended) f.undescribed st')
 
 -- a close leaves the statement among those that are kept for which it came
-pub closes_known : (at next : Place) (call : Call) (v : Eviction) (own : List Group) (response : List BackendMessage) (told asked : Request) → call ≡ calls.Evict v → ClosesNone at.rule v → handed_by call response ≡ Some told → (asked ≡ told) ⊎ IsLooked told asked → next.rule ≡ rule_after at.rule call own (Some asked) (ends.Ok AnswersUnit) → IsAfter next.rule v.after
+pub closes_known : (at next : Place) (call : Call) (v : Eviction) (own : List Group) (response : List BackendMessage) (told asked : Request) → call ≡ calls.Evict v → ClosesNone at.rule v → handed_by call response ≡ Some told → LeadsTo told asked → next.rule ≡ rule_after at.rule call own (Some asked) (ends.Ok AnswersUnit) → IsAfter next.rule v.after
 closes_known at next call v own response told asked is s handed looks e =
     let same : next.rule ≡ kept at.rule = e ∙ ap (λ (y : Call). rule_after at.rule y own (Some asked) (ends.Ok AnswersUnit)) is ∙ by looks in
     subst (λ (r : Rule). IsAfter r v.after) (sym same) s.after
@@ -232,9 +242,10 @@ closes_known at next call v own response told asked is s handed looks e =
     behind : told ≡ request_behind v.after
     behind = sym (same_Some (request_behind v.after) told (sym (ap (λ (y : Call). handed_by y response) is) ∙ handed))
 
-    by : (asked ≡ told) ⊎ IsLooked told asked → held_by (kept at.rule) asked ≡ kept at.rule
+    by : LeadsTo told asked → held_by (kept at.rule) asked ≡ kept at.rule
     by (inl same) = ap (held_by (kept at.rule)) (same ∙ behind) ∙ held_after_close (kept at.rule) v.after
-    by (inr l) = ap (held_by (kept at.rule)) l.asks
+    by (inr (inl l)) = ap (held_by (kept at.rule)) l.asks
+    by (inr (inr f)) = ap (held_by (kept at.rule)) f.asks ∙ undescribed_held (kept at.rule) (numbered_by f.oids f.extended) f.undescribed
 
 -- ---- what something is looked up for may be held
 
@@ -277,10 +288,12 @@ asked_each Q run tell close describe rule call reply told e = by call e
     by (calls.Look l) e = subst (λ (r : Request). Q (asked_by rule r)) (same_Some (requests.Describe l.extended) told e) (described_so l.extended l.extended.described)
     by _ e = absurd cc
 
-pub next_holds : (rule : Rule) (next : Place) (call : Call) (reply : List BackendMessage) (told asked : Request) → handed_by call reply ≡ Some told → (asked ≡ told) ⊎ IsLooked told asked → (IsLooked told asked → CanHoldTold next next.rule told) → IsHeldFor next (exchange_for (asked_by rule asked))
+pub next_holds : (rule : Rule) (next : Place) (call : Call) (reply : List BackendMessage) (told asked : Request) → handed_by call reply ≡ Some told → LeadsTo told asked → (IsLooked told asked → CanHoldTold next next.rule told) → IsHeldFor next (exchange_for (asked_by rule asked))
 next_holds rule next call reply told asked handed (inl same) h =
     subst (λ (r : Request). IsHeldFor next (exchange_for (asked_by rule r))) (sym same) (asked_each (λ r. IsHeldFor next (exchange_for r)) (λ b. tt) (λ p. tt) (λ v. tt) (λ x. tt) rule call reply told handed)
-next_holds rule next call reply told asked handed (inr l) h =
+next_holds rule next call reply told asked handed (inr (inr f)) h =
+    subst (λ (r : Request). IsHeldFor next (exchange_for (asked_by rule r))) (sym f.asks) (subst (λ (r : Request). IsHeldFor next (exchange_for r)) (sym (undescribed_asks rule (numbered_by f.oids f.extended) f.undescribed)) tt)
+next_holds rule next call reply told asked handed (inr (inl l)) h =
     let held : CanHold next next.rule l.extended = subst (CanHoldTold next next.rule) l.tells (h l) in
     subst (λ (r : Request). IsHeldFor next (exchange_for (asked_by rule r))) (sym l.asks) (λ d is e. held d is e)
 

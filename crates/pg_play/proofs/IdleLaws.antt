@@ -19,7 +19,7 @@ use Rattle.pg_play.specs.Places.{Place, owed, ended, is_fine, Queues}
 use Rattle.pg_play.specs.Told.{WellAtOk, HasNoError}
 use Rattle.pg_play.specs.Settling.{cleanup_of, depth_after, rollback_at, release_at}
 use Rattle.pg_play.specs.Idles.{KeepsOrder}
-use Rattle.pg_play.specs.Plays.{Plays_exchange, Plays_exchanges, Plays_from, AreOrderlyIn, AreOrderly, AreIdleIn, AreIdle}
+use Rattle.pg_play.specs.Plays.{Plays_exchange, Plays_exchanges, Plays_from, AreOrderlyIn, AreOrderly, AreIdleIn, AreIdle, begun_at}
 use Rattle.pg_play.proofs.StepLaws.{at_most_group}
 use Rattle.pg_play.proofs.SettleLaws.{left_groups}
 use Rattle.pg_play.proofs.SettledLaws.{depth_rule, fine_has}
@@ -243,7 +243,7 @@ more_groups at [] [] last run = omega (arith, ap (λ (p : Place). length p.group
 more_groups at [] (o ∷ outs) last run = absurd run
 more_groups at (s ∷ steps) [] last run = absurd run
 more_groups at (s ∷ steps) (o ∷ outs) last run =
-    let here = more_in at run.1.exchanges run.1.outs run.0 run.1.run in
+    let here = more_in (begun_at at run.1.learnt) run.1.exchanges run.1.outs run.0 run.1.run in
     let rest = more_groups run.0 steps outs last run.2 in
     omega (arith, here, rest)
 
@@ -253,5 +253,5 @@ idles_all idle at [] (x ∷ outs) last run l i o = absurd run
 idles_all idle at (s ∷ steps) [] last run l i o = absurd run
 idles_all idle at (s ∷ steps) (x ∷ outs) last run l i o =
     let few : length (run.0).groups < 2 ^ 64 - 1 = omega (arith, more_groups run.0 steps outs last run.2, l) in
-    let here = idles_in idle at run.1.exchanges run.1.outs run.0 run.1.run few i o.0 in
+    let here = idles_in idle (begun_at at run.1.learnt) run.1.exchanges run.1.outs run.0 run.1.run few i o.0 in
     (here.0, idles_all idle run.0 steps outs last run.2 l here.1 o.1)

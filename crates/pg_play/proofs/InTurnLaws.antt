@@ -1,5 +1,5 @@
 -- The exchanges of a step, one behind another: an induction over those that were handed on.
-use Rattle.std.proofs.Common.{◌≡◌, ℕ, ◌+◌, ◌-◌, ◌*◌, ◌^◌, ◌≤◌, ◌<◌, true, false, List, [], ◌∷◌, ◌++◌, length, refl, sym, ap, ◌∙◌, subst, arith, append-nil, ap₂, ◌⊎◌, Option, Some, None, sum_by}
+use Rattle.std.proofs.Common.{◌≡◌, ℕ, ◌+◌, ◌-◌, ◌*◌, ◌^◌, ◌≤◌, ◌<◌, true, false, List, [], ◌∷◌, ◌++◌, length, refl, sym, ap, ◌∙◌, subst, arith, append-nil, ap₂, Option, Some, None, sum_by}
 use Rattle.std.specs.List.{AllByRecursion}
 use Rattle.pg_wire.specs.Frame.{Frame}
 use Rattle.pg_wire.specs.Parts.{heard}
@@ -40,9 +40,10 @@ use Rattle.pg_play.proofs.CopyLaws.{CanFail, leaves_to}
 use Rattle.pg_play.proofs.SettledLaws.{SettlesTo, behind_learnt, conn_behind, settles_call, cleanup_polled, ok_cleans_none}
 use Rattle.pg_play.proofs.CalledLaws.{KnownAt, Called, called_exchange, exchanged}
 use Rattle.pg_play.proofs.ThroughLaws.{counted_by, held_conn, handed_asking, handed_ended}
-use Rattle.pg_play.proofs.ExchangeLaws.{IsLooked, NextIs, looks_or, next_how, next_parts, runs_how, shows_how, what_is_next}
+use Rattle.pg_play.proofs.ExchangeLaws.{LeadsTo, NextIs, looks_or, next_how, next_parts, runs_how, shows_how, what_is_next}
 use Rattle.pg_play.proofs.NextLaws.{good_after, good_messages, replies_same, whole_behind}
 use Rattle.pg_play.proofs.KeptLaws.{DescribedAt, IsHeldFor, IsSound, keeps_next, next_sound}
+use Rattle.pg_play.proofs.NumberLaws.{numbers_on}
 use Rattle.pg_play.proofs.FollowLaws.{closes_known, known_next, looked_kept, next_holds}
 use Rattle.pg_play.proofs.PartLaws.{after_more, no_error}
 use Rattle.pg_play.specs.Kept.{Keeps}
@@ -369,7 +370,7 @@ turns_on start first old at a m step call next b p z l hands =
     let h = hands.handed in
     let told : Request = hands.told in
     let learnt : Learnt = hands.learnt in
-    let looked : (next ≡ told) ⊎ IsLooked told next = looks_or told next m.learnt learnt hands.looks in
+    let looked : LeadsTo told next = looks_or told next m.learnt learnt hands.looks in
     let exchange = exchange_of step call in
     let r = request_of at.rule.depth call in
     let begun = asking r old a in
@@ -413,7 +414,7 @@ turns_on start first old at a m step call next b p z l hands =
         known = subst (λ (q : Request). KnownAt (widths_of q) t.next) (sym asks) known;
         fits = omega arith;
         keeps = keeps;
-        sound = subst (λ (k : Rule). IsSound k n.part) (sym knows) (subst (λ (y : Call). IsSound (held_by rule next) y) (sym n.is) (next_sound rule at.rule call f.reply told next n.handed looked b.sound (subst (λ (k : Rule). IsOrderly k) knows keeps.orderly)));
+        sound = subst (λ (k : Rule). IsSound k n.part) (sym knows) (subst (λ (y : Call). IsSound (held_by rule next) y) (sym n.is) (next_sound rule at.rule call f.reply told next n.handed looked b.sound (numbers_on at.rule rule call s.own response told next handed looked (sym knows ∙ knows_so)) (subst (λ (k : Rule). IsOrderly k) knows keeps.orderly)));
         holds = subst (λ (y : Call). IsHeldFor t.next y) (sym n.is) (next_holds rule t.next call f.reply told next n.handed looked (λ l. kept.1 told next refl handed t.asked l));
       };
     }

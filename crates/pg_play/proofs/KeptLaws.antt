@@ -11,7 +11,7 @@ use Rattle.pg_wire.specs.Backend.{BackendMessage, backend_frame, HasBackendFrame
 use Rattle.pg_wire.specs.Groups.{EndsReady}
 use Rattle.pg_wire.proofs.Each.{each_join}
 use Rattle.pg_stream.specs.Streams.{StreamSeen}
-use Rattle.pg_exchanges.specs.Expecting.{AreDistinct, width_at}
+use Rattle.pg_exchanges.specs.Expecting.{AreDistinct}
 use Rattle.pg_exchanges.specs.Answering.{described, describing, closing, running, IsClosedBy, IsNoError}
 use Rattle.pg_exchanges.specs.Keeping.{Named, Spares}
 use Rattle.pg_rule.specs.declared.cache.Entry.{Entry}
@@ -35,13 +35,13 @@ use Rattle.pg_call.specs.declared.statement.Goal.TheVariants as goals
 use Rattle.pg_call.specs.declared.request.Request.{Request}
 use Rattle.pg_call.specs.declared.request.Request.TheVariants as requests
 use Rattle.pg_request.specs.Texts.{begin_text, commit_text, rollback_text}
-use Rattle.pg_call.specs.Requests.{ended_by, named_keeping, parsing_by, Group, name_of, groups_of, keeping_of, behind_goal, request_behind, CanBeSaid}
+use Rattle.pg_call.specs.Requests.{ended_by, named_keeping, parsing_by, Group, name_of, groups_of, keeping_of, behind_goal, numbered_by as with_oids, request_behind, CanBeSaid}
 use Rattle.pg_call.specs.Items.{parameters_after}
 use Rattle.pg_call.specs.Drains.{after_readys}
 use Rattle.pg_conn.specs.Connections.{rollback, with_depth}
 use Rattle.pg_conn.specs.Holding.{release}
 use Rattle.pg_learning.specs.declared.learnt.Learnt.{Learnt}
-use Rattle.pg_conn.specs.Statements.{asked_by, begun_as, by_leaving, entry_of, held_behind, held_by, is_named, is_numbered, number_for, leaving, moved, unmoved, prepare_by, run_or_describe, tell_or_describe}
+use Rattle.pg_conn.specs.Statements.{asked_by, begun_as, behind_description, by_leaving, entry_of, held_behind, held_by, is_named, is_numbered, number_for, leaving, moved, unmoved, prepare_by, run_or_describe, tell_or_describe}
 use Rattle.pg_conn.specs.States.{to_prepare}
 use Rattle.pg_report.specs.declared.outcome.End.{End}
 use Rattle.pg_report.specs.declared.outcome.End.TheVariants as ends
@@ -58,8 +58,8 @@ use Rattle.pg_play.specs.Plays.{Plays_call}
 use Rattle.pg_play.proofs.PlaceLaws.{all_split, readies-append}
 use Rattle.pg_play.proofs.SettleLaws.{left_frames, left_groups}
 use Rattle.pg_play.proofs.SettledLaws.{cleanup_by, cleanup_polled}
-use Rattle.pg_play.proofs.ExchangeLaws.{IsLooked, looks_or, told_by}
-use Rattle.pg_play.proofs.NameLaws.{each_two, named_some}
+use Rattle.pg_play.proofs.ExchangeLaws.{IsLooked, LeadsTo, looks_or, told_by, undescribed_held}
+use Rattle.pg_play.proofs.NameLaws.{apart_last, each_two, named_some}
 use Rattle.pg_play.proofs.NextLaws.{after_further}
 
 -- ---- what becomes of the statements
@@ -157,10 +157,15 @@ pub record IsLooking (x : Extended) : Type 0 where
   pub was : WasDescribed x
   pub looked : x.is_looked_up ≡ true
 
+-- or for one that isn't described yet, whose number is still the next one
+abbrev pub IsSought : Rule → Extended → Option Described → Type 0
+IsSought rule x None = IsNumbered rule x
+IsSought rule x (Some d) = IsLooking x
+
 abbrev pub IsSound : Rule → Call → Type 0
 IsSound rule (calls.Describe x) = IsNumbered rule x
 IsSound rule (calls.Evict v) = ClosesNone rule v
-IsSound rule (calls.Look l) = IsLooking l.extended
+IsSound rule (calls.Look l) = IsSought rule l.extended l.extended.described
 IsSound rule call = Unit {0}
 
 numbered_by : (persistent : Bool) (rule : Rule) → is_numbered persistent rule ≡ true → (number_for persistent rule ≡ 0) ⊎ ((number_for persistent rule ≡ rule.next) × (rule.next < 2 ^ 32))
@@ -205,24 +210,6 @@ first_sound rule (calls.FetchOne query) = as_sound rule hows.FetchOne query quer
 first_sound rule (calls.Prepare p) = prepare_sound rule p
 first_sound rule calls.Clear = clear_sound rule
 first_sound rule _ = tt
-
--- ---- names
-
-present_name : (xs : List ℕ) → bytes_eq xs xs ≡ true
-present_name xs = (bytes_eq-Decides xs xs).1 refl
-
--- of distinct names none before one is its
-apart_last : (others : List Entry) (last : Entry) → AreDistinct (widths_in (others ++ last ∷ [])) → AllByRecursion (λ e. statement_name e.statement ≢ statement_name last.statement) others
-apart_last [] last d = tt
-apart_last (e ∷ es) last d = (λ same. absurd (named_in es last (subst (λ (n : List ℕ). width_at (widths_in (es ++ last ∷ [])) n ≡ None) same d.0)), apart_last es last d.1)
-  where
-    named_in : (es : List Entry) (last : Entry) → width_at (widths_in (es ++ last ∷ [])) (statement_name last.statement) ≡ None → ⊥
-    named_in [] last h = let yes = present_name (statement_name last.statement) in let none = rw yes at h in absurd cc
-    named_in (f ∷ fs) last h = by (bytes_eq (statement_name f.statement) (statement_name last.statement)) h (λ k. named_in fs last k)
-      where
-        by : (b : Bool) → cond b (Some (length f.columns)) (width_at (widths_in (fs ++ last ∷ [])) (statement_name last.statement)) ≡ None → (width_at (widths_in (fs ++ last ∷ [])) (statement_name last.statement) ≡ None → ⊥) → ⊥
-        by true k g = absurd cc
-        by false k g = g k
 
 -- ---- the exchange behind a description
 
@@ -305,45 +292,73 @@ after_sound rule (afters.Prepare prepared) = by prepared.columns
         tells (Some e) = tt
         tells None = λ h. numbered_by true rule h
 
--- what is handed on was described, where it is a description
-abbrev pub IsToldWhole : Request → Type 0
-IsToldWhole (requests.Describe x) = WasDescribed x
-IsToldWhole _ = Unit {0}
+-- what is handed on was described, where it is a description, or its number is still the next one
+abbrev pub IsToldFor : Rule → Extended → Option Described → Type 0
+IsToldFor rule x None = IsNumbered rule x
+IsToldFor rule x (Some d) = WasDescribed x
 
-told_was : (x : Extended) (reply : List BackendMessage) → IsToldWhole (told_by x reply)
-told_was x reply = record { description = record { parameters = parameters_after [] reply; columns = Some (described reply) }; is = refl; columns = refl }
+abbrev pub IsToldWhole : Rule → Request → Type 0
+IsToldWhole rule (requests.Describe x) = IsToldFor rule x x.described
+IsToldWhole rule _ = Unit {0}
 
-after_whole : (a : After) → IsToldWhole (request_behind a)
-after_whole (afters.Run bound) = tt
-after_whole (afters.Prepare prepared) = tt
+told_was : (rule : Rule) (x : Extended) (reply : List BackendMessage) → IsToldWhole rule (told_by x reply)
+told_was rule x reply = record { description = record { parameters = parameters_after [] reply; columns = Some (described reply) }; is = refl; columns = refl }
 
-pub told_whole : (rule : Rule) (call : Call) (reply : List BackendMessage) (told : Request) → handed_by call reply ≡ Some told → IsSound rule call → IsToldWhole told
-told_whole rule (calls.Describe x) reply told e s = subst IsToldWhole (same_Some (told_by x reply) told e) (told_was x reply)
-told_whole rule (calls.Evict v) reply told e s = subst IsToldWhole (same_Some (request_behind v.after) told e) (after_whole v.after)
-told_whole rule (calls.Look l) reply told e s = subst IsToldWhole (same_Some (requests.Describe l.extended) told e) s.was
+after_whole : (rule : Rule) (a : After) → IsToldWhole rule (request_behind a)
+after_whole rule (afters.Run bound) = tt
+after_whole rule (afters.Prepare prepared) = tt
+
+sought_whole : (rule : Rule) (x : Extended) (o : Option Described) → IsSought rule x o → IsToldFor rule x o
+sought_whole rule x None s = s
+sought_whole rule x (Some d) s = s.was
+
+pub told_whole : (rule : Rule) (call : Call) (reply : List BackendMessage) (told : Request) → handed_by call reply ≡ Some told → IsSound rule call → IsToldWhole rule told
+told_whole rule (calls.Describe x) reply told e s = subst (IsToldWhole rule) (same_Some (told_by x reply) told e) (told_was rule x reply)
+told_whole rule (calls.Evict v) reply told e s = subst (IsToldWhole rule) (same_Some (request_behind v.after) told e) (after_whole rule v.after)
+told_whole rule (calls.Look l) reply told e s = subst (IsToldWhole rule) (same_Some (requests.Describe l.extended) told e) (sought_whole rule l.extended l.extended.described s)
 told_whole rule _ reply told e s = absurd cc
 
 -- so is what something is looked up for
-looked_whole : (told next : Request) → IsToldWhole told → (l : IsLooked told next) → IsLooking (record l.extended { is_looked_up = true })
-looked_whole told next w l =
-    let was : WasDescribed l.extended = subst IsToldWhole l.tells w in
-    record { was = record { description = was.description; is = was.is; columns = was.columns }; looked = refl }
+looked_whole : (rule : Rule) (told next : Request) → IsToldWhole rule told → (l : IsLooked told next) → IsSought rule (record l.extended { is_looked_up = true }) l.extended.described
+looked_whole rule told next w l = by l.extended.described (subst (IsToldWhole rule) l.tells w)
+  where
+    by : (o : Option Described) → IsToldFor rule l.extended o → IsSought rule (record l.extended { is_looked_up = true }) o
+    by None w = w
+    by (Some d) w = record { was = record { description = w.description; is = w.is; columns = w.columns }; looked = refl }
 
-handed_sound : (rule old : Rule) (call : Call) (reply : List BackendMessage) (told : Request) → handed_by call reply ≡ Some told → IsSound old call → IsOrderly (held_by rule told) → IsSound (held_by rule told) (exchange_for (asked_by rule told))
-handed_sound rule old (calls.Describe x) reply told e s o =
+-- the number of what isn't described yet is still the next one where the next exchange begins
+abbrev pub NumbersOn : Rule → Rule → Request → Type 0
+NumbersOn old rule told = (x : Extended) → told ≡ requests.Describe x → x.described ≡ None → IsNumbered old x → IsNumbered rule x
+
+undescribed_sound : (rule : Rule) (x : Extended) → x.described ≡ None → IsNumbered rule x → IsSound (held_by rule (requests.Describe x)) (exchange_for (asked_by rule (requests.Describe x)))
+undescribed_sound rule x e n = subst (λ (d : Option Described). IsSound (held_behind rule x d) (exchange_for (behind_description rule x d))) (sym e) n
+
+sought_sound : (rule old : Rule) (x : Extended) (o : Option Described) → x.described ≡ o → IsSought old x o → (x.described ≡ None → IsNumbered old x → IsNumbered rule x) → IsOrderly (held_by rule (requests.Describe x)) → IsSound (held_by rule (requests.Describe x)) (exchange_for (asked_by rule (requests.Describe x)))
+sought_sound rule old x None e s n o = undescribed_sound rule x e (n e s)
+sought_sound rule old x (Some d) e s n o = described_sound rule x s.was o
+
+handed_sound : (rule old : Rule) (call : Call) (reply : List BackendMessage) (told : Request) → handed_by call reply ≡ Some told → IsSound old call → NumbersOn old rule told → IsOrderly (held_by rule told) → IsSound (held_by rule told) (exchange_for (asked_by rule told))
+handed_sound rule old (calls.Describe x) reply told e s n o =
     let is = same_Some (told_by x reply) told e in
-    subst (λ (r : Request). IsSound (held_by rule r) (exchange_for (asked_by rule r))) is (described_sound rule _ (told_was x reply) (subst (λ (r : Request). IsOrderly (held_by rule r)) (sym is) o))
-handed_sound rule old (calls.Evict v) reply told e s o = subst (λ (r : Request). IsSound (held_by rule r) (exchange_for (asked_by rule r))) (same_Some (request_behind v.after) told e) (after_sound rule v.after)
-handed_sound rule old (calls.Look l) reply told e s o =
+    subst (λ (r : Request). IsSound (held_by rule r) (exchange_for (asked_by rule r))) is (described_sound rule _ (told_was rule x reply) (subst (λ (r : Request). IsOrderly (held_by rule r)) (sym is) o))
+handed_sound rule old (calls.Evict v) reply told e s n o = subst (λ (r : Request). IsSound (held_by rule r) (exchange_for (asked_by rule r))) (same_Some (request_behind v.after) told e) (after_sound rule v.after)
+handed_sound rule old (calls.Look l) reply told e s n o =
     let is = same_Some (requests.Describe l.extended) told e in
-    subst (λ (r : Request). IsSound (held_by rule r) (exchange_for (asked_by rule r))) is (described_sound rule l.extended s.was (subst (λ (r : Request). IsOrderly (held_by rule r)) (sym is) o))
-handed_sound rule old _ reply told e s o = absurd cc
+    subst (λ (r : Request). IsSound (held_by rule r) (exchange_for (asked_by rule r))) is (sought_sound rule old l.extended l.extended.described refl s (n l.extended (sym is)) (subst (λ (r : Request). IsOrderly (held_by rule r)) (sym is) o))
+handed_sound rule old _ reply told e s n o = absurd cc
 
-pub next_sound : (rule old : Rule) (call : Call) (reply : List BackendMessage) (told next : Request) → handed_by call reply ≡ Some told → (next ≡ told) ⊎ IsLooked told next → IsSound old call → IsOrderly (held_by rule next) → IsSound (held_by rule next) (exchange_for (asked_by rule next))
-next_sound rule old call reply told next e (inl same) s o =
-    subst (λ (r : Request). IsSound (held_by rule r) (exchange_for (asked_by rule r))) (sym same) (handed_sound rule old call reply told e s (subst (λ (r : Request). IsOrderly (held_by rule r)) same o))
-next_sound rule old call reply told next e (inr l) s o =
-    subst (λ (r : Request). IsSound (held_by rule r) (exchange_for (asked_by rule r))) (sym l.asks) (looked_whole told next (told_whole old call reply told e s) l)
+pub next_sound : (rule old : Rule) (call : Call) (reply : List BackendMessage) (told next : Request) → handed_by call reply ≡ Some told → LeadsTo told next → IsSound old call → NumbersOn old rule told → IsOrderly (held_by rule next) → IsSound (held_by rule next) (exchange_for (asked_by rule next))
+next_sound rule old call reply told next e (inl same) s n o =
+    subst (λ (r : Request). IsSound (held_by rule r) (exchange_for (asked_by rule r))) (sym same) (handed_sound rule old call reply told e s n (subst (λ (r : Request). IsOrderly (held_by rule r)) same o))
+next_sound rule old call reply told next e (inr (inl l)) s n o =
+    subst (λ (r : Request). IsSound (held_by rule r) (exchange_for (asked_by rule r))) (sym l.asks) (by l.extended.described refl (looked_whole old told next (told_whole old call reply told e s) l))
+  where
+    by : (o : Option Described) → l.extended.described ≡ o → IsSought old (record l.extended { is_looked_up = true }) o → IsSought rule (record l.extended { is_looked_up = true }) l.extended.described
+    by None e s = subst (λ (o : Option Described). IsSought rule (record l.extended { is_looked_up = true }) o) (sym e) (n l.extended l.tells e s)
+    by (Some d) e s = subst (λ (o : Option Described). IsSought rule (record l.extended { is_looked_up = true }) o) (sym e) s
+next_sound rule old call reply told next e (inr (inr f)) s n o =
+    let was : IsToldFor old f.extended None = subst (λ (o : Option Described). IsToldFor old f.extended o) f.undescribed (subst (IsToldWhole old) f.tells (told_whole old call reply told e s)) in
+    subst (λ (r : Request). IsSound (held_by rule r) (exchange_for (asked_by rule r))) (sym f.asks) (undescribed_sound rule (with_oids f.oids f.extended) f.undescribed (n f.extended f.tells f.undescribed was))
 
 -- ---- groups that close no statement
 
@@ -672,9 +687,11 @@ leaves_told at next rule (requests.Describe x) h l = holds_told at next rule x h
 leaves_told at next rule _ h l = l
 
 -- what is asked next, by what was handed on
-leaves_asked : (at next : Place) (rule : Rule) (told asked : Request) → (asked ≡ told) ⊎ IsLooked told asked → CanHoldTold next rule told → LeavesKept at next rule → LeavesKept at next (held_by rule asked)
+leaves_asked : (at next : Place) (rule : Rule) (told asked : Request) → LeadsTo told asked → CanHoldTold next rule told → LeavesKept at next rule → LeavesKept at next (held_by rule asked)
 leaves_asked at next rule told asked (inl same) h l = subst (λ (r : Request). LeavesKept at next (held_by rule r)) (sym same) (leaves_told at next rule told h l)
-leaves_asked at next rule told asked (inr k) h l = subst (λ (r : Request). LeavesKept at next (held_by rule r)) (sym k.asks) l
+leaves_asked at next rule told asked (inr (inl k)) h l = subst (λ (r : Request). LeavesKept at next (held_by rule r)) (sym k.asks) l
+leaves_asked at next rule told asked (inr (inr f)) h l =
+    subst (λ (r : Request). LeavesKept at next (held_by rule r)) (sym f.asks) (subst (λ (r : Rule). LeavesKept at next r) (sym (undescribed_held rule (with_oids f.oids f.extended) f.undescribed)) l)
 
 -- a lookup changes nothing of that
 pub looked_holds : (at next : Place) (x : Extended) (own : List Group) (slice : List Frame) → CanHold at at.rule x → ((n : Named) → AllByRecursion (Spares n) own) → next.groups ≡ at.groups ++ own → heard next.frames ≡ heard at.frames ++ slice → CanHold next at.rule x
@@ -694,10 +711,14 @@ after_open : (depth : ℕ) (rule : Rule) (a : After) → IsAfter (kept rule) a �
 after_open depth rule (afters.Run bound) h = h
 after_open depth rule (afters.Prepare prepared) h = h
 
+sought_open : (depth : ℕ) (rule : Rule) (x : Extended) (o : Option Described) → IsSought rule x o → IsSought (with_depth depth rule) x o
+sought_open depth rule x None s = s
+sought_open depth rule x (Some d) s = s
+
 sound_open : (depth : ℕ) (rule : Rule) (call : Call) → IsSound rule call → IsSound (with_depth depth rule) call
 sound_open depth rule (calls.Describe x) s = s
 sound_open depth rule (calls.Evict v) s = record { gone = s.gone; after = after_open depth rule v.after s.after }
-sound_open depth rule (calls.Look l) s = s
+sound_open depth rule (calls.Look l) s = sought_open depth rule l.extended l.extended.described s
 sound_open depth rule _ s = tt
 
 pub held_after_close : (rule : Rule) (a : After) → held_by rule (request_behind a) ≡ rule

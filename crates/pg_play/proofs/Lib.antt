@@ -31,6 +31,8 @@ pub mod StartLaws
 pub mod TopLaws
 pub mod RefutedLaws
 mod KeptLaws
+mod NumberLaws
+pub mod BeforeLaws
 mod FollowLaws
 mod NameLaws
 mod ChainLaws

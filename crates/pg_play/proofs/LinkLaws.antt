@@ -40,8 +40,9 @@ use Rattle.pg_play.specs.Calls.{broken_after}
 use Rattle.pg_play.specs.Places.{Place}
 use Rattle.pg_play.specs.Told.{CountsTo}
 use Rattle.pg_play.specs.Causes.{IsFront, HasNoMessage, ShowsFault, HasCause}
-use Rattle.pg_play.specs.Plays.{Plays_call, Plays_exchange, Plays_exchanges, last_of, FirstIs, TellsAll, Plays_step, Plays_from, AsksForNoCopy, NoneUnlawful, WhereLawful, Totals, IsNeverUnlawful}
+use Rattle.pg_play.specs.Plays.{Plays_call, Plays_exchange, Plays_exchanges, last_of, FirstIs, TellsAll, Plays_step, Plays_from, AsksForNoCopy, NoneUnlawful, WhereLawful, Totals, IsNeverUnlawful, begun_at}
 use Rattle.pg_play.proofs.RepliesLaws.{StartsNoCopy, all_prefix, replies_start_no_copy, asks_for_none, replies_to_all}
+use Rattle.pg_learning.specs.declared.learnt.Learnt.{Learnt}
 
 -- ---- a place that is broken
 
@@ -130,11 +131,24 @@ breaks_in at [] (o ∷ outs) last run so = absurd run
 breaks_in at (s ∷ steps) [] last run so = absurd run
 breaks_in at (s ∷ steps) (o ∷ outs) last run so = breaks_in run.0 steps outs last run.2 (breaks_on at s o run.0 run.1 so)
 
+-- what is learnt is no matter
+breaks_begun : (at : Place) (learnt : Learnt) → BreaksSo at → BreaksSo (begun_at at learnt)
+breaks_begun at learnt so fault e = by fault (so fault e)
+  where
+    stands : (front : Frame) → IsFront at front → IsFront (begun_at at learnt) front
+    stands front is = record { rest = is.rest; whole = is.whole; answers = is.answers; held = is.held }
+
+    by : (fault : ServerFault) → Refutes fault at → Refutes fault (begun_at at learnt)
+    by (faults.Unlawful tag) (front, is, never) = (front, stands front is, never)
+    by (faults.Malformed tag) (inl malformed) = inl malformed
+    by (faults.Malformed tag) (inr (front, is, none)) = inr (front, stands front is, none)
+    by _ h = h
+
 breaks_all : (at : Place) (steps : List Step) (outs : List Outcome) (last : Place) → Plays_from at steps outs last → BreaksSo at → BreaksSo last
 breaks_all at [] [] last run so = subst BreaksSo (sym run) so
 breaks_all at [] (o ∷ outs) last run so = absurd run
 breaks_all at (s ∷ steps) [] last run so = absurd run
-breaks_all at (s ∷ steps) (o ∷ outs) last run so = breaks_all run.0 steps outs last run.2 (breaks_in at run.1.exchanges run.1.outs run.0 run.1.run so)
+breaks_all at (s ∷ steps) (o ∷ outs) last run so = breaks_all run.0 steps outs last run.2 (breaks_in (begun_at at run.1.learnt) run.1.exchanges run.1.outs run.0 run.1.run (breaks_begun at run.1.learnt so))
 
 -- from a place that is whole
 pub breaks_first : (at : Place) (steps : List Step) (outs : List Outcome) (last : Place) → Plays_from at steps outs last → at.broken ≡ None → BreaksSo last
@@ -164,7 +178,7 @@ pub broken_stays : (fault : ServerFault) (at : Place) (steps : List Step) (outs 
 broken_stays fault at [] [] last run w = ap (λ (p : Place). p.broken) run ∙ w
 broken_stays fault at [] (o ∷ outs) last run w = absurd run
 broken_stays fault at (s ∷ steps) [] last run w = absurd run
-broken_stays fault at (s ∷ steps) (o ∷ outs) last run w = broken_stays fault run.0 steps outs last run.2 (broken_in fault at run.1.exchanges run.1.outs run.0 run.1.run w)
+broken_stays fault at (s ∷ steps) (o ∷ outs) last run w = broken_stays fault run.0 steps outs last run.2 (broken_in fault (begun_at at run.1.learnt) run.1.exchanges run.1.outs run.0 run.1.run w)
 
 -- the last exchange breaks it
 ends_break : (fault : ServerFault) (before : Outcome) (at : Place) (steps : List Step) (outs : List Outcome) (last : Place) → Plays_exchanges at steps outs last → (before.end ≡ ends.Err (errors.Protocol (protocol.Server fault)) → at.broken ≡ Some fault)
@@ -175,16 +189,16 @@ ends_break fault before at (s ∷ steps) [] last run b e = absurd run
 ends_break fault before at (s ∷ steps) (o ∷ outs) last run b e = ends_break fault o run.0 steps outs last run.2 (fault_breaks at s o run.0 run.1 fault) e
 
 -- a step has an exchange
-pub some_first : (rule : Rule) (step : Step) → FirstIs rule step [] → ⊥
-some_first rule step e = e
+pub some_first : (at : Place) (step : Step) (out : Outcome) (learnt : Learnt) → FirstIs at step out learnt [] → ⊥
+some_first at step out learnt e = e
 
 step_breaks : (at : Place) (step : Step) (out : Outcome) (next : Place) → Plays_step at step out next → (fault : ServerFault) → out.end ≡ ends.Err (errors.Protocol (protocol.Server fault)) → next.broken ≡ Some fault
 step_breaks at step out next one fault e = by one.exchanges one.outs one.run one.first (sym one.tells.ends ∙ e)
   where
-    by : (xs : List Step) (ys : List Outcome) → Plays_exchanges at xs ys next → FirstIs at.rule step xs → (last_of out ys).end ≡ ends.Err (errors.Protocol (protocol.Server fault)) → next.broken ≡ Some fault
-    by [] ys run first e = absurd (some_first at.rule step first)
+    by : (xs : List Step) (ys : List Outcome) → Plays_exchanges (begun_at at one.learnt) xs ys next → FirstIs at step out one.learnt xs → (last_of out ys).end ≡ ends.Err (errors.Protocol (protocol.Server fault)) → next.broken ≡ Some fault
+    by [] ys run first e = absurd (some_first at step out one.learnt first)
     by (x ∷ xs) [] run first e = absurd run
-    by (x ∷ xs) (y ∷ ys) run first e = ends_break fault y run.0 xs ys next run.2 (fault_breaks at x y run.0 run.1 fault) e
+    by (x ∷ xs) (y ∷ ys) run first e = ends_break fault y run.0 xs ys next run.2 (fault_breaks (begun_at at one.learnt) x y run.0 run.1 fault) e
 
 breaks_last : (at : Place) (step : Step) (out : Outcome) (next : Place) → Plays_step at step out next → (steps : List Step) (outs : List Outcome) (last : Place) → Plays_from next steps outs last
     → (fault : ServerFault) → out.end ≡ ends.Err (errors.Protocol (protocol.Server fault)) → last.broken ≡ Some fault
@@ -334,4 +348,4 @@ totals_all at [] (o ∷ outs) last run = absurd run
 totals_all at (s ∷ steps) [] last run = absurd run
 totals_all at (s ∷ steps) (o ∷ outs) last run =
     let one = run.1 in
-    totals_more at run.0 last one.outs o outs one.tells (sums_in at one.exchanges one.outs run.0 one.run) (totals_all run.0 steps outs last run.2)
+    totals_more at run.0 last one.outs o outs one.tells (sums_in (begun_at at one.learnt) one.exchanges one.outs run.0 one.run) (totals_all run.0 steps outs last run.2)

@@ -1,5 +1,5 @@
 -- Steps about advisory locks: releases without waiting, what is held behind a step, and the calls of a step one behind another.
-use Rattle.std.proofs.Common.{◌≡◌, inl, inr, ℕ, ◌+◌, ◌-◌, ◌^◌, ◌<◌, ◌≤◌, Bool, true, false, cond, nat_eq, ltb, ne_eqb, List, [], ◌∷◌, ◌++◌, take, drop, Some, None, refl, sym, ap, ◌∙◌, subst, arith, append-nil}
+use Rattle.std.proofs.Common.{◌≡◌, inl, inr, ℕ, ◌+◌, ◌-◌, ◌^◌, ◌<◌, ◌≤◌, Bool, true, false, cond, nat_eq, ltb, ne_eqb, List, [], ◌∷◌, ◌++◌, take, drop, Option, Some, None, refl, sym, ap, ◌∙◌, subst, arith, append-nil}
 use Rattle.std.specs.Prelude.{not, leb}
 use Rattle.std.proofs.lemmas.Bool.{ltb-true}
 use Rattle.pg_wire.proofs.Tests.{both_true}
@@ -10,7 +10,9 @@ use Rattle.pg_call.specs.declared.request.Request.{Request}
 use Rattle.pg_call.specs.Requests.{spelled}
 use Rattle.pg_conn.specs.Connections.{ConnOf, ConnSeen, begins_copy, cleaned, counted_anew, ended, ends_copy, has_room_for, idle, left, queued_group, rolled_back, runs, seen_by, unfed, with_depth, with_group, with_spare, rollback}
 use Rattle.pg_conn.specs.Holding.{IsRelease, held_fewer, held_more, let_go, release, took_held}
-use Rattle.pg_conn.specs.Turns.{HasAllRoom, kept_for, level_of}
+use Rattle.pg_conn.specs.Turns.{HasAllRoom, first_exchange, kept_for, level_of}
+use Rattle.pg_conn.specs.Looking.{named_in}
+use Rattle.pg_call.specs.declared.statement.Extended.{Extended}
 use Rattle.pg_conn.proofs.CleanupLaws.{has_room, held_cleaned, held_queued, held_unfed}
 use Rattle.pg_conn.proofs.HoldingLaws.{all_held, all_took_held, release_short}
 use Rattle.pg_locks.specs.declared.key.PgAdvisoryLockKey.{PgAdvisoryLockKey}
@@ -29,8 +31,8 @@ use Rattle.std.specs.List.{AllByRecursion}
 use Rattle.pg_script.specs.declared.step.Fed.{Fed}
 use Rattle.pg_script.specs.declared.step.Parting.{Parting}
 use Rattle.pg_script.specs.declared.step.Parting.TheVariants as partings
-use Rattle.pg_play.specs.Shown.{acts_at_once, is_release}
-use Rattle.pg_play.specs.Calls.{Bounds, failed_by, parted, IsUnmade, OfLastIn, PlaysOne, PlaysPolled, PlaysStep, asked_from, behind_end, copy_behind, handed_from, knowing, rolled_outcome, untouched}
+use Rattle.pg_play.specs.Shown.{acts_at_once, asked_of, is_release}
+use Rattle.pg_play.specs.Calls.{Bounds, failed_by, parted, first_conn, IsUnmade, LooksFirst, StartsAt, OfLastIn, PlaysOne, PlaysPolled, PlaysStep, asked_from, behind_end, copy_behind, handed_from, knowing, rolled_outcome, untouched}
 use Rattle.pg_play.specs.Chained.{IsChainedAs}
 use Rattle.pg_play.specs.Chains.{IsCopied, IsCopiedAs, preparing}
 use Rattle.pg_script.specs.declared.step.Copying.{Copying}
@@ -247,11 +249,20 @@ call_holds [] polls limits first a b r out (m, (said, fs, e, last), over, is, te
 call_holds (next ∷ later) polls limits first a b r out (m, hands, behind) =
     call_holds later polls limits first (handed_from (knowing hands.learnt m) next) b (asked_from m next) out behind ∙ ap (λ s. s.held) hands.handed.went.started.3
 
+starts_held : (a from : ConnSeen) (r asked : Request) → StartsAt a r from asked → from.held ≡ a.held
+starts_held a from r asked (inl (f, q)) = ap (λ (x : ConnSeen). x.held) f
+starts_held a from r asked (inr h) = by (named_in r) h
+  where
+    by : (o : Option Extended) → LooksFirst o a from asked → from.held ≡ a.held
+    by None h = absurd h
+    by (Some x) (whole, can, (learnt, next, looks, is, f)) = ap (λ (y : ConnSeen). y.held) f
+
 polled_holds : (a b : ConnSeen) (step : Step) (out : Outcome) → PlaysPolled a b step out → b.held ≡ a.held
 polled_holds a b step out (inl (u, is, k)) = ap (λ (x : ConnSeen). x.held) is
 polled_holds a b step out (inr (n, p, inl (opens, is, k))) = ap (λ (x : ConnSeen). x.held) is
 polled_holds a b step out (inr (n, p, inr (opens, inl (is, k, h)))) = ap (λ (x : ConnSeen). x.held) is
-polled_holds a b step out (inr (n, p, inr (opens, inr (later, played)))) = call_holds later step.polls _ _ _ b _ out played ∙ held_left a
+polled_holds a b step out (inr (n, p, inr (opens, inr (from, asked, starts, (later, played))))) =
+    call_holds later step.polls _ _ from b asked out played ∙ starts_held (first_conn (asked_of a.rule.depth step.call) a) from (first_exchange (asked_of a.rule.depth step.call) a) asked starts ∙ held_left a
 
 held_rolled : (a : ConnSeen) → (rolled_back a).held ≡ a.held
 held_rolled a = by (nat_eq (left a).rule.depth 0) ∙ held_left a

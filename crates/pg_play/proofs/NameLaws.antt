@@ -1,7 +1,8 @@
 -- Which statements a lawful server has, of those that are kept.
-use Rattle.std.proofs.Common.{◌≡◌, ◌≢◌, ℕ, suc, ◌+◌, ◌<◌, ◌≤◌, Bool, true, false, cond, List, [], ◌∷◌, ◌++◌, length, map, option_to_list, flat_map, refl, sym, ap, ◌∙◌, subst, append_assoc, append-nil, arith, ne_eqb, inl, inr}
+use Rattle.std.proofs.Common.{◌≡◌, ◌≢◌, ℕ, suc, ◌+◌, ◌<◌, ◌≤◌, Bool, true, false, cond, List, [], ◌∷◌, ◌++◌, length, map, option_to_list, flat_map, refl, sym, ap, ◌∙◌, subst, append_assoc, append-nil, arith, ne_eqb, inl, inr, bytes_eq, Option, Some, None}
 use Rattle.std.specs.List.{AllByRecursion, count_by}
 use Rattle.std.proofs.lemmas.List.{map-append}
+use Rattle.std.proofs.lemmas.Slice.Eq.{bytes_eq-Decides}
 use Rattle.pg_wire.specs.Frame.{Frame}
 use Rattle.pg_wire.specs.Parts.{is_ready, parts, onto_first, heard}
 use Rattle.pg_wire.specs.Frontend.{statement_name}
@@ -10,9 +11,11 @@ use Rattle.pg_wire.specs.Backend.{BackendMessage, FieldDescription, ReadyForQuer
 use Rattle.pg_wire.specs.Server.{Server, IsPrefixOf, fresh_server}
 use Rattle.pg_wire.specs.Groups.{AnswerGroups, AreUnready, EndsReady, IsGroup}
 use Rattle.pg_exchanges.specs.Answering.{described, describing, IsNoError}
+use Rattle.pg_exchanges.specs.Expecting.{AreDistinct, width_at}
 use Rattle.pg_exchanges.specs.Keeping.{Keeps as ServerKeeps, IsDescribedIn, Named, Spares}
 use Rattle.pg_exchanges.proofs.KeptLaws.{described_is_kept}
 use Rattle.pg_rule.specs.declared.cache.Entry.{Entry}
+use Rattle.pg_rule.specs.Caches.{widths_in}
 use Rattle.pg_call.specs.Requests.{Group, name_of}
 use Rattle.pg_call.specs.Drains.{after_readys}
 use Rattle.pg_call.proofs.DrainLaws.{count-cons}
@@ -147,3 +150,21 @@ names_kept at responses after gs kept a h p = by at.rule.cache.entries (each_kno
     by : (es : List Entry) → AllByRecursion (λ e. (0 < e.statement) × IsKeptAt at e) es → AllByRecursion (λ e. ServerKeeps after (named_of e)) es
     by [] k = tt
     by (e ∷ es) k = (one_kept at responses after e gs a h p k.0, by es k.1)
+
+-- ---- names
+
+present_name : (xs : List ℕ) → bytes_eq xs xs ≡ true
+present_name xs = (bytes_eq-Decides xs xs).1 refl
+
+-- of distinct names none before one is its
+pub apart_last : (others : List Entry) (last : Entry) → AreDistinct (widths_in (others ++ last ∷ [])) → AllByRecursion (λ e. statement_name e.statement ≢ statement_name last.statement) others
+apart_last [] last d = tt
+apart_last (e ∷ es) last d = (λ same. absurd (named_in es last (subst (λ (n : List ℕ). width_at (widths_in (es ++ last ∷ [])) n ≡ None) same d.0)), apart_last es last d.1)
+  where
+    named_in : (es : List Entry) (last : Entry) → width_at (widths_in (es ++ last ∷ [])) (statement_name last.statement) ≡ None → ⊥
+    named_in [] last h = let yes = present_name (statement_name last.statement) in let none = rw yes at h in absurd cc
+    named_in (f ∷ fs) last h = by (bytes_eq (statement_name f.statement) (statement_name last.statement)) h (λ k. named_in fs last k)
+      where
+        by : (b : Bool) → cond b (Some (length f.columns)) (width_at (widths_in (fs ++ last ∷ [])) (statement_name last.statement)) ≡ None → (width_at (widths_in (fs ++ last ∷ [])) (statement_name last.statement) ≡ None → ⊥) → ⊥
+        by true k g = absurd cc
+        by false k g = g k

@@ -54,7 +54,7 @@ use Rattle.pg_play.specs.Calls.{Bounds, EndsStarved, HasEnded, InCopy, InPlay, I
 use Rattle.pg_play.specs.Chains.{IsUnsaid, feeding, flushing, is_cancel, summed, told_behind}
 use Rattle.pg_play.specs.Feeding.{CameOf, PartsAs, fed_with, parts_of}
 use Rattle.pg_play.specs.Opened.{IsFed, IsOpenWith, IsPolled, PlaysCopy, asked_of_fed, fed_of, given_up_as, of_step}
-use Rattle.pg_play.proofs.CallLaws.{below_items, ended_whole, given_up, heard_cause, not_at_once, plays_one, waited_after, waited_more, went_on}
+use Rattle.pg_play.proofs.CallLaws.{below_items, ended_whole, given_up, heard_cause, not_at_once, not_held_back, plays_one, waited_after, waited_more, went_on}
 use Rattle.pg_play.proofs.ThroughLaws.{plays_call}
 use Rattle.pg_play.proofs.FeedingLaws.{asked_with, copy_ended, copy_feeds, copy_stops, fed_all, of_copy, open_stays, said_can}
 use Rattle.pg_play.proofs.NextLaws.{replies_same}
@@ -139,7 +139,7 @@ dropped_open limits c b feed waits shown items said fs l few s m w i d =
     let can = said_can c.ledger (requests.CopyIn feed) said (heard fs) items b.ledger b.call i.is_open i.call in
     let leaves = leaves_call c.ledger (requests.CopyIn feed) said (heard fs) items b.ledger b.call i.call in
     ended_whole limits c.stream (asked_with feed c) b (requests.CopyIn feed) shown ends.Dropped said fs w i.went i.broken (waits, i.waited, (λ n. absurd (n refl), l)) i.room few
-    (not_at_once (asked_with feed c) b (requests.CopyIn feed) shown ends.Dropped fs (λ u. u can) (λ f. absurd cc))
+    (not_at_once (asked_with feed c) b (requests.CopyIn feed) shown ends.Dropped fs (not_held_back (requests.CopyIn feed) can refl) (λ f. absurd cc))
     (items, s, leaves, call_well c.ledger (requests.CopyIn feed) said (heard fs) items b.ledger b.call i.call, d leaves, omega (arith, m)) tt
 
 -- a write failed
@@ -154,13 +154,13 @@ failed_open limits c b t feed waits shown items said fs l s m w i p =
     let sent = sent_on c.stream (asked_with feed c) b t r waits waits items said fs (Ready (Err (errors.Io io.Fault))) i p (omega arith) waited in
     let can = said_can c.ledger r said (heard fs) items b.ledger b.call i.is_open i.call in
     ended_whole limits c.stream (asked_with feed c) at r shown end said fs w sent.went sent.broken (waits, waited, (λ n. l, omega (arith, l))) sent.room (omega (arith, sent.calls, l, below))
-    (not_at_once (asked_with feed c) at r shown end fs (λ u. u can) (λ f. absurd cc))
+    (not_at_once (asked_with feed c) at r shown end fs (not_held_back r can refl) (λ f. absurd cc))
     (inl (items, s, m, inr (leaves_call c.ledger r said (heard fs) items b.ledger b.call i.call, call_well c.ledger r said (heard fs) items b.ledger b.call i.call, inl (heard_cause c.stream b.stream t (errors.Io io.Fault) i.went.flows.counts p.gives.1, tt)))) tt
 
 -- so it is told where its call is given up
 told_open : (limits : Bounds) (c b d : ConnSeen) (feed : Feed) (shown : List Item) (end : End) (out : Outcome) → HasEnded limits c.stream (asked_with feed c) b (requests.CopyIn feed) shown end → runs b.call ≡ true → ((x : ConnSeen) → copy_behind limits.parting end x ≡ copy_behind partings.None end x)
     → behind_end end (copy_behind partings.None end b) ≡ cleaned (unfed false b) → d ≡ left b → out ≡ outcome_of d shown end → PlaysCall limits (asked_with feed c) d (requests.CopyIn feed) out
-told_open limits c b d feed shown end out h r same is e k = ([], plays_one limits c.stream (asked_with feed c) b d (requests.CopyIn feed) shown end out (b, h, inr (r, refl, same, is)) e k)
+told_open limits c b d feed shown end out h r same is e k = (asked_with feed c, requests.CopyIn feed, inl (refl, refl), ([], plays_one limits c.stream (asked_with feed c) b d (requests.CopyIn feed) shown end out (b, h, inr (r, refl, same, is)) e k))
 
 -- what is seen of a poll that sends, on a connection that is whole
 fed_so : (b c : ConnSeen) (answer : Poll (Result (Unit {0}) Error)) → b.broken ≡ None → PollsFed b c answer → (t : StreamSeen) × PollsSend (record b.stream { left = 256 }) t answer × (c ≡ record b { stream = t })
@@ -207,7 +207,7 @@ ends_unfed step copying parts old b d waits shown out polled f l p e k =
     let first : ConnSeen = first_conn (asked_of_fed (fed_of copying parts false)) old in
     let i = of_copy step.polls first.stream (λ at asked. IsCopying step.most first.stream at b asked waits shown) first feed p in
     let h = i.1 in
-    copied_as old d step copying parts out polled f ([], plays_one (bounds (of_step step)) first.stream first b d (requests.CopyIn feed) shown (ends.Err errors.OutOfMemory) out (copy_stops (of_step step) first b feed waits shown h.0 h.1 h.2 l h.3 h.4 i.0 h.5) e k)
+    copied_as old d step copying parts out polled f (first, requests.CopyIn feed, inl (refl, refl), ([], plays_one (bounds (of_step step)) first.stream first b d (requests.CopyIn feed) shown (ends.Err errors.OutOfMemory) out (copy_stops (of_step step) first b feed waits shown h.0 h.1 h.2 l h.3 h.4 i.0 h.5) e k))
 
 -- its end is queued: it goes on as if it had been asked for so
 pub finish_goes : (limits : Limits) (copying : Copying) (old b d : ConnSeen) (waits : ℕ) (shown : List Item) → IsFed limits copying old b waits shown → d ≡ copied b
@@ -221,7 +221,7 @@ finish_goes limits copying old b d waits shown p e =
     let same : copied b ≡ resolved d = sym (open_stays b h.5.is_open) ∙ ap (λ (x : ConnSeen). resolved x) (sym e) in
     let at = asked_with (fed_all feed) c in
     let r = requests.CopyIn (fed_all feed) in
-    ([], subst (λ (o : Option ServerFault). IsPlayingOn o limits.most c.stream at d r waits shown) (sym i.0) (h.0, h.1 ++ CopyDone ∷ [], h.2, h.3, h.4, subst (λ (x : ConnSeen). InPlay c.stream at x r waits h.0 (h.1 ++ CopyDone ∷ []) h.2) same goes))
+    (at, r, inl (refl, refl), ([], subst (λ (o : Option ServerFault). IsPlayingOn o limits.most c.stream at d r waits shown) (sym i.0) (h.0, h.1 ++ CopyDone ∷ [], h.2, h.3, h.4, subst (λ (x : ConnSeen). InPlay c.stream at x r waits h.0 (h.1 ++ CopyDone ∷ []) h.2) same goes)))
 
 pub finish_told : (step : Step) (copying : Copying) (old d : ConnSeen) (out : Outcome) → IsPolled old step → copying.end ≡ copy_ends.Finish → PlaysCall (bounds (of_step step)) (first_conn (asked_of_fed (fed_of copying (parts_of copying) true)) old) d (asked_of_fed (fed_of copying (parts_of copying) true)) out → PlaysCopy old d step copying out
 finish_told step copying old d out polled end played =
@@ -236,7 +236,7 @@ leave_waits limits copying parts old b c waits shown p sent =
     let i = of_copy limits.polls first.stream (λ at asked. IsCopying limits.most first.stream at b asked waits shown) first feed p in
     let h = i.1 in
     let f = fed_so b c Pending h.5.broken sent in
-    subst (λ (x : ConnSeen). IsOpenWith limits copying parts old x (waits + 1) shown) (sym f.2) ([], (i.0, (h.0, h.1, h.2, h.3, h.4, still_open first.stream first b f.0 (requests.CopyIn feed) waits h.0 h.1 h.2 h.5 f.1)))
+    subst (λ (x : ConnSeen). IsOpenWith limits copying parts old x (waits + 1) shown) (sym f.2) (first, requests.CopyIn feed, inl (refl, refl), ([], (i.0, (h.0, h.1, h.2, h.3, h.4, still_open first.stream first b f.0 (requests.CopyIn feed) waits h.0 h.1 h.2 h.5 f.1))))
 
 starves : (first a b : ConnSeen) (t : StreamSeen) (r : Request) (waits : ℕ) (items : List CallItem) (said : List FrontendMessage) (fs : List Frame) → InCopy first.stream a b r waits items said fs → SendGives (record b.stream { left = 256 }) t Pending → EndsStarved first.stream a (record b { stream = t })
 starves first a b t r waits items said fs i (inl w) = inl (omega (arith, w.0, i.went.flows.counts.write_waits))
@@ -342,7 +342,7 @@ abort_part step copying old b d waits shown message told polled end can l p e k 
     let change : b.change ≡ changes.Copies = ap (λ (s : Standing). s.change) h.5.went.started.3 in
     let keeping : b.keeping ≡ keepings.Stays = ap (λ (s : Standing). s.keeping) h.5.went.started.3 in
     let is : d ≡ behind_end ends.Dropped (copy_behind (partings.Failed message) ends.Dropped (idle b)) = e ∙ aborted_so b message change keeping in
-    subst (λ (y : Outcome). PlaysStep old d (feeding step fed) y) (sym k) (part_played old d step fed (outcome_of d shown ends.Dropped) polled ([], (idle b, given_up limits first.stream first b (requests.CopyIn feed) shown ends.Dropped dropped, refl, is, refl)))
+    subst (λ (y : Outcome). PlaysStep old d (feeding step fed) y) (sym k) (part_played old d step fed (outcome_of d shown ends.Dropped) polled (first, requests.CopyIn feed, inl (refl, refl), ([], (idle b, given_up limits first.stream first b (requests.CopyIn feed) shown ends.Dropped dropped, refl, is, refl))))
 
 pub abort_hears : (a m b : ConnSeen) (step : Step) (copying : Copying) (message : List ℕ) (first later : Outcome) → IsPolled a step → copying.end ≡ copy_ends.Abort message → first.end ≡ ends.Dropped → PlaysStep a m (feeding step (given_up_as copying (partings.Failed message))) first → m.rule.depth < 2 ^ 64 → PlaysStep m b (flushing step first.waits) later → is_cancel later.end ≡ false
     → PlaysCopy a b step copying (told_behind first later)

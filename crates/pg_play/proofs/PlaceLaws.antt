@@ -34,7 +34,9 @@ use Rattle.pg_resolve.specs.Tried.{unresolved}
 use Rattle.pg_learning.specs.declared.learnt.Learnt.{Learnt}
 use Rattle.pg_learning.specs.declared.learnt.Seeking.{Seeking}
 use Rattle.pg_learning.specs.declared.learnt.Seeking.TheVariants as seekings
+use Rattle.pg_request.specs.Asked.{RefusesType}
 use Rattle.pg_learning.specs.Learning.{FailsSeeking, TakesBy, TakesRow}
+use Rattle.pg_learning.specs.Naming.{unknown_name}
 use Rattle.pg_conn.specs.Turns.{FailsBy, LookFails, ends_request, HasAllRoom}
 use Rattle.pg_report.specs.declared.outcome.Item.{Item}
 use Rattle.pg_report.specs.declared.outcome.End.{End}
@@ -75,7 +77,7 @@ nothing_done start r said hs ledger s h l = record {
 
 -- why a lookup fails: for want of memory, since types aren't there, or by a row of a catalog that isn't one
 abbrev pub IsLookError : Error → Type 0
-IsLookError e = (e ≡ errors.OutOfMemory) ⊎ (((oids : List ℕ) × (e ≡ unresolved oids)) ⊎ ((place : ℕ) × (e ≡ errors.ColumnDecode place)))
+IsLookError e = (e ≡ errors.OutOfMemory) ⊎ (((oids : List ℕ) × (e ≡ unresolved oids)) ⊎ (((place : ℕ) × (e ≡ errors.ColumnDecode place)) ⊎ ((name : List ℕ) × (e ≡ errors.TypeNotFound name))))
 
 seeking_errors : (seeking : Seeking) (e : Error) → FailsSeeking seeking e → IsLookError e
 seeking_errors (seekings.Types s) e (asked, (inl memory, some)) = inl memory
@@ -85,7 +87,7 @@ seeking_errors (seekings.Names asked) e h = absurd h
 
 no_row_errors : (columns : List Column) (values : Values) (e : Error) → IsNoRow columns values e → IsLookError e
 no_row_errors columns values e (inl memory) = inl memory
-no_row_errors columns values e (inr (place, is, unread)) = inr (inr (place, is))
+no_row_errors columns values e (inr (place, is, unread)) = inr (inr (inl (place, is)))
 
 row_errors : (values : Values) (a b : Learnt) (e : Error) → TakesRow values a b (Err e) → IsLookError e
 row_errors values a b e h = by a.seeking h
@@ -98,14 +100,21 @@ row_errors values a b e h = by a.seeking h
     by (seekings.Names asked) (types, inr (row, is, kept, memory)) = inl memory
     by seekings.Nothing (same, okay) = absurd cc
 
+missed_errors : (missing : Option (List ℕ)) (e : Error) → RefusesType missing e → IsLookError e
+missed_errors missing errors.OutOfMemory h = inl refl
+missed_errors missing (errors.TypeNotFound name) h = inr (inr (inr (name, refl)))
+missed_errors missing _ h = absurd h
+
 pub look_errors : (r : Request) (hs : List Frame) (e : Error) → LookFails r hs e → IsLookError e
 look_errors r hs e (lookup, is, inl (seeking, fails)) = seeking_errors seeking e fails
-look_errors r hs e (lookup, is, inr row) = row_errors row.1 row.2 row.3 e row.6
+look_errors r hs e (lookup, is, inr (inl row)) = row_errors row.1 row.2 row.3 e row.6
+look_errors r hs e (lookup, is, inr (inr (learnt, misses))) = missed_errors (unknown_name learnt.types lookup.extended.arguments.names) e misses
 
 look_no_reply : (tag : ℕ) → IsLookError (errors.Protocol (protocol.Reply tag)) → ⊥
 look_no_reply tag (inl e) = cc
 look_no_reply tag (inr (inl (oids, e))) = cc
-look_no_reply tag (inr (inr (place, e))) = cc
+look_no_reply tag (inr (inr (inl (place, e)))) = cc
+look_no_reply tag (inr (inr (inr (name, e)))) = cc
 
 fails_plainly : (a b : ConnSeen) (start : Ledger) (r : Request) (own : List Group) (hs : List Frame) (e : Error) → FailsBy a b start r own hs e → refuses_copy (ends.Err e) ≡ false
 fails_plainly a b start r own hs (errors.Protocol (protocol.Reply tag)) (inl h) = absurd h.0

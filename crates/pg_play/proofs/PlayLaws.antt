@@ -38,8 +38,8 @@ use Rattle.pg_script.specs.declared.step.Call.TheVariants as calls
 use Rattle.pg_script.specs.declared.step.Step.{Step}
 use Rattle.pg_script.specs.declared.step.Parting.{Parting}
 use Rattle.pg_script.specs.declared.step.Parting.TheVariants as partings
-use Rattle.pg_play.specs.Shown.{parting_of, request_of, has_query, shown_by, acts_at_once, begins_with}
-use Rattle.pg_play.specs.Calls.{Ended, WaitsFew, PlaysCall, PlaysStep, IsUnpolled, limits_of, untouched, outcome_of, rolled_outcome, broken_after, behind_end, change_fed, change_for, copy_behind, none_counted, begun_call, all_groups, first_conn}
+use Rattle.pg_play.specs.Shown.{parting_of, request_of, has_query, shown_by, acts_at_once, begins_with, exchange_for, waits_how}
+use Rattle.pg_play.specs.Calls.{Ended, WaitsFew, PlaysCall, PlaysStep, IsUnpolled, limits_of, untouched, outcome_of, rolled_outcome, broken_after, behind_end, change_fed, change_for, copy_behind, none_counted, begun_call, all_groups, first_conn, LooksFirst, OfLastOn, PlaysOne, EndsOn, knowing, Bounds}
 use Rattle.pg_play.specs.Places.{Place, owed, drained, unfed, queued_by, refuses_copy, Queues, first_place, is_fine}
 use Rattle.pg_play.specs.Told.{Numbers, CountsTo, WellAtOk}
 use Rattle.pg_play.specs.Causes.{AnsweredPending, IsDropped, IsDroppedAs, HasCause, KeepsFault, EndsDuly, OpensSavepoint}
@@ -48,7 +48,7 @@ use Rattle.pg_play.specs.WaitPlaces.{LastPlaces}
 use Rattle.pg_play.specs.Chained.{AreChained, IsChained}
 use Rattle.pg_play.specs.Locks.{Guards}
 use Rattle.pg_play.proofs.LockLaws.{settles_release}
-use Rattle.pg_play.specs.Plays.{IsNeverUnlawful, Plays_call, ActsAtOnce, Plays_step, Plays_from, places_in, TakesInTime, StandsAt, PlaysOn, PlaysInOrder, PlaysChain, PlaysAll, TellsBytes, PlaysCalls, Plays, Totals, KeepsRoom, over}
+use Rattle.pg_play.specs.Plays.{IsNeverUnlawful, Plays_call, ActsAtOnce, Plays_step, Plays_from, places_in, TakesInTime, StandsAt, PlaysOn, PlaysInOrder, PlaysChain, PlaysAll, TellsBytes, PlaysCalls, Plays, Totals, KeepsRoom, over, BeginsAs, begun_at}
 use Rattle.pg_play.specs.Starts.{Opening, IsOf, HasOpened, HasWaitedLess}
 use Rattle.pg_startup.proofs.FlowLaws.{Flows-none}
 use Rattle.pg_play.proofs.PartLaws.{take_none}
@@ -59,7 +59,7 @@ use Rattle.pg_play.proofs.CopyLaws.{leaves_none, fails_nothing}
 use Rattle.pg_play.proofs.UncopiedLaws.{calls_plain}
 use Rattle.pg_play.proofs.SettleLaws.{left_link}
 use Rattle.pg_play.proofs.CallLaws.{left_idle, first_changes, wanted_held, wanted_stays}
-use Rattle.pg_play.proofs.ExchangeLaws.{first_parts, first_request, first_acts, first_begins_with, first_waits, asked_wanted}
+use Rattle.pg_play.proofs.ExchangeLaws.{first_parts, first_request, first_acts, first_begins_with, first_waits, asked_wanted, exchange_asks}
 use Rattle.pg_play.proofs.KeptLaws.{first_sound, keeps_first, keeps_next}
 use Rattle.pg_play.proofs.FollowLaws.{first_holds, first_known}
 use Rattle.pg_play.specs.Kept.{Keeps}
@@ -78,6 +78,11 @@ use Rattle.pg_play.proofs.LinkLaws.{where_lawful, totals_all}
 use Rattle.pg_play.proofs.CompleteLaws.{where_faultless}
 use Rattle.pg_play.proofs.InTurnLaws.{AddUp, exchange_of, add_none, add_one, add_alone, counts_settled, InTurn, one_turn, BeginsAt, PlaysInTurn, same_but_groups, last_turn, turns_through}
 use Rattle.pg_play.proofs.WaitPlaceLaws.{places_quiet, places_last, given_next, takes_all}
+use Rattle.pg_learning.specs.declared.learnt.Learnt.{Learnt}
+use Rattle.pg_conn.specs.Looking.{named_in, LooksUp}
+use Rattle.pg_play.proofs.BeforeLaws.{before_first, looked_begun, begins_before, dropped_before, duly_looked}
+use Rattle.pg_play.proofs.ThroughLaws.{named_is}
+use Rattle.pg_call.specs.declared.request.Request.TheVariants as requests
 
 -- ---- one step
 
@@ -91,16 +96,23 @@ first_step rule step = record step { call = first_call rule step.call }
 counts_to : (n m k : ℕ) → GrewBy n 0 m → k ≡ m → CountsTo n k
 counts_to n m k g e = (omega (arith, g.1, e), omega (arith, g.2, e))
 
+-- nothing was learnt before the first exchange, which asks nothing where it has types that are known by their names alone
+begins_plain : (o : Option Extended) (first : Call) (at : Learnt) (groups : ℕ) → ((x : Extended) → o ≡ Some x → groups ≡ 0) → BeginsAs o first at groups first at
+begins_plain None first at groups g = (refl, refl)
+begins_plain (Some x) first at groups g = inl (refl, refl, g x refl)
+
 -- its exchanges come in turn, and their numbers are told in sum
-steps_to : (start : StreamSeen) (at : Place) (step : Step) (out : Outcome) (stop : Place) (d : ConnSeen) → InTurn start at step (first_call at.rule step.call) none_counted out stop d → out.waits < 2 ^ 32 → d.stream.link.calls ≤ at.seen.link.calls + 256 * (step.polls + step.most) → (out.end ≡ ends.Dropped → IsDropped at step out stop)
+steps_to : (start : StreamSeen) (at : Place) (step : Step) (out : Outcome) (stop : Place) (d : ConnSeen) (learnt : Learnt) (call : Call) → BeginsAs (named_in (request_of at.rule.depth (first_call at.rule step.call))) (first_call at.rule step.call) at.learnt out.groups call learnt
+    → InTurn start (begun_at at learnt) step call none_counted out stop d → out.waits < 2 ^ 32 → d.stream.link.calls ≤ at.seen.link.calls + 256 * (step.polls + step.most) → (out.end ≡ ends.Dropped → IsDropped at step out stop)
     → (acts_at_once step.call ≡ true → ActsAtOnce at out stop) → (acts_at_once step.call ≡ false → EndsDuly at step (request_of at.rule.depth (first_call at.rule step.call)) out stop) → StepsTo start at step out d
-steps_to start at step out stop d t few calls dropped now duly = (
+steps_to start at step out stop d learnt call begins t few calls dropped now duly = (
   t.next,
   record {
-    exchanges = first_step at.rule step ∷ t.later;
+    exchanges = exchange_of step call ∷ t.later;
     outs = t.told ∷ t.outs;
+    learnt = learnt;
     run = t.run;
-    first = refl;
+    first = (begins, refl);
     limits = ((refl, refl), t.limits);
     hands = t.hands;
     tells = record {
@@ -155,14 +167,29 @@ begins_first start at a step st k later = record {
 
 -- what its exchanges came to is the step's
 polled_turns : (start : StreamSeen) (at : Place) (a b : ConnSeen) (step : Step) (out : Outcome) (stop : Place) → StandsAt start at a → acts_at_once step.call ≡ false → step.polls < 2 ^ 32 → PlaysInTurn start (begun_call (request_of at.rule.depth (first_call at.rule step.call)) a).stream at step (first_call at.rule step.call) none_counted out stop b
-    → EndsDuly at step (request_of at.rule.depth (first_call at.rule step.call)) out stop → StepsTo start at step out b
-polled_turns start at a b step out stop st later p o duly =
-    steps_to start at step out stop b o.turns (omega (arith, o.waits, p)) (omega (arith, o.calls, ap (λ (x : StreamSeen). x.link.calls) st.seen)) o.dropped (λ now. let x = sym later ∙ now in absurd cc)
+    → ((x : Extended) → named_in (request_of at.rule.depth (first_call at.rule step.call)) ≡ Some x → out.groups ≡ 0) → EndsDuly at step (request_of at.rule.depth (first_call at.rule step.call)) out stop → StepsTo start at step out b
+polled_turns start at a b step out stop st later p o asks duly =
+    steps_to start at step out stop b at.learnt (first_call at.rule step.call) (begins_plain (named_in (request_of at.rule.depth (first_call at.rule step.call))) (first_call at.rule step.call) at.learnt out.groups asks) o.turns (omega (arith, o.waits, p)) (omega (arith, o.calls, ap (λ (x : StreamSeen). x.link.calls) st.seen)) o.dropped (λ now. let x = sym later ∙ now in absurd cc)
     (λ x. duly)
 
-polled_step : (start : StreamSeen) (at : Place) (a b : ConnSeen) (step : Step) (out : Outcome) → StandsAt start at a → Keeps at → (IsUnpolled step → ⊥) → (OpensSavepoint at step → ⊥) → acts_at_once step.call ≡ false → step.polls < 2 ^ 32
-    → PlaysCall (limits_of step) (begun_call (request_of at.rule.depth (first_call at.rule step.call)) a) b (request_of at.rule.depth (first_call at.rule step.call)) out → StepsTo start at step out b
-polled_step start at a b step out st k n opens later p ([], (m, (said, fs, ends, last), over, so, outcome)) =
+-- what is told of a connection by its groups, where its call asked nothing
+groups_of_idle : (a m : ConnSeen) → a.groups ≡ 0 → a.earlier ≡ 0 → m.groups ≡ a.groups → m.earlier ≡ a.earlier → all_groups m ≡ 0
+groups_of_idle a m g e h k = omega (arith, g, e, h, k)
+
+-- what has types that are known by their names alone asks nothing as it is
+named_idles : (o : Option ServerFault) (limits : Bounds) (first : StreamSeen) (a m : ConnSeen) (r : Request) (said : List FrontendMessage) (fs : List Frame) (shown : List Item) (end : End) (x : Extended) → a.broken ≡ o → a.groups ≡ 0 → a.earlier ≡ 0 → named_in r ≡ Some x → Ended limits first a m r shown end said fs → EndsOn o limits first a m r said (heard fs) shown end
+    → (all_groups m ≡ 0) × (is_fine end ≡ false)
+named_idles None limits first a m r said fs shown end x w g e n ended ends =
+    let h = (ended.at_once w).refused (inr (x, n)) in
+    let idle = h.3.2 in
+    (groups_of_idle a m g e (ap (λ (c : ConnSeen). c.groups) idle) (ap (λ (c : ConnSeen). c.earlier) idle), ap is_fine h.2)
+named_idles (Some fault) limits first a m r said fs shown end x w g e n ended (is, s, hs, sh, idle) =
+    (groups_of_idle a m g e (ap (λ (c : ConnSeen). c.groups) idle) (ap (λ (c : ConnSeen). c.earlier) idle), ap is_fine is)
+
+polled_plain : (start : StreamSeen) (at : Place) (a b : ConnSeen) (step : Step) (out : Outcome) → StandsAt start at a → Keeps at → (IsUnpolled step → ⊥) → (OpensSavepoint at step → ⊥) → acts_at_once step.call ≡ false → step.polls < 2 ^ 32
+    → OfLastOn step.polls (begun_call (request_of at.rule.depth (first_call at.rule step.call)) a).stream (λ x asked. PlaysOne (limits_of step) (begun_call (request_of at.rule.depth (first_call at.rule step.call)) a).stream x b asked out) (begun_call (request_of at.rule.depth (first_call at.rule step.call)) a) (request_of at.rule.depth (first_call at.rule step.call))
+    → StepsTo start at step out b
+polled_plain start at a b step out st k n opens later p ([], (m, (said, fs, ends, last), over, so, outcome)) =
     let call = first_call at.rule step.call in
     let parts = first_parts at.rule step.call in
     let e = subst (λ (q : Parting). Ended (record { polls = step.polls; most = step.most; parting = q }) (begun_call (request_of at.rule.depth call) a).stream (begun_call (request_of at.rule.depth call) a) m (request_of at.rule.depth call) out.items out.end said fs) (sym parts) ends in
@@ -176,14 +203,50 @@ polled_step start at a b step out st k n opens later p ([], (m, (said, fs, ends,
     let stop : Place = next_place at m said found.1.own fs out.end in
     let turn = last_turn start begun.stream none_counted at a m step call out.items out.end said fs (begins_first start at a step st k later) p refl refl (polled_most step n) parts e last over found in
     let dues : EndsDuly at step r raw stop = duly_step start at a m step r raw said fs found.0 st n opens p ends found.1 refl (λ x. ap (λ (y : Call). request_of at.rule.depth (first_call at.rule y)) x) (λ w. turn.0.most (first_waits at.rule step.call w)) in
-    let steps : StepsTo start at step real d = polled_turns start at a d step real stop st later p turn.0 (duly_out at step r raw real stop turn.1 (λ z f. subst (λ (c : ConnSeen). (all_groups (behind_end out.end c) ≡ 0) × ((behind_end out.end c).cache ≡ m.cache)) (sym (turn.2 z)) (still_made out.end m z f))
+    let asks_none = λ (x : Extended) (named : named_in r ≡ Some x). (
+    let idles = named_idles a.broken (limits_of step) begun.stream begun m r said fs out.items out.end x refl refl refl named ends ends.ends in
+    subst (λ (c : ConnSeen). (all_groups (behind_end out.end c) ≡ 0) × ((behind_end out.end c).cache ≡ m.cache)) (sym (turn.2 idles.0)) (still_made out.end m idles.0 idles.1)).0 in
+    let steps : StepsTo start at step real d = polled_turns start at a d step real stop st later p turn.0 asks_none (duly_out at step r raw real stop turn.1 (λ z f. subst (λ (c : ConnSeen). (all_groups (behind_end out.end c) ≡ 0) × ((behind_end out.end c).cache ≡ m.cache)) (sym (turn.2 z)) (still_made out.end m z f))
     (λ z c. subst (λ (x : ConnSeen). (all_groups (behind_end out.end x) ≡ 0) × ((behind_end out.end x).cache ≡ m.cache)) (sym (turn.2 z)) (plainly_made out.end m z (ap (λ (x : Standing). x.keeping) e.went.started.3 ∙ ap (λ (y : Call). keeping_of (request_of at.rule.depth (first_call at.rule y))) c))) dues) in
     subst (λ (x : Outcome). StepsTo start at step x b) (sym (outcome ∙ ap (λ (x : ConnSeen). outcome_of x out.items out.end) is)) (subst (λ (x : ConnSeen). StepsTo start at step real x) (sym is) steps)
-polled_step start at a b step out st k n opens later p (next ∷ more, played) =
+polled_plain start at a b step out st k n opens later p (next ∷ more, played) =
     let r = request_of at.rule.depth (first_call at.rule step.call) in
     let t = turns_through (next ∷ more) start (begun_call r a).stream none_counted at a b step (first_call at.rule step.call) out (begins_first start at a step st k later) p refl refl (polled_most step n) (first_parts at.rule step.call) played in
-    polled_turns start at a b step out t.0 st later p t.1
+    polled_turns start at a b step out t.0 st later p t.1 (λ x named. absurd (played.1.handed.unsaid (inr (x, named))))
     (duly_handed start at t.0 a played.0 step r played.1.told out st n opens played.1.handed (λ x. ap (λ (y : Call). request_of at.rule.depth (first_call at.rule y)) x) t.1.few (λ w. t.1.most (first_waits at.rule step.call w)))
+
+-- where something is looked up first, the exchanges begin with what is known then
+polled_step : (start : StreamSeen) (at : Place) (a b : ConnSeen) (step : Step) (out : Outcome) → StandsAt start at a → Keeps at → (IsUnpolled step → ⊥) → (OpensSavepoint at step → ⊥) → acts_at_once step.call ≡ false → step.polls < 2 ^ 32
+    → PlaysCall (limits_of step) (begun_call (request_of at.rule.depth (first_call at.rule step.call)) a) b (request_of at.rule.depth (first_call at.rule step.call)) out → StepsTo start at step out b
+polled_step start at a b step out st k n opens later p (from, asked, inl (f, q), on) =
+    let r = request_of at.rule.depth (first_call at.rule step.call) in
+    let begun = begun_call r a in
+    polled_plain start at a b step out st k n opens later p
+    (subst (λ (x : Request). OfLastOn step.polls begun.stream (λ y z. PlaysOne (limits_of step) begun.stream y b z out) begun x) q (subst (λ (x : ConnSeen). OfLastOn step.polls begun.stream (λ y z. PlaysOne (limits_of step) begun.stream y b z out) x asked) f on))
+polled_step start at a b step out st k n opens later p (from, asked, inr h, on) = by (named_in (request_of at.rule.depth (first_call at.rule step.call))) refl h
+  where
+    r : Request
+    r = request_of at.rule.depth (first_call at.rule step.call)
+
+    begun : ConnSeen
+    begun = begun_call r a
+
+    by : (o : Option Extended) → named_in r ≡ o → LooksFirst o begun from asked → StepsTo start at step out b
+    by None e h = absurd h
+    by (Some x) e (whole, can, (learnt, next, looks, is, f)) =
+        let looks_so : LooksUp (requests.Describe x) at.learnt next learnt = subst (λ (l : Learnt). LooksUp (requests.Describe x) l next learnt) st.learnt looks in
+        let first = before_first at.rule at.rule.depth step.call x next at.learnt learnt e looks_so in
+        let known : ConnSeen = knowing learnt a in
+        let asks : request_of at.rule.depth (exchange_for next) ≡ asked = exchange_asks at.rule.depth next first.stands ∙ sym first.same ∙ ap (λ (k : Rule). asked_by k next) (sym st.rule) ∙ sym is in
+        let from_is = looked_begun a r x asked next learnt from (named_is r x e) is f looks (first.held a.rule) in
+        let on_so = subst (λ (q : Request). OfLastOn step.polls begun.stream (λ y z. PlaysOne (limits_of step) begun.stream y b z out) (begun_call q known) q) (sym asks)
+        (subst (λ (c : ConnSeen). OfLastOn step.polls begun.stream (λ y z. PlaysOne (limits_of step) begun.stream y b z out) c asked) from_is on) in
+        let t = turns_through on_so.0 start begun.stream none_counted (begun_at at learnt) known b step (exchange_for next) out (begins_before start at a step x next learnt st k e looks_so) p refl refl (polled_most step n)
+        (first.parts ∙ first_parts at.rule step.call) on_so.1 in
+        let o = t.1 in
+        steps_to start at step out t.0 b learnt (exchange_for next) (subst (λ (z : Option Extended). BeginsAs z (first_call at.rule step.call) at.learnt out.groups (exchange_for next) learnt) (sym e) (inr (next, looks_so, refl))) o.turns (omega (arith, o.waits, p))
+        (omega (arith, o.calls, ap (λ (y : StreamSeen). y.link.calls) st.seen)) (λ z. dropped_before (parting_of step.call) at learnt step out t.0 (o.dropped z)) (λ now. let y = sym later ∙ now in absurd cc)
+        (λ y. duly_looked at step r out t.0 x n opens (sym st.broken ∙ whole) can e (λ c. ap (λ (z : Call). request_of at.rule.depth (first_call at.rule z)) c) o.few (λ w. o.most (ap waits_how first.how ∙ first_waits at.rule step.call w)))
 
 -- a step that does nothing, and is no failure of the server
 abbrev IsQuiet : End → Type 0
@@ -340,7 +403,7 @@ quiet_step start at a step out end st kept later f k q one none dropped duly =
     let none_waits : out.waits ≡ 0 = ap (λ (x : Outcome). x.waits) k in
     let leaves : LeavesCopy call one.own out.end at at = subst (λ (own : List Group). LeavesCopy call own out.end at at) (sym none) (leaves_none call [] out.end at (fails_nothing call out.end).0 (fails_nothing call out.end).1) in
     let turns = one_turn start at at at at a step (first_call at.rule step.call) none_counted out out out one leaves (quiet_lawful at out (subst IsQuiet (sym ends_so) q)) (places_quiet at out (ap (λ (x : Outcome). x.waits) k)) (NoneFalls-refl at.seen.link) settles st kept refl refl (add_alone out) (over_same out.cache) refl in
-    steps_to start at step out at a turns (omega (arith, none_waits)) (omega (arith, ap (λ (x : StreamSeen). x.link.calls) st.seen)) dropped (λ now. let x = sym later ∙ now in absurd cc) (λ x. duly)
+    steps_to start at step out at a at.learnt (first_call at.rule step.call) (begins_plain (named_in (request_of at.rule.depth (first_call at.rule step.call))) (first_call at.rule step.call) at.learnt out.groups (λ x e. groups)) turns (omega (arith, none_waits)) (omega (arith, ap (λ (x : StreamSeen). x.link.calls) st.seen)) dropped (λ now. let x = sym later ∙ now in absurd cc) (λ x. duly)
 
 quiet_most : (step : Step) (out : Outcome) (end : End) → out ≡ untouched end → (out.end ≢ ends.Dropped → 0 < step.most) → WithinMost out.end out.items step.most
 quiet_most step out end k m = let z : length out.items ≡ 0 = ap (λ (x : Outcome). length x.items) k in (λ n. omega (arith, z, m n), omega (arith, z))
@@ -415,6 +478,11 @@ acts_first rule calls.StartRollback acts = refl
 acts_first rule (calls.Release text) acts = refl
 acts_first rule _ acts = absurd cc
 
+acts_unnamed : (d : ℕ) (call : Call) (x : Extended) → acts_at_once call ≡ true → named_in (request_of d call) ≡ Some x → ⊥
+acts_unnamed d calls.StartRollback x acts e = cc
+acts_unnamed d (calls.Release text) x acts e = cc
+acts_unnamed d _ x acts e = absurd cc
+
 acted_step : (start : StreamSeen) (at : Place) (a b : ConnSeen) (step : Step) → StandsAt start at a → Keeps at → acts_at_once step.call ≡ true → SettlesTo start at (first_step at.rule step) (untouched (ends.Ok AnswersUnit)) [] [] None at (ended_conn (counted_anew a)) b → StepsTo start at step (rolled_outcome b) b
 unfolding quiet_call acted_call
 acted_step start at a b step st kept acts settled =
@@ -430,7 +498,8 @@ acted_step start at a b step st kept acts settled =
     let turns = one_turn start at at settled.left settled.next b step (first_call at.rule step.call) none_counted told settled.out (rolled_outcome b) one settled.leaves (quiet_lawful at told (inr (inr (inr refl)))) (places_quiet at told refl) (NoneFalls-refl at.seen.link) settled.settles settled.stands
     (keeps_next at at settled.left settled.next first told settled.out one settled.leaves settled.settles kept (first_sound at.rule step.call) (first_holds at at.rule step.call) (λ x d f. absurd (acts_none first.call x now d))).0
     (sym (ap (λ (x : Outcome). x.items) k)) (sym (ap (λ (x : Outcome). x.end) k)) adds settled.others.4 settled.asked in
-    steps_to start at step (rolled_outcome b) at b turns (omega (arith, settled.others.1)) (omega (arith, ap (λ (x : StreamSeen). x.link.calls) settled.stands.seen, ap (λ (x : StreamSeen). x.link.calls) settled.settles.seen, ap (λ (x : LinkSeen). x.calls) (left_link first.call [] (ends.Ok AnswersUnit) at settled.left settled.leaves))) (λ x. absurd cc) (λ w. (rolled_so, refl)) (λ later. let x = sym later ∙ acts in absurd cc)
+    steps_to start at step (rolled_outcome b) at b at.learnt (first_call at.rule step.call)
+    (begins_plain (named_in (request_of at.rule.depth (first_call at.rule step.call))) (first_call at.rule step.call) at.learnt (all_groups b) (λ x e. absurd (acts_unnamed at.rule.depth (first_call at.rule step.call) x now e))) turns (omega (arith, settled.others.1)) (omega (arith, ap (λ (x : StreamSeen). x.link.calls) settled.stands.seen, ap (λ (x : StreamSeen). x.link.calls) settled.settles.seen, ap (λ (x : LinkSeen). x.calls) (left_link first.call [] (ends.Ok AnswersUnit) at settled.left settled.leaves))) (λ x. absurd cc) (λ w. (rolled_so, refl)) (λ later. let x = sym later ∙ acts in absurd cc)
 
 -- a call on a connection on which none ran begins with the exchange that the place tells
 first_begun : (a : ConnSeen) (request : Request) → a.call ≡ states.Idle → IsWanted request → first_conn request a ≡ begun_call (first_exchange request a) a

@@ -1,12 +1,15 @@
 -- One more poll of a call that is played: of one exchange, or through its end into the next ones.
 use Rattle.std.proofs.Common.{nat_eq, cond, ◌≡◌, ℕ, ◌+◌, ◌*◌, ◌<◌, ◌≤◌, inl, inr, ◌⊎◌, Bool, true, false, List, [], ◌∷◌, ◌++◌, length, map, refl, sym, ap, ◌∙◌, subst, arith, Option, Some, None, Ok, Err, ap₂, min, ◌-◌, ◌^◌}
+use Rattle.std.proofs.lemmas.Option.{same_Some}
+use Rattle.pg_wire.specs.Backend.{BackendMessage}
 use Rattle.pg_rule.specs.declared.rule.Rule.{Rule}
+use Rattle.pg_call.specs.declared.statement.Extended.{Extended}
 use Rattle.pg_call.specs.declared.statement.After.TheVariants as afters
 use Rattle.pg_call.specs.declared.statement.After.{After}
 use Rattle.pg_call.specs.declared.statement.Goal.TheVariants as goals
 use Rattle.pg_call.specs.declared.statement.Goal.{Goal}
 use Rattle.pg_call.specs.declared.calling.Call.{Call}
-use Rattle.pg_conn.specs.Statements.{begun_as, held_by}
+use Rattle.pg_conn.specs.Statements.{asked_by, begun_as, held_by}
 use Rattle.futures.specs.declared.task.Poll.{Poll}
 use Rattle.futures.specs.declared.task.Poll.TheVariants.{Ready, Pending}
 use Rattle.pg_wire.specs.declared.error.Error.{Error}
@@ -34,9 +37,9 @@ use Rattle.pg_call.specs.declared.answer.Turn.TheVariants as turns
 use Rattle.pg_call.specs.declared.calling.Call.TheVariants as calls
 use Rattle.pg_call.specs.declared.calling.Beat.{Beat}
 use Rattle.pg_call.specs.declared.calling.Beat.TheVariants as beats
-use Rattle.pg_call.specs.Requests.{kind_of, main_kind, change_of, goal_kind, after_kind}
+use Rattle.pg_call.specs.Requests.{CanBeSaid, IsRefusal, kind_of, main_kind, change_of, goal_kind, after_kind, request_behind}
 use Rattle.pg_call.specs.Items.{own_items, shown}
-use Rattle.pg_call.specs.Calls.{CallIs, EndsFine}
+use Rattle.pg_call.specs.Calls.{CallIs, EndsFine, next_of}
 use Rattle.pg_call.specs.Hearing.{IsOpen}
 use Rattle.pg_call.specs.Replies.{part_after}
 use Rattle.pg_call.specs.declared.judging.Part.{Part}
@@ -45,10 +48,12 @@ use Rattle.pg_call.proofs.CopyInLaws.{came}
 use Rattle.pg_call.proofs.FitLaws.{hands_on_described, next_is}
 use Rattle.pg_conn.specs.Connections.{ConnSeen, begun_with, handed, settled, runs, left, started_call, cleaned, ended, idle, resolved, resolved_by}
 use Rattle.pg_learning.specs.declared.learnt.Learnt.{Learnt}
-use Rattle.pg_conn.specs.Looking.{AsksNext, LooksUp}
+use Rattle.pg_conn.specs.Looking.{AsksNamed, AsksNext, LooksUp, named_by, named_in}
+use Rattle.pg_conn.proofs.FirstLaws.{IsHanded, handed_unnamed, polls_refused}
+use Rattle.pg_conn.proofs.StateLaws.{named_asked}
 use Rattle.pg_conn.proofs.FeedingLaws.{copies_main}
 use Rattle.pg_conn.proofs.StatementLaws.{asked_main}
-use Rattle.pg_conn.specs.Turns.{Polled, PollsThrough, HandsOver, hands_on, PollsBy, HandsOnNone, beat_of, BeatCause, SendCause, TakesBeat, is_flushed, first_exchange}
+use Rattle.pg_conn.specs.Turns.{BeginsBy, IsSayable, Polled, PollsOn, PollsThrough, Refused, RefusesNamed, HandsOver, hands_on, PollsBy, HandsOnNone, beat_of, BeatCause, SendCause, TakesBeat, is_flushed, first_exchange}
 use Rattle.pg_report.specs.declared.outcome.Item.{Item}
 use Rattle.pg_report.specs.declared.outcome.Answer.TheVariants.{Unit as AnswersUnit}
 use Rattle.pg_report.specs.declared.outcome.End.{End}
@@ -59,8 +64,8 @@ use Rattle.pg_play.specs.declared.tally.Pause.{Pause}
 use Rattle.pg_play.specs.declared.tally.Pause.TheVariants as pauses
 use Rattle.pg_play.specs.declared.tally.Tally.{Tally}
 use Rattle.pg_play.specs.Shown.{item_of, IsBegun, IsUncopied, IsWanted}
-use Rattle.pg_play.specs.Calls.{Bounds, bounds, Adds, change_fed, change_for, Finishes, again, InCopy, InPlay, IsCopying, Waited, IsPlayingOn, IsPlaying, Ended, EndsOn, broken_after, Counted, asking, HandedOn, HandsTo, handed_from, knowing, OfLastIn, OfLast, IsCallPlaying, StopsBy, Pauses, PollGives, PlaysOne, PlaysCall, outcome_of, all_groups, asked_from, first_conn}
-use Rattle.pg_play.proofs.ExchangeLaws.{IsLooked, looks_or}
+use Rattle.pg_play.specs.Calls.{Bounds, bounds, Adds, change_fed, change_for, Finishes, again, InCopy, InPlay, IsCopying, Waited, IsPlayingOn, IsPlaying, Ended, EndsOn, broken_after, Counted, asking, HandedOn, HandsTo, handed_from, knowing, LooksFirst, OfLastIn, OfLastOn, OfLast, StartsAt, IsCallPlaying, StopsBy, Pauses, PollGives, PlaysOne, PlaysCall, outcome_of, all_groups, asked_from, first_conn}
+use Rattle.pg_play.proofs.ExchangeLaws.{LeadsTo, looks_or, told_by}
 use Rattle.pg_play.proofs.CallLaws.{AfterSome, PlayBeat, OverPoll, over_poll, after_beat, fresh_play, playing_one, plays_one, goes_waits, goes_yields, goes_ok, goes_unshown, goes_err, drops_waiting, drops_shown, goes_unkept, asked_changes, wanted_stays, not_fed, first_changes}
 
 -- what holds of the exchange that came last
@@ -69,14 +74,24 @@ on_last_in [] polls first P Q a r f p = f a r p
 on_last_in (next ∷ later) polls first P Q a r f h = (h.0, h.1, on_last_in later polls first P Q (handed_from (knowing h.1.learnt h.0) next) (asked_from h.0 next) f h.2)
 
 pub on_last : (polls : ℕ) (first : StreamSeen) (P Q : ConnSeen → Request → Type 0) (a : ConnSeen) (r : Request) → ((at : ConnSeen) (asked : Request) → P at asked → Q at asked) → OfLast polls first P a r → OfLast polls first Q a r
-on_last polls first P Q a r f h = (h.0, on_last_in h.0 polls first P Q a r f h.1)
+on_last polls first P Q a r f (from, asked, starts, on) = (from, asked, starts, (on.0, on_last_in on.0 polls first P Q from asked f on.1))
 
--- the last of those behind the last one is the last of all
-last_behind : (later : List Request) (polls : ℕ) (first : StreamSeen) (P : ConnSeen → Request → Type 0) (a : ConnSeen) (r : Request) → OfLastIn later polls first (λ at asked. OfLast polls first P at asked) a r → OfLast polls first P a r
-last_behind [] polls first P a r h = h
-last_behind (next ∷ later) polls first P a r h =
-    let behind = last_behind later polls first P (handed_from (knowing h.1.learnt h.0) next) (asked_from h.0 next) h.2 in
-    (next ∷ behind.0, (h.0, h.1, behind.1))
+-- what was handed on describes a statement, runs or tells one
+handed_is : (r : Request) (reply : List BackendMessage) (told : Request) → next_of r reply ≡ Some told → IsHanded told
+handed_is (requests.Describe x) reply told e = subst IsHanded (same_Some (told_by x reply) told e) tt
+handed_is (requests.Look l) reply told e = subst IsHanded (same_Some (requests.Describe l.extended) told e) tt
+handed_is (requests.Evict v) reply told e = subst IsHanded (same_Some (request_behind v.after) told e) (by v.after)
+  where
+    by : (a : After) → IsHanded (request_behind a)
+    by (afters.Run bound) = tt
+    by (afters.Prepare prepared) = tt
+handed_is _ reply told e = absurd cc
+
+-- so behind the first exchange no type is known by its name alone
+next_unnamed : (polls : ℕ) (first : StreamSeen) (a m : ConnSeen) (r next : Request) → HandsTo polls first a m r next → named_in (asked_from m next) ≡ None
+next_unnamed polls first a m r next h =
+    let ends = h.handed.ends.0 in
+    handed_unnamed (settled m).rule h.told next m.learnt h.learnt (handed_is r ends.0.reply h.told (next_is r ends.0.reply ends.0.status h.told ends.1).1) h.looks
 
 -- ---- an exchange that hands on the next one
 
@@ -112,6 +127,7 @@ hands_over polls first a m r next waits items l e h =
         over = after.tells.0;
         ends = (subst (λ (x : List CallItem). EndsFine a.ledger r h.0 (heard h.1) x m.ledger (Ok (answers.Next next))) none after.tells.1, after.tells.2);
         can = after.tells.1.0.can;
+        unsaid = λ u. after.unsaid u;
         flush = not_flushed (is_flushed a) next (λ k. (after.unflushed k).0);
         waits = waits;
         waited = after.over.waited (λ w. absurd cc);
@@ -164,9 +180,10 @@ described_main (requests.Look lookup) k e = by lookup.extended.goal e
 described_main _ k e = absurd cc
 
 -- what is looked up is for the same call
-looked_main : (told next : Request) → (next ≡ told) ⊎ IsLooked told next → main_kind next ≡ main_kind told
+looked_main : (told next : Request) → LeadsTo told next → main_kind next ≡ main_kind told
 looked_main told next (inl same) = ap main_kind same
-looked_main told next (inr l) = ap main_kind l.asks ∙ sym (ap main_kind l.tells)
+looked_main told next (inr (inl l)) = ap main_kind l.asks ∙ sym (ap main_kind l.tells)
+looked_main told next (inr (inr f)) = ap main_kind f.asks ∙ sym (ap main_kind f.tells)
 
 handed_main : (polls : ℕ) (first : StreamSeen) (a m : ConnSeen) (r told next : Request) (learnt : Learnt) → HandedOn polls first a m r told → LooksUp told m.learnt next learnt → main_kind next ≡ main_kind r
 handed_main polls first a m r told next learnt h looks = looked_main told next (looks_or told next m.learnt learnt looks) ∙ (next_is r h.ends.0.0.reply h.ends.0.0.status told h.ends.0.1).0
@@ -198,7 +215,7 @@ handed_ended limits first a m r next l h = record {
   few = (h.waits, h.waited, (λ d. h.few, omega (arith, h.few)));
   room = h.room;
   calls = omega (arith, h.calls);
-  at_once = λ o. record { refused = λ u. absurd (u h.can); flushed = λ f. let x = sym h.flush ∙ f in absurd cc };
+  at_once = λ o. record { refused = λ u. absurd (h.unsaid u); flushed = λ f. let x = sym h.flush ∙ f in absurd cc };
   ends = subst (λ (o : Option ServerFault). EndsOn o limits first a m r h.said (heard h.fs) [] (ends.Ok AnswersUnit)) (sym h.whole.0) ([], answers.Next next, refl, l, refl, h.ends.0, h.ends.1);
 }
 
@@ -228,6 +245,12 @@ record Begins (first : StreamSeen) (b at : ConnSeen) (r : Request) (waits : ℕ)
   whole : at.broken ≡ None
   asks : at.call ≡ calls.Asked r
   change : at.change ≡ change_for r
+  unnamed : named_in r ≡ None
+
+-- what is asked has no type that is known by its name alone
+asks_plainly : (b c : ConnSeen) (beat : Beat) → IsSayable b.call ⊎ Refused b c beat → named_by b.call ≡ None → (IsSayable b.call × (named_by b.call ≡ None)) ⊎ Refused b c beat
+asks_plainly b c beat (inl can) n = inl (can, n)
+asks_plainly b c beat (inr refused) n = inr refused
 
 later_beat : (first : StreamSeen) (b at c : ConnSeen) (r : Request) (waits : ℕ) (beat : Beat) → Begins first b at r waits → (p : Polled at c beat) → AfterSome first at p.stopped r waits [] beat
 later_beat first b at c r waits beat s p =
@@ -235,7 +258,7 @@ later_beat first b at c r waits beat s p =
     let moves = Moves-then (begun_with 256 b).stream at.stream p.stopped.stream s.queued p.turns.0 s.frames p.turns.1 s.moves two.moves in
     let cause = cause_later (begun_with 256 b) at p.stopped beat s.moved s.moves.left two.moves.left two.cause in
     let over : OverPoll first at p.stopped waits (0 + again r) beat = over_poll first at b p.stopped waits (0 + again r) beat (s.queued ++ p.turns.0) (s.frames ++ p.turns.1) (omega (arith, s.moved.2.2.0)) s.waited (omega (arith, s.made)) moves cause in
-    after_beat at.stream.left at.stream first at at p.stopped r 0 waits [] beat [] [] (fresh_play at r s.whole s.asks s.change) p.turns p.whole p.says p.flush over
+    after_beat at.stream.left at.stream first at at p.stopped r 0 waits [] beat [] [] (fresh_play at r s.whole s.asks s.change) p.turns p.whole (asks_plainly at p.stopped beat p.says (ap (λ (k : Call). named_by k) s.asks ∙ s.unnamed)) p.flush over
 
 -- the next one begins where it stopped
 begins_next : (polls : ℕ) (first : StreamSeen) (b at m : ConnSeen) (r next : Request) (waits : ℕ) → Begins first b at r waits → (h : HandsTo polls first at m r next) → TakesBeat at m (beats.Ends (Ok (answers.Next h.told))) → Begins first b (handed_from (knowing h.learnt m) next) (asked_from m next) waits
@@ -249,6 +272,7 @@ begins_next polls first b at m r next waits s h t = record {
   whole = h.handed.whole.1;
   asks = refl;
   change = sym (handed_stays polls first at m r h.told next h.learnt h.handed h.looks);
+  unnamed = next_unnamed polls first at m r next h;
 }
 
 -- ---- what a poll makes of an exchange
@@ -299,32 +323,48 @@ begun_resolved c = by c.call
     by (calls.Own reply) = refl
     by calls.Closing = refl
 
+resolved_broken : (c : ConnSeen) → (resolved c).broken ≡ c.broken
+resolved_broken c = by c.call
+  where
+    by : (call : Call) → (resolved_by call c).broken ≡ c.broken
+    by (calls.Asked r) = refl
+    by calls.Idle = refl
+    by (calls.Waiting w) = refl
+    by (calls.Own reply) = refl
+    by calls.Closing = refl
+
+-- the exchange that runs goes on by a beat
+goes_on : (most : ℕ) (first : StreamSeen) (a b c : ConnSeen) (r : Request) (waits : ℕ) (shown : List Item) (beat : Beat) → (i : IsPlayingOn None most first a b r waits shown) → (p : Polled (begun_with 256 (resolved b)) c beat)
+    → (IsSayable (resolved b).call × (named_by (resolved b).call ≡ None)) ⊎ Refused (begun_with 256 (resolved b)) p.stopped beat → AfterSome first a p.stopped r waits i.0 beat
+goes_on most first a b c r waits shown beat i p says =
+    let from : ConnSeen = resolved b in
+    let over = over_poll first a from p.stopped waits (length i.0 + again r) beat p.turns.0 p.turns.1 i.5.went.flows.counts.write_waits i.5.waited (omega (arith, i.5.calls)) p.turns.3.moves p.turns.3.cause in
+    after_beat 256 first first a from p.stopped r waits waits i.0 beat i.1 i.2 i.5 p.turns p.whole says p.flush over
+
 -- one exchange went on, or the next ones began
-turns_through : (polls most : ℕ) (first : StreamSeen) (a b c : ConnSeen) (r : Request) (waits : ℕ) (shown : List Item) (answer : Poll Turn) → waits < polls → a.broken ≡ None → IsPlayingOn None most first a b r waits shown → PollsThrough (begun_with 256 b) c answer → OfLast polls first (Turned most first c waits shown answer) a r
-turns_through polls most first a b c r waits shown answer l e i t = by t.later t.hands
+turns_on : (polls most : ℕ) (first : StreamSeen) (a b c : ConnSeen) (r : Request) (waits : ℕ) (shown : List Item) (answer : Poll Turn) → waits < polls → a.broken ≡ None → named_by (resolved b).call ≡ None → IsPlayingOn None most first a b r waits shown → PollsOn (begun_with 256 b) c answer → OfLastOn polls first (Turned most first c waits shown answer) a r
+turns_on polls most first a b c r waits shown answer l e n i t = by t.later t.hands
   where
     from : ConnSeen
     from = resolved b
 
-    goes_on : (c : ConnSeen) (beat : Beat) → (p : Polled (begun_with 256 from) c beat) → AfterSome first a p.stopped r waits i.0 beat
-    goes_on c beat p =
-        let over = over_poll first a from p.stopped waits (length i.0 + again r) beat p.turns.0 p.turns.1 i.5.went.flows.counts.write_waits i.5.waited (omega (arith, i.5.calls)) p.turns.3.moves p.turns.3.cause in
-        after_beat 256 first first a from p.stopped r waits waits i.0 beat i.1 i.2 i.5 p.turns p.whole p.says p.flush over
-
     polled_from : (c : ConnSeen) (beat : Beat) → Polled (resolved (begun_with 256 b)) c beat → Polled (begun_with 256 from) c beat
     polled_from c beat p = subst (λ (x : ConnSeen). Polled x c beat) (begun_resolved b) p
 
-    by : (later : List Request) → HandsOver (begun_with 256 b) later t.last → OfLast polls first (Turned most first c waits shown answer) a r
+    plainly : (c : ConnSeen) (beat : Beat) → (p : Polled (begun_with 256 from) c beat) → AfterSome first a p.stopped r waits i.0 beat
+    plainly c beat p = goes_on most first a b c r waits shown beat i p (asks_plainly (begun_with 256 from) p.stopped beat p.says n)
+
+    by : (later : List Request) → HandsOver (begun_with 256 b) later t.last → OfLastOn polls first (Turned most first c waits shown answer) a r
     by [] h =
         let p = polled_from c (beat_of answer) (subst (λ (x : ConnSeen). Polled (resolved x) c (beat_of answer)) h t.polled) in
-        ([], turned_whole most first a c r waits shown answer None e (i.0, i.3, i.4, p.stopped, p.behind_is, goes_on c (beat_of answer) p, p.asked) t.none)
+        ([], turned_whole most first a c r waits shown answer None e (i.0, i.3, i.4, p.stopped, p.behind_is, plainly c (beat_of answer) p, p.asked) t.none)
     by (next ∷ later) h =
         let told = h.1.0 in
         let between = h.1.1 in
         let one = polled_from between (beat_of (hands_on told)) h.1.2 in
         let asks = h.1.3 in
         let m = one.stopped in
-        let over = hands_over polls first a m r told waits i.0 l e (goes_on between (beat_of (hands_on told)) one) in
+        let over = hands_over polls first a m r told waits i.0 l e (plainly between (beat_of (hands_on told)) one) in
         let on = asks_on polls first a m between h.0 r told next over.0 one.behind_is asks in
         let few : from.stream.link.calls ≤ first.link.calls + 256 * waits = omega (arith, i.5.calls, ap (λ (x : List CallItem). length x) over.1, described_again r (handed_described polls first a m r told over.0)) in
         let begins : Begins first from (handed_from (knowing on.0.learnt m) next) (asked_from m next) waits = record {
@@ -337,34 +377,145 @@ turns_through polls most first a b c r waits shown answer l e i t = by t.later t
           whole = over.0.whole.1;
           asks = refl;
           change = sym (handed_stays polls first a m r on.0.told next on.0.learnt on.0.handed on.0.looks);
+          unnamed = next_unnamed polls first a m r next on.0;
         } in
         let further = subst (λ (x : ConnSeen). HandsOver x later t.last) on.1 h.2 in
         (next ∷ later, (m, on.0, later_turns later polls most first from (handed next (settled (knowing on.0.learnt m))) t.last c (asked_from m next) waits shown answer l (i.3 ∙ ap (map item_of) over.1) i.4 begins further t.polled t.none))
 
-resolved_broken : (c : ConnSeen) → (resolved c).broken ≡ c.broken
-resolved_broken c = by c.call
+-- ---- the first poll of a call whose types are known by their names alone
+
+pub named_is : (r : Request) (x : Extended) → named_in r ≡ Some x → r ≡ requests.Describe x
+named_is r x e = by (named_asked (calls.Asked r) x e)
   where
-    by : (call : Call) → (resolved_by call c).broken ≡ c.broken
-    by (calls.Asked r) = refl
-    by calls.Idle = refl
-    by (calls.Waiting w) = refl
-    by (calls.Own reply) = refl
-    by calls.Closing = refl
+    by : calls.Asked r ≡ calls.Asked (requests.Describe x) → r ≡ requests.Describe x
+    by e = cc
+
+-- what is looked up for a description opens and closes nothing
+pub looked_stays : (rule : Rule) (x : Extended) (next : Request) (a b : Learnt) → LooksUp (requests.Describe x) a next b → change_for (asked_by rule next) ≡ changes.Stays
+looked_stays rule x next a b looks =
+    let main = looked_main (requests.Describe x) next (looks_or (requests.Describe x) next a b looks) in
+    not_fed (asked_by rule next) (λ e. described_main (requests.Describe x) refl (sym main ∙ sym (asked_main rule next) ∙ e)) ∙ asked_changes rule next ∙ ap change_of main ∙ described_stays (requests.Describe x) refl
+
+looks_first : (polls most : ℕ) (first : StreamSeen) (a b c now : ConnSeen) (r : Request) (waits : ℕ) (shown : List Item) (answer : Poll Turn) → waits < polls → a.broken ≡ None → IsPlayingOn None most first a b r waits shown → (x : Extended) → named_by (resolved (begun_with 256 b)).call ≡ Some x
+    → CanBeSaid (requests.Describe x) → (next : Request) → AsksNext (requests.Describe x) (resolved (begun_with 256 b)) next now → PollsOn now c answer → OfLast polls first (Turned most first c waits shown answer) a r
+looks_first polls most first a b c now r waits shown answer l whole i x n can next (learnt, looks, is) t =
+    let asked_x : (resolved (begun_with 256 b)).call ≡ calls.Asked (requests.Describe x) = named_asked (resolved (begun_with 256 b)).call x n in
+    let in_call : (resolved b).call ≡ calls.Asked (requests.Describe x) = ap (λ (y : ConnSeen). y.call) (sym (begun_resolved b)) ∙ asked_x in
+    let runs_so = subst (λ (k : Call). CallIs a.ledger r i.1 (heard i.2) i.0 (resolved b).ledger k) in_call i.5.call in
+    let named : named_in r ≡ Some x = ap named_in (sym runs_so.0) ∙ subst (λ (k : Call). named_by k ≡ Some x) asked_x n in
+    let fresh = i.5.unsaid (inr (x, named)) in
+    let begun : resolved (begun_with 256 b) ≡ begun_with 256 a = begun_resolved b ∙ ap (λ (y : ConnSeen). begun_with 256 y) fresh.0 in
+    let looks_so : LooksUp (requests.Describe x) a.learnt next learnt = subst (λ (y : ConnSeen). LooksUp (requests.Describe x) y.learnt next learnt) begun looks in
+    let asking_on : ConnSeen = handed next (knowing learnt a) in
+    let from : ConnSeen = resolved asking_on in
+    let asked : Request = asked_by a.rule next in
+    let change : from.change ≡ change_for asked = i.5.asked ∙ ap (λ (q : Request). change_for q) (sym runs_so.0) ∙ sym (looked_stays a.rule x next a.learnt learnt looks_so) in
+    let play = fresh_play from asked whole refl change in
+    let moved : (resolved b).stream.link.calls ≡ a.stream.link.calls = ap (λ (y : ConnSeen). y.stream.link.calls) fresh.0 in
+    let j : InPlay first from from asked waits [] [] [] = record {
+      went = play.went;
+      broken = play.broken;
+      call = play.call;
+      asked = play.asked;
+      room = play.room;
+      waited = subst (λ (y : ConnSeen). Waited waits first y.stream) fresh.0 i.5.waited;
+      calls = omega (arith, i.5.calls, moved, ap (λ (ys : List CallItem). length ys) runs_so.4, described_again r (ap kind_of (sym runs_so.0)));
+      unsaid = play.unsaid;
+      unflushed = play.unflushed;
+    } in
+    let on = turns_on polls most first from asking_on c asked waits shown answer l whole (handed_unnamed a.rule (requests.Describe x) next a.learnt learnt tt looks_so) ([], [], [], i.3 ∙ ap (map item_of) runs_so.4, i.4, j)
+    (subst (λ (y : ConnSeen). PollsOn y c answer) (is ∙ ap (λ (y : ConnSeen). handed next (record y { learnt = learnt })) begun) t) in
+    (from, asked, inr (subst (λ (o : Option Extended). LooksFirst o a from asked) (sym named) (whole, can, (learnt, next, looks_so, refl, refl))), on)
+
+-- it is refused before anything is looked up for it
+refused_first : (polls most : ℕ) (first : StreamSeen) (a b c : ConnSeen) (r : Request) (waits : ℕ) (shown : List Item) (x : Extended) (e : Error) → a.broken ≡ None → IsPlayingOn None most first a b r waits shown → named_by (resolved (begun_with 256 b)).call ≡ Some x
+    → IsRefusal (requests.Describe x) e → c ≡ cleaned (idle (resolved (begun_with 256 b))) → OfLast polls first (Turned most first c waits shown (Ready (turns.Err e))) a r
+refused_first polls most first a b c r waits shown x e whole i n h is =
+    let one = polls_refused (begun_with 256 b) c x e (sym (resolved_broken b) ∙ i.5.broken) (named_asked (resolved (begun_with 256 b)).call x n) h is in
+    let p = subst (λ (y : ConnSeen). (q : Polled y c (beats.Ends (Err e))) × Refused y q.stopped (beats.Ends (Err e))) (begun_resolved b) one in
+    (a, r, inl (refl, refl), ([], turned_whole most first a c r waits shown (Ready (turns.Err e)) None whole (i.0, i.3, i.4, p.0.stopped, p.0.behind_is, goes_on most first a b c r waits shown (beats.Ends (Err e)) i p.0 (inr p.1), p.0.asked) (λ next z. absurd cc)))
+
+turns_through : (polls most : ℕ) (first : StreamSeen) (a b c : ConnSeen) (r : Request) (waits : ℕ) (shown : List Item) (answer : Poll Turn) → waits < polls → a.broken ≡ None → IsPlayingOn None most first a b r waits shown → PollsThrough (begun_with 256 b) c answer → OfLast polls first (Turned most first c waits shown answer) a r
+turns_through polls most first a b c r waits shown answer l e i (now, begins, t) = starts begins
+  where
+    asks : (o : Option Extended) → named_by (resolved (begun_with 256 b)).call ≡ o → AsksNamed o (begun_with 256 b) now → OfLast polls first (Turned most first c waits shown answer) a r
+    asks None n same =
+        let plain : named_by (resolved b).call ≡ None = ap (λ (x : ConnSeen). named_by x.call) (sym (begun_resolved b)) ∙ n in
+        (a, r, inl (refl, refl), turns_on polls most first a b c r waits shown answer l e plain i (subst (λ (x : ConnSeen). PollsOn x c answer) same t))
+    asks (Some x) n (can, (next, looks)) = looks_first polls most first a b c now r waits shown answer l e i x n can next looks t
+
+    refused : (o : Option Extended) → named_by (resolved (begun_with 256 b)).call ≡ o → (z : Poll Turn) → RefusesNamed o (begun_with 256 b) c z → OfLast polls first (Turned most first c waits shown z) a r
+    refused None n z h = absurd h
+    refused (Some x) n Pending h = absurd h
+    refused (Some x) n (Ready (turns.Item item)) h = absurd h
+    refused (Some x) n (Ready (turns.Ok answer)) h = absurd h
+    refused (Some x) n (Ready (turns.Opened opened)) h = absurd h
+    refused (Some x) n (Ready (turns.Err err)) h = refused_first polls most first a b c r waits shown x err e i n h.0 h.1
+
+    starts : BeginsBy (begun_with 256 b) now c answer → OfLast polls first (Turned most first c waits shown answer) a r
+    starts (inl h) = asks (named_by (resolved (begun_with 256 b)).call) refl h
+    starts (inr (same, h)) = refused (named_by (resolved (begun_with 256 b)).call) refl answer h
+
+-- on a connection that is broken
+turns_broken : (polls most : ℕ) (first : StreamSeen) (a b c : ConnSeen) (r : Request) (waits : ℕ) (shown : List Item) (answer : Poll Turn) (fault : ServerFault) → a.broken ≡ Some fault → IsPlayingOn (Some fault) most first a b r waits shown → PollsBy b.broken (begun_with 256 b) b c answer → OfLastOn polls first (Turned most first c waits shown answer) a r
+turns_broken polls most first a b c r waits shown answer fault e i p =
+    let broke = subst (λ (k : Option ServerFault). PollsBy k (begun_with 256 b) b c answer) i.0 p in
+    ([], turned_whole most first a c r waits shown answer (Some fault) e (broke.0 ∙ sym i.1, broke.1, i.2, i.3, i.4) (fault_hands_none fault answer broke.1))
+
+polls_whole : (most : ℕ) (first : StreamSeen) (a b c : ConnSeen) (r : Request) (waits : ℕ) (shown : List Item) (answer : Poll Turn) → IsPlayingOn None most first a b r waits shown → PollsBy b.broken (begun_with 256 b) b c answer → PollsThrough (begun_with 256 b) c answer
+polls_whole most first a b c r waits shown answer i p = subst (λ (k : Option ServerFault). PollsBy k (begun_with 256 b) b c answer) (sym (resolved_broken b) ∙ i.5.broken) p
 
 turns_one : (polls most : ℕ) (first : StreamSeen) (a b c : ConnSeen) (r : Request) (waits : ℕ) (shown : List Item) (answer : Poll Turn) → waits < polls → IsPlaying most first a b r waits shown → PollsBy b.broken (begun_with 256 b) b c answer → OfLast polls first (Turned most first c waits shown answer) a r
 turns_one polls most first a b c r waits shown answer l i p = by a.broken refl i
   where
     by : (o : Option ServerFault) → a.broken ≡ o → IsPlayingOn o most first a b r waits shown → OfLast polls first (Turned most first c waits shown answer) a r
-    by None e i = turns_through polls most first a b c r waits shown answer l e i (subst (λ (k : Option ServerFault). PollsBy k (begun_with 256 b) b c answer) (sym (resolved_broken b) ∙ i.5.broken) p)
-    by (Some fault) e i =
-        let broke = subst (λ (k : Option ServerFault). PollsBy k (begun_with 256 b) b c answer) i.0 p in
-        ([], turned_whole most first a c r waits shown answer (Some fault) e (broke.0 ∙ sym i.1, broke.1, i.2, i.3, i.4) (fault_hands_none fault answer broke.1))
+    by None e i = turns_through polls most first a b c r waits shown answer l e i (polls_whole most first a b c r waits shown answer i p)
+    by (Some fault) e i = (a, r, inl (refl, refl), turns_broken polls most first a b c r waits shown answer fault e i p)
+
+-- where what is asked has no such type
+turns_plain : (polls most : ℕ) (first : StreamSeen) (a b c : ConnSeen) (r : Request) (waits : ℕ) (shown : List Item) (answer : Poll Turn) → named_in r ≡ None → waits < polls → IsPlaying most first a b r waits shown → PollsBy b.broken (begun_with 256 b) b c answer → OfLastOn polls first (Turned most first c waits shown answer) a r
+turns_plain polls most first a b c r waits shown answer n l i p = by a.broken refl i
+  where
+    called : (said : List FrontendMessage) (fs : List Frame) (items : List CallItem) (ledger : Ledger) (call : Call) → CallIs a.ledger r said (heard fs) items ledger call → named_by call ≡ None
+    called said fs items ledger (calls.Asked q) h = ap named_in h.0 ∙ n
+    called said fs items ledger _ h = refl
+
+    begins_at : (now : ConnSeen) → named_by (resolved (begun_with 256 b)).call ≡ None → BeginsBy (begun_with 256 b) now c answer → now ≡ begun_with 256 b
+    begins_at now none (inl h) = subst (λ (o : Option Extended). AsksNamed o (begun_with 256 b) now) none h
+    begins_at now none (inr (same, h)) = same
+
+    by : (o : Option ServerFault) → a.broken ≡ o → IsPlayingOn o most first a b r waits shown → OfLastOn polls first (Turned most first c waits shown answer) a r
+    by None e i =
+        let none : named_by (resolved b).call ≡ None = called i.1 i.2 i.0 (resolved b).ledger (resolved b).call i.5.call in
+        let t = polls_whole most first a b c r waits shown answer i p in
+        let same = begins_at t.0 (ap (λ (x : ConnSeen). named_by x.call) (begun_resolved b) ∙ none) t.1 in
+        turns_on polls most first a b c r waits shown answer l e none i (subst (λ (x : ConnSeen). PollsOn x c answer) same t.2)
+    by (Some fault) e i = turns_broken polls most first a b c r waits shown answer fault e i p
+
+-- the exchange that came last goes on
+turns_last : (later : List Request) (polls most : ℕ) (first : StreamSeen) (a b c : ConnSeen) (r : Request) (waits : ℕ) (shown : List Item) (answer : Poll Turn) → named_in r ≡ None → waits < polls → OfLastIn later polls first (λ at asked. IsPlaying most first at b asked waits shown) a r → PollsBy b.broken (begun_with 256 b) b c answer
+    → OfLastOn polls first (Turned most first c waits shown answer) a r
+turns_last [] polls most first a b c r waits shown answer n l i p = turns_plain polls most first a b c r waits shown answer n l i p
+turns_last (next ∷ later) polls most first a b c r waits shown answer n l (m, h, rest) p =
+    let behind = turns_last later polls most first (handed_from (knowing h.learnt m) next) b c (asked_from m next) waits shown answer (next_unnamed polls first a m r next h) l rest p in
+    (next ∷ behind.0, (m, h, behind.1))
+
+-- what comes before a description has no such type either
+starts_unnamed : (a from : ConnSeen) (r asked : Request) → LooksFirst (named_in r) a from asked → named_in asked ≡ None
+starts_unnamed a from r asked h = by (named_in r) h
+  where
+    by : (o : Option Extended) → LooksFirst o a from asked → named_in asked ≡ None
+    by None h = absurd h
+    by (Some x) (whole, can, (learnt, next, looks, is, f)) = ap named_in is ∙ handed_unnamed a.rule (requests.Describe x) next a.learnt learnt tt looks
 
 call_turns : (limits : Limits) (a b c : ConnSeen) (r : Request) (waits : ℕ) (shown : List Item) (answer : Poll Turn) → waits < limits.polls → IsCallPlaying limits a b r waits shown → PollsBy b.broken (begun_with 256 b) b c answer → OfLast limits.polls a.stream (Turned limits.most a.stream c waits shown answer) a r
-call_turns limits a b c r waits shown answer l i p =
-    last_behind i.0 limits.polls a.stream (Turned limits.most a.stream c waits shown answer) a r
-    (on_last_in i.0 limits.polls a.stream (λ at asked. IsPlaying limits.most a.stream at b asked waits shown) (λ at asked. OfLast limits.polls a.stream (Turned limits.most a.stream c waits shown answer) at asked) a r
-    (λ at asked j. turns_one limits.polls limits.most a.stream at b c asked waits shown answer l j p) i.1)
+call_turns limits a b c r waits shown answer l (from, asked, inl (f, q), ([], i)) p =
+    turns_one limits.polls limits.most a.stream a b c r waits shown answer l (subst (λ (x : Request). IsPlaying limits.most a.stream a b x waits shown) q (subst (λ (x : ConnSeen). IsPlaying limits.most a.stream x b asked waits shown) f i)) p
+call_turns limits a b c r waits shown answer l (from, asked, inl same, (next ∷ later, (m, h, rest))) p =
+    let behind = turns_last later limits.polls limits.most a.stream (handed_from (knowing h.learnt m) next) b c (asked_from m next) waits shown answer (next_unnamed limits.polls a.stream from m asked next h) l rest p in
+    (from, asked, inl same, (next ∷ behind.0, (m, h, behind.1)))
+call_turns limits a b c r waits shown answer l (from, asked, inr looks, (later, i)) p =
+    (from, asked, inr looks, turns_last later limits.polls limits.most a.stream from b c asked waits shown answer (starts_unnamed a from r asked looks) l i p)
 
 -- ---- one poll
 
@@ -460,10 +611,21 @@ unopened_in (next ∷ later) polls most first a b r waits shown n (m, h, rest) =
     unopened_in later polls most first (handed_from (knowing h.learnt m) next) b (asked_from m next) waits shown
     (λ e. described_main r (handed_described polls first a m r h.told h.handed) (sym (handed_main polls first a m r h.told next h.learnt h.handed h.looks) ∙ sym (asked_main (settled m).rule next) ∙ e)) rest
 
+-- what comes before a description is for the same call
+starts_main : (a from : ConnSeen) (r asked : Request) → StartsAt a r from asked → main_kind asked ≡ main_kind r
+starts_main a from r asked (inl (f, q)) = ap main_kind q
+starts_main a from r asked (inr h) = by (named_in r) refl h
+  where
+    by : (o : Option Extended) → named_in r ≡ o → LooksFirst o a from asked → main_kind asked ≡ main_kind r
+    by None e h = absurd h
+    by (Some x) e (whole, can, (learnt, next, looks, is, f)) =
+        ap main_kind is ∙ asked_main a.rule next ∙ looked_main (requests.Describe x) next (looks_or (requests.Describe x) next a.learnt learnt looks) ∙ sym (ap main_kind (named_is r x e))
+
 -- what copies nothing from the client opens no copy
 pub unopened : (limits : Limits) (old b : ConnSeen) (request : Request) (waits : ℕ) (shown : List Item) → IsUncopied request → Pauses limits (first_conn request old) b (first_exchange request old) waits shown pauses.Opened → ⊥
-unopened limits old b request waits shown u p =
-    unopened_in p.0 limits.polls limits.most (first_conn request old).stream (first_conn request old) b (first_exchange request old) waits shown (λ e. other request u (sym (asked_main (left old).rule (begun_as (left old).rule request)) ∙ e)) p.1
+unopened limits old b request waits shown u (from, asked, starts, on) =
+    unopened_in on.0 limits.polls limits.most (first_conn request old).stream from b asked waits shown
+    (λ e. other request u (sym (asked_main (left old).rule (begun_as (left old).rule request)) ∙ sym (starts_main (first_conn request old) from (first_exchange request old) asked starts) ∙ e)) on.1
   where
     clears : (b : Bool) (statements : List ℕ) → main_kind (cond b requests.Flush (requests.Clear statements)) ≡ kinds.CopyIn → ⊥
     clears true statements e = cc
@@ -489,7 +651,7 @@ unopened limits old b request waits shown u p =
 -- ---- the first poll
 
 pub playing_runs : (limits : Limits) (a b : ConnSeen) (r : Request) (waits : ℕ) (shown : List Item) → IsCallPlaying limits a b r waits shown → runs b.call ≡ true
-playing_runs limits a b r waits shown i = by i.0 a r i.1
+playing_runs limits a b r waits shown (from, asked, starts, on) = by on.0 from asked on.1
   where
     by : (later : List Request) (at : ConnSeen) (asked : Request) → OfLastIn later limits.polls a.stream (λ at asked. IsPlaying limits.most a.stream at b asked waits shown) at asked → runs b.call ≡ true
     by [] at asked i = playing_one limits.most a.stream at b asked waits shown i
@@ -505,7 +667,7 @@ plain_begins (requests.CopyIn feed) u = absurd u
 plain_begins _ u = tt
 
 pub call_starts : (limits : Limits) (c : ConnSeen) (request : Request) → 0 < limits.most → IsWanted request → IsBegun request → IsCallPlaying limits (first_conn request c) (started_call request c) (first_exchange request c) 0 []
-call_starts limits c request m w b = ([], starts_on a.broken refl)
+call_starts limits c request m w b = (a, first_exchange request c, inl (refl, refl), ([], starts_on a.broken refl))
   where
     a : ConnSeen
     a = first_conn request c

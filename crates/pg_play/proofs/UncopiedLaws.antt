@@ -1,5 +1,5 @@
 -- Where no step copies from the client, none is failed, and each group is one of the simple or the extended query.
-use Rattle.std.proofs.Common.{◌≡◌, ℕ, zero, suc, ◌^◌, ◌-◌, ltb, Bool, true, false, ◌||◌, cond, List, [], ◌∷◌, Option, Some, None, refl, sym, ap, ◌∙◌, subst, inl}
+use Rattle.std.proofs.Common.{◌≡◌, ℕ, zero, suc, ◌^◌, ◌-◌, ltb, Bool, true, false, ◌||◌, cond, List, [], ◌∷◌, Option, Some, None, refl, sym, ap, ◌∙◌, subst, inl, inr}
 use Rattle.std.specs.List.{AllByRecursion}
 use Rattle.std.proofs.lemmas.Option.{same_Some}
 use Rattle.pg_wire.specs.Groups.{IsGroup}
@@ -24,8 +24,11 @@ use Rattle.pg_play.specs.Shown.{exchange_for, first_as, first_call, is_fed, next
 use Rattle.pg_play.specs.Places.{Place, Queues, owed}
 use Rattle.pg_play.specs.Copying.{fails}
 use Rattle.pg_play.specs.Settling.{cleanup_of, release_at, rollback_at}
-use Rattle.pg_play.specs.Plays.{CopyNone, FirstIs, HandsOn, Plays_exchange, Plays_exchanges, Plays_from, Plays_step}
+use Rattle.pg_play.specs.Plays.{CopyNone, FirstIs, HandsOn, Plays_exchange, Plays_exchanges, Plays_from, Plays_step, BeginsAs, begun_at}
 use Rattle.pg_play.proofs.PlaceLaws.{all_split, plain_asked}
+use Rattle.pg_learning.specs.declared.learnt.Learnt.{Learnt}
+use Rattle.pg_call.specs.declared.statement.Extended.{Extended}
+use Rattle.pg_conn.specs.Looking.{named_in}
 
 -- nothing is failed for it
 fails_none : (call : Call) (own : List Group) (end : End) → is_fed call ≡ false → fails call own end ≡ false
@@ -141,14 +144,29 @@ handed_plain at (s ∷ t ∷ more) (o ∷ outs) last run first rest e n h =
     let same : s ≡ first = cc in
     (ap (λ (x : Step). is_fed x.call) same ∙ n, handed_plain run.0 (t ∷ more) outs last run.2 t more refl (next_plain run.0.rule run.1.settles.asks t.call h.0.1) h.1)
 
+-- nor is what comes before it
+begins_plain : (o : Option Extended) (first : Call) (at : Learnt) (groups : ℕ) (call : Call) (learnt : Learnt) → is_fed first ≡ false → BeginsAs o first at groups call learnt → is_fed call ≡ false
+begins_plain None first at groups call learnt n (same, l) = ap is_fed same ∙ n
+begins_plain (Some x) first at groups call learnt n (inl (same, l, g)) = ap is_fed same ∙ n
+begins_plain (Some x) first at groups call learnt n (inr (next, looks, is)) = ap is_fed is ∙ by next
+  where
+    by : (r : Request) → is_fed (exchange_for r) ≡ false
+    by (requests.Describe x) = refl
+    by (requests.Run bound) = refl
+    by (requests.Evict eviction) = refl
+    by (requests.Look lookup) = refl
+    by (requests.Prepare prepared) = refl
+    by (requests.Clear statements) = refl
+    by _ = refl
+
 step_on : (at : Place) (step : Step) (out : Outcome) (next : Place) → Plays_step at step out next → is_fed step.call ≡ false → IsPlain at → IsPlain next
 step_on at step out next one n p = by one.exchanges refl
   where
     by : (exchanges : List Step) → one.exchanges ≡ exchanges → IsPlain next
-    by [] e = let f = one.first in absurd (subst (λ (x : List Step). FirstIs at.rule step x) e f)
+    by [] e = let f = one.first in absurd (subst (λ (x : List Step). FirstIs at step out one.learnt x) e f)
     by (first ∷ later) e =
-        let f : first ≡ record step { call = first_call at.rule step.call } = subst (λ (x : List Step). FirstIs at.rule step x) e one.first in
-        exchanges_on at one.exchanges one.outs next one.run (handed_plain at one.exchanges one.outs next one.run first later e (ap (λ (x : Step). is_fed x.call) f ∙ first_plain at.rule step.call n) one.hands) p
+        let f = subst (λ (x : List Step). FirstIs at step out one.learnt x) e one.first in
+        exchanges_on (begun_at at one.learnt) one.exchanges one.outs next one.run (handed_plain (begun_at at one.learnt) one.exchanges one.outs next one.run first later e (begins_plain (named_in (request_of at.rule.depth (first_call at.rule step.call))) (first_call at.rule step.call) at.learnt out.groups first.call one.learnt (first_plain at.rule step.call n) f.0) one.hands) p
 
 pub calls_plain : (at : Place) (steps : List Step) (outs : List Outcome) (last : Place) → Plays_from at steps outs last → CopyNone steps → IsPlain at → IsPlain last
 calls_plain at [] [] last run n p = subst IsPlain (sym run) p

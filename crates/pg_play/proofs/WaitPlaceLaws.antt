@@ -21,7 +21,7 @@ use Rattle.pg_play.specs.Waits.{IsWaitPlace, WaitsAt}
 use Rattle.pg_play.specs.Calls.{HasWaitedFew, Counted, asking}
 use Rattle.pg_play.specs.Places.{Place}
 use Rattle.pg_play.specs.WaitPlaces.{WaitPlaces, LastPlaces}
-use Rattle.pg_play.specs.Plays.{StandsAt, Plays_exchanges, Plays_from, places_of, places_in, AreTakenBefore, TakesInTimeIn, TakesInTime}
+use Rattle.pg_play.specs.Plays.{StandsAt, Plays_exchanges, Plays_from, places_of, places_in, AreTakenBefore, TakesInTimeIn, TakesInTime, begun_at}
 use Rattle.pg_play.proofs.WaitLaws.{told_always}
 use Rattle.pg_play.proofs.PlaceLaws.{next_place}
 use Rattle.pg_play.proofs.LinkLaws.{sum_more}
@@ -128,9 +128,9 @@ from_all at [] (o ∷ outs) last run = absurd run
 from_all at (s ∷ steps) [] last run = absurd run
 from_all at (s ∷ steps) (o ∷ outs) last run =
     let one = run.1 in
-    let here = from_exchanges at one.exchanges one.outs run.0 one.run in
+    let here = from_exchanges (begun_at at one.learnt) one.exchanges one.outs run.0 one.run in
     let rest = from_all run.0 steps outs last run.2 in
-    from_then at.seen.link run.0.seen.link last.seen.link (sum_by (λ (x : Outcome). x.waits) one.outs) (sum_by (λ (x : Outcome). x.waits) outs) (sum_by (λ (x : Outcome). x.waits) (o ∷ outs)) (places_of at one.exchanges one.outs run.0 one.run) (places_in run.0 steps outs last run.2)
+    from_then at.seen.link run.0.seen.link last.seen.link (sum_by (λ (x : Outcome). x.waits) one.outs) (sum_by (λ (x : Outcome). x.waits) outs) (sum_by (λ (x : Outcome). x.waits) (o ∷ outs)) (places_of (begun_at at one.learnt) one.exchanges one.outs run.0 one.run) (places_in run.0 steps outs last run.2)
     (sum_more (λ (x : Outcome). x.waits) o outs ∙ ap (λ (n : ℕ). n + sum_by (λ (x : Outcome). x.waits) outs) one.tells.waits) here rest
 
 -- the places come behind those that were told before
@@ -238,7 +238,7 @@ takes_all start given new at (s ∷ steps) [] last run e r l = absurd run
 takes_all start given new at (s ∷ steps) (o ∷ outs) last run e r l =
     let one = run.1 in
     let rest = from_all run.0 steps outs last run.2 in
-    let on = gives_on start given at one.exchanges one.outs run.0 one.run e r in (
-      takes_exchanges start given new at one.exchanges one.outs run.0 one.run last.seen.link.given rest.bytes e r l rest.gave,
+    let on = gives_on start given (begun_at at one.learnt) one.exchanges one.outs run.0 one.run e r in (
+      takes_exchanges start given new (begun_at at one.learnt) one.exchanges one.outs run.0 one.run last.seen.link.given rest.bytes e r l rest.gave,
       takes_all start on.given new run.0 steps outs last run.2 on.told on.behind l,
     )

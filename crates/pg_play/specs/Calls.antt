@@ -14,6 +14,7 @@ use Rattle.pg_request.specs.declared.progress.CacheStep.TheVariants as cache
 use Rattle.pg_stream.specs.Links.{RoseBy, Rose, GrewBy}
 use Rattle.pg_stream.specs.Streams.{StreamSeen, Tallies, HasNone}
 use Rattle.pg_call.specs.declared.request.Request.{Request}
+use Rattle.pg_call.specs.declared.statement.Extended.{Extended}
 use Rattle.pg_call.specs.declared.request.Request.TheVariants as requests
 use Rattle.pg_call.specs.declared.answer.CallItem.{CallItem}
 use Rattle.pg_call.specs.declared.answer.CallAnswer.{CallAnswer}
@@ -29,7 +30,7 @@ use Rattle.pg_call.specs.declared.kind.Change.{Change}
 use Rattle.pg_call.specs.declared.kind.Change.TheVariants as changes
 use Rattle.pg_conn.specs.Holding.{IsRelease, took_held}
 use Rattle.pg_learning.specs.declared.learnt.Learnt.{Learnt}
-use Rattle.pg_conn.specs.Looking.{Learns, LooksUp}
+use Rattle.pg_conn.specs.Looking.{Learns, LooksUp, named_in}
 use Rattle.pg_conn.specs.Statements.{asked_by}
 use Rattle.pg_conn.specs.Turns.{ends_request, first_exchange, EndsBy, is_flushed, HasAllRoom}
 use Rattle.pg_report.specs.declared.outcome.Item.{Item}
@@ -139,6 +140,10 @@ begun_call request c = asking request none_counted c
 abbrev pub all_groups : {A : Type 0} → ConnOf A → ℕ
 all_groups c = min (c.earlier + c.groups) (2 ^ 64 - 1)
 
+-- what is not asked by its first poll: what no frame can say, and what has types that are known by their names alone
+abbrev pub IsHeldBack : Request → Type 0
+IsHeldBack r = (CanBeSaid r → ⊥) ⊎ ((x : Extended) × (named_in r ≡ Some x))
+
 -- it was not polled yet
 abbrev pub IsFresh : ConnSeen → ConnSeen → Request → List Frame → Type 0
 IsFresh a b r fs = (b ≡ a) × (a.call ≡ calls.Asked r) × (fs ≡ [])
@@ -158,8 +163,8 @@ pub record InPlay (first : StreamSeen) (a b : ConnSeen) (r : Request) (waits : �
   -- the polls are those of the whole call: each waited or showed an item
   pub waited : Waited waits first b.stream
   pub calls : b.stream.link.calls ≤ first.link.calls + 256 * (waits + length items + again r)
-  -- what the first poll ends was not polled yet
-  pub unsaid : (CanBeSaid r → ⊥) → IsFresh a b r fs
+  -- what the first poll doesn't ask was not polled yet
+  pub unsaid : IsHeldBack r → IsFresh a b r fs
   pub unflushed : is_flushed a ≡ true → IsFresh a b r fs
 
 -- it is a copy from the client, whose data is awaited, as its last poll has told
@@ -239,9 +244,9 @@ HasWaitedFew polls a b end = (waits : ℕ) × Waited waits a b × WaitsFew polls
 abbrev pub StaysIdle : ConnSeen → ConnSeen → List Frame → List Item → Type 0
 StaysIdle a b fs shown = (shown ≡ []) × (fs ≡ []) × (record b { broken = None; stream = record b.stream { left = a.stream.left } } ≡ idle a)
 
--- what the first poll ends: what no frame can say, and a flush with nothing to do
+-- what the first poll ends: what it doesn't ask, and a flush with nothing to do
 pub record EndsAtOnce (a b : ConnSeen) (r : Request) (shown : List Item) (end : End) (fs : List Frame) : Type 0 where
-  pub refused : (CanBeSaid r → ⊥) → (e : Error) × IsRefusal r e × (end ≡ ends.Err e) × StaysIdle a b fs shown
+  pub refused : IsHeldBack r → (e : Error) × IsRefusal r e × (end ≡ ends.Err e) × StaysIdle a b fs shown
   pub flushed : is_flushed a ≡ true → (end ≡ ends.Ok AnswersUnit) × StaysIdle a b fs shown
 
 -- it was played to this end
@@ -307,6 +312,7 @@ pub record HandedOn (polls : ℕ) (first : StreamSeen) (a m : ConnSeen) (r next 
   pub ends : EndsFine a.ledger r said (heard fs) [] m.ledger (Ok (answers.Next next)) × (m.stream.unsent ≡ [])
   -- its first poll did not end it
   pub can : CanBeSaid r
+  pub unsaid : IsHeldBack r → ⊥
   pub flush : is_flushed a ≡ false
   -- the polls that waited before this one
   pub waits : ℕ
@@ -338,8 +344,22 @@ abbrev pub OfLastIn : List Request → ℕ → StreamSeen → (ConnSeen → Requ
 OfLastIn [] polls first P a r = P a r
 OfLastIn (next ∷ later) polls first P a r = (m : ConnSeen) × (h : HandsTo polls first a m r next) × OfLastIn later polls first P (handed_from (knowing h.learnt m) next) (asked_from m next)
 
+abbrev pub OfLastOn : ℕ → StreamSeen → (ConnSeen → Request → Type 0) → ConnSeen → Request → Type 0
+OfLastOn polls first P a r = (later : List Request) × OfLastIn later polls first P a r
+
+-- Where a statement has types that are known by their names alone, what has to be looked up for it is asked first, or it is asked with their OIDs; the
+-- exchange begins on this connection, with what is learnt then.
+abbrev pub LooksFirst : Option Extended → ConnSeen → ConnSeen → Request → Type 0
+LooksFirst None a from asked = ⊥
+LooksFirst (Some x) a from asked = (a.broken ≡ None) × CanBeSaid (requests.Describe x)
+    × ((learnt : Learnt) × (next : Request) × LooksUp (requests.Describe x) a.learnt next learnt × (asked ≡ asked_by a.rule next) × (from ≡ resolved (handed next (knowing learnt a))))
+
+-- the first exchange is the one that begins here, or comes before that
+abbrev pub StartsAt : ConnSeen → Request → ConnSeen → Request → Type 0
+StartsAt a r from asked = ((from ≡ a) × (asked ≡ r)) ⊎ LooksFirst (named_in r) a from asked
+
 abbrev pub OfLast : ℕ → StreamSeen → (ConnSeen → Request → Type 0) → ConnSeen → Request → Type 0
-OfLast polls first P a r = (later : List Request) × OfLastIn later polls first P a r
+OfLast polls first P a r = (from : ConnSeen) × (asked : Request) × StartsAt a r from asked × OfLastOn polls first P from asked
 
 -- a call runs, polls being counted from its begin
 abbrev pub IsCallPlaying : Limits → ConnSeen → ConnSeen → Request → ℕ → List Item → Type 0

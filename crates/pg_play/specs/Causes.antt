@@ -25,7 +25,8 @@ use Rattle.pg_call.specs.Calls.{HasMessage}
 use Rattle.pg_call.specs.declared.statement.Lookup.{Lookup}
 use Rattle.pg_learning.specs.declared.learnt.Seeking.{Seeking}
 use Rattle.pg_learning.specs.Learning.{FailsSeeking}
-use Rattle.pg_conn.specs.Looking.{FailsRow}
+use Rattle.pg_learning.specs.declared.learnt.Learnt.{Learnt}
+use Rattle.pg_conn.specs.Looking.{FailsRow, MissesName}
 use Rattle.pg_report.specs.declared.outcome.Answer.TheVariants.{Unit as AnswersUnit}
 use Rattle.pg_report.specs.declared.outcome.End.{End}
 use Rattle.pg_report.specs.declared.outcome.End.TheVariants as ends
@@ -104,9 +105,9 @@ pub record BeginsNone (at : Place) (step : Step) (own : List Group) (slice : Lis
   pub slice_is : slice ≡ front ++ backend_frame (ReadyForQuery status) ∷ []
   pub other : status ≢ statuses.Transaction
 
--- a lookup isn't asked since rows wait for types that nothing more asks for, or its last row can't be taken
+-- a lookup isn't asked since rows wait for types that nothing more asks for, or since a name has no OID; or its last row can't be taken
 abbrev pub FailsToLook : Step → List Frame → Error → Type 0
-FailsToLook step slice e = (lookup : Lookup) × (step.call ≡ calls.Look lookup) × (((seeking : Seeking) × FailsSeeking seeking e) ⊎ FailsRow slice e)
+FailsToLook step slice e = (lookup : Lookup) × (step.call ≡ calls.Look lookup) × (((seeking : Seeking) × FailsSeeking seeking e) ⊎ (FailsRow slice e ⊎ ((learnt : Learnt) × MissesName lookup.extended learnt e)))
 
 -- a text of its own would open a savepoint
 abbrev pub OpensSavepoint : Place → Step → Type 0
@@ -127,6 +128,7 @@ Causes at step own slice next (errors.BeginFailed status) = BeginsNone at step o
 Causes at step own slice next errors.InvalidSavePointStatement = OpensSavepoint at step × (own ≡ []) × (slice ≡ [])
 Causes at step own slice next (errors.Protocol (protocol.Types oids)) = FailsToLook step slice (errors.Protocol (protocol.Types oids))
 Causes at step own slice next (errors.ColumnDecode place) = FailsToLook step slice (errors.ColumnDecode place)
+Causes at step own slice next (errors.TypeNotFound name) = FailsToLook step slice (errors.TypeNotFound name)
 Causes at step own slice next _ = ⊥
 
 -- ---- why a step was dropped

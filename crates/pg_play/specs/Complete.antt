@@ -48,7 +48,7 @@ LooksUpFor call = (lookup : Lookup) × IsPartOf call (calls.Look lookup)
 
 -- an error that is neither the link's nor the server's fault: want of memory; an error of the database; no row where one is wanted; a text of
 -- the caller's that no frame can carry, or that would open a savepoint; a begin behind which no transaction is open; a reply without a copy to
--- what asks for one; or types that the catalog hasn't, or a row of a catalog that isn't one
+-- what asks for one; or types that the catalog hasn't, by their OIDs or by their names, or a row of a catalog that isn't one
 abbrev pub IsFairError : Call → Error → Type 0
 IsFairError call errors.OutOfMemory = Unit {0}
 IsFairError call (errors.Database details) = Unit {0}
@@ -59,6 +59,7 @@ IsFairError call errors.InvalidSavePointStatement = begins_with call ≡ true
 IsFairError call (errors.Protocol (protocol.Reply tag)) = copies call ≡ true
 IsFairError call (errors.Protocol (protocol.Types oids)) = LooksUpFor call
 IsFairError call (errors.ColumnDecode place) = LooksUpFor call
+IsFairError call (errors.TypeNotFound name) = LooksUpFor call
 IsFairError call _ = ⊥
 
 -- it had no more polls than its waits and moves take up, or might show no more items than it showed

@@ -1,11 +1,11 @@
 -- The theorem of a play.
-use Rattle.std.specs.Prelude.{◌≡◌, ◌≢◌, ℕ, ◌+◌, ◌*◌, ◌<◌, false, List, [], ◌∷◌, ◌++◌, length, map, flat_map, Option, Some, None, Ok, sum_by, count_by, ◌≤◌, true, ◌-◌, ◌^◌}
+use Rattle.std.specs.Prelude.{◌≡◌, ◌≢◌, ◌⊎◌, ℕ, ◌+◌, ◌*◌, ◌<◌, false, List, [], ◌∷◌, ◌++◌, length, map, flat_map, Option, Some, None, Ok, sum_by, count_by, ◌≤◌, true, ◌-◌, ◌^◌}
 use Rattle.pg_play.specs.Idles.{KeepsOrder, SaysIdle, statuses}
 use Rattle.pg_report.specs.declared.outcome.Answer.TheVariants.{Unit as AnswersUnit}
 use Rattle.pg_play.specs.Calls.{PlaysStep, untouched}
 use Rattle.pg_play.specs.Chained.{AreChained, IsChained}
 use Rattle.pg_play.specs.Locks.{Guards}
-use Rattle.pg_play.specs.Shown.{acts_at_once, first_call, is_fed, next_call, request_of}
+use Rattle.pg_play.specs.Shown.{acts_at_once, first_call, is_fed, next_call, request_of, exchange_for}
 use Rattle.pg_play.specs.Settling.{Settles}
 use Rattle.pg_play.specs.Copying.{LeavesCopy}
 use Rattle.std.specs.List.{AllByRecursion}
@@ -26,6 +26,11 @@ use Rattle.pg_wire.specs.Groups.{IsGroup, AnswerGroups}
 use Rattle.pg_stream.specs.Links.{LinkSeen, NoneFalls, GrewBy}
 use Rattle.pg_stream.specs.Streams.{StreamSeen, Sends}
 use Rattle.pg_call.specs.declared.request.Request.{Request}
+use Rattle.pg_call.specs.declared.request.Request.TheVariants as requests
+use Rattle.pg_call.specs.declared.statement.Extended.{Extended}
+use Rattle.pg_learning.specs.declared.learnt.Learnt.{Learnt}
+use Rattle.pg_conn.specs.Looking.{LooksUp, named_in}
+use Rattle.pg_script.specs.declared.step.Call.{Call}
 use Rattle.pg_call.specs.declared.calling.Call.TheVariants as calls
 use Rattle.pg_call.specs.Requests.{Group, said_in, spelled}
 use Rattle.pg_call.specs.Drains.{is_copy_in, after_readys}
@@ -124,10 +129,21 @@ last_of before (out ∷ outs) = last_of out outs
 
 -- ---- a step: exchanges one after another
 
--- the first exchange of a step is that of its call, by what is known of the session
-abbrev pub FirstIs : Rule → Step → List Step → Type 0
-FirstIs rule step [] = ⊥
-FirstIs rule step (first ∷ later) = first ≡ record step { call = first_call rule step.call }
+-- The first exchange is that of the call, and nothing was learnt before it. Where a statement has types that are known by their names alone, that one asks
+-- nothing of the server, or what has to be looked up for it is asked before, or it is asked with their OIDs.
+abbrev pub BeginsAs : Option Extended → Call → Learnt → ℕ → Call → Learnt → Type 0
+BeginsAs None first at groups call learnt = (call ≡ first) × (learnt ≡ at)
+BeginsAs (Some x) first at groups call learnt = ((call ≡ first) × (learnt ≡ at) × (groups ≡ 0)) ⊎ ((next : Request) × LooksUp (requests.Describe x) at next learnt × (call ≡ exchange_for next))
+
+-- the first exchange of a step is that of its call, by what is known of the session, or comes before it
+abbrev pub FirstIs : Place → Step → Outcome → Learnt → List Step → Type 0
+FirstIs at step out learnt [] = ⊥
+FirstIs at step out learnt (first ∷ later) =
+    BeginsAs (named_in (request_of at.rule.depth (first_call at.rule step.call))) (first_call at.rule step.call) at.learnt out.groups first.call learnt × (first ≡ record step { call = first.call })
+
+-- the exchanges begin with so much learnt
+abbrev pub begun_at : Place → Learnt → Place
+begun_at at learnt = record at { learnt = learnt }
 
 -- what exchanges made of the statements that are kept: what the last of them did that made something
 abbrev pub over : CacheStep → CacheStep → CacheStep
@@ -156,14 +172,16 @@ ActsAtOnce at out stop = (out ≡ record (untouched (ends.Ok AnswersUnit)) { gro
 pub record Plays_step (at : Place) (step : Step) (out : Outcome) (next : Place) : Type 0 where
   pub exchanges : List Step
   pub outs : List Outcome
-  pub run : Plays_exchanges at exchanges outs next
-  pub first : FirstIs at.rule step exchanges
+  -- what was learnt as the first of them begins
+  pub learnt : Learnt
+  pub run : Plays_exchanges (begun_at at learnt) exchanges outs next
+  pub first : FirstIs at step out learnt exchanges
   pub limits : AllByRecursion (λ exchange. (exchange.polls ≡ step.polls) × (exchange.most ≡ step.most)) exchanges
-  pub hands : HandsOn at exchanges outs next run
+  pub hands : HandsOn (begun_at at learnt) exchanges outs next run
   pub tells : TellsAll outs out
   -- the call of the last exchange stopped here
   pub stop : Place
-  pub stops : stop ≡ stopped_at at at exchanges outs next run
+  pub stops : stop ≡ stopped_at at (begun_at at learnt) exchanges outs next run
   -- at most 256 calls of the link for each poll that it may have, and for each item that it may show
   pub calls : next.seen.link.calls ≤ at.seen.link.calls + 256 * (step.polls + step.most)
   pub dropped : out.end ≡ ends.Dropped → IsDropped at step out stop
@@ -189,7 +207,7 @@ AreOrderlyIn idle at (step ∷ steps) [] last run = ⊥
 -- and so in each step
 abbrev pub AreOrderly : (idle : ℕ → Type 0) (at : Place) (steps : List Step) (outs : List Outcome) (last : Place) → Plays_from at steps outs last → Type 0
 AreOrderly idle at [] [] last run = Unit {0}
-AreOrderly idle at (step ∷ steps) (out ∷ outs) last run = AreOrderlyIn idle at run.1.exchanges run.1.outs run.0 run.1.run × AreOrderly idle run.0 steps outs last run.2
+AreOrderly idle at (step ∷ steps) (out ∷ outs) last run = AreOrderlyIn idle (begun_at at run.1.learnt) run.1.exchanges run.1.outs run.0 run.1.run × AreOrderly idle run.0 steps outs last run.2
 AreOrderly idle at [] (out ∷ outs) last run = ⊥
 AreOrderly idle at (step ∷ steps) [] last run = ⊥
 
@@ -203,7 +221,7 @@ AreIdleIn idle at (step ∷ steps) [] last run = ⊥
 -- and so behind each step
 abbrev pub AreIdle : (idle : ℕ → Type 0) (at : Place) (steps : List Step) (outs : List Outcome) (last : Place) → Plays_from at steps outs last → Type 0
 AreIdle idle at [] [] last run = Unit {0}
-AreIdle idle at (step ∷ steps) (out ∷ outs) last run = AreIdleIn idle at run.1.exchanges run.1.outs run.0 run.1.run × AreIdle idle run.0 steps outs last run.2
+AreIdle idle at (step ∷ steps) (out ∷ outs) last run = AreIdleIn idle (begun_at at run.1.learnt) run.1.exchanges run.1.outs run.0 run.1.run × AreIdle idle run.0 steps outs last run.2
 AreIdle idle at [] (out ∷ outs) last run = ⊥
 AreIdle idle at (step ∷ steps) [] last run = ⊥
 
@@ -223,7 +241,7 @@ places_of at (step ∷ steps) [] last run = absurd run
 -- and those of all steps
 abbrev pub places_in : (at : Place) (steps : List Step) (outs : List Outcome) (last : Place) → Plays_from at steps outs last → List ℕ
 places_in at [] [] last run = []
-places_in at (step ∷ steps) (out ∷ outs) last run = places_of at run.1.exchanges run.1.outs run.0 run.1.run ++ places_in run.0 steps outs last run.2
+places_in at (step ∷ steps) (out ∷ outs) last run = places_of (begun_at at run.1.learnt) run.1.exchanges run.1.outs run.0 run.1.run ++ places_in run.0 steps outs last run.2
 places_in at [] (out ∷ outs) last run = absurd run
 places_in at (step ∷ steps) [] last run = absurd run
 
@@ -241,7 +259,7 @@ TakesInTimeIn start given at (step ∷ steps) [] last run = ⊥
 -- and so in each step
 abbrev pub TakesInTime : (start given : List ℕ) (at : Place) (steps : List Step) (outs : List Outcome) (last : Place) → Plays_from at steps outs last → Type 0
 TakesInTime start given at [] [] last run = Unit {0}
-TakesInTime start given at (step ∷ steps) (out ∷ outs) last run = TakesInTimeIn start given at run.1.exchanges run.1.outs run.0 run.1.run × TakesInTime start given run.0 steps outs last run.2
+TakesInTime start given at (step ∷ steps) (out ∷ outs) last run = TakesInTimeIn start given (begun_at at run.1.learnt) run.1.exchanges run.1.outs run.0 run.1.run × TakesInTime start given run.0 steps outs last run.2
 TakesInTime start given at [] (out ∷ outs) last run = ⊥
 TakesInTime start given at (step ∷ steps) [] last run = ⊥
 

@@ -1,5 +1,5 @@
 -- What the call of a step asks, what it shows of the response to it, and what it answers.
-use Rattle.std.specs.Prelude.{◌≡◌, ℕ, ◌-◌, ◌^◌, min, Bool, true, false, List, [], ◌∷◌, filter, flat_map, map, take, sum_by, Option, Some, None, option_map, unwrap_or, zero, suc}
+use Rattle.std.specs.Prelude.{◌≡◌, ◌⊎◌, ℕ, ◌-◌, ◌^◌, min, Bool, true, false, List, [], ◌∷◌, filter, flat_map, map, take, sum_by, Option, Some, None, option_map, unwrap_or, zero, suc}
 use Rattle.pg_rows.specs.Rows.{RowSeen}
 use Rattle.pg_wire.specs.Backend.{BackendMessage, DataRow, CommandComplete, BackendCopyData}
 use Rattle.pg_wire.specs.Completion.{rows_affected}
@@ -13,6 +13,7 @@ use Rattle.pg_conn.specs.Statements.{run_or_describe, asked_by, begun_as}
 use Rattle.pg_call.specs.Calls.{next_of}
 use Rattle.pg_call.specs.declared.kind.How.{How}
 use Rattle.pg_call.specs.declared.kind.How.TheVariants as hows
+use Rattle.pg_call.specs.declared.statement.Extended.{Extended}
 use Rattle.pg_call.specs.declared.statement.Prepared.{Prepared}
 use Rattle.pg_call.specs.declared.feed.Feed.{Feed}
 use Rattle.pg_call.specs.declared.request.Request.{Request}
@@ -162,9 +163,13 @@ next_call rule next = option_map (λ asked. exchange_for (asked_by rule asked)) 
 abbrev pub ComesBehind : Rule → Call → List BackendMessage → Call → Type 0
 ComesBehind rule before response part = (told : Request) × (a b : Learnt) × (next : Request) × (handed_by before response ≡ Some told) × LooksUp told a next b × (part ≡ exchange_for (asked_by rule next))
 
+-- what is looked up before a statement is described, or its description once the types are known
+abbrev pub ComesBefore : Call → Call → Type 0
+ComesBefore first part = (x : Extended) × (a b : Learnt) × (next : Request) × (first ≡ calls.Describe x) × LooksUp (requests.Describe x) a next b × (part ≡ exchange_for next)
+
 -- an exchange is one of this call, with so many before it, whatever may be known of the session
 abbrev pub IsPartBehind : ℕ → Call → Call → Type 0
-IsPartBehind zero call part = (rule : Rule) × (part ≡ first_call rule call)
+IsPartBehind zero call part = (rule : Rule) × ((part ≡ first_call rule call) ⊎ ComesBefore (first_call rule call) part)
 IsPartBehind (suc n) call part = (rule : Rule) × (before : Call) × (response : List BackendMessage) × IsPartBehind n call before × ComesBehind rule before response part
 
 abbrev pub IsPartOf : Call → Call → Type 0

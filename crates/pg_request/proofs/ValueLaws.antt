@@ -13,6 +13,7 @@ use Rattle.pg_wire.specs.Reading.{value_at, many_at}
 use Rattle.pg_wire.proofs.ListLaws.{value_exact}
 use Rattle.pg_arguments.specs.Encoded.{Encoded, wire, wires, FitsWire}
 use Rattle.pg_arguments.specs.Arguments.{Arguments, HasValues}
+use Rattle.pg_request.specs.declared.naming.Declared.{Declared}
 use Rattle.pg_request.specs.Queries.{values_in, those_in, AreValues}
 use Rattle.pg_request.specs.Asked.{bytes_of, typed_arguments}
 
@@ -84,6 +85,6 @@ pub none_are_values : (bytes : List ℕ) → bytes ≡ [] → AreValues 0 bytes
 unfolding many_at
 none_are_values bytes e = rw e (refl, refl)
 
-pub no_values : (types bytes : List ℕ) → record { types = types; values = values_in 0 bytes } ≡ typed_arguments types
+pub no_values : (types bytes : List ℕ) (names : List Declared) → names ≡ [] → record { types = types; values = values_in 0 bytes; names = names } ≡ typed_arguments types
 unfolding many_at
-no_values types bytes = refl
+no_values types bytes names e = rw e refl

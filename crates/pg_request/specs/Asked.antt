@@ -1,32 +1,64 @@
 -- What becomes of the arguments of a caller.
-use Rattle.std.specs.Prelude.{◌≡◌, ◌++◌, ℕ, true, List, [], ◌∷◌, length, map, Option, Some, None, is_some, if◌then◌else◌}
-use Rattle.std.specs.Option.{option_map, option_or, option_to_list}
+use Rattle.std.specs.Prelude.{◌≡◌, ◌&&◌, ℕ, Bool, true, List, [], ◌∷◌, length, map, Option, Some, None, is_some, unwrap_or, if◌then◌else◌}
+use Rattle.std.specs.Option.{option_map}
 use Rattle.pg_wire.specs.declared.error.Error.{Error}
 use Rattle.pg_wire.specs.declared.error.Error.TheVariants as errors
-use Rattle.pg_arguments.specs.Types.{TypeParts, oid_of, name_of}
+use Rattle.pg_arguments.specs.Types.{TypeParts, PartKind, Array, Simple, oid_of, name_of}
 use Rattle.pg_arguments.specs.Encoded.{Encoded}
 use Rattle.pg_arguments.specs.Arguments.{Arguments, HasValues}
 use Rattle.pg_arguments.specs.declared.hole.Hole.{Hole}
+use Rattle.pg_request.specs.declared.naming.Declared.{Declared}
+use Rattle.pg_request.specs.declared.naming.Declared.TheVariants as declared
 use Rattle.pg_request.specs.Queries.{ArgumentsSeen, QueryText, values_in}
 
--- the OIDs of these types, where each has one
+-- the OIDs of these types, and 0 in the place of one that isn't known
 abbrev pub oids_in : List TypeParts → List ℕ
 oids_in [] = []
-oids_in (t ∷ ts) = option_to_list (oid_of t) ++ oids_in ts
+oids_in (t ∷ ts) = unwrap_or (oid_of t) 0 ∷ oids_in ts
 
--- the name of the first of these types without an OID
-abbrev pub unknown_type : List TypeParts → Option (List ℕ)
-unknown_type [] = None
-unknown_type (t ∷ ts) = if is_some (oid_of t) then unknown_type ts else Some (name_of t)
+-- ---- types that are known by their names alone
+
+abbrev pub kind_of : TypeParts → PartKind
+kind_of [] = Simple
+kind_of (p ∷ parts) = p.kind
+
+abbrev pub element_name : TypeParts → List ℕ
+element_name [] = []
+element_name (p ∷ parts) = name_of parts
+
+-- an array is asked for by the name of its elements
+abbrev pub named_as : PartKind → TypeParts → Declared
+named_as Array t = declared.ArrayOf (element_name t)
+named_as _ t = declared.Name (name_of t)
+
+abbrev pub declared_by_name : TypeParts → Declared
+declared_by_name t = named_as (kind_of t) t
+
+abbrev pub declared_by : Option ℕ → TypeParts → Declared
+declared_by (Some oid) t = declared.Number oid
+declared_by None t = declared_by_name t
+
+abbrev pub declared_as : TypeParts → Declared
+declared_as t = declared_by (oid_of t) t
+
+abbrev pub are_numbered : List TypeParts → Bool
+are_numbered [] = true
+are_numbered (t ∷ ts) = is_some (oid_of t) && are_numbered ts
+
+-- the types as they are declared, where one of them has no OID
+abbrev pub names_in : List TypeParts → List Declared
+names_in ts = if are_numbered ts then [] else map declared_as ts
+
+-- ---- OIDs that are open within values
 
 -- the name of the first type whose OID is open
 abbrev pub open_type : List Hole → Option (List ℕ)
 open_type [] = None
 open_type (h ∷ hs) = Some (name_of h.of)
 
--- the name of the first type that has to be looked up
+-- the name of the first type that can't be looked up: one that is open
 abbrev pub missing_type : Arguments → Option (List ℕ)
-missing_type a = option_or (unknown_type a.types) (open_type a.encoded.holes)
+missing_type a = open_type a.encoded.holes
 
 -- only a type that has to be looked up is refused, but for want of memory
 abbrev pub RefusesType : Option (List ℕ) → Error → Type 0
@@ -39,7 +71,7 @@ bytes_of values = map (option_map (λ (e : Encoded). e.bytes)) values
 
 -- arguments as the server gets them
 abbrev pub sent_as : Arguments → ArgumentsSeen
-sent_as a = record { types = oids_in a.types; values = values_in (length a.types) a.encoded.bytes }
+sent_as a = record { types = oids_in a.types; values = values_in (length a.types) a.encoded.bytes; names = names_in a.types }
 
 -- the values that they were made of
 abbrev pub HasBytesOf : Arguments → ArgumentsSeen → Type 0
@@ -47,7 +79,11 @@ HasBytesOf a seen = (values : List (Option Encoded)) → HasValues a values → 
 
 -- types alone
 abbrev pub typed_arguments : List ℕ → ArgumentsSeen
-typed_arguments types = record { types = types; values = [] }
+typed_arguments types = record { types = types; values = []; names = [] }
+
+-- the OID of each type is known
+abbrev pub numbered : List ℕ → ArgumentsSeen → ArgumentsSeen
+numbered types a = record a { types = types; names = [] }
 
 abbrev pub no_arguments : ArgumentsSeen
 no_arguments = typed_arguments []

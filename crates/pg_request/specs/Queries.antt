@@ -1,18 +1,25 @@
 -- What is seen of a query and of its arguments.
 use Rattle.std.specs.Prelude.{◌≡◌, ℕ, Bool, false, List, [], length, flat_map, Option, Some, None, Result, Ok, Err}
 use Rattle.pg_wire.specs.Bytes.{value}
+use Rattle.pg_request.specs.declared.naming.Declared.{Declared}
 use Rattle.pg_wire.specs.Reading.{value_at, many_at}
 
--- the types of arguments, and their values in order; a null is None
+-- the types of arguments, and their values in order; a null is None. Where a type is known by its name alone, all are told as they were declared.
 pub record ArgumentsSeen : Type 0 where
   pub types : List ℕ
   pub values : List (Option (List ℕ))
+  pub names : List Declared
 
 -- a text; its arguments, where it is one of the extended query; and whether its statement is to be kept
 pub record QueryText : Type 0 where
   pub sql : List ℕ
   pub arguments : Option ArgumentsSeen
   pub persistent : Bool
+
+-- the types of its arguments as they were declared, where one of them is known by its name alone
+abbrev pub names_by : Option ArgumentsSeen → List Declared
+names_by None = []
+names_by (Some arguments) = arguments.names
 
 -- a text without arguments
 abbrev pub plain_text : List ℕ → QueryText

@@ -1,9 +1,10 @@
 ghost use Rattle.std.specs.Prelude.{◌≡◌, Some, None, IfOk, IfErr, OnOk, length, flat_map};
 ghost use Rattle.pg_wire.specs.Bytes.{value};
-ghost use Rattle.pg_request.specs.Asked.{oids_in, unknown_type, open_type, missing_type, RefusesType, sent_as, typed_arguments, no_arguments, HasBytesOf};
+ghost use Rattle.pg_request.specs.Asked.{oids_in, open_type, missing_type, names_in, RefusesType, sent_as, typed_arguments, no_arguments, numbered, HasBytesOf};
 
+use crate::naming::{Declared, all_declared, are_numbered, copied};
 use pg_arguments::{Hole, PgArguments, PgTypeInfo};
-use pg_wire::{Blob, Error, Oid, Oids, Text};
+use pg_wire::{Blob, Error, Oid, Oids, Sequence, Text};
 use std::alloc::Global;
 use std::marker::Model;
 
@@ -13,6 +14,7 @@ pub struct Arguments {
     types: Oids,
     count: u64,
     encoded: Blob,
+    names: Sequence<Declared>,
 }
 
 // By hand, so that whoever lets one go makes one call, and doesn't go through its parts.
@@ -22,6 +24,7 @@ impl Drop for Arguments {
             types: _,
             count: _,
             encoded: _,
+            names: _,
         } = self;
     }
 }
@@ -31,7 +34,7 @@ impl Model for Arguments {
 
     ghost Value = { ArgumentsSeen };
 
-    ghost view = { λ a. record { types = a.types; values = values_in a.count a.encoded } };
+    ghost view = { λ a. record { types = a.types; values = values_in a.count a.encoded; names = a.names } };
 
     ghost invariant = { λ a. AreValues a.count a.encoded };
 }
@@ -46,20 +49,28 @@ fn not_found(alloc: Global, name: &str) -> Error
     }
 }
 
-// The OIDs of types, each of which must have one.
+// The OIDs of types, and 0 in the place of one that isn't known.
 fn oids_in(alloc: Global, types: &[PgTypeInfo]) -> Result<Oids, Error>
     ensures oids { IfOk result (λ o. o ≡ oids_in types.now) }
-    ensures known { OnOk result (unknown_type types.now ≡ None) }
-    ensures cause { IfErr result (RefusesType (unknown_type types.now)) }
+    ensures memory { IfErr result (λ e. e ≡ Error.OutOfMemory) }
 {
     let mut oids = Oids::new(alloc);
     for of in types {
-        match of.oid() {
-            Some(oid) => oids.push(oid)?,
-            None => return Err(not_found(alloc, of.name())),
-        }
+        oids.push(of.oid().unwrap_or(Oid(0)))?;
     }
     Ok(oids)
+}
+
+// The types as they are declared, where one of them has no OID.
+fn names_in(alloc: Global, types: &[PgTypeInfo]) -> Result<Sequence<Declared>, Error>
+    ensures names { IfOk result (λ d. d ≡ names_in types.now) }
+    ensures memory { IfErr result (λ e. e ≡ Error.OutOfMemory) }
+{
+    if are_numbered(types) {
+        Ok(Sequence::new(alloc))
+    } else {
+        all_declared(alloc, types)
+    }
 }
 
 // No OID may be open.
@@ -82,6 +93,7 @@ impl Arguments {
             types,
             count: 0,
             encoded: Blob::new(alloc),
+            names: Sequence::new(alloc),
         }
     }
 
@@ -92,24 +104,51 @@ impl Arguments {
         Arguments::typed(alloc, Oids::new(alloc))
     }
 
-    /// Equal arguments, of which each type has an OID, and none is open in a value.
+    /// Equal arguments, of which no OID is open in a value.
     pub(crate) fn of(alloc: Global, arguments: &PgArguments) -> Result<Self, Error>
         ensures sent { IfOk result (λ a. a ≡ sent_as arguments.now) }
         ensures values { IfOk result (λ a. HasBytesOf arguments.now a) }
         ensures known { OnOk result (missing_type arguments.now ≡ None) }
         ensures cause { IfErr result (RefusesType (missing_type arguments.now)) }
     {
-        let types = oids_in(alloc, arguments.types())?;
         none_open(alloc, arguments.holes())?;
+        let types = oids_in(alloc, arguments.types())?;
+        let names = names_in(alloc, arguments.types())?;
         let encoded = Blob::from_slice(alloc, arguments.encoded())?;
         Ok(Arguments {
             types,
             count: arguments.len() as u64,
             encoded,
+            names,
         })
     }
 
-    /// The OIDs of the types.
+    /// The types as they were declared, where one of them is known by its name alone.
+    pub fn names(&self) -> &[Declared]
+        ensures { result.now ≡ self.now.names }
+    {
+        self.names.as_slice()
+    }
+
+    /// The same, once the OID of each type is known.
+    pub fn numbered(self, alloc: Global, types: Oids) -> Self
+        ensures { result ≡ numbered types self }
+    {
+        let Arguments {
+            types: _,
+            count,
+            encoded,
+            names: _,
+        } = self;
+        Arguments {
+            types,
+            count,
+            encoded,
+            names: Sequence::new(alloc),
+        }
+    }
+
+    /// The OIDs of the types, of which 0 is none.
     pub fn types(&self) -> &[Oid]
         ensures { result.now ≡ self.now.types }
     {
@@ -138,10 +177,12 @@ impl Arguments {
     {
         let types = self.types.to_copy(alloc)?;
         let encoded = Blob::from_slice(alloc, self.encoded.as_bytes())?;
+        let names = copied(alloc, self.names.as_slice())?;
         Ok(Arguments {
             types,
             count: self.count,
             encoded,
+            names,
         })
     }
 }

@@ -4,12 +4,14 @@
 #![tactic(auto)]
 
 mod arguments;
+mod naming;
 mod preparation;
 mod progress;
 mod query;
 mod texts;
 
 pub use arguments::Arguments;
+pub use naming::Declared;
 pub use preparation::Preparation;
 pub use progress::{CacheStep, Progress};
 pub use query::Query;

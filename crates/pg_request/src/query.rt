@@ -1,8 +1,8 @@
 ghost use Rattle.std.specs.Prelude.{◌≡◌, None, IfOk, IfErr, OnOk};
-ghost use Rattle.pg_request.specs.Queries.{extended, plain_text, QueryText};
+ghost use Rattle.pg_request.specs.Queries.{extended, names_by, plain_text, QueryText};
 ghost use Rattle.pg_request.specs.Asked.{missing_type, RefusesType, sent_as, no_arguments, kept_query, AsksWith};
 
-use crate::Arguments;
+use crate::{Arguments, Declared};
 use pg_arguments::PgArguments;
 use pg_wire::{Error, Text};
 use std::alloc::Global;
@@ -82,8 +82,8 @@ impl Query {
         })
     }
 
-    /// The same with arguments. Each of their types must have an OID, and none may be open in a value: the first that has to be looked up
-    /// is `TypeNotFound`. Else only want of memory refuses it.
+    /// The same with arguments, whose types may be known by their names alone. No OID may be open in a value: the first such type is
+    /// `TypeNotFound`. Else only want of memory refuses it.
     pub fn with(alloc: Global, sql: &str, arguments: &PgArguments) -> Result<Self, Error>
         ensures query { IfOk result (λ q. q ≡ kept_query sql.now (sent_as arguments.now)) }
         ensures values { IfOk result (λ q. AsksWith arguments.now q.arguments) }
@@ -126,6 +126,16 @@ impl Query {
         ensures { result.now ≡ self.now.sql }
     {
         self.sql.as_str()
+    }
+
+    /// The types of its arguments as they were declared, where one of them is known by its name alone.
+    pub fn names(&self) -> &[Declared]
+        ensures { result.now ≡ names_by self.now.arguments }
+    {
+        match &self.arguments {
+            Some(arguments) => arguments.names(),
+            None => &[],
+        }
     }
 
     /// Its text and its arguments, or the query itself where it has none.

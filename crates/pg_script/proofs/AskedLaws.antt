@@ -61,6 +61,10 @@ argument_takes (Space ∷ Word words.Text ∷ Text s ∷ rest) x e =
     let u = unicode s t.0 t.1 in
     subst (Taken (Space ∷ Word words.Text ∷ Text s ∷ rest)) (same_Some (given.Text t.0, rest) x t.2) (ap (λ (v : List ℕ). Space ∷ Word words.Text ∷ Text v ∷ rest) u.1, u.0)
 argument_takes (Space ∷ Word words.Bytea ∷ Text s ∷ rest) x e = subst (Taken (Space ∷ Word words.Bytea ∷ Text s ∷ rest)) (same_Some (given.Bytea s, rest) x e) (refl, tt)
+argument_takes (Space ∷ Word words.Named ∷ Text n ∷ Word words.Colon ∷ Text s ∷ rest) x e =
+    let t = bind_some (text_in n) (λ (t : List ℕ). Some (given.Named t s, rest)) x e in
+    let u = unicode n t.0 t.1 in
+    subst (Taken (Space ∷ Word words.Named ∷ Text n ∷ Word words.Colon ∷ Text s ∷ rest)) (same_Some (given.Named t.0 s, rest) x t.2) (ap (λ (v : List ℕ). Space ∷ Word words.Named ∷ Text v ∷ Word words.Colon ∷ Text s ∷ rest) u.1, u.0)
 argument_takes (Space ∷ Word words.Texts ∷ rest) x e =
     let t = bind_some (texts_at rest) (λ (y : Texts). Some (given.Texts y.0, y.1)) x e in
     let h = texts_take rest t.0 t.1 in
@@ -162,6 +166,7 @@ argument_again : (a : Argument) (rest : List Token) → ArgumentFits a → Parte
 argument_again (given.Bare b) rest f p = refl
 argument_again (given.Text s) rest f p = rw f refl
 argument_again (given.Bytea s) rest f p = refl
+argument_again (given.Named name image) rest f p = rw f refl
 argument_again (given.Texts texts) rest f p = rw (texts_again texts rest f p) refl
 
 up_to_again : (n : ℕ) (all : List Argument) → AllByRecursion ArgumentFits all → length all ≤ n → arguments_up_to n (arguments_tokens all) ≡ Some all
@@ -191,5 +196,6 @@ arguments_apart t [] = refl
 arguments_apart t (given.Bare b ∷ more) = spaced (is_word t) _ ∙ arguments_apart (Bare b) more
 arguments_apart t (given.Text s ∷ more) = spaced (is_word t) _ ∙ arguments_apart (Text s) more
 arguments_apart t (given.Bytea s ∷ more) = spaced (is_word t) _ ∙ arguments_apart (Text s) more
+arguments_apart t (given.Named name image ∷ more) = spaced (is_word t) _ ∙ arguments_apart (Text image) more
 arguments_apart t (given.Texts [] ∷ more) = spaced (is_word t) _ ∙ arguments_apart (Word words.Texts) more
 arguments_apart t (given.Texts (s ∷ texts) ∷ more) = spaced (is_word t) _ ∙ texts_apart s texts (arguments_tokens more) (λ u. arguments_apart u more)

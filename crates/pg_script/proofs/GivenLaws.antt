@@ -5,7 +5,7 @@ use Rattle.std.specs.List.{AllByRecursion}
 use Rattle.std.proofs.lemmas.Bool.{eqb-true}
 use Rattle.std.proofs.lemmas.Option.{same_Some}
 use Rattle.pg_request.specs.Queries.{QueryText}
-use Rattle.pg_request.specs.Asked.{oids_in, unknown_type, missing_type, sent_as, HasBytesOf, AsksWith, kept_query}
+use Rattle.pg_request.specs.Asked.{names_in, oids_in, missing_type, sent_as, HasBytesOf, AsksWith, kept_query}
 use Rattle.pg_arguments.specs.Types.{TypeParts, oid_of, numbered_type}
 use Rattle.pg_arguments.specs.Builtin.{Builtin, builtin_types, builtin_type, first_under, or_else, type_under, under, single_of}
 use Rattle.pg_arguments.specs.Encoded.{Encoded, plain, joined, wires}
@@ -21,7 +21,7 @@ use Rattle.pg_script.specs.declared.argument.Argument.TheVariants as given
 use Rattle.pg_script.specs.declared.error.LineError.{LineError}
 use Rattle.pg_script.specs.declared.error.LineError.TheVariants as errors
 use Rattle.pg_script.specs.Reading.{Fails}
-use Rattle.pg_script.specs.Given.{bare_encoding, argument_oid, argument_type, argument_encoding, given_query, AreEncoded}
+use Rattle.pg_script.specs.Given.{bare_oid, bare_encoding, argument_oid, argument_type, argument_encoding, given_query, AreEncoded}
 use Rattle.pg_script.proofs.SpellingLaws.{none_some, unless}
 use Rattle.pg_wire.proofs.Tests.{chosen, guarded}
 
@@ -48,13 +48,16 @@ type_oid n = by (builtin_type n) refl
     by None is = refl
     by (Some t) is = first_oid n builtin_types t (unless (nat_eq n 0) (first_under n builtin_types) t is).1
 
-all_known : (given : List Argument) → unknown_type (map argument_type given) ≡ None
-all_known [] = refl
-all_known (a ∷ more) = rw (type_oid (argument_oid a)) (all_known more)
+oid_given : (a : Argument) → unwrap_or (oid_of (argument_type a)) 0 ≡ argument_oid a
+oid_given (given.Named name image) = refl
+oid_given (given.Bare b) = ap (λ (o : Option ℕ). unwrap_or o 0) (type_oid (bare_oid b))
+oid_given (given.Text s) = ap (λ (o : Option ℕ). unwrap_or o 0) (type_oid 25)
+oid_given (given.Bytea s) = ap (λ (o : Option ℕ). unwrap_or o 0) (type_oid 17)
+oid_given (given.Texts ss) = ap (λ (o : Option ℕ). unwrap_or o 0) (type_oid 1009)
 
 all_oids : (given : List Argument) → oids_in (map argument_type given) ≡ map argument_oid given
 all_oids [] = refl
-all_oids (a ∷ more) = rw (type_oid (argument_oid a)) (ap (λ (ns : List ℕ). argument_oid a ∷ ns) (all_oids more))
+all_oids (a ∷ more) = ap (λ (n : ℕ). n ∷ oids_in (map argument_type more)) (oid_given a) ∙ ap (λ (ns : List ℕ). argument_oid a ∷ ns) (all_oids more)
 
 -- ---- and no OID is open in their values
 
@@ -106,6 +109,7 @@ argument_closed : (a : Argument) (v : Option Encoded) → value_of (argument_enc
 argument_closed (given.Bare b) v e = bare_closed b v e
 argument_closed (given.Text s) v e = image_closed (plain s) v refl e
 argument_closed (given.Bytea s) v e = image_closed (plain s) v refl e
+argument_closed (given.Named name image) v e = image_closed (plain image) v refl e
 argument_closed (given.Texts ss) v e = array_closed 25 (elements (λ s. Image (plain s)) ss) v (elements_closed (λ s. Image (plain s)) (λ s w. image_closed (plain s) w refl) ss) e
 
 -- ---- arguments one after the other
@@ -146,7 +150,7 @@ fails_given errors.Bad given done behind x e f = rw e (refused_behind done x beh
 none_missing : (given : List Argument) (a : Arguments) → AreEncoded given a → missing_type a ≡ None
 none_missing given a h =
     let closed : a.encoded.holes ≡ [] = ap (λ (e : Encoded). e.holes) h.made.2 ∙ wires_closed h.values (elements_closed argument_encoding argument_closed given h.values h.encoded) in
-    rw (h.types, all_known given, closed) refl
+    rw closed refl
 
 pub never_missing : (given : List Argument) (a : Arguments) (name : List ℕ) → AreEncoded given a → missing_type a ≡ Some name → ⊥
 never_missing given a name h e = none_some name (sym (none_missing given a h) ∙ e)
@@ -155,4 +159,5 @@ pub given_is : (persistent : Bool) (sql : List ℕ) (given : List Argument) (a :
 given_is persistent sql given a q h v e =
     let types : oids_in a.types ≡ map argument_oid given = ap oids_in h.types ∙ all_oids given in
     let values : HasBytesOf a (sent_as a) = subst (λ (x : QueryText). AsksWith a x.arguments) e v in
-    rw (e, types, values h.values h.made, h.encoded) refl
+    let names : names_in a.types ≡ names_in (map argument_type given) = ap names_in h.types in
+    rw (e, types, names, values h.values h.made, h.encoded) refl

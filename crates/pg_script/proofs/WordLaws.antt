@@ -59,6 +59,8 @@ word_law words.Text = record { shape = refl; read = refl; no_mode = refl; no_bar
 word_law words.Bytea = record { shape = refl; read = refl; no_mode = refl; no_bare = refl }
 word_law words.Texts = record { shape = refl; read = refl; no_mode = refl; no_bare = refl }
 word_law words.Comma = record { shape = refl; read = refl; no_mode = refl; no_bare = refl }
+word_law words.Named = record { shape = refl; read = refl; no_mode = refl; no_bare = refl }
+word_law words.Colon = record { shape = refl; read = refl; no_mode = refl; no_bare = refl }
 word_law (words.Call call_words.Execute) = record { shape = refl; read = refl; no_mode = refl; no_bare = refl }
 word_law (words.Call call_words.ExecuteMany) = record { shape = refl; read = refl; no_mode = refl; no_bare = refl }
 word_law (words.Call call_words.Fetch) = record { shape = refl; read = refl; no_mode = refl; no_bare = refl }

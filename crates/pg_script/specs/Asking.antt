@@ -42,6 +42,7 @@ abbrev pub argument_at : List Token → Option (Argument × List Token)
 argument_at (Space ∷ Bare b ∷ rest) = Some (given.Bare b, rest)
 argument_at (Space ∷ Word words.Text ∷ Text s ∷ rest) = text_in s >>= λ t. Some (given.Text t, rest)
 argument_at (Space ∷ Word words.Bytea ∷ Text s ∷ rest) = Some (given.Bytea s, rest)
+argument_at (Space ∷ Word words.Named ∷ Text n ∷ Word words.Colon ∷ Text s ∷ rest) = text_in n >>= λ name. Some (given.Named name s, rest)
 argument_at (Space ∷ Word words.Texts ∷ rest) = texts_at rest >>= λ x. Some (given.Texts x.0, x.1)
 argument_at _ = None
 

@@ -1,8 +1,8 @@
 -- What the arguments that a script gives are as arguments of a call (PostgreSQL manual, "pg_type", and the send functions of the types).
 use Rattle.std.specs.Prelude.{◌≡◌, ℕ, Bool, List, map, Option, Some}
 use Rattle.pg_request.specs.Queries.{QueryText}
-use Rattle.pg_request.specs.Asked.{bytes_of}
-use Rattle.pg_arguments.specs.Types.{TypeParts}
+use Rattle.pg_request.specs.Asked.{bytes_of, names_in}
+use Rattle.pg_arguments.specs.Types.{TypeParts, named_type}
 use Rattle.pg_arguments.specs.Builtin.{type_under}
 use Rattle.pg_arguments.specs.Encoded.{Encoded, plain}
 use Rattle.pg_arguments.specs.Encoding.{Encoding, Null, Image}
@@ -30,8 +30,11 @@ argument_oid (given.Bare b) = bare_oid b
 argument_oid (given.Text s) = 25
 argument_oid (given.Bytea s) = 17
 argument_oid (given.Texts ss) = 1009
+argument_oid (given.Named name image) = 0
 
+-- a type that is known by its name alone has no OID yet
 abbrev pub argument_type : Argument → TypeParts
+argument_type (given.Named name image) = named_type name
 argument_type a = type_under (argument_oid a)
 
 -- its binary encoding
@@ -48,11 +51,12 @@ abbrev pub argument_encoding : Argument → Encoding
 argument_encoding (given.Bare b) = bare_encoding b
 argument_encoding (given.Text s) = Image (plain s)
 argument_encoding (given.Bytea s) = Image (plain s)
+argument_encoding (given.Named name image) = Image (plain image)
 argument_encoding (given.Texts ss) = array_encoding (type_under 25) (elements (λ s. Image (plain s)) ss)
 
 -- a query with these arguments, which have these values, and whose statement is to be kept or not
 abbrev pub given_with : Bool → List ℕ → List Argument → List (Option Encoded) → QueryText
-given_with persistent sql arguments values = record { sql = sql; arguments = Some (record { types = map argument_oid arguments; values = bytes_of values }); persistent = persistent }
+given_with persistent sql arguments values = record { sql = sql; arguments = Some (record { types = map argument_oid arguments; values = bytes_of values; names = names_in (map argument_type arguments) }); persistent = persistent }
 
 -- the same, where each argument has an encoding, which may have 2147483647 bytes
 abbrev pub given_query : Bool → List ℕ → List Argument → Option QueryText

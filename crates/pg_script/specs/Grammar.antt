@@ -59,6 +59,7 @@ abbrev pub argument_tokens : Argument → List Token
 argument_tokens (given.Bare b) = Bareword b ∷ []
 argument_tokens (given.Text s) = Word words.Text ∷ Text s ∷ []
 argument_tokens (given.Bytea s) = Word words.Bytea ∷ Text s ∷ []
+argument_tokens (given.Named name image) = Word words.Named ∷ Text name ∷ Word words.Colon ∷ Text image ∷ []
 argument_tokens (given.Texts texts) = Word words.Texts ∷ text_tokens texts
 
 abbrev pub arguments_tokens : List Argument → List Token
@@ -162,6 +163,7 @@ abbrev pub ArgumentFits : Argument → Type 0
 ArgumentFits (given.Bare b) = Unit {0}
 ArgumentFits (given.Text s) = IsUnicode s
 ArgumentFits (given.Bytea s) = Unit {0}
+ArgumentFits (given.Named name image) = IsUnicode name
 ArgumentFits (given.Texts texts) = AllByRecursion IsUnicode texts
 
 abbrev pub QueryFits : QueryText → Type 0

@@ -25,6 +25,8 @@ pub(crate) enum Argument {
     Text(Text),
     Bytea(Blob),
     Texts(Sequence<Text>),
+    /// A value of the type of this name, by its binary encoding.
+    Named(Text, Blob),
 }
 
 fn copied_numbers(alloc: Global, numbers: &[i32]) -> Result<Sequence<i32>, LineError>

@@ -90,6 +90,17 @@ fn argument_at(alloc: Global, tokens: &[Token]) -> Result<(Argument, &[Token]), 
             Token::Text(bytes),
             rest @ ..,
         ] => Ok((Argument::Bytea(bytes.to_copy(alloc)?), rest)),
+        [
+            Token::Space,
+            Token::Word(Keyword::Named),
+            Token::Text(name),
+            Token::Word(Keyword::Colon),
+            Token::Text(image),
+            rest @ ..,
+        ] => {
+            let name = text_of(alloc, name.as_bytes())?;
+            Ok((Argument::Named(name, image.to_copy(alloc)?), rest))
+        }
         [Token::Space, Token::Word(Keyword::Texts), rest @ ..] => {
             let (texts, rest) = texts_at(alloc, rest)?;
             Ok((Argument::Texts(texts), rest))

@@ -51,6 +51,10 @@ fn add(alloc: Global, arguments: &mut PgArguments, argument: Argument) -> Result
         Argument::Text(text) => arguments.add(text),
         Argument::Bytea(bytes) => arguments.add(bytes),
         Argument::Texts(texts) => arguments.add(texts.into_vec()),
+        Argument::Named(name, image) => {
+            let of = PgTypeInfo::with_name(alloc, name.as_str())?;
+            arguments.add_image(of, image.as_bytes())
+        }
     }
 }
 

@@ -33,10 +33,11 @@
 //! | `int2:Z`, `int4:Z`, `int8:Z` | a signed number of two, four or eight bytes |
 //! | `oid:N` | oid |
 //! | `text:TEXT`, `bytea:TEXT` | text; bytea, of any bytes |
+//! | `named:TEXT:TEXT` | the type of this name, which is looked up; any bytes |
 //! | `int4s:Z,Z`, `texts:TEXT,TEXT` | an array of int4 or of text, with any number of elements, perhaps none |
 //!
 //! A TEXT stands between quotes, and is printable ASCII other than a quote and a backslash, or `\"`, `\\`, or `\xHH` for any
-//! byte, with two lower-case hexadecimal digits. But for `server` and `bytea:` its bytes are UTF-8; a zero byte among them is no fault
+//! byte, with two lower-case hexadecimal digits. But for `server`, `bytea:` and the second of `named:` its bytes are UTF-8; a zero byte among them is no fault
 //! of the script. A number is one to ten digits, at most 4294967295; of `take` both are at least 1, and K is at most 1000000. A Z is
 //! one or more digits, perhaps behind a `-`, of a number that its type has. Without `most` a step has 4294967295 of it. Any other
 //! line is bad, and nothing is required.

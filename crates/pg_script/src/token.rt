@@ -70,6 +70,9 @@ pub(crate) enum Keyword {
     Texts,
     /// Between such texts.
     Comma,
+    /// In front of the name of a type, and between that and the bytes of a value.
+    Named,
+    Colon,
     Call(CallWord),
 }
 

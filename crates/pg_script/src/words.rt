@@ -11,7 +11,7 @@ use pg_options::PgSslMode;
 use std::alloc::Global;
 
 /// All words of a script, the most usual first.
-const WORDS: [Keyword; 56] = [
+const WORDS: [Keyword; 58] = [
     Keyword::Step,
     Keyword::Server,
     Keyword::Raw,
@@ -24,6 +24,8 @@ const WORDS: [Keyword; 56] = [
     Keyword::Bytea,
     Keyword::Texts,
     Keyword::Comma,
+    Keyword::Named,
+    Keyword::Colon,
     Keyword::Wait,
     Keyword::Call(CallWord::Execute),
     Keyword::Call(CallWord::Fetch),
@@ -139,6 +141,8 @@ fn spelling_of(word: Keyword) -> &'static [u8]
         Keyword::Bytea => b"bytea:",
         Keyword::Texts => b"texts:",
         Keyword::Comma => b",",
+        Keyword::Named => b"named:",
+        Keyword::Colon => b":",
         Keyword::Call(word) => call_spelling(word),
     }
 }

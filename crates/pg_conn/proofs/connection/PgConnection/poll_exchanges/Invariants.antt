@@ -3,7 +3,7 @@ use Rattle.pg_stream.specs.Streams.{stream_by, fuel_of}
 use Rattle.pg_call.specs.declared.request.Request.{Request}
 use Rattle.pg_conn.specs.Connections.{seen_by}
 use Rattle.pg_conn.specs.Turns.{HandsOver}
-use Rattle.pg_conn.proofs.connection.PgConnection.poll_through.Given as goal
+use Rattle.pg_conn.proofs.connection.PgConnection.poll_exchanges.Given as goal
 
 abbrev pub invariant-loop-told : goal.invariant-loop-told
 invariant-loop-told g l = record {

@@ -1,0 +1,88 @@
+//! Types as a caller declares them for arguments.
+ghost use Rattle.std.specs.Prelude.{◌≡◌, ◌∷◌, map, IfOk, IfErr};
+ghost use Rattle.pg_request.specs.Asked.{are_numbered, declared_as, declared_by_name};
+
+use pg_arguments::{PgTypeInfo, PgTypeKind};
+use pg_wire::{Error, Oid, Sequence, Text};
+use std::alloc::Global;
+
+/// The type of an argument: one that has an OID, or one that is known by its name alone. (PostgreSQL manual, "pg_type".)
+#[derive(Debug, Drop)]
+pub enum Declared {
+    Number(Oid),
+    Name(Text),
+    /// Arrays over the type of this name.
+    ArrayOf(Text),
+}
+
+impl Declared {
+    /// An equal value. Only want of memory refuses it.
+    pub fn to_copy(&self, alloc: Global) -> Result<Self, Error>
+        ensures copy { IfOk result (λ d. d ≡ self.now) }
+        ensures memory { IfErr result (λ e. e ≡ Error.OutOfMemory) }
+    {
+        match self {
+            Declared::Number(oid) => Ok(Declared::Number(*oid)),
+            Declared::Name(name) => Ok(Declared::Name(name.to_copy(alloc)?)),
+            Declared::ArrayOf(element) => Ok(Declared::ArrayOf(element.to_copy(alloc)?)),
+        }
+    }
+}
+
+// A type without an OID.
+fn by_name(alloc: Global, of: &PgTypeInfo) -> Result<Declared, Error>
+    ensures ok { IfOk result (λ d. d ≡ declared_by_name of.now) }
+    ensures memory { IfErr result (λ e. e ≡ Error.OutOfMemory) }
+{
+    match of.kind() {
+        PgTypeKind::Array(element) => {
+            Ok(Declared::ArrayOf(Text::from_str(alloc, element.name())?))
+        }
+        _ => Ok(Declared::Name(Text::from_str(alloc, of.name())?)),
+    }
+}
+
+// A type as it is declared.
+fn as_declared(alloc: Global, of: &PgTypeInfo) -> Result<Declared, Error>
+    ensures ok { IfOk result (λ d. d ≡ declared_as of.now) }
+    ensures memory { IfErr result (λ e. e ≡ Error.OutOfMemory) }
+{
+    match of.oid() {
+        Some(oid) => Ok(Declared::Number(oid)),
+        None => by_name(alloc, of),
+    }
+}
+
+/// Whether each of these types has an OID.
+pub(crate) fn are_numbered(types: &[PgTypeInfo]) -> bool
+    ensures { result ≡ are_numbered types.now }
+{
+    match types {
+        [] => true,
+        [of, rest @ ..] => of.oid().is_some() && are_numbered(rest),
+    }
+}
+
+/// These types as they are declared.
+pub(crate) fn all_declared(alloc: Global, types: &[PgTypeInfo]) -> Result<Sequence<Declared>, Error>
+    ensures ok { IfOk result (λ d. d ≡ map declared_as types.now) }
+    ensures memory { IfErr result (λ e. e ≡ Error.OutOfMemory) }
+{
+    let mut all = Sequence::new(alloc);
+    for of in types {
+        all.push(as_declared(alloc, of)?)?;
+    }
+    Ok(all)
+}
+
+/// Equal ones.
+pub(crate) fn copied(alloc: Global, names: &[Declared]) -> Result<Sequence<Declared>, Error>
+    ensures ok { IfOk result (λ d. d ≡ names.now) }
+    ensures memory { IfErr result (λ e. e ≡ Error.OutOfMemory) }
+{
+    let mut copies = Sequence::new(alloc);
+    for name in names {
+        copies.push(name.to_copy(alloc)?)?;
+    }
+    Ok(copies)
+}
