@@ -100,13 +100,10 @@ fn check_names(names: &[Declared]) -> Result<(), Error>
     ensures ok { OnOk result (AreNamed names.now) }
     ensures err { IfErr result (λ e. (e ≡ Error.Protocol (ProtocolFault.Caller CallerFault.Nul)) × (AreNamed names.now → ⊥)) }
 {
-    match names {
-        [] => Ok(()),
-        [of, rest @ ..] => {
-            check_declared(of)?;
-            check_names(rest)
-        }
+    for of in names {
+        check_declared(of)?;
     }
+    Ok(())
 }
 
 // Refuses arguments by their number, and by a zero byte in the name of a type. A text of which a statement is kept asks for no name, and is refused all
@@ -216,13 +213,10 @@ fn encode_pieces(out: &mut Blob, pieces: &[Blob]) -> Result<(), Error>
     ensures said { OnOk result (AllByRecursion HasFrontendFrame (map CopyData pieces.now)) }
     ensures err { IfErr result (RefusesPieces pieces.now) }
 {
-    match pieces {
-        [] => Ok(()),
-        [piece, rest @ ..] => {
-            encode_copy_bytes(out, piece.as_bytes())?;
-            encode_pieces(out, rest)
-        }
+    for piece in pieces {
+        encode_copy_bytes(out, piece.as_bytes())?;
     }
+    Ok(())
 }
 
 // Adds the frame that ends the data, where they are all.

@@ -112,13 +112,10 @@ pub(crate) fn push_unnumbered(
     ensures ok { OnOk result (resolver.new ≡ record resolver.old { pushed = resolver.old.pushed ++ unnumbered types.now names.now }) }
     ensures memory { IfErr result (λ e. e ≡ Error.OutOfMemory) }
 {
-    match names {
-        [] => Ok(()),
-        [of, rest @ ..] => {
-            push_one(alloc, types, resolver, of)?;
-            push_unnumbered(alloc, types, resolver, rest)
-        }
+    for of in names {
+        push_one(alloc, types, resolver, of)?;
     }
+    Ok(())
 }
 
 // The name by which a type is refused that wasn't found.

@@ -50,13 +50,10 @@ pub(crate) fn push_oids(
     ensures ok { OnOk result (resolver.new ≡ record resolver.old { pushed = resolver.old.pushed ++ map by_oid (unknown types.now oids.now) }) }
     ensures memory { IfErr result (λ e. e ≡ Error.OutOfMemory) }
 {
-    match oids {
-        [] => Ok(()),
-        [oid, rest @ ..] => {
-            push_oid(alloc, types, resolver, *oid)?;
-            push_oids(alloc, types, resolver, rest)
-        }
+    for oid in oids {
+        push_oid(alloc, types, resolver, *oid)?;
     }
+    Ok(())
 }
 
 /// The same for the types of columns.
@@ -69,13 +66,10 @@ pub(crate) fn push_columns(
     ensures ok { OnOk result (resolver.new ≡ record resolver.old { pushed = resolver.old.pushed ++ map by_oid (unknown types.now (map (λ column. column.field.type_id) columns.now)) }) }
     ensures memory { IfErr result (λ e. e ≡ Error.OutOfMemory) }
 {
-    match columns {
-        [] => Ok(()),
-        [column, rest @ ..] => {
-            push_oid(alloc, types, resolver, column.field().type_id)?;
-            push_columns(alloc, types, resolver, rest)
-        }
+    for column in columns {
+        push_oid(alloc, types, resolver, column.field().type_id)?;
     }
+    Ok(())
 }
 
 // Asks for a column of a table, where one of their names isn't known.
@@ -110,12 +104,9 @@ pub(crate) fn push_names(
     ensures ok { OnOk result (resolver.new ≡ resolver.old ++ unnamed tables.now columns.now) }
     ensures memory { IfErr result (λ e. e ≡ Error.OutOfMemory) }
 {
-    match columns {
-        [] => Ok(()),
-        [column, rest @ ..] => {
-            let table = column.relation_id();
-            push_name(tables, resolver, table, column.relation_attribute_no())?;
-            push_names(tables, resolver, rest)
-        }
+    for column in columns {
+        let table = column.relation_id();
+        push_name(tables, resolver, table, column.relation_attribute_no())?;
     }
+    Ok(())
 }

@@ -57,10 +57,12 @@ fn as_declared(alloc: Global, of: &PgTypeInfo) -> Result<Declared, Error>
 pub(crate) fn are_numbered(types: &[PgTypeInfo]) -> bool
     ensures { result ≡ are_numbered types.now }
 {
-    match types {
-        [] => true,
-        [of, rest @ ..] => of.oid().is_some() && are_numbered(rest),
+    for of in types {
+        if of.oid().is_none() {
+            return false;
+        }
     }
+    true
 }
 
 /// These types as they are declared.
