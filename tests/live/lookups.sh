@@ -1,6 +1,6 @@
 #!/usr/bin/env bash
 # Prepares statements against a PostgreSQL server of its own whose parameters and columns have types of the user's: an enum, a composite of a domain of an array of
-# the enum, a range, and arrays of them; and each type of the catalog that a parameter can have, in one call. They are looked up once, and found again by the
+# the enum, a range, and arrays of them; arguments of such types by their names; and each type of the catalog that a parameter can have, in one call. They are looked up once, and found again by the
 # next statement. Calls are dropped at each of their first polls, and behind each a query asks for a row of its own, and must have it.
 #
 #     tests/live/lookups.sh PROGRAM [PORT]
@@ -45,6 +45,16 @@ step('step 1000 prepare "SELECT m, s FROM seen WHERE p = $1"', f"groups 2 .* ok 
 step('step 1000 prepare "SELECT s, m FROM seen"', 'groups 1 .* ok described - 2')
 step('step 1000 fetch_all once "SELECT m, p, s FROM seen WHERE $1" bool:t', 'groups 2 .* ok$')
 row(2)
+# types of arguments by their names: a lookup before the description, once for each name; an array of the enum, the composite and the range by theirs
+step('step 1000 execute query "INSERT INTO seen (m) VALUES ($1)" named:"mood":"ok"', 'groups 3 .* ok total 1$')
+step('step 1000 execute once "INSERT INTO seen (m) SELECT $1" named:"mood":"sad"', 'groups 2 .* ok total 1$')
+step('step 1000 execute query "INSERT INTO seen (m) VALUES ($1)" named:"mood":"sad"', 'groups 1 .* ok total 1$')
+empty = ''.join(f'\\x{byte:02x}' for byte in bytes(8) + int(oids['mood']).to_bytes(4, 'big'))
+step(f'step 1000 fetch_all once "SELECT cardinality($1)" named:"mood[]":"{empty}"', 'groups 3 .* ok$')
+step('step 1000 fetch_all once "SELECT isempty($1), $2" named:"span":"\\x01" named:"mood":"ok"', 'groups 3 .* ok$')
+step('step 1000 fetch_all once "SELECT $1" named:"pair":"x"', 'groups 3 .* error Database ')
+step('step 1000 fetch_all once "SELECT $1" named:"nosuch":"x"', 'groups 1 .* error TypeNotFound "nosuch"$')
+row(4)
 # every type that a parameter can have, but multiranges and those that the server keeps for itself (category Z), which a lookup refuses, and rows of tables that have one
 types = psql("WITH own AS (SELECT oid FROM pg_type WHERE typcategory = 'Z'), rows_of AS (SELECT t.oid FROM pg_type t JOIN pg_attribute ON attrelid = typrelid AND attnum > 0 WHERE atttypid IN (SELECT oid FROM own)) "
              "SELECT format_type(oid, NULL) FROM pg_type WHERE typtype IN ('b', 'c', 'd', 'e', 'r') AND typname NOT LIKE '%multirange' "
@@ -59,6 +69,11 @@ for polls in range(14):
     psql(f"CREATE TYPE {name} AS ENUM ('x')")
     step(f'step {polls} prepare "SELECT $1::{name}[]"', 'dropped|ok described')
     row(100 + polls)
+for polls in range(14):
+    name = f'n{polls}'
+    psql(f"CREATE TYPE {name} AS ENUM ('x')")
+    step(f'step {polls} fetch_all once "SELECT $1::text" named:"{name}":"x"', 'dropped|ok$')
+    row(200 + polls)
 
 report = subprocess.run([program, 'live', url], input='\n'.join(steps) + '\n', capture_output=True, text=True).stdout
 rows, told, bad = {}, 0, 0
