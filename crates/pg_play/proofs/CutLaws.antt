@@ -1,6 +1,6 @@
 -- Data that is queued part by part.
-use Rattle.std.proofs.Common.{◌≡◌, ℕ, zero, suc, ◌<◌, ◌≤◌, min, cond, Bool, false, List, [], ◌∷◌, ◌++◌, length, map, drop, take, flat_map, refl, sym, ap, ◌∙◌, arith, append_assoc, append-nil, nat_eq, ne_eqb, slice_index_or, Result, Ok, Err, length-drop}
-use Rattle.std.proofs.lemmas.List.{map-append}
+use Rattle.std.proofs.Common.{◌≡◌, ℕ, zero, suc, ◌<◌, ◌≤◌, min, cond, Bool, false, List, [], ◌∷◌, ◌++◌, length, map, drop, take, flat_map, refl, sym, ap, ◌∙◌, arith, append_assoc, append-nil, nat_eq, ne_eqb, get_or, ◌+◌, Result, Ok, Err, length-drop}
+use Rattle.std.proofs.lemmas.List.{drop_more, map-append}
 use Rattle.pg_wire.specs.declared.error.Error.{Error}
 use Rattle.pg_wire.specs.declared.error.Error.TheVariants as errors
 use Rattle.pg_wire.specs.declared.error.ProtocolFault.TheVariants as protocol
@@ -97,7 +97,6 @@ first_some [] n l k = absurd (omega (arith, l))
 first_some (b ∷ bs) zero l k = absurd (omega (arith, k))
 first_some (b ∷ bs) (suc n) l k = omega arith
 
--- the first piece, and the others
-pub pieces_step : (pieces : List (List ℕ)) (piece : List ℕ) → 1 ≤ length pieces → piece ≡ slice_index_or pieces 0 piece → flat_map cut pieces ≡ cut piece ++ flat_map cut (drop 1 pieces)
-pieces_step [] piece l e = absurd (omega (arith, l))
-pieces_step (p ∷ ps) piece l e = ap (λ (x : List ℕ). cut x ++ flat_map cut ps) (sym e)
+-- a piece, and those behind it
+pub pieces_from : (pieces : List (List ℕ)) (i : ℕ) (piece : List ℕ) → i < length pieces → piece ≡ get_or pieces i piece → flat_map cut (drop i pieces) ≡ cut piece ++ flat_map cut (drop (i + 1) pieces)
+pieces_from pieces i piece l e = ap (flat_map cut) (drop_more pieces i piece l) ∙ ap (λ (x : List ℕ). cut x ++ flat_map cut (drop (i + 1) pieces)) (sym e)

@@ -1,5 +1,5 @@
 -- Internal: a copy from the client that is open, as a step feeds it.
-use Rattle.std.specs.Prelude.{◌≡◌, ◌<◌, ◌^◌, ℕ, Bool, false, List}
+use Rattle.std.specs.Prelude.{◌<◌, ◌^◌, ℕ, Bool, false, List}
 use Rattle.pg_call.specs.declared.request.Request.{Request}
 use Rattle.pg_call.specs.declared.request.Request.TheVariants as requests
 use Rattle.pg_conn.specs.Connections.{ConnSeen}

@@ -48,13 +48,10 @@ fn feed_bytes<L>(conn: &mut PgConnection<L>, bytes: &[u8]) -> Result<(), Error>
 fn feed_pieces<L>(conn: &mut PgConnection<L>, pieces: &[Blob]) -> Result<(), Error>
     ensures { Feeds conn.old conn.new (flat_map cut pieces.now) result }
 {
-    match pieces {
-        [piece, rest @ ..] => match feed_bytes(conn, piece.as_bytes()) {
-            Ok(()) => feed_pieces(conn, rest),
-            Err(e) => Err(e),
-        },
-        _ => Ok(()),
+    for piece in pieces {
+        feed_bytes(conn, piece.as_bytes())?;
     }
+    Ok(())
 }
 
 // When the call of a step stops.
