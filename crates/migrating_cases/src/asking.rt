@@ -4,33 +4,15 @@ ghost use Rattle.pg_call.specs.declared.kind.Kind.TheVariants as kinds;
 ghost use Rattle.pg_migrating.specs.Forcing.{GoesForce};
 ghost use Rattle.pg_migrating.specs.Sessions.{Goes};
 
-use crate::telling::push_call;
+use crate::telling::{Shown, push_call};
 use case_tools::push_bytes;
 use pg_guards::PgExecutor;
 use pg_migrating::{DatabaseCall, ForceDropDatabase, MigrateDatabase, Reading, Sessions};
 use pg_options::PgSettings;
-use pg_stream::{Link, MemoryLink, SocketLink};
 use pg_wire::{Error, Poll};
 use std::alloc::Global;
 
 type Answer<T> = Poll<Result<T, Error>>;
-
-/// A link that shows what was sent over it, where it knows.
-pub(crate) trait Shown: Link {
-    fn sent(&self) -> &[u8];
-}
-
-impl Shown for MemoryLink {
-    fn sent(&self) -> &[u8] {
-        self.taken()
-    }
-}
-
-impl Shown for SocketLink {
-    fn sent(&self) -> &[u8] {
-        &[]
-    }
-}
 
 // What was sent, where a connection waits. What there is no memory for is missing in what is printed.
 fn tell_sent<C: PgExecutor>(conn: Option<&C>, told: &mut String)
@@ -39,8 +21,8 @@ where
 {
     if let Some(conn) = conn {
         match conn.conn_ref().link().sent() {
-            [] => {}
-            sent => drop(push_bytes(told, sent)),
+            None | Some([]) => {}
+            Some(sent) => drop(push_bytes(told, sent)),
         }
     }
 }

@@ -4,7 +4,8 @@ ghost use Rattle.std.specs.Prelude.{IfOk};
 ghost use Rattle.pg_stream.specs.Memory.{seen_of};
 ghost use Rattle.pg_conn.specs.Dials.{AreUncalled, IsUncalled};
 
-use case_tools::{behind, reads};
+use crate::case::numbers;
+use case_tools::reads;
 use pg_conn::MemoryDial;
 use pg_stream::MemoryLink;
 use pg_wire::{Error, Sequence};
@@ -18,17 +19,6 @@ fn link(alloc: Global, lines: &str) -> Result<MemoryLink, Error>
     Ok(MemoryLink::new(alloc, reads, Sequence::new(alloc), false, false))
 }
 
-// The calls of the dial that fail.
-fn failing(alloc: Global, case: &str) -> Result<Sequence<u64>, Error> {
-    let mut failing = Sequence::new(alloc);
-    for line in case.lines() {
-        if let Some(digits) = behind(line, "fails") {
-            failing.push(digits.parse::<u64>().unwrap_or(0))?;
-        }
-    }
-    Ok(failing)
-}
-
 fn links(alloc: Global, case: &str) -> Result<VecDeque<MemoryLink>, Error>
     ensures { IfOk result (λ links. AreUncalled links.items) }
 {
@@ -39,9 +29,10 @@ fn links(alloc: Global, case: &str) -> Result<VecDeque<MemoryLink>, Error>
     Ok(links)
 }
 
-/// A dial that gives the links of a case.
+/// A dial that gives the links of a case, and some of whose calls fail.
 pub(crate) fn dial(alloc: Global, case: &str) -> Result<MemoryDial, Error> {
-    let failing = failing(alloc, case)?;
+    let failing = numbers(alloc, case, "fails")?;
     let links = links(alloc, case)?;
+    let failing = Sequence::from_vec(failing);
     Ok(MemoryDial::new(links, VecDeque::new(alloc), failing))
 }

@@ -28,48 +28,34 @@
 
 mod asking;
 mod calls;
+mod case;
 mod databases;
 mod dialling;
 mod locks;
 mod migrating;
 mod opening;
+mod playing;
 mod telling;
 
 use crate::telling::push;
 use case_tools::entry;
-use pg_wire::Error;
 use std::{env, fs, io};
 
-// Plays a case that is about this.
-fn play_about(rt: &HostRuntime, case: &str, about: &str, told: &mut String) -> Result<(), Error> {
-    push(told, about);
+// Plays a case.
+fn play(rt: &HostRuntime, case: &str, told: &mut String) {
+    push(told, case::about(case));
     push(told, "\n");
     if entry(case, "database").is_some() {
-        databases::play(rt, case, told)
-    } else if entry(case, "lock").is_some() {
-        locks::play(rt.alloc(), case, told)
+        databases::play(rt, case, told);
     } else {
-        migrating::play(rt, case, told)
+        playing::play(rt, case, told);
     }
-}
-
-// Plays a case, or what two connections do at a server.
-fn play(rt: &HostRuntime, case: &str, told: &mut String) -> Result<(), Error> {
-    if case.starts_with("postgres://") {
-        return locks::contend(rt, case, told);
-    }
-    let about = entry(case, "database")
-        .or(entry(case, "lock"))
-        .or(entry(case, "case"));
-    play_about(rt, case, about.unwrap_or(""), told)
 }
 
 fn print_case(rt: &HostRuntime, case: &str) -> io::Result<()> {
     let mut told = String::new(rt.alloc());
-    match play(rt, case, &mut told) {
-        Ok(()) => print!(rt; "{told}"),
-        Err(error) => println!(rt; "{error:?}"),
-    }
+    play(rt, case, &mut told);
+    print!(rt; "{told}")
 }
 
 fn print_file(rt: &HostRuntime, file: &str) -> io::Result<()> {
@@ -82,12 +68,7 @@ fn print_file(rt: &HostRuntime, file: &str) -> io::Result<()> {
 
 fn main(rt: HostRuntime) -> io::Result<()> {
     for word in env::args(&rt)?.skip(1) {
-        let word = word.as_str();
-        if word.starts_with("postgres://") {
-            print_case(&rt, word)?;
-        } else {
-            print_file(&rt, word)?;
-        }
+        print_file(&rt, word.as_str())?;
     }
     Ok(())
 }

@@ -34,8 +34,8 @@ pub(crate) fn take<C: PgExecutor + Drop>(
     Poll::Pending
 }
 
-/// The same of a lock that is asked for.
-pub(crate) fn try_take<C: PgExecutor + Drop>(
+// The same of a lock that is asked for.
+fn try_take<C: PgExecutor + Drop>(
     mut state: TryAcquireLock<C>,
     polls: u64,
 ) -> Answer<Either<PgAdvisoryLockGuard<C>, C>>
@@ -63,8 +63,8 @@ fn release<C: PgExecutor + Drop>(mut state: ReleaseNow<C>, polls: u64) -> Answer
     Poll::Pending
 }
 
-/// And of one that is released without it.
-pub(crate) fn force<C: PgExecutor + Drop>(
+// And of one that is released without it.
+fn force<C: PgExecutor + Drop>(
     mut state: ForceRelease<C>,
     polls: u64,
 ) -> Answer<(C, bool)>
@@ -88,8 +88,8 @@ fn short<T>(answer: &Answer<T>) -> &'static str {
     }
 }
 
-// The same of one that hands nothing on.
-fn push_short<T: Drop>(answer: Answer<T>, told: &mut String) {
+/// The same of one that hands nothing on.
+pub(crate) fn push_short<T: Drop>(answer: Answer<T>, told: &mut String) {
     push(told, short(&answer));
     drop(answer);
 }

@@ -1,6 +1,7 @@
 //! A guard whose connection is exchanged for another one.
 
-use crate::locks::calls::take;
+use crate::case::{connect, key};
+use crate::locks::calls::{push_short, take};
 use crate::locks::telling::push_progress;
 use crate::telling::push;
 use case_tools::push_sent;
@@ -9,6 +10,7 @@ use pg_guards::PgExecutor;
 use pg_locking::{PgAdvisoryLock, PgAdvisoryLockGuard, PgAdvisoryLockKey};
 use pg_stream::MemoryLink;
 use pg_wire::{Error, Poll};
+use std::alloc::Global;
 use std::mem;
 
 type Connection = PgConnection<MemoryLink>;
@@ -29,13 +31,8 @@ fn polled_once<C: PgExecutor + Drop>(
     take(PgAdvisoryLockGuard::acquire(&lock, conn), 1)
 }
 
-/// Takes the lock, puts the other connection in its place, and drops the guard there.
-pub(crate) fn exchange(
-    conn: Connection,
-    other: Connection,
-    key: PgAdvisoryLockKey,
-    told: &mut String,
-) -> Result<(), Error> {
+// Takes the lock, puts the other connection in its place, and drops the guard there.
+fn exchange(conn: Connection, other: Connection, key: PgAdvisoryLockKey, told: &mut String) {
     match polled_once(conn, key) {
         Poll::Ready(Ok(mut guard)) => {
             let first = mem::replace(guard.conn_mut(), other);
@@ -44,16 +41,33 @@ pub(crate) fn exchange(
             push_one("  other", &second, told);
             drop(first);
             drop(second);
-            Ok(())
         }
-        Poll::Ready(Err(error)) => {
+        answer => {
             drop(other);
+            push_short(answer, told);
+        }
+    }
+}
+
+// The two connections of a case.
+fn both(alloc: Global, case: &str) -> Result<(Connection, Connection), Error> {
+    let conn = connect(alloc, case, "server")?;
+    match connect(alloc, case, "other") {
+        Ok(other) => Ok((conn, other)),
+        Err(error) => {
+            drop(conn);
             Err(error)
         }
-        Poll::Pending => {
-            drop(other);
-            push(told, "  waits\n");
-            Ok(())
+    }
+}
+
+/// Plays a case, and tells of both connections.
+pub(crate) fn play(alloc: Global, case: &str, told: &mut String) {
+    match both(alloc, case) {
+        Ok((conn, other)) => exchange(conn, other, key(case), told),
+        Err(error) => {
+            drop(error);
+            push(told, "  no connection\n");
         }
     }
 }
