@@ -20,9 +20,8 @@ where
     C::L: Shown,
 {
     if let Some(conn) = conn {
-        match conn.conn_ref().link().sent() {
-            None | Some([]) => {}
-            Some(sent) => drop(push_bytes(told, sent)),
+        if let Some(sent) = conn.conn_ref().link().sent() {
+            drop(push_bytes(told, sent));
         }
     }
 }
