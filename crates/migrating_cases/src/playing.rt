@@ -72,6 +72,7 @@ fn play_in_memory(alloc: Global, case: &str, told: &mut String) {
             let mut clock = MemoryClock::new(VecDeque::from(times), Sequence::new(alloc));
             let conn = connect(alloc, case, "server").ok();
             play_on(alloc, case, conn, &mut clock, told);
+            drop(clock);
         }
         Err(_) => push(told, "  no clock\n"),
     }

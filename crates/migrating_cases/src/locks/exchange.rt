@@ -44,7 +44,9 @@ fn exchange(conn: Connection, other: Connection, key: PgAdvisoryLockKey, told: &
         }
         answer => {
             drop(other);
+            push(told, "  ");
             push_short(answer, told);
+            push(told, "\n");
         }
     }
 }
