@@ -64,10 +64,7 @@ fn release<C: PgExecutor + Drop>(mut state: ReleaseNow<C>, polls: u64) -> Answer
 }
 
 // And of one that is released without it.
-fn force<C: PgExecutor + Drop>(
-    mut state: ForceRelease<C>,
-    polls: u64,
-) -> Answer<(C, bool)>
+fn force<C: PgExecutor + Drop>(mut state: ForceRelease<C>, polls: u64) -> Answer<(C, bool)>
     requires { OnHeld C.conn (IsAsking state.call.asking) state.conn }
 {
     for _ in 0..polls {
