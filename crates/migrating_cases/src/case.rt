@@ -15,14 +15,6 @@ pub(crate) fn about(case: &str) -> &str {
         .unwrap_or("")
 }
 
-/// The URL of the server on which the calls of a connection are made, if it isn't one in memory.
-pub(crate) fn server(case: &str) -> Option<&str> {
-    match entry(case, "lock") {
-        Some(_) => entry(case, "live"),
-        None => entry(case, "url"),
-    }
-}
-
 /// The numbers behind the marks of this word.
 pub(crate) fn numbers(alloc: Global, case: &str, mark: &str) -> Result<Vec<u64>, AllocError> {
     let mut numbers = Vec::new(alloc);

@@ -1,9 +1,9 @@
-//! Cases on a connection, in memory and at a server: of migrations, and of advisory locks.
+//! Cases of migrations, in memory and at a server.
 
-use crate::case::{connect, key, numbers, server};
+use crate::case::{connect, numbers};
 use crate::migrating::make_call;
+use crate::opening;
 use crate::telling::{Shown, push};
-use crate::{locks, opening};
 use case_tools::{behind, entry, number, push_bytes};
 use pg_guards::PgExecutor;
 use pg_migrate::{Clock, MemoryClock, SystemClock};
@@ -19,22 +19,17 @@ fn make_calls<C: PgExecutor, K: Clock>(
     clock: &mut K,
     told: &mut String,
 ) {
-    let is_lock = entry(case, "lock").is_some();
     let mut polls = 1;
     for line in case.lines() {
         polls = number(line, "polls", polls);
         if let Some(words) = behind(line, "call") {
-            if is_lock {
-                locks::calls::call(conn, words, key(case), polls, told);
-            } else {
-                make_call(alloc, case, conn, words, clock, polls, told);
-            }
+            make_call(alloc, case, conn, words, clock, polls, told);
         }
     }
 }
 
-// What was sent behind the start-up.
-fn push_sent<C: PgExecutor>(holder: &C, told: &mut String)
+/// What was sent behind the start-up.
+pub(crate) fn push_sent<C: PgExecutor>(holder: &C, told: &mut String)
 where
     C::L: Shown,
 {
@@ -88,11 +83,7 @@ fn play_live(rt: &HostRuntime, url: &str, case: &str, told: &mut String) {
 
 /// Plays a case, and tells what its calls answered.
 pub(crate) fn play(rt: &HostRuntime, case: &str, told: &mut String) {
-    if entry(case, "exchange").is_some() {
-        locks::exchange::play(rt.alloc(), case, told);
-        return;
-    }
-    match server(case) {
+    match entry(case, "url") {
         Some(url) => play_live(rt, url, case, told),
         None => play_in_memory(rt.alloc(), case, told),
     }

@@ -34,8 +34,8 @@ pub(crate) fn take<C: PgExecutor + Drop>(
     Poll::Pending
 }
 
-// The same of a lock that is asked for.
-fn try_take<C: PgExecutor + Drop>(
+/// The same of a lock that is asked for.
+pub(crate) fn try_take<C: PgExecutor + Drop>(
     mut state: TryAcquireLock<C>,
     polls: u64,
 ) -> Answer<Either<PgAdvisoryLockGuard<C>, C>>
@@ -63,8 +63,11 @@ fn release<C: PgExecutor + Drop>(mut state: ReleaseNow<C>, polls: u64) -> Answer
     Poll::Pending
 }
 
-// And of one that is released without it.
-fn force<C: PgExecutor + Drop>(mut state: ForceRelease<C>, polls: u64) -> Answer<(C, bool)>
+/// And of one that is released without it.
+pub(crate) fn force<C: PgExecutor + Drop>(
+    mut state: ForceRelease<C>,
+    polls: u64,
+) -> Answer<(C, bool)>
     requires { OnHeld C.conn (IsAsking state.call.asking) state.conn }
 {
     for _ in 0..polls {
