@@ -6,7 +6,7 @@ use Rattle.pg_call.specs.declared.calling.Call.TheVariants as calls
 use Rattle.pg_call.specs.declared.kind.Keeping.TheVariants as keepings
 use Rattle.pg_call.specs.Requests.{kind_of, change_of}
 use Rattle.pg_conn.specs.Statements.{begun_as}
-use Rattle.pg_conn.specs.Connections.{ConnOf, ConnSeen, seen_by, cleaned, counted_anew, idle, left, runs, started_call, unfed}
+use Rattle.pg_conn.specs.Connections.{ConnOf, ConnSeen, seen_by, cleaned, counted_anew, idle, learnt_for, left, runs, started_call, unfed}
 use Rattle.pg_conn.proofs.TurnLaws.{seen_cleaned, seen_unfed}
 
 pub seen_left : {A : Type 0} (seen : A → LinkSeen) (c : ConnOf A) → seen_by seen (left c) ≡ left (seen_by seen c)
@@ -17,4 +17,4 @@ seen_left {A} seen c = by (runs c.call)
     by true = ap (λ (x : ConnSeen). idle x) (seen_cleaned seen (unfed false c) ∙ ap (λ (x : ConnSeen). cleaned x) (seen_unfed seen false c))
 
 pub seen_started : {A : Type 0} (seen : A → LinkSeen) (r : Request) (c : ConnOf A) → seen_by seen (started_call r c) ≡ started_call r (seen_by seen c)
-seen_started seen r c = ap (λ (x : ConnSeen). counted_anew (record x { call = calls.Asked (begun_as x.rule r); change = change_of (kind_of r); keeping = keepings.Stays })) (seen_left seen c)
+seen_started seen r c = ap (λ (x : ConnSeen). counted_anew (record x { call = calls.Asked (begun_as x.rule r); change = change_of (kind_of r); keeping = keepings.Stays; learnt = learnt_for r x.broken x.learnt })) (seen_left seen c)

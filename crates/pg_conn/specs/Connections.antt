@@ -1,5 +1,5 @@
 -- What is seen of a connection, and what its calls that ask nothing of the link make of it.
-use Rattle.std.specs.Prelude.{◌≡◌, ℕ, Bool, true, false, not, List, [], ◌++◌, Option, Some, None, ◌+◌, ◌-◌, ◌^◌, ◌∷◌, ◌&&◌, ◌||◌, ◌==◌, nat_eq, leb, ltb, min, length, if◌then◌else◌}
+use Rattle.std.specs.Prelude.{◌≡◌, ℕ, Bool, true, false, is_some, not, List, [], ◌++◌, Option, Some, None, ◌+◌, ◌-◌, ◌^◌, ◌∷◌, ◌&&◌, ◌||◌, ◌==◌, nat_eq, leb, ltb, min, length, if◌then◌else◌}
 use Rattle.pg_call.specs.declared.kind.Change.TheVariants as changes
 use Rattle.pg_call.specs.declared.kind.Change.{Change}
 use Rattle.pg_call.specs.declared.request.Request.TheVariants as requests
@@ -13,7 +13,7 @@ use Rattle.pg_request.specs.Queries.{plain_text}
 use Rattle.pg_request.specs.Texts.{rollback_text}
 use Rattle.pg_rule.specs.declared.rule.Rule.{Rule}
 use Rattle.pg_learning.specs.declared.learnt.Learnt.{Learnt}
-use Rattle.pg_learning.specs.Learning.{learnt_none}
+use Rattle.pg_learning.specs.Learning.{learnt_none, unnamed_types}
 use Rattle.pg_rule.specs.Rules.{new_rule}
 use Rattle.pg_wire.specs.Frontend.{FrontendMessage, Query, CopyData, CopyDone, CopyFail}
 use Rattle.pg_wire.specs.declared.error.Error.{Error}
@@ -204,9 +204,22 @@ left c = if runs c.call then idle (cleaned (unfed false c)) else c
 abbrev pub counted_anew : {A : Type 0} → ConnOf A → ConnOf A
 counted_anew c = record c { stream = record c.stream { waits = 0; moves = 0 }; groups = 0; earlier = 0; cache = steps.Same; heard = 0 }
 
+-- a call that closes the statements that are kept forgets the names of types first, unless the connection is broken
+abbrev pub forgets : Request → Bool
+forgets (requests.Clear statements) = true
+forgets request = false
+
+abbrev pub learnt_for : Request → Option ServerFault → Learnt → Learnt
+learnt_for request broken a = if forgets request && not (is_some broken) then unnamed_types a else a
+
 -- a call has begun, in place of one that ran
 abbrev pub started_call : {A : Type 0} → Request → ConnOf A → ConnOf A
-started_call request c = counted_anew (record (left c) { call = calls.Asked (begun_as (left c).rule request); change = change_of (kind_of request); keeping = keepings.Stays })
+started_call request c = counted_anew (record (left c) {
+  call = calls.Asked (begun_as (left c).rule request);
+  change = change_of (kind_of request);
+  keeping = keepings.Stays;
+  learnt = learnt_for request (left c).broken (left c).learnt;
+})
 
 -- one more has begun behind a call that has ended, and its numbers go on
 abbrev pub started_next : {A : Type 0} → Request → ConnOf A → ConnOf A

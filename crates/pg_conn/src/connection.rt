@@ -1,7 +1,7 @@
 ghost use Rattle.std.specs.Prelude.{◌≡◌, ◌≤◌, ◌+◌, ◌-◌, ◌^◌, min, not, nat_eq, length, is_some, option_map, true, OnErr, Err};
 ghost use Rattle.pg_rule.specs.Caches.{entry_at};
 ghost use Rattle.pg_stream.specs.Parameters.{value_of};
-ghost use Rattle.pg_conn.specs.Connections.{cleaned, copies, counted_anew, ended, idle, fresh_connection, handed, left, left_by, may_open, queued_group, restated, rolled_back, runs, settled, started_call, started_next, unfed, with_room};
+ghost use Rattle.pg_conn.specs.Connections.{cleaned, copies, counted_anew, ended, idle, fresh_connection, handed, learnt_for, left, left_by, may_open, queued_group, restated, rolled_back, runs, settled, started_call, started_next, unfed, with_room};
 ghost use Rattle.pg_call.specs.Hearing.{fed_whole};
 ghost use Rattle.pg_conn.specs.Turns.{level_of};
 
@@ -397,11 +397,21 @@ impl<L> PgConnection<L> {
         self.running.call = call;
     }
 
+    // What a call forgets as it begins: the names of types, where it closes the statements that are kept.
+    fn forget_names(&mut self, request: &Request)
+        ensures { self.new ≡ record self.old { learnt = learnt_for request.now self.old.broken self.old.learnt } }
+    {
+        if self.broken.is_none() && matches!(request, Request::Clear(_)) {
+            self.learnt.forget_names();
+        }
+    }
+
     /// Begins a call, which does nothing before its first poll. A call that still runs is given up.
     pub fn start(&mut self, request: Request)
         ensures { self.new ≡ started_call request self.old }
     {
         self.abandon();
+        self.forget_names(&request);
         self.change = request.kind().change();
         self.keeping = Keeping::Stays;
         let request = begun_as(&self.rule, request);

@@ -7,7 +7,7 @@ use Rattle.pg_wire.specs.Backend.{Values}
 use Rattle.pg_columns.specs.declared.column.PgColumn.{PgColumn}
 use Rattle.pg_resolve.specs.declared.row.TypeResolverRow.{TypeResolverRow}
 use Rattle.pg_resolve.specs.declared.row.ColumnResolverRow.{ColumnResolverRow}
-use Rattle.pg_resolve.specs.Cached.{CacheSeen, no_types, known}
+use Rattle.pg_resolve.specs.Cached.{CacheSeen, no_types, known, without_names}
 use Rattle.pg_resolve.specs.Columns.{column_lookup}
 use Rattle.pg_resolve.specs.Resolving.{ResolverSeen, Queries, Ends, by_oid, no_rows}
 use Rattle.pg_resolve.specs.Settling.{Settles, KeepsSound, IsRefusal}
@@ -19,6 +19,10 @@ use Rattle.pg_learning.specs.declared.learnt.Seeking.TheVariants as seekings
 
 abbrev pub learnt_none : Learnt
 learnt_none = record { types = no_types; tables = no_tables; seeking = seekings.Nothing }
+
+-- no OID is known any more by the name of its type
+abbrev pub unnamed_types : Learnt → Learnt
+unnamed_types a = record a { types = without_names a.types }
 
 -- ---- what is asked
 

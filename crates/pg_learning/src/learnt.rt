@@ -2,7 +2,7 @@ ghost use Rattle.std.specs.Prelude.{◌≡◌, map, IfOk, IfErr, OnOk, OnErr};
 ghost use Rattle.pg_resolve.specs.Resolving.{by_oid, no_rows};
 ghost use Rattle.pg_request.specs.Asked.{RefusesType};
 ghost use Rattle.pg_learning.specs.Naming.{begun_names, oids_under, unknown_name, unnumbered};
-ghost use Rattle.pg_learning.specs.Learning.{IsUnsought, Seeks, SeeksNames, SeeksOn, TakesRow, begun_with, learnt_none, types_in, unknown};
+ghost use Rattle.pg_learning.specs.Learning.{IsUnsought, Seeks, SeeksNames, SeeksOn, TakesRow, begun_with, learnt_none, types_in, unknown, unnamed_types};
 
 use crate::naming::{oids_under, push_unnumbered};
 use crate::pushing::{push_columns, push_names, push_oids};
@@ -59,6 +59,13 @@ impl Learnt {
             tables: TableCache::new(alloc),
             seeking: Seeking::Nothing,
         }
+    }
+
+    /// Forgets the OIDs that names of types have. What was looked up stays known by its OID. It takes no memory.
+    pub fn forget_names(&mut self)
+        ensures { self.new ≡ unnamed_types self.old }
+    {
+        self.types.forget_names();
     }
 
     // What isn't known of the types of parameters and of columns is asked for.

@@ -119,7 +119,10 @@ kept_so at learnt e k = record {
   columns = k.columns;
 }
 
-stands_so_at : (start : StreamSeen) (at : Place) (a : ConnSeen) (learnt : Learnt) → StandsAt start at a → StandsAt start (begun_at at learnt) (knowing learnt a)
+pub keeps_begun : (at : Place) (learnt : Learnt) → Keeps at → Keeps (begun_at at learnt)
+keeps_begun at learnt k = record { orderly = k.orderly; kept = each_by (IsKeptAt at) (IsKeptAt (begun_at at learnt)) (kept_so at learnt) _ k.kept }
+
+pub stands_so_at : (start : StreamSeen) (at : Place) (a : ConnSeen) (learnt : Learnt) → StandsAt start at a → StandsAt start (begun_at at learnt) (knowing learnt a)
 stands_so_at start at a learnt st = record {
   flows = st.flows;
   ledger = st.ledger;
@@ -182,7 +185,7 @@ begins_before start at a step x next learnt st k e looks =
       polled = (exchange_polled next).0;
       known = subst (λ (r : Request). KnownAt (widths_of r) (begun_at at learnt)) (sym (exchange_asks at.rule.depth next first.stands)) (before_known start (begun_at at learnt) (knowing learnt a) x next stands first.leads);
       fits = omega arith;
-      keeps = record { orderly = k.orderly; kept = each_by (IsKeptAt at) (IsKeptAt (begun_at at learnt)) (kept_so at learnt) _ k.kept };
+      keeps = keeps_begun at learnt k;
       sound = before_sound at.rule x next first.undescribed numbered first.leads;
       holds = before_holds (begun_at at learnt) x next first.undescribed first.leads;
     }

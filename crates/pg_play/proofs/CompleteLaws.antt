@@ -35,7 +35,7 @@ use Rattle.pg_script.specs.declared.step.Call.{Call}
 use Rattle.pg_rule.specs.declared.rule.Rule.{Rule}
 use Rattle.pg_play.proofs.ExchangeLaws.{IsOf, first_is_of, next_is_of, wants_so, before_is_of, describes_call}
 use Rattle.pg_play.proofs.SettleLaws.{left_frames, left_link}
-use Rattle.pg_play.specs.Plays.{Plays_call, Plays_exchange, Plays_exchanges, last_of, FirstIs, Hands, HandsOn, Plays_step, Plays_from, AsksForNoCopy, BeginsAs, begun_at}
+use Rattle.pg_play.specs.Plays.{Plays_call, Plays_exchange, Plays_exchanges, last_of, FirstIs, Hands, HandsOn, Plays_step, Plays_from, AsksForNoCopy, BeginsAs, begun_at, known_at}
 use Rattle.pg_call.specs.Replies.{awaits_first, awaits_run, begins_copy}
 use Rattle.pg_call.proofs.RefusedLaws.{IsPlain, closing_plain, copies_begin, plain_after}
 use Rattle.pg_script.specs.declared.step.Call.TheVariants as calls
@@ -239,17 +239,17 @@ are_of call at (s ∷ steps) (o ∷ outs) last run rule end asks of h k =
     (mine, are_of call run.0 steps outs last run.2 run.0.rule o.end run.1.settles.asks (λ part e c. next_is_of run.0.rule call s.call part run.1.call.told.response mine (comes_behind at s o run.0 run.1 part e c)) k.0 k.1)
 
 -- the first exchange, or what comes before it
-begins_of : (at : Place) (step : Step) (o : Option Extended) (groups : ℕ) (call : Call) (learnt : Learnt) → named_in (request_of at.rule.depth (first_call at.rule step.call)) ≡ o → BeginsAs o (first_call at.rule step.call) at.learnt groups call learnt → IsOf step.call call
-begins_of at step None groups call learnt n (same, l) = subst (IsOf step.call) (sym same) (first_is_of at.rule step.call)
-begins_of at step (Some x) groups call learnt n (inl (same, l, g)) = subst (IsOf step.call) (sym same) (first_is_of at.rule step.call)
-begins_of at step (Some x) groups call learnt n (inr (next, looks, is)) =
-    subst (IsOf step.call) (sym is) (before_is_of at.rule step.call x next at.learnt learnt (describes_call at.rule.depth (first_call at.rule step.call) x (named_is (request_of at.rule.depth (first_call at.rule step.call)) x n)) looks)
+begins_of : (at : Place) (step : Step) (o : Option Extended) (groups : ℕ) (call : Call) (known learnt : Learnt) → named_in (request_of at.rule.depth (first_call at.rule step.call)) ≡ o → BeginsAs o (first_call at.rule step.call) known groups call learnt → IsOf step.call call
+begins_of at step None groups call known learnt n (same, l) = subst (IsOf step.call) (sym same) (first_is_of at.rule step.call)
+begins_of at step (Some x) groups call known learnt n (inl (same, l, g)) = subst (IsOf step.call) (sym same) (first_is_of at.rule step.call)
+begins_of at step (Some x) groups call known learnt n (inr (next, looks, is)) =
+    subst (IsOf step.call) (sym is) (before_is_of at.rule step.call x next known learnt (describes_call at.rule.depth (first_call at.rule step.call) x (named_is (request_of at.rule.depth (first_call at.rule step.call)) x n)) looks)
 
 all_are_of : (step : Step) (origin : Place) (out : Outcome) (learnt : Learnt) (at : Place) (steps : List Step) (outs : List Outcome) (last : Place) (run : Plays_exchanges at steps outs last) → FirstIs origin step out learnt steps → HandsOn at steps outs last run → AreOf step.call steps
 all_are_of step origin out learnt at [] outs last run f k = tt
 all_are_of step origin out learnt at (s ∷ steps) [] last run f k = absurd run
 all_are_of step origin out learnt at (s ∷ steps) (o ∷ outs) last run f k =
-    let mine = begins_of origin step (named_in (request_of origin.rule.depth (first_call origin.rule step.call))) out.groups s.call learnt refl f.0 in
+    let mine = begins_of origin step (named_in (request_of origin.rule.depth (first_call origin.rule step.call))) out.groups s.call (known_at origin step) learnt refl f.0 in
     (mine, are_of step.call run.0 steps outs last run.2 run.0.rule o.end run.1.settles.asks (λ part e c. next_is_of run.0.rule step.call s.call part run.1.call.told.response mine (comes_behind at s o run.0 run.1 part e c)) k.0 k.1)
 
 fair_in : (first : LinkSeen) (call : Call) (before : Outcome) (at : Place) (steps : List Step) (outs : List Outcome) (next last : Place) → Holds first last → NoneFalls first at.seen.link → Plays_exchanges at steps outs next → LeadsTo next last → AreOf call steps

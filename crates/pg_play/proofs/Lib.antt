@@ -33,6 +33,7 @@ pub mod RefutedLaws
 mod KeptLaws
 mod NumberLaws
 pub mod BeforeLaws
+pub mod ForgetLaws
 mod FollowLaws
 mod NameLaws
 mod ChainLaws

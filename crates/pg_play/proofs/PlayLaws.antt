@@ -26,7 +26,7 @@ use Rattle.pg_call.specs.declared.calling.Call.TheVariants as states
 use Rattle.pg_rule.specs.declared.rule.Rule.{Rule}
 use Rattle.pg_conn.specs.Statements.{asked_by, begun_as, held_by, unmoved}
 use Rattle.pg_conn.specs.Turns.{first_exchange}
-use Rattle.pg_conn.specs.Connections.{ConnSeen, cleaned, counted_anew, ended as ended_conn, fresh_connection, with_depth, with_spare, left}
+use Rattle.pg_conn.specs.Connections.{ConnSeen, cleaned, counted_anew, ended as ended_conn, fresh_connection, learnt_for, with_depth, with_spare, left}
 use Rattle.pg_report.specs.declared.outcome.Item.{Item}
 use Rattle.pg_report.specs.declared.outcome.Answer.TheVariants.{Unit as AnswersUnit}
 use Rattle.pg_report.specs.declared.outcome.End.{End}
@@ -48,7 +48,7 @@ use Rattle.pg_play.specs.WaitPlaces.{LastPlaces}
 use Rattle.pg_play.specs.Chained.{AreChained, IsChained}
 use Rattle.pg_play.specs.Locks.{Guards}
 use Rattle.pg_play.proofs.LockLaws.{settles_release}
-use Rattle.pg_play.specs.Plays.{IsNeverUnlawful, Plays_call, ActsAtOnce, Plays_step, Plays_from, places_in, TakesInTime, StandsAt, PlaysOn, PlaysInOrder, PlaysChain, PlaysAll, TellsBytes, PlaysCalls, Plays, Totals, KeepsRoom, over, BeginsAs, begun_at}
+use Rattle.pg_play.specs.Plays.{IsNeverUnlawful, Plays_call, ActsAtOnce, Plays_step, Plays_from, places_in, TakesInTime, StandsAt, PlaysOn, PlaysInOrder, PlaysChain, PlaysAll, TellsBytes, PlaysCalls, Plays, Totals, KeepsRoom, over, BeginsAs, begun_at, forgets_at, known_at}
 use Rattle.pg_play.specs.Starts.{Opening, IsOf, HasOpened, HasWaitedLess}
 use Rattle.pg_startup.proofs.FlowLaws.{Flows-none}
 use Rattle.pg_play.proofs.PartLaws.{take_none}
@@ -79,8 +79,10 @@ use Rattle.pg_play.proofs.CompleteLaws.{where_faultless}
 use Rattle.pg_play.proofs.InTurnLaws.{AddUp, exchange_of, add_none, add_one, add_alone, counts_settled, InTurn, one_turn, BeginsAt, PlaysInTurn, same_but_groups, last_turn, turns_through}
 use Rattle.pg_play.proofs.WaitPlaceLaws.{places_quiet, places_last, given_next, takes_all}
 use Rattle.pg_learning.specs.declared.learnt.Learnt.{Learnt}
+use Rattle.pg_learning.specs.Learning.{unnamed_types}
 use Rattle.pg_conn.specs.Looking.{named_in, LooksUp}
-use Rattle.pg_play.proofs.BeforeLaws.{before_first, looked_begun, begins_before, dropped_before, duly_looked}
+use Rattle.pg_play.proofs.BeforeLaws.{before_first, looked_begun, begins_before, dropped_before, duly_looked, keeps_begun, stands_so_at}
+use Rattle.pg_play.proofs.ForgetLaws.{begins_forgotten, forgets_so, knows_act, knows_query, knows_savepoint, knows_unpolled}
 use Rattle.pg_play.proofs.ThroughLaws.{named_is}
 use Rattle.pg_call.specs.declared.request.Request.TheVariants as requests
 
@@ -102,17 +104,17 @@ begins_plain None first at groups g = (refl, refl)
 begins_plain (Some x) first at groups g = inl (refl, refl, g x refl)
 
 -- its exchanges come in turn, and their numbers are told in sum
-steps_to : (start : StreamSeen) (at : Place) (step : Step) (out : Outcome) (stop : Place) (d : ConnSeen) (learnt : Learnt) (call : Call) → BeginsAs (named_in (request_of at.rule.depth (first_call at.rule step.call))) (first_call at.rule step.call) at.learnt out.groups call learnt
+steps_to : (start : StreamSeen) (at : Place) (step : Step) (out : Outcome) (stop : Place) (d : ConnSeen) (learnt : Learnt) (call : Call) → known_at at step ≡ at.learnt → BeginsAs (named_in (request_of at.rule.depth (first_call at.rule step.call))) (first_call at.rule step.call) at.learnt out.groups call learnt
     → InTurn start (begun_at at learnt) step call none_counted out stop d → out.waits < 2 ^ 32 → d.stream.link.calls ≤ at.seen.link.calls + 256 * (step.polls + step.most) → (out.end ≡ ends.Dropped → IsDropped at step out stop)
     → (acts_at_once step.call ≡ true → ActsAtOnce at out stop) → (acts_at_once step.call ≡ false → EndsDuly at step (request_of at.rule.depth (first_call at.rule step.call)) out stop) → StepsTo start at step out d
-steps_to start at step out stop d learnt call begins t few calls dropped now duly = (
+steps_to start at step out stop d learnt call knows begins t few calls dropped now duly = (
   t.next,
   record {
     exchanges = exchange_of step call ∷ t.later;
     outs = t.told ∷ t.outs;
     learnt = learnt;
     run = t.run;
-    first = (begins, refl);
+    first = (subst (λ (l : Learnt). BeginsAs (named_in (request_of at.rule.depth (first_call at.rule step.call))) (first_call at.rule step.call) l out.groups call learnt) (sym knows) begins, refl);
     limits = ((refl, refl), t.limits);
     hands = t.hands;
     tells = record {
@@ -166,10 +168,10 @@ begins_first start at a step st k later = record {
 }
 
 -- what its exchanges came to is the step's
-polled_turns : (start : StreamSeen) (at : Place) (a b : ConnSeen) (step : Step) (out : Outcome) (stop : Place) → StandsAt start at a → acts_at_once step.call ≡ false → step.polls < 2 ^ 32 → PlaysInTurn start (begun_call (request_of at.rule.depth (first_call at.rule step.call)) a).stream at step (first_call at.rule step.call) none_counted out stop b
+polled_turns : (start : StreamSeen) (at : Place) (a b : ConnSeen) (step : Step) (out : Outcome) (stop : Place) → known_at at step ≡ at.learnt → StandsAt start at a → acts_at_once step.call ≡ false → step.polls < 2 ^ 32 → PlaysInTurn start (begun_call (request_of at.rule.depth (first_call at.rule step.call)) a).stream at step (first_call at.rule step.call) none_counted out stop b
     → ((x : Extended) → named_in (request_of at.rule.depth (first_call at.rule step.call)) ≡ Some x → out.groups ≡ 0) → EndsDuly at step (request_of at.rule.depth (first_call at.rule step.call)) out stop → StepsTo start at step out b
-polled_turns start at a b step out stop st later p o asks duly =
-    steps_to start at step out stop b at.learnt (first_call at.rule step.call) (begins_plain (named_in (request_of at.rule.depth (first_call at.rule step.call))) (first_call at.rule step.call) at.learnt out.groups asks) o.turns (omega (arith, o.waits, p)) (omega (arith, o.calls, ap (λ (x : StreamSeen). x.link.calls) st.seen)) o.dropped (λ now. let x = sym later ∙ now in absurd cc)
+polled_turns start at a b step out stop knows st later p o asks duly =
+    steps_to start at step out stop b at.learnt (first_call at.rule step.call) knows (begins_plain (named_in (request_of at.rule.depth (first_call at.rule step.call))) (first_call at.rule step.call) at.learnt out.groups asks) o.turns (omega (arith, o.waits, p)) (omega (arith, o.calls, ap (λ (x : StreamSeen). x.link.calls) st.seen)) o.dropped (λ now. let x = sym later ∙ now in absurd cc)
     (λ x. duly)
 
 -- what is told of a connection by its groups, where its call asked nothing
@@ -186,10 +188,10 @@ named_idles None limits first a m r said fs shown end x w g e n ended ends =
 named_idles (Some fault) limits first a m r said fs shown end x w g e n ended (is, s, hs, sh, idle) =
     (groups_of_idle a m g e (ap (λ (c : ConnSeen). c.groups) idle) (ap (λ (c : ConnSeen). c.earlier) idle), ap is_fine is)
 
-polled_plain : (start : StreamSeen) (at : Place) (a b : ConnSeen) (step : Step) (out : Outcome) → StandsAt start at a → Keeps at → (IsUnpolled step → ⊥) → (OpensSavepoint at step → ⊥) → acts_at_once step.call ≡ false → step.polls < 2 ^ 32
+polled_plain : (start : StreamSeen) (at : Place) (a b : ConnSeen) (step : Step) (out : Outcome) → known_at at step ≡ at.learnt → StandsAt start at a → Keeps at → (IsUnpolled step → ⊥) → (OpensSavepoint at step → ⊥) → acts_at_once step.call ≡ false → step.polls < 2 ^ 32
     → OfLastOn step.polls (begun_call (request_of at.rule.depth (first_call at.rule step.call)) a).stream (λ x asked. PlaysOne (limits_of step) (begun_call (request_of at.rule.depth (first_call at.rule step.call)) a).stream x b asked out) (begun_call (request_of at.rule.depth (first_call at.rule step.call)) a) (request_of at.rule.depth (first_call at.rule step.call))
     → StepsTo start at step out b
-polled_plain start at a b step out st k n opens later p ([], (m, (said, fs, ends, last), over, so, outcome)) =
+polled_plain start at a b step out knows st k n opens later p ([], (m, (said, fs, ends, last), over, so, outcome)) =
     let call = first_call at.rule step.call in
     let parts = first_parts at.rule step.call in
     let e = subst (λ (q : Parting). Ended (record { polls = step.polls; most = step.most; parting = q }) (begun_call (request_of at.rule.depth call) a).stream (begun_call (request_of at.rule.depth call) a) m (request_of at.rule.depth call) out.items out.end said fs) (sym parts) ends in
@@ -206,24 +208,24 @@ polled_plain start at a b step out st k n opens later p ([], (m, (said, fs, ends
     let asks_none = λ (x : Extended) (named : named_in r ≡ Some x). (
     let idles = named_idles a.broken (limits_of step) begun.stream begun m r said fs out.items out.end x refl refl refl named ends ends.ends in
     subst (λ (c : ConnSeen). (all_groups (behind_end out.end c) ≡ 0) × ((behind_end out.end c).cache ≡ m.cache)) (sym (turn.2 idles.0)) (still_made out.end m idles.0 idles.1)).0 in
-    let steps : StepsTo start at step real d = polled_turns start at a d step real stop st later p turn.0 asks_none (duly_out at step r raw real stop turn.1 (λ z f. subst (λ (c : ConnSeen). (all_groups (behind_end out.end c) ≡ 0) × ((behind_end out.end c).cache ≡ m.cache)) (sym (turn.2 z)) (still_made out.end m z f))
+    let steps : StepsTo start at step real d = polled_turns start at a d step real stop knows st later p turn.0 asks_none (duly_out at step r raw real stop turn.1 (λ z f. subst (λ (c : ConnSeen). (all_groups (behind_end out.end c) ≡ 0) × ((behind_end out.end c).cache ≡ m.cache)) (sym (turn.2 z)) (still_made out.end m z f))
     (λ z c. subst (λ (x : ConnSeen). (all_groups (behind_end out.end x) ≡ 0) × ((behind_end out.end x).cache ≡ m.cache)) (sym (turn.2 z)) (plainly_made out.end m z (ap (λ (x : Standing). x.keeping) e.went.started.3 ∙ ap (λ (y : Call). keeping_of (request_of at.rule.depth (first_call at.rule y))) c))) dues) in
     subst (λ (x : Outcome). StepsTo start at step x b) (sym (outcome ∙ ap (λ (x : ConnSeen). outcome_of x out.items out.end) is)) (subst (λ (x : ConnSeen). StepsTo start at step real x) (sym is) steps)
-polled_plain start at a b step out st k n opens later p (next ∷ more, played) =
+polled_plain start at a b step out knows st k n opens later p (next ∷ more, played) =
     let r = request_of at.rule.depth (first_call at.rule step.call) in
     let t = turns_through (next ∷ more) start (begun_call r a).stream none_counted at a b step (first_call at.rule step.call) out (begins_first start at a step st k later) p refl refl (polled_most step n) (first_parts at.rule step.call) played in
-    polled_turns start at a b step out t.0 st later p t.1 (λ x named. absurd (played.1.handed.unsaid (inr (x, named))))
+    polled_turns start at a b step out t.0 knows st later p t.1 (λ x named. absurd (played.1.handed.unsaid (inr (x, named))))
     (duly_handed start at t.0 a played.0 step r played.1.told out st n opens played.1.handed (λ x. ap (λ (y : Call). request_of at.rule.depth (first_call at.rule y)) x) t.1.few (λ w. t.1.most (first_waits at.rule step.call w)))
 
 -- where something is looked up first, the exchanges begin with what is known then
-polled_step : (start : StreamSeen) (at : Place) (a b : ConnSeen) (step : Step) (out : Outcome) → StandsAt start at a → Keeps at → (IsUnpolled step → ⊥) → (OpensSavepoint at step → ⊥) → acts_at_once step.call ≡ false → step.polls < 2 ^ 32
+polled_step : (start : StreamSeen) (at : Place) (a b : ConnSeen) (step : Step) (out : Outcome) → known_at at step ≡ at.learnt → StandsAt start at a → Keeps at → (IsUnpolled step → ⊥) → (OpensSavepoint at step → ⊥) → acts_at_once step.call ≡ false → step.polls < 2 ^ 32
     → PlaysCall (limits_of step) (begun_call (request_of at.rule.depth (first_call at.rule step.call)) a) b (request_of at.rule.depth (first_call at.rule step.call)) out → StepsTo start at step out b
-polled_step start at a b step out st k n opens later p (from, asked, inl (f, q), on) =
+polled_step start at a b step out knows st k n opens later p (from, asked, inl (f, q), on) =
     let r = request_of at.rule.depth (first_call at.rule step.call) in
     let begun = begun_call r a in
-    polled_plain start at a b step out st k n opens later p
+    polled_plain start at a b step out knows st k n opens later p
     (subst (λ (x : Request). OfLastOn step.polls begun.stream (λ y z. PlaysOne (limits_of step) begun.stream y b z out) begun x) q (subst (λ (x : ConnSeen). OfLastOn step.polls begun.stream (λ y z. PlaysOne (limits_of step) begun.stream y b z out) x asked) f on))
-polled_step start at a b step out st k n opens later p (from, asked, inr h, on) = by (named_in (request_of at.rule.depth (first_call at.rule step.call))) refl h
+polled_step start at a b step out knows st k n opens later p (from, asked, inr h, on) = by (named_in (request_of at.rule.depth (first_call at.rule step.call))) refl h
   where
     r : Request
     r = request_of at.rule.depth (first_call at.rule step.call)
@@ -244,7 +246,7 @@ polled_step start at a b step out st k n opens later p (from, asked, inr h, on) 
         let t = turns_through on_so.0 start begun.stream none_counted (begun_at at learnt) known b step (exchange_for next) out (begins_before start at a step x next learnt st k e looks_so) p refl refl (polled_most step n)
         (first.parts ∙ first_parts at.rule step.call) on_so.1 in
         let o = t.1 in
-        steps_to start at step out t.0 b learnt (exchange_for next) (subst (λ (z : Option Extended). BeginsAs z (first_call at.rule step.call) at.learnt out.groups (exchange_for next) learnt) (sym e) (inr (next, looks_so, refl))) o.turns (omega (arith, o.waits, p))
+        steps_to start at step out t.0 b learnt (exchange_for next) knows (subst (λ (z : Option Extended). BeginsAs z (first_call at.rule step.call) at.learnt out.groups (exchange_for next) learnt) (sym e) (inr (next, looks_so, refl))) o.turns (omega (arith, o.waits, p))
         (omega (arith, o.calls, ap (λ (y : StreamSeen). y.link.calls) st.seen)) (λ z. dropped_before (parting_of step.call) at learnt step out t.0 (o.dropped z)) (λ now. let y = sym later ∙ now in absurd cc)
         (λ y. duly_looked at step r out t.0 x n opens (sym st.broken ∙ whole) can e (λ c. ap (λ (z : Call). request_of at.rule.depth (first_call at.rule z)) c) o.few (λ w. o.most (ap waits_how first.how ∙ first_waits at.rule step.call w)))
 
@@ -372,9 +374,9 @@ over_same cache.Put = refl
 over_same cache.PutEvicting = refl
 
 -- and the connection makes nothing of it
-quiet_step : (start : StreamSeen) (at : Place) (a : ConnSeen) (step : Step) (out : Outcome) (end : End) → StandsAt start at a → Keeps at → acts_at_once step.call ≡ false → is_fine end ≡ false → out ≡ untouched end → IsQuiet end → (one : Plays_call at (first_step at.rule step) out at) → one.own ≡ [] → (out.end ≡ ends.Dropped → IsDropped at step out at)
+quiet_step : (start : StreamSeen) (at : Place) (a : ConnSeen) (step : Step) (out : Outcome) (end : End) → known_at at step ≡ at.learnt → StandsAt start at a → Keeps at → acts_at_once step.call ≡ false → is_fine end ≡ false → out ≡ untouched end → IsQuiet end → (one : Plays_call at (first_step at.rule step) out at) → one.own ≡ [] → (out.end ≡ ends.Dropped → IsDropped at step out at)
     → EndsDuly at step (request_of at.rule.depth (first_call at.rule step.call)) out at → StepsTo start at step out a
-quiet_step start at a step out end st kept later f k q one none dropped duly =
+quiet_step start at a step out end knows st kept later f k q one none dropped duly =
     let ends_so : out.end ≡ end = ap (λ (x : Outcome). x.end) k in
     let groups : out.groups ≡ 0 = ap (λ (x : Outcome). x.groups) k in
     let waits : acts_at_once (first_call at.rule step.call) ≡ false = first_acts at.rule step.call ∙ later in
@@ -403,7 +405,7 @@ quiet_step start at a step out end st kept later f k q one none dropped duly =
     let none_waits : out.waits ≡ 0 = ap (λ (x : Outcome). x.waits) k in
     let leaves : LeavesCopy call one.own out.end at at = subst (λ (own : List Group). LeavesCopy call own out.end at at) (sym none) (leaves_none call [] out.end at (fails_nothing call out.end).0 (fails_nothing call out.end).1) in
     let turns = one_turn start at at at at a step (first_call at.rule step.call) none_counted out out out one leaves (quiet_lawful at out (subst IsQuiet (sym ends_so) q)) (places_quiet at out (ap (λ (x : Outcome). x.waits) k)) (NoneFalls-refl at.seen.link) settles st kept refl refl (add_alone out) (over_same out.cache) refl in
-    steps_to start at step out at a at.learnt (first_call at.rule step.call) (begins_plain (named_in (request_of at.rule.depth (first_call at.rule step.call))) (first_call at.rule step.call) at.learnt out.groups (λ x e. groups)) turns (omega (arith, none_waits)) (omega (arith, ap (λ (x : StreamSeen). x.link.calls) st.seen)) dropped (λ now. let x = sym later ∙ now in absurd cc) (λ x. duly)
+    steps_to start at step out at a at.learnt (first_call at.rule step.call) knows (begins_plain (named_in (request_of at.rule.depth (first_call at.rule step.call))) (first_call at.rule step.call) at.learnt out.groups (λ x e. groups)) turns (omega (arith, none_waits)) (omega (arith, ap (λ (x : StreamSeen). x.link.calls) st.seen)) dropped (λ now. let x = sym later ∙ now in absurd cc) (λ x. duly)
 
 quiet_most : (step : Step) (out : Outcome) (end : End) → out ≡ untouched end → (out.end ≢ ends.Dropped → 0 < step.most) → WithinMost out.end out.items step.most
 quiet_most step out end k m = let z : length out.items ≡ 0 = ap (λ (x : Outcome). length x.items) k in (λ n. omega (arith, z, m n), omega (arith, z))
@@ -498,26 +500,51 @@ acted_step start at a b step st kept acts settled =
     let turns = one_turn start at at settled.left settled.next b step (first_call at.rule step.call) none_counted told settled.out (rolled_outcome b) one settled.leaves (quiet_lawful at told (inr (inr (inr refl)))) (places_quiet at told refl) (NoneFalls-refl at.seen.link) settled.settles settled.stands
     (keeps_next at at settled.left settled.next first told settled.out one settled.leaves settled.settles kept (first_sound at.rule step.call) (first_holds at at.rule step.call) (λ x d f. absurd (acts_none first.call x now d))).0
     (sym (ap (λ (x : Outcome). x.items) k)) (sym (ap (λ (x : Outcome). x.end) k)) adds settled.others.4 settled.asked in
-    steps_to start at step (rolled_outcome b) at b at.learnt (first_call at.rule step.call)
+    steps_to start at step (rolled_outcome b) at b at.learnt (first_call at.rule step.call) (knows_act at step acts)
     (begins_plain (named_in (request_of at.rule.depth (first_call at.rule step.call))) (first_call at.rule step.call) at.learnt (all_groups b) (λ x e. absurd (acts_unnamed at.rule.depth (first_call at.rule step.call) x now e))) turns (omega (arith, settled.others.1)) (omega (arith, ap (λ (x : StreamSeen). x.link.calls) settled.stands.seen, ap (λ (x : StreamSeen). x.link.calls) settled.settles.seen, ap (λ (x : LinkSeen). x.calls) (left_link first.call [] (ends.Ok AnswersUnit) at settled.left settled.leaves))) (λ x. absurd cc) (λ w. (rolled_so, refl)) (λ later. let x = sym later ∙ acts in absurd cc)
 
 -- a call on a connection on which none ran begins with the exchange that the place tells
-first_begun : (a : ConnSeen) (request : Request) → a.call ≡ states.Idle → IsWanted request → first_conn request a ≡ begun_call (first_exchange request a) a
+first_begun : (a : ConnSeen) (request : Request) → a.call ≡ states.Idle → IsWanted request → first_conn request a ≡ begun_call (first_exchange request a) (knowing (learnt_for request a.broken a.learnt) a)
 first_begun a request over w =
     let idles : left a ≡ a = left_idle a over in
     let change : change_fed request (change_of (kind_of request)) ≡ change_for (first_exchange request a) = first_changes (left a).rule request w in
     let held : held_by (left a).rule (begun_as (left a).rule request) ≡ (left a).rule = wanted_held (left a).rule request w in
     ap₂ (λ (c : Change) (k : Rule). record (first_conn request a) { change = c; rule = k }) change held
-    ∙ ap (λ (x : ConnSeen). begun_call (first_exchange request a) x) idles
+    ∙ ap (λ (x : ConnSeen). begun_call (first_exchange request a) (knowing (learnt_for request x.broken x.learnt) x)) idles
 
 begins_played : (start : StreamSeen) (at : Place) (a b : ConnSeen) (step : Step) (out : Outcome) → StandsAt start at a → PlaysCall (limits_of step) (first_conn (asked_of at.rule.depth step.call) a) b (first_exchange (asked_of at.rule.depth step.call) a) out
-    → PlaysCall (limits_of step) (begun_call (request_of at.rule.depth (first_call at.rule step.call)) a) b (request_of at.rule.depth (first_call at.rule step.call)) out
+    → PlaysCall (limits_of step) (begun_call (request_of at.rule.depth (first_call at.rule step.call)) (knowing (learnt_for (asked_of at.rule.depth step.call) a.broken a.learnt) a)) b (request_of at.rule.depth (first_call at.rule step.call)) out
 begins_played start at a b step out st played =
     let request = asked_of at.rule.depth step.call in
     let rule : (left a).rule ≡ at.rule = ap (λ (c : ConnSeen). c.rule) (left_idle a st.idle) ∙ st.rule in
     let same : first_exchange request a ≡ request_of at.rule.depth (first_call at.rule step.call) = ap (λ (k : Rule). asked_by k (begun_as k request)) rule ∙ sym (first_request at.rule at.rule.depth step.call) in
-    subst (λ (q : Request). PlaysCall (limits_of step) (begun_call q a) b q out) same
+    subst (λ (q : Request). PlaysCall (limits_of step) (begun_call q (knowing (learnt_for request a.broken a.learnt) a)) b q out) same
     (subst (λ (x : ConnSeen). PlaysCall (limits_of step) x b (first_exchange request a) out) (first_begun a request st.idle (asked_wanted at.rule.depth step.call)) played)
+
+-- a call that was polled, which may have begun with the names of types forgotten
+polled_begun : (start : StreamSeen) (at : Place) (a b : ConnSeen) (step : Step) (out : Outcome) → StandsAt start at a → Keeps at → (IsUnpolled step → ⊥) → (OpensSavepoint at step → ⊥) → acts_at_once step.call ≡ false → step.polls < 2 ^ 32
+    → PlaysCall (limits_of step) (first_conn (asked_of at.rule.depth step.call) a) b (first_exchange (asked_of at.rule.depth step.call) a) out → StepsTo start at step out b
+polled_begun start at a b step out st k n opens later p played = by (forgets_at at step) refl
+  where
+    asked : Request
+    asked = asked_of at.rule.depth step.call
+
+    r : Request
+    r = request_of at.rule.depth (first_call at.rule step.call)
+
+    begun : (learnt : Learnt) → learnt_for asked a.broken a.learnt ≡ learnt → PlaysCall (limits_of step) (begun_call r (knowing learnt a)) b r out
+    begun learnt e = subst (λ (l : Learnt). PlaysCall (limits_of step) (begun_call r (knowing l a)) b r out) e (begins_played start at a b step out st played)
+
+    learns : (now : Bool) → forgets_at at step ≡ now → learnt_for asked a.broken a.learnt ≡ cond now (unnamed_types a.learnt) a.learnt
+    learns now e = ap (λ (x : Bool). cond x (unnamed_types a.learnt) a.learnt) (forgets_so at step a.broken n st.broken ∙ e)
+
+    by : (now : Bool) → forgets_at at step ≡ now → StepsTo start at step out b
+    by false e = polled_step start at a b step out (ap (λ (x : Bool). cond x (unnamed_types at.learnt) at.learnt) e) st k n opens later p (begun a.learnt (learns false e))
+    by true e =
+        let known : Learnt = unnamed_types at.learnt in
+        let so : StepsTo start (begun_at at known) step out b = polled_step start (begun_at at known) (knowing known a) b step out (ap (λ (x : Bool). cond x (unnamed_types known) known) e) (stands_so_at start at a known st) (keeps_begun at known k) n opens later p
+        (begun known (learns true e ∙ ap (λ (l : Learnt). unnamed_types l) st.learnt)) in
+        (so.0, begins_forgotten at step out so.0 e k n opens later so.1, so.2, so.3)
 
 -- an error is no drop
 undropped : {P : Type 0} (out : Outcome) (e : Error) → out ≡ untouched (ends.Err e) → out.end ≡ ends.Dropped → P
@@ -530,19 +557,19 @@ plays_step start at a b step out st kept l (inl (inl (c, is, k))) =
 plays_step start at a b step out st kept l (inl (inr r)) =
     subst (λ (x : Outcome). StepsTo start at step x b) (sym r.tells) (acted_step start at a b step st kept (ap acts_at_once r.asks) (settles_release start at a b (first_step at.rule step) r.text st (ap (first_call at.rule) r.asks) r.lawful r.held r.behind))
 plays_step start at a b step out st kept l (inr (later, inl (u, is, k))) =
-    subst (λ (x : ConnSeen). StepsTo start at step out x) (sym is) (quiet_step start at a step out ends.Dropped st kept later refl k (inl refl) (unpolled_call at (first_step at.rule step) out u (first_acts at.rule step.call ∙ later) k) refl (λ x. unpolled_drops at step out at u) (unpolled_duly at step (request_of at.rule.depth (first_call at.rule step.call)) out u k))
+    subst (λ (x : ConnSeen). StepsTo start at step out x) (sym is) (quiet_step start at a step out ends.Dropped (knows_unpolled at step u) st kept later refl k (inl refl) (unpolled_call at (first_step at.rule step) out u (first_acts at.rule step.call ∙ later) k) refl (λ x. unpolled_drops at step out at u) (unpolled_duly at step (request_of at.rule.depth (first_call at.rule step.call)) out u k))
 plays_step start at a b step out st kept l (inr (later, inr (n, p, inl (opens, is, k)))) =
     let asked : OpensSavepoint at step = (opens.0, omega (arith, opens.1, depth_stands start at a st)) in
-    subst (λ (x : ConnSeen). StepsTo start at step out x) (sym is) (quiet_step start at a step out (ends.Err errors.InvalidSavePointStatement) st kept later refl k (inr (inr (inl refl))) (refused_call at (first_step at.rule step) out (first_acts at.rule step.call ∙ later) (first_begins_with at.rule step.call ∙ asked.0, asked.1) k) refl (undropped out errors.InvalidSavePointStatement k)
+    subst (λ (x : ConnSeen). StepsTo start at step out x) (sym is) (quiet_step start at a step out (ends.Err errors.InvalidSavePointStatement) (knows_savepoint at step opens.0) st kept later refl k (inr (inr (inl refl))) (refused_call at (first_step at.rule step) out (first_acts at.rule step.call ∙ later) (first_begins_with at.rule step.call ∙ asked.0, asked.1) k) refl (undropped out errors.InvalidSavePointStatement k)
     (refused_duly at step (request_of at.rule.depth (first_call at.rule step.call)) out n asked k))
 plays_step start at a b step out st kept l (inr (later, inr (n, p, inr (opens, inl (is, k, h))))) =
-    subst (λ (x : ConnSeen). StepsTo start at step out x) (sym is) (quiet_step start at a step out (ends.Err errors.OutOfMemory) st kept later refl k (inr (inl refl)) (unmade_call at (first_step at.rule step) out (first_acts at.rule step.call ∙ later) k) refl (undropped out errors.OutOfMemory k) (unmade_duly at step (request_of at.rule.depth (first_call at.rule step.call)) out n (opens_not at a step st opens) h k))
+    subst (λ (x : ConnSeen). StepsTo start at step out x) (sym is) (quiet_step start at a step out (ends.Err errors.OutOfMemory) (knows_query at step h) st kept later refl k (inr (inl refl)) (unmade_call at (first_step at.rule step) out (first_acts at.rule step.call ∙ later) k) refl (undropped out errors.OutOfMemory k) (unmade_duly at step (request_of at.rule.depth (first_call at.rule step.call)) out n (opens_not at a step st opens) h k))
   where
     opens_not : (at : Place) (a : ConnSeen) (step : Step) → StandsAt start at a → ((begins_with step.call ≡ true) × (0 < a.rule.depth) → ⊥) → OpensSavepoint at step → ⊥
     opens_not at a step st f o = f (o.0, omega (arith, o.1, depth_stands start at a st))
 plays_step start at a b step out st kept l (inr (later, inr (n, p, inr (opens, inr played)))) =
-    polled_step start at a b step out st kept n (λ o. opens (o.0, omega (arith, o.1, depth_stands start at a st))) later p
-    (begins_played start at a b step out st (subst (λ (d : ℕ). PlaysCall (limits_of step) (first_conn (asked_of d step.call) a) b (first_exchange (asked_of d step.call) a) out) (depth_stands start at a st) played))
+    polled_begun start at a b step out st kept n (λ o. opens (o.0, omega (arith, o.1, depth_stands start at a st))) later p
+    (subst (λ (d : ℕ). PlaysCall (limits_of step) (first_conn (asked_of d step.call) a) b (first_exchange (asked_of d step.call) a) out) (depth_stands start at a st) played)
 
 -- ---- steps one after another
 

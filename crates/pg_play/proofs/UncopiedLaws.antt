@@ -24,7 +24,7 @@ use Rattle.pg_play.specs.Shown.{exchange_for, first_as, first_call, is_fed, next
 use Rattle.pg_play.specs.Places.{Place, Queues, owed}
 use Rattle.pg_play.specs.Copying.{fails}
 use Rattle.pg_play.specs.Settling.{cleanup_of, release_at, rollback_at}
-use Rattle.pg_play.specs.Plays.{CopyNone, FirstIs, HandsOn, Plays_exchange, Plays_exchanges, Plays_from, Plays_step, BeginsAs, begun_at}
+use Rattle.pg_play.specs.Plays.{CopyNone, FirstIs, HandsOn, Plays_exchange, Plays_exchanges, Plays_from, Plays_step, BeginsAs, begun_at, known_at}
 use Rattle.pg_play.proofs.PlaceLaws.{all_split, plain_asked}
 use Rattle.pg_learning.specs.declared.learnt.Learnt.{Learnt}
 use Rattle.pg_call.specs.declared.statement.Extended.{Extended}
@@ -166,7 +166,7 @@ step_on at step out next one n p = by one.exchanges refl
     by [] e = let f = one.first in absurd (subst (λ (x : List Step). FirstIs at step out one.learnt x) e f)
     by (first ∷ later) e =
         let f = subst (λ (x : List Step). FirstIs at step out one.learnt x) e one.first in
-        exchanges_on (begun_at at one.learnt) one.exchanges one.outs next one.run (handed_plain (begun_at at one.learnt) one.exchanges one.outs next one.run first later e (begins_plain (named_in (request_of at.rule.depth (first_call at.rule step.call))) (first_call at.rule step.call) at.learnt out.groups first.call one.learnt (first_plain at.rule step.call n) f.0) one.hands) p
+        exchanges_on (begun_at at one.learnt) one.exchanges one.outs next one.run (handed_plain (begun_at at one.learnt) one.exchanges one.outs next one.run first later e (begins_plain (named_in (request_of at.rule.depth (first_call at.rule step.call))) (first_call at.rule step.call) (known_at at step) out.groups first.call one.learnt (first_plain at.rule step.call n) f.0) one.hands) p
 
 pub calls_plain : (at : Place) (steps : List Step) (outs : List Outcome) (last : Place) → Plays_from at steps outs last → CopyNone steps → IsPlain at → IsPlain last
 calls_plain at [] [] last run n p = subst IsPlain (sym run) p

@@ -1,5 +1,5 @@
 -- The theorem of a play.
-use Rattle.std.specs.Prelude.{◌≡◌, ◌≢◌, ◌⊎◌, ℕ, ◌+◌, ◌*◌, ◌<◌, false, List, [], ◌∷◌, ◌++◌, length, map, flat_map, Option, Some, None, Ok, sum_by, count_by, ◌≤◌, true, ◌-◌, ◌^◌}
+use Rattle.std.specs.Prelude.{◌≡◌, ◌≢◌, ◌⊎◌, ◌&&◌, ◌||◌, not, nat_eq, is_some, if◌then◌else◌, Bool, ℕ, ◌+◌, ◌*◌, ◌<◌, false, List, [], ◌∷◌, ◌++◌, length, map, flat_map, Option, Some, None, Ok, sum_by, count_by, ◌≤◌, true, ◌-◌, ◌^◌}
 use Rattle.pg_play.specs.Idles.{KeepsOrder, SaysIdle, statuses}
 use Rattle.pg_report.specs.declared.outcome.Answer.TheVariants.{Unit as AnswersUnit}
 use Rattle.pg_play.specs.Calls.{PlaysStep, untouched}
@@ -29,8 +29,10 @@ use Rattle.pg_call.specs.declared.request.Request.{Request}
 use Rattle.pg_call.specs.declared.request.Request.TheVariants as requests
 use Rattle.pg_call.specs.declared.statement.Extended.{Extended}
 use Rattle.pg_learning.specs.declared.learnt.Learnt.{Learnt}
+use Rattle.pg_learning.specs.Learning.{unnamed_types}
 use Rattle.pg_conn.specs.Looking.{LooksUp, named_in}
 use Rattle.pg_script.specs.declared.step.Call.{Call}
+use Rattle.pg_script.specs.declared.step.Call.TheVariants as script_calls
 use Rattle.pg_call.specs.declared.calling.Call.TheVariants as calls
 use Rattle.pg_call.specs.Requests.{Group, said_in, spelled}
 use Rattle.pg_call.specs.Drains.{is_copy_in, after_readys}
@@ -129,6 +131,17 @@ last_of before (out ∷ outs) = last_of out outs
 
 -- ---- a step: exchanges one after another
 
+-- a call that closes the statements that are kept forgets the names of types as it begins: where it is polled, and the connection is whole
+abbrev pub clears : Call → Bool
+clears script_calls.Clear = true
+clears call = false
+
+abbrev pub forgets_at : Place → Step → Bool
+forgets_at at step = clears step.call && (not (nat_eq step.polls 0 || nat_eq step.most 0) && not (is_some at.broken))
+
+abbrev pub known_at : Place → Step → Learnt
+known_at at step = if forgets_at at step then unnamed_types at.learnt else at.learnt
+
 -- The first exchange is that of the call, and nothing was learnt before it. Where a statement has types that are known by their names alone, that one asks
 -- nothing of the server, or what has to be looked up for it is asked before, or it is asked with their OIDs.
 abbrev pub BeginsAs : Option Extended → Call → Learnt → ℕ → Call → Learnt → Type 0
@@ -139,7 +152,7 @@ BeginsAs (Some x) first at groups call learnt = ((call ≡ first) × (learnt ≡
 abbrev pub FirstIs : Place → Step → Outcome → Learnt → List Step → Type 0
 FirstIs at step out learnt [] = ⊥
 FirstIs at step out learnt (first ∷ later) =
-    BeginsAs (named_in (request_of at.rule.depth (first_call at.rule step.call))) (first_call at.rule step.call) at.learnt out.groups first.call learnt × (first ≡ record step { call = first.call })
+    BeginsAs (named_in (request_of at.rule.depth (first_call at.rule step.call))) (first_call at.rule step.call) (known_at at step) out.groups first.call learnt × (first ≡ record step { call = first.call })
 
 -- the exchanges begin with so much learnt
 abbrev pub begun_at : Place → Learnt → Place

@@ -18,7 +18,7 @@ pub struct ClearCachedStatements<'c, L, R: Asks = Request> {
 }
 
 impl<L> PgConnection<L> {
-    /// Closes all statements that are kept. Where none is kept it only reads what is owed.
+    /// Closes all statements that are kept. Where none is kept it only reads what is owed. Its first poll forgets the OIDs that names of types have, however the call ends.
     pub fn clear_cached_statements(&mut self) -> ClearCachedStatements<'_, L>
         ensures same { result.conn.ghost_name ≡ self.entry.ghost_name }
         ensures conn { result.conn.now ≡ self.old }
