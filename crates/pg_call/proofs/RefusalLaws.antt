@@ -59,7 +59,7 @@ refusal_is (requests.CopyIn feed) e (inr h) = pieces_is feed.pieces e h
 refusal_is (requests.Commit left) e h = query_is (query_of (requests.Commit left)) e h
 refusal_is (requests.Rollback left) e h = query_is (query_of (requests.Rollback left)) e h
 refusal_is (requests.Evict eviction) e h = query_is None e h
-refusal_is (requests.Prepare prepared) e h = query_is None e h
+refusal_is (requests.Prepare prepared) e h = refuses_is 0 _ 0 e h
 refusal_is (requests.Clear statements) e h = query_is None e h
 refusal_is requests.Ping e h = query_is None e h
 refusal_is requests.Flush e h = query_is None e h
@@ -70,7 +70,7 @@ pub memory_refuses : (r : Request) → IsRefusal r errors.OutOfMemory
 memory_refuses (requests.Describe extended) = tt
 memory_refuses (requests.Run bound) = inl tt
 memory_refuses (requests.Evict eviction) = refl
-memory_refuses (requests.Prepare prepared) = refl
+memory_refuses (requests.Prepare prepared) = tt
 memory_refuses (requests.Clear statements) = refl
 memory_refuses requests.Ping = refl
 memory_refuses (requests.CopyIn feed) = inl tt

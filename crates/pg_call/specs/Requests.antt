@@ -33,6 +33,7 @@ use Rattle.pg_call.specs.declared.statement.Goal.TheVariants as goals
 use Rattle.pg_call.specs.declared.statement.Described.{Described}
 use Rattle.pg_call.specs.declared.statement.Extended.{Extended}
 use Rattle.pg_call.specs.declared.statement.Bound.{Bound}
+use Rattle.pg_call.specs.declared.statement.Prepared.{Prepared}
 use Rattle.pg_call.specs.declared.statement.After.{After}
 use Rattle.pg_call.specs.declared.statement.After.TheVariants as afters
 use Rattle.pg_call.specs.declared.statement.Rest.{Rest}
@@ -169,7 +170,7 @@ after_kind (afters.Prepare prepared) = kinds.Prepare
 
 abbrev pub request_behind : After → Request
 request_behind (afters.Run bound) = requests.Run bound
-request_behind (afters.Prepare prepared) = requests.Prepare prepared
+request_behind (afters.Prepare prepared) = requests.Prepare (record prepared { declared = None })
 
 -- a query, in one of its ways
 abbrev pub raw : How → QueryText → Request
@@ -205,7 +206,7 @@ parsed_again again sql = if again then Some sql else None
 -- what a statement was described for, which makes this of the statements that are kept
 abbrev pub behind_goal : Goal → Extended → Described → Keeping → After
 behind_goal (goals.Run how) x d keeping = afters.Run (record { how = how; statement = x.statement; again = parsed_again (is_parsed_again x) x.sql; arguments = x.arguments; columns = d.columns; keeping = keeping })
-behind_goal goals.Prepare x d keeping = afters.Prepare (record { sql = x.sql; parameters = d.parameters; columns = d.columns; keeping = keeping })
+behind_goal goals.Prepare x d keeping = afters.Prepare (record { sql = x.sql; parameters = d.parameters; columns = d.columns; keeping = keeping; declared = None })
 
 -- a statement that was described so
 abbrev pub told : List ℕ → Option (List FieldDescription) → Extended → Extended
@@ -296,10 +297,15 @@ IsNamed (declared.ArrayOf element) = HasNoNul element
 abbrev pub AreNamed : List Declared → Type 0
 AreNamed names = AllByRecursion IsNamed names
 
+-- the types of the first parameters of a statement to prepare, as its caller declares them
+abbrev pub declared_for : Prepared → List Declared
+declared_for p = unwrap_or p.declared []
+
 -- what is asked before it and behind it can be said too, and there is a number for its name
 abbrev pub LaterCanBeSaid : Request → Type 0
 LaterCanBeSaid (requests.Describe extended) = HasFrontendFrame (Bind (name_of extended.statement) extended.arguments.values) × (extended.is_numbered ≡ true) × AreNamed extended.arguments.names
 LaterCanBeSaid (requests.Run bound) = AreNamed bound.arguments.names
+LaterCanBeSaid (requests.Prepare prepared) = AreNamed (declared_for prepared)
 LaterCanBeSaid _ = Unit {0}
 
 -- a frame can carry each of them: its texts have no zero byte, and there are at most 65535 arguments
@@ -347,6 +353,10 @@ RefusesExtended x _ = ⊥
 abbrev pub RefusesNames : ArgumentsSeen → Error → Type 0
 RefusesNames arguments e = Refuses (length arguments.values) (AreNamed arguments.names) 0 e
 
+-- the same of a statement to prepare that is kept
+abbrev pub RefusesDeclared : List Declared → Error → Type 0
+RefusesDeclared declared e = Refuses 0 (AreNamed declared) 0 e
+
 abbrev pub RefusesBind : Bound → Error → Type 0
 RefusesBind bound e = Refuses (length bound.arguments.values) (Unit {0}) (bind_size bound.statement bound.arguments) e
 
@@ -370,6 +380,7 @@ abbrev pub IsRefusal : Request → Error → Type 0
 IsRefusal (requests.Describe extended) e = RefusesExtended extended e
 IsRefusal (requests.Run bound) e = RefusesRun bound e
 IsRefusal (requests.CopyIn feed) e = RefusesFeed feed e
+IsRefusal (requests.Prepare prepared) e = RefusesDeclared (declared_for prepared) e
 IsRefusal request e = RefusesQuery (query_of request) e
 
 -- the message that ends a copy from the client which no one feeds ("COPY Operations")

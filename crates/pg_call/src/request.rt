@@ -4,7 +4,9 @@ ghost use Rattle.pg_call.specs.Hearing.{sent_rest};
 ghost use Rattle.pg_call.specs.declared.statement.Extended.{Extended as ExtendedOf};
 
 use crate::heading::raw_heading;
-use crate::writing::{encode_closing, encode_description, encode_feed, encode_run};
+use crate::writing::{
+    check_types_declared, encode_closing, encode_description, encode_feed, encode_run,
+};
 use crate::{
     Bound, CallAnswer, Eviction, Extended, Feed, How, Keeping, Kind, Lookup, Prepared, Rest,
 };
@@ -237,7 +239,8 @@ impl Request {
             Request::Ping => encode_sync(&mut frames)?,
             Request::Close => encode_terminate(&mut frames)?,
             Request::CopyIn(feed) => encode_feed(&mut frames, feed)?,
-            Request::Prepare(_) | Request::Flush => {}
+            Request::Prepare(prepared) => check_types_declared(prepared.declared())?,
+            Request::Flush => {}
         }
         Ok(frames)
     }

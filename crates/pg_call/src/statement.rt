@@ -1,14 +1,14 @@
 ghost use Rattle.std.specs.Prelude.{◌≡◌, true, IfOk, IfErr, IsSome, Some};
 ghost use Rattle.pg_call.specs.declared.statement.Described.{Described as DescribedOf};
-ghost use Rattle.pg_call.specs.Requests.{after_kind, behind_goal, goal_kind, heading_of, is_parsed_again, named_keeping, numbered_by, parsed_again, request_behind, told, width_of};
+ghost use Rattle.pg_call.specs.Requests.{after_kind, behind_goal, declared_for, goal_kind, heading_of, is_parsed_again, named_keeping, numbered_by, parsed_again, request_behind, told, width_of};
 
 use crate::heading::heading;
 use crate::{How, Keeping, Kind, Request};
 use pg_columns::{PgColumns, share_known};
-use pg_request::Arguments;
+use pg_request::{Arguments, Declared, copy_declared};
 use pg_rows::Heading;
 use pg_values::PgValueFormat;
-use pg_wire::{Error, Oids, StatementId, Text};
+use pg_wire::{Error, Oids, Sequence, StatementId, Text};
 use std::alloc::Global;
 
 /// What a statement is described for: to be run, or to be told of.
@@ -193,6 +193,7 @@ impl Extended {
                 parameters,
                 columns,
                 keeping,
+                declared: None,
             }),
         }
     }
@@ -358,8 +359,7 @@ impl Bound {
     }
 }
 
-/// A text of SQL with the types of its parameters and its columns, as the server has described them; before that, with the types that the caller
-/// gives its first parameters.
+/// A text of SQL with the types of its parameters and its columns, as the server has described them.
 #[derive(Debug)]
 pub struct Prepared {
     pub sql: Text,
@@ -368,6 +368,8 @@ pub struct Prepared {
     pub columns: Option<PgColumns>,
     /// What telling of it makes of the statements that are kept.
     pub keeping: Keeping,
+    /// The types of its first parameters as the caller declares them, where it is asked for.
+    pub declared: Option<Sequence<Declared>>,
 }
 
 // By hand, so that whoever lets one go makes one call, and doesn't go through its parts.
@@ -378,7 +380,22 @@ impl Drop for Prepared {
             parameters: _,
             columns: _,
             keeping: _,
+            declared: _,
         } = self;
+    }
+}
+
+// Types as they are declared, once more.
+fn copied_types(
+    declared: &Option<Sequence<Declared>>,
+    alloc: Global,
+) -> Result<Option<Sequence<Declared>>, Error>
+    ensures copy { IfOk result (λ x. x ≡ declared.now) }
+    ensures memory { IfErr result (λ e. e ≡ Error.OutOfMemory) }
+{
+    match declared {
+        Some(declared) => Ok(Some(copy_declared(alloc, declared.as_slice())?)),
+        None => Ok(None),
     }
 }
 
@@ -392,8 +409,53 @@ impl Prepared {
             parameters,
             columns: _,
             keeping: _,
+            declared: _,
         } = self;
         (sql, parameters)
+    }
+
+    /// The types of its first parameters as the caller declares them.
+    pub fn declared(&self) -> &[Declared]
+        ensures { result.now ≡ declared_for self.now }
+    {
+        match &self.declared {
+            Some(declared) => declared.as_slice(),
+            None => &[],
+        }
+    }
+
+    /// Its text, and the types that the caller declares.
+    pub fn into_declared(self) -> (Text, Option<Sequence<Declared>>)
+        ensures { result ≡ (self.sql, self.declared) }
+    {
+        let Prepared {
+            sql,
+            parameters: _,
+            columns: _,
+            keeping: _,
+            declared,
+        } = self;
+        (sql, declared)
+    }
+
+    // The same, with no types declared any more.
+    fn told(self) -> Self
+        ensures { result ≡ record self { declared = None } }
+    {
+        let Prepared {
+            sql,
+            parameters,
+            columns,
+            keeping,
+            declared: _,
+        } = self;
+        Prepared {
+            sql,
+            parameters,
+            columns,
+            keeping,
+            declared: None,
+        }
     }
 
     /// The same again. Only want of memory refuses it.
@@ -404,11 +466,13 @@ impl Prepared {
         let sql = self.sql.to_copy(alloc)?;
         let parameters = self.parameters.to_copy(alloc)?;
         let columns = share_known(&self.columns)?;
+        let declared = copied_types(&self.declared, alloc)?;
         Ok(Prepared {
             sql,
             parameters,
             columns,
             keeping: self.keeping,
+            declared,
         })
     }
 }
@@ -437,7 +501,7 @@ impl After {
     {
         match self {
             After::Run(bound) => Request::Run(bound),
-            After::Prepare(prepared) => Request::Prepare(prepared),
+            After::Prepare(prepared) => Request::Prepare(prepared.told()),
         }
     }
 

@@ -4,7 +4,7 @@ ghost use Rattle.pg_wire.specs.Encoding.{body_max};
 ghost use Rattle.pg_wire.specs.Bytes.{HasNoNul};
 ghost use Rattle.pg_wire.specs.Frontend.{Bind, CopyData, FitsValue, HasFrontendFrame};
 ghost use Rattle.pg_exchanges.specs.Answering.{closing, describing, running};
-ghost use Rattle.pg_call.specs.Requests.{close_of, ended_by, feeding, name_of, parsing_again, running_bound, spelled, bind_size, AreFew, AreNamed, IsNamed, RefusesAgain, RefusesExtended, RefusesBind, RefusesFeed, RefusesNames, RefusesPieces, RefusesRun};
+ghost use Rattle.pg_call.specs.Requests.{close_of, ended_by, feeding, name_of, parsing_again, running_bound, spelled, bind_size, AreFew, AreNamed, IsNamed, RefusesAgain, RefusesDeclared, RefusesExtended, RefusesBind, RefusesFeed, RefusesNames, RefusesPieces, RefusesRun};
 
 use crate::{Bound, Extended, Feed};
 use pg_request::{Arguments, Declared};
@@ -114,6 +114,14 @@ fn check_arguments(arguments: &Arguments) -> Result<(), Error>
 {
     check_count(arguments)?;
     check_names(arguments.names())
+}
+
+/// Refuses types that are declared by a name with a zero byte, also where a statement of the text is kept.
+pub(crate) fn check_types_declared(declared: &[Declared]) -> Result<(), Error>
+    ensures named { OnOk result (AreNamed declared.now) }
+    ensures err { IfErr result (RefusesDeclared declared.now) }
+{
+    check_names(declared)
 }
 
 // The same of what describes a statement, with the number of their types before any name.

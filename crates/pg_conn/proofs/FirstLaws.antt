@@ -1,6 +1,6 @@
 -- Which calls begin by looking up what they ask first, and how their first poll ends where that fails.
 use Rattle.std.proofs.lemmas.Option.{same_Some}
-use Rattle.std.proofs.Common.{◌≡◌, ◌⊎◌, ℕ, inl, inr, refl, sym, ap, ◌∙◌, subst, Bool, true, false, cond, nat_eq, not, ◌&&◌, ◌==◌, List, [], ◌∷◌, length, Option, Some, None, is_some, option_map, Result, Ok, Err, IfErr, OnOk}
+use Rattle.std.proofs.Common.{◌≡◌, ◌⊎◌, ℕ, inl, inr, refl, sym, ap, ◌∙◌, subst, Bool, true, false, cond, nat_eq, not, ◌&&◌, ◌==◌, List, [], ◌∷◌, length, Option, Some, None, is_some, unwrap_or, option_map, Result, Ok, Err, IfErr, OnOk}
 use Rattle.pg_wire.proofs.Tests.{both_true}
 use Rattle.futures.specs.declared.task.Poll.{Poll}
 use Rattle.futures.specs.declared.task.Poll.TheVariants.{Ready}
@@ -9,6 +9,7 @@ use Rattle.pg_wire.specs.declared.error.Error.TheVariants as errors
 use Rattle.pg_wire.specs.declared.error.ServerFault.{ServerFault}
 use Rattle.pg_wire.specs.Backend.{FieldDescription}
 use Rattle.pg_request.specs.declared.naming.Declared.{Declared}
+use Rattle.pg_request.specs.Asked.{declared_arguments, declared_names}
 use Rattle.pg_request.specs.Queries.{ArgumentsSeen, QueryText, names_by}
 use Rattle.pg_rule.specs.Caches.{entry_at}
 use Rattle.pg_rule.specs.declared.cache.Entry.{Entry}
@@ -31,7 +32,7 @@ use Rattle.pg_call.specs.declared.statement.Goal.TheVariants as goals
 use Rattle.pg_call.specs.declared.statement.Lookup.{Lookup}
 use Rattle.pg_call.specs.declared.statement.Prepared.{Prepared}
 use Rattle.pg_call.specs.Hearing.{asked_in, without_asked}
-use Rattle.pg_call.specs.Requests.{CanBeSaid, IsRefusal, behind_goal, numbered_by, raw, request_behind}
+use Rattle.pg_call.specs.Requests.{CanBeSaid, IsRefusal, behind_goal, declared_for, numbered_by, raw, request_behind}
 use Rattle.pg_learning.specs.declared.learnt.Learnt.{Learnt}
 use Rattle.pg_learning.specs.Learning.{FailsSeeking, Seeks}
 use Rattle.pg_learning.specs.Naming.{oids_under}
@@ -75,13 +76,20 @@ query_named : (rule : Rule) (how : How) (query : QueryText) (o : Option Argument
 query_named rule how query None = raw_unnamed how query
 query_named rule how query (Some arguments) = run_named rule how query.sql arguments query.persistent (entry_at query.sql rule.cache.entries)
 
-tell_unnamed : (rule : Rule) (p : Prepared) (o : Option Entry) → is_some (named_in (tell_or_describe rule p o)) ≡ false
-tell_unnamed rule p (Some e) = refl
-tell_unnamed rule p None = refl
+tell_named : (rule : Rule) (p : Prepared) (o : Option Entry) → is_some (named_in (tell_or_describe rule p o)) ≡ has_names (declared_names (declared_for p)) && not (is_some o)
+tell_named rule p (Some e) = sym (no_and (has_names (declared_names (declared_for p))))
+tell_named rule p None =
+    let arguments : ArgumentsSeen = declared_arguments (declared_for p) in
+    let x : Extended = record { goal = goals.Prepare; statement = number_for true rule; is_numbered = is_numbered true rule; sql = p.sql; arguments = arguments; described = None; is_looked_up = false } in
+    undescribed_named x arguments.names
 
-prepare_unnamed : (rule : Rule) (p : Prepared) (o : Option (List FieldDescription)) → is_some (named_in (prepare_by rule p o)) ≡ false
-prepare_unnamed rule p (Some columns) = refl
-prepare_unnamed rule p None = tell_unnamed rule p _
+prepare_named : (rule : Rule) (p : Prepared) (o : Option (List FieldDescription))
+    → is_some (named_in (prepare_by rule p o)) ≡ has_names (declared_names (declared_for p)) && (not (is_some o) && not (is_some (entry_at p.sql rule.cache.entries)))
+prepare_named rule p (Some columns) = sym (no_and (has_names (declared_names (declared_for p))))
+prepare_named rule p None = tell_named rule p (entry_at p.sql rule.cache.entries)
+
+prepare_unnamed : (rule : Rule) (p : Prepared) (o : Option (List FieldDescription)) → p.declared ≡ None → is_some (named_in (prepare_by rule p o)) ≡ false
+prepare_unnamed rule p o e = prepare_named rule p o ∙ ap (λ (d : Option (List Declared)). has_names (declared_names (unwrap_or d [])) && (not (is_some o) && not (is_some (entry_at p.sql rule.cache.entries)))) e
 
 goal_unnamed : (goal : Goal) (x : Extended) (d : Described) (keeping : Keeping) → is_some (named_in (request_behind (behind_goal goal x d keeping))) ≡ false
 goal_unnamed (goals.Run how) x d keeping = refl
@@ -111,7 +119,7 @@ first_named rule (requests.FetchAll query) = query_named rule hows.FetchAll quer
 first_named rule (requests.FetchOptional query) = query_named rule hows.FetchOptional query query.arguments
 first_named rule (requests.FetchOne query) = query_named rule hows.FetchOne query query.arguments
 first_named rule (requests.Describe x) = described_named rule x x.described refl
-first_named rule (requests.Prepare p) = prepare_unnamed rule p p.columns
+first_named rule (requests.Prepare p) = prepare_named rule p p.columns
 first_named rule _ = refl
 
 pub asks_named : {A : Type 0} (c : ConnOf A) → is_some (named_by (resolved c).call) ≡ asks_by c.rule c.call
@@ -126,7 +134,7 @@ asks_named c = by c.call refl
 abbrev pub IsHanded : Request → Type 0
 IsHanded (requests.Describe x) = Unit {0}
 IsHanded (requests.Run bound) = Unit {0}
-IsHanded (requests.Prepare p) = Unit {0}
+IsHanded (requests.Prepare p) = p.declared ≡ None
 IsHanded _ = ⊥
 
 none_of : (o : Option Extended) → is_some o ≡ false → o ≡ None
@@ -166,7 +174,7 @@ for_unnamed rule x (Some d) next a b e (inl (text, seeks, is)) = by text is
 pub handed_unnamed : (rule : Rule) (told next : Request) (a b : Learnt) → IsHanded told → LooksUp told a next b → named_in (asked_by rule next) ≡ None
 handed_unnamed rule (requests.Describe x) next a b h looks = for_unnamed rule x x.described next a b refl looks
 handed_unnamed rule (requests.Run bound) next a b h looks = ap (λ (r : Request). named_in (asked_by rule r)) looks.0
-handed_unnamed rule (requests.Prepare p) next a b h looks = ap (λ (r : Request). named_in (asked_by rule r)) looks.0 ∙ none_of (named_in (prepare_by rule p p.columns)) (prepare_unnamed rule p p.columns)
+handed_unnamed rule (requests.Prepare p) next a b h looks = ap (λ (r : Request). named_in (asked_by rule r)) looks.0 ∙ none_of (named_in (prepare_by rule p p.columns)) (prepare_unnamed rule p p.columns h)
 handed_unnamed rule _ next a b h looks = absurd h
 
 -- ---- what is asked then

@@ -370,29 +370,9 @@ ahead_other ledger calls.Idle n h = tt
 
 -- ---- a flush is done
 
-flush_said : (r : Request) → is_flush (kind_of r) ≡ true → CanBeSaid r
+flush_said : (r : Request) → only_flushes (kind_of r) ≡ true → CanBeSaid r
 flush_said requests.Flush e = (tt, tt)
-flush_said (requests.Describe extended) e = absurd cc
-flush_said (requests.Run bound) e = absurd cc
-flush_said (requests.Prepare prepared) e = (tt, tt)
-flush_said (requests.Evict eviction) e = absurd cc
-flush_said (requests.Look lookup) e = absurd cc
-flush_said (requests.Clear statements) e = absurd cc
-flush_said requests.Ping e = absurd cc
-flush_said requests.Close e = absurd cc
-flush_said (requests.Execute query) e = absurd cc
-flush_said (requests.ExecuteMany query) e = absurd cc
-flush_said (requests.Fetch query) e = absurd cc
-flush_said (requests.FetchMany query) e = absurd cc
-flush_said (requests.FetchAll query) e = absurd cc
-flush_said (requests.FetchOptional query) e = absurd cc
-flush_said (requests.FetchOne query) e = absurd cc
-flush_said (requests.Begin depth) e = absurd cc
-flush_said (requests.BeginWith query) e = absurd cc
-flush_said (requests.CopyOut query) e = absurd cc
-flush_said (requests.CopyIn feed) e = absurd cc
-flush_said (requests.Commit left) e = absurd cc
-flush_said (requests.Rollback left) e = absurd cc
+flush_said _ e = absurd cc
 
 flush_alone : (kind : Kind) → only_flushes kind ≡ true → is_flush kind ≡ true
 flush_alone kinds.Flush f = refl
@@ -403,7 +383,7 @@ flush_ends : (start : Ledger) (r : Request) (said : List FrontendMessage) (hs : 
 flush_ends start r said hs items ledger (calls.Asked asked) f z i =
     let frames = spelled (messages_of asked) in
     let flush = flush_alone (kind_of asked) f in
-    flush_fine start r said hs items ledger (waiting_for asked frames ledger.is_copy_failed) flush z (asked_waits start r asked said hs items ledger frames refl (flush_said asked flush) i)
+    flush_fine start r said hs items ledger (waiting_for asked frames ledger.is_copy_failed) flush z (asked_waits start r asked said hs items ledger frames refl (flush_said asked f) i)
 flush_ends start r said hs items ledger (calls.Waiting w) f z i = flush_fine start r said hs items ledger w (flush_alone w.kind f) z i
 flush_ends start r said hs items ledger (calls.Own reply) f z i = absurd cc
 flush_ends start r said hs items ledger calls.Closing f z i = absurd cc
@@ -442,7 +422,7 @@ pub flush_sayable : (a : ConnSeen) → is_flushed a ≡ true → IsSayable a.cal
 flush_sayable a f = by a.call (both_true (flushes a.call) (a.ledger.owed == 0) (both_true (flushes a.call && a.ledger.owed == 0) (nat_eq (length a.stream.unsent) 0) f).0).0
   where
     by : (call : Call) → flushes call ≡ true → IsSayable call
-    by (calls.Asked asked) e = flush_said asked (flush_alone (kind_of asked) e)
+    by (calls.Asked asked) e = flush_said asked e
     by calls.Idle e = tt
     by (calls.Waiting w) e = tt
     by (calls.Own reply) e = tt

@@ -6,7 +6,7 @@ use Rattle.pg_wire.specs.declared.error.Error.TheVariants as errors
 use Rattle.pg_wire.specs.Frame.{Frame}
 use Rattle.pg_wire.specs.Backend.{Values, DataRow, backend_frame, HasBackendFrame}
 use Rattle.pg_request.specs.declared.naming.Declared.{Declared}
-use Rattle.pg_request.specs.Asked.{RefusesType}
+use Rattle.pg_request.specs.Asked.{RefusesType, declared_names}
 use Rattle.pg_request.specs.Queries.{names_by}
 use Rattle.pg_columns.specs.declared.column.PgColumn.{PgColumn}
 use Rattle.pg_columns.specs.Told.{columns_of}
@@ -18,7 +18,7 @@ use Rattle.pg_call.specs.declared.request.Request.{Request}
 use Rattle.pg_call.specs.declared.request.Request.TheVariants as requests
 use Rattle.pg_call.specs.declared.request.Sort.{Sort}
 use Rattle.pg_call.specs.declared.request.Sort.TheVariants as sorts
-use Rattle.pg_call.specs.Requests.{CanBeSaid, IsRefusal, numbered_by, sort_of}
+use Rattle.pg_call.specs.Requests.{CanBeSaid, IsRefusal, declared_for, numbered_by, sort_of}
 use Rattle.pg_rule.specs.declared.rule.Rule.{Rule}
 use Rattle.pg_rule.specs.Caches.{entry_at}
 use Rattle.pg_resolve.specs.Settling.{Has}
@@ -158,6 +158,7 @@ has_names (name ∷ names) = true
 abbrev pub asks_as : Rule → Sort → Bool
 asks_as rule (sorts.Query how query) = has_names (names_by query.arguments) && not (is_some (entry_at query.sql rule.cache.entries))
 asks_as rule (sorts.Describe x) = has_names x.arguments.names && not (is_some x.described)
+asks_as rule (sorts.Prepare p) = has_names (declared_names (declared_for p)) && (not (is_some p.columns) && not (is_some (entry_at p.sql rule.cache.entries)))
 asks_as rule sort = false
 
 abbrev pub asks_names : Rule → Request → Bool

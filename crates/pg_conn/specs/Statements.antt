@@ -4,7 +4,7 @@ use Rattle.std.specs.Prelude.{ℕ, Bool, true, false, not, ◌&&◌, ◌||◌, n
 use Rattle.std.specs.List.{last_or}
 use Rattle.pg_wire.specs.Backend.{FieldDescription}
 use Rattle.pg_request.specs.Queries.{QueryText, ArgumentsSeen}
-use Rattle.pg_request.specs.Asked.{typed_arguments}
+use Rattle.pg_request.specs.Asked.{declared_arguments}
 use Rattle.pg_request.specs.declared.progress.CacheStep.{CacheStep}
 use Rattle.pg_request.specs.declared.progress.CacheStep.TheVariants as steps
 use Rattle.pg_rule.specs.declared.cache.Entry.{Entry}
@@ -23,7 +23,7 @@ use Rattle.pg_call.specs.declared.request.Request.{Request}
 use Rattle.pg_call.specs.declared.request.Request.TheVariants as requests
 use Rattle.pg_call.specs.declared.request.Sort.{Sort}
 use Rattle.pg_call.specs.declared.request.Sort.TheVariants as sorts
-use Rattle.pg_call.specs.Requests.{behind_goal, raw, request_behind, sort_of}
+use Rattle.pg_call.specs.Requests.{behind_goal, declared_for, raw, request_behind, sort_of}
 
 -- ---- a statement that is not kept
 
@@ -55,8 +55,8 @@ query_by rule how query (Some arguments) request = run_or_describe rule how quer
 -- ---- a statement to prepare: where one of its text is kept, that one is told, and else one is described
 
 abbrev pub tell_or_describe : Rule → Prepared → Option Entry → Request
-tell_or_describe rule p (Some e) = requests.Prepare (record { sql = p.sql; parameters = e.parameters; columns = Some e.columns; keeping = keepings.Hits e.statement })
-tell_or_describe rule p None = describe goals.Prepare p.sql (typed_arguments p.parameters) true rule
+tell_or_describe rule p (Some e) = requests.Prepare (record { sql = p.sql; parameters = e.parameters; columns = Some e.columns; keeping = keepings.Hits e.statement; declared = p.declared })
+tell_or_describe rule p None = describe goals.Prepare p.sql (declared_arguments (declared_for p)) true rule
 
 abbrev pub prepare_by : Rule → Prepared → Option (List FieldDescription) → Request
 prepare_by rule p (Some columns) = requests.Prepare p

@@ -89,7 +89,7 @@ untyped sql = record { sql = sql; types = [] }
 
 -- what is asked for one, of which nothing is described yet
 abbrev pub to_prepare : Preparation → Request
-to_prepare p = requests.Prepare (record { sql = p.sql; parameters = p.types; columns = None; keeping = keepings.Stays })
+to_prepare p = requests.Prepare (record { sql = p.sql; parameters = []; columns = None; keeping = keepings.Stays; declared = Some p.types })
 
 -- what its caller is told of it: the text, the parameters and the columns that were described
 abbrev pub statement_of : Prepared → PgStatement

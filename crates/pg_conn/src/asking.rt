@@ -1,10 +1,11 @@
 //! Which exchange is asked, by the statements that are kept.
-ghost use Rattle.std.specs.Prelude.{◌≡◌, ◌≢◌, Some, None, map, reverse, option_map, IfOk, IfErr, IsSome, OnOk, OnErr};
+ghost use Rattle.std.specs.Prelude.{◌≡◌, ◌≢◌, Some, None, map, reverse, option_map, true, IfOk, IfErr, IsSome, OnOk, OnErr};
 ghost use Rattle.pg_rule.specs.Rules.{holding, forgotten};
 ghost use Rattle.pg_call.specs.declared.statement.Described.{Described as DescribedOf};
 ghost use Rattle.pg_rule.specs.Caches.{entry_at};
 ghost use Rattle.pg_conn.specs.Statements.{asked_by, describe, entry_of, held_by, held_behind, behind_description, is_named, by_leaving, leaving, prepare_by, query_by, run_or_describe, unmoved};
-ghost use Rattle.pg_call.specs.Requests.{keeping_of, raw};
+ghost use Rattle.pg_call.specs.Requests.{declared_for, keeping_of, raw};
+ghost use Rattle.pg_request.specs.Asked.{declared_arguments};
 ghost use Rattle.pg_conn.specs.Connections.{resolved, resolved_by, unasked, IsUnresolved};
 
 use crate::{PgConnection, Request};
@@ -84,18 +85,30 @@ fn query_by(rule: &Rule, how: How, query: Query) -> Result<Request, Error>
 }
 
 // A statement that is kept, as it was described.
-fn tell(alloc: Global, sql: Text, entry: &Entry) -> Result<Request, Error>
-    ensures ok { IfOk result (λ r. r ≡ Request.Prepare (record { sql = sql; parameters = entry.now.parameters; columns = Some entry.now.columns; keeping = Keeping.Hits entry.now.statement })) }
+fn tell(alloc: Global, prepared: Prepared, entry: &Entry) -> Result<Request, Error>
+    ensures ok { IfOk result (λ r. r ≡ Request.Prepare (record { sql = prepared.sql; parameters = entry.now.parameters; columns = Some entry.now.columns; keeping = Keeping.Hits entry.now.statement; declared = prepared.declared })) }
     ensures memory { IfErr result (λ e. e ≡ Error.OutOfMemory) }
 {
     let parameters = entry.parameters.to_copy(alloc)?;
     let columns = entry.columns.share()?;
+    let (sql, declared) = prepared.into_declared();
     Ok(Request::Prepare(Prepared {
         sql,
         parameters,
         columns: Some(columns),
         keeping: Keeping::Hits(entry.statement.number()),
+        declared,
     }))
+}
+
+// One that is not kept, with the types that its caller declares.
+fn describe_declared(alloc: Global, rule: &Rule, prepared: Prepared) -> Result<Request, Error>
+    ensures ok { IfOk result (λ r. r ≡ describe Goal.Prepare prepared.sql (declared_arguments (declared_for prepared)) true rule.now) }
+    ensures memory { IfErr result (λ e. e ≡ Error.OutOfMemory) }
+{
+    let arguments = Arguments::declared(alloc, prepared.declared())?;
+    let (sql, _) = prepared.into_parts();
+    Ok(describe(rule, Goal::Prepare, sql, arguments, true))
 }
 
 // A statement to prepare: where one of its text is kept, that one is told.
@@ -106,13 +119,9 @@ fn prepare_by(alloc: Global, rule: &Rule, prepared: Prepared) -> Result<Request,
     if prepared.columns.is_some() {
         return Ok(Request::Prepare(prepared));
     }
-    let (sql, parameters) = prepared.into_parts();
-    match rule.cache.get(sql.as_str()) {
-        Some(entry) => tell(alloc, sql, entry),
-        None => {
-            let arguments = Arguments::typed(alloc, parameters);
-            Ok(describe(rule, Goal::Prepare, sql, arguments, true))
-        }
+    match rule.cache.get(prepared.sql.as_str()) {
+        Some(entry) => tell(alloc, prepared, entry),
+        None => describe_declared(alloc, rule, prepared),
     }
 }
 

@@ -33,7 +33,7 @@ pub use flags::read_flag;
 pub use notification::what_a_call_reads_is_kept;
 pub use pg_call::{AnyQueryResult, CallAnswer, CallItem, PgQueryResult, Request, Turn, any_result};
 pub use pg_columns::{ColumnOrigin, PgColumn};
-pub use pg_request::{CacheStep, Preparation, Progress, Query};
+pub use pg_request::{CacheStep, Declared, Preparation, Progress, Query};
 pub use pg_rows::PgRow;
 pub use postgres::Postgres;
 pub use socket_dial::SocketDial;

@@ -3,7 +3,8 @@ ghost use Rattle.std.specs.Prelude.{◌≡◌, ◌≢◌, ◌⊎◌, ℕ, List, 
 ghost use Rattle.pg_request.specs.Queries.{names_by};
 ghost use Rattle.pg_rule.specs.Caches.{entry_at};
 ghost use Rattle.pg_call.specs.Hearing.{asked_in, without_asked};
-ghost use Rattle.pg_call.specs.Requests.{CanBeSaid, IsRefusal, numbered_by};
+ghost use Rattle.pg_call.specs.Requests.{CanBeSaid, IsRefusal, declared_for, numbered_by};
+ghost use Rattle.pg_request.specs.Asked.{declared_names};
 ghost use Rattle.pg_call.specs.declared.request.Request as request;
 ghost use Rattle.pg_learning.specs.Learning.{FailsSeeking, Seeks};
 ghost use Rattle.pg_learning.specs.Naming.{oids_under, unknown_name};
@@ -11,9 +12,9 @@ ghost use Rattle.pg_conn.specs.Connections.{ConnOf, cleaned};
 ghost use Rattle.pg_conn.specs.Looking.{AsksFirst, AsksNext, FailsFirst, IsNumbered, IsUnlooked, LooksFor, LooksNamed, LooksUp, MayLook, MayLookFor, MissesName, asks_by, asks_names, begun_for, begun_named, columns_in, has_names, looked, unlooked, wants_names};
 
 use crate::{PgConnection, Request};
-use pg_call::{Call, Described, Extended, Goal, Lookup};
+use pg_call::{Call, Described, Extended, Goal, Lookup, Prepared};
 use pg_columns::PgColumn;
-use pg_request::{Declared, Query};
+use pg_request::{Declared, Query, declared_names};
 use pg_rule::Rule;
 use pg_wire::{Error, Text};
 
@@ -64,6 +65,15 @@ fn query_names(rule: &Rule, query: &Query) -> bool
     has_names(query.names()) && rule.cache.get(query.sql()).is_none()
 }
 
+// The same of a statement to prepare that isn't described yet.
+fn prepare_names(rule: &Rule, prepared: &Prepared) -> bool
+    ensures { result ≡ has_names (declared_names (declared_for prepared.now)) && (not (is_some prepared.now.columns) && not (is_some (entry_at prepared.now.sql rule.now.cache.entries))) }
+{
+    has_names(declared_names(prepared.declared()))
+        && prepared.columns.is_none()
+        && rule.cache.get(prepared.sql.as_str()).is_none()
+}
+
 // The same of anything that is asked first.
 fn asks_names(rule: &Rule, request: &Request) -> bool
     ensures { result ≡ asks_names rule.now request.now }
@@ -79,6 +89,7 @@ fn asks_names(rule: &Rule, request: &Request) -> bool
         Request::Describe(extended) => {
             has_names(extended.arguments.names()) && extended.described.is_none()
         }
+        Request::Prepare(prepared) => prepare_names(rule, prepared),
         _ => false,
     }
 }

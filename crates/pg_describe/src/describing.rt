@@ -12,7 +12,7 @@ use pg_call::{Prepared, Request, Turn};
 use pg_conn::{Preparation, prepare_request};
 use pg_guards::{PgExecutor, holding};
 use pg_nullable::nulls_query;
-use pg_wire::{Error, Oids, Poll, Text};
+use pg_wire::{Error, Poll, Text};
 
 /// The state of `describe`, which owns what holds the connection. It does nothing before its first poll. It is made of two calls, whose numbers `progress`
 /// tells together. Where it is dropped before its end, what was sent stays owed: the next call on the connection reads it away.
@@ -32,8 +32,7 @@ pub fn describe<C: PgExecutor>(conn: C, sql: Text) -> Describing<C>
     ensures calling { IsDescribing result.told (begun_by result.request (C.conn result.conn)) }
 {
     let alloc = conn.conn_ref().allocator();
-    let types = Oids::new(alloc);
-    let request = prepare_request(alloc, Preparation { sql, types });
+    let request = prepare_request(alloc, Preparation::untyped(alloc, sql));
     Describing {
         conn,
         request: Some(request),

@@ -17,7 +17,7 @@ use pg_describe::Describe;
 use pg_describe::telling::{columns_in, hear};
 use pg_listen::{PoolLedger, PoolSeat};
 use pg_nullable::nulls_query;
-use pg_wire::{Error, Oids, Poll, Text};
+use pg_wire::{Error, Poll, Text};
 use std::sync::Wait;
 
 /// The state of `PgListener::describe`, which is made of two calls. It does nothing before its first poll. Dropped before its end it leaves the listener as it
@@ -77,8 +77,7 @@ impl<G: PoolLedger, P: PoolHolder<G, D::L>, S: SeatHolder<Seat = PoolSeat<G>>, D
         ensures over { result.is_over ≡ false }
     {
         let alloc = self.allocator();
-        let types = Oids::new(alloc);
-        let request = prepare_request(alloc, Preparation { sql, types });
+        let request = prepare_request(alloc, Preparation::untyped(alloc, sql));
         Describing {
             listener: self,
             request: Some(request),

@@ -10,11 +10,10 @@ ghost use Rattle.pg_locking.specs.Locking.{GoesOnLocking, HearsLocked, IsLocking
 ghost use Rattle.pg_locking.specs.Rooms.{IsHeld, IsUnheld};
 
 use crate::holding::{give_up, hold};
-use pg_call::{Keeping, Prepared};
-use pg_conn::{PgConnection, Request, Turn};
+use pg_conn::{PgConnection, Preparation, Request, Turn, prepare_request};
 use pg_locks::{PgAdvisoryLockKey, key_query};
 use pg_stream::Link;
-use pg_wire::{Error, Oids, Poll, Text};
+use pg_wire::{Error, Poll, Text};
 
 /// How far it has come.
 #[derive(Clone, Copy, Debug)]
@@ -61,12 +60,7 @@ fn prepare<L>(conn: &mut PgConnection<L>, key: PgAdvisoryLockKey) -> Result<(), 
         Ok(sql) => sql,
         Err(_) => return Err(Error::OutOfMemory),
     };
-    conn.start(Request::Prepare(Prepared {
-        sql,
-        parameters: Oids::new(alloc),
-        columns: None,
-        keeping: Keeping::Stays,
-    }));
+    conn.start(prepare_request(alloc, Preparation::untyped(alloc, sql)));
     Ok(())
 }
 

@@ -81,7 +81,7 @@ run_exchange rule how sql arguments persistent None = tt
 prepared_exchange : (rule : Rule) (p : Preparation) → IsExchange (asked_by rule (to_prepare p))
 prepared_exchange rule p = by (entry_at p.sql rule.cache.entries)
   where
-    by : (o : Option Entry) → IsExchange (tell_or_describe rule (record { sql = p.sql; parameters = p.types; columns = None; keeping = keepings.Stays }) o)
+    by : (o : Option Entry) → IsExchange (tell_or_describe rule (record { sql = p.sql; parameters = []; columns = None; keeping = keepings.Stays; declared = Some p.types }) o)
     by (Some e) = tt
     by None = tt
 
@@ -246,7 +246,7 @@ how_by rule how query (Some arguments) call e = by (entry_at query.sql rule.cach
 tells_how : (rule : Rule) (p : Preparation) → runs_how (exchange_for (asked_by rule (to_prepare p))) ≡ None
 tells_how rule p = by (entry_at p.sql rule.cache.entries)
   where
-    by : (o : Option Entry) → runs_how (exchange_for (tell_or_describe rule (record { sql = p.sql; parameters = p.types; columns = None; keeping = keepings.Stays }) o)) ≡ None
+    by : (o : Option Entry) → runs_how (exchange_for (tell_or_describe rule (record { sql = p.sql; parameters = []; columns = None; keeping = keepings.Stays; declared = Some p.types }) o)) ≡ None
     by (Some e) = refl
     by None = refl
 
@@ -355,11 +355,11 @@ after_exchange : (rule : Rule) (a : After) → IsExchange (asked_by rule (reques
 after_exchange rule (afters.Run bound) = tt
 after_exchange rule (afters.Prepare prepared) = by prepared.columns
   where
-    by : (o : Option (List FieldDescription)) → IsExchange (prepare_by rule prepared o)
+    by : (o : Option (List FieldDescription)) → IsExchange (prepare_by rule (record prepared { declared = None }) o)
     by (Some columns) = tt
     by None = tells (entry_at prepared.sql rule.cache.entries)
       where
-        tells : (o : Option Entry) → IsExchange (tell_or_describe rule prepared o)
+        tells : (o : Option Entry) → IsExchange (tell_or_describe rule (record prepared { declared = None }) o)
         tells (Some e) = tt
         tells None = tt
 
@@ -531,11 +531,11 @@ evicted_how : (rule : Rule) (a : After) → runs_how (exchange_for (asked_by rul
 evicted_how rule (afters.Run bound) = refl
 evicted_how rule (afters.Prepare prepared) = by prepared.columns
   where
-    by : (o : Option (List FieldDescription)) → runs_how (exchange_for (prepare_by rule prepared o)) ≡ None
+    by : (o : Option (List FieldDescription)) → runs_how (exchange_for (prepare_by rule (record prepared { declared = None }) o)) ≡ None
     by (Some columns) = refl
     by None = tells (entry_at prepared.sql rule.cache.entries)
       where
-        tells : (o : Option Entry) → runs_how (exchange_for (tell_or_describe rule prepared o)) ≡ None
+        tells : (o : Option Entry) → runs_how (exchange_for (tell_or_describe rule (record prepared { declared = None }) o)) ≡ None
         tells (Some e) = refl
         tells None = refl
 

@@ -99,7 +99,7 @@ first_known start at a d (calls.FetchOptional query) st k = as_known start at a 
 first_known start at a d (calls.FetchOne query) st k = as_known start at a d hows.FetchOne query (calls.FetchOne query) st k refl query.arguments
 first_known start at a d (calls.Prepare p) st k = none_known start at a d (first_call at.rule (calls.Prepare p)) st (by (entry_at p.sql at.rule.cache.entries))
   where
-    by : (o : Option Entry) → widths_of (request_of d (exchange_for (tell_or_describe at.rule (record { sql = p.sql; parameters = p.types; columns = None; keeping = keepings.Stays }) o))) ≡ []
+    by : (o : Option Entry) → widths_of (request_of d (exchange_for (tell_or_describe at.rule (record { sql = p.sql; parameters = []; columns = None; keeping = keepings.Stays; declared = Some p.types }) o))) ≡ []
     by (Some e) = refl
     by None = refl
 first_known start at a d calls.Clear st k = none_known start at a d (first_call at.rule calls.Clear) st (by (nat_eq (length at.rule.cache.entries) 0))
@@ -154,11 +154,11 @@ closed_known : (rule : Rule) (at : Place) (a : After) → KnownAt (widths_of (re
 closed_known rule at (afters.Run bound) k none = k
 closed_known rule at (afters.Prepare prepared) k none = by prepared.columns
   where
-    by : (o : Option (List FieldDescription)) → KnownAt (widths_of (prepare_by rule prepared o)) at
+    by : (o : Option (List FieldDescription)) → KnownAt (widths_of (prepare_by rule (record prepared { declared = None }) o)) at
     by (Some columns) = none
     by None = tells (entry_at prepared.sql rule.cache.entries)
       where
-        tells : (o : Option Entry) → KnownAt (widths_of (tell_or_describe rule prepared o)) at
+        tells : (o : Option Entry) → KnownAt (widths_of (tell_or_describe rule (record prepared { declared = None }) o)) at
         tells (Some e) = none
         tells None = none
 
@@ -256,7 +256,7 @@ asked_each Q run tell close describe rule call reply told e = by call e
   where
     behind : (a : After) → Q (request_behind a)
     behind (afters.Run bound) = run bound
-    behind (afters.Prepare prepared) = tell prepared
+    behind (afters.Prepare prepared) = tell (record prepared { declared = None })
 
     closes : (x : Extended) (d : Described) (o : Option ℕ) → Q (by_leaving x d o)
     closes x d (Some statement) = close (record { statement = statement; after = behind_goal x.goal x d keepings.Stays })
@@ -275,12 +275,12 @@ asked_each Q run tell close describe rule call reply told e = by call e
     prepares p None = tells (entry_at p.sql rule.cache.entries)
       where
         tells : (o : Option Entry) → Q (tell_or_describe rule p o)
-        tells (Some e) = tell (record { sql = p.sql; parameters = e.parameters; columns = Some e.columns; keeping = keepings.Hits e.statement })
+        tells (Some e) = tell (record { sql = p.sql; parameters = e.parameters; columns = Some e.columns; keeping = keepings.Hits e.statement; declared = p.declared })
         tells None = describe _
 
     after : (a : After) → Q (asked_by rule (request_behind a))
     after (afters.Run bound) = run bound
-    after (afters.Prepare prepared) = prepares prepared prepared.columns
+    after (afters.Prepare prepared) = prepares (record prepared { declared = None }) prepared.columns
 
     by : (call : Call) → handed_by call reply ≡ Some told → Q (asked_by rule told)
     by (calls.Describe x) e = subst (λ (r : Request). Q (asked_by rule r)) (same_Some (told_by x reply) told e) (described_so (record x { described = Some (record { parameters = parameters_after [] reply; columns = Some (described reply) }) }) (Some (record { parameters = parameters_after [] reply; columns = Some (described reply) })))
@@ -322,7 +322,7 @@ first_holds at rule (calls.FetchOptional query) = first_as_holds at rule hows.Fe
 first_holds at rule (calls.FetchOne query) = first_as_holds at rule hows.FetchOne query query.arguments (calls.FetchOne query) tt
 first_holds at rule (calls.Prepare p) = by (entry_at p.sql rule.cache.entries)
   where
-    by : (o : Option Entry) → IsHeldFor at (exchange_for (tell_or_describe rule (record { sql = p.sql; parameters = p.types; columns = None; keeping = keepings.Stays }) o))
+    by : (o : Option Entry) → IsHeldFor at (exchange_for (tell_or_describe rule (record { sql = p.sql; parameters = []; columns = None; keeping = keepings.Stays; declared = Some p.types }) o))
     by (Some e) = tt
     by None = tt
 first_holds at rule calls.Clear = by (nat_eq (length rule.cache.entries) 0)

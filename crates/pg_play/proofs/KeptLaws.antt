@@ -188,7 +188,7 @@ as_sound rule how query (Some arguments) call s = run_sound rule how query.sql a
 prepare_sound : (rule : Rule) (p : Preparation) → IsSound rule (exchange_for (asked_by rule (to_prepare p)))
 prepare_sound rule p = by (entry_at p.sql rule.cache.entries)
   where
-    by : (o : Option Entry) → IsSound rule (exchange_for (tell_or_describe rule (record { sql = p.sql; parameters = p.types; columns = None; keeping = keepings.Stays }) o))
+    by : (o : Option Entry) → IsSound rule (exchange_for (tell_or_describe rule (record { sql = p.sql; parameters = []; columns = None; keeping = keepings.Stays; declared = Some p.types }) o))
     by (Some e) = tt
     by None = λ h. numbered_by true rule h
 
@@ -284,11 +284,11 @@ after_sound : (rule : Rule) (a : After) → IsSound (held_by rule (request_behin
 after_sound rule (afters.Run bound) = tt
 after_sound rule (afters.Prepare prepared) = by prepared.columns
   where
-    by : (o : Option (List FieldDescription)) → IsSound rule (exchange_for (prepare_by rule prepared o))
+    by : (o : Option (List FieldDescription)) → IsSound rule (exchange_for (prepare_by rule (record prepared { declared = None }) o))
     by (Some columns) = tt
     by None = tells (entry_at prepared.sql rule.cache.entries)
       where
-        tells : (o : Option Entry) → IsSound rule (exchange_for (tell_or_describe rule prepared o))
+        tells : (o : Option Entry) → IsSound rule (exchange_for (tell_or_describe rule (record prepared { declared = None }) o))
         tells (Some e) = tt
         tells None = λ h. numbered_by true rule h
 

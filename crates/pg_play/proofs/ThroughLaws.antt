@@ -84,7 +84,7 @@ handed_is (requests.Evict v) reply told e = subst IsHanded (same_Some (request_b
   where
     by : (a : After) → IsHanded (request_behind a)
     by (afters.Run bound) = tt
-    by (afters.Prepare prepared) = tt
+    by (afters.Prepare prepared) = refl
 handed_is _ reply told e = absurd cc
 
 -- so behind the first exchange no type is known by its name alone

@@ -2,8 +2,7 @@ ghost use Rattle.std.specs.Prelude.{◌≡◌, true, IfOk, OnErr};
 ghost use Rattle.pg_conn.specs.States.{to_prepare};
 ghost use Rattle.pg_play.specs.Shown.{IsUncopied, asked_of, has_query};
 
-use pg_call::{Keeping, Prepared};
-use pg_conn::{Preparation, Request};
+use pg_conn::{Preparation, Request, prepare_request};
 use pg_script::Call;
 use pg_wire::{Error, Sequence};
 use std::alloc::Global;
@@ -12,14 +11,8 @@ use std::alloc::Global;
 fn preparing(alloc: Global, preparation: &Preparation) -> Result<Request, Error>
     ensures ok { IfOk result (λ r. r ≡ to_prepare preparation.now) }
 {
-    let sql = preparation.sql.to_copy(alloc)?;
-    let parameters = preparation.types.to_copy(alloc)?;
-    Ok(Request::Prepare(Prepared {
-        sql,
-        parameters,
-        columns: None,
-        keeping: Keeping::Stays,
-    }))
+    let preparation = preparation.to_copy(alloc)?;
+    Ok(prepare_request(alloc, preparation))
 }
 
 /// What the call of a step asks of a connection on which so many transactions and savepoints are open, in a copy of its own. A copy from the client as it came is not asked for.

@@ -17,7 +17,7 @@ use pg_nullable::nulls_query;
 use pg_report::{Answer, End, Item, Outcome};
 use pg_script::{Call, Chain, Step};
 use pg_stream::Link;
-use pg_wire::{Error, Oids, Sequence, Text};
+use pg_wire::{Error, Sequence, Text};
 use std::alloc::Global;
 use std::mem;
 
@@ -26,9 +26,8 @@ pub(crate) fn preparing(alloc: Global, step: &Step, sql: &Text) -> Option<Step>
     ensures { IfSome result (λ first. first ≡ preparing step.now sql.now) }
 {
     let sql = sql.to_copy(alloc).ok()?;
-    let types = Oids::new(alloc);
     Some(Step {
-        call: Call::Prepare(Preparation { sql, types }),
+        call: Call::Prepare(Preparation::untyped(alloc, sql)),
         polls: step.polls,
         most: step.most,
     })

@@ -15,7 +15,7 @@ use Rattle.pg_arguments.specs.Encoded.{Encoded, wire, wires, FitsWire}
 use Rattle.pg_arguments.specs.Arguments.{Arguments, HasValues}
 use Rattle.pg_request.specs.declared.naming.Declared.{Declared}
 use Rattle.pg_request.specs.Queries.{values_in, those_in, AreValues}
-use Rattle.pg_request.specs.Asked.{bytes_of, typed_arguments}
+use Rattle.pg_request.specs.Asked.{bytes_of, declared_arguments, declared_names, numbers_in, typed_arguments}
 
 -- as many values as there are, with some bytes behind them
 values_again : (values : List (Option (List ℕ))) (rest : List ℕ) → AllByRecursion FitsValue values → many_at value_at (length values) (flat_map value values ++ rest) ≡ Some (values, rest)
@@ -88,3 +88,7 @@ none_are_values bytes e = rw e (refl, refl)
 pub no_values : (types bytes : List ℕ) (names : List Declared) → names ≡ [] → record { types = types; values = values_in 0 bytes; names = names } ≡ typed_arguments types
 unfolding many_at
 no_values types bytes names e = rw e refl
+
+pub no_values_but : (ds : List Declared) (types bytes : List ℕ) (names : List Declared) → types ≡ numbers_in ds → names ≡ declared_names ds → record { types = types; values = values_in 0 bytes; names = names } ≡ declared_arguments ds
+unfolding many_at
+no_values_but ds types bytes names e n = rw (e, n) refl

@@ -49,6 +49,29 @@ are_numbered (t ∷ ts) = is_some (oid_of t) && are_numbered ts
 abbrev pub names_in : List TypeParts → List Declared
 names_in ts = if are_numbered ts then [] else map declared_as ts
 
+-- ---- types as a caller declares them for a statement to prepare
+
+abbrev pub number_of : Declared → Option ℕ
+number_of (declared.Number oid) = Some oid
+number_of _ = None
+
+-- their OIDs, and 0 in the place of one that isn't known
+abbrev pub numbers_in : List Declared → List ℕ
+numbers_in [] = []
+numbers_in (d ∷ ds) = unwrap_or (number_of d) 0 ∷ numbers_in ds
+
+abbrev pub all_numbers : List Declared → Bool
+all_numbers [] = true
+all_numbers (d ∷ ds) = is_some (number_of d) && all_numbers ds
+
+-- the types as they are declared, where one of them has no OID
+abbrev pub declared_names : List Declared → List Declared
+declared_names ds = if all_numbers ds then [] else ds
+
+-- no values, but types as they are declared
+abbrev pub declared_arguments : List Declared → ArgumentsSeen
+declared_arguments ds = record { types = numbers_in ds; values = []; names = declared_names ds }
+
 -- ---- OIDs that are open within values
 
 -- the name of the first type whose OID is open

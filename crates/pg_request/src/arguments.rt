@@ -1,8 +1,10 @@
 ghost use Rattle.std.specs.Prelude.{◌≡◌, Some, None, IfOk, IfErr, OnOk, length, flat_map};
 ghost use Rattle.pg_wire.specs.Bytes.{value};
-ghost use Rattle.pg_request.specs.Asked.{oids_in, open_type, missing_type, names_in, RefusesType, sent_as, typed_arguments, no_arguments, numbered, HasBytesOf};
+ghost use Rattle.pg_request.specs.Asked.{oids_in, open_type, missing_type, names_in, RefusesType, sent_as, typed_arguments, no_arguments, numbered, HasBytesOf, declared_arguments};
 
-use crate::naming::{Declared, all_declared, are_numbered, copied};
+use crate::naming::{
+    Declared, all_declared, are_numbered, copy_declared, declared_names, numbers_in,
+};
 use pg_arguments::{Hole, PgArguments, PgTypeInfo};
 use pg_wire::{Blob, Error, Oid, Oids, Sequence, Text};
 use std::alloc::Global;
@@ -97,6 +99,21 @@ impl Arguments {
         }
     }
 
+    /// No values, but the types of arguments as a caller declares them. Only want of memory refuses them.
+    pub fn declared(alloc: Global, declared: &[Declared]) -> Result<Self, Error>
+        ensures declared { IfOk result (λ a. a ≡ declared_arguments declared.now) }
+        ensures memory { IfErr result (λ e. e ≡ Error.OutOfMemory) }
+    {
+        let types = numbers_in(alloc, declared)?;
+        let names = copy_declared(alloc, declared_names(declared))?;
+        Ok(Arguments {
+            types,
+            count: 0,
+            encoded: Blob::new(alloc),
+            names,
+        })
+    }
+
     /// No arguments, which takes no memory.
     pub(crate) fn none(alloc: Global) -> Self
         ensures { result ≡ no_arguments }
@@ -177,7 +194,7 @@ impl Arguments {
     {
         let types = self.types.to_copy(alloc)?;
         let encoded = Blob::from_slice(alloc, self.encoded.as_bytes())?;
-        let names = copied(alloc, self.names.as_slice())?;
+        let names = copy_declared(alloc, self.names.as_slice())?;
         Ok(Arguments {
             types,
             count: self.count,

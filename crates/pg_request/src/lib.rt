@@ -11,7 +11,7 @@ mod query;
 mod texts;
 
 pub use arguments::Arguments;
-pub use naming::Declared;
+pub use naming::{Declared, copy_declared, declared_names};
 pub use preparation::Preparation;
 pub use progress::{CacheStep, Progress};
 pub use query::Query;

@@ -1,9 +1,9 @@
 //! Types as a caller declares them for arguments.
 ghost use Rattle.std.specs.Prelude.{◌≡◌, ◌∷◌, map, IfOk, IfErr};
-ghost use Rattle.pg_request.specs.Asked.{are_numbered, declared_as, declared_by_name};
+ghost use Rattle.pg_request.specs.Asked.{all_numbers, are_numbered, declared_as, declared_by_name, declared_names, number_of, numbers_in};
 
 use pg_arguments::{PgTypeInfo, PgTypeKind};
-use pg_wire::{Error, Oid, Sequence, Text};
+use pg_wire::{Error, Oid, Oids, Sequence, Text};
 use std::alloc::Global;
 
 /// The type of an argument: one that has an OID, or one that is known by its name alone. (PostgreSQL manual, "pg_type".)
@@ -16,6 +16,16 @@ pub enum Declared {
 }
 
 impl Declared {
+    // Its OID, where it has one.
+    fn number(&self) -> Option<Oid>
+        ensures { result ≡ number_of self.now }
+    {
+        match self {
+            Declared::Number(oid) => Some(*oid),
+            Declared::Name(_) | Declared::ArrayOf(_) => None,
+        }
+    }
+
     /// An equal value. Only want of memory refuses it.
     pub fn to_copy(&self, alloc: Global) -> Result<Self, Error>
         ensures copy { IfOk result (λ d. d ≡ self.now) }
@@ -77,8 +87,39 @@ pub(crate) fn all_declared(alloc: Global, types: &[PgTypeInfo]) -> Result<Sequen
     Ok(all)
 }
 
-/// Equal ones.
-pub(crate) fn copied(alloc: Global, names: &[Declared]) -> Result<Sequence<Declared>, Error>
+// Whether each of them has an OID.
+fn all_numbers(declared: &[Declared]) -> bool
+    ensures { result ≡ all_numbers declared.now }
+{
+    for of in declared {
+        if of.number().is_none() {
+            return false;
+        }
+    }
+    true
+}
+
+/// The OIDs of types, and 0 in the place of one that isn't known.
+pub(crate) fn numbers_in(alloc: Global, declared: &[Declared]) -> Result<Oids, Error>
+    ensures oids { IfOk result (λ o. o ≡ numbers_in declared.now) }
+    ensures memory { IfErr result (λ e. e ≡ Error.OutOfMemory) }
+{
+    let mut oids = Oids::new(alloc);
+    for of in declared {
+        oids.push(of.number().unwrap_or(Oid(0)))?;
+    }
+    Ok(oids)
+}
+
+/// These types as they are declared, where one of them is known by its name alone.
+pub fn declared_names(declared: &[Declared]) -> &[Declared]
+    ensures { result.now ≡ declared_names declared.now }
+{
+    if all_numbers(declared) { &[] } else { declared }
+}
+
+/// Equal ones. Only want of memory refuses them.
+pub fn copy_declared(alloc: Global, names: &[Declared]) -> Result<Sequence<Declared>, Error>
     ensures ok { IfOk result (λ d. d ≡ names.now) }
     ensures memory { IfErr result (λ e. e ≡ Error.OutOfMemory) }
 {

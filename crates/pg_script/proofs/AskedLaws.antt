@@ -26,7 +26,7 @@ use Rattle.pg_script.proofs.Apart.{is_word, apart}
 abbrev Texts : Type 0
 Texts = List (List ℕ) × List Token
 
-unicode : (s t : List ℕ) → text_in s ≡ Some t → IsUnicode t × (s ≡ t)
+pub unicode : (s t : List ℕ) → text_in s ≡ Some t → IsUnicode t × (s ≡ t)
 unicode s t e = let u = utf8_takes (is_utf8 s) s t e in (subst IsUnicode u.1 u.0, u.1)
 
 more_take : (ts : List Token) (x : Texts) → more_texts ts ≡ Some x → (ts ≡ comma_tokens x.0 ++ x.1) × AllByRecursion IsUnicode x.0

@@ -21,7 +21,7 @@ use Rattle.pg_script.specs.Arguments.{alone, bytes_arg, text_in, text_arg, nonce
 use Rattle.pg_script.specs.Asking.{query_arg, asked_arg, prepare_arg, copying_arg}
 use Rattle.pg_script.proofs.CopyingLaws.{copying_takes, copying_again, copying_apart}
 use Rattle.pg_script.specs.Lines.{call_with, call_arg, take_of, take_line, most_arg, step_line, link_line, line_with, line_from}
-use Rattle.pg_script.specs.Grammar.{Asked, Raw, Kept, Once, Short, Long, KeyFits, query_tokens, asked_tokens, copying_tokens, preparation_tokens, tokens_of, call_tokens, IsUnicode, CopyFits, QueryFits, AskedFits, LineFits, CallFits}
+use Rattle.pg_script.specs.Grammar.{PreparationFits, Asked, Raw, Kept, Once, Short, Long, KeyFits, query_tokens, asked_tokens, copying_tokens, preparation_tokens, tokens_of, call_tokens, IsUnicode, CopyFits, QueryFits, AskedFits, LineFits, CallFits}
 use Rattle.pg_locks.specs.declared.key.PgAdvisoryLockKey.{PgAdvisoryLockKey}
 use Rattle.pg_locks.specs.declared.key.PgAdvisoryLockKey.TheVariants.{BigInt}
 use Rattle.pg_options.specs.declared.ssl_mode.PgSslMode.{PgSslMode}
@@ -29,7 +29,7 @@ use Rattle.pg_script.specs.Nonces.{IsNonce, is_nonce, nonce_in}
 use Rattle.pg_script.proofs.Found.{bind_some, utf8_takes}
 use Rattle.pg_script.proofs.Apart.{apart}
 use Rattle.pg_script.proofs.AskedLaws.{given_takes, given_again, arguments_apart}
-use Rattle.pg_script.proofs.PrepareLaws.{number_takes, prepare_takes, prepare_again, oids_apart}
+use Rattle.pg_script.proofs.PrepareLaws.{number_takes, prepare_takes, prepare_again, types_apart}
 use Rattle.pg_script.proofs.NonceLaws.{nonce_lawful, nonce_passes}
 use Rattle.std.proofs.lemmas.Option.{same_Some}
 
@@ -194,9 +194,6 @@ bare Is x k is rest y e =
 
 -- ---- calls
 
-abbrev PreparationFits : Preparation → Type 0
-PreparationFits p = IsUnicode p.sql
-
 -- the tokens are those of the call, which may have its values
 abbrev pub IsCall : List Token → Call → Type 0
 IsCall ts c = (asked : Asked) × (ts ≡ call_tokens asked c) × CallFits asked c
@@ -266,7 +263,7 @@ call_again asked calls.Commit f = record { read = refl; plain = refl; parts = re
 call_again asked calls.Rollback f = record { read = refl; plain = refl; parts = refl }
 call_again asked calls.StartRollback f = record { read = refl; plain = refl; parts = refl }
 call_again asked (calls.Release sql) f = absurd f
-call_again asked (calls.Prepare p) f = record { read = rw (prepare_again p f) refl; plain = refl; parts = oids_apart (Text p.sql) p.types }
+call_again asked (calls.Prepare p) f = record { read = rw (prepare_again p f) refl; plain = refl; parts = types_apart (Text p.sql) p.types }
 call_again asked calls.Clear f = record { read = refl; plain = refl; parts = refl }
 call_again asked (calls.CopyOut q) f = record { read = rw f.0 (ap (λ (r : QueryText). Some (calls.CopyOut r)) (sym f.1)); plain = refl; parts = refl }
 call_again asked (calls.Chain (chains.Describe s)) f = record { read = rw f refl; plain = refl; parts = refl }

@@ -61,6 +61,8 @@ word_law words.Texts = record { shape = refl; read = refl; no_mode = refl; no_ba
 word_law words.Comma = record { shape = refl; read = refl; no_mode = refl; no_bare = refl }
 word_law words.Named = record { shape = refl; read = refl; no_mode = refl; no_bare = refl }
 word_law words.Colon = record { shape = refl; read = refl; no_mode = refl; no_bare = refl }
+word_law words.Name = record { shape = refl; read = refl; no_mode = refl; no_bare = refl }
+word_law words.Array = record { shape = refl; read = refl; no_mode = refl; no_bare = refl }
 word_law (words.Call call_words.Execute) = record { shape = refl; read = refl; no_mode = refl; no_bare = refl }
 word_law (words.Call call_words.ExecuteMany) = record { shape = refl; read = refl; no_mode = refl; no_bare = refl }
 word_law (words.Call call_words.Fetch) = record { shape = refl; read = refl; no_mode = refl; no_bare = refl }

@@ -1,6 +1,8 @@
 -- What the calls with a query run, read from its tokens.
 use Rattle.std.specs.Prelude.{◌∷◌, ◌++◌, [], List, ℕ, zero, suc, Bool, true, false, length, Option, Some, None}
 use Rattle.pg_request.specs.Queries.{QueryText, plain_text}
+use Rattle.pg_request.specs.declared.naming.Declared.{Declared}
+use Rattle.pg_request.specs.declared.naming.Declared.TheVariants as declared
 use Rattle.pg_request.specs.declared.preparation.Preparation.{Preparation}
 use Rattle.pg_script.specs.declared.argument.Argument.{Argument}
 use Rattle.pg_script.specs.declared.argument.Argument.TheVariants as given
@@ -78,18 +80,27 @@ asked_arg (Space ∷ Word words.Query ∷ rest) = given_arg true rest
 asked_arg (Space ∷ Word words.Once ∷ rest) = given_arg false rest
 asked_arg _ = None
 
--- OIDs up to the end
-abbrev pub oids_in : List Token → Option (List ℕ)
-oids_in [] = Some []
-oids_in (Space ∷ Number oid ∷ rest) = oids_in rest >>= λ others. Some (oid ∷ others)
-oids_in _ = None
+-- the type of a parameter, by its OID or by its name, or of arrays by the name of their elements, and the tokens behind it
+abbrev pub type_at : List Token → Option (Declared × List Token)
+type_at (Space ∷ Number oid ∷ rest) = Some (declared.Number oid, rest)
+type_at (Space ∷ Word words.Name ∷ Text s ∷ rest) = text_in s >>= λ name. Some (declared.Name name, rest)
+type_at (Space ∷ Word words.Array ∷ Text s ∷ rest) = text_in s >>= λ name. Some (declared.ArrayOf name, rest)
+type_at _ = None
+
+-- types up to the end
+abbrev pub types_in : List Token → Option (List Declared)
+types_in [] = Some []
+types_in (Space ∷ Number oid ∷ rest) = types_in rest >>= λ others. Some (declared.Number oid ∷ others)
+types_in (Space ∷ Word words.Name ∷ Text s ∷ rest) = text_in s >>= λ name. types_in rest >>= λ others. Some (declared.Name name ∷ others)
+types_in (Space ∷ Word words.Array ∷ Text s ∷ rest) = text_in s >>= λ name. types_in rest >>= λ others. Some (declared.ArrayOf name ∷ others)
+types_in _ = None
 
 -- a text of SQL, and the types of its first parameters
 abbrev pub prepare_arg : List Token → Option Preparation
 prepare_arg (Space ∷ Text s ∷ rest) = do
   sql ← text_in s
-  oids ← oids_in rest
-  Some (record { sql = sql; types = oids })
+  types ← types_in rest
+  Some (record { sql = sql; types = types })
 prepare_arg _ = None
 
 -- a piece of data, and the tokens behind it

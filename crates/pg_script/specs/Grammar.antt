@@ -5,6 +5,8 @@ use Rattle.std.specs.List.{AllByRecursion, list_any}
 use Rattle.std.specs.Str.{is_utf8}
 use Rattle.std.specs.Str.Parse.{IsNumeral, digits_value}
 use Rattle.pg_request.specs.Queries.{QueryText, plain_text}
+use Rattle.pg_request.specs.declared.naming.Declared.{Declared}
+use Rattle.pg_request.specs.declared.naming.Declared.TheVariants as declared
 use Rattle.pg_request.specs.declared.preparation.Preparation.{Preparation}
 use Rattle.pg_script.specs.declared.argument.Bare.{Bare}
 use Rattle.pg_script.specs.declared.argument.Bare.TheVariants as bare
@@ -76,13 +78,19 @@ asked_tokens (Once sql arguments) = Space ∷ Word words.Once ∷ Space ∷ Text
 asked_tokens (Short n) = Space ∷ Number n ∷ []
 asked_tokens (Long key) = Space ∷ Key key ∷ []
 
--- the types of the first parameters of a text, by their OIDs
-abbrev pub oid_tokens : List ℕ → List Token
-oid_tokens [] = []
-oid_tokens (oid ∷ more) = Space ∷ Number oid ∷ oid_tokens more
+-- the type of a parameter, by its OID or by its name, or of arrays by the name of their elements
+abbrev pub type_tokens : Declared → List Token
+type_tokens (declared.Number oid) = Number oid ∷ []
+type_tokens (declared.Name name) = Word words.Name ∷ Text name ∷ []
+type_tokens (declared.ArrayOf element) = Word words.Array ∷ Text element ∷ []
+
+-- those of the first parameters of a text
+abbrev pub types_tokens : List Declared → List Token
+types_tokens [] = []
+types_tokens (d ∷ more) = Space ∷ type_tokens d ++ types_tokens more
 
 abbrev pub preparation_tokens : Preparation → List Token
-preparation_tokens p = Space ∷ Text p.sql ∷ oid_tokens p.types
+preparation_tokens p = Space ∷ Text p.sql ∷ types_tokens p.types
 
 -- the data of a copy from the client, in pieces
 abbrev pub piece_tokens : List (List ℕ) → List Token
@@ -189,6 +197,14 @@ EndFits _ = Unit {0}
 abbrev pub CopyFits : Copying → Type 0
 CopyFits copying = IsUnicode copying.sql × EndFits copying.end
 
+abbrev pub TypeFits : Declared → Type 0
+TypeFits (declared.Number oid) = Unit {0}
+TypeFits (declared.Name name) = IsUnicode name
+TypeFits (declared.ArrayOf element) = IsUnicode element
+
+abbrev pub PreparationFits : Preparation → Type 0
+PreparationFits p = IsUnicode p.sql × AllByRecursion TypeFits p.types
+
 abbrev pub CallFits : Asked → Call → Type 0
 CallFits asked (calls.Execute query) = AskedFits asked query
 CallFits asked (calls.ExecuteMany query) = AskedFits asked query
@@ -204,7 +220,7 @@ CallFits asked (calls.BeginWith query) = QueryFits query
 CallFits asked calls.Commit = Unit {0}
 CallFits asked calls.Rollback = Unit {0}
 CallFits asked calls.StartRollback = Unit {0}
-CallFits asked (calls.Prepare preparation) = IsUnicode preparation.sql
+CallFits asked (calls.Prepare preparation) = PreparationFits preparation
 CallFits asked calls.Clear = Unit {0}
 CallFits asked (calls.CopyOut query) = QueryFits query
 CallFits asked (calls.Chain (chains.CopyIn copying)) = CopyFits copying

@@ -81,10 +81,12 @@ spelling_of words.Texts = codes "texts:"
 spelling_of words.Comma = codes ","
 spelling_of words.Named = codes "named:"
 spelling_of words.Colon = codes ":"
+spelling_of words.Name = codes "name:"
+spelling_of words.Array = codes "array:"
 spelling_of (words.Call word) = call_spelling word
 
 abbrev pub all_words : List Keyword
-all_words = words.Step ∷ words.Server ∷ words.Raw ∷ words.Query ∷ words.Once ∷ words.Finish ∷ words.Abort ∷ words.Leave ∷ words.Text ∷ words.Bytea ∷ words.Texts ∷ words.Comma ∷ words.Named ∷ words.Colon ∷ words.Wait ∷ words.Call call_words.Execute ∷ words.Call call_words.Fetch ∷ words.Call call_words.FetchAll ∷ words.Call call_words.FetchOne
+all_words = words.Step ∷ words.Server ∷ words.Raw ∷ words.Query ∷ words.Once ∷ words.Finish ∷ words.Abort ∷ words.Leave ∷ words.Text ∷ words.Bytea ∷ words.Texts ∷ words.Comma ∷ words.Named ∷ words.Colon ∷ words.Name ∷ words.Array ∷ words.Wait ∷ words.Call call_words.Execute ∷ words.Call call_words.Fetch ∷ words.Call call_words.FetchAll ∷ words.Call call_words.FetchOne
     ∷ words.Call call_words.FetchOptional ∷ words.Call call_words.FetchMany ∷ words.Call call_words.ExecuteMany ∷ words.Call call_words.Ping ∷ words.Call call_words.Flush ∷ words.Call call_words.Begin
     ∷ words.Call call_words.BeginWith ∷ words.Call call_words.Commit ∷ words.Call call_words.Rollback ∷ words.Call call_words.StartRollback ∷ words.Call call_words.Prepare ∷ words.Call call_words.Clear ∷ words.Call call_words.CopyIn ∷ words.Call call_words.CopyOut ∷ words.Call call_words.Describe ∷ words.Call call_words.Lock ∷ words.Call call_words.TryLock ∷ words.Call call_words.Unlock ∷ words.Call call_words.DropLock ∷ words.Most ∷ words.Take ∷ words.Hold ∷ words.End
     ∷ words.Fail ∷ words.Break ∷ words.Start ∷ words.User ∷ words.Password ∷ words.Database ∷ words.Application ∷ words.Option ∷ words.SslMode ∷ words.Cache ∷ words.Digits ∷ words.None ∷ words.Link ∷ words.Upgrade

@@ -1,15 +1,15 @@
 ghost use Rattle.std.specs.Prelude.{◌≡◌, ◌∷◌, [], option_map};
 ghost use Rattle.pg_script.specs.Reading.{Gives};
-ghost use Rattle.pg_script.specs.Asking.{in_front, comma_text, more_texts, texts_at, argument_at, arguments_in, query_arg, given_arg, asked_arg, oids_in, prepare_arg, piece_arg, pieces_in, copy_end_at, copying_arg};
+ghost use Rattle.pg_script.specs.Asking.{in_front, comma_text, more_texts, texts_at, argument_at, arguments_in, query_arg, given_arg, asked_arg, prepare_arg, type_at, types_in, piece_arg, pieces_in, copy_end_at, copying_arg};
 
 use crate::argument::Argument;
-use crate::arguments::{number_arg, text_arg, text_of};
+use crate::arguments::{text_arg, text_of};
 use crate::encoding::given_query;
 use crate::error::LineError;
 use crate::step::{CopyEnd, Copying};
 use crate::token::{Keyword, Token};
-use pg_request::{Preparation, Query};
-use pg_wire::{Blob, Oid, Oids, Sequence, Text};
+use pg_request::{Declared, Preparation, Query};
+use pg_wire::{Blob, Oid, Sequence, Text};
 use std::alloc::Global;
 
 // A text behind a comma, and the tokens behind it.
@@ -158,18 +158,46 @@ pub(crate) fn asked_arg(alloc: Global, tokens: &[Token]) -> Result<Query, LineEr
     }
 }
 
-// OIDs, and nothing more.
-fn oids_in(alloc: Global, tokens: &[Token]) -> Result<Oids, LineError>
-    ensures { Gives (λ o. o) result (oids_in tokens.now) }
+// The type of a parameter, and the tokens behind it.
+fn type_at(alloc: Global, tokens: &[Token]) -> Result<(Declared, &[Token]), LineError>
+    ensures { Gives (λ x. (x.0, x.1.now)) result (type_at tokens.now) }
 {
-    let mut oids = Oids::new(alloc);
+    match tokens {
+        [Token::Space, Token::Number(oid), rest @ ..] => Ok((Declared::Number(Oid(*oid)), rest)),
+        [
+            Token::Space,
+            Token::Word(Keyword::Name),
+            Token::Text(name),
+            rest @ ..,
+        ] => {
+            let name = text_of(alloc, name.as_bytes())?;
+            Ok((Declared::Name(name), rest))
+        }
+        [
+            Token::Space,
+            Token::Word(Keyword::Array),
+            Token::Text(element),
+            rest @ ..,
+        ] => {
+            let element = text_of(alloc, element.as_bytes())?;
+            Ok((Declared::ArrayOf(element), rest))
+        }
+        _ => Err(LineError::Bad),
+    }
+}
+
+// Types, and nothing more.
+fn types_in(alloc: Global, tokens: &[Token]) -> Result<Sequence<Declared>, LineError>
+    ensures { Gives (λ t. t) result (types_in tokens.now) }
+{
+    let mut types = Sequence::new(alloc);
     let mut rest = tokens;
     while !rest.is_empty() {
-        let (number, behind) = number_arg(rest)?;
-        oids.push(Oid(number))?;
+        let (of, behind) = type_at(alloc, rest)?;
+        types.push(of)?;
         rest = behind;
     }
-    Ok(oids)
+    Ok(types)
 }
 
 /// One text of SQL, and the types of its first parameters.
@@ -179,7 +207,7 @@ pub(crate) fn prepare_arg(alloc: Global, tokens: &[Token]) -> Result<Preparation
     match tokens {
         [Token::Space, Token::Text(sql), rest @ ..] => {
             let sql = text_of(alloc, sql.as_bytes())?;
-            let types = oids_in(alloc, rest)?;
+            let types = types_in(alloc, rest)?;
             Ok(Preparation { sql, types })
         }
         _ => Err(LineError::Bad),

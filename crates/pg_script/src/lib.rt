@@ -21,8 +21,8 @@
 //! A CALL is `execute`, `execute_many`, `fetch`, `fetch_many`, `fetch_all`, `fetch_optional` or `fetch_one`, each with `raw TEXT`
 //! behind it, a text of SQL, or with `query TEXT` and any number of ARG, each behind a space: one statement with arguments, which is kept,
 //! or with `once` in place of `query`, whose statement isn't kept; `begin_with TEXT` and `copyout TEXT`, where the text is one of SQL as well;
-//! `prepare TEXT` and any number of N, each behind a space: the OIDs of the types of its first parameters; `describe TEXT`, which prepares a text
-//! of SQL and asks of its columns whether they may be null; `lock KEY`, `trylock KEY`, `unlock KEY` and `droplock KEY`, where a KEY is a Z of eight
+//! `prepare TEXT` and any number of types of its first parameters, each behind a space: an N, the OID of the type, `name:TEXT`, the type of this name,
+//! or `array:TEXT`, the arrays over it; `describe TEXT`, which prepares a text of SQL and asks of its columns whether they may be null; `lock KEY`, `trylock KEY`, `unlock KEY` and `droplock KEY`, where a KEY is a Z of eight
 //! bytes, or two Z of four bytes with a comma between; or `ping`, `flush`, `begin`, `commit`, `rollback`, `start_rollback` or `clear`, which
 //! closes all statements that are kept.
 //!

@@ -73,6 +73,9 @@ pub(crate) enum Keyword {
     /// In front of the name of a type, and between that and the bytes of a value.
     Named,
     Colon,
+    /// In front of the name of a type, and of that of the elements of an array.
+    Name,
+    Array,
     Call(CallWord),
 }
 

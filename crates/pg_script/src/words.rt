@@ -11,7 +11,7 @@ use pg_options::PgSslMode;
 use std::alloc::Global;
 
 /// All words of a script, the most usual first.
-const WORDS: [Keyword; 58] = [
+const WORDS: [Keyword; 60] = [
     Keyword::Step,
     Keyword::Server,
     Keyword::Raw,
@@ -26,6 +26,8 @@ const WORDS: [Keyword; 58] = [
     Keyword::Comma,
     Keyword::Named,
     Keyword::Colon,
+    Keyword::Name,
+    Keyword::Array,
     Keyword::Wait,
     Keyword::Call(CallWord::Execute),
     Keyword::Call(CallWord::Fetch),
@@ -143,6 +145,8 @@ fn spelling_of(word: Keyword) -> &'static [u8]
         Keyword::Comma => b",",
         Keyword::Named => b"named:",
         Keyword::Colon => b":",
+        Keyword::Name => b"name:",
+        Keyword::Array => b"array:",
         Keyword::Call(word) => call_spelling(word),
     }
 }

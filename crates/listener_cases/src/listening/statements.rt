@@ -7,7 +7,7 @@ use pg_conn::{Dial, MemoryDial, PgStatement, Preparation};
 use pg_listen::{PoolLedger, PoolSeat};
 use pg_listeners::{Describe, PgListener, PoolHolder, SeatHolder};
 use pg_stream::MemoryLink;
-use pg_wire::{Error, Oids, Poll, Text};
+use pg_wire::{Error, Poll, Text};
 use std::alloc::Global;
 use std::sync::Wait;
 
@@ -71,8 +71,7 @@ where
     R: Wait,
 {
     let sql = Text::from_str(alloc, "SELECT")?;
-    let types = Oids::new(alloc);
-    match prepare(rt, listener, Preparation { sql, types }) {
+    match prepare(rt, listener, Preparation::untyped(alloc, sql)) {
         Poll::Pending => out.push_str(" pending")?,
         Poll::Ready(Ok(told)) => {
             write!(

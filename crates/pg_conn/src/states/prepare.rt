@@ -6,7 +6,7 @@ ghost use Rattle.pg_conn.specs.States.{IsCalling, KeepsCalling, PollsPrepare, St
 use crate::{Asks, PgConnection, PgStatement, Preparation, Request};
 use pg_call::{Keeping, Prepared};
 use pg_stream::Link;
-use pg_wire::{Error, Oids, Poll, Text};
+use pg_wire::{Error, Oids, Poll, Sequence, Text};
 use std::alloc::Global;
 use std::mem;
 
@@ -23,12 +23,13 @@ pub fn prepare_request(alloc: Global, preparation: Preparation) -> Request
 {
     let mut preparation = preparation;
     let sql = mem::replace(&mut preparation.sql, Text::new(alloc));
-    let parameters = mem::replace(&mut preparation.types, Oids::new(alloc));
+    let declared = mem::replace(&mut preparation.types, Sequence::new(alloc));
     Request::Prepare(Prepared {
         sql,
-        parameters,
+        parameters: Oids::new(alloc),
         columns: None,
         keeping: Keeping::Stays,
+        declared: Some(declared),
     })
 }
 
@@ -42,11 +43,11 @@ impl<L> PgConnection<L> {
         ensures request { result.request ≡ Some (to_prepare (untyped sql)) }
         ensures calling { IsCalling kinds.Prepare (begun_by result.request result.conn.now) }
     {
-        let types = Oids::new(self.alloc);
-        self.prepare_with(Preparation { sql, types })
+        self.prepare_with(Preparation::untyped(self.alloc, sql))
     }
 
-    /// The same where the caller says the types of the first parameters; the server finds each that the caller doesn't say.
+    /// The same where the caller says the types of the first parameters; the server finds each that the caller doesn't say. A type that is known by its name
+    /// alone is looked up first, unless a statement of this text is kept.
     pub fn prepare_with(&mut self, preparation: Preparation) -> Prepare<'_, L>
         ensures same { result.conn.ghost_name ≡ self.entry.ghost_name }
         ensures conn { result.conn.now ≡ self.old }
