@@ -590,8 +590,8 @@ unlooked_turns m lookup e h =
     by : (start : Ledger) (r : Request) (said : List FrontendMessage) (hs : List Frame) (items : List CallItem) (i : CallIs start r said hs items m.ledger (calls.Asked (requests.Look lookup))) → CantLook lookup m.learnt e
         → FailsBy (resolved (look_at lookup m)) (idle (resolved (look_at lookup m))) start r (leaves_call start r said hs items m.ledger (calls.Asked (requests.Look lookup)) i).own hs e
     by start r said hs items i (inl memory) = rw memory (inl (tt, tt))
-    by start r said hs items i (inr (inl fails)) = inr (inr (lookup, sym i.0, inl (m.learnt.seeking, fails)))
-    by start r said hs items i (inr (inr misses)) = inr (inr (lookup, sym i.0, inr (inr (m.learnt, misses))))
+    by start r said hs items i (inr (inl fails)) = inr (inr (lookup, sym i.0, inl fails))
+    by start r said hs items i (inr (inr misses)) = inr (inr (lookup, sym i.0, inr (inr misses)))
 
 said_nothing : (lookup : Lookup) → lookup.text ≡ [] → CanBeSaid (requests.Look lookup)
 said_nothing lookup e = rw e ((refl, tt), tt)
@@ -810,7 +810,7 @@ sends_none t true u e = absurd cc
 takes_by : {A : Type 0} (seen : A → LinkSeen) (a b : ConnOf A) (new : Running) (l : Learnt) (front : Front) (body rest : List ℕ) (fails : Bool) (beat : Beat) → IsHeardFront a.stream.held front → IsFrontOf a.stream.held front (framed front.tag body) rest
     → StaysIn a.call fails new.call → (fails ≡ true → kept_for a + level_of a.change a.groups + 57 ≤ a.stream.spare) → a.stream.unsent ≡ [] → Accepts front fails (record a { ledger = new.ledger; call = new.call; learnt = l }) b → Learns (framed front.tag body ∷ []) a.learnt l
     → ((c : ConnSeen) → AllMoved (stream_by seen a.stream) c.stream → BeatCause (seen_by seen a) c beat)
-    → ((c : ConnSeen) → c.ledger ≡ new.ledger → c.call ≡ new.call → (fails ≡ false → c.stream.unsent ≡ []) → (start : Ledger) (r : Request) (said : List FrontendMessage) (hs : List Frame) (items : List CallItem) → CallIs start r said hs items a.ledger a.call
+    → ((c : ConnSeen) → c.ledger ≡ new.ledger → c.call ≡ new.call → c.learnt ≡ l → (fails ≡ false → c.stream.unsent ≡ []) → (start : Ledger) (r : Request) (said : List FrontendMessage) (hs : List Frame) (items : List CallItem) → CallIs start r said hs items a.ledger a.call
     → Tells (seen_by seen a) c start r (said ++ fails_of fails) (hs ++ framed front.tag body ∷ []) items beat)
     → TakesBeat (seen_by seen a) (seen_by seen b) beat
 takes_by {A} seen a b new l front body rest fails beat f of stays_in room sent acc learns cause tells =
@@ -837,9 +837,9 @@ takes_by {A} seen a b new l front body rest fails beat f of stays_in room sent a
         learns = learns;
         tells = λ start r said hs items i.
             let none = no_groups fails in
-            (fails_of fails, refl, rw none (grew-none a.groups), tells c refl refl (sends_none t fails unsent) start r said hs items i);
+            (fails_of fails, refl, rw none (grew-none a.groups), tells c refl refl refl (sends_none t fails unsent) start r said hs items i);
         in_turn = λ start r said hs items i.
-            none_asked (seen_by seen a) c beat (fails_of fails) (frame ∷ []) (frame ∷ []) start r said hs items m.0 (heard_one frame (heard_tag front a.stream.held body rest f of)) (no_groups fails) i (tells c refl refl (sends_none t fails unsent) start r said hs items i);
+            none_asked (seen_by seen a) c beat (fails_of fails) (frame ∷ []) (frame ∷ []) start r said hs items m.0 (heard_one frame (heard_tag front a.stream.held body rest f of)) (no_groups fails) i (tells c refl refl refl (sends_none t fails unsent) start r said hs items i);
       },
     )
 
@@ -848,7 +848,7 @@ pub takes_message : {A : Type 0} (seen : A → LinkSeen) (a b : ConnOf A) (new :
     → Accepts front taken.fails_copy (record a { ledger = new.ledger; call = new.call; learnt = l }) b → Learns (framed front.tag body ∷ []) a.learnt l → TakesBeat (seen_by seen a) (seen_by seen b) taken.beat
 takes_message {A} seen a b new l front body rest taken f of takes stays_in room copy sent goes acc learns =
     takes_by seen a b new l front body rest taken.fails_copy taken.beat f of stays_in room sent acc learns (λ c m. taken_cause (seen_by seen a) c taken.beat goes m)
-    (λ c k w u start r said hs items i. told (seen_by seen a) c start r (said ++ fails_of taken.fails_copy) hs (framed front.tag body) items taken.beat taken.fails_copy copy u (rw (k, w) (takes start r said hs items i)))
+    (λ c k w n u start r said hs items i. told (seen_by seen a) c start r (said ++ fails_of taken.fails_copy) hs (framed front.tag body) items taken.beat taken.fails_copy copy u (rw (k, w) (takes start r said hs items i)))
 
 -- ---- what the call makes of the message at the front
 
@@ -924,8 +924,8 @@ looks_by start r said hs items ledger (calls.Own reply) i e = look_of r (subst (
 looks_by start r said hs items ledger _ i e = absurd cc
 
 -- a row of it that isn't taken ends the call
-fails_at : (a c : ConnSeen) (start : Ledger) (r : Request) (own : List Group) (hs : List Frame) (f : Frame) (lookup : Lookup) (x y : Learnt) (e : Error) → r ≡ requests.Look lookup → TakesFront f x y (Err e) → Unit {0} → FailsBy a c start r own (hs ++ f ∷ []) e
-fails_at a c start r own hs f lookup x y e is (inl (values, same, have, takes)) m = inr (inr (lookup, is, inr (inl (hs, values, x, y, ap (λ (g : Frame). hs ++ g ∷ []) same, have, takes))))
+fails_at : (a c : ConnSeen) (start : Ledger) (r : Request) (own : List Group) (hs : List Frame) (f : Frame) (lookup : Lookup) (x y : Learnt) (e : Error) → r ≡ requests.Look lookup → TakesFront f x y (Err e) → c.learnt ≡ y → FailsBy a c start r own (hs ++ f ∷ []) e
+fails_at a c start r own hs f lookup x y e is (inl (values, same, have, takes)) m = inr (inr (lookup, is, inr (inl (hs, values, x, ap (λ (g : Frame). hs ++ g ∷ []) same, have, subst (λ (l : Learnt). TakesRow values x l (Err e)) (sym m) takes))))
 fails_at a c start r own hs f lookup x y e is (inr (same, refused)) m = rw (refused_by e refused) (inl (tt, tt))
   where
     refused_by : (e : Error) → ◌≡◌ {A = Result (Unit {0}) Error} (Err e) (Err errors.OutOfMemory) → e ≡ errors.OutOfMemory
@@ -973,11 +973,11 @@ taken_in {A} seen a h m b front taken (Err e) beat f room sent now hears (stays,
     let over : Accepts front taken.fails_copy (record a { ledger = h.ledger; call = calls.Idle; learnt = m.learnt }) b = accepts_idle (record a { ledger = h.ledger; call = h.call; learnt = m.learnt }) c b front taken.fails_copy ends stops in
     rw is (takes_by seen a b stopped m.learnt front hears.0 hears.1 taken.fails_copy (beats.Ends (Err e)) f at tt (λ w. room (hears.3.1 w)) sent over (subst (λ (x : Learnt). Learns (framed front.tag hears.0 ∷ []) x m.learnt) (ap (λ (x : ConnOf A). x.learnt) now) l)
     (λ d moved. moved.2)
-    (λ d k w u start r said hs items i.
+    (λ d k w n u start r said hs items i.
     let on = still_runs start r (said ++ fails_of taken.fails_copy) (hs ++ framed front.tag hears.0 ∷ []) items h.ledger h.call taken.beat looks (hears.3.0 start r said hs items i) in
     let leaves = leaves_call start r (said ++ fails_of taken.fails_copy) (hs ++ framed front.tag hears.0 ∷ []) items h.ledger h.call on.0 in
     let left : Leaves start r (said ++ fails_of taken.fails_copy) (hs ++ framed front.tag hears.0 ∷ []) items d.ledger false = rw k leaves in
-    (w, inr (left, call_well start r (said ++ fails_of taken.fails_copy) (hs ++ framed front.tag hears.0 ∷ []) items h.ledger h.call on.0, fails_at (seen_by seen a) d start r left.own hs (framed front.tag hears.0) on.1.0 h.learnt m.learnt e on.1.1 takes tt))))
+    (w, inr (left, call_well start r (said ++ fails_of taken.fails_copy) (hs ++ framed front.tag hears.0 ∷ []) items h.ledger h.call on.0, fails_at (seen_by seen a) d start r left.own hs (framed front.tag hears.0) on.1.0 h.learnt m.learnt e on.1.1 takes n))))
 
 pub refused_front : {A : Type 0} (seen : A → LinkSeen) (a m b : ConnOf A) (front : Front) (e : Error) (beat : Beat) → IsHeardFront a.stream.held front → m ≡ record a { ledger = m.ledger; call = m.call } → HearsFront front a m (Err e) → b ≡ idle m → beat ≡ beats.Ends (Err e)
     → TakesBeat (seen_by seen a) (seen_by seen b) beat

@@ -127,9 +127,9 @@ AreHeard hs rows = AllByRecursion (λ values. Has hs (backend_frame (DataRow val
 abbrev pub Learns : List Frame → Learnt → Learnt → Type 0
 Learns hs a b = (rows : List Values) × AreHeard hs rows × LearnsRows rows a b
 
--- the last message is a row that isn't taken
-abbrev pub FailsRow : List Frame → Error → Type 0
-FailsRow hs e = (front : List Frame) × (values : Values) × (before : Learnt) × (behind : Learnt) × (hs ≡ front ++ backend_frame (DataRow values) ∷ []) × HasBackendFrame (DataRow values) × TakesRow values before behind (Err e)
+-- the last message is a row that wasn't taken, and left so much learnt
+abbrev pub FailsRow : List Frame → Learnt → Error → Type 0
+FailsRow hs behind e = (front : List Frame) × (values : Values) × (before : Learnt) × (hs ≡ front ++ backend_frame (DataRow values) ∷ []) × HasBackendFrame (DataRow values) × TakesRow values before behind (Err e)
 
 -- the front is a row of the lookup that runs, which is taken; where it can't be for want of memory, nothing has changed
 abbrev pub TakesFront : Frame → Learnt → Learnt → Result (Unit {0}) Error → Type 0

@@ -60,13 +60,13 @@ IsMissed ledger _ = Unit {0}
 abbrev pub FrontFails : ConnSeen → Ledger → Request → List Group → List Frame → Error → Type 0
 FrontFails b start r own hs e = (front : Frame) × (rest : List ℕ) × IsWhole backend_tags front × (is_asynchronous front ≡ false) × (b.stream.held ≡ bytes_of front ++ rest) × IsFrontFault start r own hs front e
 
--- a lookup isn't asked since rows wait for types that nothing more asks for, or since a name has no OID; or its last row can't be taken
-abbrev pub LookFails : Request → List Frame → Error → Type 0
-LookFails r hs e = (lookup : Lookup) × (r ≡ requests.Look lookup) × (((seeking : Seeking) × FailsSeeking seeking e) ⊎ (FailsRow hs e ⊎ ((learnt : Learnt) × MissesName lookup.extended learnt e)))
+-- With so much learnt, a lookup isn't asked since rows wait for types that nothing more asks for, or since a name has no OID; or its last row wasn't taken.
+abbrev pub LookFails : Request → List Frame → Learnt → Error → Type 0
+LookFails r hs learnt e = (lookup : Lookup) × (r ≡ requests.Look lookup) × (FailsSeeking learnt.seeking e ⊎ (FailsRow hs learnt e ⊎ MissesName lookup.extended learnt e))
 
--- the stream fails, memory is wanting, the front is refused, or a lookup fails
+-- the stream fails, memory is wanting, the front is refused, or a lookup fails by what was learnt
 abbrev pub FailsBy : ConnSeen → ConnSeen → Ledger → Request → List Group → List Frame → Error → Type 0
-FailsBy a b start r own hs e = (HeardCause a.stream b.stream e × IsMissed b.ledger e) ⊎ (FrontFails b start r own hs e ⊎ LookFails r hs e)
+FailsBy a b start r own hs e = (HeardCause a.stream b.stream e × IsMissed b.ledger e) ⊎ (FrontFails b start r own hs e ⊎ LookFails r hs b.learnt e)
 
 -- the call's own end, or a failure that leaves it as a drop would
 abbrev pub EndsBy : ConnSeen → ConnSeen → Ledger → Request → List FrontendMessage → List Frame → List CallItem → Error → Type 0

@@ -55,17 +55,17 @@ row_closed (seekings.Names asked) values a b place (types, inl (inr (column, e, 
 row_closed (seekings.Names asked) values a b place (types, inr (row, is, keeps, e)) = absurd cc
 row_closed seekings.Nothing values a b place (same, e) = absurd cc
 
-look_closed : (r : Request) (hs : List Frame) (place : ℕ) → LookFails r hs (errors.PoolClosed place) → ⊥
-look_closed r hs place (lookup, is, inl (seeking, f)) = seeking_closed seeking place f
-look_closed r hs place (lookup, is, inr (inl (front, values, before, behind, parts, has, takes))) = row_closed before.seeking values before behind place takes
-look_closed r hs place (lookup, is, inr (inr (learnt, misses))) = misses
+look_closed : (r : Request) (hs : List Frame) (learnt : Learnt) (place : ℕ) → LookFails r hs learnt (errors.PoolClosed place) → ⊥
+look_closed r hs learnt place (lookup, is, inl f) = seeking_closed learnt.seeking place f
+look_closed r hs learnt place (lookup, is, inr (inl (front, values, before, parts, has, takes))) = row_closed before.seeking values before learnt place takes
+look_closed r hs learnt place (lookup, is, inr (inr misses)) = misses
 
 -- ---- an exchange
 
 fails_closed : (a b : ConnSeen) (start : Ledger) (r : Request) (own : List Group) (hs : List Frame) (place : ℕ) → FailsBy a b start r own hs (errors.PoolClosed place) → ⊥
 fails_closed a b start r own hs place (inl f) = f.0
 fails_closed a b start r own hs place (inr (inl f)) = f.5
-fails_closed a b start r own hs place (inr (inr f)) = look_closed r hs place f
+fails_closed a b start r own hs place (inr (inr f)) = look_closed r hs b.learnt place f
 
 ends_closed : (a b : ConnSeen) (start : Ledger) (r : Request) (said : List FrontendMessage) (hs : List Frame) (items : List CallItem) (place : ℕ) → EndsBy a b start r said hs items (errors.PoolClosed place) → ⊥
 ends_closed a b start r said hs items place (inl f) = f

@@ -207,17 +207,17 @@ look_call zero calls.Rollback lookup e = absurd cc
 look_call (suc left) calls.Rollback lookup e = absurd cc
 look_call d _ lookup e = absurd cc
 
-look_cause : (at : Place) (step : Step) (own : List Group) (slice : List Frame) (next : Place) (e : Error) → LookFails (request_of at.rule.depth step.call) slice e → Causes at step own slice next e
-look_cause at step own slice next e h = by e fails (look_errors (request_of at.rule.depth step.call) slice e h)
+look_cause : (at : Place) (step : Step) (own : List Group) (slice : List Frame) (next : Place) (e : Error) → LookFails (request_of at.rule.depth step.call) slice next.learnt e → Causes at step own slice next e
+look_cause at step own slice next e h = by e fails (look_errors (request_of at.rule.depth step.call) slice next.learnt e h)
   where
-    fails : FailsToLook step slice e
+    fails : FailsToLook step slice next.learnt e
     fails = (h.0, look_call at.rule.depth step.call h.0 h.1, h.2)
 
-    by : (e : Error) → FailsToLook step slice e → IsLookError e → Causes at step own slice next e
+    by : (e : Error) → FailsToLook step slice next.learnt e → IsLookError e → Causes at step own slice next e
     by e f (inl memory) = subst (Causes at step own slice next) (sym memory) tt
-    by e f (inr (inl (oids, is))) = subst (Causes at step own slice next) (sym is) (subst (FailsToLook step slice) is f)
-    by e f (inr (inr (inl (place, is)))) = subst (Causes at step own slice next) (sym is) (subst (FailsToLook step slice) is f)
-    by e f (inr (inr (inr (name, is)))) = subst (Causes at step own slice next) (sym is) (subst (FailsToLook step slice) is f)
+    by e f (inr (inl (oids, is))) = subst (Causes at step own slice next) (sym is) (subst (FailsToLook step slice next.learnt) is f)
+    by e f (inr (inr (inl (place, is)))) = subst (Causes at step own slice next) (sym is) (subst (FailsToLook step slice next.learnt) is f)
+    by e f (inr (inr (inr (name, is)))) = subst (Causes at step own slice next) (sym is) (subst (FailsToLook step slice next.learnt) is f)
 
 -- ---- an end, of whatever kind
 

@@ -105,10 +105,10 @@ missed_errors missing errors.OutOfMemory h = inl refl
 missed_errors missing (errors.TypeNotFound name) h = inr (inr (inr (name, refl)))
 missed_errors missing _ h = absurd h
 
-pub look_errors : (r : Request) (hs : List Frame) (e : Error) → LookFails r hs e → IsLookError e
-look_errors r hs e (lookup, is, inl (seeking, fails)) = seeking_errors seeking e fails
-look_errors r hs e (lookup, is, inr (inl row)) = row_errors row.1 row.2 row.3 e row.6
-look_errors r hs e (lookup, is, inr (inr (learnt, misses))) = missed_errors (unknown_name learnt.types lookup.extended.arguments.names) e misses
+pub look_errors : (r : Request) (hs : List Frame) (learnt : Learnt) (e : Error) → LookFails r hs learnt e → IsLookError e
+look_errors r hs learnt e (lookup, is, inl fails) = seeking_errors learnt.seeking e fails
+look_errors r hs learnt e (lookup, is, inr (inl row)) = row_errors row.1 row.2 learnt e row.5
+look_errors r hs learnt e (lookup, is, inr (inr misses)) = missed_errors (unknown_name learnt.types lookup.extended.arguments.names) e misses
 
 look_no_reply : (tag : ℕ) → IsLookError (errors.Protocol (protocol.Reply tag)) → ⊥
 look_no_reply tag (inl e) = cc
@@ -119,7 +119,7 @@ look_no_reply tag (inr (inr (inr (name, e)))) = cc
 fails_plainly : (a b : ConnSeen) (start : Ledger) (r : Request) (own : List Group) (hs : List Frame) (e : Error) → FailsBy a b start r own hs e → refuses_copy (ends.Err e) ≡ false
 fails_plainly a b start r own hs (errors.Protocol (protocol.Reply tag)) (inl h) = absurd h.0
 fails_plainly a b start r own hs (errors.Protocol (protocol.Reply tag)) (inr (inl h)) = absurd h.5
-fails_plainly a b start r own hs (errors.Protocol (protocol.Reply tag)) (inr (inr h)) = absurd (look_no_reply tag (look_errors r hs (errors.Protocol (protocol.Reply tag)) h))
+fails_plainly a b start r own hs (errors.Protocol (protocol.Reply tag)) (inr (inr h)) = absurd (look_no_reply tag (look_errors r hs b.learnt (errors.Protocol (protocol.Reply tag)) h))
 fails_plainly a b start r own hs (errors.Protocol _) h = refl
 fails_plainly a b start r own hs _ h = refl
 

@@ -105,9 +105,9 @@ pub record BeginsNone (at : Place) (step : Step) (own : List Group) (slice : Lis
   pub slice_is : slice ≡ front ++ backend_frame (ReadyForQuery status) ∷ []
   pub other : status ≢ statuses.Transaction
 
--- a lookup isn't asked since rows wait for types that nothing more asks for, or since a name has no OID; or its last row can't be taken
-abbrev pub FailsToLook : Step → List Frame → Error → Type 0
-FailsToLook step slice e = (lookup : Lookup) × (step.call ≡ calls.Look lookup) × (((seeking : Seeking) × FailsSeeking seeking e) ⊎ (FailsRow slice e ⊎ ((learnt : Learnt) × MissesName lookup.extended learnt e)))
+-- With so much learnt, a lookup isn't asked since rows wait for types that nothing more asks for, or since a name has no OID; or its last row wasn't taken.
+abbrev pub FailsToLook : Step → List Frame → Learnt → Error → Type 0
+FailsToLook step slice learnt e = (lookup : Lookup) × (step.call ≡ calls.Look lookup) × (FailsSeeking learnt.seeking e ⊎ (FailsRow slice learnt e ⊎ MissesName lookup.extended learnt e))
 
 -- a text of its own would open a savepoint
 abbrev pub OpensSavepoint : Place → Step → Type 0
@@ -126,9 +126,9 @@ Causes at step own slice next (errors.Protocol (protocol.Caller fault)) = (own �
 Causes at step own slice next errors.RowNotFound = HasNoRow at step own slice next
 Causes at step own slice next (errors.BeginFailed status) = BeginsNone at step own slice status
 Causes at step own slice next errors.InvalidSavePointStatement = OpensSavepoint at step × (own ≡ []) × (slice ≡ [])
-Causes at step own slice next (errors.Protocol (protocol.Types oids)) = FailsToLook step slice (errors.Protocol (protocol.Types oids))
-Causes at step own slice next (errors.ColumnDecode place) = FailsToLook step slice (errors.ColumnDecode place)
-Causes at step own slice next (errors.TypeNotFound name) = FailsToLook step slice (errors.TypeNotFound name)
+Causes at step own slice next (errors.Protocol (protocol.Types oids)) = FailsToLook step slice next.learnt (errors.Protocol (protocol.Types oids))
+Causes at step own slice next (errors.ColumnDecode place) = FailsToLook step slice next.learnt (errors.ColumnDecode place)
+Causes at step own slice next (errors.TypeNotFound name) = FailsToLook step slice next.learnt (errors.TypeNotFound name)
 Causes at step own slice next _ = ⊥
 
 -- ---- why a step was dropped
