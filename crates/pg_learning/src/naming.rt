@@ -2,7 +2,7 @@
 ghost use Rattle.std.specs.Prelude.{◌≡◌, ◌++◌, ◌∷◌, [], Some, None, IfOk, IfErr, OnOk};
 ghost use Rattle.pg_request.specs.Asked.{RefusesType};
 ghost use Rattle.pg_request.specs.declared.naming.Declared.TheVariants as declared;
-ghost use Rattle.pg_learning.specs.Naming.{array_name, by_element, by_name, entries_of, name_of, oid_under, oids_under, unknown_name, unnumbered, unnumbered_one};
+ghost use Rattle.pg_learning.specs.Naming.{array_name, by_name, entries_of, name_of, oid_under, oids_under, unknown_name, unnumbered, unnumbered_one};
 
 use pg_request::Declared;
 use pg_resolve::{Resolver, TypeCache, Wanted};
@@ -46,28 +46,33 @@ fn oid_under(alloc: Global, types: &TypeCache, of: &Declared) -> Result<Option<O
     }
 }
 
-// Asks for the type of a name.
-fn push_name(alloc: Global, resolver: &mut Resolver, name: &str) -> Result<(), Error>
-    ensures ok { OnOk result (resolver.new ≡ record resolver.old { pushed = resolver.old.pushed ++ by_name name.now ∷ [] }) }
+// Asks for a type under this name.
+fn push_wanted(
+    alloc: Global,
+    resolver: &mut Resolver,
+    name: &str,
+    wanted: Wanted,
+) -> Result<(), Error>
+    ensures ok { OnOk result (resolver.new ≡ record resolver.old { pushed = resolver.old.pushed ++ record { original = Some name.now; wanted = wanted } ∷ [] }) }
     ensures memory { IfErr result (λ e. e ≡ Error.OutOfMemory) }
 {
-    let wanted = Wanted::Name(Text::from_str(alloc, name)?);
     match resolver.push_type(alloc, Some(name), wanted) {
         Ok(()) => Ok(()),
         Err(_) => Err(Error::OutOfMemory),
     }
 }
 
-// The same of the element of an array that is asked for.
-fn push_element(alloc: Global, resolver: &mut Resolver, name: &str) -> Result<(), Error>
-    ensures ok { OnOk result (resolver.new ≡ record resolver.old { pushed = resolver.old.pushed ++ by_element name.now ∷ [] }) }
+// Asks for the type of a name.
+fn push_name(alloc: Global, resolver: &mut Resolver, name: &str) -> Result<(), Error>
+    ensures ok { OnOk result (resolver.new ≡ record resolver.old { pushed = resolver.old.pushed ++ by_name name.now ∷ [] }) }
     ensures memory { IfErr result (λ e. e ≡ Error.OutOfMemory) }
 {
-    let wanted = Wanted::Element(Text::from_str(alloc, name)?);
-    match resolver.push_type(alloc, Some(name), wanted) {
-        Ok(()) => Ok(()),
-        Err(_) => Err(Error::OutOfMemory),
-    }
+    push_wanted(
+        alloc,
+        resolver,
+        name,
+        Wanted::Name(Text::from_str(alloc, name)?),
+    )
 }
 
 // Asks for a type.
@@ -79,7 +84,8 @@ fn push_entries(alloc: Global, resolver: &mut Resolver, of: &Declared) -> Result
         Declared::Number(_) => Ok(()),
         Declared::Name(name) => push_name(alloc, resolver, name.as_str()),
         Declared::ArrayOf(element) => {
-            push_element(alloc, resolver, element.as_str())?;
+            let wanted = Wanted::Element(element.to_copy(alloc)?);
+            push_wanted(alloc, resolver, element.as_str(), wanted)?;
             let name = array_name(alloc, element.as_str())?;
             push_name(alloc, resolver, name.as_str())
         }
