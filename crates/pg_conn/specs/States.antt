@@ -3,6 +3,7 @@ use Rattle.std.specs.Prelude.{◌≡◌, ℕ, Bool, true, false, List, [], Optio
 use Rattle.futures.specs.declared.task.Poll.{Poll}
 use Rattle.futures.specs.declared.task.Poll.TheVariants.{Ready, Pending}
 use Rattle.pg_wire.specs.declared.error.Error.{Error}
+use Rattle.pg_wire.specs.declared.error.Error.TheVariants as errors
 use Rattle.pg_stream.specs.Links.{LinkSeen}
 use Rattle.pg_wire.specs.Frame.{Frame}
 use Rattle.pg_wire.specs.Frontend.{FrontendMessage}
@@ -22,6 +23,10 @@ use Rattle.pg_call.specs.Requests.{kind_of, main_kind}
 use Rattle.pg_call.specs.Answers.{TurnFits, TurnIsPlain, statement_turn}
 use Rattle.pg_call.specs.Calls.{CallIs}
 use Rattle.pg_call.specs.Hearing.{IsOpen}
+use Rattle.pg_columns.specs.declared.column.PgColumn.{PgColumn}
+use Rattle.pg_columns.specs.Told.{columns_of}
+use Rattle.pg_learning.specs.declared.learnt.Learnt.{Learnt}
+use Rattle.pg_learning.specs.Telling.{learnt_columns}
 use Rattle.pg_conn.specs.declared.statement.PgStatement.{PgStatement}
 use Rattle.pg_conn.specs.Connections.{ConnOf, ConnSeen, seen_by, begun_by, is_over}
 use Rattle.pg_conn.specs.Turns.{HasRoom, PollsCall}
@@ -91,18 +96,31 @@ untyped sql = record { sql = sql; types = [] }
 abbrev pub to_prepare : Preparation → Request
 to_prepare p = requests.Prepare (record { sql = p.sql; parameters = []; columns = None; keeping = keepings.Stays; declared = Some p.types })
 
--- what its caller is told of it: the text, the parameters and the columns that were described
-abbrev pub statement_of : Prepared → PgStatement
-statement_of p = record { sql = p.sql; parameters = p.parameters; columns = unwrap_or p.columns [] }
+-- the columns that were described of it, none where it gives no rows
+abbrev pub columns_told : Prepared → List PgColumn
+columns_told p = columns_of (unwrap_or p.columns [])
 
-abbrev pub statement_poll : Poll (Result Prepared Error) → Poll (Result PgStatement Error)
-statement_poll Pending = Pending
-statement_poll (Ready (Ok p)) = Ready (Ok (statement_of p))
-statement_poll (Ready (Err e)) = Ready (Err e)
+-- what its caller is told of it: the text, the parameters, and the columns with what was learnt of them
+abbrev pub statement_of : Learnt → Prepared → PgStatement
+statement_of learnt p = record { sql = p.sql; parameters = p.parameters; columns = learnt_columns learnt (columns_told p) }
 
--- one poll of a prepare: its answer is what the core tells, without what that makes of the statements that are kept
+-- or memory is wanting
+abbrev pub TellsStatement : Learnt → Prepared → Result PgStatement Error → Type 0
+TellsStatement learnt p (Ok statement) = statement ≡ statement_of learnt p
+TellsStatement learnt p (Err e) = e ≡ errors.OutOfMemory
+
+abbrev pub TellsPrepared : Learnt → Result Prepared Error → Result PgStatement Error → Type 0
+TellsPrepared learnt (Ok p) answer = TellsStatement learnt p answer
+TellsPrepared learnt (Err e) answer = answer ≡ Err e
+
+abbrev pub TellsPoll : Learnt → Poll (Result Prepared Error) → Poll (Result PgStatement Error) → Type 0
+TellsPoll learnt Pending answer = answer ≡ Pending
+TellsPoll learnt (Ready told) (Ready answer) = TellsPrepared learnt told answer
+TellsPoll learnt (Ready told) Pending = ⊥
+
+-- one poll of a prepare: its answer is what the core tells, with what was learnt, and without what that makes of the statements that are kept
 abbrev pub PollsPrepare : ConnSeen → ConnSeen → Poll (Result PgStatement Error) → Type 0
-PollsPrepare a b answer = (told : Poll (Result Prepared Error)) × (answer ≡ statement_poll told) × PollsCall a b (turn_of statement_turn told)
+PollsPrepare a b answer = (told : Poll (Result Prepared Error)) × TellsPoll b.learnt told answer × PollsCall a b (turn_of statement_turn told)
 
 -- its call still runs where it waits
 abbrev pub StaysPreparing : {A : Type 0} → ConnOf A → Poll (Result PgStatement Error) → Type 0

@@ -1,23 +1,23 @@
 ghost use Rattle.std.specs.Prelude.{◌≡◌, ℕ, Some, None, slice_get, IfOk, IfErr, OnOk};
 ghost use Rattle.pg_columns.specs.Columns.{IsLastNamed, MissesName, names_of};
-ghost use Rattle.pg_columns.specs.Told.{columns_of};
-ghost use Rattle.pg_conn.specs.States.{statement_of};
+ghost use Rattle.pg_conn.specs.States.{TellsStatement, columns_told};
 ghost use Rattle.pg_request.specs.Asked.{AsksWith, RefusesType, kept_query, missing_type, no_arguments, sent_as};
 
 use crate::Query;
 use pg_arguments::PgArguments;
 use pg_call::Prepared;
-use pg_columns::{PgColumn, PgColumns, column_by_name};
-use pg_wire::{Error, Oid, Oids, Text};
-use std::alloc::Global;
+use pg_columns::{PgColumn, column_by_name};
+use pg_learning::Learnt;
+use pg_wire::{Error, Oid, Oids, Sequence, Text};
+use std::alloc::{AllocError, Global};
 
-/// A statement as the server has described it: its text, the types of its parameters, and the columns of its rows.
-/// (PostgreSQL manual, "Message Flow", "Extended Query".)
+/// A statement as the server has described it: its text, the types of its parameters, and the columns of its rows, with what the connection has looked up of
+/// them. (PostgreSQL manual, "Message Flow", "Extended Query".)
 #[derive(Debug)]
 pub struct PgStatement {
     sql: Text,
     parameters: Oids,
-    columns: PgColumns,
+    columns: Sequence<PgColumn>,
 }
 
 // By hand, so that whoever lets one go makes one call, and doesn't go through its parts.
@@ -31,19 +31,39 @@ impl Drop for PgStatement {
     }
 }
 
+// The columns that were described, none where it gives no rows.
+fn columns_told(prepared: &Prepared) -> &[PgColumn]
+    ensures { result.now ≡ columns_told prepared.now }
+{
+    match &prepared.columns {
+        Some(columns) => columns.as_slice(),
+        None => &[],
+    }
+}
+
+// Equal columns.
+fn copied(alloc: Global, columns: &[PgColumn]) -> Result<Sequence<PgColumn>, AllocError>
+    ensures { IfOk result (λ copies. copies ≡ columns.now) }
+{
+    let mut copies = Sequence::new(alloc);
+    for column in columns {
+        copies.push(column.to_copy(alloc)?)?;
+    }
+    Ok(copies)
+}
+
 impl PgStatement {
-    /// What is told of a statement that was prepared, without taking memory.
-    pub fn told(prepared: Prepared) -> Self
-        ensures { result ≡ statement_of prepared }
+    /// What is told of a statement that was prepared: its columns have the types and the origins that were looked up. Only want of memory refuses it.
+    pub fn told(alloc: Global, learnt: &Learnt, prepared: Prepared) -> Result<Self, Error>
+        ensures { TellsStatement learnt.now prepared result }
     {
-        let mut prepared = prepared;
-        let columns = prepared.columns.take().unwrap_or_else(PgColumns::none);
+        let columns = learnt.columns(alloc, columns_told(&prepared))?;
         let (sql, parameters) = prepared.into_parts();
-        PgStatement {
+        Ok(PgStatement {
             sql,
             parameters,
             columns,
-        }
+        })
     }
 
     /// Its text, as the caller gave it.
@@ -72,17 +92,18 @@ impl PgStatement {
         self.parameters.as_slice()
     }
 
-    /// The columns of its rows, in their order; none where it gives no rows.
+    /// The columns of its rows, in their order; none where it gives no rows. Each tells the type that was looked up under its OID, and its table and its name
+    /// there where it is a column of one.
     pub fn columns(&self) -> &[PgColumn]
-        ensures { result.now ≡ columns_of self.now.columns }
+        ensures { result.now ≡ self.now.columns }
     {
         self.columns.as_slice()
     }
 
     /// The column of a name; of several that have it the last one. `ColumnNotFound` comes exactly where none has it, but for want of memory.
     pub fn column_by_name(&self, alloc: Global, name: &str) -> Result<&PgColumn, Error>
-        ensures ok { IfOk result (λ c. (place : ℕ) × IsLastNamed name.now (names_of (columns_of self.now.columns)) (Some place) × (slice_get (columns_of self.now.columns) place ≡ Some c.now)) }
-        ensures err { IfErr result (MissesName name.now (names_of (columns_of self.now.columns))) }
+        ensures ok { IfOk result (λ c. (place : ℕ) × IsLastNamed name.now (names_of self.now.columns) (Some place) × (slice_get self.now.columns place ≡ Some c.now)) }
+        ensures err { IfErr result (MissesName name.now (names_of self.now.columns)) }
     {
         column_by_name(alloc, self.columns(), name)
     }
@@ -112,7 +133,7 @@ impl PgStatement {
     {
         let sql = self.sql.to_copy(alloc)?;
         let parameters = self.parameters.to_copy(alloc)?;
-        let columns = self.columns.share()?;
+        let columns = copied(alloc, self.columns())?;
         Ok(PgStatement {
             sql,
             parameters,

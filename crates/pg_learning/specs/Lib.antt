@@ -1,2 +1,3 @@
 pub mod Learning
 pub mod Naming
+pub mod Telling

@@ -5,5 +5,6 @@ mod learnt;
 mod naming;
 mod pushing;
 mod taking;
+mod telling;
 
 pub use learnt::{Learnt, Seeking};

@@ -1,7 +1,7 @@
 ghost use Rattle.std.specs.Prelude.{◌≡◌, false, None, Some, option_map};
 ghost use Rattle.pg_call.specs.declared.kind.Kind.TheVariants as kinds;
 ghost use Rattle.pg_conn.specs.Connections.{seen_by, begun_by, is_over, left_by};
-ghost use Rattle.pg_conn.specs.States.{IsCalling, KeepsCalling, PollsPrepare, StaysPreparing, is_ready, to_prepare, untyped};
+ghost use Rattle.pg_conn.specs.States.{IsCalling, KeepsCalling, PollsPrepare, StaysPreparing, TellsStatement, is_ready, to_prepare, untyped};
 
 use crate::{Asks, PgConnection, PgStatement, Preparation, Request};
 use pg_call::{Keeping, Prepared};
@@ -62,6 +62,15 @@ impl<L> PgConnection<L> {
     }
 }
 
+impl<L> PgConnection<L> {
+    // What is told of a statement that was prepared.
+    fn statement(&self, prepared: Prepared) -> Result<PgStatement, Error>
+        ensures { TellsStatement self.now.learnt prepared result }
+    {
+        PgStatement::told(self.alloc, &self.learnt, prepared)
+    }
+}
+
 impl<L, R: Asks + Drop> Drop for Prepare<'_, L, R> {
     fn drop(self)
         ensures { self.exit.0.now ≡ left_by self.entry.request self.entry.conn.now }
@@ -93,7 +102,7 @@ impl<L: Link> Prepare<'_, L> {
         match self.conn.poll_with(&mut self.request) {
             Poll::Pending => Poll::Pending,
             Poll::Ready(turn) => match turn.into_statement() {
-                Ok(prepared) => Poll::Ready(Ok(PgStatement::told(prepared))),
+                Ok(prepared) => Poll::Ready(self.conn.statement(prepared)),
                 Err(e) => Poll::Ready(Err(e)),
             },
         }

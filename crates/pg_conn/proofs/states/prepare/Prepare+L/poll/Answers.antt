@@ -1,4 +1,3 @@
-use Rattle.std.proofs.Common.{ap}
 use Rattle.std.specs.Prelude.{Ok, Err}
 use Rattle.futures.specs.declared.task.Poll.TheVariants.{Ready, Pending}
 use Rattle.pg_call.specs.declared.kind.Kind.TheVariants as kinds
@@ -18,7 +17,7 @@ returns-in-Pending-clause-over g c = kept_over kinds.Prepare c.args.self.now.req
 pub returns-in-Ok-clause-polls : goal.returns-in-Ok-clause-polls
 returns-in-Ok-clause-polls g c = (
   Ready (Ok c.in-Ok.prepared),
-  ap (λ s. Ready (Ok s)) c.told.ensures,
+  c.statement.ensures,
   rw c.in-Ok.ensures at c.in-Ready.ensures.polls,
 )
 
