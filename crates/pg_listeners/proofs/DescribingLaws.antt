@@ -15,10 +15,10 @@ use Rattle.pg_describe.specs.Describing as described
 use Rattle.pg_describe.specs.Describing.{FitsNulls, HearsTurn, told_columns}
 use Rattle.pg_describe.specs.declared.description.Describe.{Describe}
 use Rattle.pg_reconnect.specs.Failing.{BesideSeen}
-use Rattle.pg_reconnect.specs.Hearing.{HearingOf}
+use Rattle.pg_reconnect.specs.Hearing.{HearingOf, learnt_of}
 use Rattle.pg_reconnect.specs.Querying.{Queries, QueriesOn}
 use Rattle.pg_reconnect.proofs.QueryingLaws.{query_fits}
-use Rattle.pg_listeners.specs.Describing.{GoesOn, PollsPrepare, PreparesIn, QueriesFrom, StaysDescribing, TellsStatement}
+use Rattle.pg_listeners.specs.Describing.{GoesOn, PollsPrepare, PreparesIn, QueriesFrom, StaysDescribing, TellsTurn}
 use Rattle.pg_listeners.specs.Listeners.{ListenerOf}
 
 pub prepares_none_cleared : kinds.Prepare ≡ kinds.Clear → ⊥
@@ -44,7 +44,7 @@ tells_at_once seen beside left now p rest a told d none nobody empty tells flags
 
 -- ---- the preparation
 
-pub prepares_told : {A : Type 0} (seen : A → LinkSeen) (o : BesideSeen) (now : ℕ) (request rest : Option Request) (a b : HearingOf A) (turn : Turn) (answer : Result PgStatement Error) → TellsStatement turn answer → Queries seen o 256 now request rest a b (Ready turn)
+pub prepares_told : {A : Type 0} (seen : A → LinkSeen) (o : BesideSeen) (now : ℕ) (request rest : Option Request) (a b : HearingOf A) (turn : Turn) (answer : Result PgStatement Error) → TellsTurn (learnt_of b) turn answer → Queries seen o 256 now request rest a b (Ready turn)
     → PreparesIn seen o request rest a b (Ready answer)
 prepares_told seen o now request rest a b turn answer (told, is, e) q = (Ready told, e, (now, subst (λ (t : Turn). Queries seen o 256 now request rest a b (Ready t)) is q))
 

@@ -14,13 +14,14 @@ use Rattle.pg_call.specs.declared.kind.Kind.TheVariants as kinds
 use Rattle.pg_call.specs.declared.request.Request.{Request}
 use Rattle.pg_call.specs.declared.request.Request.TheVariants as requests
 use Rattle.pg_call.specs.declared.statement.Prepared.{Prepared}
-use Rattle.pg_conn.specs.States.{statement_poll, turn_of}
+use Rattle.pg_conn.specs.States.{TellsPoll, TellsPrepared, turn_of}
 use Rattle.pg_conn.specs.declared.statement.PgStatement.{PgStatement}
 use Rattle.pg_nullable.specs.Nulls.{AsksNulls}
 use Rattle.pg_describe.specs.Describing.{HearsTurn, TellsAtOnce, TellsTooMany, told_columns}
 use Rattle.pg_describe.specs.declared.description.Describe.{Describe}
 use Rattle.pg_reconnect.specs.Failing.{BesideSeen}
-use Rattle.pg_reconnect.specs.Hearing.{HearingOf}
+use Rattle.pg_learning.specs.declared.learnt.Learnt.{Learnt}
+use Rattle.pg_reconnect.specs.Hearing.{HearingOf, learnt_of}
 use Rattle.pg_reconnect.specs.Querying.{IsQuerying, Queries}
 use Rattle.pg_listeners.specs.Listeners.{ListenerOf, QueriesIn}
 
@@ -29,13 +30,13 @@ abbrev pub StaysQuerying : {A X : Type 0} → Kind → Option Request → Hearin
 StaysQuerying kind request h Pending = IsQuerying kind request h
 StaysQuerying kind request h (Ready x) = Unit {0}
 
--- the statement that was told
-abbrev pub TellsStatement : Turn → Result PgStatement Error → Type 0
-TellsStatement turn answer = (told : Result Prepared Error) × (turn ≡ statement_turn told) × (Ready answer ≡ statement_poll (Ready told))
+-- the statement that was told, with what was learnt
+abbrev pub TellsTurn : Learnt → Turn → Result PgStatement Error → Type 0
+TellsTurn learnt turn answer = (told : Result Prepared Error) × (turn ≡ statement_turn told) × TellsPrepared learnt told answer
 
--- one poll of a prepare: its answer is what the core tells, without what that makes of the statements that are kept
+-- one poll of a prepare: its answer is what the core tells, with what its connection has learnt, and without what that makes of the statements that are kept
 abbrev pub PreparesIn : {A : Type 0} → (A → LinkSeen) → BesideSeen → Option Request → Option Request → HearingOf A → HearingOf A → Poll (Result PgStatement Error) → Type 0
-PreparesIn seen o request rest a b answer = (told : Poll (Result Prepared Error)) × (answer ≡ statement_poll told) × QueriesIn seen o request rest a b (turn_of statement_turn told)
+PreparesIn seen o request rest a b answer = (told : Poll (Result Prepared Error)) × TellsPoll (learnt_of b) told answer × QueriesIn seen o request rest a b (turn_of statement_turn told)
 
 -- ---- one poll of a description
 

@@ -3,10 +3,10 @@ ghost use Rattle.std.specs.Prelude.{◌≡◌, false, [], None, Some};
 ghost use Rattle.pg_call.specs.Answers.{TurnFits};
 ghost use Rattle.pg_call.specs.declared.kind.Kind.TheVariants as kinds;
 ghost use Rattle.pg_conn.specs.States.{to_prepare};
-ghost use Rattle.pg_reconnect.specs.Hearing.{HearsBy};
+ghost use Rattle.pg_reconnect.specs.Hearing.{HearsBy, learnt_of};
 ghost use Rattle.pg_reconnect.specs.Querying.{IsQuerying};
 ghost use Rattle.pg_reconnect.specs.Waiting.{NotesBy};
-ghost use Rattle.pg_listeners.specs.Describing.{PreparesIn, StaysQuerying, TellsStatement};
+ghost use Rattle.pg_listeners.specs.Describing.{PreparesIn, StaysQuerying, TellsTurn};
 ghost use Rattle.pg_listeners.specs.Listeners.{beside_of, is_answered};
 
 use crate::answering::is_answered;
@@ -14,6 +14,8 @@ use crate::{PgListener, PoolHolder, SeatHolder};
 use pg_call::{Request, Turn};
 use pg_conn::{Dial, PgStatement, Preparation, prepare_request};
 use pg_listen::{PoolLedger, PoolSeat};
+use pg_reconnect::Hearing;
+use pg_stream::Link;
 use pg_wire::{Error, Poll};
 use std::sync::Wait;
 
@@ -76,12 +78,12 @@ impl<G: PoolLedger, P: PoolHolder<G, D::L>, S: SeatHolder<Seat = PoolSeat<G>>, D
 }
 
 // The statement that was told.
-fn prepared(turn: Turn) -> Result<PgStatement, Error>
+fn prepared<L: Link>(hearing: &Hearing<L>, turn: Turn) -> Result<PgStatement, Error>
     requires { TurnFits kinds.Prepare turn }
-    ensures { TellsStatement turn result }
+    ensures { TellsTurn (learnt_of hearing.now) turn result }
 {
     match turn.into_statement() {
-        Ok(prepared) => Ok(PgStatement::told(prepared)),
+        Ok(prepared) => hearing.statement(prepared),
         Err(e) => Err(e),
     }
 }
@@ -120,7 +122,7 @@ where
             Poll::Pending => Poll::Pending,
             Poll::Ready(turn) => {
                 self.is_over = true;
-                Poll::Ready(prepared(turn))
+                Poll::Ready(prepared(&self.listener.hearing, turn))
             }
         }
     }

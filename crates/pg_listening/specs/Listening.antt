@@ -22,6 +22,8 @@ use Rattle.pg_conn.specs.Connections.{ConnOf, ConnSeen, seen_by, started_call}
 use Rattle.pg_conn.specs.News.{with_kept}
 use Rattle.pg_conn.specs.States.{IsCalling, PollFits, turn_of}
 use Rattle.pg_conn.specs.Turns.{PollsWithin}
+use Rattle.pg_learning.specs.declared.learnt.Learnt.{Learnt}
+use Rattle.pg_learning.specs.Learning.{learnt_none}
 use Rattle.pg_listener.specs.declared.changing.ChannelChange.{ChannelChange}
 use Rattle.pg_listener.specs.declared.changing.ChannelChange.TheVariants as changes
 use Rattle.pg_listener.specs.Changes.{changed, statement_of}
@@ -44,6 +46,11 @@ stream_in conn seen (Some c) = Some (stream_by seen (conn c).stream)
 
 abbrev pub buffers_by : {C A : Type 0} → (C → ConnOf A) → (A → LinkSeen) → ListeningOf C → BuffersSeen
 buffers_by conn seen l = record { earlier = l.earlier; stream = stream_in conn seen l.conn }
+
+-- what the connection that is held has learnt
+abbrev pub learnt_in : {C A : Type 0} → (C → ConnOf A) → Option C → Learnt
+learnt_in conn None = learnt_none
+learnt_in conn (Some c) = (conn c).learnt
 
 -- the connection that is held keeps what it reads of notifications
 abbrev pub KeepsNews : {C A : Type 0} → (C → ConnOf A) → Option C → Type 0

@@ -8,17 +8,20 @@ ghost use Rattle.pg_conn.specs.Connections.{left};
 ghost use Rattle.pg_call.specs.declared.kind.Kind.{Kind};
 ghost use Rattle.pg_conn.specs.Turns.{PollsWithin};
 ghost use Rattle.pg_conn.specs.News.{PollsNews, given, with_kept};
+ghost use Rattle.pg_conn.specs.States.{TellsStatement};
 ghost use Rattle.pg_listener.specs.Changes.{changed};
 ghost use Rattle.pg_listener.specs.Channels.{listen_each_text};
 ghost use Rattle.pg_listening.specs.Buffers.{Hears, kept_on, buffered, news_begun};
-ghost use Rattle.pg_listening.specs.Listening.{CallsOn, FailsOn, NoneClosed, OnHeld, OnlyKept, PollsStatement, Starts, StaysHeld, TurnsOpen, behind_after, buffers_by, channels_behind, query_of, stored_behind, stream_in, waits};
+ghost use Rattle.pg_listening.specs.Listening.{CallsOn, FailsOn, NoneClosed, OnHeld, OnlyKept, PollsStatement, Starts, StaysHeld, TurnsOpen, behind_after, buffers_by, channels_behind, learnt_in, query_of, stored_behind, stream_in, waits};
 
 use crate::ChannelChange;
 use crate::holding::{
     begin, end, poll_news, poll_running, poll_statement, save, start_statement, take_oldest,
 };
-use pg_conn::{Query, Request, Turn};
+use pg_call::Prepared;
+use pg_conn::{PgStatement, Query, Request, Turn};
 use pg_guards::PgExecutor;
+use pg_learning::Learnt;
 use pg_listener::listen_each_text;
 use pg_wire::{Error, Notification, Poll, Sequence, Text};
 use std::alloc::Global;
@@ -305,6 +308,17 @@ impl<C: PgExecutor> Listening<C> {
             unreachable!()
         };
         poll_running(conn, left)
+    }
+
+    /// What is told of a statement that was prepared on the connection that is held, by what that one has learnt, or by nothing where none is held. Only want
+    /// of memory refuses it.
+    pub fn statement(&self, prepared: Prepared) -> Result<PgStatement, Error>
+        ensures { TellsStatement (learnt_in C.conn self.now.conn) prepared result }
+    {
+        match &self.conn {
+            Some(conn) => conn.conn_ref().statement(prepared),
+            None => PgStatement::told(self.alloc, &Learnt::new(self.alloc), prepared),
+        }
     }
 
     /// Hands back what holds the connection, which keeps no notifications any longer. A call that runs is given up.

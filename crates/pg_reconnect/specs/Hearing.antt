@@ -7,12 +7,13 @@ use Rattle.pg_wire.specs.declared.message.notification_response.Notification.{No
 use Rattle.pg_stream.specs.Links.{LinkSeen}
 use Rattle.pg_request.specs.Queries.{plain_text}
 use Rattle.pg_call.specs.declared.request.Request.TheVariants as requests
+use Rattle.pg_learning.specs.declared.learnt.Learnt.{Learnt}
 use Rattle.pg_listen.specs.Handed.{FillingOf, HeldOf}
 use Rattle.pg_listener.specs.declared.changing.ChannelChange.{ChannelChange}
 use Rattle.pg_listener.specs.declared.changing.ChannelChange.TheVariants as changes
 use Rattle.pg_listener.specs.Channels.{listen_each_text}
 use Rattle.pg_listening.specs.Buffers.{BuffersSeen, FailsBy, Hears}
-use Rattle.pg_listening.specs.Listening.{ListeningOf, Starts, buffers_by, stored_behind}
+use Rattle.pg_listening.specs.Listening.{ListeningOf, Starts, buffers_by, learnt_in, stored_behind}
 use Rattle.pg_reconnect.specs.Leaving.{HeldIs, StartsIn}
 
 -- What it holds and keeps, a change of its channels that is to be asked, a start-up on the way to its connection, the links that it lost, whether its
@@ -63,6 +64,10 @@ pub record HeardOf (A : Type 0) : Type 0 where
 
 abbrev pub buffers_of : {A : Type 0} → (A → LinkSeen) → HearingOf A → BuffersSeen
 buffers_of seen h = buffers_by (λ held. held.conn) seen h.listening
+
+-- what the connection that is held has learnt
+abbrev pub learnt_of : {A : Type 0} → HearingOf A → Learnt
+learnt_of h = learnt_in (λ held. held.conn) h.listening.conn
 
 abbrev pub heard_of : {A : Type 0} → (A → LinkSeen) → HearingOf A → HeardOf A
 heard_of seen h = record { name = h.name; buffers = buffers_of seen h; lost = h.lost; is_eager = h.is_eager; ignores_close = h.ignores_close }

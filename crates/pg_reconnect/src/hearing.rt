@@ -1,11 +1,14 @@
 ghost use Rattle.std.specs.Prelude.{◌≡◌, ◌++◌, [], None, option_to_list};
+ghost use Rattle.pg_conn.specs.States.{TellsStatement};
 ghost use Rattle.pg_listening.specs.Buffers.{buffered};
-ghost use Rattle.pg_reconnect.specs.Hearing.{HearsBy, buffers_of, fresh_hearing};
+ghost use Rattle.pg_reconnect.specs.Hearing.{HearsBy, buffers_of, fresh_hearing, learnt_of};
 
+use pg_call::Prepared;
+use pg_conn::PgStatement;
 use pg_listen::{EstablishPooled, PoolConnection};
 use pg_listening::{ChannelChange, Listening};
 use pg_stream::Link;
-use pg_wire::{Notification, Text};
+use pg_wire::{Error, Notification, Text};
 use std::alloc::Global;
 use std::marker::Model;
 use std::mem;
@@ -66,6 +69,13 @@ impl<L: Link> Hearing<L> {
         ensures { result.now ≡ self.now.listening.channels }
     {
         self.listening.channels()
+    }
+
+    /// What is told of a statement that was prepared on the connection that is held, by what that one has learnt. Only want of memory refuses it.
+    pub fn statement(&self, prepared: Prepared) -> Result<PgStatement, Error>
+        ensures { TellsStatement (learnt_of self.now) prepared result }
+    {
+        self.listening.statement(prepared)
     }
 
     /// Whether a loss is told behind a reconnect, or else before it.

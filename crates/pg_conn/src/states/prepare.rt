@@ -63,8 +63,9 @@ impl<L> PgConnection<L> {
 }
 
 impl<L> PgConnection<L> {
-    // What is told of a statement that was prepared.
-    fn statement(&self, prepared: Prepared) -> Result<PgStatement, Error>
+    /// What is told of a statement that was prepared on this connection: its columns have the types and the origins that were looked up. Only want of memory
+    /// refuses it.
+    pub fn statement(&self, prepared: Prepared) -> Result<PgStatement, Error>
         ensures { TellsStatement self.now.learnt prepared result }
     {
         PgStatement::told(self.alloc, &self.learnt, prepared)
