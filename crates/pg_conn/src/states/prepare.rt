@@ -43,7 +43,8 @@ impl<L> PgConnection<L> {
         ensures request { result.request ≡ Some (to_prepare (untyped sql)) }
         ensures calling { IsCalling kinds.Prepare (begun_by result.request result.conn.now) }
     {
-        self.prepare_with(Preparation::untyped(self.alloc, sql))
+        let preparation = Preparation::untyped(self.alloc, sql);
+        self.prepare_with(preparation)
     }
 
     /// The same where the caller says the types of the first parameters; the server finds each that the caller doesn't say. A type that is known by its name

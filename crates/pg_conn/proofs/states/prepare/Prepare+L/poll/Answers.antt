@@ -27,7 +27,7 @@ returns-in-Ok-clause-over g c = kept_over kinds.Prepare c.args.self.now.request 
 pub returns-in-Err-clause-polls : goal.returns-in-Err-clause-polls
 returns-in-Err-clause-polls g c = (
   Ready (Err c.in-Err.e),
-  λ i. Ready (Err c.in-Err.e),
+  λ i. Err c.in-Err.e,
   rw c.in-Err.ensures at c.in-Ready.ensures.polls,
 )
 
