@@ -1,17 +1,14 @@
 ghost use Rattle.std.specs.Prelude.{◌≡◌};
-ghost use Rattle.pg_columns.specs.Told.{columns_of};
-ghost use Rattle.pg_describe.specs.Describing.{TellsStatement};
 
-use pg_call::Prepared;
-use pg_columns::{PgColumn, PgColumns};
-use pg_wire::{Oid, Oids};
+use pg_columns::PgColumn;
+use pg_conn::PgStatement;
+use pg_wire::Oid;
 
 /// A statement that was described in full: the types of its parameters, the columns of its rows, and of each column whether it may be null, as far as the
 /// catalog says it. (PostgreSQL manual, "Message Flow", "Extended Query"; "System Catalogs", pg_attribute.)
 #[derive(Debug)]
 pub struct Describe {
-    parameters: Oids,
-    columns: PgColumns,
+    statement: PgStatement,
     nullable: Vec<Option<bool>>,
 }
 
@@ -19,8 +16,7 @@ pub struct Describe {
 impl Drop for Describe {
     fn drop(self) {
         let Describe {
-            parameters: _,
-            columns: _,
+            statement: _,
             nullable: _,
         } = self;
     }
@@ -28,32 +24,28 @@ impl Drop for Describe {
 
 impl Describe {
     /// What was told of a statement, and then of its columns.
-    pub fn new(prepared: Prepared, nullable: Vec<Option<bool>>) -> Self
-        ensures statement { TellsStatement prepared result }
+    pub fn new(statement: PgStatement, nullable: Vec<Option<bool>>) -> Self
+        ensures statement { result.statement ≡ statement }
         ensures nullable { result.nullable.items ≡ nullable.items }
     {
-        let mut prepared = prepared;
-        let columns = prepared.columns.take().unwrap_or_else(PgColumns::none);
-        let (_sql, parameters) = prepared.into_parts();
         Describe {
-            parameters,
-            columns,
+            statement,
             nullable,
         }
     }
 
-    /// The columns of its rows, in their order; none where it gives no rows.
+    /// The columns of its rows, in their order, with the types and the origins that were looked up; none where it gives no rows.
     pub fn columns(&self) -> &[PgColumn]
-        ensures { result.now ≡ columns_of self.now.columns }
+        ensures { result.now ≡ self.now.statement.columns }
     {
-        self.columns.as_slice()
+        self.statement.columns()
     }
 
     /// The OIDs of its parameters' types, that of `$1` first.
     pub fn parameter_oids(&self) -> &[Oid]
-        ensures { result.now ≡ self.now.parameters }
+        ensures { result.now ≡ self.now.statement.parameters }
     {
-        self.parameters.as_slice()
+        self.statement.parameter_oids()
     }
 
     /// Of each column, in their order, whether it may be null: the column of a table may where no constraint forbids it. Of what is no column of a

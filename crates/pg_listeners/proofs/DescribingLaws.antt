@@ -9,16 +9,14 @@ use Rattle.pg_call.specs.declared.answer.Turn.{Turn}
 use Rattle.pg_call.specs.declared.kind.How.TheVariants as hows
 use Rattle.pg_call.specs.declared.kind.Kind.TheVariants as kinds
 use Rattle.pg_call.specs.declared.request.Request.{Request}
-use Rattle.pg_call.specs.declared.statement.Prepared.{Prepared}
 use Rattle.pg_conn.specs.declared.statement.PgStatement.{PgStatement}
-use Rattle.pg_describe.specs.Describing as described
-use Rattle.pg_describe.specs.Describing.{FitsNulls, HearsTurn, told_columns}
+use Rattle.pg_describe.specs.Describing.{FitsNulls, HearsTurn, TellsTurn}
 use Rattle.pg_describe.specs.declared.description.Describe.{Describe}
 use Rattle.pg_reconnect.specs.Failing.{BesideSeen}
 use Rattle.pg_reconnect.specs.Hearing.{HearingOf, learnt_of}
 use Rattle.pg_reconnect.specs.Querying.{Queries, QueriesOn}
 use Rattle.pg_reconnect.proofs.QueryingLaws.{query_fits}
-use Rattle.pg_listeners.specs.Describing.{GoesOn, PollsPrepare, PreparesIn, QueriesFrom, StaysDescribing, TellsTurn}
+use Rattle.pg_listeners.specs.Describing.{GoesOn, PollsPrepare, PreparesIn, QueriesFrom, StaysDescribing}
 use Rattle.pg_listeners.specs.Listeners.{ListenerOf}
 
 pub prepares_none_cleared : kinds.Prepare ≡ kinds.Clear → ⊥
@@ -30,16 +28,16 @@ pub nulls_fit : {A : Type 0} (request : Option Request) (h : HearingOf A) (answe
 nulls_fit request h Pending q = tt
 nulls_fit request h (Ready turn) q = query_fits (kinds.Run hows.FetchAll) request h turn q
 
-pub nulls_stay : {A : Type 0} (p : Prepared) (request : Option Request) (h : HearingOf A) (turn : Poll Turn) (answer : Poll (Result Describe Error)) (told : Option Prepared) → QueriesOn (kinds.Run hows.FetchAll) request h turn → HearsTurn p turn answer told → StaysDescribing told request h answer
+pub nulls_stay : {A : Type 0} (p : PgStatement) (request : Option Request) (h : HearingOf A) (turn : Poll Turn) (answer : Poll (Result Describe Error)) (told : Option PgStatement) → QueriesOn (kinds.Run hows.FetchAll) request h turn → HearsTurn p turn answer told → StaysDescribing told request h answer
 nulls_stay p request h turn answer told q (Pending, is, (waits, kept)) =
     let on = subst (λ (t : Poll Turn). QueriesOn (kinds.Run hows.FetchAll) request h t) is q in
-    subst (λ (x : Poll (Result Describe Error)). StaysDescribing told request h x) (sym waits) (subst (λ (t : Option Prepared). StaysDescribing {X = Result Describe Error} t request h Pending) (sym kept) on)
+    subst (λ (x : Poll (Result Describe Error)). StaysDescribing told request h x) (sym waits) (subst (λ (t : Option PgStatement). StaysDescribing {X = Result Describe Error} t request h Pending) (sym kept) on)
 nulls_stay p request h turn answer told q (Ready (Err e), is, (ends, none)) = subst (λ (x : Poll (Result Describe Error)). StaysDescribing told request h x) (sym ends) tt
 nulls_stay p request h turn answer told q (Ready (Ok rows), is, (none, (d, ends, tells))) = subst (λ (x : Poll (Result Describe Error)). StaysDescribing told request h x) (sym ends) tt
 
 -- nothing is asked where there is no column
-pub tells_at_once : {P S D A : Type 0} (seen : A → LinkSeen) (beside : ListenerOf P S D A → ListenerOf P S D A → BesideSeen) (left now : ℕ) (p : Prepared) (rest : Option Request) (a : ListenerOf P S D A) (told : Option Prepared) (d : Describe) → rest ≡ None → told ≡ None → told_columns p ≡ []
-    → described.TellsStatement p d → d.nullable.items ≡ [] → GoesOn seen beside left now p rest a a (Ready (Ok d)) told
+pub tells_at_once : {P S D A : Type 0} (seen : A → LinkSeen) (beside : ListenerOf P S D A → ListenerOf P S D A → BesideSeen) (left now : ℕ) (p : PgStatement) (rest : Option Request) (a : ListenerOf P S D A) (told : Option PgStatement) (d : Describe) → rest ≡ None → told ≡ None → p.columns ≡ []
+    → d.statement ≡ p → d.nullable.items ≡ [] → GoesOn seen beside left now p rest a a (Ready (Ok d)) told
 tells_at_once seen beside left now p rest a told d none nobody empty tells flags = inl (refl, none, inl (empty, nobody, (d, refl, tells, flags)))
 
 -- ---- the preparation
@@ -48,16 +46,16 @@ pub prepares_told : {A : Type 0} (seen : A → LinkSeen) (o : BesideSeen) (now :
     → PreparesIn seen o request rest a b (Ready answer)
 prepares_told seen o now request rest a b turn answer (told, is, e) q = (Ready told, e, (now, subst (λ (t : Turn). Queries seen o 256 now request rest a b (Ready t)) is q))
 
-pub prepare_waits : {P S D A : Type 0} (seen : A → LinkSeen) (beside : ListenerOf P S D A → ListenerOf P S D A → BesideSeen) (left now : ℕ) (request rest : Option Request) (a b : ListenerOf P S D A) (told : Option Prepared) → told ≡ None → now ≤ left → QueriesFrom seen beside left now request rest a b Pending
+pub prepare_waits : {P S D A : Type 0} (seen : A → LinkSeen) (beside : ListenerOf P S D A → ListenerOf P S D A → BesideSeen) (left now : ℕ) (request rest : Option Request) (a b : ListenerOf P S D A) (told : Option PgStatement) → told ≡ None → now ≤ left → QueriesFrom seen beside left now request rest a b Pending
     → PollsPrepare seen beside left now request rest a b Pending told
-prepare_waits seen beside left now request rest a b told none fewer q = record { mid = b; fewer = now; asked = rest; first = Pending; less = fewer; queries = q; goes = (refl, refl, refl, none) }
+prepare_waits seen beside left now request rest a b told none fewer q = record { mid = b; fewer = now; asked = rest; turn = Pending; first = Pending; less = fewer; queries = q; tells = refl; goes = (refl, refl, refl, none) }
 
-pub prepare_fails : {P S D A : Type 0} (seen : A → LinkSeen) (beside : ListenerOf P S D A → ListenerOf P S D A → BesideSeen) (left now : ℕ) (request rest : Option Request) (a b : ListenerOf P S D A) (told : Option Prepared) (turn : Turn) (e : Error) → told ≡ None → now ≤ left → turn ≡ statement_turn (Err e)
+pub prepare_fails : {P S D A : Type 0} (seen : A → LinkSeen) (beside : ListenerOf P S D A → ListenerOf P S D A → BesideSeen) (left now : ℕ) (request rest : Option Request) (a b : ListenerOf P S D A) (told : Option PgStatement) (turn : Turn) (e : Error) → told ≡ None → now ≤ left → TellsTurn (learnt_of b.hearing) turn (Err e)
     → QueriesFrom seen beside left now request rest a b (Ready turn) → PollsPrepare seen beside left now request rest a b (Ready (Err e)) told
-prepare_fails seen beside left now request rest a b told turn e none fewer is q =
-    record { mid = b; fewer = now; asked = rest; first = Ready (Err e); less = fewer; queries = subst (λ (t : Turn). QueriesFrom seen beside left now request rest a b (Ready t)) is q; goes = (refl, refl, refl, none) }
+prepare_fails seen beside left now request rest a b told turn e none fewer (answered, is, tells) q =
+    record { mid = b; fewer = now; asked = rest; turn = Ready answered; first = Ready (Err e); less = fewer; queries = subst (λ (t : Turn). QueriesFrom seen beside left now request rest a b (Ready t)) is q; tells = tells; goes = (refl, refl, refl, none) }
 
-pub prepare_goes : {P S D A : Type 0} (seen : A → LinkSeen) (beside : ListenerOf P S D A → ListenerOf P S D A → BesideSeen) (left fewer now : ℕ) (request asked rest : Option Request) (a mid b : ListenerOf P S D A) (answer : Poll (Result Describe Error)) (told : Option Prepared) (turn : Turn) (p : Prepared) → fewer ≤ left
-    → turn ≡ statement_turn (Ok p) → QueriesFrom seen beside left fewer request asked a mid (Ready turn) → GoesOn seen beside fewer now p rest mid b answer told → PollsPrepare seen beside left now request rest a b answer told
-prepare_goes seen beside left fewer now request asked rest a mid b answer told turn p less is q goes =
-    record { mid = mid; fewer = fewer; asked = asked; first = Ready (Ok p); less = less; queries = subst (λ (t : Turn). QueriesFrom seen beside left fewer request asked a mid (Ready t)) is q; goes = goes }
+pub prepare_goes : {P S D A : Type 0} (seen : A → LinkSeen) (beside : ListenerOf P S D A → ListenerOf P S D A → BesideSeen) (left fewer now : ℕ) (request asked rest : Option Request) (a mid b : ListenerOf P S D A) (answer : Poll (Result Describe Error)) (told : Option PgStatement) (turn : Turn) (p : PgStatement) → fewer ≤ left
+    → TellsTurn (learnt_of mid.hearing) turn (Ok p) → QueriesFrom seen beside left fewer request asked a mid (Ready turn) → GoesOn seen beside fewer now p rest mid b answer told → PollsPrepare seen beside left now request rest a b answer told
+prepare_goes seen beside left fewer now request asked rest a mid b answer told turn p less (answered, is, tells) q goes =
+    record { mid = mid; fewer = fewer; asked = asked; turn = Ready answered; first = Ready (Ok p); less = less; queries = subst (λ (t : Turn). QueriesFrom seen beside left fewer request asked a mid (Ready t)) is q; tells = tells; goes = goes }

@@ -11,10 +11,10 @@ ghost use Rattle.pg_listeners.specs.Listeners.{beside_of, is_answered};
 
 use crate::answering::is_answered;
 use crate::{PgListener, PoolHolder, SeatHolder};
-use pg_call::{Prepared, Request};
-use pg_conn::{Dial, Preparation, prepare_request};
+use pg_call::Request;
+use pg_conn::{Dial, PgStatement, Preparation, prepare_request};
 use pg_describe::Describe;
-use pg_describe::telling::{columns_in, hear};
+use pg_describe::telling::hear;
 use pg_listen::{PoolLedger, PoolSeat};
 use pg_nullable::nulls_query;
 use pg_wire::{Error, Poll, Text};
@@ -29,7 +29,7 @@ pub struct Describing<
     S: SeatHolder<Seat = PoolSeat<G>>,
     D: Dial,
     Q = Request,
-    T = Prepared,
+    T = PgStatement,
 > {
     listener: &'l mut PgListener<G, P, S, D>,
     request: Option<Q>,
@@ -108,7 +108,7 @@ where
     fn poll_nulls<R: Wait>(
         &mut self,
         rt: &R,
-        prepared: Prepared,
+        statement: PgStatement,
         left: &mut u16,
     ) -> Poll<Result<Describe, Error>>
         requires left { left.old ≤ 256 }
@@ -117,12 +117,12 @@ where
         ensures hears { HearsBy D.L.seen self.old.listener.now.hearing self.new.listener.now.hearing [] }
         ensures channels { self.new.listener.now.hearing.listening.channels ≡ self.old.listener.now.hearing.listening.channels }
         ensures left { left.new ≤ left.old }
-        ensures nulls { PollsNulls D.L.seen (beside_of P.pool S.seat D.seen G.most) left.old left.new prepared self.old.request self.new.request self.old.listener.now self.new.listener.now result self.new.told }
+        ensures nulls { PollsNulls D.L.seen (beside_of P.pool S.seat D.seen G.most) left.old left.new statement self.old.request self.new.request self.old.listener.now self.new.listener.now result self.new.told }
         ensures stays { StaysDescribing self.new.told self.new.request self.new.listener.now.hearing result }
         ensures closed { NotesBy D.L G.most (S.seat self.new.listener.now.seat) result }
     {
         let answer = self.listener.poll_query(rt, &mut self.request, left);
-        let (answer, told) = hear(self.listener.allocator(), prepared, answer);
+        let (answer, told) = hear(self.listener.allocator(), statement, answer);
         self.told = told;
         answer
     }
@@ -131,7 +131,7 @@ where
     fn go_on<R: Wait>(
         &mut self,
         rt: &R,
-        prepared: Prepared,
+        statement: PgStatement,
         left: &mut u16,
     ) -> Poll<Result<Describe, Error>>
         requires left { left.old ≤ 256 }
@@ -141,17 +141,17 @@ where
         ensures hears { HearsBy D.L.seen self.old.listener.now.hearing self.new.listener.now.hearing [] }
         ensures channels { self.new.listener.now.hearing.listening.channels ≡ self.old.listener.now.hearing.listening.channels }
         ensures left { left.new ≤ left.old }
-        ensures goes { GoesOn D.L.seen (beside_of P.pool S.seat D.seen G.most) left.old left.new prepared self.new.request self.old.listener.now self.new.listener.now result self.new.told }
+        ensures goes { GoesOn D.L.seen (beside_of P.pool S.seat D.seen G.most) left.old left.new statement self.new.request self.old.listener.now self.new.listener.now result self.new.told }
         ensures stays { StaysDescribing self.new.told self.new.request self.new.listener.now.hearing result }
         ensures closed { NotesBy D.L G.most (S.seat self.new.listener.now.seat) result }
     {
         let alloc = self.listener.allocator();
-        match nulls_query(alloc, columns_in(&prepared.columns)) {
+        match nulls_query(alloc, statement.columns()) {
             Ok(Some(query)) => {
                 self.request = Some(Request::FetchAll(query));
-                self.poll_nulls(rt, prepared, left)
+                self.poll_nulls(rt, statement, left)
             }
-            Ok(None) => Poll::Ready(Ok(Describe::new(prepared, Vec::new(alloc)))),
+            Ok(None) => Poll::Ready(Ok(Describe::new(statement, Vec::new(alloc)))),
             Err(e) => Poll::Ready(Err(e)),
         }
     }
@@ -171,8 +171,8 @@ where
     {
         match self.listener.poll_query(rt, &mut self.request, left) {
             Poll::Pending => Poll::Pending,
-            Poll::Ready(turn) => match turn.into_statement() {
-                Ok(prepared) => self.go_on(rt, prepared, left),
+            Poll::Ready(turn) => match self.listener.statement_told(turn) {
+                Ok(statement) => self.go_on(rt, statement, left),
                 Err(e) => Poll::Ready(Err(e)),
             },
         }
@@ -190,7 +190,7 @@ where
         ensures closed { NotesBy D.L G.most (S.seat self.new.listener.now.seat) result }
     {
         match self.told.take() {
-            Some(prepared) => self.poll_nulls(rt, prepared, left),
+            Some(statement) => self.poll_nulls(rt, statement, left),
             None => self.poll_prepare(rt, left),
         }
     }

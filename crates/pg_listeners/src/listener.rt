@@ -1,8 +1,11 @@
 //! A listener with what holds its pool and its participant, and with its dial.
 ghost use Rattle.std.specs.Prelude.{◌≡◌, ◌⊎◌, ◌≤◌, ◌++◌, true, false, [], None, Err, IsSome, OnErr, OnOk, is_some, option_to_list};
+ghost use Rattle.pg_call.specs.Answers.{TurnFits};
+ghost use Rattle.pg_call.specs.declared.kind.Kind.TheVariants as kinds;
 ghost use Rattle.pg_conn.specs.News.{given};
+ghost use Rattle.pg_describe.specs.Describing.{TellsTurn};
 ghost use Rattle.pg_listening.specs.Buffers.{buffered};
-ghost use Rattle.pg_reconnect.specs.Hearing.{Changes, GivesOldest, HearsBy, OnReady, TellsLoss, buffers_of, channels_at_ok, fresh_hearing, gave_by, is_changing};
+ghost use Rattle.pg_reconnect.specs.Hearing.{Changes, GivesOldest, HearsBy, OnReady, TellsLoss, buffers_of, channels_at_ok, fresh_hearing, gave_by, is_changing, learnt_of};
 ghost use Rattle.pg_reconnect.specs.Failing.{CausedBy, Fails, OnFailed};
 ghost use Rattle.pg_reconnect.specs.Leaving.{OnReleased};
 ghost use Rattle.pg_call.specs.declared.kind.Kind.{Kind};
@@ -12,7 +15,7 @@ ghost use Rattle.pg_listeners.specs.Listeners.{CausedBehind, MakesChange, beside
 
 use crate::{ChannelChange, PgNotification, PoolHolder, SeatHolder};
 use pg_call::{Request, Turn};
-use pg_conn::Dial;
+use pg_conn::{Dial, PgStatement};
 use pg_listen::{PoolLedger, PoolSeat, Released};
 use pg_reconnect::Hearing;
 use pg_wire::{Error, Notification, Poll, Text};
@@ -96,6 +99,17 @@ impl<G: PoolLedger, P: PoolHolder<G, D::L>, S: SeatHolder<Seat = PoolSeat<G>>, D
     // Where its memory comes from.
     pub(crate) fn allocator(&self) -> Global {
         self.hearing.allocator()
+    }
+
+    // The statement that a turn tells, with what its connection has learnt.
+    pub(crate) fn statement_told(&self, turn: Turn) -> Result<PgStatement, Error>
+        requires { TurnFits kinds.Prepare turn }
+        ensures { TellsTurn (learnt_of self.now.hearing) turn result }
+    {
+        match turn.into_statement() {
+            Ok(prepared) => self.hearing.statement(prepared),
+            Err(e) => Err(e),
+        }
     }
 
     /// The channels that it listens to, in the order in which they were asked for.

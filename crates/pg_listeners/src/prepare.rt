@@ -1,21 +1,18 @@
 //! The call `prepare_with` of a listener.
 ghost use Rattle.std.specs.Prelude.{◌≡◌, false, [], None, Some};
-ghost use Rattle.pg_call.specs.Answers.{TurnFits};
 ghost use Rattle.pg_call.specs.declared.kind.Kind.TheVariants as kinds;
 ghost use Rattle.pg_conn.specs.States.{to_prepare};
-ghost use Rattle.pg_reconnect.specs.Hearing.{HearsBy, learnt_of};
+ghost use Rattle.pg_reconnect.specs.Hearing.{HearsBy};
 ghost use Rattle.pg_reconnect.specs.Querying.{IsQuerying};
 ghost use Rattle.pg_reconnect.specs.Waiting.{NotesBy};
-ghost use Rattle.pg_listeners.specs.Describing.{PreparesIn, StaysQuerying, TellsTurn};
+ghost use Rattle.pg_listeners.specs.Describing.{PreparesIn, StaysQuerying};
 ghost use Rattle.pg_listeners.specs.Listeners.{beside_of, is_answered};
 
 use crate::answering::is_answered;
 use crate::{PgListener, PoolHolder, SeatHolder};
-use pg_call::{Request, Turn};
+use pg_call::Request;
 use pg_conn::{Dial, PgStatement, Preparation, prepare_request};
 use pg_listen::{PoolLedger, PoolSeat};
-use pg_reconnect::Hearing;
-use pg_stream::Link;
 use pg_wire::{Error, Poll};
 use std::sync::Wait;
 
@@ -77,17 +74,6 @@ impl<G: PoolLedger, P: PoolHolder<G, D::L>, S: SeatHolder<Seat = PoolSeat<G>>, D
     }
 }
 
-// The statement that was told.
-fn prepared<L: Link>(hearing: &Hearing<L>, turn: Turn) -> Result<PgStatement, Error>
-    requires { TurnFits kinds.Prepare turn }
-    ensures { TellsTurn (learnt_of hearing.now) turn result }
-{
-    match turn.into_statement() {
-        Ok(prepared) => hearing.statement(prepared),
-        Err(e) => Err(e),
-    }
-}
-
 impl<G: PoolLedger, P: PoolHolder<G, D::L>, S: SeatHolder<Seat = PoolSeat<G>>, D: Dial> PrepareWith<
     '_,
     G,
@@ -122,7 +108,7 @@ where
             Poll::Pending => Poll::Pending,
             Poll::Ready(turn) => {
                 self.is_over = true;
-                Poll::Ready(prepared(&self.listener.hearing, turn))
+                Poll::Ready(self.listener.statement_told(turn))
             }
         }
     }

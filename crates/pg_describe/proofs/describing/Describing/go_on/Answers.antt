@@ -10,4 +10,4 @@ hear-requires-clause-fits g c = c.poll_next-answer.ensures.fits (kinds.Run hows.
 
 pub returns-in-Ok-None-clause-goes : goal.returns-in-Ok-None-clause-goes
 returns-in-Ok-None-clause-goes g c =
-    inl (refl, (sym c.columns_in.ensures ∙ (rw c.in-Ok-None.field-0-is at c.in-Ok-None.ensures.ok), c.requires.told, (c.new-in-Ok-None.result, refl, c.new-in-Ok-None.ensures.statement, c.new-in-Ok-None.ensures.nullable ∙ c.new.ensures.items)))
+    inl (refl, (sym c.columns.ensures ∙ (rw c.in-Ok-None.field-0-is at c.in-Ok-None.ensures.ok), c.requires.told, (c.new-in-Ok-None.result, refl, c.new-in-Ok-None.ensures.statement, c.new-in-Ok-None.ensures.nullable ∙ c.new.ensures.items)))

@@ -12,5 +12,5 @@ returns-in-Err-clause-hears g c = hears_nothing g.D.L.Link.seen _ _ refl
 
 pub returns-in-Ok-None-clause-goes : goal.returns-in-Ok-None-clause-goes
 returns-in-Ok-None-clause-goes g c =
-    tells_at_once g.D.L.Link.seen (beside_of g.P.PoolHolder.pool g.S.SeatHolder.seat g.D.Dial.seen g.G.PoolLedger.most) c.args.left.now c.args.left.now c.args.prepared c.args.self.now.request c.args.self.now.listener.now c.args.self.now.told c.new-in-Ok-None.result c.requires.asked c.requires.told
-    (sym c.columns_in.ensures ∙ rw c.in-Ok-None.field-0-is at c.in-Ok-None.ensures.ok) c.new-in-Ok-None.ensures.statement (c.new-in-Ok-None.ensures.nullable ∙ c.new.ensures.items)
+    tells_at_once g.D.L.Link.seen (beside_of g.P.PoolHolder.pool g.S.SeatHolder.seat g.D.Dial.seen g.G.PoolLedger.most) c.args.left.now c.args.left.now c.args.statement c.args.self.now.request c.args.self.now.listener.now c.args.self.now.told c.new-in-Ok-None.result c.requires.asked c.requires.told
+    (sym c.columns.ensures ∙ rw c.in-Ok-None.field-0-is at c.in-Ok-None.ensures.ok) c.new-in-Ok-None.ensures.statement (c.new-in-Ok-None.ensures.nullable ∙ c.new.ensures.items)

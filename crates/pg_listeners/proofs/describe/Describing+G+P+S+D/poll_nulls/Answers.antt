@@ -13,6 +13,6 @@ hear-answer-requires g c =
 
 pub returns-clause-stays : goal.returns-clause-stays
 returns-clause-stays g c =
-    nulls_stay c.args.prepared c.poll_query-answer.new.request c.poll_query-answer.new.self.hearing c.poll_query-answer.result c.hear-answer.result.0 c.hear-answer.result.1
+    nulls_stay c.args.statement c.poll_query-answer.new.request c.poll_query-answer.new.self.hearing c.poll_query-answer.result c.hear-answer.result.0 c.hear-answer.result.1
     (queries_on g.D.L.Link.seen (beside_of g.P.PoolHolder.pool g.S.SeatHolder.seat g.D.Dial.seen g.G.PoolLedger.most c.args.self.now.listener.now c.poll_query-answer.new.self) _ _ (kinds.Run hows.FetchAll) _ _ _ _ c.poll_query-answer.result (runs_none_cleared hows.FetchAll) c.requires.querying
     c.poll_query-answer.ensures.queries) c.hear-answer.ensures
