@@ -57,6 +57,19 @@ step('step 1000 fetch_all once "SELECT isempty($1), $2" named:"reach":"\\x01" na
 step('step 1000 fetch_all once "SELECT $1" named:"dot":"x"', 'groups 3 .* error Database ')
 step('step 1000 fetch_all once "SELECT $1" named:"nosuch":"x"', 'groups 1 .* error TypeNotFound "nosuch"$')
 row(4)
+# types that a statement to prepare declares by their names: looked up before the description, once for each name; a text that is kept asks nothing
+psql("CREATE TYPE shade AS ENUM ('dark', 'pale')")
+shade, shades, hues = psql("SELECT t.oid, t.typarray, h.typarray FROM pg_type t, pg_type h WHERE t.typname = 'shade' AND h.typname = 'hue'").strip().split('|')
+step('step 1000 prepare "SELECT $1, $2" name:"shade" array:"hue"', f'groups 2 .* ok described {shade},{hues} 2$')
+step('step 1000 prepare "SELECT $1, $2, 1" array:"shade" name:"hue"', f'groups 2 .* ok described {shades},{hue.strip()} 3$')
+step('step 1000 prepare "SELECT $1, $2, 1" array:"nosuch" name:"nosuch"', f'groups 0 .* ok described {shades},{hue.strip()} 3$')
+step('step 1000 prepare "SELECT $1, 2" array:"nosuch"', 'groups 1 .* error TypeNotFound "nosuch\\[\\]"$')
+row(5)
+# names are forgotten where the statements that are kept are closed; types under their OIDs are not
+step('step 1000 clear', 'groups 1 .* ok$')
+step('step 1000 prepare "SELECT $1, 3" name:"shade"', f'groups 2 .* ok described {shade} 2$')
+step('step 1000 fetch_all query "SELECT h FROM hues WHERE $1" bool:t', 'groups 2 .* ok$')
+row(6)
 # every type that a parameter can have, but multiranges and those that the server keeps for itself (category Z), which a lookup refuses, and rows of tables that have one
 types = psql("WITH own AS (SELECT oid FROM pg_type WHERE typcategory = 'Z'), rows_of AS (SELECT t.oid FROM pg_type t JOIN pg_attribute ON attrelid = typrelid AND attnum > 0 WHERE atttypid IN (SELECT oid FROM own)) "
              "SELECT format_type(oid, NULL) FROM pg_type WHERE typtype IN ('b', 'c', 'd', 'e', 'r') AND typname NOT LIKE '%multirange' "
