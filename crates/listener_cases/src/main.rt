@@ -11,7 +11,7 @@
 //!     recv          `recv`
 //!     many          `fetch_many` of a query, told by how many rows it gives
 //!     first         `fetch_optional` of it, told by whether it gives one
-//!     prepare       `prepare_with` of a statement, told by how many parameters and columns it has
+//!     prepare       `prepare_with` of a statement, told by how many parameters it has, and by its columns with their types and origins
 //!     describe      `describe` of it, told by its columns and by whether each may be null
 //!     next          `next_buffered`
 //!     take          `take_lost`, told by what each link has taken

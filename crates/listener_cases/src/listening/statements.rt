@@ -3,7 +3,7 @@ ghost use Rattle.std.specs.Prelude.{◌≡◌};
 
 use crate::listening::calls::POLLS;
 use case_tools::push_error;
-use pg_conn::{Dial, MemoryDial, PgStatement, Preparation};
+use pg_conn::{ColumnOrigin, Dial, MemoryDial, PgColumn, PgStatement, Preparation};
 use pg_listen::{PoolLedger, PoolSeat};
 use pg_listeners::{Describe, PgListener, PoolHolder, SeatHolder};
 use pg_stream::MemoryLink;
@@ -57,7 +57,29 @@ where
     Poll::Pending
 }
 
-/// A statement is prepared, and told by how many parameters and columns it has.
+// Where a column comes from.
+fn push_origin(out: &mut String, origin: &ColumnOrigin) -> Result<(), Error> {
+    match origin {
+        ColumnOrigin::Unknown => out.push_str("=?")?,
+        ColumnOrigin::Expression => {}
+        ColumnOrigin::Table(of) => {
+            write!(out, "={}.{}", of.table.as_str(), of.name.as_str())?;
+        }
+    }
+    Ok(())
+}
+
+// How many columns there are, and each by its name, its type and where it comes from.
+fn push_columns(out: &mut String, columns: &[PgColumn]) -> Result<(), Error> {
+    write!(out, " columns {}", columns.len())?;
+    for column in columns {
+        write!(out, " {}:{}", column.name(), column.type_info().name())?;
+        push_origin(out, column.origin())?;
+    }
+    Ok(())
+}
+
+/// A statement is prepared, and told by how many parameters it has, and by its columns.
 pub(crate) fn make_prepare<G, P, S, R>(
     rt: &R,
     alloc: Global,
@@ -74,12 +96,8 @@ where
     match prepare(rt, listener, Preparation::untyped(alloc, sql)) {
         Poll::Pending => out.push_str(" pending")?,
         Poll::Ready(Ok(told)) => {
-            write!(
-                out,
-                " parameters {} columns {}",
-                told.parameter_oids().len(),
-                told.columns().len()
-            )?;
+            write!(out, " parameters {}", told.parameter_oids().len())?;
+            push_columns(out, told.columns())?;
         }
         Poll::Ready(Err(error)) => push_error(out, &error)?,
     }
@@ -112,7 +130,7 @@ where
     match describe(rt, listener, sql) {
         Poll::Pending => out.push_str(" pending")?,
         Poll::Ready(Ok(told)) => {
-            write!(out, " columns {}", told.columns().len())?;
+            push_columns(out, told.columns())?;
             for flag in told.nullable() {
                 out.push_str(nullable(*flag))?;
             }
