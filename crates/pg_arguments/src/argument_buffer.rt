@@ -1,4 +1,4 @@
-ghost use Rattle.std.specs.Prelude.{◌≡◌, ◌+◌, ◌<◌, ◌≤◌, ◌^◌, ◌-◌, ◌↔◌, ◌++◌, [], None, Some, length, OnOk, OnErr, IfErr, IsTrue};
+ghost use Rattle.std.specs.Prelude.{◌≡◌, ◌+◌, ◌<◌, ◌≤◌, ◌^◌, ◌-◌, ◌↔◌, ◌++◌, [], None, Some, length, OnOk, OnErr, IfErr, IfOk, IsTrue};
 ghost use Rattle.pg_wire.specs.Bytes.{number32};
 ghost use Rattle.pg_wire.specs.declared.error.Error.TheVariants as errors;
 ghost use Rattle.pg_arguments.specs.Types.{TypeParts};
@@ -7,10 +7,10 @@ ghost use Rattle.pg_arguments.specs.Encoded.{Encoded, plain, open_oid, joined, c
 
 use crate::encode::{Encode, IsNull};
 use crate::given::{Bytes, NoValue};
-use crate::hole::Hole;
+use crate::hole::{Hole, copied_holes};
 use crate::type_info::PgTypeInfo;
 use pg_wire::{Error, Oid};
-use std::alloc::Global;
+use std::alloc::{AllocError, Global};
 use std::marker::Model;
 
 /// The longest encoding of a value, so that its length is a positive signed number.
@@ -64,6 +64,19 @@ impl PgArgumentBuffer {
             holes: Vec::new(alloc),
             values: 0,
         }
+    }
+
+    // Equal bytes, with the same OIDs open.
+    pub(crate) fn to_copy(&self, alloc: Global) -> Result<Self, AllocError>
+        ensures { IfOk result (λ b. b ≡ self.now) }
+    {
+        let bytes = Vec::from_slice(alloc, &self.bytes)?;
+        let holes = copied_holes(alloc, &self.holes)?;
+        Ok(PgArgumentBuffer {
+            bytes,
+            holes,
+            values: self.values,
+        })
     }
 
     /// The number of bytes.

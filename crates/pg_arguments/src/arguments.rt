@@ -15,7 +15,7 @@ use crate::given::{Bytes, NoValue, OidOf};
 use crate::hole::Hole;
 use crate::type_info::PgTypeInfo;
 use pg_wire::{Error, Oid};
-use std::alloc::Global;
+use std::alloc::{AllocError, Global};
 use std::marker::Model;
 
 /// The arguments of a call, in order: their types, and their values in binary encoding.
@@ -45,6 +45,17 @@ impl Model for PgArguments {
     ghost view = { λ a. record { types = a.types.items; encoded = a.buffer } };
 
     ghost invariant = { λ a. ∥ ((values : List (Option Encoded)) × AreMadeOf a.types.items a.buffer values) ∥₁ };
+}
+
+// Equal types.
+fn copied_types(alloc: Global, types: &[PgTypeInfo]) -> Result<Vec<PgTypeInfo>, AllocError>
+    ensures { IfOk result (λ copies. copies.items ≡ types.now) }
+{
+    let mut copies = Vec::new(alloc);
+    for of in types {
+        copies.push(of.to_copy(alloc)?)?;
+    }
+    Ok(copies)
 }
 
 // Adds a value and its type, or nothing, to as many values as there are types.
@@ -82,6 +93,16 @@ impl PgArguments {
             types: Vec::new(alloc),
             buffer: PgArgumentBuffer::new(alloc),
         }
+    }
+
+    /// Equal arguments. Only want of memory refuses them.
+    pub fn to_copy(&self, alloc: Global) -> Result<Self, Error>
+        ensures copy { IfOk result (λ a. a ≡ self.now) }
+        ensures memory { IfErr result (λ e. e ≡ errors.OutOfMemory) }
+    {
+        let types = copied_types(alloc, &self.types)?;
+        let buffer = self.buffer.to_copy(alloc)?;
+        Ok(PgArguments { types, buffer })
     }
 
     /// The number of arguments.

@@ -1,2 +1,3 @@
+pub mod CrossingLaws
 pub mod TextLaws
 pub mod ValueLaws

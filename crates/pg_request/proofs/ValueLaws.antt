@@ -1,5 +1,5 @@
 -- Values that stand behind each other are read back.
-use Rattle.std.proofs.Common.{◌≡◌, ℕ, suc, List, [], ◌∷◌, ◌++◌, length, flat_map, Option, Some, None, refl, sym, ap, ◌∙◌, append_assoc, append-nil, arith}
+use Rattle.std.proofs.Common.{◌≡◌, ℕ, suc, List, [], ◌∷◌, ◌++◌, length, flat_map, Option, Some, None, refl, sym, ap, ap₂, ◌∙◌, append_assoc, append-nil, arith}
 use Rattle.std.specs.Option.{option_map}
 use Rattle.std.specs.List.{AllByRecursion}
 use Rattle.std.specs.Coded.{coded_ℕ, coded_list}
@@ -14,8 +14,9 @@ use Rattle.pg_wire.proofs.ListLaws.{value_exact}
 use Rattle.pg_arguments.specs.Encoded.{Encoded, wire, wires, FitsWire}
 use Rattle.pg_arguments.specs.Arguments.{Arguments, HasValues}
 use Rattle.pg_request.specs.declared.naming.Declared.{Declared}
-use Rattle.pg_request.specs.Queries.{values_in, those_in, AreValues}
-use Rattle.pg_request.specs.Asked.{bytes_of, declared_arguments, declared_names, numbers_in, typed_arguments}
+use Rattle.pg_arguments.specs.declared.hole.Hole.{Hole}
+use Rattle.pg_request.specs.Queries.{ArgumentsSeen, values_in, those_in, AreValues}
+use Rattle.pg_request.specs.Asked.{bytes_of, declared_arguments, declared_names, filled, filled_by, numbers_in, patched_all, patched_first, typed_arguments}
 
 -- as many values as there are, with some bytes behind them
 values_again : (values : List (Option (List ℕ))) (rest : List ℕ) → AllByRecursion FitsValue values → many_at value_at (length values) (flat_map value values ++ rest) ≡ Some (values, rest)
@@ -85,10 +86,34 @@ pub none_are_values : (bytes : List ℕ) → bytes ≡ [] → AreValues 0 bytes
 unfolding many_at
 none_are_values bytes e = rw e (refl, refl)
 
-pub no_values : (types bytes : List ℕ) (names : List Declared) → names ≡ [] → record { types = types; values = values_in 0 bytes; names = names } ≡ typed_arguments types
+pub no_values : (types bytes : List ℕ) (names holes : List Declared) → names ≡ [] → holes ≡ [] → record { types = types; values = values_in 0 bytes; names = names; holes = holes; open_in = None } ≡ typed_arguments types
 unfolding many_at
-no_values types bytes names e = rw e refl
+no_values types bytes names holes e h = rw (e, h) refl
 
-pub no_values_but : (ds : List Declared) (types bytes : List ℕ) (names : List Declared) → types ≡ numbers_in ds → names ≡ declared_names ds → record { types = types; values = values_in 0 bytes; names = names } ≡ declared_arguments ds
+pub no_values_but : (ds : List Declared) (types bytes : List ℕ) (names holes : List Declared) → types ≡ numbers_in ds → names ≡ declared_names ds → holes ≡ [] → record { types = types; values = values_in 0 bytes; names = names; holes = holes; open_in = None } ≡ declared_arguments ds
 unfolding many_at
-no_values_but ds types bytes names e n = rw (e, n) refl
+no_values_but ds types bytes names holes e n h = rw (e, n, h) refl
+
+-- ---- open OIDs that are known at last
+
+first_types : (oid : ℕ) (holes : List Hole) (a : Arguments) → (patched_first oid holes a).types ≡ a.types
+first_types oid [] a = refl
+first_types oid (h ∷ hs) a = refl
+
+all_types : (oids : List ℕ) (a : Arguments) → (patched_all oids a).types ≡ a.types
+all_types [] a = refl
+all_types (oid ∷ oids) a = all_types oids (patched_first oid a.encoded.holes a) ∙ first_types oid a.encoded.holes a
+
+-- the values are those of the arguments with the OIDs in their places
+pub filled_is : (oids : List ℕ) (seen : ArgumentsSeen) (a new : Arguments) (count : ℕ) (bytes : List ℕ) (holes : List Declared) → seen.open_in ≡ Some a → new ≡ patched_all oids a → count ≡ length new.types → bytes ≡ new.encoded.bytes → holes ≡ []
+    → record { types = seen.types; values = values_in count bytes; names = seen.names; holes = holes; open_in = None } ≡ filled oids seen
+filled_is oids seen a new count bytes holes o n c b none =
+    let size : count ≡ length a.types = c ∙ ap (λ (x : Arguments). length x.types) n ∙ ap length (all_types oids a) in
+    let same : bytes ≡ (patched_all oids a).encoded.bytes = b ∙ ap (λ (x : Arguments). x.encoded.bytes) n in
+    ap (λ (hs : List Declared). record { types = seen.types; values = values_in count bytes; names = seen.names; holes = hs; open_in = None }) none
+    ∙ ap₂ (λ (k : ℕ) (bs : List ℕ). record { types = seen.types; values = values_in k bs; names = seen.names; holes = []; open_in = None }) size same ∙ sym (ap (λ (x : Option Arguments). filled_by oids x seen) o)
+
+pub unfilled_is : (oids : List ℕ) (seen : ArgumentsSeen) (holes : List Declared) → seen.open_in ≡ None → holes ≡ [] → record { types = seen.types; values = seen.values; names = seen.names; holes = holes; open_in = None } ≡ filled oids seen
+unfilled_is oids seen holes o none =
+    ap (λ (hs : List Declared). record { types = seen.types; values = seen.values; names = seen.names; holes = hs; open_in = None }) none
+    ∙ ap (λ (x : Option Arguments). record { types = seen.types; values = seen.values; names = seen.names; holes = []; open_in = x }) (sym o) ∙ sym (ap (λ (x : Option Arguments). filled_by oids x seen) o)

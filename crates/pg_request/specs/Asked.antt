@@ -4,7 +4,7 @@ use Rattle.std.specs.Option.{option_map}
 use Rattle.pg_wire.specs.declared.error.Error.{Error}
 use Rattle.pg_wire.specs.declared.error.Error.TheVariants as errors
 use Rattle.pg_arguments.specs.Types.{TypeParts, PartKind, Array, Simple, oid_of, name_of}
-use Rattle.pg_arguments.specs.Encoded.{Encoded}
+use Rattle.pg_arguments.specs.Encoded.{Encoded, patched}
 use Rattle.pg_arguments.specs.Arguments.{Arguments, HasValues}
 use Rattle.pg_arguments.specs.declared.hole.Hole.{Hole}
 use Rattle.pg_request.specs.declared.naming.Declared.{Declared}
@@ -70,18 +70,39 @@ declared_names ds = if all_numbers ds then [] else ds
 
 -- no values, but types as they are declared
 abbrev pub declared_arguments : List Declared → ArgumentsSeen
-declared_arguments ds = record { types = numbers_in ds; values = []; names = declared_names ds }
+declared_arguments ds = record { types = numbers_in ds; values = []; names = declared_names ds; holes = []; open_in = None }
 
 -- ---- OIDs that are open within values
 
--- the name of the first type whose OID is open
-abbrev pub open_type : List Hole → Option (List ℕ)
-open_type [] = None
-open_type (h ∷ hs) = Some (name_of h.of)
+-- the arguments themselves, where an OID is open
+abbrev pub open_by : List Hole → Arguments → Option Arguments
+open_by [] a = None
+open_by (h ∷ hs) a = Some a
 
--- the name of the first type that can't be looked up: one that is open
-abbrev pub missing_type : Arguments → Option (List ℕ)
-missing_type a = open_type a.encoded.holes
+abbrev pub where_open : Arguments → Option Arguments
+where_open a = open_by a.encoded.holes a
+
+-- the types whose OIDs are open, in the order of their places
+abbrev pub types_of_holes : List Hole → List Declared
+types_of_holes holes = map (λ h. declared_as h.of) holes
+
+-- the OID is written in the place of the first that is open, where one is
+abbrev pub patched_first : ℕ → List Hole → Arguments → Arguments
+patched_first oid [] a = a
+patched_first oid (h ∷ hs) a = record a { encoded = patched 0 oid a.encoded }
+
+-- and so is one after another
+abbrev pub patched_all : List ℕ → Arguments → Arguments
+patched_all [] a = a
+patched_all (oid ∷ oids) a = patched_all oids (patched_first oid a.encoded.holes a)
+
+abbrev pub filled_by : List ℕ → Option Arguments → ArgumentsSeen → ArgumentsSeen
+filled_by oids None seen = record seen { holes = [] }
+filled_by oids (Some a) seen = record seen { values = values_in (length a.types) (patched_all oids a).encoded.bytes; holes = []; open_in = None }
+
+-- the arguments once the open OIDs are known
+abbrev pub filled : List ℕ → ArgumentsSeen → ArgumentsSeen
+filled oids seen = filled_by oids seen.open_in seen
 
 -- only a type that has to be looked up is refused, but for want of memory
 abbrev pub RefusesType : Option (List ℕ) → Error → Type 0
@@ -94,7 +115,7 @@ bytes_of values = map (option_map (λ (e : Encoded). e.bytes)) values
 
 -- arguments as the server gets them
 abbrev pub sent_as : Arguments → ArgumentsSeen
-sent_as a = record { types = oids_in a.types; values = values_in (length a.types) a.encoded.bytes; names = names_in a.types }
+sent_as a = record { types = oids_in a.types; values = values_in (length a.types) a.encoded.bytes; names = names_in a.types; holes = types_of_holes a.encoded.holes; open_in = where_open a }
 
 -- the values that they were made of
 abbrev pub HasBytesOf : Arguments → ArgumentsSeen → Type 0
@@ -102,7 +123,7 @@ HasBytesOf a seen = (values : List (Option Encoded)) → HasValues a values → 
 
 -- types alone
 abbrev pub typed_arguments : List ℕ → ArgumentsSeen
-typed_arguments types = record { types = types; values = []; names = [] }
+typed_arguments types = record { types = types; values = []; names = []; holes = []; open_in = None }
 
 -- the OID of each type is known
 abbrev pub numbered : List ℕ → ArgumentsSeen → ArgumentsSeen

@@ -1,14 +1,18 @@
 -- What is seen of a query and of its arguments.
 use Rattle.std.specs.Prelude.{◌≡◌, ℕ, Bool, false, List, [], length, flat_map, Option, Some, None, Result, Ok, Err}
 use Rattle.pg_wire.specs.Bytes.{value}
+use Rattle.pg_arguments.specs.Arguments.{Arguments}
 use Rattle.pg_request.specs.declared.naming.Declared.{Declared}
 use Rattle.pg_wire.specs.Reading.{value_at, many_at}
 
--- the types of arguments, and their values in order; a null is None. Where a type is known by its name alone, all are told as they were declared.
+-- the types of arguments, and their values in order; a null is None. Where a type is known by its name alone, all are told as they were declared; and where
+-- OIDs are open within values, so are their types, in the order of their places, and the arguments as they were given.
 pub record ArgumentsSeen : Type 0 where
   pub types : List ℕ
   pub values : List (Option (List ℕ))
   pub names : List Declared
+  pub holes : List Declared
+  pub open_in : Option Arguments
 
 -- a text; its arguments, where it is one of the extended query; and whether its statement is to be kept
 pub record QueryText : Type 0 where
@@ -20,6 +24,11 @@ pub record QueryText : Type 0 where
 abbrev pub names_by : Option ArgumentsSeen → List Declared
 names_by None = []
 names_by (Some arguments) = arguments.names
+
+-- and those whose OIDs are open within its values
+abbrev pub holes_by : Option ArgumentsSeen → List Declared
+holes_by None = []
+holes_by (Some arguments) = arguments.holes
 
 -- a text without arguments
 abbrev pub plain_text : List ℕ → QueryText

@@ -1,11 +1,11 @@
-ghost use Rattle.std.specs.Prelude.{◌≡◌, Some, None, IfOk, IfErr, OnOk, length, flat_map};
+ghost use Rattle.std.specs.Prelude.{◌≡◌, IfOk, IfErr, length, flat_map};
 ghost use Rattle.pg_wire.specs.Bytes.{value};
-ghost use Rattle.pg_request.specs.Asked.{oids_in, open_type, missing_type, names_in, RefusesType, sent_as, typed_arguments, no_arguments, numbered, HasBytesOf, declared_arguments};
+ghost use Rattle.pg_request.specs.Asked.{oids_in, filled, names_in, patched_all, patched_first, sent_as, types_of_holes, typed_arguments, no_arguments, numbered, where_open, HasBytesOf, declared_arguments};
 
 use crate::naming::{
-    Declared, all_declared, are_numbered, copy_declared, declared_names, numbers_in,
+    Declared, all_declared, are_numbered, copy_declared, declared_names, numbers_in, types_of_holes,
 };
-use pg_arguments::{Hole, PgArguments, PgTypeInfo};
+use pg_arguments::{PgArguments, PgTypeInfo};
 use pg_wire::{Blob, Error, Oid, Oids, Sequence, Text};
 use std::alloc::Global;
 use std::marker::Model;
@@ -17,6 +17,9 @@ pub struct Arguments {
     count: u64,
     encoded: Blob,
     names: Sequence<Declared>,
+    holes: Sequence<Declared>,
+    // As they were given, where OIDs are open within their values.
+    given: Option<PgArguments>,
 }
 
 // By hand, so that whoever lets one go makes one call, and doesn't go through its parts.
@@ -27,6 +30,8 @@ impl Drop for Arguments {
             count: _,
             encoded: _,
             names: _,
+            holes: _,
+            given: _,
         } = self;
     }
 }
@@ -36,19 +41,9 @@ impl Model for Arguments {
 
     ghost Value = { ArgumentsSeen };
 
-    ghost view = { λ a. record { types = a.types; values = values_in a.count a.encoded; names = a.names } };
+    ghost view = { λ a. record { types = a.types; values = values_in a.count a.encoded; names = a.names; holes = a.holes; open_in = a.given } };
 
     ghost invariant = { λ a. AreValues a.count a.encoded };
-}
-
-// The refusal of a type that has to be looked up.
-fn not_found(alloc: Global, name: &str) -> Error
-    ensures { RefusesType (Some name.now) result }
-{
-    match Text::from_str(alloc, name) {
-        Ok(type_name) => Error::TypeNotFound { type_name },
-        Err(_) => Error::OutOfMemory,
-    }
 }
 
 // The OIDs of types, and 0 in the place of one that isn't known.
@@ -75,14 +70,44 @@ fn names_in(alloc: Global, types: &[PgTypeInfo]) -> Result<Sequence<Declared>, E
     }
 }
 
-// No OID may be open.
-fn none_open(alloc: Global, holes: &[Hole]) -> Result<(), Error>
-    ensures known { OnOk result (open_type holes.now ≡ None) }
-    ensures cause { IfErr result (RefusesType (open_type holes.now)) }
+// The arguments once more, where an OID is open within a value.
+fn where_open(alloc: Global, arguments: &PgArguments) -> Result<Option<PgArguments>, Error>
+    ensures ok { IfOk result (λ a. a ≡ where_open arguments.now) }
+    ensures memory { IfErr result (λ e. e ≡ Error.OutOfMemory) }
 {
-    match holes {
-        [] => Ok(()),
-        [hole, ..] => Err(not_found(alloc, hole.of.name())),
+    match arguments.holes() {
+        [] => Ok(None),
+        [_, ..] => Ok(Some(arguments.to_copy(alloc)?)),
+    }
+}
+
+// The same again.
+fn copied_given(given: &Option<PgArguments>, alloc: Global) -> Result<Option<PgArguments>, Error>
+    ensures copy { IfOk result (λ a. a ≡ given.now) }
+    ensures memory { IfErr result (λ e. e ≡ Error.OutOfMemory) }
+{
+    match given {
+        Some(arguments) => Ok(Some(arguments.to_copy(alloc)?)),
+        None => Ok(None),
+    }
+}
+
+// Writes an OID in the place of the first that is open.
+fn patch_first(arguments: &mut PgArguments, oid: Oid)
+    ensures { arguments.new ≡ patched_first oid arguments.old.encoded.holes arguments.old }
+{
+    match arguments.holes() {
+        [] => {}
+        [_, ..] => arguments.patch(0, oid),
+    }
+}
+
+// And so one after another.
+fn patch_all(arguments: &mut PgArguments, oids: &[Oid])
+    ensures { arguments.new ≡ patched_all oids.now arguments.old }
+{
+    for oid in oids {
+        patch_first(arguments, *oid);
     }
 }
 
@@ -96,6 +121,8 @@ impl Arguments {
             count: 0,
             encoded: Blob::new(alloc),
             names: Sequence::new(alloc),
+            holes: Sequence::new(alloc),
+            given: None,
         }
     }
 
@@ -111,6 +138,8 @@ impl Arguments {
             count: 0,
             encoded: Blob::new(alloc),
             names,
+            holes: Sequence::new(alloc),
+            given: None,
         })
     }
 
@@ -121,22 +150,66 @@ impl Arguments {
         Arguments::typed(alloc, Oids::new(alloc))
     }
 
-    /// Equal arguments, of which no OID is open in a value.
+    /// Equal arguments. Only want of memory refuses them.
     pub(crate) fn of(alloc: Global, arguments: &PgArguments) -> Result<Self, Error>
         ensures sent { IfOk result (λ a. a ≡ sent_as arguments.now) }
         ensures values { IfOk result (λ a. HasBytesOf arguments.now a) }
-        ensures known { OnOk result (missing_type arguments.now ≡ None) }
-        ensures cause { IfErr result (RefusesType (missing_type arguments.now)) }
+        ensures memory { IfErr result (λ e. e ≡ Error.OutOfMemory) }
     {
-        none_open(alloc, arguments.holes())?;
         let types = oids_in(alloc, arguments.types())?;
         let names = names_in(alloc, arguments.types())?;
+        let holes = types_of_holes(alloc, arguments.holes())?;
+        let given = where_open(alloc, arguments)?;
         let encoded = Blob::from_slice(alloc, arguments.encoded())?;
         Ok(Arguments {
             types,
             count: arguments.len() as u64,
             encoded,
             names,
+            holes,
+            given,
+        })
+    }
+
+    /// The types whose OIDs are open within values, in the order of their places.
+    pub fn holes(&self) -> &[Declared]
+        ensures { result.now ≡ self.now.holes }
+    {
+        self.holes.as_slice()
+    }
+
+    /// The same, once these are the open OIDs. Only want of memory refuses them.
+    pub fn filled(self, alloc: Global, oids: &[Oid]) -> Result<Self, Error>
+        ensures filled { IfOk result (λ a. a ≡ filled oids.now self) }
+        ensures memory { IfErr result (λ e. e ≡ Error.OutOfMemory) }
+    {
+        let Arguments {
+            types,
+            count,
+            encoded,
+            names,
+            holes: _,
+            given,
+        } = self;
+        let Some(mut arguments) = given else {
+            return Ok(Arguments {
+                types,
+                count,
+                encoded,
+                names,
+                holes: Sequence::new(alloc),
+                given: None,
+            });
+        };
+        patch_all(&mut arguments, oids);
+        let encoded = Blob::from_slice(alloc, arguments.encoded())?;
+        Ok(Arguments {
+            types,
+            count: arguments.len() as u64,
+            encoded,
+            names,
+            holes: Sequence::new(alloc),
+            given: None,
         })
     }
 
@@ -156,12 +229,16 @@ impl Arguments {
             count,
             encoded,
             names: _,
+            holes,
+            given,
         } = self;
         Arguments {
             types,
             count,
             encoded,
             names: Sequence::new(alloc),
+            holes,
+            given,
         }
     }
 
@@ -195,11 +272,15 @@ impl Arguments {
         let types = self.types.to_copy(alloc)?;
         let encoded = Blob::from_slice(alloc, self.encoded.as_bytes())?;
         let names = copy_declared(alloc, self.names.as_slice())?;
+        let holes = copy_declared(alloc, self.holes.as_slice())?;
+        let given = copied_given(&self.given, alloc)?;
         Ok(Arguments {
             types,
             count: self.count,
             encoded,
             names,
+            holes,
+            given,
         })
     }
 }

@@ -1,8 +1,8 @@
 //! Types as a caller declares them for arguments.
 ghost use Rattle.std.specs.Prelude.{◌≡◌, ◌∷◌, map, IfOk, IfErr};
-ghost use Rattle.pg_request.specs.Asked.{all_numbers, are_numbered, declared_as, declared_by_name, declared_names, number_of, numbers_in};
+ghost use Rattle.pg_request.specs.Asked.{all_numbers, are_numbered, declared_as, declared_by_name, declared_names, number_of, numbers_in, types_of_holes};
 
-use pg_arguments::{PgTypeInfo, PgTypeKind};
+use pg_arguments::{Hole, PgTypeInfo, PgTypeKind};
 use pg_wire::{Error, Oid, Oids, Sequence, Text};
 use std::alloc::Global;
 
@@ -83,6 +83,18 @@ pub(crate) fn all_declared(alloc: Global, types: &[PgTypeInfo]) -> Result<Sequen
     let mut all = Sequence::new(alloc);
     for of in types {
         all.push(as_declared(alloc, of)?)?;
+    }
+    Ok(all)
+}
+
+/// The types whose OIDs are open, as they are declared.
+pub(crate) fn types_of_holes(alloc: Global, holes: &[Hole]) -> Result<Sequence<Declared>, Error>
+    ensures ok { IfOk result (λ d. d ≡ types_of_holes holes.now) }
+    ensures memory { IfErr result (λ e. e ≡ Error.OutOfMemory) }
+{
+    let mut all = Sequence::new(alloc);
+    for hole in holes {
+        all.push(as_declared(alloc, &hole.of)?)?;
     }
     Ok(all)
 }

@@ -1,6 +1,6 @@
-ghost use Rattle.std.specs.Prelude.{◌≡◌, None, IfOk, IfErr, OnOk};
-ghost use Rattle.pg_request.specs.Queries.{extended, names_by, plain_text, QueryText};
-ghost use Rattle.pg_request.specs.Asked.{missing_type, RefusesType, sent_as, no_arguments, kept_query, AsksWith};
+ghost use Rattle.std.specs.Prelude.{◌≡◌, IfOk, IfErr};
+ghost use Rattle.pg_request.specs.Queries.{extended, holes_by, names_by, plain_text, QueryText};
+ghost use Rattle.pg_request.specs.Asked.{sent_as, no_arguments, kept_query, AsksWith};
 
 use crate::{Arguments, Declared};
 use pg_arguments::PgArguments;
@@ -82,13 +82,12 @@ impl Query {
         })
     }
 
-    /// The same with arguments, whose types may be known by their names alone. No OID may be open in a value: the first such type is
-    /// `TypeNotFound`. Else only want of memory refuses it.
+    /// The same with arguments, whose types may be known by their names alone, as may those whose OIDs are open within values. Only want of memory
+    /// refuses it.
     pub fn with(alloc: Global, sql: &str, arguments: &PgArguments) -> Result<Self, Error>
         ensures query { IfOk result (λ q. q ≡ kept_query sql.now (sent_as arguments.now)) }
         ensures values { IfOk result (λ q. AsksWith arguments.now q.arguments) }
-        ensures known { OnOk result (missing_type arguments.now ≡ None) }
-        ensures cause { IfErr result (RefusesType (missing_type arguments.now)) }
+        ensures memory { IfErr result (λ e. e ≡ Error.OutOfMemory) }
     {
         let arguments = Arguments::of(alloc, arguments)?;
         let sql = Text::from_str(alloc, sql)?;
@@ -134,6 +133,16 @@ impl Query {
     {
         match &self.arguments {
             Some(arguments) => arguments.names(),
+            None => &[],
+        }
+    }
+
+    /// The types whose OIDs are open within its arguments.
+    pub fn holes(&self) -> &[Declared]
+        ensures { result.now ≡ holes_by self.now.arguments }
+    {
+        match &self.arguments {
+            Some(arguments) => arguments.holes(),
             None => &[],
         }
     }

@@ -6,4 +6,4 @@ pub invariant_of-result : goal.invariant_of-result
 invariant_of-result c = none_are_values c.new.result c.new.ensures
 
 pub returns-clause-declared : goal.returns-clause-declared
-returns-clause-declared c = no_values_but c.args.declared.now c.in_ok-types.types c.new.result c.in_ok-names.names c.in_ok-types.ensures.oids (c.in_ok-names.ensures.ok ∙ c.declared_names.ensures)
+returns-clause-declared c = no_values_but c.args.declared.now c.in_ok-types.types c.new.result c.in_ok-names.names c.new-2.result c.in_ok-types.ensures.oids (c.in_ok-names.ensures.ok ∙ c.declared_names.ensures) c.new-2.ensures
