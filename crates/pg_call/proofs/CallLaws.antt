@@ -244,6 +244,7 @@ no_groups_close requests.Flush e = absurd cc
 no_groups_close (requests.Describe extended) e = absurd cc
 no_groups_close (requests.Run bound) e = absurd cc
 no_groups_close (requests.Look lookup) e = absurd cc
+no_groups_close (requests.Fill filling) e = absurd cc
 no_groups_close (requests.Evict eviction) e = absurd cc
 no_groups_close (requests.Clear statements) e = absurd cc
 no_groups_close (requests.Prepare prepared) e = absurd cc
@@ -325,6 +326,7 @@ plain_messages (requests.Rollback left) n = refl
 plain_messages (requests.Describe extended) n = refl
 plain_messages (requests.Run bound) n = sym (append-nil (said_in (groups_of (requests.Run bound))))
 plain_messages (requests.Look lookup) n = refl
+plain_messages (requests.Fill filling) n = refl
 plain_messages (requests.Evict eviction) n = refl
 plain_messages (requests.Clear statements) n = sym (append-nil (said_in (groups_of (requests.Clear statements))))
 plain_messages (requests.Prepare prepared) n = absurd (omega (arith, n))
@@ -379,6 +381,7 @@ answers_same (requests.Describe x) own reply status k h t p c e =
     ∙ ap (λ (w : List ℕ). Ok (answers.Next (requests.Describe (told w reply.heading.columns x)))) (parameters-push [] own (ReadyForQuery status) ∙ sym t)
     ∙ ap (λ (o : Rest). handed_on o reply.parameters reply.heading.columns (finished reply.kind reply.tally status)) (sym k)
 answers_same (requests.Look lookup) own reply status k h t p c e = ap (λ (o : Rest). handed_on o reply.parameters reply.heading.columns (finished reply.kind reply.tally status)) (sym k)
+answers_same (requests.Fill filling) own reply status k h t p c e = ap (λ (o : Rest). handed_on o reply.parameters reply.heading.columns (finished reply.kind reply.tally status)) (sym k)
 answers_same (requests.Evict eviction) own reply status k h t p c e = ap (λ (o : Rest). handed_on o reply.parameters reply.heading.columns (finished reply.kind reply.tally status)) (sym k)
 answers_same (requests.Prepare prepared) own reply status k h t p c e = ap (λ (o : Rest). handed_on o reply.parameters reply.heading.columns (finished reply.kind reply.tally status)) (sym k)
 answers_same _ own reply status k h t p c e = e ∙ ap (λ (o : Rest). handed_on o reply.parameters reply.heading.columns (finished reply.kind reply.tally status)) (sym k)

@@ -98,6 +98,7 @@ finished_fits kinds.Prepare t status answer n m e = absurd (m refl)
 no_description : (r : Request) (reply : List BackendMessage) → next_of r reply ≡ None → kind_of r ≡ kinds.Describe → ⊥
 no_description (requests.Describe extended) reply n k = cc
 no_description (requests.Look lookup) reply n k = cc
+no_description (requests.Fill filling) reply n k = cc
 no_description (requests.Evict eviction) reply n k = cc
 no_description (requests.Run bound) reply n k = cc
 no_description _ reply n k = cc
@@ -107,6 +108,7 @@ own_fits (requests.Prepare prepared) t status answer n e = subst (AnswerFits kin
 own_fits (requests.Run bound) t status answer n e = finished_fits (kinds.Run bound.how) t status answer n (λ k. cc) e
 own_fits (requests.Describe extended) t status answer n e = absurd (n refl)
 own_fits (requests.Look lookup) t status answer n e = absurd (n refl)
+own_fits (requests.Fill filling) t status answer n e = absurd (n refl)
 own_fits (requests.Evict eviction) t status answer n e = absurd (n refl)
 own_fits (requests.Execute query) t status answer n e = finished_fits (kinds.Run hows.Execute) t status answer n (λ k. cc) e
 own_fits (requests.ExecuteMany query) t status answer n e = finished_fits (kinds.Run hows.ExecuteMany) t status answer n (λ k. cc) e
@@ -132,6 +134,7 @@ answers_fit r reply status answer e = by r (next_of r reply) refl e
     handed : (r : Request) (reply : List BackendMessage) (next : Request) → next_of r reply ≡ Some next → AnswerFits (kind_of r) (answers.Next next)
     handed (requests.Describe extended) reply next k = tt
     handed (requests.Look lookup) reply next k = tt
+    handed (requests.Fill filling) reply next k = tt
     handed (requests.Evict eviction) reply next k = tt
     handed _ reply next k = absurd cc
 
@@ -173,6 +176,7 @@ the_next x y e = cc
 
 behind_kind : (after : After) → main_kind (request_behind after) ≡ after_kind after
 behind_kind (afters.Run bound) = refl
+behind_kind (afters.Fill filling) = refl
 behind_kind (afters.Prepare prepared) = refl
 
 -- what is handed on is of the call's kind, and is what was to be asked next
@@ -186,6 +190,9 @@ next_is r reply status next e = by r (hands_on_described r reply status next e) 
     by (requests.Look lookup) k e =
         let is = the_next _ next (the_ok _ _ e) in
         (ap (λ (n : Request). main_kind n) (sym is), ap (λ (n : Request). Some n) is)
+    by (requests.Fill filling) k e =
+        let is = the_next _ next (the_ok _ _ e) in
+        (ap (λ (n : Request). main_kind n) (sym is), ap (λ (n : Request). Some n) is)
     by (requests.Evict eviction) k e =
         let is = the_next _ next (the_ok _ _ e) in
         (ap (λ (n : Request). main_kind n) (sym is) ∙ behind_kind eviction.after, ap (λ (n : Request). Some n) is)
@@ -196,12 +203,14 @@ next_is r reply status next e = by r (hands_on_described r reply status next e) 
 pub shows_main : (r : Request) (item : CallItem) → yields (kind_of r) item ≡ true → yields (main_kind r) item ≡ true
 shows_main (requests.Describe x) item e = absurd cc
 shows_main (requests.Look lookup) item e = absurd cc
+shows_main (requests.Fill filling) item e = absurd cc
 shows_main (requests.Evict eviction) item e = absurd cc
 shows_main _ item e = e
 
 pub answers_main : (r : Request) (reply : List BackendMessage) (status : TransactionStatus) (answer : CallAnswer) → answer_by r reply status ≡ Ok answer → ((next : Request) → answer ≡ answers.Next next → ⊥) → AnswerFits (main_kind r) answer
 answers_main (requests.Describe x) reply status answer e n = absurd (n _ (sym (the_ok _ _ e)))
 answers_main (requests.Look lookup) reply status answer e n = absurd (n _ (sym (the_ok _ _ e)))
+answers_main (requests.Fill filling) reply status answer e n = absurd (n _ (sym (the_ok _ _ e)))
 answers_main (requests.Evict eviction) reply status answer e n = absurd (n _ (sym (the_ok _ _ e)))
 answers_main (requests.Prepare prepared) reply status answer e n = answers_fit (requests.Prepare prepared) reply status answer e
 answers_main (requests.Clear statements) reply status answer e n = answers_fit (requests.Clear statements) reply status answer e
@@ -229,12 +238,14 @@ goal_describes_none goals.Prepare e = cc
 
 after_describes_none : (after : After) → after_kind after ≡ kinds.Describe → ⊥
 after_describes_none (afters.Run bound) e = cc
+after_describes_none (afters.Fill filling) e = cc
 after_describes_none (afters.Prepare prepared) e = cc
 
 -- no call is a description as a whole
 pub main_describes_none : (r : Request) → main_kind r ≡ kinds.Describe → ⊥
 main_describes_none (requests.Describe x) e = goal_describes_none x.goal e
 main_describes_none (requests.Look lookup) e = goal_describes_none lookup.extended.goal e
+main_describes_none (requests.Fill filling) e = cc
 main_describes_none (requests.Evict eviction) e = after_describes_none eviction.after e
 main_describes_none (requests.Run bound) e = cc
 main_describes_none _ e = cc
@@ -243,5 +254,6 @@ main_describes_none _ e = cc
 pub main_alone : (r : Request) → (kind_of r ≡ kinds.Describe → ⊥) → main_kind r ≡ kind_of r
 main_alone (requests.Describe x) n = absurd (n refl)
 main_alone (requests.Look lookup) n = absurd (n refl)
+main_alone (requests.Fill filling) n = absurd (n refl)
 main_alone (requests.Evict eviction) n = absurd (n refl)
 main_alone _ n = refl

@@ -133,6 +133,7 @@ no_groups_flush : (r : Request) → is_flush (kind_of r) ≡ true → (groups_of
 no_groups_flush requests.Flush e = (refl, refl)
 no_groups_flush (requests.Prepare prepared) e = (refl, refl)
 no_groups_flush (requests.Look lookup) e = absurd cc
+no_groups_flush (requests.Fill filling) e = absurd cc
 no_groups_flush (requests.Evict eviction) e = absurd cc
 no_groups_flush (requests.Clear statements) e = absurd cc
 no_groups_flush requests.Ping e = absurd cc
@@ -215,6 +216,7 @@ one_of (requests.Rollback left) f c = (refl, refl)
 one_of (requests.Describe extended) f c = (refl, refl)
 one_of (requests.Run bound) f c = (refl, sym (append-nil (said_in (groups_of (requests.Run bound)))))
 one_of (requests.Look lookup) f c = (refl, refl)
+one_of (requests.Fill filling) f c = (refl, refl)
 one_of (requests.Evict eviction) f c = (refl, refl)
 one_of (requests.Clear statements) f c = (refl, sym (append-nil (said_in (groups_of (requests.Clear statements)))))
 one_of (requests.Prepare prepared) f c = absurd cc
@@ -226,6 +228,7 @@ close_kind : (r : Request) → is_close (kind_of r) ≡ true → kind_of r ≡ k
 close_kind requests.Close e = refl
 close_kind requests.Flush e = absurd cc
 close_kind (requests.Look lookup) e = absurd cc
+close_kind (requests.Fill filling) e = absurd cc
 close_kind (requests.Evict eviction) e = absurd cc
 close_kind (requests.Clear statements) e = absurd cc
 close_kind (requests.Prepare prepared) e = absurd cc

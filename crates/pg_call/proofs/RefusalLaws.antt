@@ -44,6 +44,7 @@ refusal_is (requests.Run bound) e (inl h) = refuses_is _ _ _ e h
 refusal_is (requests.Run bound) e (inr (inl h)) = again_is bound bound.again e h
 refusal_is (requests.Run bound) e (inr (inr h)) = refuses_is _ _ _ e h
 refusal_is (requests.Look lookup) e h = query_is (query_of (requests.Look lookup)) e h
+refusal_is (requests.Fill filling) e h = query_is (query_of (requests.Fill filling)) e h
 refusal_is (requests.Execute query) e h = query_is (Some query) e h
 refusal_is (requests.ExecuteMany query) e h = query_is (Some query) e h
 refusal_is (requests.Fetch query) e h = query_is (Some query) e h

@@ -5,6 +5,7 @@ use Rattle.pg_rows.specs.declared.heading.Heading.{Heading}
 use Rattle.pg_call.specs.declared.statement.Extended.{Extended}
 use Rattle.pg_call.specs.declared.statement.Bound.{Bound}
 use Rattle.pg_call.specs.declared.statement.Eviction.{Eviction}
+use Rattle.pg_call.specs.declared.statement.Filling.{Filling}
 use Rattle.pg_call.specs.declared.statement.Lookup.{Lookup}
 use Rattle.pg_call.specs.declared.statement.Prepared.{Prepared}
 use Rattle.pg_call.specs.declared.statement.Rest.{Rest}
@@ -17,14 +18,15 @@ use Rattle.pg_call.specs.declared.calling.Call.TheVariants as calls
 use Rattle.pg_call.specs.Requests.{kind_of, rest_of, heading_for, heading_of}
 use Rattle.pg_call.specs.Hearing.{awaits, waits}
 
-pub rests_none : (r : Request) → ((extended : Extended) → r ≡ requests.Describe extended → ⊥) → ((bound : Bound) → r ≡ requests.Run bound → ⊥) → ((lookup : Lookup) → r ≡ requests.Look lookup → ⊥) → ((eviction : Eviction) → r ≡ requests.Evict eviction → ⊥) → ((prepared : Prepared) → r ≡ requests.Prepare prepared → ⊥)
+pub rests_none : (r : Request) → ((extended : Extended) → r ≡ requests.Describe extended → ⊥) → ((bound : Bound) → r ≡ requests.Run bound → ⊥) → ((lookup : Lookup) → r ≡ requests.Look lookup → ⊥) → ((filling : Filling) → r ≡ requests.Fill filling → ⊥) → ((eviction : Eviction) → r ≡ requests.Evict eviction → ⊥) → ((prepared : Prepared) → r ≡ requests.Prepare prepared → ⊥)
     → ◌≡◌ {A = Rest × Heading} (rests.Nothing, heading_for (kind_of r) [] formats.Text) (rest_of r, heading_of r)
-rests_none (requests.Describe extended) n o l p q = absurd (n extended refl)
-rests_none (requests.Run bound) n o l p q = absurd (o bound refl)
-rests_none (requests.Look lookup) n o l p q = absurd (l lookup refl)
-rests_none (requests.Evict eviction) n o l p q = absurd (p eviction refl)
-rests_none (requests.Prepare prepared) n o l p q = absurd (q prepared refl)
-rests_none _ n o l p q = refl
+rests_none (requests.Describe extended) n o l f p q = absurd (n extended refl)
+rests_none (requests.Run bound) n o l f p q = absurd (o bound refl)
+rests_none (requests.Look lookup) n o l f p q = absurd (l lookup refl)
+rests_none (requests.Fill filling) n o l f p q = absurd (f filling refl)
+rests_none (requests.Evict eviction) n o l f p q = absurd (p eviction refl)
+rests_none (requests.Prepare prepared) n o l f p q = absurd (q prepared refl)
+rests_none _ n o l f p q = refl
 
 pub stays_waiting : (call : Call) → ((w : Waiting) → call ≡ calls.Waiting w → ⊥) → call ≡ awaits call
 stays_waiting (calls.Waiting w) n = absurd (n w refl)

@@ -29,7 +29,7 @@ use Rattle.pg_call.specs.declared.calling.Beat.{Beat}
 use Rattle.pg_call.specs.declared.calling.Beat.TheVariants as beats
 use Rattle.pg_call.specs.declared.calling.Taken.{Taken}
 use Rattle.pg_call.specs.declared.running.Running.{Running}
-use Rattle.pg_call.specs.Requests.{Group, said_in, spelled, kind_of, groups_of, messages_of, farewell, heading_of, request_behind, rest_of, told, widths_of, CanBeSaid, IsRefusal}
+use Rattle.pg_call.specs.Requests.{Group, said_in, spelled, kind_of, groups_of, messages_of, farewell, heading_of, request_behind, rest_of, told, widths_of, CanBeSaid, IsRefusal, looked_behind}
 use Rattle.pg_call.specs.Items.{heading_after, parameters_after, own_items, shown, tally_of, answer_to}
 use Rattle.pg_call.specs.Replies.{awaits_first, part_after, may_stray}
 use Rattle.pg_call.specs.Drains.{is_error, before_readys, after_readys, failed_after, drain_fails}
@@ -149,6 +149,7 @@ abbrev pub next_of : Request → List BackendMessage → Option Request
 next_of (requests.Describe extended) reply = Some (requests.Describe (told (parameters_after [] reply) (Some (described reply)) extended))
 next_of (requests.Look lookup) reply = Some (requests.Describe lookup.extended)
 next_of (requests.Evict eviction) reply = Some (request_behind eviction.after)
+next_of (requests.Fill filling) reply = Some (requests.Run (looked_behind filling.bound))
 next_of _ reply = None
 
 -- a statement is told as it was described

@@ -35,7 +35,7 @@ use Rattle.pg_call.specs.declared.calling.Beat.{Beat}
 use Rattle.pg_call.specs.declared.calling.Beat.TheVariants as beats
 use Rattle.pg_call.specs.declared.calling.Taken.{Taken}
 use Rattle.pg_call.specs.declared.running.Running.{Running}
-use Rattle.pg_call.specs.Requests.{copy_fail, kind_of, request_behind, rest_of, heading_of, told}
+use Rattle.pg_call.specs.Requests.{copy_fail, kind_of, request_behind, rest_of, heading_of, told, looked_behind}
 use Rattle.pg_call.specs.Items.{news_of, heading_by, parameters_by, item_by, yields, added, empty_tally, finished, keeps_row}
 use Rattle.pg_call.specs.Replies.{awaits_first, goes_on, may_close, may_stray}
 use Rattle.pg_call.specs.Drains.{is_error, failed_behind, fails_for}
@@ -157,6 +157,7 @@ keeps_now _ = false
 -- whether it is the reply to a lookup
 abbrev pub is_look : Rest → Bool
 is_look (rests.Look extended) = true
+is_look (rests.Fill bound) = true
 is_look _ = false
 
 abbrev pub looks_up : Call → Bool
@@ -169,6 +170,7 @@ handed_on rests.Nothing parameters columns answer = answer
 handed_on (rests.Describe extended) parameters columns answer = Ok (answers.Next (requests.Describe (told parameters columns extended)))
 handed_on (rests.After after) parameters columns answer = Ok (answers.Next (request_behind after))
 handed_on (rests.Look extended) parameters columns answer = Ok (answers.Next (requests.Describe extended))
+handed_on (rests.Fill bound) parameters columns answer = Ok (answers.Next (requests.Run (looked_behind bound)))
 handed_on (rests.Tell prepared) parameters columns answer = Ok (answers.Statement prepared)
 
 -- the answer where nothing is left but to send: a statement is told, where it is asked for

@@ -45,6 +45,7 @@ awaits_first (requests.Describe extended) = Parsing
 awaits_first (requests.Look lookup) = First
 awaits_first (requests.Run bound) = awaits_run (width_of bound) bound.again
 awaits_first (requests.Evict eviction) = Closing 0
+awaits_first (requests.Fill filling) = First
 awaits_first (requests.Clear statements) = closing (length statements)
 awaits_first (requests.CopyIn feed) = Opening feed.is_ended
 awaits_first request = first_part (kind_of request)

@@ -1,5 +1,5 @@
 -- The request rule: which messages a call sends (PostgreSQL manual, "Message Flow", "Simple Query").
-use Rattle.std.specs.Prelude.{◌≡◌, ◌&&◌, ℕ, nat_eq, option_map, unwrap_or, ◌<◌, ◌≤◌, ◌⊎◌, List, [], ◌∷◌, ◌++◌, length, map, flat_map, codes, Bool, true, false, Option, Some, None, if◌then◌else◌}
+use Rattle.std.specs.Prelude.{◌≡◌, ◌&&◌, ◌||◌, is_some, ℕ, nat_eq, option_map, unwrap_or, ◌<◌, ◌≤◌, ◌⊎◌, List, [], ◌∷◌, ◌++◌, length, map, flat_map, codes, Bool, true, false, Option, Some, None, if◌then◌else◌}
 use Rattle.std.specs.List.{AllByRecursion}
 use Rattle.pg_wire.specs.declared.error.Error.{Error}
 use Rattle.pg_wire.specs.declared.error.Error.TheVariants as errors
@@ -13,7 +13,7 @@ use Rattle.pg_exchanges.specs.Expecting.{Widths}
 use Rattle.pg_exchanges.specs.Answering.{closing, describing, running}
 use Rattle.pg_request.specs.declared.naming.Declared.{Declared}
 use Rattle.pg_request.specs.declared.naming.Declared.TheVariants as declared
-use Rattle.pg_request.specs.Asked.{numbered}
+use Rattle.pg_request.specs.Asked.{filled, numbered}
 use Rattle.pg_request.specs.Queries.{QueryText, ArgumentsSeen, plain_text}
 use Rattle.pg_request.specs.Texts.{begin_text, commit_text, rollback_text}
 use Rattle.pg_wire.specs.Backend.{FieldDescription}
@@ -36,6 +36,7 @@ use Rattle.pg_call.specs.declared.statement.Bound.{Bound}
 use Rattle.pg_call.specs.declared.statement.Prepared.{Prepared}
 use Rattle.pg_call.specs.declared.statement.After.{After}
 use Rattle.pg_call.specs.declared.statement.After.TheVariants as afters
+use Rattle.pg_call.specs.declared.statement.Filling.{Filling}
 use Rattle.pg_call.specs.declared.statement.Rest.{Rest}
 use Rattle.pg_call.specs.declared.statement.Rest.TheVariants as rests
 use Rattle.pg_call.specs.declared.feed.Feed.{Feed}
@@ -71,6 +72,7 @@ kind_of (requests.Describe extended) = kinds.Describe
 kind_of (requests.Run bound) = kinds.Run bound.how
 kind_of (requests.Look lookup) = kinds.Describe
 kind_of (requests.Evict eviction) = kinds.Describe
+kind_of (requests.Fill filling) = kinds.Describe
 kind_of (requests.Prepare prepared) = kinds.Prepare
 kind_of (requests.Clear statements) = kinds.Clear
 kind_of requests.Ping = kinds.Ping
@@ -94,6 +96,7 @@ query_of (requests.Commit left) = Some (plain_text (commit_text left))
 query_of (requests.Rollback left) = Some (plain_text (rollback_text left))
 query_of (requests.CopyOut query) = Some query
 query_of (requests.Look lookup) = Some (plain_text lookup.text)
+query_of (requests.Fill filling) = Some (plain_text filling.text)
 query_of _ = None
 
 -- the groups of a call: one Query for a query, for what opens or ends a transaction and for a copy, one Sync for a ping, and none for a flush and a close
@@ -166,10 +169,12 @@ goal_kind goals.Prepare = kinds.Prepare
 -- the same of what comes behind a close
 abbrev pub after_kind : After → Kind
 after_kind (afters.Run bound) = kinds.Run bound.how
+after_kind (afters.Fill filling) = kinds.Run filling.bound.how
 after_kind (afters.Prepare prepared) = kinds.Prepare
 
 abbrev pub request_behind : After → Request
 request_behind (afters.Run bound) = requests.Run bound
+request_behind (afters.Fill filling) = requests.Fill filling
 request_behind (afters.Prepare prepared) = requests.Prepare (record prepared { declared = None })
 
 -- a query, in one of its ways
@@ -196,16 +201,24 @@ sort_of (requests.Prepare prepared) = sorts.Prepare prepared
 sort_of (requests.Clear statements) = sorts.Clear
 sort_of request = sorts.Plain request
 
--- a Query makes an end of the statement without a name ("Extended Query"), so where one came behind its Parse, it is parsed once more
+-- a Query makes an end of the statement without a name ("Extended Query"), so where one comes behind its Parse, it is parsed once more
 abbrev pub is_parsed_again : Extended → Bool
-is_parsed_again x = x.is_looked_up && nat_eq x.statement 0
+is_parsed_again x = (x.is_looked_up || is_some x.filling) && nat_eq x.statement 0
 
 abbrev pub parsed_again : Bool → List ℕ → Option (List ℕ)
 parsed_again again sql = if again then Some sql else None
 
+-- what is so described is run, or before that this is asked, by which types within its arguments are looked up
+abbrev pub bound_by : Option (List ℕ) → Bound → After
+bound_by None bound = afters.Run bound
+bound_by (Some text) bound = afters.Fill (record { text = text; bound = bound })
+
+abbrev pub bound_for : How → Extended → Described → Keeping → Bound
+bound_for how x d keeping = record { how = how; statement = x.statement; again = parsed_again (is_parsed_again x) x.sql; arguments = x.arguments; columns = d.columns; is_looked_up = false; keeping = keeping }
+
 -- what a statement was described for, which makes this of the statements that are kept
 abbrev pub behind_goal : Goal → Extended → Described → Keeping → After
-behind_goal (goals.Run how) x d keeping = afters.Run (record { how = how; statement = x.statement; again = parsed_again (is_parsed_again x) x.sql; arguments = x.arguments; columns = d.columns; keeping = keeping })
+behind_goal (goals.Run how) x d keeping = bound_by x.filling (bound_for how x d keeping)
 behind_goal goals.Prepare x d keeping = afters.Prepare (record { sql = x.sql; parameters = d.parameters; columns = d.columns; keeping = keeping; declared = None })
 
 -- a statement that was described so
@@ -216,11 +229,23 @@ told parameters columns x = record x { described = Some (record { parameters = p
 abbrev pub numbered_by : List ℕ → Extended → Extended
 numbered_by types x = record x { arguments = numbered types x.arguments; is_looked_up = false }
 
+-- the same where the open OIDs within its arguments are known
+abbrev pub filled_for : List ℕ → Extended → Extended
+filled_for oids x = record x { arguments = filled oids x.arguments }
+
+abbrev pub filled_bound : List ℕ → Bound → Bound
+filled_bound oids bound = record bound { arguments = filled oids bound.arguments }
+
+-- behind a lookup for its arguments, which has kept what is to be kept
+abbrev pub looked_behind : Bound → Bound
+looked_behind bound = record bound { is_looked_up = true; keeping = keepings.Stays }
+
 -- what an exchange hands on, or answers: the statement that it describes, what comes behind a close, or the statement that it tells of
 abbrev pub rest_of : Request → Rest
 rest_of (requests.Describe extended) = rests.Describe extended
 rest_of (requests.Look lookup) = rests.Look lookup.extended
 rest_of (requests.Evict eviction) = rests.After eviction.after
+rest_of (requests.Fill filling) = rests.Fill filling.bound
 rest_of (requests.Prepare prepared) = rests.Tell prepared
 rest_of _ = rests.Nothing
 
@@ -233,6 +258,7 @@ abbrev pub keeping_of : Request → Keeping
 keeping_of (requests.Describe extended) = named_keeping extended.statement
 keeping_of (requests.Run bound) = bound.keeping
 keeping_of (requests.Evict eviction) = keepings.Evicts
+keeping_of (requests.Fill filling) = filling.bound.keeping
 keeping_of (requests.Prepare prepared) = prepared.keeping
 keeping_of (requests.Clear statements) = keepings.Clears
 keeping_of _ = keepings.Stays
@@ -259,6 +285,7 @@ abbrev pub main_kind : Request → Kind
 main_kind (requests.Describe extended) = goal_kind extended.goal
 main_kind (requests.Look lookup) = goal_kind lookup.extended.goal
 main_kind (requests.Evict eviction) = after_kind eviction.after
+main_kind (requests.Fill filling) = kinds.Run filling.bound.how
 main_kind request = kind_of request
 
 -- what an Ok of it makes of the transactions that are open
@@ -297,14 +324,18 @@ IsNamed (declared.ArrayOf element) = HasNoNul element
 abbrev pub AreNamed : List Declared → Type 0
 AreNamed names = AllByRecursion IsNamed names
 
+-- nor has one within arguments
+abbrev pub HaveNames : ArgumentsSeen → Type 0
+HaveNames a = AreNamed a.names × AreNamed a.holes
+
 -- the types of the first parameters of a statement to prepare, as its caller declares them
 abbrev pub declared_for : Prepared → List Declared
 declared_for p = unwrap_or p.declared []
 
 -- what is asked before it and behind it can be said too, and there is a number for its name
 abbrev pub LaterCanBeSaid : Request → Type 0
-LaterCanBeSaid (requests.Describe extended) = HasFrontendFrame (Bind (name_of extended.statement) extended.arguments.values) × (extended.is_numbered ≡ true) × AreNamed extended.arguments.names
-LaterCanBeSaid (requests.Run bound) = AreNamed bound.arguments.names
+LaterCanBeSaid (requests.Describe extended) = HasFrontendFrame (Bind (name_of extended.statement) extended.arguments.values) × (extended.is_numbered ≡ true) × HaveNames extended.arguments
+LaterCanBeSaid (requests.Run bound) = HaveNames bound.arguments
 LaterCanBeSaid (requests.Prepare prepared) = AreNamed (declared_for prepared)
 LaterCanBeSaid _ = Unit {0}
 
@@ -337,7 +368,7 @@ IsTooLong x n = ((n ≡ parse_size x) × (body_max < n)) ⊎ ((parse_size x ≤ 
 
 -- no zero byte stands in the text, nor in the name of a type
 abbrev pub AreTexts : Extended → Type 0
-AreTexts x = HasNoNul x.sql × AreNamed x.arguments.names
+AreTexts x = HasNoNul x.sql × HaveNames x.arguments
 
 -- why a query with arguments is refused, the first cause that holds: too many arguments or types, a zero byte in a text, a message that is too long, or no number
 -- that is left for its name
@@ -351,7 +382,7 @@ RefusesExtended x _ = ⊥
 
 -- why names are refused under which nothing can be asked for: too many arguments come before that
 abbrev pub RefusesNames : ArgumentsSeen → Error → Type 0
-RefusesNames arguments e = Refuses (length arguments.values) (AreNamed arguments.names) 0 e
+RefusesNames arguments e = Refuses (length arguments.values) (HaveNames arguments) 0 e
 
 -- the same of a statement to prepare that is kept
 abbrev pub RefusesDeclared : List Declared → Error → Type 0

@@ -34,6 +34,8 @@ pub use reply::{Heard, Reply};
 pub use request::{Request, Sort};
 pub use rollback::rollback_frame;
 pub use running::Running;
-pub use statement::{After, Bound, Described, Eviction, Extended, Goal, Lookup, Prepared, Rest};
+pub use statement::{
+    After, Bound, Described, Eviction, Extended, Filling, Goal, Lookup, Prepared, Rest,
+};
 pub use tally::Tally;
 pub use waiting::Waiting;

@@ -226,6 +226,7 @@ impl Reply {
             }
             Rest::After(after) => Ok(CallAnswer::Next(after.request())),
             Rest::Look(extended) => Ok(CallAnswer::Next(Request::Describe(extended))),
+            Rest::Fill(bound) => Ok(CallAnswer::Next(Request::Run(bound.looked_behind()))),
             Rest::Tell(prepared) => Ok(CallAnswer::Statement(prepared)),
         }
     }

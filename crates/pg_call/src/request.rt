@@ -2,13 +2,15 @@ ghost use Rattle.std.specs.Prelude.{◌≡◌, ◌++◌, [], IfOk, OnOk, IfErr};
 ghost use Rattle.pg_call.specs.Requests.{kind_of, keeping_of, messages_of, raw, sort_of, spelled, CanBeSaid, IsRefusal, heading_of, rest_of};
 ghost use Rattle.pg_call.specs.Hearing.{sent_rest};
 ghost use Rattle.pg_call.specs.declared.statement.Extended.{Extended as ExtendedOf};
+ghost use Rattle.pg_call.specs.declared.statement.Bound.{Bound as BoundOf};
 
 use crate::heading::raw_heading;
 use crate::writing::{
     check_types_declared, encode_closing, encode_description, encode_feed, encode_run,
 };
 use crate::{
-    Bound, CallAnswer, Eviction, Extended, Feed, How, Keeping, Kind, Lookup, Prepared, Rest,
+    Bound, CallAnswer, Eviction, Extended, Feed, Filling, How, Keeping, Kind, Lookup, Prepared,
+    Rest,
 };
 use pg_request::{Query, begin_text, commit_text, rollback_text};
 use pg_rows::Heading;
@@ -39,6 +41,8 @@ pub enum Request {
     Run(Bound),
     /// Looks up types, or the names of columns.
     Look(Lookup),
+    /// Looks up types whose OIDs are open within arguments.
+    Fill(Filling),
     /// Closes a statement that is kept.
     Evict(Eviction),
     /// Tells of a statement, which is described before where it has to be. It asks nothing of the server.
@@ -75,6 +79,7 @@ impl Drop for Request {
             | Request::Describe(_)
             | Request::Run(_)
             | Request::Look(_)
+            | Request::Fill(_)
             | Request::Evict(_)
             | Request::Prepare(_)
             | Request::Clear(_)
@@ -128,6 +133,17 @@ impl Request {
         }
     }
 
+    /// The statement that is run by it, or else the same request.
+    pub fn into_bound(self) -> Result<Bound, Self>
+        ensures ok { IfOk result (λ b. self ≡ Request.Run b) }
+        ensures err { IfErr result (λ same. (same ≡ self) × ((b : BoundOf) → self ≡ Request.Run b → ⊥)) }
+    {
+        match self {
+            Request::Run(bound) => Ok(bound),
+            other => Err(other),
+        }
+    }
+
     /// A query without arguments, in this way.
     pub fn raw(how: How, query: Query) -> Self
         ensures { result ≡ raw how query }
@@ -160,7 +176,7 @@ impl Request {
             Request::Rollback(_) => Kind::Rollback,
             Request::Describe(_) => Kind::Describe,
             Request::Run(bound) => Kind::Run(bound.how),
-            Request::Look(_) | Request::Evict(_) => Kind::Describe,
+            Request::Look(_) | Request::Fill(_) | Request::Evict(_) => Kind::Describe,
             Request::Prepare(_) => Kind::Prepare,
             Request::Clear(_) => Kind::Clear,
             Request::Ping => Kind::Ping,
@@ -179,6 +195,7 @@ impl Request {
             Request::Describe(extended) => extended.keeping(),
             Request::Run(bound) => bound.keeping,
             Request::Evict(_) => Keeping::Evicts,
+            Request::Fill(filling) => filling.bound.keeping,
             Request::Prepare(prepared) => prepared.keeping,
             Request::Clear(_) => Keeping::Clears,
             _ => Keeping::Stays,
@@ -194,6 +211,7 @@ impl Request {
             Request::Describe(extended) => (Rest::Describe(extended), raw_heading(kind)),
             Request::Run(bound) => (Rest::Nothing, bound.into_heading()),
             Request::Look(lookup) => (Rest::Look(lookup.extended), raw_heading(kind)),
+            Request::Fill(filling) => (Rest::Fill(filling.bound), raw_heading(kind)),
             Request::Evict(eviction) => (Rest::After(eviction.after), raw_heading(kind)),
             Request::Prepare(prepared) => (Rest::Tell(prepared), raw_heading(kind)),
             _ => (Rest::Nothing, raw_heading(kind)),
@@ -233,6 +251,7 @@ impl Request {
             Request::Rollback(left) => encode_query(&mut frames, rollback_text(*left).as_str())?,
             Request::Describe(extended) => encode_description(&mut frames, extended)?,
             Request::Look(lookup) => encode_query(&mut frames, lookup.text.as_str())?,
+            Request::Fill(filling) => encode_query(&mut frames, filling.text.as_str())?,
             Request::Run(bound) => encode_run(&mut frames, bound)?,
             Request::Evict(eviction) => encode_closing(&mut frames, &[eviction.statement])?,
             Request::Clear(statements) => encode_closing(&mut frames, statements.as_slice())?,

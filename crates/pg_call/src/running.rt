@@ -309,7 +309,7 @@ impl Running {
         ensures { result ≡ looks_up self.now.call }
     {
         match &self.call {
-            Call::Own(reply) => matches!(reply.rest, Rest::Look(_)),
+            Call::Own(reply) => matches!(reply.rest, Rest::Look(_) | Rest::Fill(_)),
             Call::Idle | Call::Asked(_) | Call::Waiting(_) | Call::Closing => false,
         }
     }

@@ -1,6 +1,6 @@
 ghost use Rattle.std.specs.Prelude.{◌≡◌, true, IfOk, IfErr, IsSome, Some};
 ghost use Rattle.pg_call.specs.declared.statement.Described.{Described as DescribedOf};
-ghost use Rattle.pg_call.specs.Requests.{after_kind, behind_goal, declared_for, goal_kind, heading_of, is_parsed_again, named_keeping, numbered_by, parsed_again, request_behind, told, width_of};
+ghost use Rattle.pg_call.specs.Requests.{after_kind, behind_goal, bound_by, declared_for, filled_bound, filled_for, goal_kind, heading_of, is_parsed_again, looked_behind, named_keeping, numbered_by, parsed_again, request_behind, told, width_of};
 
 use crate::heading::heading;
 use crate::{How, Keeping, Kind, Request};
@@ -8,7 +8,7 @@ use pg_columns::{PgColumns, share_known};
 use pg_request::{Arguments, Declared, copy_declared};
 use pg_rows::Heading;
 use pg_values::PgValueFormat;
-use pg_wire::{Error, Oids, Sequence, StatementId, Text};
+use pg_wire::{Error, Oid, Oids, Sequence, StatementId, Text};
 use std::alloc::Global;
 
 /// What a statement is described for: to be run, or to be told of.
@@ -88,6 +88,8 @@ pub struct Extended {
     pub described: Option<Described>,
     /// Whether types were looked up behind it: a Query makes an end of the statement without a name.
     pub is_looked_up: bool,
+    /// The text by which types within its arguments are looked up before it is run.
+    pub filling: Option<Text>,
 }
 
 // By hand, so that whoever lets one go makes one call, and doesn't go through its parts.
@@ -101,15 +103,26 @@ impl Drop for Extended {
             arguments: _,
             described: _,
             is_looked_up: _,
+            filling: _,
         } = self;
     }
 }
 
-// The text that is parsed again, if it is.
+// The text, where it is parsed once more.
 fn parsed_again(again: bool, sql: Text) -> Option<Text>
     ensures { result ≡ parsed_again again sql }
 {
     if again { Some(sql) } else { None }
+}
+
+// What is run, or what is asked before that.
+fn bound_by(filling: Option<Text>, bound: Bound) -> After
+    ensures { result ≡ bound_by filling bound }
+{
+    match filling {
+        Some(text) => After::Fill(Filling { text, bound }),
+        None => After::Run(bound),
+    }
 }
 
 // What was told, once more.
@@ -132,6 +145,7 @@ impl Extended {
         let sql = self.sql.to_copy(alloc)?;
         let arguments = self.arguments.to_copy(alloc)?;
         let described = copied(&self.described, alloc)?;
+        let filling = copied_text(&self.filling, alloc)?;
         Ok(Extended {
             goal: self.goal,
             statement: self.statement,
@@ -140,6 +154,7 @@ impl Extended {
             arguments,
             described,
             is_looked_up: self.is_looked_up,
+            filling,
         })
     }
 
@@ -157,7 +172,7 @@ impl Extended {
     fn is_parsed_again(&self) -> bool
         ensures { result ≡ is_parsed_again self.now }
     {
-        self.is_looked_up && self.statement.number() == 0
+        (self.is_looked_up || self.filling.is_some()) && self.statement.number() == 0
     }
 
     /// What it was described for, which makes this of the statements that are kept.
@@ -174,20 +189,25 @@ impl Extended {
             arguments,
             described,
             is_looked_up: _,
+            filling,
         } = self;
         let Some(described) = described else {
             unreachable!();
         };
         let (parameters, columns) = described.into_parts();
         match goal {
-            Goal::Run(how) => After::Run(Bound {
-                how,
-                statement,
-                again: parsed_again(is_parsed_again, sql),
-                arguments,
-                columns,
-                keeping,
-            }),
+            Goal::Run(how) => {
+                let bound = Bound {
+                    how,
+                    statement,
+                    again: parsed_again(is_parsed_again, sql),
+                    arguments,
+                    columns,
+                    is_looked_up: false,
+                    keeping,
+                };
+                bound_by(filling, bound)
+            }
             Goal::Prepare => After::Prepare(Prepared {
                 sql,
                 parameters,
@@ -210,6 +230,7 @@ impl Extended {
             arguments,
             described,
             is_looked_up: _,
+            filling,
         } = self;
         Extended {
             goal,
@@ -219,6 +240,7 @@ impl Extended {
             arguments,
             described,
             is_looked_up: true,
+            filling,
         }
     }
 
@@ -234,6 +256,7 @@ impl Extended {
             arguments,
             described,
             is_looked_up: _,
+            filling,
         } = self;
         Extended {
             goal,
@@ -243,7 +266,62 @@ impl Extended {
             arguments: arguments.numbered(alloc, types),
             described,
             is_looked_up: false,
+            filling,
         }
+    }
+
+    /// The same before a lookup by this text of types within its arguments.
+    pub fn filling(self, text: Text) -> Self
+        ensures { result ≡ record self { filling = Some text } }
+    {
+        let Extended {
+            goal,
+            statement,
+            is_numbered,
+            sql,
+            arguments,
+            described,
+            is_looked_up,
+            filling: _,
+        } = self;
+        Extended {
+            goal,
+            statement,
+            is_numbered,
+            sql,
+            arguments,
+            described,
+            is_looked_up,
+            filling: Some(text),
+        }
+    }
+
+    /// The same, once the open OIDs within its arguments are known. Only want of memory refuses it.
+    pub fn filled(self, alloc: Global, oids: &[Oid]) -> Result<Self, Error>
+        ensures filled { IfOk result (λ x. x ≡ filled_for oids.now self) }
+        ensures memory { IfErr result (λ e. e ≡ Error.OutOfMemory) }
+    {
+        let Extended {
+            goal,
+            statement,
+            is_numbered,
+            sql,
+            arguments,
+            described,
+            is_looked_up,
+            filling,
+        } = self;
+        let arguments = arguments.filled(alloc, oids)?;
+        Ok(Extended {
+            goal,
+            statement,
+            is_numbered,
+            sql,
+            arguments,
+            described,
+            is_looked_up,
+            filling,
+        })
     }
 
     /// The same, once it was described.
@@ -258,6 +336,7 @@ impl Extended {
             arguments,
             described: _,
             is_looked_up,
+            filling,
         } = self;
         Extended {
             goal,
@@ -270,6 +349,7 @@ impl Extended {
                 columns,
             }),
             is_looked_up,
+            filling,
         }
     }
 }
@@ -284,6 +364,8 @@ pub struct Bound {
     pub arguments: Arguments,
     /// Its columns, where they are known.
     pub columns: Option<PgColumns>,
+    /// Whether types within its arguments were looked up.
+    pub is_looked_up: bool,
     /// What running it makes of the statements that are kept.
     pub keeping: Keeping,
 }
@@ -297,6 +379,7 @@ impl Drop for Bound {
             again: _,
             arguments: _,
             columns: _,
+            is_looked_up: _,
             keeping: _,
         } = self;
     }
@@ -328,6 +411,7 @@ impl Bound {
             again,
             arguments,
             columns,
+            is_looked_up: self.is_looked_up,
             keeping: self.keeping,
         })
     }
@@ -342,6 +426,56 @@ impl Bound {
         }
     }
 
+    /// The same behind a lookup for its arguments.
+    pub(crate) fn looked_behind(self) -> Self
+        ensures { result ≡ looked_behind self }
+    {
+        let Bound {
+            how,
+            statement,
+            again,
+            arguments,
+            columns,
+            is_looked_up: _,
+            keeping: _,
+        } = self;
+        Bound {
+            how,
+            statement,
+            again,
+            arguments,
+            columns,
+            is_looked_up: true,
+            keeping: Keeping::Stays,
+        }
+    }
+
+    /// The same, once the open OIDs within its arguments are known. Only want of memory refuses it.
+    pub fn filled(self, alloc: Global, oids: &[Oid]) -> Result<Self, Error>
+        ensures filled { IfOk result (λ b. b ≡ filled_bound oids.now self) }
+        ensures memory { IfErr result (λ e. e ≡ Error.OutOfMemory) }
+    {
+        let Bound {
+            how,
+            statement,
+            again,
+            arguments,
+            columns,
+            is_looked_up,
+            keeping,
+        } = self;
+        let arguments = arguments.filled(alloc, oids)?;
+        Ok(Bound {
+            how,
+            statement,
+            again,
+            arguments,
+            columns,
+            is_looked_up,
+            keeping,
+        })
+    }
+
     // The heading of its rows, as far as it is known.
     pub(crate) fn into_heading(self) -> Heading
         ensures { result ≡ heading_of (Request.Run self) }
@@ -352,6 +486,7 @@ impl Bound {
             again: _,
             arguments: _,
             columns,
+            is_looked_up: _,
             keeping: _,
         } = self;
         let columns = columns.unwrap_or_else(PgColumns::none);
@@ -481,6 +616,8 @@ impl Prepared {
 #[derive(Debug, Drop)]
 pub enum After {
     Run(Bound),
+    /// Types within its arguments are looked up first.
+    Fill(Filling),
     Prepare(Prepared),
 }
 
@@ -491,6 +628,7 @@ impl After {
     {
         match self {
             After::Run(bound) => Kind::Run(bound.how),
+            After::Fill(filling) => Kind::Run(filling.bound.how),
             After::Prepare(_) => Kind::Prepare,
         }
     }
@@ -501,6 +639,7 @@ impl After {
     {
         match self {
             After::Run(bound) => Request::Run(bound),
+            After::Fill(filling) => Request::Fill(filling),
             After::Prepare(prepared) => Request::Prepare(prepared.told()),
         }
     }
@@ -512,6 +651,7 @@ impl After {
     {
         Ok(match self {
             After::Run(bound) => After::Run(bound.to_copy(alloc)?),
+            After::Fill(filling) => After::Fill(filling.to_copy(alloc)?),
             After::Prepare(prepared) => After::Prepare(prepared.to_copy(alloc)?),
         })
     }
@@ -557,6 +697,25 @@ impl Lookup {
     }
 }
 
+/// A lookup of types whose OIDs are open within the arguments of a statement, which is run behind it.
+#[derive(Debug, Drop)]
+pub struct Filling {
+    pub text: Text,
+    pub bound: Bound,
+}
+
+impl Filling {
+    /// The same again. Only want of memory refuses it.
+    pub fn to_copy(&self, alloc: Global) -> Result<Self, Error>
+        ensures copy { IfOk result (λ x. x ≡ self.now) }
+        ensures memory { IfErr result (λ e. e ≡ Error.OutOfMemory) }
+    {
+        let text = self.text.to_copy(alloc)?;
+        let bound = self.bound.to_copy(alloc)?;
+        Ok(Filling { text, bound })
+    }
+}
+
 /// What an exchange hands on, or answers, at its end.
 #[derive(Drop)]
 pub enum Rest {
@@ -567,6 +726,8 @@ pub enum Rest {
     After(After),
     /// The statement for which something was looked up.
     Look(Extended),
+    /// The statement for whose arguments something was looked up.
+    Fill(Bound),
     /// What it tells.
     Tell(Prepared),
 }

@@ -4,7 +4,7 @@ ghost use Rattle.pg_wire.specs.Encoding.{body_max};
 ghost use Rattle.pg_wire.specs.Bytes.{HasNoNul};
 ghost use Rattle.pg_wire.specs.Frontend.{Bind, CopyData, FitsValue, HasFrontendFrame};
 ghost use Rattle.pg_exchanges.specs.Answering.{closing, describing, running};
-ghost use Rattle.pg_call.specs.Requests.{close_of, ended_by, feeding, name_of, parsing_again, running_bound, spelled, bind_size, AreFew, AreNamed, IsNamed, RefusesAgain, RefusesDeclared, RefusesExtended, RefusesBind, RefusesFeed, RefusesNames, RefusesPieces, RefusesRun};
+ghost use Rattle.pg_call.specs.Requests.{close_of, ended_by, feeding, name_of, parsing_again, running_bound, spelled, bind_size, AreFew, AreNamed, HaveNames, IsNamed, RefusesAgain, RefusesDeclared, RefusesExtended, RefusesBind, RefusesFeed, RefusesNames, RefusesPieces, RefusesRun};
 
 use crate::{Bound, Extended, Feed};
 use pg_request::{Arguments, Declared};
@@ -106,14 +106,23 @@ fn check_names(names: &[Declared]) -> Result<(), Error>
     Ok(())
 }
 
-// Refuses arguments by their number, and by a zero byte in the name of a type. A text of which a statement is kept asks for no name, and is refused all
-// the same.
+// And of the types within them.
+fn check_all_names(arguments: &Arguments) -> Result<(), Error>
+    ensures ok { OnOk result (HaveNames arguments.now) }
+    ensures err { IfErr result (λ e. (e ≡ Error.Protocol (ProtocolFault.Caller CallerFault.Nul)) × (HaveNames arguments.now → ⊥)) }
+{
+    check_names(arguments.names())?;
+    check_names(arguments.holes())
+}
+
+// Refuses arguments by their number, and by a zero byte in the name of a type. A text of which a statement is kept asks for no name of their own types, and is
+// refused all the same.
 fn check_arguments(arguments: &Arguments) -> Result<(), Error>
-    ensures named { OnOk result (AreNamed arguments.now.names) }
+    ensures named { OnOk result (HaveNames arguments.now) }
     ensures err { IfErr result (RefusesNames arguments.now) }
 {
     check_count(arguments)?;
-    check_names(arguments.names())
+    check_all_names(arguments)
 }
 
 /// Refuses types that are declared by a name with a zero byte, also where a statement of the text is kept.
@@ -127,12 +136,12 @@ pub(crate) fn check_types_declared(declared: &[Declared]) -> Result<(), Error>
 // The same of what describes a statement, with the number of their types before any name.
 fn check_declared_arguments(extended: &Extended) -> Result<(), Error>
     ensures few { OnOk result (AreFew extended.now.arguments) }
-    ensures named { OnOk result (AreNamed extended.now.arguments.names) }
+    ensures named { OnOk result (HaveNames extended.now.arguments) }
     ensures err { IfErr result (RefusesExtended extended.now) }
 {
     check_count(&extended.arguments)?;
     check_types(&extended.arguments)?;
-    check_names(extended.arguments.names())
+    check_all_names(&extended.arguments)
 }
 
 /// Adds the frames that prepare and describe a statement. What runs it later is looked at first, so that it is refused before anything is asked.
@@ -140,7 +149,7 @@ fn check_declared_arguments(extended: &Extended) -> Result<(), Error>
 pub(crate) fn encode_description(out: &mut Blob, extended: &Extended) -> Result<(), Error>
     ensures ok { OnOk result (out.new ≡ out.old ++ spelled (describing (name_of extended.now.statement) extended.now.sql extended.now.arguments.types)) }
     ensures said { OnOk result (AllByRecursion HasFrontendFrame (describing (name_of extended.now.statement) extended.now.sql extended.now.arguments.types)) }
-    ensures later { OnOk result (HasFrontendFrame (Bind (name_of extended.now.statement) extended.now.arguments.values) × (extended.now.is_numbered ≡ true) × AreNamed extended.now.arguments.names) }
+    ensures later { OnOk result (HasFrontendFrame (Bind (name_of extended.now.statement) extended.now.arguments.values) × (extended.now.is_numbered ≡ true) × HaveNames extended.now.arguments) }
     ensures err { IfErr result (RefusesExtended extended.now) }
 {
     check_declared_arguments(extended)?;
@@ -168,7 +177,7 @@ fn encode_again(out: &mut Blob, bound: &Bound) -> Result<(), Error>
 pub(crate) fn encode_run(out: &mut Blob, bound: &Bound) -> Result<(), Error>
     ensures ok { OnOk result (out.new ≡ out.old ++ spelled (running_bound bound.now)) }
     ensures said { OnOk result (AllByRecursion HasFrontendFrame (running_bound bound.now)) }
-    ensures named { OnOk result (AreNamed bound.now.arguments.names) }
+    ensures named { OnOk result (HaveNames bound.now.arguments) }
     ensures err { IfErr result (RefusesRun bound.now) }
 {
     check_arguments(&bound.arguments)?;
