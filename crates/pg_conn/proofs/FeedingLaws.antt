@@ -35,7 +35,9 @@ copies_alone (requests.Evict eviction) k = absurd (no_after eviction.after k)
   where
     no_after : (after : After) → after_kind after ≡ kinds.CopyIn → ⊥
     no_after (afters.Run bound) k = cc
+    no_after (afters.Fill filling) k = cc
     no_after (afters.Prepare prepared) k = cc
+copies_alone (requests.Fill filling) k = absurd cc
 copies_alone (requests.CopyIn feed) k = refl
 copies_alone _ k = k
 

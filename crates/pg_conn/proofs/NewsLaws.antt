@@ -1,5 +1,6 @@
 -- What polls read of notifications is kept and given, in order and once.
-use Rattle.pg_call.specs.declared.statement.Lookup.{Lookup}
+use Rattle.pg_request.specs.declared.naming.Declared.{Declared}
+use Rattle.pg_conn.specs.Looking.{looks_for}
 use Rattle.std.proofs.Common.{◌≡◌, inl, inr, ℕ, ◌-◌, Bool, true, false, cond, not, ◌&&◌, nat_eq, leb, List, [], ◌∷◌, ◌++◌, append-nil, append_assoc, length, refl, sym, ap, ◌∙◌, subst, arith, Option, Some, None, IsSome, Result, Ok, Err}
 use Rattle.futures.specs.declared.task.Poll.{Poll}
 use Rattle.futures.specs.declared.task.Poll.TheVariants.{Ready, Pending}
@@ -341,8 +342,8 @@ ends_fault s c start said fs hs (errors.Protocol (protocol.Caller fault)) t h f 
 ends_fault s c start said fs hs (errors.Protocol _) t h f = absurd f
 ends_fault s c start said fs hs _ t h f = absurd f
 
-no_look : (lookup : Lookup) → requests.Flush ≡ requests.Look lookup → ⊥
-no_look lookup e = cc
+no_look : (names : List Declared) → looks_for requests.Flush ≡ Some names → ⊥
+no_look names e = cc
 
 fails_fault : (s c : ConnSeen) (start : Ledger) (own : List Group) (hs : List Frame) (e : Error) → FailsBy s c start requests.Flush own hs e → NewsFault s.stream c.stream e
 fails_fault s c start own hs e f = elim f [

@@ -134,6 +134,7 @@ groups_ask (requests.Rollback left) = refl
 groups_ask (requests.Describe extended) = refl
 groups_ask (requests.Run bound) = rw (append-nil (running_bound bound)) (run_asks (name_of bound.statement) bound.arguments.types bound.arguments.values bound.again)
 groups_ask (requests.Look lookup) = refl
+groups_ask (requests.Fill filling) = refl
 groups_ask (requests.Evict eviction) = refl
 groups_ask (requests.Clear statements) = rw (append-nil (closing_group (map name_of statements))) (closes_said (map name_of statements))
 groups_ask (requests.Prepare prepared) = refl

@@ -89,12 +89,12 @@ refuses_at_once a b request answer whole p unsaid =
     let t = first_polls a b request answer whole p in
     by t.2.later t.2.last (subst (λ (c : ConnSeen). HandsOver c t.2.later t.2.last) (first t.0 t.1) t.2.hands) t.2.polled
   where
-    same : (x : Extended) → calls.Asked (first_exchange request a) ≡ calls.Asked (requests.Describe x) → first_exchange request a ≡ requests.Describe x
-    same x e = cc
+    same : (told : Request) → calls.Asked (first_exchange request a) ≡ calls.Asked told → first_exchange request a ≡ told
+    same told e = cc
 
-    named : (c : ConnSeen) (o : Option Extended) → named_by (calls.Asked (first_exchange request a)) ≡ o → AsksNamed o (begun (started_call request a)) c → c ≡ begun (started_call request a)
+    named : (c : ConnSeen) (o : Option Request) → named_by (calls.Asked (first_exchange request a)) ≡ o → AsksNamed o (begun (started_call request a)) c → c ≡ begun (started_call request a)
     named c None e asks = asks
-    named c (Some x) e (can, asks) = absurd (unsaid (subst CanBeSaid (sym (same x (named_asked (calls.Asked (first_exchange request a)) x e))) can))
+    named c (Some told) e (can, asks) = absurd (unsaid (subst CanBeSaid (sym (same told (named_asked (calls.Asked (first_exchange request a)) told e))) can))
 
     -- so nothing is looked up for it
     first : (c : ConnSeen) → BeginsBy (begun (started_call request a)) c b answer → c ≡ begun (started_call request a)

@@ -1,6 +1,7 @@
 -- What a poll answers is of the call's kind.
 use Rattle.pg_request.specs.declared.naming.Declared.{Declared}
-use Rattle.pg_conn.specs.Looking.{AsksFirst, AsksNamed, IsNumbered, LooksFor, LooksNamed, LooksUp, MayLook, MayLookFor, looked, no_text, if_named, named_by, named_in, IsUnlooked, unlooked}
+use Rattle.pg_conn.specs.Looking.{AsksFirst, AsksNamed, IsFound, IsUnlooked, LooksAny, LooksFor, LooksIn, LooksInto, LooksUp, MayLook, holes_for, if_named, lookup_for, named_by, named_in, unlooked, vain_lookup, if_kept}
+use Rattle.pg_learning.specs.Naming.{oids_under}
 use Rattle.pg_learning.specs.declared.learnt.Learnt.{Learnt}
 use Rattle.pg_call.specs.declared.statement.Described.{Described}
 use Rattle.pg_call.specs.declared.statement.Extended.{Extended}
@@ -26,6 +27,8 @@ use Rattle.pg_wire.specs.declared.error.Error.TheVariants as errors
 use Rattle.pg_wire.specs.declared.error.ProtocolFault.TheVariants as protocol
 use Rattle.pg_stream.specs.Links.{LinkSeen}
 use Rattle.pg_call.specs.declared.kind.Kind.{Kind}
+use Rattle.pg_call.specs.declared.kind.Keeping.{Keeping}
+use Rattle.pg_call.specs.declared.kind.Keeping.TheVariants as keepings
 use Rattle.pg_call.specs.declared.kind.How.TheVariants as hows
 use Rattle.pg_call.specs.declared.kind.Kind.TheVariants as kinds
 use Rattle.pg_call.specs.declared.request.Request.{Request}
@@ -33,7 +36,7 @@ use Rattle.pg_call.specs.declared.answer.Turn.{Turn}
 use Rattle.pg_call.specs.declared.answer.Turn.TheVariants as turns
 use Rattle.pg_call.specs.declared.calling.Beat.{Beat}
 use Rattle.pg_call.specs.declared.calling.Beat.TheVariants as beats
-use Rattle.pg_call.specs.Requests.{copy_fail, kind_of, main_kind, spelled, goal_kind}
+use Rattle.pg_call.specs.Requests.{copy_fail, kind_of, main_kind, spelled, goal_kind, filled_for, filled_bound, numbered_by}
 use Rattle.pg_call.specs.Items.{yields}
 use Rattle.pg_call.specs.Answers.{TurnFits, AnswerFits, OpensFor, TurnIsPlain}
 use Rattle.pg_call.proofs.FitLaws.{shown_fits, answers_main, main_alone, next_is, shows_main}
@@ -171,27 +174,44 @@ handed_calls begun m kind next p calling =
     runs_call kind next (handed next m) (further.1 ∙ i.5) further.0
 
 -- what is looked up for a call is of its kind
-looked_main : (x : Extended) (text : Option (List ℕ)) → main_kind (looked x text) ≡ goal_kind x.goal
-looked_main x None = refl
-looked_main x (Some text) = refl
+lookup_main : (told : Request) (text : List ℕ) → main_kind (lookup_for told text) ≡ main_kind told
+lookup_main (requests.Describe x) text = refl
+lookup_main (requests.Run bound) text = refl
+lookup_main _ text = refl
 
-numbered_main : (x : Extended) (text : Option (List ℕ)) (b : Learnt) (next : Request) → IsNumbered x b text next → main_kind next ≡ goal_kind x.goal
-numbered_main x None b next h = ap (λ (r : Request). main_kind r) h.1
-numbered_main x (Some text) b next h = ap (λ (r : Request). main_kind r) h
+vain_main : (told : Request) → main_kind (vain_lookup told) ≡ main_kind told
+vain_main (requests.Run bound) = refl
+vain_main (requests.Describe x) = refl
+vain_main _ = refl
 
-named_main : (x : Extended) (names : List Declared) (next : Request) (a b : Learnt) → LooksNamed x names a next b → main_kind next ≡ goal_kind x.goal
-named_main x [] next a b h = ap (λ (r : Request). main_kind r) h.0
-named_main x (name ∷ names) next a b (inl h) = numbered_main x h.0 b next h.2
-named_main x (name ∷ names) next a b (inr h) = ap (λ (r : Request). main_kind r) h.0
+found_main : (told : Request) (names : List Declared) (looks knows : List ℕ → Request) (b : Learnt) (text : Option (List ℕ)) (next : Request) → ((t : List ℕ) → main_kind (looks t) ≡ main_kind told) → ((oids : List ℕ) → main_kind (knows oids) ≡ main_kind told)
+    → IsFound names looks knows b text next → main_kind next ≡ main_kind told
+found_main told names looks knows b (Some text) next l k h = ap (λ (r : Request). main_kind r) h ∙ l text
+found_main told names looks knows b None next l k h = ap (λ (r : Request). main_kind r) h.1 ∙ k (oids_under b.types names)
+
+any_main : (looked : Bool) (names : List Declared) (told : Request) (looks knows : List ℕ → Request) (a b : Learnt) (next : Request) → ((t : List ℕ) → main_kind (looks t) ≡ main_kind told) → ((oids : List ℕ) → main_kind (knows oids) ≡ main_kind told)
+    → LooksAny looked names told looks knows a next b → main_kind next ≡ main_kind told
+any_main looked [] told looks knows a b next l k h = ap (λ (r : Request). main_kind r) h.0
+any_main looked (name ∷ names) told looks knows a b next l k h = found_main told (name ∷ names) looks knows b h.0 next l k h.2
+
+into_main : (x : Extended) (text : Option (List ℕ)) (m b : Learnt) (next : Request) → LooksInto x text m next b → main_kind next ≡ goal_kind x.goal
+into_main x (Some text) m b next h = ap (λ (r : Request). main_kind r) h.0
+into_main x None m b next h =
+    any_main false (holes_for x.goal x.arguments) (requests.Describe x) (λ (text : List ℕ). requests.Describe (record x { filling = Some text })) (λ (oids : List ℕ). requests.Describe (filled_for oids x)) m b next (λ t. refl) (λ oids. refl) h
 
 looks_main : (told next : Request) (a b : Learnt) → LooksUp told a next b → main_kind next ≡ main_kind told
-looks_main (requests.Describe x) next a b h = by x.described h
+looks_main told next a b (inr h) = ap (λ (r : Request). main_kind r) h.1 ∙ vain_main told
+looks_main told next a b (inl h) = by told h
   where
-    by : (d : Option Described) → LooksFor x d a next b → main_kind next ≡ goal_kind x.goal
-    by None h = named_main x x.arguments.names next a b h
-    by (Some d) (inl h) = ap (λ (r : Request). main_kind r) h.2 ∙ looked_main x h.0
-    by (Some d) (inr h) = ap (λ (r : Request). main_kind r) h.0
-looks_main _ next a b h = ap (λ (r : Request). main_kind r) h.0
+    for : (x : Extended) (d : Option Described) → LooksFor x d a next b → main_kind next ≡ goal_kind x.goal
+    for x None h = any_main x.is_looked_up x.arguments.names (requests.Describe x) (lookup_for (requests.Describe x)) (λ (oids : List ℕ). requests.Describe (numbered_by oids x)) a b next (λ t. refl) (λ oids. refl) h
+    for x (Some d) (text, m, seeks, h) = into_main x text m b next h
+
+    by : (told : Request) → LooksIn told a next b → main_kind next ≡ main_kind told
+    by (requests.Describe x) h = for x x.described h
+    by (requests.Run bound) h =
+        any_main bound.is_looked_up bound.arguments.holes (requests.Run bound) (lookup_for (requests.Run bound)) (λ (oids : List ℕ). requests.Run (filled_bound oids bound)) a b next (λ t. refl) (λ oids. refl) h
+    by _ h = ap (λ (r : Request). main_kind r) h.0
 
 pub looked_calls : (kind : Kind) (b : ConnSeen) (told next : Request) (learnt : Learnt) → LooksUp told b.learnt next learnt → IsCalling kind (handed told b) → IsCalling kind (handed next (record b { learnt = learnt }))
 looked_calls kind b told next learnt u (start, r, said, hs, items, k, is, room) =
@@ -205,20 +225,29 @@ hands_keep P on asks [] begun last h i = subst P (sym h) i
 hands_keep P on asks (next ∷ later) begun last (c, (told, between, p, (learnt, u, is)), h) i =
     hands_keep P on asks later c last h (subst P (sym is) (asks between told next learnt u (on begun between told p i)))
 
--- the statement whose names are looked up is what is asked first
-pub named_asked : (c : Call) (x : Extended) → named_by c ≡ Some x → c ≡ calls.Asked (requests.Describe x)
-named_asked c x e = by c e
-  where
-    described : (y : Extended) (names : List Declared) (d : Option Described) → if_named y names d ≡ Some x → y ≡ x
-    described y [] d e = absurd cc
-    described y (name ∷ names) None e = same_Some y x e
-    described y (name ∷ names) (Some d) e = absurd cc
+-- what has names that are looked up is what is asked first
+pub named_told : (r told : Request) (names : List Declared) (d : Option Described) → if_named r names d ≡ Some told → r ≡ told
+named_told r told [] d e = absurd cc
+named_told r told (name ∷ names) None e = same_Some r told e
+named_told r told (name ∷ names) (Some d) e = absurd cc
 
-    asked : (r : Request) → named_in r ≡ Some x → r ≡ requests.Describe x
-    asked (requests.Describe y) e = ap (λ (z : Extended). requests.Describe z) (described y y.arguments.names y.described e)
+pub named_asked : (c : Call) (told : Request) → named_by c ≡ Some told → c ≡ calls.Asked told
+named_asked c told e = by c e
+  where
+    asked : (r : Request) → named_in r ≡ Some told → r ≡ told
+    asked (requests.Describe y) e = named_told (requests.Describe y) told y.arguments.names y.described e
+    asked (requests.Run bound) e = kept bound.keeping e
+      where
+        kept : (keeping : Keeping) → if_kept keeping bound ≡ Some told → requests.Run bound ≡ told
+        kept (keepings.Hits number) e = named_told (requests.Run bound) told bound.arguments.holes None e
+        kept keepings.Stays e = absurd cc
+        kept keepings.Draws e = absurd cc
+        kept keepings.Puts e = absurd cc
+        kept keepings.Evicts e = absurd cc
+        kept keepings.Clears e = absurd cc
     asked _ e = absurd cc
 
-    by : (call : Call) → named_by call ≡ Some x → call ≡ calls.Asked (requests.Describe x)
+    by : (call : Call) → named_by call ≡ Some told → call ≡ calls.Asked told
     by (calls.Asked r) e = ap (λ (q : Request). calls.Asked q) (asked r e)
     by _ e = absurd cc
 
@@ -228,11 +257,11 @@ pub first_keeps : (P : ConnSeen → Type 0) → ((c : ConnSeen) → P c → P (r
     → (begun first : ConnSeen) → AsksFirst begun first → P begun → P first
 first_keeps P stands asks begun first h i = by (named_by (resolved begun).call) refl h
   where
-    by : (o : Option Extended) → named_by (resolved begun).call ≡ o → AsksNamed o begun first → P first
+    by : (o : Option Request) → named_by (resolved begun).call ≡ o → AsksNamed o begun first → P first
     by None e h = subst P (sym h) i
-    by (Some x) e (can, (next, (learnt, looks, is))) =
-        let now = subst (λ (call : Call). P (record (resolved begun) { call = call })) (named_asked (resolved begun).call x e) (stands begun i) in
-        subst P (sym is) (asks (resolved begun) (requests.Describe x) next learnt looks now)
+    by (Some told) e (can, (next, (learnt, looks, is))) =
+        let now = subst (λ (call : Call). P (record (resolved begun) { call = call })) (named_asked (resolved begun).call told e) (stands begun i) in
+        subst P (sym is) (asks (resolved begun) told next learnt looks now)
 
 -- the same, where it may be refused before that
 pub begins_keep : (P : ConnSeen → Type 0) → ((c : ConnSeen) → P c → P (resolved c))
@@ -247,28 +276,21 @@ hands_more [] begun now c next h p = (c, subst (λ (x : ConnSeen). HandsNext x n
 hands_more (one ∷ later) begun now c next h p = (h.0, h.1, hands_more later h.0 now c next h.2 p)
 
 -- a lookup isn't asked where this was handed on, and the call is over
-unasked_named : (x : Extended) (names : List Declared) (a b : Learnt) → names ≢ [] → b.types ≡ a.types → b.tables ≡ a.tables → LooksNamed x names a (looked x (Some no_text)) b
-unasked_named x [] a b some types tables = absurd (some refl)
-unasked_named x (name ∷ names) a b some types tables = inr (refl, types, tables)
-
-pub unasked_lookup : (x : Extended) (d : Option Described) (a b : Learnt) → MayLookFor x d → b.types ≡ a.types → b.tables ≡ a.tables → LooksFor x d a (looked x (Some no_text)) b
-unasked_lookup x None a b may types tables = unasked_named x x.arguments.names a b may types tables
-unasked_lookup x (Some d) a b may types tables = inr (refl, types, tables)
+pub unasked_lookup : (told : Request) (a b : Learnt) → MayLook told → b.types ≡ a.types → b.tables ≡ a.tables → LooksUp told a (vain_lookup told) b
+unasked_lookup told a b may types tables = inr (may, refl, types, tables)
 
 pub fails_looking : (begun now between m b : ConnSeen) (later : List Request) (told : Request) (e : Error) → HandsOver begun later now → Polled (resolved now) between (beat_of (hands_on told)) → between.broken ≡ None → MayLook told → IsUnlooked told between m e → b ≡ unlooked m
     → PollsOn begun b (Ready (turns.Err e))
-fails_looking begun now between m b later (requests.Describe x) e hands polled whole may (same, types, tables, cause) is =
-    let next = looked x (Some no_text) in
+fails_looking begun now between m b later told e hands polled whole may (same, types, tables, cause) is =
+    let next = vain_lookup told in
     let c = handed next (record between { learnt = m.learnt }) in
-    let lookup : Lookup = record { text = []; extended = record x { is_looked_up = true } } in
     record {
       later = later ++ next ∷ [];
       last = c;
-      hands = hands_more later begun now c next hands (requests.Describe x, between, polled, (m.learnt, unasked_lookup x x.described between.learnt m.learnt may types tables, refl));
-      polled = unlooks (record between { learnt = m.learnt }) b lookup e whole refl cause (is ∙ ap (λ (d : ConnSeen). unlooked d) same);
+      hands = hands_more later begun now c next hands (told, between, polled, (m.learnt, unasked_lookup told between.learnt m.learnt may types tables, refl));
+      polled = unlooks (record between { learnt = m.learnt }) b told e whole may cause (is ∙ ap (λ (d : ConnSeen). unlooked d) same);
       none = λ next e. absurd cc;
     }
-fails_looking begun now between m b later told e hands polled whole may unlooks is = absurd may
 
 -- the call of the exchange that came last is of the same kind
 pub last_calls : (kind : Kind) (later : List Request) (begun last : ConnSeen) → HandsOver begun later last → IsCalling kind begun → IsCalling kind last

@@ -21,7 +21,10 @@ use Rattle.pg_call.specs.declared.request.Request.{Request}
 use Rattle.pg_call.specs.declared.request.Request.TheVariants as requests
 use Rattle.pg_call.specs.declared.request.Sort.{Sort}
 use Rattle.pg_call.specs.declared.request.Sort.TheVariants as sorts
-use Rattle.pg_call.specs.Requests.{behind_goal, goal_kind, keeping_of, main_kind, named_keeping, request_behind, sort_of}
+use Rattle.pg_call.specs.declared.statement.Bound.{Bound}
+use Rattle.pg_call.specs.declared.statement.After.{After}
+use Rattle.pg_call.specs.declared.statement.After.TheVariants as afters
+use Rattle.pg_call.specs.Requests.{after_kind, behind_goal, bound_by, bound_for, goal_kind, keeping_of, main_kind, named_keeping, request_behind, sort_of}
 use Rattle.pg_conn.specs.Statements.{asked_as, asked_by, behind_description, by_leaving, entry_of, held_as, held_behind, held_by, leaving, moved, number_for, prepare_by, query_by, run_or_describe, tell_or_describe, unmoved}
 
 -- ---- the depth stays
@@ -73,13 +76,24 @@ prepare_main : (rule : Rule) (p : Prepared) (o : Option (List FieldDescription))
 prepare_main rule p (Some columns) = refl
 prepare_main rule p None = tell_main rule p _
 
+after_main : (after : After) → main_kind (request_behind after) ≡ after_kind after
+after_main (afters.Run bound) = refl
+after_main (afters.Fill filling) = refl
+after_main (afters.Prepare prepared) = refl
+
+bound_main : (filling : Option (List ℕ)) (bound : Bound) → after_kind (bound_by filling bound) ≡ kinds.Run bound.how
+bound_main None bound = refl
+bound_main (Some text) bound = refl
+
+goal_after : (goal : Goal) (x : Extended) (d : Described) (keeping : Keeping) → after_kind (behind_goal goal x d keeping) ≡ goal_kind goal
+goal_after (goals.Run how) x d keeping = bound_main x.filling (bound_for how x d keeping)
+goal_after goals.Prepare x d keeping = refl
+
 goal_main : (goal : Goal) (x : Extended) (d : Described) (keeping : Keeping) → main_kind (request_behind (behind_goal goal x d keeping)) ≡ goal_kind goal
-goal_main (goals.Run how) x d keeping = refl
-goal_main goals.Prepare x d keeping = refl
+goal_main goal x d keeping = after_main (behind_goal goal x d keeping) ∙ goal_after goal x d keeping
 
 leaving_main : (goal : Goal) (x : Extended) (d : Described) (o : Option ℕ) → x.goal ≡ goal → main_kind (by_leaving x d o) ≡ goal_kind goal
-leaving_main (goals.Run how) x d (Some number) e = rw e refl
-leaving_main goals.Prepare x d (Some number) e = rw e refl
+leaving_main goal x d (Some number) e = goal_after x.goal x d keepings.Stays ∙ ap goal_kind e
 leaving_main goal x d None e = goal_main x.goal x d keepings.Puts ∙ ap goal_kind e
 
 behind_main : (rule : Rule) (x : Extended) (o : Option Described) → main_kind (behind_description rule x o) ≡ goal_kind x.goal

@@ -1,9 +1,10 @@
 -- How the beats of a call follow one another.
-use Rattle.std.proofs.Common.{take_at, take, drop, ap₂, ◌≡◌, ◌≢◌, ◌⊎◌, ℕ, Option, ◌+◌, ◌-◌, ◌<◌, ◌≤◌, cond, inl, inr, Bool, true, false, ◌&&◌, ◌==◌, nat_eq, leb, not, List, [], ◌∷◌, ◌++◌, length, map, refl, sym, ap, ◌∙◌, subst, append_assoc, append-nil, length-append, arith, Ok, Err, None, Result, IfOk, IfErr, OnErr}
+use Rattle.std.proofs.Common.{take_at, take, drop, ap₂, ◌≡◌, ◌≢◌, ◌⊎◌, ℕ, Option, ◌+◌, ◌-◌, ◌<◌, ◌≤◌, cond, inl, inr, Bool, true, false, ◌&&◌, ◌==◌, nat_eq, leb, not, List, [], ◌∷◌, ◌++◌, length, map, refl, sym, ap, ◌∙◌, subst, append_assoc, append-nil, length-append, arith, Ok, Err, None, Result, IfOk, IfErr, OnErr, Some, min, ◌^◌}
 use Rattle.pg_wire.proofs.Tests.{both_true}
 use Rattle.pg_call.specs.declared.kind.Change.{Change}
 use Rattle.pg_call.specs.declared.kind.Kind.{Kind}
 use Rattle.pg_call.specs.declared.kind.Kind.TheVariants as kinds
+use Rattle.pg_call.specs.declared.kind.Keeping.TheVariants as keepings
 use Rattle.pg_call.specs.declared.statement.Goal.{Goal}
 use Rattle.pg_call.specs.declared.statement.Goal.TheVariants as goals
 use Rattle.pg_call.specs.declared.statement.After.{After}
@@ -31,8 +32,10 @@ use Rattle.pg_learning.specs.Learning.{FailsSeeking, TakesRow}
 use Rattle.pg_request.specs.Asked.{RefusesType}
 use Rattle.pg_learning.specs.declared.learnt.Learnt.{Learnt}
 use Rattle.pg_learning.specs.Naming.{unknown_name}
-use Rattle.pg_conn.specs.Looking.{AreHeard, Learns, LearnsRows, MissesName, TakesFront, unlooked}
-use Rattle.pg_call.specs.declared.statement.Lookup.{Lookup}
+use Rattle.pg_conn.specs.Looking.{AreHeard, Learns, LearnsRows, MayLook, MissesName, TakesFront, looks_for, unlooked, vain_lookup, wanted_by, wanted_in}
+use Rattle.pg_request.specs.declared.naming.Declared.{Declared}
+use Rattle.pg_call.specs.declared.statement.Described.{Described}
+use Rattle.pg_call.specs.declared.statement.Extended.{Extended}
 use Rattle.pg_wire.specs.Decoding.{Says}
 use Rattle.pg_wire.proofs.PartLaws.{heard-append}
 use Rattle.pg_stream.specs.Links.{LinkSeen, NoneFalls, GrewBy}
@@ -265,6 +268,7 @@ groups_said (requests.Rollback left) f c = refl
 groups_said (requests.Describe extended) f c = refl
 groups_said (requests.Run bound) f c = rw (append-nil (running_bound bound ++ []), append-nil (running_bound bound)) (run_asks (name_of bound.statement) bound.arguments.types bound.arguments.values bound.again)
 groups_said (requests.Look lookup) f c = refl
+groups_said (requests.Fill filling) f c = refl
 groups_said (requests.Evict eviction) f c = refl
 groups_said (requests.Clear statements) f c = rw (append-nil (closing_group (map name_of statements)), append-nil (closing_group (map name_of statements))) (closes_said (map name_of statements))
 groups_said (requests.Prepare prepared) f c = absurd cc
@@ -277,6 +281,7 @@ groups_farewell requests.Close c = refl
 groups_farewell requests.Flush c = absurd cc
 groups_farewell (requests.Evict eviction) c = absurd cc
 groups_farewell (requests.Look lookup) c = absurd cc
+groups_farewell (requests.Fill filling) c = absurd cc
 groups_farewell (requests.Clear statements) c = absurd cc
 groups_farewell (requests.Prepare prepared) c = absurd cc
 groups_farewell requests.Ping c = absurd cc
@@ -410,6 +415,7 @@ sent_goes_none rests.Nothing g = g
 sent_goes_none (rests.Describe extended) g = g
 sent_goes_none (rests.After after) g = g
 sent_goes_none (rests.Look extended) g = g
+sent_goes_none (rests.Fill bound) g = g
 
 pub answers_last : (call : Call) → GoesOn (beats.Ends (Ok (sent_answer call))) → ⊥
 answers_last (calls.Asked request) g = sent_goes_none (rest_of request) g
@@ -530,6 +536,7 @@ asks_flush (requests.Evict eviction) k = absurd (after_no_flush eviction.after k
   where
     after_no_flush : (after : After) → after_kind after ≡ kinds.Flush → ⊥
     after_no_flush (afters.Run bound) k = cc
+    after_no_flush (afters.Fill filling) k = cc
     after_no_flush (afters.Prepare prepared) k = cc
 asks_flush _ k = absurd cc
 
@@ -554,8 +561,8 @@ unresolved {A} seen a b answer e whole (r, asked, is, wants) memory answers =
     })
 
 -- a lookup that can't be asked ends the call, as an exchange that has done nothing
-abbrev pub CantLook : Lookup → Learnt → Error → Type 0
-CantLook lookup learnt e = (e ≡ errors.OutOfMemory) ⊎ (FailsSeeking learnt.seeking e ⊎ MissesName lookup.extended learnt e)
+abbrev pub CantLook : List Declared → Learnt → Error → Type 0
+CantLook names learnt e = (e ≡ errors.OutOfMemory) ⊎ (FailsSeeking learnt.seeking e ⊎ MissesName names learnt e)
 
 -- such an error breaks nothing, and ends no copy
 abbrev IsHarmless : Error → Type 0
@@ -573,39 +580,49 @@ missed_harmless missing errors.OutOfMemory h = (refl, refl)
 missed_harmless missing (errors.TypeNotFound name) h = (refl, refl)
 missed_harmless missing _ h = absurd h
 
-unlooked_harmless : (lookup : Lookup) (learnt : Learnt) (e : Error) → CantLook lookup learnt e → IsHarmless e
-unlooked_harmless lookup learnt e (inl memory) = rw memory (refl, refl)
-unlooked_harmless lookup learnt e (inr (inl fails)) = fails_harmless learnt.seeking e fails
-unlooked_harmless lookup learnt e (inr (inr misses)) = missed_harmless (unknown_name learnt.types lookup.extended.arguments.names) e misses
+unlooked_harmless : (names : List Declared) (learnt : Learnt) (e : Error) → CantLook names learnt e → IsHarmless e
+unlooked_harmless names learnt e (inl memory) = rw memory (refl, refl)
+unlooked_harmless names learnt e (inr (inl fails)) = fails_harmless learnt.seeking e fails
+unlooked_harmless names learnt e (inr (inr misses)) = missed_harmless (unknown_name learnt.types names) e misses
 
-abbrev look_at : Lookup → ConnSeen → ConnSeen
-look_at lookup m = handed (requests.Look lookup) m
+-- the exchange that stands there: it is one of its own, and makes nothing of what is kept
+abbrev vain_at : Request → ConnSeen → ConnSeen
+vain_at q m = record m { call = calls.Asked q; keeping = keepings.Stays; groups = 0; earlier = min (m.earlier + m.groups) (2 ^ 64 - 1) }
 
-unlooked_turns : (m : ConnSeen) (lookup : Lookup) (e : Error) → CantLook lookup m.learnt e → TakesBeat (resolved (look_at lookup m)) (idle (resolved (look_at lookup m))) (beats.Ends (Err e))
-unlooked_turns m lookup e h =
-    let a = resolved (look_at lookup m) in
+unlooked_turns : (m : ConnSeen) (q : Request) (names : List Declared) (e : Error) → looks_for q ≡ Some names → CantLook names m.learnt e → TakesBeat (vain_at q m) (idle (vain_at q m)) (beats.Ends (Err e))
+unlooked_turns m q names e for h =
+    let a = vain_at q m in
     stays a (idle a) (beats.Ends (Err e)) (Moves-none a.stream) (NoneWaited-none a.stream) (keeps_idle a.call) refl refl refl refl refl refl refl refl (λ start r said hs items i.
     (refl, inr (leaves_call start r said hs items a.ledger a.call i, call_well start r said hs items a.ledger a.call i, by start r said hs items i h)))
   where
-    by : (start : Ledger) (r : Request) (said : List FrontendMessage) (hs : List Frame) (items : List CallItem) (i : CallIs start r said hs items m.ledger (calls.Asked (requests.Look lookup))) → CantLook lookup m.learnt e
-        → FailsBy (resolved (look_at lookup m)) (idle (resolved (look_at lookup m))) start r (leaves_call start r said hs items m.ledger (calls.Asked (requests.Look lookup)) i).own hs e
+    by : (start : Ledger) (r : Request) (said : List FrontendMessage) (hs : List Frame) (items : List CallItem) (i : CallIs start r said hs items m.ledger (calls.Asked q)) → CantLook names m.learnt e
+        → FailsBy (vain_at q m) (idle (vain_at q m)) start r (leaves_call start r said hs items m.ledger (calls.Asked q) i).own hs e
     by start r said hs items i (inl memory) = rw memory (inl (tt, tt))
-    by start r said hs items i (inr (inl fails)) = inr (inr (lookup, sym i.0, inl fails))
-    by start r said hs items i (inr (inr misses)) = inr (inr (lookup, sym i.0, inr (inr misses)))
+    by start r said hs items i (inr (inl fails)) = inr (inr (names, ap looks_for (sym i.0) ∙ for, inl fails))
+    by start r said hs items i (inr (inr misses)) = inr (inr (names, ap looks_for (sym i.0) ∙ for, inr (inr misses)))
 
-said_nothing : (lookup : Lookup) → lookup.text ≡ [] → CanBeSaid (requests.Look lookup)
-said_nothing lookup e = rw e ((refl, tt), tt)
-
-pub unlooks : (m b : ConnSeen) (lookup : Lookup) (e : Error) → m.broken ≡ None → lookup.text ≡ [] → CantLook lookup m.learnt e → b ≡ unlooked m → Polled (resolved (look_at lookup m)) b (beats.Ends (Err e))
-unlooks m b lookup e whole none h is = record {
-  stopped = idle (resolved (look_at lookup m));
-  turns = unlooked_turns m lookup e h;
+unlooks_at : (m b : ConnSeen) (q : Request) (names : List Declared) (e : Error) → m.broken ≡ None → CanBeSaid q → flushes (calls.Asked q) ≡ false → looks_for q ≡ Some names → CantLook names m.learnt e → b ≡ unlooked m → Polled (vain_at q m) b (beats.Ends (Err e))
+unlooks_at m b q names e whole can stays for h is = record {
+  stopped = idle (vain_at q m);
+  turns = unlooked_turns m q names e for h;
   whole = whole;
-  behind_is = is ∙ ap (λ (o : Option ServerFault). unlooked (record m { broken = o })) whole ∙ ap₂ (λ (o : Option ServerFault) (copies : Bool). cleaned (unfed copies (record (idle (resolved (look_at lookup m))) { broken = o }))) (sym (unlooked_harmless lookup m.learnt e h).0) (sym (unlooked_harmless lookup m.learnt e h).1);
-  says = inl (said_nothing lookup none);
-  flush = λ f. absurd cc;
+  behind_is = is ∙ ap (λ (o : Option ServerFault). unlooked (record m { broken = o })) whole ∙ ap₂ (λ (o : Option ServerFault) (copies : Bool). cleaned (unfed copies (record (idle (vain_at q m)) { broken = o }))) (sym (unlooked_harmless names m.learnt e h).0) (sym (unlooked_harmless names m.learnt e h).1);
+  says = inl can;
+  flush = λ f. absurd (differs (sym stays ∙ (both_true (flushes (calls.Asked q)) (m.ledger.owed == 0) (both_true (flushes (calls.Asked q) && m.ledger.owed == 0) (nat_eq (length m.stream.unsent) 0) f).0).0));
   asked = λ i. subst IsAsked (ap (λ (c : ConnSeen). c.call) is) i;
 }
+  where
+    differs : false ≡ true → ⊥
+    differs e = cc
+
+wanted_same : (x : Extended) (d : Option Described) → wanted_by (record x { is_looked_up = true }) d ≡ wanted_by x d
+wanted_same x None = refl
+wanted_same x (Some d) = refl
+
+pub unlooks : (m b : ConnSeen) (told : Request) (e : Error) → m.broken ≡ None → MayLook told → CantLook (wanted_in told) m.learnt e → b ≡ unlooked m → Polled (resolved (handed (vain_lookup told) m)) b (beats.Ends (Err e))
+unlooks m b (requests.Describe x) e whole may h is = unlooks_at m b (vain_lookup (requests.Describe x)) (wanted_by x x.described) e whole ((refl, tt), tt) refl (ap (λ (names : List Declared). Some names) (wanted_same x x.described)) h is
+unlooks m b (requests.Run bound) e whole may h is = unlooks_at m b (vain_lookup (requests.Run bound)) bound.arguments.holes e whole ((refl, tt), tt) refl refl h is
+unlooks m b _ e whole may h is = absurd may
 
 -- ---- messages
 
@@ -915,32 +932,41 @@ learns_from a m front body rest result of (now, inl (looks, learns)) = learns_on
 learns_from a m front body rest result of (now, inr (none, same, okay)) = ([], tt, same)
 
 -- what runs is a lookup
-look_of : (r : Request) → is_look (rest_of r) ≡ true → (lookup : Lookup) × (r ≡ requests.Look lookup)
-look_of (requests.Look lookup) e = (lookup, refl)
+look_of : (r : Request) → is_look (rest_of r) ≡ true → (names : List Declared) × (looks_for r ≡ Some names)
+look_of (requests.Look lookup) e = (wanted_by lookup.extended lookup.extended.described, refl)
+look_of (requests.Fill filling) e = (filling.bound.arguments.holes, refl)
 look_of _ e = absurd cc
 
-looks_by : (start : Ledger) (r : Request) (said : List FrontendMessage) (hs : List Frame) (items : List CallItem) (ledger : Ledger) (call : Call) → CallIs start r said hs items ledger call → looks_up call ≡ true → (lookup : Lookup) × (r ≡ requests.Look lookup)
+looks_by : (start : Ledger) (r : Request) (said : List FrontendMessage) (hs : List Frame) (items : List CallItem) (ledger : Ledger) (call : Call) → CallIs start r said hs items ledger call → looks_up call ≡ true → (names : List Declared) × (looks_for r ≡ Some names)
 looks_by start r said hs items ledger (calls.Own reply) i e = look_of r (subst (λ (x : Rest). is_look x ≡ true) i.2.rest_is e)
 looks_by start r said hs items ledger _ i e = absurd cc
 
 -- a row of it that isn't taken ends the call
-fails_at : (a c : ConnSeen) (start : Ledger) (r : Request) (own : List Group) (hs : List Frame) (f : Frame) (lookup : Lookup) (x y : Learnt) (e : Error) → r ≡ requests.Look lookup → TakesFront f x y (Err e) → c.learnt ≡ y → FailsBy a c start r own (hs ++ f ∷ []) e
-fails_at a c start r own hs f lookup x y e is (inl (values, same, have, takes)) m = inr (inr (lookup, is, inr (inl (hs, values, x, ap (λ (g : Frame). hs ++ g ∷ []) same, have, subst (λ (l : Learnt). TakesRow values x l (Err e)) (sym m) takes))))
-fails_at a c start r own hs f lookup x y e is (inr (same, refused)) m = rw (refused_by e refused) (inl (tt, tt))
+fails_at : (a c : ConnSeen) (start : Ledger) (r : Request) (own : List Group) (hs : List Frame) (f : Frame) (names : List Declared) (x y : Learnt) (e : Error) → looks_for r ≡ Some names → TakesFront f x y (Err e) → c.learnt ≡ y → FailsBy a c start r own (hs ++ f ∷ []) e
+fails_at a c start r own hs f names x y e is (inl (values, same, have, takes)) m = inr (inr (names, is, inr (inl (hs, values, x, ap (λ (g : Frame). hs ++ g ∷ []) same, have, subst (λ (l : Learnt). TakesRow values x l (Err e)) (sym m) takes))))
+fails_at a c start r own hs f names x y e is (inr (same, refused)) m = rw (refused_by e refused) (inl (tt, tt))
   where
     refused_by : (e : Error) → ◌≡◌ {A = Result (Unit {0}) Error} (Err e) (Err errors.OutOfMemory) → e ≡ errors.OutOfMemory
     refused_by e is = cc
 
 still_runs : (start : Ledger) (r : Request) (said : List FrontendMessage) (hs : List Frame) (items : List CallItem) (ledger : Ledger) (call : Call) (beat : Beat) → looks_up call ≡ true → CallTakes start r said hs items ledger call beat
-    → CallIs start r said hs items ledger call × ((lookup : Lookup) × (r ≡ requests.Look lookup))
+    → CallIs start r said hs items ledger call × ((names : List Declared) × (looks_for r ≡ Some names))
 still_runs start r said hs items ledger call beats.More looks h = (h, looks_by start r said hs items ledger call h looks)
 still_runs start r said hs items ledger call beats.Waits looks h = absurd h
 still_runs start r said hs items ledger call (beats.Yields item) looks h =
     let look = looks_by start r said hs (items ++ item ∷ []) ledger call h looks in
-    absurd (shows_none item (subst (λ (q : Request). yields (kind_of q) item ≡ true) look.1 (shown_fits start r said hs items item ledger call h)))
+    absurd (shows_none (kind_of r) item (look_kind r look.0 look.1) (shown_fits start r said hs items item ledger call h))
   where
-    shows_none : (item : CallItem) → yields kinds.Describe item ≡ true → ⊥
-    shows_none item e = cc
+    look_kind : (r : Request) (names : List Declared) → looks_for r ≡ Some names → kind_of r ≡ kinds.Describe
+    look_kind (requests.Look lookup) names e = refl
+    look_kind (requests.Fill filling) names e = refl
+    look_kind _ names e = absurd cc
+
+    none : (item : CallItem) → yields kinds.Describe item ≡ true → ⊥
+    none item e = cc
+
+    shows_none : (kind : Kind) (item : CallItem) → kind ≡ kinds.Describe → yields kind item ≡ true → ⊥
+    shows_none kind item k e = none item (subst (λ (d : Kind). yields d item ≡ true) k e)
 still_runs start r said hs items ledger call (beats.Opens opened) looks h = (h.0, looks_by start r said hs items ledger call h.0 looks)
 still_runs start r said hs items ledger call (beats.Ends answer) looks h = absurd (over (subst (λ (x : Call). looks_up x ≡ true) h.0 looks))
   where

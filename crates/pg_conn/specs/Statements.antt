@@ -40,12 +40,12 @@ abbrev pub is_numbered : Bool → Rule → Bool
 is_numbered persistent rule = not (is_named persistent rule) || is_some (number_left rule)
 
 abbrev pub describe : Goal → List ℕ → ArgumentsSeen → Bool → Rule → Request
-describe goal sql arguments persistent rule = requests.Describe (record { goal = goal; statement = number_for persistent rule; is_numbered = is_numbered persistent rule; sql = sql; arguments = arguments; described = None; is_looked_up = false })
+describe goal sql arguments persistent rule = requests.Describe (record { goal = goal; statement = number_for persistent rule; is_numbered = is_numbered persistent rule; sql = sql; arguments = arguments; described = None; is_looked_up = false; filling = None })
 
 -- ---- a query with arguments: where a statement of its text is kept, that one is run, and else one is described
 
 abbrev pub run_or_describe : Rule → How → List ℕ → ArgumentsSeen → Bool → Option Entry → Request
-run_or_describe rule how sql arguments persistent (Some e) = requests.Run (record { how = how; statement = e.statement; again = None; arguments = arguments; columns = Some e.columns; keeping = keepings.Hits e.statement })
+run_or_describe rule how sql arguments persistent (Some e) = requests.Run (record { how = how; statement = e.statement; again = None; arguments = arguments; columns = Some e.columns; is_looked_up = false; keeping = keepings.Hits e.statement })
 run_or_describe rule how sql arguments persistent None = describe (goals.Run how) sql arguments persistent rule
 
 abbrev pub query_by : Rule → How → QueryText → Option ArgumentsSeen → Request → Request

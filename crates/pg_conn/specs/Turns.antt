@@ -34,12 +34,8 @@ use Rattle.pg_call.specs.Hearing.{IsOpen, fails_of, looks_up, sent_answer}
 use Rattle.pg_call.specs.declared.calling.Taken.{Taken}
 use Rattle.pg_call.specs.declared.running.Running.{Running}
 use Rattle.pg_call.specs.Calls.{CallIs, IsAwaiting, Leaves, CallEnds, IsFrontFault, TakesMessage, RefusesMessage, StaysIn}
-use Rattle.pg_call.specs.declared.statement.Extended.{Extended}
-use Rattle.pg_call.specs.declared.statement.Lookup.{Lookup}
-use Rattle.pg_learning.specs.declared.learnt.Seeking.{Seeking}
-use Rattle.pg_learning.specs.Learning.{FailsSeeking}
 use Rattle.pg_learning.specs.declared.learnt.Learnt.{Learnt}
-use Rattle.pg_conn.specs.Looking.{AsksFirst, AsksNext, Learns, FailsRow, MissesName, TakesFront, named_by}
+use Rattle.pg_conn.specs.Looking.{AsksFirst, AsksNext, Learns, LookFails, TakesFront, named_by}
 use Rattle.pg_conn.specs.Connections.{ConnOf, ConnSeen, idle, left, standing, started_call, begun, begun_with, resolved, settled, cleaned, ended, ends_copy, unfed}
 use Rattle.pg_conn.specs.Statements.{asked_by, begun_as}
 
@@ -59,10 +55,6 @@ IsMissed ledger _ = Unit {0}
 -- the frame at the front, which is no asynchronous message, is refused
 abbrev pub FrontFails : ConnSeen → Ledger → Request → List Group → List Frame → Error → Type 0
 FrontFails b start r own hs e = (front : Frame) × (rest : List ℕ) × IsWhole backend_tags front × (is_asynchronous front ≡ false) × (b.stream.held ≡ bytes_of front ++ rest) × IsFrontFault start r own hs front e
-
--- With so much learnt, a lookup isn't asked since rows wait for types that nothing more asks for, or since a name has no OID; or its last row wasn't taken.
-abbrev pub LookFails : Request → List Frame → Learnt → Error → Type 0
-LookFails r hs learnt e = (lookup : Lookup) × (r ≡ requests.Look lookup) × (FailsSeeking learnt.seeking e ⊎ (FailsRow hs learnt e ⊎ MissesName lookup.extended learnt e))
 
 -- the stream fails, memory is wanting, the front is refused, or a lookup fails by what was learnt
 abbrev pub FailsBy : ConnSeen → ConnSeen → Ledger → Request → List Group → List Frame → Error → Type 0
@@ -342,8 +334,8 @@ pub record PollsOn (begun b : ConnSeen) (answer : Poll Turn) : Type 0 where
   pub none : HandsOnNone answer
 
 -- this is refused before anything is looked up for it
-abbrev pub RefusesNamed : Option Extended → ConnSeen → ConnSeen → Poll Turn → Type 0
-RefusesNamed (Some x) begun b (Ready (turns.Err e)) = IsRefusal (requests.Describe x) e × (b ≡ cleaned (idle (resolved begun)))
+abbrev pub RefusesNamed : Option Request → ConnSeen → ConnSeen → Poll Turn → Type 0
+RefusesNamed (Some told) begun b (Ready (turns.Err e)) = IsRefusal told e × (b ≡ cleaned (idle (resolved begun)))
 RefusesNamed named begun b answer = ⊥
 
 -- what is asked first is asked, or before it what has to be looked up for it, or it is refused before that

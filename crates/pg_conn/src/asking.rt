@@ -42,6 +42,7 @@ fn describe(rule: &Rule, goal: Goal, sql: Text, arguments: Arguments, persistent
         arguments,
         described: None,
         is_looked_up: false,
+        filling: None,
     })
 }
 
@@ -65,6 +66,7 @@ fn run_or_describe(
                 again: None,
                 arguments,
                 columns: Some(columns),
+                is_looked_up: false,
                 keeping: Keeping::Hits(entry.statement.number()),
             }))
         }

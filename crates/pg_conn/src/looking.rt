@@ -1,20 +1,20 @@
 //! What is looked up before a statement is described, and behind that.
-ghost use Rattle.std.specs.Prelude.{◌≡◌, ◌≢◌, ◌⊎◌, ℕ, List, [], Option as OptionOf, Some, None, false, not, is_some, ◌&&◌, unwrap_or, IsSome, IfOk, IfErr, OnOk, OnErr};
-ghost use Rattle.pg_request.specs.Queries.{names_by};
+ghost use Rattle.std.specs.Prelude.{◌≡◌, ◌≢◌, ◌⊎◌, [], Some, None, false, not, is_some, ◌&&◌, unwrap_or, IsSome, IfOk, IfErr, OnOk, OnErr};
 ghost use Rattle.pg_rule.specs.Caches.{entry_at};
 ghost use Rattle.pg_call.specs.Hearing.{asked_in, without_asked};
-ghost use Rattle.pg_call.specs.Requests.{CanBeSaid, IsRefusal, declared_for, numbered_by};
+ghost use Rattle.pg_call.specs.Requests.{CanBeSaid, IsRefusal, declared_for, filled_bound, filled_for, numbered_by};
+ghost use Rattle.pg_call.specs.declared.statement.Extended.{Extended as ExtendedOf};
 ghost use Rattle.pg_request.specs.Asked.{declared_names};
 ghost use Rattle.pg_call.specs.declared.request.Request as request;
 ghost use Rattle.pg_learning.specs.Learning.{FailsSeeking, Seeks};
 ghost use Rattle.pg_learning.specs.Naming.{oids_under, unknown_name};
 ghost use Rattle.pg_conn.specs.Connections.{ConnOf, cleaned};
-ghost use Rattle.pg_conn.specs.Looking.{AsksFirst, AsksNext, FailsFirst, IsNumbered, IsUnlooked, LooksFor, LooksNamed, LooksUp, MayLook, MayLookFor, MissesName, asks_by, asks_names, begun_for, begun_named, columns_in, has_names, looked, unlooked, wants_names};
+ghost use Rattle.pg_conn.specs.Looking.{AsksFirst, AsksNext, FailsFirst, IsUnlooked, IsUnlookedFor, LooksFor, LooksIn, LooksInto, LooksNamed, LooksUp, MayLook, MayLookFor, MissesName, asks_by, asks_names, asks_query, begun_by, begun_for, columns_in, has_names, holes_for, is_kept, lookup_for, unlooked, wanted_by, wants_names};
 
 use crate::{PgConnection, Request};
-use pg_call::{Call, Described, Extended, Goal, Lookup, Prepared};
+use pg_call::{Bound, Call, Described, Extended, Filling, Goal, Keeping, Lookup, Prepared};
 use pg_columns::PgColumn;
-use pg_request::{Declared, Query, declared_names};
+use pg_request::{Arguments, Declared, Query, declared_names};
 use pg_rule::Rule;
 use pg_wire::{Error, Text};
 
@@ -35,17 +35,24 @@ fn columns_in(described: &Described) -> &[PgColumn]
     }
 }
 
-// What is asked for a statement that was described: a lookup by this text, where there is one.
-fn looked(extended: Extended, text: Option<Text>) -> Request
-    ensures { result ≡ looked extended text }
+// What is run has these types by name alone, which are within its arguments.
+fn holes_for(goal: Goal, arguments: &Arguments) -> &[Declared]
+    ensures { result.now ≡ holes_for goal arguments.now }
 {
-    match text {
-        Some(text) => Request::Look(Lookup {
-            text,
-            extended: extended.looked_up(),
-        }),
-        None => Request::Describe(extended),
+    match goal {
+        Goal::Run(_) => arguments.holes(),
+        Goal::Prepare => &[],
     }
+}
+
+// The lookup for a statement by this text.
+fn lookup(extended: Extended, text: Text) -> Request
+    ensures { result ≡ lookup_for (Request.Describe extended) text }
+{
+    Request::Look(Lookup {
+        text,
+        extended: extended.looked_up(),
+    })
 }
 
 // Whether there are any.
@@ -58,11 +65,21 @@ fn has_names(names: &[Declared]) -> bool
     }
 }
 
-// Whether a query has types that are known by their names alone, and no statement of its text is kept.
+// Whether a query has types that are known by their names alone: its statement, or its arguments where a statement of its text is kept.
 fn query_names(rule: &Rule, query: &Query) -> bool
-    ensures { result ≡ has_names (names_by query.now.arguments) && not (is_some (entry_at query.now.sql rule.now.cache.entries)) }
+    ensures { result ≡ asks_query query.now.arguments (entry_at query.now.sql rule.now.cache.entries) }
 {
-    has_names(query.names()) && rule.cache.get(query.sql()).is_none()
+    match rule.cache.get(query.sql()) {
+        Some(_) => has_names(query.holes()),
+        None => has_names(query.names()),
+    }
+}
+
+// The same of what is run.
+fn run_names(bound: &Bound) -> bool
+    ensures { result ≡ is_kept bound.now.keeping && has_names bound.now.arguments.holes }
+{
+    matches!(bound.keeping, Keeping::Hits(_)) && has_names(bound.arguments.holes())
 }
 
 // The same of a statement to prepare that isn't described yet.
@@ -90,6 +107,7 @@ fn asks_names(rule: &Rule, request: &Request) -> bool
             has_names(extended.arguments.names()) && extended.described.is_none()
         }
         Request::Prepare(prepared) => prepare_names(rule, prepared),
+        Request::Run(bound) => run_names(bound),
         _ => false,
     }
 }
@@ -111,50 +129,72 @@ impl<L> PgConnection<L> {
     // The text of the next lookup for a statement that was described.
     fn seek(&mut self, extended: &Extended, described: &Described) -> Result<Option<Text>, Error>
         ensures ok { IfOk result (λ text. (self.new ≡ record self.old { learnt = self.new.learnt }) × Seeks (columns_in described.now) (wants_names extended.now.goal) (begun_for extended.now described.now self.old.learnt) text self.new.learnt) }
-        ensures err { IfErr result (λ e. (self.new ≡ record self.old { learnt = self.new.learnt }) × (self.new.learnt.types ≡ self.old.learnt.types) × (self.new.learnt.tables ≡ self.old.learnt.tables) × ((e ≡ Error.OutOfMemory) ⊎ FailsSeeking self.new.learnt.seeking e)) }
+        ensures kept { (self.new.learnt.types ≡ self.old.learnt.types) × (self.new.learnt.tables ≡ self.old.learnt.tables) }
+        ensures err { IfErr result (λ e. (self.new ≡ record self.old { learnt = self.new.learnt }) × ((e ≡ Error.OutOfMemory) ⊎ FailsSeeking self.new.learnt.seeking e)) }
     {
         self.begin_lookups(extended, described)?;
         let names = wants_names(extended.goal);
         self.learnt.seek(self.alloc, columns_in(described), names)
     }
 
-    // Before a statement is described, lookups begin for the types that are known by their names alone.
-    fn begin_named(&mut self, extended: &Extended) -> Result<(), Error>
-        ensures ok { OnOk result (self.new ≡ record self.old { learnt = begun_named extended.now self.old.learnt }) }
+    // Where nothing was looked up for them yet, lookups begin for types that are known by their names alone.
+    fn begin_named(&mut self, is_looked_up: bool, names: &[Declared]) -> Result<(), Error>
+        ensures ok { OnOk result (self.new ≡ record self.old { learnt = begun_by is_looked_up names.now self.old.learnt }) }
         ensures err { IfErr result (λ e. (e ≡ Error.OutOfMemory) × (self.new ≡ self.old)) }
     {
-        if !extended.is_looked_up {
-            self.learnt
-                .begin_names(self.alloc, extended.arguments.names())?;
+        if is_looked_up {
+            return Ok(());
         }
-        Ok(())
+        self.learnt.begin_names(self.alloc, names)
     }
 
     // The text of the next lookup for them.
-    fn seek_named(&mut self, extended: &Extended) -> Result<Option<Text>, Error>
-        ensures ok { IfOk result (λ text. (self.new ≡ record self.old { learnt = self.new.learnt }) × Seeks [] false (begun_named extended.now self.old.learnt) text self.new.learnt) }
-        ensures err { IfErr result (λ e. (self.new ≡ record self.old { learnt = self.new.learnt }) × (self.new.learnt.types ≡ self.old.learnt.types) × (self.new.learnt.tables ≡ self.old.learnt.tables) × ((e ≡ Error.OutOfMemory) ⊎ FailsSeeking self.new.learnt.seeking e)) }
+    fn seek_named(&mut self, is_looked_up: bool, names: &[Declared]) -> Result<Option<Text>, Error>
+        ensures ok { IfOk result (λ text. (self.new ≡ record self.old { learnt = self.new.learnt }) × Seeks [] false (begun_by is_looked_up names.now self.old.learnt) text self.new.learnt) }
+        ensures kept { (self.new.learnt.types ≡ self.old.learnt.types) × (self.new.learnt.tables ≡ self.old.learnt.tables) }
+        ensures err { IfErr result (λ e. (self.new ≡ record self.old { learnt = self.new.learnt }) × ((e ≡ Error.OutOfMemory) ⊎ FailsSeeking self.new.learnt.seeking e)) }
     {
-        self.begin_named(extended)?;
+        self.begin_named(is_looked_up, names)?;
         self.learnt.seek(self.alloc, &[], false)
     }
 
     // The statement with the OIDs of its types, where each is known.
     fn numbered(&self, extended: Extended) -> Result<Request, Error>
         ensures ok { IfOk result (λ next. (unknown_name self.now.learnt.types extended.arguments.names ≡ None) × (next ≡ Request.Describe (numbered_by (oids_under self.now.learnt.types extended.arguments.names) extended))) }
-        ensures err { IfErr result (MissesName extended self.now.learnt) }
+        ensures err { IfErr result (MissesName extended.arguments.names self.now.learnt) }
     {
         let oids = self.learnt.oids(self.alloc, extended.arguments.names())?;
         Ok(Request::Describe(extended.numbered(self.alloc, oids)))
     }
 
+    // The statement with the OIDs that are open within the arguments with which it is run.
+    fn filled(&self, extended: Extended) -> Result<Request, Error>
+        ensures ok { IfOk result (λ next. (unknown_name self.now.learnt.types (holes_for extended.goal extended.arguments) ≡ None) × (next ≡ Request.Describe (filled_for (oids_under self.now.learnt.types (holes_for extended.goal extended.arguments)) extended))) }
+        ensures err { IfErr result (MissesName (holes_for extended.goal extended.arguments) self.now.learnt) }
+    {
+        let holes = holes_for(extended.goal, &extended.arguments);
+        let oids = self.learnt.oids(self.alloc, holes)?;
+        let filled = extended.filled(self.alloc, oids.as_slice())?;
+        Ok(Request::Describe(filled))
+    }
+
+    // The same of what is run.
+    fn filled_bound(&self, bound: Bound) -> Result<Request, Error>
+        ensures ok { IfOk result (λ next. (unknown_name self.now.learnt.types bound.arguments.holes ≡ None) × (next ≡ Request.Run (filled_bound (oids_under self.now.learnt.types bound.arguments.holes) bound))) }
+        ensures err { IfErr result (MissesName bound.arguments.holes self.now.learnt) }
+    {
+        let oids = self.learnt.oids(self.alloc, bound.arguments.holes())?;
+        let filled = bound.filled(self.alloc, oids.as_slice())?;
+        Ok(Request::Run(filled))
+    }
+
     // What is asked of a statement whose types are known by their names alone.
     fn look_for_names(&mut self, extended: Extended) -> Result<Request, Error>
-        ensures ok { IfOk result (λ next. (self.new ≡ record self.old { learnt = self.new.learnt }) × ((text : OptionOf (List ℕ)) × Seeks [] false (begun_named extended self.old.learnt) text self.new.learnt × IsNumbered extended self.new.learnt text next)) }
-        ensures err { IfErr result (IsUnlooked (Request.Describe extended) self.old self.new) }
+        ensures ok { IfOk result (λ next. (self.new ≡ record self.old { learnt = self.new.learnt }) × LooksNamed extended.is_looked_up extended.arguments.names (lookup_for (Request.Describe extended)) (λ oids. Request.Describe (numbered_by oids extended)) self.old.learnt next self.new.learnt) }
+        ensures err { IfErr result (IsUnlookedFor extended.arguments.names self.old self.new) }
     {
-        match self.seek_named(&extended)? {
-            Some(text) => Ok(looked(extended, Some(text))),
+        match self.seek_named(extended.is_looked_up, extended.arguments.names())? {
+            Some(text) => Ok(lookup(extended, text)),
             None => {
                 let next = self.numbered(extended)?;
                 Ok(next)
@@ -164,8 +204,8 @@ impl<L> PgConnection<L> {
 
     // What is asked of a statement that isn't described yet.
     fn look_for_undescribed(&mut self, extended: Extended) -> Result<Request, Error>
-        ensures ok { IfOk result (λ next. (self.new ≡ record self.old { learnt = self.new.learnt }) × LooksNamed extended extended.arguments.names self.old.learnt next self.new.learnt) }
-        ensures err { IfErr result (λ e. IsUnlooked (Request.Describe extended) self.old self.new e × (extended.arguments.names ≢ [])) }
+        ensures ok { IfOk result (λ next. (self.new ≡ record self.old { learnt = self.new.learnt }) × LooksFor extended None self.old.learnt next self.new.learnt) }
+        ensures err { IfErr result (λ e. IsUnlookedFor extended.arguments.names self.old self.new e × (extended.arguments.names ≢ [])) }
     {
         if !has_names(extended.arguments.names()) {
             return Ok(Request::Describe(extended));
@@ -174,26 +214,92 @@ impl<L> PgConnection<L> {
         Ok(next)
     }
 
+    // What is asked of a statement that is run with types within its arguments.
+    fn look_for_holes(&mut self, extended: Extended) -> Result<Request, Error>
+        ensures ok { IfOk result (λ next. (self.new ≡ record self.old { learnt = self.new.learnt }) × LooksNamed false (holes_for extended.goal extended.arguments) (λ text. Request.Describe (record extended { filling = Some text })) (λ oids. Request.Describe (filled_for oids extended)) self.old.learnt next self.new.learnt) }
+        ensures err { IfErr result (IsUnlookedFor (holes_for extended.goal extended.arguments) self.old self.new) }
+    {
+        match self.seek_named(false, holes_for(extended.goal, &extended.arguments))? {
+            Some(text) => Ok(Request::Describe(extended.filling(text))),
+            None => {
+                let next = self.filled(extended)?;
+                Ok(next)
+            }
+        }
+    }
+
+    // What is asked of a statement that was described, behind the lookups for that.
+    fn look_into(&mut self, extended: Extended) -> Result<Request, Error>
+        ensures ok { IfOk result (λ next. (self.new ≡ record self.old { learnt = self.new.learnt }) × LooksInto extended None self.old.learnt next self.new.learnt) }
+        ensures err { IfErr result (IsUnlookedFor (holes_for extended.goal extended.arguments) self.old self.new) }
+    {
+        if !has_names(holes_for(extended.goal, &extended.arguments)) {
+            return Ok(Request::Describe(extended));
+        }
+        let next = self.look_for_holes(extended)?;
+        Ok(next)
+    }
+
     // What is asked where an exchange has handed this on, or a call begins by it.
     fn look_for(&mut self, extended: Extended) -> Result<Request, Error>
         ensures ok { IfOk result (λ next. (self.new ≡ record self.old { learnt = self.new.learnt }) × LooksFor extended extended.described self.old.learnt next self.new.learnt) }
-        ensures err { IfErr result (λ e. IsUnlooked (Request.Describe extended) self.old self.new e × MayLookFor extended extended.described) }
+        ensures err { IfErr result (λ e. IsUnlookedFor (wanted_by extended extended.described) self.old self.new e × MayLookFor extended extended.described) }
     {
         let Some(described) = &extended.described else {
             return self.look_for_undescribed(extended);
         };
-        let text = self.seek(&extended, described)?;
-        Ok(looked(extended, text))
+        match self.seek(&extended, described)? {
+            Some(text) => Ok(lookup(extended, text)),
+            None => self.look_into(extended),
+        }
     }
 
-    // The same of anything else, which is asked as it is.
+    // What is asked of what is run with types within its arguments.
+    fn look_for_run(&mut self, bound: Bound) -> Result<Request, Error>
+        ensures ok { IfOk result (λ next. (self.new ≡ record self.old { learnt = self.new.learnt }) × LooksNamed bound.is_looked_up bound.arguments.holes (lookup_for (Request.Run bound)) (λ oids. Request.Run (filled_bound oids bound)) self.old.learnt next self.new.learnt) }
+        ensures err { IfErr result (IsUnlookedFor bound.arguments.holes self.old self.new) }
+    {
+        match self.seek_named(bound.is_looked_up, bound.arguments.holes())? {
+            Some(text) => Ok(Request::Fill(Filling { text, bound })),
+            None => {
+                let next = self.filled_bound(bound)?;
+                Ok(next)
+            }
+        }
+    }
+
+    // What is asked of what is run.
+    fn look_for_bound(&mut self, bound: Bound) -> Result<Request, Error>
+        ensures ok { IfOk result (λ next. (self.new ≡ record self.old { learnt = self.new.learnt }) × LooksIn (Request.Run bound) self.old.learnt next self.new.learnt) }
+        ensures err { IfErr result (λ e. IsUnlookedFor bound.arguments.holes self.old self.new e × (bound.arguments.holes ≢ [])) }
+    {
+        if !has_names(bound.arguments.holes()) {
+            return Ok(Request::Run(bound));
+        }
+        let next = self.look_for_run(bound)?;
+        Ok(next)
+    }
+
+    // What is asked of what describes no statement.
+    fn look_up_run(&mut self, told: Request) -> Result<Request, Error>
+        requires { (x : ExtendedOf) → told ≡ Request.Describe x → ⊥ }
+        ensures ok { IfOk result (λ next. (self.new ≡ record self.old { learnt = self.new.learnt }) × LooksIn told self.old.learnt next self.new.learnt) }
+        ensures err { IfErr result (λ e. IsUnlooked told self.old self.new e × MayLook told) }
+    {
+        match told.into_bound() {
+            Ok(bound) => self.look_for_bound(bound),
+            Err(told) => Ok(told),
+        }
+    }
+
+    // The same of anything.
     fn look_up(&mut self, told: Request) -> Result<Request, Error>
         ensures ok { IfOk result (λ next. (self.new ≡ record self.old { learnt = self.new.learnt }) × LooksUp told self.old.learnt next self.new.learnt) }
         ensures err { IfErr result (λ e. IsUnlooked told self.old self.new e × MayLook told) }
     {
         match told.into_extended() {
             Ok(extended) => self.look_for(extended),
-            Err(told) => Ok(told),
+            Err(told) => self.look_up_run(told),
         }
     }
 

@@ -1,7 +1,7 @@
-ghost use Rattle.std.specs.Prelude.{◌≡◌, ℕ, Some, None, slice_get, IfOk, IfErr, OnOk};
+ghost use Rattle.std.specs.Prelude.{◌≡◌, ℕ, Some, None, slice_get, IfOk, IfErr};
 ghost use Rattle.pg_columns.specs.Columns.{IsLastNamed, MissesName, names_of};
 ghost use Rattle.pg_conn.specs.States.{TellsStatement, columns_told};
-ghost use Rattle.pg_request.specs.Asked.{AsksWith, RefusesType, kept_query, missing_type, no_arguments, sent_as};
+ghost use Rattle.pg_request.specs.Asked.{AsksWith, kept_query, no_arguments, sent_as};
 
 use crate::Query;
 use pg_arguments::PgArguments;
@@ -116,12 +116,11 @@ impl PgStatement {
         Query::new(alloc, self.sql())
     }
 
-    /// The same with these arguments. `TypeNotFound` comes exactly where one of their types has no OID, but for want of memory.
+    /// The same with these arguments. Only want of memory refuses it.
     pub fn query_with(&self, alloc: Global, arguments: &PgArguments) -> Result<Query, Error>
         ensures query { IfOk result (λ q. q ≡ kept_query self.now.sql (sent_as arguments.now)) }
         ensures values { IfOk result (λ q. AsksWith arguments.now q.arguments) }
-        ensures known { OnOk result (missing_type arguments.now ≡ None) }
-        ensures cause { IfErr result (RefusesType (missing_type arguments.now)) }
+        ensures memory { IfErr result (λ e. e ≡ Error.OutOfMemory) }
     {
         Query::with(alloc, self.sql(), arguments)
     }

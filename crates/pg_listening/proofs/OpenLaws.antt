@@ -25,7 +25,8 @@ use Rattle.pg_learning.specs.declared.learnt.Seeking.TheVariants as seekings
 use Rattle.pg_learning.specs.Learning.{FailsSeeking, TakesBy}
 use Rattle.pg_conn.specs.Connections.{ConnOf, ConnSeen, begun_with, resolved, seen_by}
 use Rattle.pg_conn.specs.States.{IsCalling, turn_of}
-use Rattle.pg_conn.specs.Turns.{EndsBy, FailsBy, LookFails, PollsBy, PollsOn, PollsWithin}
+use Rattle.pg_conn.specs.Looking.{LookFails}
+use Rattle.pg_conn.specs.Turns.{EndsBy, FailsBy, PollsBy, PollsOn, PollsWithin}
 use Rattle.pg_conn.proofs.StateLaws.{first_calls, last_calls, resolved_calls}
 use Rattle.pg_listening.specs.Listening.{IsOpenPool, NoneClosed, TurnsOpen}
 
@@ -56,9 +57,9 @@ row_closed (seekings.Names asked) values a b place (types, inr (row, is, keeps, 
 row_closed seekings.Nothing values a b place (same, e) = absurd cc
 
 look_closed : (r : Request) (hs : List Frame) (learnt : Learnt) (place : ℕ) → LookFails r hs learnt (errors.PoolClosed place) → ⊥
-look_closed r hs learnt place (lookup, is, inl f) = seeking_closed learnt.seeking place f
-look_closed r hs learnt place (lookup, is, inr (inl (front, values, before, parts, has, takes))) = row_closed before.seeking values before learnt place takes
-look_closed r hs learnt place (lookup, is, inr (inr misses)) = misses
+look_closed r hs learnt place (names, is, inl f) = seeking_closed learnt.seeking place f
+look_closed r hs learnt place (names, is, inr (inl (front, values, before, parts, has, takes))) = row_closed before.seeking values before learnt place takes
+look_closed r hs learnt place (names, is, inr (inr misses)) = misses
 
 -- ---- an exchange
 
