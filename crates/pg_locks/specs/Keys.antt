@@ -1,5 +1,5 @@
 -- Queries with the numbers of a lock's key as their arguments (PostgreSQL manual, "Advisory Lock Functions").
-use Rattle.std.specs.Prelude.{◌≡◌, ℕ, List, [], ◌∷◌, Option, Some}
+use Rattle.std.specs.Prelude.{◌≡◌, ℕ, List, [], ◌∷◌, Option, Some, None}
 use Rattle.pg_arguments.specs.Types.{TypeParts}
 use Rattle.pg_arguments.specs.Builtin.{type_under}
 use Rattle.pg_arguments.specs.Encoded.{Encoded}
@@ -12,8 +12,8 @@ use Rattle.pg_request.specs.Asked.{kept_query}
 
 -- an int8, or two int4, in their binary form
 abbrev pub key_arguments : PgAdvisoryLockKey → ArgumentsSeen
-key_arguments (BigInt number) = record { types = 20 ∷ []; values = Some (signed64_bytes number) ∷ []; names = [] }
-key_arguments (IntPair first second) = record { types = 23 ∷ 23 ∷ []; values = Some (signed32_bytes first) ∷ Some (signed32_bytes second) ∷ []; names = [] }
+key_arguments (BigInt number) = record { types = 20 ∷ []; values = Some (signed64_bytes number) ∷ []; names = []; holes = []; open_in = None }
+key_arguments (IntPair first second) = record { types = 23 ∷ 23 ∷ []; values = Some (signed32_bytes first) ∷ Some (signed32_bytes second) ∷ []; names = []; holes = []; open_in = None }
 
 -- a query of this text with them, whose statement is kept
 abbrev pub with_key : List ℕ → PgAdvisoryLockKey → QueryText

@@ -8,7 +8,7 @@ use Rattle.std.proofs.lemmas.Bool.{ltb-true}
 use Rattle.pg_wire.specs.declared.error.Error.{Error}
 use Rattle.pg_wire.specs.declared.error.Error.TheVariants as errors
 use Rattle.pg_request.specs.Queries.{QueryText}
-use Rattle.pg_request.specs.Asked.{are_numbered, names_in, oids_in, missing_type, sent_as, bytes_of, HasBytesOf, AsksWith, RefusesType, kept_query}
+use Rattle.pg_request.specs.Asked.{are_numbered, names_in, oids_in, sent_as, bytes_of, HasBytesOf, AsksWith, kept_query}
 use Rattle.pg_arguments.specs.Types.{TypeParts, oid_of}
 use Rattle.pg_arguments.specs.Builtin.{builtin_types}
 use Rattle.pg_arguments.specs.Encoded.{Encoded, plain, wires}
@@ -46,19 +46,8 @@ all_bytes : (bounds : List Bound) → bytes_of (map bound_value bounds) ≡ map 
 all_bytes [] = refl
 all_bytes (b ∷ more) = ap (λ (vs : List (Option (List ℕ))). Some (bound_bytes b) ∷ vs) (all_bytes more)
 
-none_missing : (bounds : List Bound) (a : Arguments) → AreBound bounds a → missing_type a ≡ None
-none_missing bounds a h =
-    let closed : a.encoded.holes ≡ [] = ap (λ (e : Encoded). e.holes) h.values.2 ∙ none_open bounds in
-    rw closed refl
-
--- so want of memory alone refuses them
-never_missing : (bounds : List Bound) (a : Arguments) (e : Error) → AreBound bounds a → RefusesType (missing_type a) e → e ≡ errors.OutOfMemory
-never_missing bounds a errors.OutOfMemory h r = refl
-never_missing bounds a (errors.TypeNotFound name) h r = absurd (none_some name (sym (none_missing bounds a h) ∙ r))
-  where
-    none_some : (name : List ℕ) → ◌≡◌ {A = Option (List ℕ)} None (Some name) → ⊥
-    none_some name e = absurd cc
-never_missing bounds a e h r = absurd r
+holes_sent : (bounds : List Bound) (a : Arguments) → AreBound bounds a → a.encoded.holes ≡ []
+holes_sent bounds a h = ap (λ (e : Encoded). e.holes) h.values.2 ∙ none_open bounds
 
 -- ---- the query
 
@@ -67,7 +56,7 @@ query_is bounds sql a q h v e =
     let types : oids_in a.types ≡ map bound_oid bounds = ap oids_in h.types ∙ all_oids bounds in
     let values : HasBytesOf a (sent_as a) = subst (λ (x : QueryText). AsksWith a x.arguments) e v in
     let names : names_in a.types ≡ [] = ap names_in h.types ∙ none_named bounds in
-    rw (e, types, names, values (map bound_value bounds) h.values, all_bytes bounds) refl
+    rw (e, types, names, values (map bound_value bounds) h.values, all_bytes bounds, holes_sent bounds a h) refl
 
 -- ---- one after the other
 
@@ -123,8 +112,8 @@ refuses_bounds sql bounds errors.OutOfMemory r = tt
 refuses_bounds sql bounds (errors.Encode index) r = r
 refuses_bounds sql bounds e r = absurd r
 
-pub refuses_query : (sql : List ℕ) (bounds : List Bound) (a : Arguments) (e : Error) → AreBound bounds a → RefusesType (missing_type a) e → RefusesStatement (Prepared sql bounds) e
-refuses_query sql bounds a e h r = rw (never_missing bounds a e h r) tt
+pub refuses_query : (sql : List ℕ) (bounds : List Bound) (e : Error) → e ≡ errors.OutOfMemory → RefusesStatement (Prepared sql bounds) e
+refuses_query sql bounds e memory = rw memory tt
 
 -- by another name of its text
 pub asks_text : (how : How) (sql given : List ℕ) (bounds : List Bound) (result : Result Request Error) → given ≡ sql → IsRequestOf how 0 (Prepared given bounds) result → IsRequestOf how 0 (Prepared sql bounds) result

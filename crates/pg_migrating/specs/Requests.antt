@@ -30,7 +30,7 @@ bound_bytes (Bytes bytes) = bytes
 
 -- as the server gets them
 abbrev pub arguments_of : List Bound → ArgumentsSeen
-arguments_of bounds = record { types = map bound_oid bounds; values = map (λ b. Some (bound_bytes b)) bounds; names = [] }
+arguments_of bounds = record { types = map bound_oid bounds; values = map (λ b. Some (bound_bytes b)) bounds; names = []; holes = []; open_in = None }
 
 -- and as a caller adds them
 abbrev pub bound_type : Bound → TypeParts

@@ -1,4 +1,5 @@
 -- What is looked up before a call's first exchange: it begins as any other, with what is known then.
+use Rattle.pg_play.proofs.FollowLaws.{first_runs, first_known}
 use Rattle.std.proofs.Common.{◌≡◌, ◌≢◌, ℕ, ◌+◌, ◌-◌, ◌^◌, ◌<◌, ◌≤◌, min, true, false, List, [], ◌∷◌, length, refl, sym, ap, ◌∙◌, subst, arith, Option, Some, None, inl, inr}
 use Rattle.std.specs.List.{AllByRecursion}
 use Rattle.pg_request.specs.declared.naming.Declared.{Declared}
@@ -33,68 +34,113 @@ use Rattle.pg_play.specs.Plays.{StandsAt, begun_at}
 use Rattle.pg_play.specs.Kept.{IsKeptAt, Keeps}
 use Rattle.pg_play.proofs.CalledLaws.{KnownAt, known_none}
 use Rattle.pg_play.proofs.DueLaws.{WithinMost}
-use Rattle.pg_play.proofs.ExchangeLaws.{IsExchange, LeadsTo, before_how, describes_call, exchange_asks, exchange_parts, exchange_polled, looks_or, runs_how, undescribed_asks, undescribed_next}
+use Rattle.pg_play.proofs.ExchangeLaws.{IsExchange, LeadsTo, before_how, exchange_asks, exchange_parts, exchange_polled, looks_or, runs_how, undescribed_asks, undescribed_next, IsReady, IsLooked, described_else, named_call, undescribed_held}
 use Rattle.pg_play.proofs.InTurnLaws.{BeginsAt}
-use Rattle.pg_play.proofs.KeptLaws.{IsHeldFor, IsNumbered, IsSought, IsSound, first_sound}
-use Rattle.pg_play.proofs.ThroughLaws.{looked_stays, named_is}
+use Rattle.pg_play.proofs.KeptLaws.{IsHeldFor, IsNumbered, IsSought, IsSound, first_sound, RunsAt}
+use Rattle.pg_play.proofs.ThroughLaws.{looked_stays, named_is, named_self}
 
--- a statement that isn't described yet
-undescribed_in : (x y : Extended) (names : List Declared) (d : Option Described) → if_named y names d ≡ Some x → d ≡ None
-undescribed_in x y [] d e = absurd cc
-undescribed_in x y (name ∷ names) None e = refl
-undescribed_in x y (name ∷ names) (Some d) e = absurd cc
+-- a statement that isn't described yet, or one that is run
+abbrev IsBefore : Request → Type 0
+IsBefore (requests.Describe x) = x.described ≡ None
+IsBefore (requests.Run bound) = Unit {0}
+IsBefore told = ⊥
 
-named_undescribed : (r : Request) (x : Extended) → named_in r ≡ Some x → x.described ≡ None
-named_undescribed r x e = undescribed_in x x x.arguments.names x.described (sym (ap named_in (named_is r x e)) ∙ e)
+undescribed_in : (r told : Request) (names : List Declared) (d : Option Described) → if_named r names d ≡ Some told → d ≡ None
+undescribed_in r told [] d e = absurd cc
+undescribed_in r told (name ∷ names) None e = refl
+undescribed_in r told (name ∷ names) (Some d) e = absurd cc
+
+named_before : (r told : Request) → named_in r ≡ Some told → IsBefore r
+named_before (requests.Describe x) told e = undescribed_in (requests.Describe x) told x.arguments.names x.described e
+named_before (requests.Run bound) told e = tt
+named_before _ told e = absurd cc
+
+self_asks : (rule : Rule) (told : Request) → IsBefore told → asked_by rule told ≡ told
+self_asks rule (requests.Describe x) e = undescribed_asks rule x e
+self_asks rule (requests.Run bound) e = refl
+self_asks rule _ e = absurd e
+
+self_held : (rule : Rule) (told : Request) → IsBefore told → held_by rule told ≡ rule
+self_held rule (requests.Describe x) e = undescribed_held rule x e
+self_held rule (requests.Run bound) e = refl
+self_held rule _ e = absurd e
+
+self_stands : (told : Request) → IsBefore told → IsExchange told
+self_stands (requests.Describe x) e = tt
+self_stands (requests.Run bound) e = tt
+self_stands _ e = absurd e
+
+-- it isn't described
+ready_none : (told next : Request) → IsBefore told → IsReady told next → ⊥
+ready_none told next e r = described_else r.extended r.extended r.description refl r.described (subst IsBefore r.tells e)
 
 -- what is asked before the exchange that a step begins with
-pub record BeforeFirst (rule : Rule) (d : ℕ) (call : Call) (x : Extended) (next : Request) : Type 0 where
-  pub described : first_call rule call ≡ calls.Describe x
-  pub undescribed : x.described ≡ None
-  pub leads : LeadsTo (requests.Describe x) next
+pub record BeforeFirst (rule : Rule) (d : ℕ) (call : Call) (told next : Request) : Type 0 where
+  pub described : first_call rule call ≡ exchange_for told
+  pub before : IsBefore told
+  pub leads : LeadsTo told next
   pub stands : IsExchange next
   pub same : asked_by rule next ≡ next
   pub held : (k : Rule) → held_by k next ≡ k
   pub parts : parting_of (exchange_for next) ≡ parting_of (first_call rule call)
   pub how : runs_how (exchange_for next) ≡ runs_how (first_call rule call)
 
-asked_same : (rule : Rule) (x : Extended) (next : Request) → x.described ≡ None → LeadsTo (requests.Describe x) next → asked_by rule next ≡ next
-asked_same rule x next e (inl is) = ap (asked_by rule) is ∙ undescribed_asks rule x e ∙ sym is
-asked_same rule x next e (inr (inl l)) = ap (asked_by rule) l.asks ∙ sym l.asks
-asked_same rule x next e (inr (inr f)) = ap (asked_by rule) f.asks ∙ undescribed_asks rule (numbered_by f.oids f.extended) f.undescribed ∙ sym f.asks
+asked_same : (rule : Rule) (told next : Request) → IsBefore told → LeadsTo told next → asked_by rule next ≡ next
+asked_same rule told next e (inl is) = ap (asked_by rule) is ∙ self_asks rule told e ∙ sym is
+asked_same rule told next e (inr (inl l)) = ap (asked_by rule) l.asks ∙ sym l.asks
+asked_same rule told next e (inr (inr (inl f))) = ap (asked_by rule) f.asks ∙ undescribed_asks rule (numbered_by f.oids f.extended) f.undescribed ∙ sym f.asks
+asked_same rule told next e (inr (inr (inr (inl r)))) = absurd (ready_none told next e r)
+asked_same rule told next e (inr (inr (inr (inr (inl f))))) = ap (asked_by rule) f.asks ∙ sym f.asks
+asked_same rule told next e (inr (inr (inr (inr (inr f))))) = ap (asked_by rule) f.asks ∙ sym f.asks
 
-stands_so : (x : Extended) (next : Request) → LeadsTo (requests.Describe x) next → IsExchange next
-stands_so x next (inl is) = subst IsExchange (sym is) tt
-stands_so x next (inr (inl l)) = subst IsExchange (sym l.asks) tt
-stands_so x next (inr (inr f)) = subst IsExchange (sym f.asks) tt
+held_so : (rule : Rule) (told next : Request) → IsBefore told → LeadsTo told next → held_by rule next ≡ rule
+held_so rule told next e (inl is) = ap (held_by rule) is ∙ self_held rule told e
+held_so rule told next e (inr (inl l)) = ap (held_by rule) l.asks
+held_so rule told next e (inr (inr (inl f))) = ap (held_by rule) f.asks ∙ undescribed_held rule (numbered_by f.oids f.extended) f.undescribed
+held_so rule told next e (inr (inr (inr (inl r)))) = absurd (ready_none told next e r)
+held_so rule told next e (inr (inr (inr (inr (inl f))))) = ap (held_by rule) f.asks
+held_so rule told next e (inr (inr (inr (inr (inr f))))) = ap (held_by rule) f.asks
 
-pub before_first : (rule : Rule) (d : ℕ) (call : Call) (x : Extended) (next : Request) (a b : Learnt) → named_in (request_of d (first_call rule call)) ≡ Some x → LooksUp (requests.Describe x) a next b → BeforeFirst rule d call x next
-before_first rule d call x next a b e looks =
+stands_so : (told next : Request) → IsBefore told → LeadsTo told next → IsExchange next
+stands_so told next e (inl is) = subst IsExchange (sym is) (self_stands told e)
+stands_so told next e (inr (inl l)) = subst IsExchange (sym l.asks) tt
+stands_so told next e (inr (inr (inl f))) = subst IsExchange (sym f.asks) tt
+stands_so told next e (inr (inr (inr (inl r)))) = absurd (ready_none told next e r)
+stands_so told next e (inr (inr (inr (inr (inl f))))) = subst IsExchange (sym f.asks) tt
+stands_so told next e (inr (inr (inr (inr (inr f))))) = subst IsExchange (sym f.asks) tt
+
+pub before_first : (rule : Rule) (d : ℕ) (call : Call) (told next : Request) (a b : Learnt) → named_in (request_of d (first_call rule call)) ≡ Some told → LooksUp told a next b → BeforeFirst rule d call told next
+before_first rule d call told next a b e looks =
     let r = request_of d (first_call rule call) in
-    let described = describes_call d (first_call rule call) x (named_is r x e) in
-    let undescribed = named_undescribed r x e in
-    let leads = looks_or (requests.Describe x) next a b looks in
+    let described : first_call rule call ≡ exchange_for told = named_call d (first_call rule call) r told e refl ∙ ap exchange_for (named_is r told e) in
+    let before = named_before told told (named_self r told e) in
+    let leads = looks_or told next a b looks in
     record {
       described = described;
-      undescribed = undescribed;
+      before = before;
       leads = leads;
-      stands = stands_so x next leads;
-      same = asked_same rule x next undescribed leads;
-      held = λ k. undescribed_next k (requests.Describe x) next x refl undescribed leads;
-      parts = exchange_parts next ∙ sym (ap parting_of described);
-      how = before_how x next a b looks ∙ sym (ap runs_how described);
+      stands = stands_so told next before leads;
+      same = asked_same rule told next before leads;
+      held = λ k. held_so k told next before leads;
+      parts = exchange_parts next ∙ sym (ap parting_of described ∙ exchange_parts told);
+      how = before_how told next leads ∙ sym (ap runs_how described);
     }
 
 -- the exchange begins as the first of a call does, on a connection that knows so much
-pub looked_begun : (a : ConnSeen) (r : Request) (x : Extended) (asked next : Request) (learnt : Learnt) (from : ConnSeen) → r ≡ requests.Describe x → asked ≡ asked_by a.rule next → from ≡ resolved (handed next (knowing learnt (begun_call r a))) → LooksUp (requests.Describe x) a.learnt next learnt → held_by a.rule next ≡ a.rule
+pub looked_begun : (a : ConnSeen) (r told asked next : Request) (learnt : Learnt) (from : ConnSeen) → r ≡ told → named_in told ≡ Some told → asked ≡ asked_by a.rule next → from ≡ resolved (handed next (knowing learnt (begun_call r a))) → LooksUp told a.learnt next learnt → held_by a.rule next ≡ a.rule
     → from ≡ begun_call asked (knowing learnt a)
-looked_begun a r x asked next learnt from is asks f looks held =
-    let change : change_for r ≡ change_for (asked_by a.rule next) = ap change_for is ∙ sym (looked_stays a.rule x next a.learnt learnt looks) in
+looked_begun a r told asked next learnt from is named asks f looks held =
+    let change : change_for r ≡ change_for (asked_by a.rule next) = ap change_for is ∙ plain told named ∙ sym (looked_stays a.rule told next a.learnt learnt named looks) in
     f ∙ ap (λ (k : Change). as_begun (asked_by a.rule next) k (held_by a.rule next) (min (0 + 0) (2 ^ 64 - 1))) change
     ∙ ap (λ (k : Rule). as_begun (asked_by a.rule next) (change_for (asked_by a.rule next)) k (min (0 + 0) (2 ^ 64 - 1))) held
     ∙ ap (λ (n : ℕ). as_begun (asked_by a.rule next) (change_for (asked_by a.rule next)) a.rule n) none
     ∙ ap (λ (q : Request). begun_call q (knowing learnt a)) (sym asks)
   where
+    plain : (q : Request) → named_in q ≡ Some told → change_for q ≡ changes.Stays
+    plain (requests.Describe x) n = refl
+    plain (requests.Run bound) n = refl
+    plain _ n = absurd cc
+
     none : min (0 + 0) (2 ^ 64 - 1) ≡ 0
     none = omega arith
 
@@ -140,54 +186,79 @@ stands_so_at start at a learnt st = record {
   requests = st.requests;
 }
 
-abbrev described_of : Request → Option Described
-described_of (requests.Describe x) = x.described
-described_of _ = None
+-- a lookup for a statement that isn't described yet
+before_looked : (told next : Request) → IsBefore told → (l : IsLooked told next) → l.extended.described ≡ None
+before_looked told next e l = subst IsBefore l.tells e
 
-before_sound : (rule : Rule) (x : Extended) (next : Request) → x.described ≡ None → IsNumbered rule x → LeadsTo (requests.Describe x) next → IsSound rule (exchange_for next)
-before_sound rule x next e n (inl is) = subst (λ (r : Request). IsSound rule (exchange_for r)) (sym is) n
-before_sound rule x next e n (inr (inr f)) = subst (λ (r : Request). IsSound rule (exchange_for r)) (sym f.asks) (numbers f.extended f.tells)
+before_sound : (rule : Rule) (told next : Request) → IsBefore told → IsSound rule (exchange_for told) → LeadsTo told next → IsSound rule (exchange_for next)
+before_sound rule told next e n (inl is) = subst (λ (r : Request). IsSound rule (exchange_for r)) (sym is) n
+before_sound rule told next e n (inr (inr (inl f))) =
+    let numbered : IsNumbered rule f.extended = subst (λ (r : Request). IsSound rule (exchange_for r)) f.tells n in
+    subst (λ (r : Request). IsSound rule (exchange_for r)) (sym f.asks) numbered
+before_sound rule told next e n (inr (inr (inr (inl r)))) = absurd (ready_none told next e r)
+before_sound rule told next e n (inr (inr (inr (inr (inl f))))) = subst (λ (r : Request). IsSound rule (exchange_for r)) (sym f.asks) tt
+before_sound rule told next e n (inr (inr (inr (inr (inr f))))) = subst (λ (r : Request). IsSound rule (exchange_for r)) (sym f.asks) tt
+before_sound rule told next e n (inr (inl l)) =
+    let numbered : IsNumbered rule l.extended = subst (λ (r : Request). IsSound rule (exchange_for r)) l.tells n in
+    subst (λ (r : Request). IsSound rule (exchange_for r)) (sym l.asks) (subst (λ (z : Option Described). IsSought rule (record l.extended { is_looked_up = true }) z) (sym (before_looked told next e l)) numbered)
+
+-- a statement that is run stands at the server
+abbrev RunsSo : Place → Request → Type 0
+RunsSo at (requests.Run bound) = RunsAt at bound bound.again
+RunsSo at told = Unit {0}
+
+before_holds : (at : Place) (told next : Request) → IsBefore told → RunsSo at told → LeadsTo told next → IsHeldFor at (exchange_for next)
+before_holds at told next e runs (inl is) = subst (λ (r : Request). IsHeldFor at (exchange_for r)) (sym is) (self told e)
   where
-    numbers : (y : Extended) → requests.Describe x ≡ requests.Describe y → IsNumbered rule y
-    numbers y t = subst (λ (r : Request). IsSound rule (exchange_for r)) t n
-before_sound rule x next e n (inr (inl l)) = subst (λ (r : Request). IsSound rule (exchange_for r)) (sym l.asks) (looks l.extended l.tells)
+    self : (r : Request) → IsBefore r → IsHeldFor at (exchange_for r)
+    self (requests.Describe x) e = tt
+    self (requests.Run bound) e = tt
+    self _ e = absurd e
+before_holds at told next e runs (inr (inr (inl f))) = subst (λ (r : Request). IsHeldFor at (exchange_for r)) (sym f.asks) tt
+before_holds at told next e runs (inr (inr (inr (inl r)))) = absurd (ready_none told next e r)
+before_holds at told next e runs (inr (inr (inr (inr (inl f))))) =
+    let kept : RunsAt at f.bound f.bound.again = subst (RunsSo at) f.tells runs in
+    subst (λ (r : Request). IsHeldFor at (exchange_for r)) (sym f.asks) (so f.bound.again kept)
   where
-    at : (y : Extended) (o : Option Described) → y.described ≡ o → o ≡ None → IsNumbered rule y → IsSound rule (calls.Look (record { text = l.text; extended = record y { is_looked_up = true } }))
-    at y o d u n = subst (λ (z : Option Described). IsSought rule (record y { is_looked_up = true }) z) (sym (d ∙ u)) n
-
-    looks : (y : Extended) → requests.Describe x ≡ requests.Describe y → IsSound rule (calls.Look (record { text = l.text; extended = record y { is_looked_up = true } }))
-    looks y t = at y y.described refl (subst (λ (r : Request). described_of r ≡ None) t e) (subst (λ (r : Request). IsSound rule (exchange_for r)) t n)
-
-before_holds : (at : Place) (x : Extended) (next : Request) → x.described ≡ None → LeadsTo (requests.Describe x) next → IsHeldFor at (exchange_for next)
-before_holds at x next e (inl is) = subst (λ (r : Request). IsHeldFor at (exchange_for r)) (sym is) tt
-before_holds at x next e (inr (inr f)) = subst (λ (r : Request). IsHeldFor at (exchange_for r)) (sym f.asks) tt
-before_holds at x next e (inr (inl l)) = subst (λ (r : Request). IsHeldFor at (exchange_for r)) (sym l.asks) (λ d is numbered. absurd (none_some d (sym (undescribed l.extended l.tells) ∙ is)))
+    so : (o : Option (List ℕ)) → RunsAt at f.bound o → RunsAt at (record f.bound { is_looked_up = f.looked; keeping = f.keeping }) o
+    so (Some sql) k = tt
+    so None k = k
+before_holds at told next e runs (inr (inr (inr (inr (inr f))))) = subst (λ (r : Request). IsHeldFor at (exchange_for r)) (sym f.asks) tt
+before_holds at told next e runs (inr (inl l)) = subst (λ (r : Request). IsHeldFor at (exchange_for r)) (sym l.asks) (λ d is numbered. absurd (none_some d (sym (before_looked told next e l) ∙ is)))
   where
     none_some : (d : Described) → None ≡ Some d → ⊥
     none_some d e = cc
 
-    undescribed : (y : Extended) → requests.Describe x ≡ requests.Describe y → y.described ≡ None
-    undescribed y t = subst (λ (r : Request). described_of r ≡ None) t e
+before_known : (start : StreamSeen) (at : Place) (a : ConnSeen) (told next : Request) → StandsAt start at a → IsBefore told → KnownAt (widths_of told) at → LeadsTo told next → KnownAt (widths_of next) at
+before_known start at a told next st e k (inl is) = subst (λ (r : Request). KnownAt (widths_of r) at) (sym is) k
+before_known start at a told next st e k (inr (inl l)) = subst (λ (r : Request). KnownAt (widths_of r) at) (sym l.asks) (known_none start at a st)
+before_known start at a told next st e k (inr (inr (inl f))) = subst (λ (r : Request). KnownAt (widths_of r) at) (sym f.asks) (known_none start at a st)
+before_known start at a told next st e k (inr (inr (inr (inl r)))) = absurd (ready_none told next e r)
+before_known start at a told next st e k (inr (inr (inr (inr (inl f))))) = subst (λ (r : Request). KnownAt (widths_of r) at) (sym f.asks) (known_none start at a st)
+before_known start at a told next st e k (inr (inr (inr (inr (inr f))))) =
+    let same : KnownAt (widths_of (requests.Run f.bound)) at = subst (λ (r : Request). KnownAt (widths_of r) at) f.tells k in
+    subst (λ (r : Request). KnownAt (widths_of r) at) (sym f.asks) same
 
-before_known : (start : StreamSeen) (at : Place) (a : ConnSeen) (x : Extended) (next : Request) → StandsAt start at a → LeadsTo (requests.Describe x) next → KnownAt (widths_of next) at
-before_known start at a x next st (inl is) = subst (λ (r : Request). KnownAt (widths_of r) at) (sym is) (known_none start at a st)
-before_known start at a x next st (inr (inl l)) = subst (λ (r : Request). KnownAt (widths_of r) at) (sym l.asks) (known_none start at a st)
-before_known start at a x next st (inr (inr f)) = subst (λ (r : Request). KnownAt (widths_of r) at) (sym f.asks) (known_none start at a st)
+runs_before : (at : Place) (call : Call) (told : Request) → Keeps at → first_call at.rule call ≡ exchange_for told → IsBefore told → RunsSo at told
+runs_before at call (requests.Describe x) k is e = tt
+runs_before at call (requests.Run bound) k is e = first_runs at call bound k is
+runs_before at call _ k is e = absurd e
 
-pub begins_before : (start : StreamSeen) (at : Place) (a : ConnSeen) (step : Step) (x : Extended) (next : Request) (learnt : Learnt) → StandsAt start at a → Keeps at → named_in (request_of at.rule.depth (first_call at.rule step.call)) ≡ Some x → LooksUp (requests.Describe x) at.learnt next learnt
+pub begins_before : (start : StreamSeen) (at : Place) (a : ConnSeen) (step : Step) (told next : Request) (learnt : Learnt) → StandsAt start at a → Keeps at → named_in (request_of at.rule.depth (first_call at.rule step.call)) ≡ Some told → LooksUp told at.learnt next learnt
     → BeginsAt start (begun_at at learnt) (knowing learnt a) none_counted (exchange_for next)
-begins_before start at a step x next learnt st k e looks =
-    let first = before_first at.rule at.rule.depth step.call x next at.learnt learnt e looks in
+begins_before start at a step told next learnt st k e looks =
+    let first = before_first at.rule at.rule.depth step.call told next at.learnt learnt e looks in
     let stands = stands_so_at start at a learnt st in
-    let numbered : IsNumbered at.rule x = subst (IsSound at.rule) first.described (first_sound at.rule step.call) in
+    let keeps = keeps_begun at learnt k in
+    let known = subst (λ (r : Request). KnownAt (widths_of r) (begun_at at learnt)) (named_is (request_of at.rule.depth (first_call at.rule step.call)) told e) (first_known start (begun_at at learnt) (knowing learnt a) at.rule.depth step.call stands keeps) in
     record {
       stands = stands;
       polled = (exchange_polled next).0;
-      known = subst (λ (r : Request). KnownAt (widths_of r) (begun_at at learnt)) (sym (exchange_asks at.rule.depth next first.stands)) (before_known start (begun_at at learnt) (knowing learnt a) x next stands first.leads);
+      known = subst (λ (r : Request). KnownAt (widths_of r) (begun_at at learnt)) (sym (exchange_asks at.rule.depth next first.stands)) (before_known start (begun_at at learnt) (knowing learnt a) told next stands first.before known first.leads);
       fits = omega arith;
-      keeps = keeps_begun at learnt k;
-      sound = before_sound at.rule x next first.undescribed numbered first.leads;
-      holds = before_holds (begun_at at learnt) x next first.undescribed first.leads;
+      keeps = keeps;
+      sound = before_sound at.rule told next first.before (subst (IsSound at.rule) first.described (first_sound at.rule step.call)) first.leads;
+      holds = before_holds (begun_at at learnt) told next first.before (runs_before (begun_at at learnt) step.call told keeps first.described first.before) first.leads;
     }
 
 pub dropped_before : (q : Parting) (at : Place) (learnt : Learnt) (step : Step) (out : Outcome) (stop : Place) → IsDroppedAs q (begun_at at learnt) step out stop → IsDroppedAs q at step out stop
@@ -197,7 +268,7 @@ dropped_before partings.Unsaid at learnt step out stop d = tt
 dropped_before (partings.Failed message) at learnt step out stop d = tt
 
 -- and ends duly
-pub duly_looked : (at : Place) (step : Step) (r : Request) (out : Outcome) (stop : Place) (x : Extended) → (IsUnpolled step → ⊥) → (OpensSavepoint at step → ⊥) → at.broken ≡ None → CanBeSaid (requests.Describe x) → named_in r ≡ Some x → (step.call ≡ calls.Flush → r ≡ request_of at.rule.depth (first_call at.rule calls.Flush))
+pub duly_looked : (at : Place) (step : Step) (r : Request) (out : Outcome) (stop : Place) (x : Request) → (IsUnpolled step → ⊥) → (OpensSavepoint at step → ⊥) → at.broken ≡ None → CanBeSaid x → named_in r ≡ Some x → (step.call ≡ calls.Flush → r ≡ request_of at.rule.depth (first_call at.rule calls.Flush))
     → (pending : ℕ) × AnsweredPending out pending × WaitsFew step.polls pending out.end → (waits_to_show step.call ≡ false → WithinMost out.end out.items step.most) → EndsDuly at step r out stop
 duly_looked at step r out stop x n opens whole can e flush few most = record {
   savepoint = λ m o. absurd (opens o);

@@ -148,9 +148,9 @@ BeatStays a c items fs = (items ≡ []) × (fs ≡ []) × (record c { stream = r
 -- what can be said, and has no such type, is asked
 pub not_held_back : (r : Request) → CanBeSaid r → named_in r ≡ None → IsHeldBack r → ⊥
 not_held_back r can none (inl u) = u can
-not_held_back r can none (inr (x, e)) = none_some (sym none ∙ e)
+not_held_back r can none (inr (told, e)) = none_some (sym none ∙ e)
   where
-    none_some : None ≡ Some x → ⊥
+    none_some : None ≡ Some told → ⊥
     none_some e = cc
 
 -- what isn't asked is refused by the beat, which does nothing else
@@ -493,6 +493,7 @@ ends_last : (r : Request) (reply : List BackendMessage) (status : TransactionSta
 ends_last (requests.Describe x) reply status answer e n d = n _ (sym (the_ok _ _ e))
 ends_last (requests.Evict eviction) reply status answer e n d = n _ (sym (the_ok _ _ e))
 ends_last (requests.Look lookup) reply status answer e n d = n _ (sym (the_ok _ _ e))
+ends_last (requests.Fill filling) reply status answer e n d = n _ (sym (the_ok _ _ e))
 ends_last (requests.Run bound) reply status answer e n d = cc
 ends_last _ reply status answer e n d = cc
 
@@ -557,6 +558,7 @@ rows_asked (requests.Describe x) reply status answer e h = refl
 rows_asked (requests.Run bound) reply status answer e h = rw (append-nil (running_bound bound ++ []), append-nil (running_bound bound)) (run_asks (name_of bound.statement) bound.arguments.types bound.arguments.values bound.again)
 rows_asked (requests.Evict eviction) reply status answer e h = refl
 rows_asked (requests.Look lookup) reply status answer e h = refl
+rows_asked (requests.Fill filling) reply status answer e h = refl
 rows_asked requests.Ping reply status answer e h = refl
 rows_asked (requests.Clear statements) reply status answer e h = absurd (units_none answer e h)
 rows_asked (requests.Prepare prepared) reply status answer e h = absurd (tells_none answer (the_ok _ _ e) h)
@@ -754,6 +756,7 @@ main_changes (requests.Evict eviction) = by eviction.after
   where
     by : (after : After) → changes.Stays ≡ change_of (after_kind after)
     by (afters.Run bound) = refl
+    by (afters.Fill filling) = refl
     by (afters.Prepare prepared) = refl
 main_changes (requests.Look lookup) = by lookup.extended.goal
   where
@@ -770,6 +773,7 @@ begun_changes rule (requests.Describe x) w = absurd w
 begun_changes rule (requests.Run bound) w = absurd w
 begun_changes rule (requests.Evict eviction) w = absurd w
 begun_changes rule (requests.Look lookup) w = absurd w
+begun_changes rule (requests.Fill filling) w = absurd w
 begun_changes rule (requests.Clear statements) w = by (nat_eq (length rule.cache.entries) 0)
   where
     by : (b : Bool) → change_of (main_kind (cond b requests.Flush (requests.Clear statements))) ≡ changes.Stays
@@ -799,6 +803,7 @@ first_changes rule r w = by r w (asked_main rule (begun_as rule r)) (asked_chang
     by (requests.Run bound) w main same = absurd w
     by (requests.Evict eviction) w main same = absurd w
     by (requests.Look lookup) w main same = absurd w
+    by (requests.Fill filling) w main same = absurd w
     by (requests.Clear statements) w main same = other (requests.Clear statements) (main_kind (begun_as rule (requests.Clear statements))) refl (clears (nat_eq (length rule.cache.entries) 0) statements) main same
     by (requests.Execute query) w main same = other (requests.Execute query) (kinds.Run hows.Execute) refl (λ e. cc) main same
     by (requests.ExecuteMany query) w main same = other (requests.ExecuteMany query) (kinds.Run hows.ExecuteMany) refl (λ e. cc) main same
@@ -823,6 +828,7 @@ wanted_held rule (requests.Describe x) w = absurd w
 wanted_held rule (requests.Run bound) w = absurd w
 wanted_held rule (requests.Evict eviction) w = absurd w
 wanted_held rule (requests.Look lookup) w = absurd w
+wanted_held rule (requests.Fill filling) w = absurd w
 wanted_held rule (requests.Clear statements) w = by (nat_eq (length rule.cache.entries) 0)
   where
     by : (b : Bool) → held_by rule (cond b requests.Flush (requests.Clear statements)) ≡ rule
@@ -836,6 +842,7 @@ wanted_stays rule (requests.Describe x) w = absurd w
 wanted_stays rule (requests.Run bound) w = absurd w
 wanted_stays rule (requests.Evict eviction) w = absurd w
 wanted_stays rule (requests.Look lookup) w = absurd w
+wanted_stays rule (requests.Fill filling) w = absurd w
 wanted_stays rule (requests.Prepare prepared) w = ap (λ (o : Option (List FieldDescription)). unmoved (keeping_of (prepare_by rule prepared o)) rule) w ∙ by (entry_at prepared.sql rule.cache.entries)
   where
     by : (o : Option Entry) → unmoved (keeping_of (tell_or_describe rule prepared o)) rule ≡ rule

@@ -21,7 +21,6 @@ use Rattle.pg_call.specs.declared.answer.CallItem.TheVariants as call_items
 use Rattle.pg_call.specs.declared.ledger.Ledger.{Ledger}
 use Rattle.pg_exchanges.specs.Expecting.{Widths, BeginsKnowing}
 use Rattle.pg_call.specs.declared.request.Request.TheVariants as requests
-use Rattle.pg_call.specs.declared.statement.Lookup.{Lookup}
 use Rattle.pg_call.specs.Requests.{Group, groups_of, widths_of, heading_of}
 use Rattle.pg_call.specs.Items.{own_items, rows_in}
 use Rattle.pg_call.specs.Drains.{after_readys}
@@ -29,7 +28,8 @@ use Rattle.pg_call.specs.Calls.{Leaves, CallEnds, EndsAstray, IsFrontFault}
 use Rattle.pg_call.proofs.DrainLaws.{count-push, after_from}
 use Rattle.pg_call.proofs.CallLaws.{copies_plain}
 use Rattle.pg_conn.specs.Connections.{ConnSeen}
-use Rattle.pg_conn.specs.Turns.{FrontFails, IsMissed, LookFails}
+use Rattle.pg_conn.specs.Looking.{LookFails}
+use Rattle.pg_conn.specs.Turns.{FrontFails, IsMissed}
 use Rattle.pg_report.specs.declared.outcome.Item.{Item}
 use Rattle.pg_report.specs.declared.outcome.End.{End}
 use Rattle.pg_report.specs.declared.outcome.End.TheVariants as ends
@@ -41,7 +41,7 @@ use Rattle.pg_script.specs.declared.step.Parting.{Parting}
 use Rattle.pg_script.specs.declared.step.Parting.TheVariants as partings
 use Rattle.pg_play.specs.Calls.{IsDroppedAs as HasDroppedAs, IsOpened, Waited, EndsOn, EndsStarved, limits_of, outcome_of, Counted, asking}
 use Rattle.pg_play.specs.Places.{Place, readies, refuses_copy}
-use Rattle.pg_play.specs.Causes.{IsFront, IsUnlawful, ShowsFault, IsAskedToCopy, HasNoRow, Causes, IsStarved, AnsweredPending, FailsToLook, HasOpened, IsDropped, IsDroppedAs, IsParted, HasCause, BeginsNone}
+use Rattle.pg_play.specs.Causes.{IsFront, IsUnlawful, ShowsFault, IsAskedToCopy, HasNoRow, Causes, IsStarved, AnsweredPending, HasOpened, IsDropped, IsDroppedAs, IsParted, HasCause, BeginsNone}
 use Rattle.pg_play.specs.Plays.{StandsAt}
 use Rattle.pg_play.proofs.PartLaws.{no_error}
 use Rattle.pg_play.proofs.StepLaws.{Summary, QueuedOwn, begins_one}
@@ -199,25 +199,14 @@ call_cause start at a b step said fs items items' copied end _ st s h = absurd h
 
 -- ---- a lookup that fails
 
-look_call : (d : ℕ) (call : Call) (lookup : Lookup) → request_of d call ≡ requests.Look lookup → call ≡ calls.Look lookup
-look_call d (calls.Look l) lookup e = let same : l ≡ lookup = cc in ap (λ (x : Lookup). calls.Look x) same
-look_call zero calls.Commit lookup e = absurd cc
-look_call (suc left) calls.Commit lookup e = absurd cc
-look_call zero calls.Rollback lookup e = absurd cc
-look_call (suc left) calls.Rollback lookup e = absurd cc
-look_call d _ lookup e = absurd cc
-
 look_cause : (at : Place) (step : Step) (own : List Group) (slice : List Frame) (next : Place) (e : Error) → LookFails (request_of at.rule.depth step.call) slice next.learnt e → Causes at step own slice next e
-look_cause at step own slice next e h = by e fails (look_errors (request_of at.rule.depth step.call) slice next.learnt e h)
+look_cause at step own slice next e h = by e h (look_errors (request_of at.rule.depth step.call) slice next.learnt e h)
   where
-    fails : FailsToLook step slice next.learnt e
-    fails = (h.0, look_call at.rule.depth step.call h.0 h.1, h.2)
-
-    by : (e : Error) → FailsToLook step slice next.learnt e → IsLookError e → Causes at step own slice next e
+    by : (e : Error) → LookFails (request_of at.rule.depth step.call) slice next.learnt e → IsLookError e → Causes at step own slice next e
     by e f (inl memory) = subst (Causes at step own slice next) (sym memory) tt
-    by e f (inr (inl (oids, is))) = subst (Causes at step own slice next) (sym is) (subst (FailsToLook step slice next.learnt) is f)
-    by e f (inr (inr (inl (place, is)))) = subst (Causes at step own slice next) (sym is) (subst (FailsToLook step slice next.learnt) is f)
-    by e f (inr (inr (inr (name, is)))) = subst (Causes at step own slice next) (sym is) (subst (FailsToLook step slice next.learnt) is f)
+    by e f (inr (inl (oids, is))) = subst (Causes at step own slice next) (sym is) (subst (LookFails (request_of at.rule.depth step.call) slice next.learnt) is f)
+    by e f (inr (inr (inl (place, is)))) = subst (Causes at step own slice next) (sym is) (subst (LookFails (request_of at.rule.depth step.call) slice next.learnt) is f)
+    by e f (inr (inr (inr (name, is)))) = subst (Causes at step own slice next) (sym is) (subst (LookFails (request_of at.rule.depth step.call) slice next.learnt) is f)
 
 -- ---- an end, of whatever kind
 

@@ -33,7 +33,7 @@ use Rattle.pg_play.specs.Causes.{IsAskedToCopy, Causes, IsDropped, IsDroppedAs, 
 use Rattle.pg_play.specs.Complete.{IsFaultless, IsFairError, WasCutShort, IsGivenUp, IsFairEnd, EndFairly, WhereFaultless}
 use Rattle.pg_script.specs.declared.step.Call.{Call}
 use Rattle.pg_rule.specs.declared.rule.Rule.{Rule}
-use Rattle.pg_play.proofs.ExchangeLaws.{IsOf, first_is_of, next_is_of, wants_so, before_is_of, describes_call}
+use Rattle.pg_play.proofs.ExchangeLaws.{IsOf, first_is_of, next_is_of, wants_so, before_is_of, named_call}
 use Rattle.pg_play.proofs.SettleLaws.{left_frames, left_link}
 use Rattle.pg_play.specs.Plays.{Plays_call, Plays_exchange, Plays_exchanges, last_of, FirstIs, Hands, HandsOn, Plays_step, Plays_from, AsksForNoCopy, BeginsAs, begun_at, known_at}
 use Rattle.pg_call.specs.Replies.{awaits_first, awaits_run, begins_copy}
@@ -166,9 +166,9 @@ fair_error first at call step own slice next last (errors.Protocol (protocol.Rep
 fair_error first at call step own slice next last (errors.Protocol (protocol.Caller fault)) part g a b n k c = (at.rule.depth, step.call, part.is_part, c.2)
 fair_error first at call step own slice next last (errors.BeginFailed status) part g a b n k c = (part.opens c.begins_it, c.other)
 fair_error first at call step own slice next last errors.InvalidSavePointStatement part g a b n k c = part.opens_with c.0.0
-fair_error first at call step own slice next last (errors.Protocol (protocol.Types oids)) part g a b n k c = (c.0, subst (IsPartOf call) c.1 part.is_part)
-fair_error first at call step own slice next last (errors.ColumnDecode place) part g a b n k c = (c.0, subst (IsPartOf call) c.1 part.is_part)
-fair_error first at call step own slice next last (errors.TypeNotFound name) part g a b n k c = (c.0, subst (IsPartOf call) c.1 part.is_part)
+fair_error first at call step own slice next last (errors.Protocol (protocol.Types oids)) part g a b n k c = (at.rule.depth, step.call, c.0, part.is_part, c.1)
+fair_error first at call step own slice next last (errors.ColumnDecode place) part g a b n k c = (at.rule.depth, step.call, c.0, part.is_part, c.1)
+fair_error first at call step own slice next last (errors.TypeNotFound name) part g a b n k c = (at.rule.depth, step.call, c.0, part.is_part, c.1)
 fair_error first at call step own slice next last errors.RowNotFound part g a b n k c = part.wants (wants_so step.call c.wants)
 fair_error first at call step own slice next last _ part g a b n k c = absurd c
 
@@ -239,11 +239,13 @@ are_of call at (s ∷ steps) (o ∷ outs) last run rule end asks of h k =
     (mine, are_of call run.0 steps outs last run.2 run.0.rule o.end run.1.settles.asks (λ part e c. next_is_of run.0.rule call s.call part run.1.call.told.response mine (comes_behind at s o run.0 run.1 part e c)) k.0 k.1)
 
 -- the first exchange, or what comes before it
-begins_of : (at : Place) (step : Step) (o : Option Extended) (groups : ℕ) (call : Call) (known learnt : Learnt) → named_in (request_of at.rule.depth (first_call at.rule step.call)) ≡ o → BeginsAs o (first_call at.rule step.call) known groups call learnt → IsOf step.call call
+begins_of : (at : Place) (step : Step) (o : Option Request) (groups : ℕ) (call : Call) (known learnt : Learnt) → named_in (request_of at.rule.depth (first_call at.rule step.call)) ≡ o → BeginsAs o (first_call at.rule step.call) known groups call learnt → IsOf step.call call
 begins_of at step None groups call known learnt n (same, l) = subst (IsOf step.call) (sym same) (first_is_of at.rule step.call)
 begins_of at step (Some x) groups call known learnt n (inl (same, l, g)) = subst (IsOf step.call) (sym same) (first_is_of at.rule step.call)
-begins_of at step (Some x) groups call known learnt n (inr (next, looks, is)) =
-    subst (IsOf step.call) (sym is) (before_is_of at.rule step.call x next known learnt (describes_call at.rule.depth (first_call at.rule step.call) x (named_is (request_of at.rule.depth (first_call at.rule step.call)) x n)) looks)
+begins_of at step (Some told) groups call known learnt n (inr (next, looks, is)) =
+    let r = request_of at.rule.depth (first_call at.rule step.call) in
+    let first : first_call at.rule step.call ≡ exchange_for told = named_call at.rule.depth (first_call at.rule step.call) r told n refl ∙ ap exchange_for (named_is r told n) in
+    subst (IsOf step.call) (sym is) (before_is_of at.rule step.call told next known learnt first looks)
 
 all_are_of : (step : Step) (origin : Place) (out : Outcome) (learnt : Learnt) (at : Place) (steps : List Step) (outs : List Outcome) (last : Place) (run : Plays_exchanges at steps outs last) → FirstIs origin step out learnt steps → HandsOn at steps outs last run → AreOf step.call steps
 all_are_of step origin out learnt at [] outs last run f k = tt

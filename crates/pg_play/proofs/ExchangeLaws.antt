@@ -15,6 +15,8 @@ use Rattle.pg_call.specs.declared.kind.Keeping.TheVariants as keepings
 use Rattle.pg_call.specs.declared.statement.Extended.{Extended}
 use Rattle.pg_call.specs.declared.statement.Described.{Described}
 use Rattle.pg_call.specs.declared.statement.Eviction.{Eviction}
+use Rattle.pg_call.specs.declared.statement.Bound.{Bound}
+use Rattle.pg_call.specs.declared.statement.Filling.{Filling}
 use Rattle.pg_call.specs.declared.statement.Lookup.{Lookup}
 use Rattle.pg_call.specs.declared.statement.After.{After}
 use Rattle.pg_call.specs.declared.statement.After.TheVariants as afters
@@ -23,7 +25,8 @@ use Rattle.pg_call.specs.declared.request.Request.TheVariants as requests
 use Rattle.pg_call.specs.declared.answer.CallAnswer.TheVariants as answers
 use Rattle.pg_call.specs.declared.statement.Goal.{Goal}
 use Rattle.pg_call.specs.declared.statement.Goal.TheVariants as goals
-use Rattle.pg_call.specs.Requests.{kind_of, groups_of, numbered_by, request_behind, behind_goal}
+use Rattle.pg_call.specs.Requests.{kind_of, groups_of, numbered_by, request_behind, behind_goal, bound_by, bound_for, filled_bound, filled_for, looked_behind}
+use Rattle.pg_request.specs.Asked.{filled}
 use Rattle.pg_call.specs.Items.{parameters_after}
 use Rattle.pg_rule.specs.declared.cache.Entry.{Entry}
 use Rattle.pg_rule.specs.declared.rule.Rule.{Rule}
@@ -31,7 +34,7 @@ use Rattle.pg_rule.specs.Caches.{entry_at}
 use Rattle.pg_rule.specs.Rules.{holding}
 use Rattle.pg_learning.specs.declared.learnt.Learnt.{Learnt}
 use Rattle.pg_learning.specs.Naming.{oids_under}
-use Rattle.pg_conn.specs.Looking.{IsNumbered, LooksFor, LooksNamed, LooksUp, looked, no_text}
+use Rattle.pg_conn.specs.Looking.{IsFound as IsFoundBy, LooksAny, LooksFor, LooksIn, LooksInto, LooksUp, MayLook, holes_for, lookup_for, named_in, vain_lookup}
 use Rattle.pg_conn.specs.Statements.{asked_by, begun_as, behind_description, by_leaving, entry_of, held_behind, held_by, leaving, prepare_by, query_by, run_or_describe, tell_or_describe}
 use Rattle.pg_conn.specs.States.{to_prepare}
 use Rattle.pg_call.specs.Calls.{answer_by}
@@ -49,6 +52,7 @@ IsExchange (requests.Describe x) = Unit {0}
 IsExchange (requests.Run bound) = Unit {0}
 IsExchange (requests.Evict eviction) = Unit {0}
 IsExchange (requests.Look lookup) = Unit {0}
+IsExchange (requests.Fill filling) = Unit {0}
 IsExchange (requests.Prepare prepared) = Unit {0}
 IsExchange (requests.Clear statements) = Unit {0}
 IsExchange requests.Flush = Unit {0}
@@ -59,6 +63,7 @@ exchange_asks d (requests.Describe x) h = refl
 exchange_asks d (requests.Run bound) h = refl
 exchange_asks d (requests.Evict eviction) h = refl
 exchange_asks d (requests.Look lookup) h = refl
+exchange_asks d (requests.Fill filling) h = refl
 exchange_asks d (requests.Prepare prepared) h = refl
 exchange_asks d (requests.Clear statements) h = refl
 exchange_asks d requests.Flush h = refl
@@ -70,6 +75,7 @@ exchange_polled (requests.Describe x) = (refl, refl, refl, refl)
 exchange_polled (requests.Run bound) = (refl, refl, refl, refl)
 exchange_polled (requests.Evict eviction) = (refl, refl, refl, refl)
 exchange_polled (requests.Look lookup) = (refl, refl, refl, refl)
+exchange_polled (requests.Fill filling) = (refl, refl, refl, refl)
 exchange_polled (requests.Prepare prepared) = (refl, refl, refl, refl)
 exchange_polled (requests.Clear statements) = (refl, refl, refl, refl)
 exchange_polled _ = (refl, refl, refl, refl)
@@ -159,6 +165,7 @@ kept_first f n rule (calls.Describe x) = n.exchanges requests.Flush ∙ sym (n.e
 kept_first f n rule (calls.Run bound) = n.exchanges requests.Flush ∙ sym (n.exchanges (requests.Run bound))
 kept_first f n rule (calls.Evict eviction) = n.exchanges requests.Flush ∙ sym (n.exchanges (requests.Evict eviction))
 kept_first f n rule (calls.Look lookup) = n.exchanges requests.Flush ∙ sym (n.exchanges (requests.Look lookup))
+kept_first f n rule (calls.Fill filling) = n.exchanges requests.Flush ∙ sym (n.exchanges (requests.Fill filling))
 kept_first f n rule (calls.Tell prepared) = n.exchanges requests.Flush ∙ sym (n.exchanges (requests.Prepare prepared))
 kept_first f n rule (calls.CloseAll statements) = n.exchanges requests.Flush ∙ sym (n.exchanges (requests.Clear statements))
 kept_first f n rule _ = refl
@@ -199,6 +206,7 @@ exchange_parts (requests.Describe x) = refl
 exchange_parts (requests.Run bound) = refl
 exchange_parts (requests.Evict eviction) = refl
 exchange_parts (requests.Look lookup) = refl
+exchange_parts (requests.Fill filling) = refl
 exchange_parts (requests.Prepare prepared) = refl
 exchange_parts (requests.Clear statements) = refl
 exchange_parts _ = refl
@@ -227,12 +235,14 @@ goal_how goals.Prepare = None
 
 abbrev after_how : After → Option How
 after_how (afters.Run bound) = Some bound.how
+after_how (afters.Fill filling) = Some filling.bound.how
 after_how (afters.Prepare prepared) = None
 
 abbrev pub runs_how : Call → Option How
 runs_how (calls.Describe x) = goal_how x.goal
 runs_how (calls.Evict eviction) = after_how eviction.after
 runs_how (calls.Look lookup) = goal_how lookup.extended.goal
+runs_how (calls.Fill filling) = Some filling.bound.how
 runs_how call = how_of call
 
 how_by : (rule : Rule) (how : How) (query : QueryText) (o : Option ArgumentsSeen) (call : Call) → runs_how call ≡ Some how → runs_how (first_as rule how query o call) ≡ Some how
@@ -288,24 +298,27 @@ pub shows_how : (call : Call) → waits_how (runs_how call) ≡ false → waits_
 shows_how (calls.Describe x) w = refl
 shows_how (calls.Evict eviction) w = refl
 shows_how (calls.Look lookup) w = refl
+shows_how (calls.Fill filling) w = refl
 shows_how _ w = w
 
 pub wants_so : (call : Call) → wants_row call ≡ true → wants_how (runs_how call) ≡ true
 wants_so (calls.Describe x) w = absurd cc
 wants_so (calls.Evict eviction) w = absurd cc
 wants_so (calls.Look lookup) w = absurd cc
+wants_so (calls.Fill filling) w = absurd cc
 wants_so _ w = w
 
 -- ---- the one behind it
 
 -- what hands on describes a statement, or closes one, or looks something up
 abbrev pub HandsBy : Call → Type 0
-HandsBy call = ((x : Extended) × (call ≡ calls.Describe x)) ⊎ (((e : Eviction) × (call ≡ calls.Evict e)) ⊎ ((l : Lookup) × (call ≡ calls.Look l)))
+HandsBy call = ((x : Extended) × (call ≡ calls.Describe x)) ⊎ (((e : Eviction) × (call ≡ calls.Evict e)) ⊎ (((l : Lookup) × (call ≡ calls.Look l)) ⊎ ((f : Filling) × (call ≡ calls.Fill f))))
 
 pub hands_by : (d : ℕ) (call : Call) → kind_of (request_of d call) ≡ kinds.Describe → HandsBy call
 hands_by d (calls.Describe x) k = inl (x, refl)
 hands_by d (calls.Evict e) k = inr (inl (e, refl))
-hands_by d (calls.Look l) k = inr (inr (l, refl))
+hands_by d (calls.Look l) k = inr (inr (inl (l, refl)))
+hands_by d (calls.Fill f) k = inr (inr (inr (f, refl)))
 hands_by zero calls.Commit k = absurd cc
 hands_by (suc left) calls.Commit k = absurd cc
 hands_by zero calls.Rollback k = absurd cc
@@ -323,14 +336,18 @@ handed_so d call reply status next e = by call (hands_by d call (hands_on_descri
     by call (inr (inl (v, is))) e =
         let k = subst (λ (c : Call). answer_by (request_of d c) reply status ≡ Ok (answers.Next next)) is e in
         ap (λ (c : Call). handed_by c reply) is ∙ (next_is (requests.Evict v) reply status next k).1
-    by call (inr (inr (l, is))) e =
+    by call (inr (inr (inl (l, is)))) e =
         let k = subst (λ (c : Call). answer_by (request_of d c) reply status ≡ Ok (answers.Next next)) is e in
         ap (λ (c : Call). handed_by c reply) is ∙ (next_is (requests.Look l) reply status next k).1
+    by call (inr (inr (inr (f, is)))) e =
+        let k = subst (λ (c : Call). answer_by (request_of d c) reply status ≡ Ok (answers.Next next)) is e in
+        ap (λ (c : Call). handed_by c reply) is ∙ (next_is (requests.Fill f) reply status next k).1
 
 -- ---- what comes behind
 
 behind_exchange : (a : After) → IsExchange (request_behind a)
 behind_exchange (afters.Run bound) = tt
+behind_exchange (afters.Fill filling) = tt
 behind_exchange (afters.Prepare prepared) = tt
 
 -- what a description hands on
@@ -353,6 +370,7 @@ told_exchange rule x d = by (nat_eq x.statement 0) (option_map (λ (e : Entry). 
 
 after_exchange : (rule : Rule) (a : After) → IsExchange (asked_by rule (request_behind a))
 after_exchange rule (afters.Run bound) = tt
+after_exchange rule (afters.Fill filling) = tt
 after_exchange rule (afters.Prepare prepared) = by prepared.columns
   where
     by : (o : Option (List FieldDescription)) → IsExchange (prepare_by rule (record prepared { declared = None }) o)
@@ -390,6 +408,7 @@ described_held rule x = by x.described refl
 
 after_held : (rule : Rule) (a : After) → asked_by (held_by rule (request_behind a)) (request_behind a) ≡ asked_by rule (request_behind a)
 after_held rule (afters.Run bound) = refl
+after_held rule (afters.Fill filling) = refl
 after_held rule (afters.Prepare prepared) = refl
 
 -- what was handed on is an exchange, by what is known before it and behind it
@@ -403,6 +422,7 @@ hands_so rule (calls.Describe x) reply next e =
     subst (HandsSo rule) (same_Some (requests.Describe (record x { described = Some d })) next e) (record { stands = told_exchange rule x d; same = told_held rule x d })
 hands_so rule (calls.Evict v) reply next e = subst (HandsSo rule) (same_Some (request_behind v.after) next e) (record { stands = after_exchange rule v.after; same = after_held rule v.after })
 hands_so rule (calls.Look l) reply next e = subst (HandsSo rule) (same_Some (requests.Describe l.extended) next e) (record { stands = described_exchange rule l.extended; same = described_held rule l.extended })
+hands_so rule (calls.Fill f) reply next e = subst (HandsSo rule) (same_Some (requests.Run (looked_behind f.bound)) next e) (record { stands = tt; same = refl })
 hands_so rule _ reply next e = absurd cc
 
 -- ---- what is looked up before it
@@ -429,44 +449,123 @@ pub record IsFound (told next : Request) : Type 0 where
   pub undescribed : extended.described ≡ None
   pub asks : next ≡ requests.Describe (numbered_by oids extended)
 
+-- a described statement, once it is known what is asked within its arguments
+pub record IsReady (told next : Request) : Type 0 where
+  pub extended : Extended
+  pub description : Described
+  pub arguments : ArgumentsSeen
+  pub filling : Option (List ℕ)
+  pub tells : told ≡ requests.Describe extended
+  pub described : extended.described ≡ Some description
+  pub asks : next ≡ requests.Describe (record extended { arguments = arguments; filling = filling })
+
+-- a lookup for the arguments of what is run
+pub record IsFilling (told next : Request) : Type 0 where
+  pub bound : Bound
+  pub text : List ℕ
+  pub looked : Bool
+  pub keeping : Keeping
+  pub tells : told ≡ requests.Run bound
+  pub asks : next ≡ requests.Fill (record { text = text; bound = record bound { is_looked_up = looked; keeping = keeping } })
+
+-- what is run, once the OIDs within its arguments are known
+pub record IsFilled (told next : Request) : Type 0 where
+  pub bound : Bound
+  pub oids : List ℕ
+  pub tells : told ≡ requests.Run bound
+  pub asks : next ≡ requests.Run (filled_bound oids bound)
+
 -- so this is asked where that was handed on
 abbrev pub LeadsTo : Request → Request → Type 0
-LeadsTo told next = (next ≡ told) ⊎ (IsLooked told next ⊎ IsFound told next)
+LeadsTo told next = (next ≡ told) ⊎ (IsLooked told next ⊎ (IsFound told next ⊎ (IsReady told next ⊎ (IsFilling told next ⊎ IsFilled told next))))
+
+-- one of these in turn
+abbrev leads_looked : {told next : Request} → IsLooked told next → LeadsTo told next
+leads_looked l = inr (inl l)
+
+abbrev leads_found : {told next : Request} → IsFound told next → LeadsTo told next
+leads_found f = inr (inr (inl f))
+
+abbrev leads_ready : {told next : Request} → IsReady told next → LeadsTo told next
+leads_ready r = inr (inr (inr (inl r)))
+
+abbrev leads_filling : {told next : Request} → IsFilling told next → LeadsTo told next
+leads_filling f = inr (inr (inr (inr (inl f))))
+
+abbrev leads_filled : {told next : Request} → IsFilled told next → LeadsTo told next
+leads_filled f = inr (inr (inr (inr (inr f))))
+
+any_leads : (looked : Bool) (names : List Declared) (told : Request) (looks knows : List ℕ → Request) (a b : Learnt) (next : Request) → ((text : List ℕ) → next ≡ looks text → LeadsTo told next) → ((oids : List ℕ) → next ≡ knows oids → LeadsTo told next)
+    → LooksAny looked names told looks knows a next b → LeadsTo told next
+any_leads looked [] told looks knows a b next l k h = inl h.0
+any_leads looked (name ∷ names) told looks knows a b next l k (text, seeks, h) = by text h
+  where
+    by : (text : Option (List ℕ)) → IsFoundBy (name ∷ names) looks knows b text next → LeadsTo told next
+    by (Some text) h = l text h
+    by None h = k (oids_under b.types (name ∷ names)) h.1
 
 pub looks_or : (told next : Request) (a b : Learnt) → LooksUp told a next b → LeadsTo told next
-looks_or (requests.Describe x) next a b h = by x.described refl h
+looks_or told next a b (inl h) = by told h
   where
-    by_text : (text : Option (List ℕ)) → next ≡ looked x text → LeadsTo (requests.Describe x) next
-    by_text None is = inl is
-    by_text (Some text) is = inr (inl (record { extended = x; text = text; tells = refl; asks = is }))
+    for : (x : Extended) (o : Option Described) → x.described ≡ o → LooksFor x o a next b → LeadsTo (requests.Describe x) next
+    for x None e h =
+        any_leads x.is_looked_up x.arguments.names (requests.Describe x) (lookup_for (requests.Describe x)) (λ (oids : List ℕ). requests.Describe (numbered_by oids x)) a b next
+        (λ text is. leads_looked (record { extended = x; text = text; tells = refl; asks = is }))
+        (λ oids is. leads_found (record { extended = x; oids = oids; tells = refl; undescribed = e; asks = is })) h
+    for x (Some d) e (text, m, seeks, h) = into text h
+      where
+        into : (text : Option (List ℕ)) → LooksInto x text m next b → LeadsTo (requests.Describe x) next
+        into (Some text) h = leads_looked (record { extended = x; text = text; tells = refl; asks = h.0 })
+        into None h =
+            any_leads false (holes_for x.goal x.arguments) (requests.Describe x) (λ (text : List ℕ). requests.Describe (record x { filling = Some text })) (λ (oids : List ℕ). requests.Describe (filled_for oids x)) m b next
+            (λ text is. leads_ready (record { extended = x; description = d; arguments = x.arguments; filling = Some text; tells = refl; described = e; asks = is }))
+            (λ oids is. leads_ready (record { extended = x; description = d; arguments = filled oids x.arguments; filling = x.filling; tells = refl; described = e; asks = is })) h
 
-    found : (text : Option (List ℕ)) → x.described ≡ None → IsNumbered x b text next → LeadsTo (requests.Describe x) next
-    found None e h = inr (inr (record { extended = x; oids = oids_under b.types x.arguments.names; tells = refl; undescribed = e; asks = h.1 }))
-    found (Some text) e h = by_text (Some text) h
-
-    named : (names : List Declared) → x.described ≡ None → LooksNamed x names a next b → LeadsTo (requests.Describe x) next
-    named [] e h = inl h.0
-    named (name ∷ names) e (inl (text, seeks, is)) = found text e is
-    named (name ∷ names) e (inr h) = by_text (Some no_text) h.0
-
-    by : (o : Option Described) → x.described ≡ o → LooksFor x o a next b → LeadsTo (requests.Describe x) next
-    by None e h = named x.arguments.names e h
-    by (Some d) e (inl (text, seeks, is)) = by_text text is
-    by (Some d) e (inr h) = by_text (Some no_text) h.0
-looks_or _ next a b h = inl h.0
+    by : (told : Request) → LooksIn told a next b → LeadsTo told next
+    by (requests.Describe x) h = for x x.described refl h
+    by (requests.Run bound) h =
+        any_leads bound.is_looked_up bound.arguments.holes (requests.Run bound) (lookup_for (requests.Run bound)) (λ (oids : List ℕ). requests.Run (filled_bound oids bound)) a b next
+        (λ text is. leads_filling (record { bound = bound; text = text; looked = bound.is_looked_up; keeping = bound.keeping; tells = refl; asks = is }))
+        (λ oids is. leads_filled (record { bound = bound; oids = oids; tells = refl; asks = is })) h
+    by _ h = inl h.0
+looks_or told next a b (inr (may, is, types, tables)) = by told may is
+  where
+    by : (told : Request) → MayLook told → next ≡ vain_lookup told → LeadsTo told next
+    by (requests.Describe x) may is = leads_looked (record { extended = x; text = []; tells = refl; asks = is })
+    by (requests.Run bound) may is = leads_filling (record { bound = bound; text = []; looked = true; keeping = keepings.Stays; tells = refl; asks = is })
+    by _ may is = absurd may
 
 looks_so : (rule : Rule) (told next : Request) → LeadsTo told next → HandsSo rule told → HandsSo rule next
 looks_so rule told next (inl same) h = subst (HandsSo rule) (sym same) h
 looks_so rule told next (inr (inl l)) h = subst (HandsSo rule) (sym l.asks) (record { stands = tt; same = refl })
-looks_so rule told next (inr (inr f)) h =
+looks_so rule told next (inr (inr (inl f))) h =
     let x = numbered_by f.oids f.extended in
     subst (HandsSo rule) (sym f.asks) (record { stands = described_exchange rule x; same = described_held rule x })
+looks_so rule told next (inr (inr (inr (inl r)))) h =
+    let x = record r.extended { arguments = r.arguments; filling = r.filling } in
+    subst (HandsSo rule) (sym r.asks) (record { stands = described_exchange rule x; same = described_held rule x })
+looks_so rule told next (inr (inr (inr (inr (inl f))))) h = subst (HandsSo rule) (sym f.asks) (record { stands = tt; same = refl })
+looks_so rule told next (inr (inr (inr (inr (inr f))))) h = subst (HandsSo rule) (sym f.asks) (record { stands = tt; same = refl })
+
+-- a description that is told is another one than one that isn't
+pub described_else : (x y : Extended) (d : Described) → requests.Describe x ≡ requests.Describe y → x.described ≡ Some d → y.described ≡ None → ⊥
+described_else x y d e some none = differs (sym some ∙ ap described_of e ∙ none)
+  where
+    described_of : Request → Option Described
+    described_of (requests.Describe z) = z.described
+    described_of _ = None
+
+    differs : ◌≡◌ {A = Option Described} (Some d) None → ⊥
+    differs e = cc
 
 -- what isn't described yet is held neither as it is handed on nor as it is asked
 pub undescribed_next : (rule : Rule) (told next : Request) (x : Extended) → told ≡ requests.Describe x → x.described ≡ None → LeadsTo told next → held_by rule next ≡ rule
 undescribed_next rule told next x tells e (inl same) = ap (held_by rule) (same ∙ tells) ∙ undescribed_held rule x e
 undescribed_next rule told next x tells e (inr (inl l)) = ap (held_by rule) l.asks
-undescribed_next rule told next x tells e (inr (inr f)) = ap (held_by rule) f.asks ∙ undescribed_held rule (numbered_by f.oids f.extended) f.undescribed
+undescribed_next rule told next x tells e (inr (inr (inl f))) = ap (held_by rule) f.asks ∙ undescribed_held rule (numbered_by f.oids f.extended) f.undescribed
+undescribed_next rule told next x tells e (inr (inr (inr (inl r)))) = absurd (described_else r.extended x r.description (sym r.tells ∙ tells) r.described e)
+undescribed_next rule told next x tells e (inr (inr (inr (inr (inl f))))) = ap (held_by rule) f.asks
+undescribed_next rule told next x tells e (inr (inr (inr (inr (inr f))))) = ap (held_by rule) f.asks
 
 -- What comes behind an exchange of one group asks what was handed on, or what is looked up for it, wherever it begins, and is polled.
 pub record NextIs (rule : Rule) (d : ℕ) (call : Call) (reply : List BackendMessage) (told next : Request) : Type 0 where
@@ -495,16 +594,25 @@ what_is_next rule d call reply status told next a b e looks =
     one_group : (call : Call) → HandsBy call → length (groups_of (request_of d call)) ≡ 1
     one_group call (inl (x, is)) = ap (λ (c : Call). length (groups_of (request_of d c))) is
     one_group call (inr (inl (v, is))) = ap (λ (c : Call). length (groups_of (request_of d c))) is
-    one_group call (inr (inr (l, is))) = ap (λ (c : Call). length (groups_of (request_of d c))) is
+    one_group call (inr (inr (inl (l, is)))) = ap (λ (c : Call). length (groups_of (request_of d c))) is
+    one_group call (inr (inr (inr (f, is)))) = ap (λ (c : Call). length (groups_of (request_of d c))) is
 
 -- it is of the same query, and opens nothing
-goal_behind : (goal : Goal) (x : Extended) (d : Described) (keeping : Keeping) → runs_how (exchange_for (request_behind (behind_goal goal x d keeping))) ≡ goal_how goal
-goal_behind (goals.Run how) x d keeping = refl
-goal_behind goals.Prepare x d keeping = refl
+bound_how : (filling : Option (List ℕ)) (bound : Bound) → after_how (bound_by filling bound) ≡ Some bound.how
+bound_how None bound = refl
+bound_how (Some text) bound = refl
 
 after_goal : (goal : Goal) (x : Extended) (d : Described) (keeping : Keeping) → after_how (behind_goal goal x d keeping) ≡ goal_how goal
-after_goal (goals.Run how) x d keeping = refl
+after_goal (goals.Run how) x d keeping = bound_how x.filling (bound_for how x d keeping)
 after_goal goals.Prepare x d keeping = refl
+
+behind_how : (a : After) → runs_how (exchange_for (request_behind a)) ≡ after_how a
+behind_how (afters.Run bound) = refl
+behind_how (afters.Fill filling) = refl
+behind_how (afters.Prepare prepared) = refl
+
+goal_behind : (goal : Goal) (x : Extended) (d : Described) (keeping : Keeping) → runs_how (exchange_for (request_behind (behind_goal goal x d keeping))) ≡ goal_how goal
+goal_behind goal x d keeping = behind_how (behind_goal goal x d keeping) ∙ after_goal goal x d keeping
 
 told_how : (rule : Rule) (x : Extended) (d : Described) → runs_how (exchange_for (asked_by rule (requests.Describe (record x { described = Some d })))) ≡ goal_how x.goal
 told_how rule x d = by (nat_eq x.statement 0) (option_map (λ (e : Entry). e.statement) (leaving rule))
@@ -529,6 +637,7 @@ described_how rule x = by x.described refl
 
 evicted_how : (rule : Rule) (a : After) → runs_how (exchange_for (asked_by rule (request_behind a))) ≡ after_how a
 evicted_how rule (afters.Run bound) = refl
+evicted_how rule (afters.Fill filling) = refl
 evicted_how rule (afters.Prepare prepared) = by prepared.columns
   where
     by : (o : Option (List FieldDescription)) → runs_how (exchange_for (prepare_by rule (record prepared { declared = None }) o)) ≡ None
@@ -543,6 +652,7 @@ handed_how : (rule : Rule) (call : Call) (response : List BackendMessage) (told 
 handed_how rule (calls.Describe x) response told e = ap (λ (r : Request). runs_how (exchange_for (asked_by rule r))) (sym (same_Some _ told e)) ∙ told_how rule x (record { parameters = parameters_after [] response; columns = Some (described response) })
 handed_how rule (calls.Evict v) response told e = ap (λ (r : Request). runs_how (exchange_for (asked_by rule r))) (sym (same_Some _ told e)) ∙ evicted_how rule v.after
 handed_how rule (calls.Look l) response told e = ap (λ (r : Request). runs_how (exchange_for (asked_by rule r))) (sym (same_Some _ told e)) ∙ described_how rule l.extended
+handed_how rule (calls.Fill f) response told e = ap (λ (r : Request). runs_how (exchange_for (asked_by rule r))) (sym (same_Some _ told e))
 handed_how rule _ response told e = absurd cc
 
 pub next_how : (rule : Rule) (call : Call) (response : List BackendMessage) (part : Call) → ComesBehind rule call response part → runs_how part ≡ runs_how call
@@ -554,7 +664,10 @@ next_how rule call response part (told, a, b, next, handed, looks, is) = ap runs
     by : LeadsTo told next → how next ≡ how told
     by (inl same) = ap how same
     by (inr (inl l)) = ap how l.asks ∙ sym (ap how l.tells ∙ described_how rule l.extended)
-    by (inr (inr f)) = ap how f.asks ∙ described_how rule (numbered_by f.oids f.extended) ∙ sym (ap how f.tells ∙ described_how rule f.extended)
+    by (inr (inr (inl f))) = ap how f.asks ∙ described_how rule (numbered_by f.oids f.extended) ∙ sym (ap how f.tells ∙ described_how rule f.extended)
+    by (inr (inr (inr (inl r)))) = ap how r.asks ∙ described_how rule (record r.extended { arguments = r.arguments; filling = r.filling }) ∙ sym (ap how r.tells ∙ described_how rule r.extended)
+    by (inr (inr (inr (inr (inl f))))) = ap how f.asks ∙ sym (ap how f.tells)
+    by (inr (inr (inr (inr (inr f))))) = ap how f.asks ∙ sym (ap how f.tells)
 
 -- no exchange of a copy from the client comes behind another
 pub next_parts : (rule : Rule) (call : Call) (response : List BackendMessage) (part : Call) → ComesBehind rule call response part → parting_of part ≡ parting_of call
@@ -564,6 +677,7 @@ next_parts rule call response part (told, a, b, next, handed, looks, is) = ap pa
     by (calls.Describe x) e = refl
     by (calls.Evict v) e = refl
     by (calls.Look l) e = refl
+    by (calls.Fill filling) e = refl
     by _ e = absurd cc
 
 next_begins : (rule : Rule) (call : Call) (response : List BackendMessage) (part : Call) → ComesBehind rule call response part → (begins part ≡ false) × (begins_with part ≡ false) × (copies part ≡ false)
@@ -589,8 +703,8 @@ first_is_of rule call = record {
   copies = λ b. sym (first_copies rule call) ∙ b;
 }
 
--- a description stands as one
-pub describes_call : (d : ℕ) (call : Call) (x : Extended) → request_of d call ≡ requests.Describe x → call ≡ calls.Describe x
+-- what is looked up before it stands as an exchange
+describes_call : (d : ℕ) (call : Call) (x : Extended) → request_of d call ≡ requests.Describe x → call ≡ calls.Describe x
 describes_call d call x is = by (hands_by d call (ap kind_of is)) is
   where
     same : (y : Extended) → requests.Describe y ≡ requests.Describe x → calls.Describe y ≡ calls.Describe x
@@ -602,32 +716,46 @@ describes_call d call x is = by (hands_by d call (ap kind_of is)) is
     looks : (l : Lookup) → requests.Look l ≡ requests.Describe x → ⊥
     looks l e = cc
 
+    fills : (f : Filling) → requests.Fill f ≡ requests.Describe x → ⊥
+    fills f e = cc
+
     by : HandsBy call → request_of d call ≡ requests.Describe x → call ≡ calls.Describe x
     by (inl (y, c)) e = c ∙ same y (sym (ap (request_of d) c) ∙ e)
     by (inr (inl (v, c))) e = absurd (closes v (sym (ap (request_of d) c) ∙ e))
-    by (inr (inr (l, c))) e = absurd (looks l (sym (ap (request_of d) c) ∙ e))
+    by (inr (inr (inl (l, c)))) e = absurd (looks l (sym (ap (request_of d) c) ∙ e))
+    by (inr (inr (inr (f, c)))) e = absurd (fills f (sym (ap (request_of d) c) ∙ e))
+
+runs_call : (d : ℕ) (call : Call) (bound : Bound) → request_of d call ≡ requests.Run bound → call ≡ calls.Run bound
+runs_call d (calls.Run b) bound e = let same : b ≡ bound = cc in ap (λ (x : Bound). calls.Run x) same
+runs_call zero calls.Commit bound e = absurd cc
+runs_call (suc left) calls.Commit bound e = absurd cc
+runs_call zero calls.Rollback bound e = absurd cc
+runs_call (suc left) calls.Rollback bound e = absurd cc
+runs_call d _ bound e = absurd cc
+
+pub named_call : (d : ℕ) (call : Call) (r told : Request) → named_in r ≡ Some told → request_of d call ≡ r → call ≡ exchange_for r
+named_call d call (requests.Describe x) told n e = describes_call d call x e
+named_call d call (requests.Run bound) told n e = runs_call d call bound e
+named_call d call _ told n e = absurd cc
 
 -- what comes before it is of the same query
-pub before_how : (x : Extended) (next : Request) (a b : Learnt) → LooksUp (requests.Describe x) a next b → runs_how (exchange_for next) ≡ goal_how x.goal
-before_how x next a b looks = by (looks_or (requests.Describe x) next a b looks)
-  where
-    same : (y : Extended) → requests.Describe x ≡ requests.Describe y → goal_how y.goal ≡ goal_how x.goal
-    same y e = ap (λ (r : Request). runs_how (exchange_for r)) (sym e)
+pub before_how : (told next : Request) → LeadsTo told next → runs_how (exchange_for next) ≡ runs_how (exchange_for told)
+before_how told next (inl is) = ap (λ (r : Request). runs_how (exchange_for r)) is
+before_how told next (inr (inl l)) = ap (λ (r : Request). runs_how (exchange_for r)) l.asks ∙ sym (ap (λ (r : Request). runs_how (exchange_for r)) l.tells)
+before_how told next (inr (inr (inl f))) = ap (λ (r : Request). runs_how (exchange_for r)) f.asks ∙ sym (ap (λ (r : Request). runs_how (exchange_for r)) f.tells)
+before_how told next (inr (inr (inr (inl r)))) = ap (λ (q : Request). runs_how (exchange_for q)) r.asks ∙ sym (ap (λ (q : Request). runs_how (exchange_for q)) r.tells)
+before_how told next (inr (inr (inr (inr (inl f))))) = ap (λ (r : Request). runs_how (exchange_for r)) f.asks ∙ sym (ap (λ (r : Request). runs_how (exchange_for r)) f.tells)
+before_how told next (inr (inr (inr (inr (inr f))))) = ap (λ (r : Request). runs_how (exchange_for r)) f.asks ∙ sym (ap (λ (r : Request). runs_how (exchange_for r)) f.tells)
 
-    by : LeadsTo (requests.Describe x) next → runs_how (exchange_for next) ≡ goal_how x.goal
-    by (inl is) = ap (λ (r : Request). runs_how (exchange_for r)) is
-    by (inr (inl l)) = ap (λ (r : Request). runs_how (exchange_for r)) l.asks ∙ same l.extended l.tells
-    by (inr (inr f)) = ap (λ (r : Request). runs_how (exchange_for r)) f.asks ∙ same f.extended f.tells
-
-pub before_is_of : (rule : Rule) (call : Call) (x : Extended) (next : Request) (a b : Learnt) → first_call rule call ≡ calls.Describe x → LooksUp (requests.Describe x) a next b → IsOf call (exchange_for next)
-before_is_of rule call x next a b is looks =
+pub before_is_of : (rule : Rule) (call : Call) (told next : Request) (a b : Learnt) → first_call rule call ≡ exchange_for told → LooksUp told a next b → IsOf call (exchange_for next)
+before_is_of rule call told next a b is looks =
     let none = exchange_polled next in
     record {
-      is_part = (0, (rule, inr (x, a, b, next, is, looks, refl)));
+      is_part = (0, (rule, inr (told, a, b, next, is, looks, refl)));
       opens = λ k. let y = sym none.1 ∙ k in absurd cc;
       opens_with = λ k. let y = sym none.2 ∙ k in absurd cc;
       copies = λ k. let y = sym none.3 ∙ k in absurd cc;
-      wants = λ w. first_wants rule call (ap (λ (c : Call). wants_how (runs_how c)) is ∙ ap wants_how (sym (before_how x next a b looks)) ∙ w);
+      wants = λ w. first_wants rule call (ap (λ (c : Call). wants_how (runs_how c)) is ∙ ap wants_how (sym (before_how told next (looks_or told next a b looks))) ∙ w);
     }
 
 pub next_is_of : (rule : Rule) (call part next : Call) (response : List BackendMessage) → IsOf call part → ComesBehind rule part response next → IsOf call next

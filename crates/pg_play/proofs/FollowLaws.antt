@@ -1,5 +1,6 @@
 -- What is so of the exchange that comes next: what it knows of its statement, and what may be held of it.
-use Rattle.std.proofs.Common.{◌≡◌, ◌-◌, Ok, ℕ, zero, suc, ◌+◌, ◌<◌, nat_eq, Bool, true, false, cond, ◌&&◌, List, [], ◌∷◌, ◌++◌, length, map, subst, refl, sym, ap, ◌∙◌, arith, append_assoc, Option, Some, None, option_map, inl, inr, bytes_eq}
+use Rattle.pg_call.specs.declared.statement.Filling.{Filling}
+use Rattle.std.proofs.Common.{◌≡◌, ◌-◌, Ok, ℕ, zero, suc, ◌+◌, ◌<◌, nat_eq, Bool, true, false, cond, ◌&&◌, List, [], ◌∷◌, ◌++◌, length, map, subst, refl, sym, ap, ◌∙◌, arith, append_assoc, Option, Some, None, option_map, inl, inr, bytes_eq, ◌||◌, is_some, unwrap_or, option_to_list, ap₂, IsSome}
 use Rattle.std.specs.List.{AllByRecursion}
 use Rattle.std.proofs.lemmas.Option.{same_Some}
 use Rattle.pg_wire.specs.Frame.{Frame}
@@ -14,7 +15,7 @@ use Rattle.pg_exchanges.specs.Answering.{described}
 use Rattle.pg_rule.specs.declared.cache.Entry.{Entry}
 use Rattle.pg_rule.specs.declared.rule.Rule.{Rule}
 use Rattle.pg_rule.specs.Caches.{entry_at}
-use Rattle.pg_rule.specs.Rules.{kept}
+use Rattle.pg_rule.specs.Rules.{kept, holding}
 use Rattle.pg_rule.proofs.OrderLaws.{found_has}
 use Rattle.pg_request.specs.Queries.{QueryText, ArgumentsSeen}
 use Rattle.pg_call.specs.declared.kind.How.{How}
@@ -37,11 +38,11 @@ use Rattle.pg_call.specs.declared.answer.CallItem.{CallItem}
 use Rattle.pg_call.specs.declared.answer.CallAnswer.TheVariants as answers
 use Rattle.pg_call.specs.Calls.{EndsFine}
 use Rattle.pg_call.proofs.FitLaws.{hands_on_described, next_is}
-use Rattle.pg_call.specs.Requests.{is_parsed_again, known as known_under, parsed_again, width_by, said_in, widths_of, Group, name_of, groups_of, behind_goal, numbered_by, request_behind}
+use Rattle.pg_call.specs.Requests.{is_parsed_again, known as known_under, parsed_again, width_by, said_in, widths_of, Group, name_of, groups_of, behind_goal, numbered_by, request_behind, bound_by, bound_for, looked_behind}
 use Rattle.pg_call.specs.Items.{parameters_after}
 use Rattle.pg_call.specs.Drains.{after_readys}
 use Rattle.pg_conn.specs.Connections.{ConnSeen}
-use Rattle.pg_conn.specs.Statements.{asked_by, behind_description, by_leaving, entry_of, held_by, leaving, prepare_by, run_or_describe, tell_or_describe}
+use Rattle.pg_conn.specs.Statements.{asked_by, behind_description, by_leaving, entry_of, held_by, leaving, prepare_by, run_or_describe, tell_or_describe, query_by, held_behind}
 use Rattle.pg_report.specs.declared.outcome.Answer.TheVariants.{Unit as AnswersUnit}
 use Rattle.pg_report.specs.declared.outcome.End.TheVariants as ends
 use Rattle.pg_script.specs.declared.step.Call.{Call}
@@ -58,7 +59,7 @@ use Rattle.pg_play.proofs.CalledLaws.{KnownAt, known_none}
 use Rattle.pg_play.proofs.ExchangeLaws.{HandsBy, IsLooked, LeadsTo, hands_by, told_by, undescribed_asks, undescribed_held}
 use Rattle.pg_play.proofs.NameLaws.{each_known, named_nothing}
 use Rattle.pg_play.proofs.NextLaws.{after_further, described_known}
-use Rattle.pg_play.proofs.KeptLaws.{CanHold, CanHoldTold, ClosesNone, IsAfter, IsHeldFor, IsLooking, IsSought, held_after_close, looked_holds, spares_asked}
+use Rattle.pg_play.proofs.KeptLaws.{CanHold, CanHoldTold, ClosesNone, IsAfter, IsHeldFor, IsLooking, IsSought, held_after_close, looked_holds, spares_asked, RunsAt, runs_holds, IsKeptFirst, told_whole, IsToldWhole, IsToldFor, WasDescribed, IsSound}
 
 -- ---- what is known of a statement that is kept
 
@@ -116,6 +117,7 @@ first_known start at a d _ st k = known_none start at a st
 -- what comes behind a close knows the columns of its statement
 after_known : (start : StreamSeen) (at : Place) (a : ConnSeen) (after : After) → StandsAt start at a → Keeps at → IsAfter at.rule after → KnownAt (widths_of (request_behind after)) at
 after_known start at a (afters.Prepare prepared) st k h = known_none start at a st
+after_known start at a (afters.Fill filling) st k h = known_none start at a st
 after_known start at a (afters.Run bound) st k (e, others, is, same, columns) = by bound.again
   where
     known : KnownAt ((name_of e.statement, length e.columns) ∷ []) at
@@ -126,6 +128,11 @@ after_known start at a (afters.Run bound) st k (e, others, is, same, columns) = 
     by None =
         subst (λ (n : ℕ). KnownAt (known_under (name_of n) (option_map (λ (c : List FieldDescription). length c) bound.columns)) at) (sym same)
         (subst (λ (o : Option (List FieldDescription)). KnownAt (known_under (name_of e.statement) (option_map (λ (c : List FieldDescription). length c) o)) at) (sym columns) known)
+
+-- what is run knows no more, and a lookup before that knows nothing
+bound_known : (filling : Option (List ℕ)) (bound : Bound) (at : Place) → KnownAt (widths_of (requests.Run bound)) at → KnownAt [] at → KnownAt (widths_of (request_behind (bound_by filling bound))) at
+bound_known None bound at k none = k
+bound_known (Some text) bound at k none = none
 
 -- so does what comes behind a description, where its columns are known or it is prepared once more
 told_known : (rule : Rule) (x : Extended) (d : Described) (at : Place) → (is_parsed_again x ≡ false → KnownAt (known_under (name_of x.statement) (option_map (λ (c : List FieldDescription). length c) d.columns)) at) → KnownAt [] at → KnownAt (widths_of (asked_by rule (requests.Describe (record x { described = Some d })))) at
@@ -139,7 +146,7 @@ told_known rule x d at k none = by (nat_eq x.statement 0) (option_map (λ (e : E
     again false e = k e
 
     runs : (goal : Goal) (keeping : Keeping) → KnownAt (widths_of (request_behind (behind_goal goal x' d keeping))) at
-    runs (goals.Run how) keeping = again (is_parsed_again x) refl
+    runs (goals.Run how) keeping = bound_known x.filling (bound_for how x' d keeping) at (again (is_parsed_again x) refl) none
     runs goals.Prepare keeping = none
 
     closes : (o : Option ℕ) → KnownAt (widths_of (by_leaving x' d o)) at
@@ -152,6 +159,7 @@ told_known rule x d at k none = by (nat_eq x.statement 0) (option_map (λ (e : E
 
 closed_known : (rule : Rule) (at : Place) (a : After) → KnownAt (widths_of (request_behind a)) at → KnownAt [] at → KnownAt (widths_of (asked_by rule (request_behind a))) at
 closed_known rule at (afters.Run bound) k none = k
+closed_known rule at (afters.Fill filling) k none = k
 closed_known rule at (afters.Prepare prepared) k none = by prepared.columns
   where
     by : (o : Option (List FieldDescription)) → KnownAt (widths_of (prepare_by rule (record prepared { declared = None }) o)) at
@@ -190,7 +198,7 @@ known_looked rule start next c x st s h =
 
     known : is_parsed_again x ≡ false → KnownAt (known_under (name_of x.statement) (option_map (λ (cs : List FieldDescription). length cs) s.was.description.columns)) next
     known e =
-        let has : nat_eq x.statement 0 ≡ false = sym (ap (λ (b : Bool). b && nat_eq x.statement 0) s.looked) ∙ e in
+        let has : nat_eq x.statement 0 ≡ false = sym (ap (λ (b : Bool). (b || is_some x.filling) && nat_eq x.statement 0) s.looked) ∙ e in
         subst (λ (o : Option (List FieldDescription)). KnownAt (known_under (name_of x.statement) (option_map (λ (cs : List FieldDescription). length cs) o)) next) (sym s.was.columns)
         (known_kept start next c (entry_of x s.was.description) st (named x.statement has) (h s.was.description s.was.is has))
 
@@ -202,11 +210,19 @@ known_sought : (rule : Rule) (start : StreamSeen) (next : Place) (c : ConnSeen) 
 known_sought rule start next c old x None e st s h = known_undescribed rule start next c x e st
 known_sought rule start next c old x (Some d) e st s h = known_looked rule start next c x st s h
 
+-- and what is run behind a lookup knows the columns of its statement
+runs_known : (start : StreamSeen) (at : Place) (a : ConnSeen) (bound : Bound) (o : Option (List ℕ)) → StandsAt start at a → RunsAt at bound o → KnownAt (known_under (name_of bound.statement) (width_by o bound.columns)) at
+runs_known start at a bound (Some sql) st h = known_none start at a st
+runs_known start at a bound None st (e, same, columns, positive, kept) =
+    subst (λ (n : ℕ). KnownAt (known_under (name_of n) (option_map (λ (c : List FieldDescription). length c) bound.columns)) at) (sym same)
+    (subst (λ (o : Option (List FieldDescription)). KnownAt (known_under (name_of e.statement) (option_map (λ (c : List FieldDescription). length c) o)) at) (sym columns) (known_of start at a e st (positive, kept)))
+
 -- what the exchange knows that is handed on
 handed_known : (rule : Rule) (start : StreamSeen) (at next : Place) (a c : ConnSeen) (d : ℕ) (call : Call) (after : Request) (said : List FrontendMessage) (slice : List Frame) (items : List CallItem) → StandsAt start at a → StandsAt start next c → Keeps next → next.groups ≡ at.groups ++ groups_of (request_of d call) → heard next.frames ≡ heard at.frames ++ slice
     → ((v : Eviction) → call ≡ calls.Evict v → IsAfter next.rule v.after) → ((l : Lookup) → call ≡ calls.Look l → IsSought at.rule l.extended l.extended.described × ((t : Described) → l.extended.described ≡ Some t → nat_eq l.extended.statement 0 ≡ false → IsKeptAt next (entry_of l.extended t)))
+    → ((f : Filling) → call ≡ calls.Fill f → RunsAt next f.bound f.bound.again)
     → EndsFine a.ledger (request_of d call) said slice items c.ledger (Ok (answers.Next after)) → KnownAt (widths_of (asked_by rule after)) next
-handed_known rule start at next a c d call after said slice items st st' k groups frames evicts looks e =
+handed_known rule start at next a c d call after said slice items st st' k groups frames evicts looks fills e =
     by (hands_by d call (hands_on_described (request_of d call) e.0.reply e.0.status after e.1))
   where
     by : HandsBy call → KnownAt (widths_of (asked_by rule after)) next
@@ -216,21 +232,86 @@ handed_known rule start at next a c d call after said slice items st st' k group
     by (inr (inl (v, is))) =
         known_closed rule start at next a c v after said slice items st' k (evicts v is)
         (subst (λ (y : Call). EndsFine a.ledger (request_of d y) said slice items c.ledger (Ok (answers.Next after))) is e)
-    by (inr (inr (l, is))) =
+    by (inr (inr (inl (l, is)))) =
         let fine = subst (λ (y : Call). EndsFine a.ledger (request_of d y) said slice items c.ledger (Ok (answers.Next after))) is e in
         let told : requests.Describe l.extended ≡ after = same_Some (requests.Describe l.extended) after (next_is (requests.Look l) fine.0.reply fine.0.status after fine.1).1 in
         let h = looks l is in
         subst (λ (r : Request). KnownAt (widths_of (asked_by rule r)) next) told (known_sought rule start next c at.rule l.extended l.extended.described refl st' h.0 h.1)
+    by (inr (inr (inr (f, is)))) =
+        let fine = subst (λ (y : Call). EndsFine a.ledger (request_of d y) said slice items c.ledger (Ok (answers.Next after))) is e in
+        let told : requests.Run (looked_behind f.bound) ≡ after = same_Some (requests.Run (looked_behind f.bound)) after (next_is (requests.Fill f) fine.0.reply fine.0.status after fine.1).1 in
+        subst (λ (r : Request). KnownAt (widths_of (asked_by rule r)) next) told (runs_known start next c f.bound f.bound.again st' (fills f is))
+
+-- a description that was told, once it is known what is asked within its arguments
+abbrev readied : ArgumentsSeen → Option (List ℕ) → Request → Request
+readied arguments filling (requests.Describe x) = requests.Describe (record x { arguments = arguments; filling = filling })
+readied arguments filling told = told
+
+after_readied : (arguments : ArgumentsSeen) (filling : Option (List ℕ)) (a : After) → readied arguments filling (request_behind a) ≡ request_behind a
+after_readied arguments filling (afters.Run bound) = refl
+after_readied arguments filling (afters.Fill f) = refl
+after_readied arguments filling (afters.Prepare prepared) = refl
+
+-- so it knows as much
+ready_known : (arguments : ArgumentsSeen) (filling : Option (List ℕ)) (rule : Rule) (start : StreamSeen) (at next : Place) (a c : ConnSeen) (d : ℕ) (call : Call) (after : Request) (said : List FrontendMessage) (slice : List Frame) (items : List CallItem) → StandsAt start at a → StandsAt start next c → Keeps next → next.groups ≡ at.groups ++ groups_of (request_of d call) → heard next.frames ≡ heard at.frames ++ slice
+    → ((v : Eviction) → call ≡ calls.Evict v → IsAfter next.rule v.after) → ((l : Lookup) → call ≡ calls.Look l → IsSought at.rule l.extended l.extended.described × ((t : Described) → l.extended.described ≡ Some t → nat_eq l.extended.statement 0 ≡ false → IsKeptAt next (entry_of l.extended t)))
+    → ((f : Filling) → call ≡ calls.Fill f → RunsAt next f.bound f.bound.again)
+    → EndsFine a.ledger (request_of d call) said slice items c.ledger (Ok (answers.Next after)) → KnownAt (widths_of (asked_by rule (readied arguments filling after))) next
+ready_known arguments filling rule start at next a c d call after said slice items st st' k groups frames evicts looks fills e =
+    by (hands_by d call (hands_on_described (request_of d call) e.0.reply e.0.status after e.1))
+  where
+    by : HandsBy call → KnownAt (widths_of (asked_by rule (readied arguments filling after))) next
+    by (inl (x, is)) =
+        let fine = subst (λ (y : Call). EndsFine a.ledger (request_of d y) said slice items c.ledger (Ok (answers.Next after))) is e in
+        let told : told_by x fine.0.reply ≡ after = same_Some (told_by x fine.0.reply) after (next_is (requests.Describe x) fine.0.reply fine.0.status after fine.1).1 in
+        let known = described_known start at next a c x said slice items st st' (groups ∙ ap (λ (y : Call). at.groups ++ groups_of (request_of d y)) is) frames fine.0 in
+        subst (λ (r : Request). KnownAt (widths_of (asked_by rule (readied arguments filling r))) next) told
+        (told_known rule (record x { arguments = arguments; filling = filling }) (record { parameters = parameters_after [] fine.0.reply; columns = Some (described fine.0.reply) }) next (λ o. known) (known_none start next c st'))
+    by (inr (inl (v, is))) =
+        let fine = subst (λ (y : Call). EndsFine a.ledger (request_of d y) said slice items c.ledger (Ok (answers.Next after))) is e in
+        let told : request_behind v.after ≡ after = same_Some (request_behind v.after) after (next_is (requests.Evict v) fine.0.reply fine.0.status after fine.1).1 in
+        subst (λ (r : Request). KnownAt (widths_of (asked_by rule r)) next) (sym (after_readied arguments filling v.after) ∙ ap (readied arguments filling) told) (closed_known rule next v.after (after_known start next c v.after st' k (evicts v is)) (known_none start next c st'))
+    by (inr (inr (inl (l, is)))) =
+        let fine = subst (λ (y : Call). EndsFine a.ledger (request_of d y) said slice items c.ledger (Ok (answers.Next after))) is e in
+        let told : requests.Describe l.extended ≡ after = same_Some (requests.Describe l.extended) after (next_is (requests.Look l) fine.0.reply fine.0.status after fine.1).1 in
+        let h = looks l is in
+        let y : Extended = record l.extended { arguments = arguments; filling = filling } in
+        subst (λ (r : Request). KnownAt (widths_of (asked_by rule (readied arguments filling r))) next) told (sought_known l.extended y refl refl refl refl h.0 h.1)
+      where
+        sought_known : (x y : Extended) → y.described ≡ x.described → y.statement ≡ x.statement → y.sql ≡ x.sql → y.is_looked_up ≡ x.is_looked_up → IsSought at.rule x x.described → ((t : Described) → x.described ≡ Some t → nat_eq x.statement 0 ≡ false → IsKeptAt next (entry_of x t)) → KnownAt (widths_of (asked_by rule (requests.Describe y))) next
+        sought_known x y d n q u s h = for x.described refl s
+          where
+            entries : (t : Described) → entry_of x t ≡ entry_of y t
+            entries t = ap₂ (λ (sql : List ℕ) (number : ℕ). record { sql = sql; statement = number; parameters = t.parameters; columns = unwrap_or t.columns [] }) (sym q) (sym n)
+
+            for : (o : Option Described) → x.described ≡ o → IsSought at.rule x o → KnownAt (widths_of (asked_by rule (requests.Describe y))) next
+            for None e s = known_undescribed rule start next c y (d ∙ e) st'
+            for (Some t) e s =
+                known_looked rule start next c y st' (record { was = record { description = s.was.description; is = d ∙ s.was.is; columns = s.was.columns }; looked = u ∙ s.looked })
+                (λ v is z. subst (IsKeptAt next) (entries v) (h v (sym d ∙ is) (ap (λ (k : ℕ). nat_eq k 0) (sym n) ∙ z)))
+    by (inr (inr (inr (f, is)))) =
+        let fine = subst (λ (y : Call). EndsFine a.ledger (request_of d y) said slice items c.ledger (Ok (answers.Next after))) is e in
+        let told : requests.Run (looked_behind f.bound) ≡ after = same_Some (requests.Run (looked_behind f.bound)) after (next_is (requests.Fill f) fine.0.reply fine.0.status after fine.1).1 in
+        subst (λ (r : Request). KnownAt (widths_of (asked_by rule (readied arguments filling r))) next) told (runs_known start next c f.bound f.bound.again st' (fills f is))
 
 -- and the one that is asked next
 pub known_next : (rule : Rule) (start : StreamSeen) (at next : Place) (a c : ConnSeen) (d : ℕ) (call : Call) (told asked : Request) (said : List FrontendMessage) (slice : List Frame) (items : List CallItem) → StandsAt start at a → StandsAt start next c → Keeps next → next.groups ≡ at.groups ++ groups_of (request_of d call) → heard next.frames ≡ heard at.frames ++ slice
     → ((v : Eviction) → call ≡ calls.Evict v → IsAfter next.rule v.after) → ((l : Lookup) → call ≡ calls.Look l → IsSought at.rule l.extended l.extended.described × ((t : Described) → l.extended.described ≡ Some t → nat_eq l.extended.statement 0 ≡ false → IsKeptAt next (entry_of l.extended t)))
+    → ((f : Filling) → call ≡ calls.Fill f → RunsAt next f.bound f.bound.again)
     → EndsFine a.ledger (request_of d call) said slice items c.ledger (Ok (answers.Next told)) → LeadsTo told asked → KnownAt (widths_of (asked_by rule asked)) next
-known_next rule start at next a c d call told asked said slice items st st' k groups frames evicts looks e (inl same) =
-    subst (λ (r : Request). KnownAt (widths_of (asked_by rule r)) next) (sym same) (handed_known rule start at next a c d call told said slice items st st' k groups frames evicts looks e)
-known_next rule start at next a c d call told asked said slice items st st' k groups frames evicts looks e (inr (inl l)) =
+known_next rule start at next a c d call told asked said slice items st st' k groups frames evicts looks fills e (inl same) =
+    subst (λ (r : Request). KnownAt (widths_of (asked_by rule r)) next) (sym same) (handed_known rule start at next a c d call told said slice items st st' k groups frames evicts looks fills e)
+known_next rule start at next a c d call told asked said slice items st st' k groups frames evicts looks fills e (inr (inl l)) =
     subst (λ (r : Request). KnownAt (widths_of (asked_by rule r)) next) (sym l.asks) (known_none start next c st')
-known_next rule start at next a c d call told asked said slice items st st' k groups frames evicts looks e (inr (inr f)) =
+known_next rule start at next a c d call told asked said slice items st st' k groups frames evicts looks fills e (inr (inr (inr (inl r)))) =
+    subst (λ (q : Request). KnownAt (widths_of (asked_by rule q)) next) (ap (readied r.arguments r.filling) r.tells ∙ sym r.asks)
+    (ready_known r.arguments r.filling rule start at next a c d call told said slice items st st' k groups frames evicts looks fills e)
+known_next rule start at next a c d call told asked said slice items st st' k groups frames evicts looks fills e (inr (inr (inr (inr (inl f))))) =
+    subst (λ (r : Request). KnownAt (widths_of (asked_by rule r)) next) (sym f.asks) (known_none start next c st')
+known_next rule start at next a c d call told asked said slice items st st' k groups frames evicts looks fills e (inr (inr (inr (inr (inr f))))) =
+    subst (λ (r : Request). KnownAt (widths_of (asked_by rule r)) next) (sym f.asks)
+    (subst (λ (r : Request). KnownAt (widths_of (asked_by rule r)) next) f.tells (handed_known rule start at next a c d call told said slice items st st' k groups frames evicts looks fills e))
+known_next rule start at next a c d call told asked said slice items st st' k groups frames evicts looks fills e (inr (inr (inl f))) =
     subst (λ (r : Request). KnownAt (widths_of (asked_by rule r)) next) (sym f.asks) (known_undescribed rule start next c (numbered_by f.oids f.extended) f.undescribed st')
 
 -- a close leaves the statement among those that are kept for which it came
@@ -245,57 +326,207 @@ closes_known at next call v own response told asked is s handed looks e =
     by : LeadsTo told asked → held_by (kept at.rule) asked ≡ kept at.rule
     by (inl same) = ap (held_by (kept at.rule)) (same ∙ behind) ∙ held_after_close (kept at.rule) v.after
     by (inr (inl l)) = ap (held_by (kept at.rule)) l.asks
-    by (inr (inr f)) = ap (held_by (kept at.rule)) f.asks ∙ undescribed_held (kept at.rule) (numbered_by f.oids f.extended) f.undescribed
+    by (inr (inr (inl f))) = ap (held_by (kept at.rule)) f.asks ∙ undescribed_held (kept at.rule) (numbered_by f.oids f.extended) f.undescribed
+    by (inr (inr (inr (inl r)))) = absurd (after_else v.after r.extended (sym behind ∙ r.tells))
+      where
+        after_else : (a : After) (x : Extended) → request_behind a ≡ requests.Describe x → ⊥
+        after_else (afters.Run bound) x e = cc
+        after_else (afters.Fill filling) x e = cc
+        after_else (afters.Prepare prepared) x e = cc
+    by (inr (inr (inr (inr (inl f))))) = ap (held_by (kept at.rule)) f.asks
+    by (inr (inr (inr (inr (inr f))))) = ap (held_by (kept at.rule)) f.asks
 
 -- ---- what something is looked up for may be held
 
--- what is asked of what was handed on is one of these
-asked_each : (Q : Request → Type 0) → ((b : Bound) → Q (requests.Run b)) → ((p : Prepared) → Q (requests.Prepare p)) → ((v : Eviction) → Q (requests.Evict v)) → ((x : Extended) → Q (requests.Describe x))
-    → (rule : Rule) (call : Call) (reply : List BackendMessage) (told : Request) → handed_by call reply ≡ Some told → Q (asked_by rule told)
-asked_each Q run tell close describe rule call reply told e = by call e
+-- a named statement has a number
+positive : (n : ℕ) → nat_eq n 0 ≡ false → 0 < n
+positive zero e = absurd cc
+positive (suc n) e = omega arith
+
+-- what is held behind a description stands at the server
+held_stands : (next : Place) (rule : Rule) (e : Entry) → Keeps next → next.rule ≡ holding e rule → IsKeptAt next e
+held_stands next rule e k is = (subst (λ (r : Rule). AllByRecursion (IsKeptAt next) (option_to_list r.cache.held ++ r.cache.entries)) is k.kept).0
+
+-- what is looked up behind it is for what stands there, or is prepared once more
+bound_holds : (next : Place) (filling : Option (List ℕ)) (bound : Bound) → (IsSome filling → RunsAt next bound bound.again) → IsHeldFor next (exchange_for (request_behind (bound_by filling bound)))
+bound_holds next None bound h = tt
+bound_holds next (Some text) bound h = h refl
+
+described_holds_so : (rule : Rule) (next : Place) (x : Extended) (d : Described) → d.columns ≡ Some (unwrap_or d.columns []) → Keeps next → next.rule ≡ cond (nat_eq x.statement 0) rule (holding (entry_of x d) rule) → IsHeldFor next (exchange_for (behind_description rule x (Some d)))
+described_holds_so rule next x d columns k is = by (nat_eq x.statement 0) refl
   where
-    behind : (a : After) → Q (request_behind a)
-    behind (afters.Run bound) = run bound
-    behind (afters.Prepare prepared) = tell (record prepared { declared = None })
+    again : (how : How) (keeping : Keeping) (b : Bool) → is_parsed_again x ≡ b → (b ≡ false → (0 < x.statement) × IsKeptAt next (entry_of x d)) → RunsAt next (bound_for how x d keeping) (parsed_again b x.sql)
+    again how keeping true e h = tt
+    again how keeping false e h = let s = h refl in (entry_of x d, refl, columns, s.0, s.1)
 
-    closes : (x : Extended) (d : Described) (o : Option ℕ) → Q (by_leaving x d o)
-    closes x d (Some statement) = close (record { statement = statement; after = behind_goal x.goal x d keepings.Stays })
-    closes x d None = behind (behind_goal x.goal x d keepings.Puts)
+    runs : (goal : Goal) (keeping : Keeping) → (IsSome x.filling → is_parsed_again x ≡ false → (0 < x.statement) × IsKeptAt next (entry_of x d)) → IsHeldFor next (exchange_for (request_behind (behind_goal goal x d keeping)))
+    runs (goals.Run how) keeping h = bound_holds next x.filling (bound_for how x d keeping) (λ some. again how keeping (is_parsed_again x) refl (h some))
+    runs goals.Prepare keeping h = tt
 
-    described_so : (x : Extended) (o : Option Described) → Q (behind_description rule x o)
-    described_so x None = describe x
-    described_so x (Some d) = named (nat_eq x.statement 0)
+    differs : true ≡ false → ⊥
+    differs e = cc
+
+    or_true : (b : Bool) → b || true ≡ true
+    or_true true = refl
+    or_true false = refl
+
+    unnamed : nat_eq x.statement 0 ≡ true → IsSome x.filling → is_parsed_again x ≡ true
+    unnamed n some = ap₂ (λ (f z : Bool). (x.is_looked_up || f) && z) some n ∙ ap (λ (b : Bool). b && true) (or_true x.is_looked_up)
+
+    closes : (o : Option ℕ) → nat_eq x.statement 0 ≡ false → IsHeldFor next (exchange_for (by_leaving x d o))
+    closes (Some number) n = tt
+    closes None n = runs x.goal keepings.Puts (λ some none. (positive x.statement n, held_stands next rule (entry_of x d) k (is ∙ ap (λ (b : Bool). cond b rule (holding (entry_of x d) rule)) n)))
+
+    by : (b : Bool) → nat_eq x.statement 0 ≡ b → IsHeldFor next (exchange_for (cond b (request_behind (behind_goal x.goal x d keepings.Stays)) (by_leaving x d (option_map (λ (e : Entry). e.statement) (leaving rule)))))
+    by true n = runs x.goal keepings.Stays (λ some none. absurd (differs (sym (unnamed n some) ∙ none)))
+    by false n = closes (option_map (λ (e : Entry). e.statement) (leaving rule)) n
+
+-- what is asked of a description that was handed on
+told_holds : (rule old : Rule) (next : Place) (x : Extended) (o : Option Described) → x.described ≡ o → IsToldFor old x o → Keeps next → next.rule ≡ held_behind rule x o → IsHeldFor next (exchange_for (behind_description rule x o))
+told_holds rule old next x None e w k is = tt
+told_holds rule old next x (Some d) e w k is = described_holds_so rule next x d (subst (λ (t : Described). t.columns ≡ Some (unwrap_or t.columns [])) (same_Some w.description d (sym w.is ∙ e)) w.columns) k is
+
+-- what comes behind a close is of a statement that stands there
+after_runs : (next : Place) (bound : Bound) (o : Option (List ℕ)) → Keeps next → IsKeptFirst next.rule bound → RunsAt next bound o
+after_runs next bound (Some sql) k h = tt
+after_runs next bound None k (e, others, is, same, columns) =
+    let known = (subst (AllByRecursion (λ e. (0 < e.statement) × IsKeptAt next e)) is (each_known next k)).0 in
+    (e, same, columns, known.0, known.1)
+
+-- what was handed on, where it is run
+abbrev ToldRuns : Place → Request → Type 0
+ToldRuns next (requests.Run bound) = RunsAt next bound bound.again
+ToldRuns next told = Unit {0}
+
+told_runs : (next : Place) (call : Call) (reply : List BackendMessage) (told : Request) → handed_by call reply ≡ Some told → Keeps next → ((v : Eviction) → call ≡ calls.Evict v → IsAfter next.rule v.after) → ((f : Filling) → call ≡ calls.Fill f → RunsAt next f.bound f.bound.again) → ToldRuns next told
+told_runs next call reply told e k evicts fills = by call e evicts fills
+  where
+    after : (a : After) → IsAfter next.rule a → ToldRuns next (request_behind a)
+    after (afters.Run bound) h = after_runs next bound bound.again k h
+    after (afters.Fill filling) h = tt
+    after (afters.Prepare prepared) h = tt
+
+    by : (c : Call) → handed_by c reply ≡ Some told → ((v : Eviction) → c ≡ calls.Evict v → IsAfter next.rule v.after) → ((f : Filling) → c ≡ calls.Fill f → RunsAt next f.bound f.bound.again) → ToldRuns next told
+    by (calls.Describe x) e v f = subst (ToldRuns next) (same_Some (told_by x reply) told e) tt
+    by (calls.Evict v) e evicts f = subst (ToldRuns next) (same_Some (request_behind v.after) told e) (after v.after (evicts v refl))
+    by (calls.Look l) e v f = subst (ToldRuns next) (same_Some (requests.Describe l.extended) told e) tt
+    by (calls.Fill f) e v fills = subst (ToldRuns next) (same_Some (requests.Run (looked_behind f.bound)) told e) (fills f refl)
+    by _ e v f = absurd cc
+
+-- what was handed on is no lookup but one for what stands there
+abbrev ToldFills : Place → Request → Type 0
+ToldFills next (requests.Look lookup) = ⊥
+ToldFills next (requests.Fill f) = RunsAt next f.bound f.bound.again
+ToldFills next told = Unit {0}
+
+-- what is asked of what was handed on
+asked_holds : (rule old : Rule) (next : Place) (call : Call) (reply : List BackendMessage) (told : Request) → handed_by call reply ≡ Some told → IsSound old call → Keeps next → next.rule ≡ held_by rule told → ((v : Eviction) → call ≡ calls.Evict v → IsAfter next.rule v.after) → IsHeldFor next (exchange_for (asked_by rule told))
+asked_holds rule old next call reply told e s k is evicts = by told (told_whole old call reply told e s) is (after_holds_so call e evicts)
+  where
+    after : (a : After) → IsAfter next.rule a → ToldFills next (request_behind a)
+    after (afters.Run bound) h = tt
+    after (afters.Fill filling) h = after_runs next filling.bound filling.bound.again k h
+    after (afters.Prepare prepared) h = tt
+
+    after_holds_so : (c : Call) → handed_by c reply ≡ Some told → ((v : Eviction) → c ≡ calls.Evict v → IsAfter next.rule v.after) → ToldFills next told
+    after_holds_so (calls.Describe x) e v = subst (ToldFills next) (same_Some (told_by x reply) told e) tt
+    after_holds_so (calls.Evict v) e evicts = subst (ToldFills next) (same_Some (request_behind v.after) told e) (after v.after (evicts v refl))
+    after_holds_so (calls.Look l) e v = subst (ToldFills next) (same_Some (requests.Describe l.extended) told e) tt
+    after_holds_so (calls.Fill f) e v = subst (ToldFills next) (same_Some (requests.Run (looked_behind f.bound)) told e) tt
+    after_holds_so _ e v = absurd cc
+
+    tells : (p : Prepared) (o : Option Entry) → IsHeldFor next (exchange_for (tell_or_describe rule p o))
+    tells p (Some e) = tt
+    tells p None = tt
+
+    prepares : (p : Prepared) (o : Option (List FieldDescription)) → IsHeldFor next (exchange_for (prepare_by rule p o))
+    prepares p (Some columns) = tt
+    prepares p None = tells p (entry_at p.sql rule.cache.entries)
+
+    queries : (how : How) (query : QueryText) (o : Option ArgumentsSeen) (r : Request) → IsHeldFor next (exchange_for r) → IsHeldFor next (exchange_for (query_by rule how query o r))
+    queries how query None r h = h
+    queries how query (Some arguments) r h = runs (entry_at query.sql rule.cache.entries)
       where
-        named : (b : Bool) → Q (cond b (request_behind (behind_goal x.goal x d keepings.Stays)) (by_leaving x d (option_map (λ (e : Entry). e.statement) (leaving rule))))
-        named true = behind (behind_goal x.goal x d keepings.Stays)
-        named false = closes x d (option_map (λ (e : Entry). e.statement) (leaving rule))
+        runs : (o : Option Entry) → IsHeldFor next (exchange_for (run_or_describe rule how query.sql arguments query.persistent o))
+        runs (Some e) = tt
+        runs None = tt
 
-    prepares : (p : Prepared) (o : Option (List FieldDescription)) → Q (prepare_by rule p o)
-    prepares p (Some columns) = tell p
-    prepares p None = tells (entry_at p.sql rule.cache.entries)
-      where
-        tells : (o : Option Entry) → Q (tell_or_describe rule p o)
-        tells (Some e) = tell (record { sql = p.sql; parameters = e.parameters; columns = Some e.columns; keeping = keepings.Hits e.statement; declared = p.declared })
-        tells None = describe _
+    by : (r : Request) → IsToldWhole old r → next.rule ≡ held_by rule r → ToldFills next r → IsHeldFor next (exchange_for (asked_by rule r))
+    by (requests.Describe x) w is f = told_holds rule old next x x.described refl w k is
+    by (requests.Fill f) w is h = h
+    by (requests.Look l) w is h = absurd h
+    by (requests.Prepare p) w is f = prepares p p.columns
+    by (requests.Execute query) w is f = queries hows.Execute query query.arguments (requests.Execute query) tt
+    by (requests.ExecuteMany query) w is f = queries hows.ExecuteMany query query.arguments (requests.ExecuteMany query) tt
+    by (requests.Fetch query) w is f = queries hows.Fetch query query.arguments (requests.Fetch query) tt
+    by (requests.FetchMany query) w is f = queries hows.FetchMany query query.arguments (requests.FetchMany query) tt
+    by (requests.FetchAll query) w is f = queries hows.FetchAll query query.arguments (requests.FetchAll query) tt
+    by (requests.FetchOptional query) w is f = queries hows.FetchOptional query query.arguments (requests.FetchOptional query) tt
+    by (requests.FetchOne query) w is f = queries hows.FetchOne query query.arguments (requests.FetchOne query) tt
+    by _ w is f = tt
 
-    after : (a : After) → Q (asked_by rule (request_behind a))
-    after (afters.Run bound) = run bound
-    after (afters.Prepare prepared) = prepares (record prepared { declared = None }) prepared.columns
-
-    by : (call : Call) → handed_by call reply ≡ Some told → Q (asked_by rule told)
-    by (calls.Describe x) e = subst (λ (r : Request). Q (asked_by rule r)) (same_Some (told_by x reply) told e) (described_so (record x { described = Some (record { parameters = parameters_after [] reply; columns = Some (described reply) }) }) (Some (record { parameters = parameters_after [] reply; columns = Some (described reply) })))
-    by (calls.Evict v) e = subst (λ (r : Request). Q (asked_by rule r)) (same_Some (request_behind v.after) told e) (after v.after)
-    by (calls.Look l) e = subst (λ (r : Request). Q (asked_by rule r)) (same_Some (requests.Describe l.extended) told e) (described_so l.extended l.extended.described)
-    by _ e = absurd cc
-
-pub next_holds : (rule : Rule) (next : Place) (call : Call) (reply : List BackendMessage) (told asked : Request) → handed_by call reply ≡ Some told → LeadsTo told asked → (IsLooked told asked → CanHoldTold next next.rule told) → IsHeldFor next (exchange_for (asked_by rule asked))
-next_holds rule next call reply told asked handed (inl same) h =
-    subst (λ (r : Request). IsHeldFor next (exchange_for (asked_by rule r))) (sym same) (asked_each (λ r. IsHeldFor next (exchange_for r)) (λ b. tt) (λ p. tt) (λ v. tt) (λ x. tt) rule call reply told handed)
-next_holds rule next call reply told asked handed (inr (inr f)) h =
+pub next_holds : (rule old : Rule) (next : Place) (call : Call) (reply : List BackendMessage) (told asked : Request) → handed_by call reply ≡ Some told → LeadsTo told asked → IsSound old call → Keeps next → next.rule ≡ held_by rule asked
+    → ((v : Eviction) → call ≡ calls.Evict v → IsAfter next.rule v.after) → ((f : Filling) → call ≡ calls.Fill f → RunsAt next f.bound f.bound.again) → (IsLooked told asked → CanHoldTold next next.rule told) → IsHeldFor next (exchange_for (asked_by rule asked))
+next_holds rule old next call reply told asked handed (inl same) s k is evicts fills h =
+    subst (λ (r : Request). IsHeldFor next (exchange_for (asked_by rule r))) (sym same) (asked_holds rule old next call reply told handed s k (is ∙ ap (held_by rule) same) evicts)
+next_holds rule old next call reply told asked handed (inr (inr (inl f))) s k is evicts fills h =
     subst (λ (r : Request). IsHeldFor next (exchange_for (asked_by rule r))) (sym f.asks) (subst (λ (r : Request). IsHeldFor next (exchange_for r)) (sym (undescribed_asks rule (numbered_by f.oids f.extended) f.undescribed)) tt)
-next_holds rule next call reply told asked handed (inr (inl l)) h =
+next_holds rule old next call reply told asked handed (inr (inr (inr (inl r)))) s k is evicts fills h =
+    let y : Extended = record r.extended { arguments = r.arguments; filling = r.filling } in
+    let w : WasDescribed r.extended = subst (λ (o : Option Described). IsToldFor old r.extended o) r.described (subst (IsToldWhole old) r.tells (told_whole old call reply told handed s)) in
+    let so : next.rule ≡ held_by rule (requests.Describe y) = is ∙ ap (held_by rule) r.asks in
+    subst (λ (q : Request). IsHeldFor next (exchange_for (asked_by rule q))) (sym r.asks)
+    (subst (λ (o : Option Described). IsHeldFor next (exchange_for (behind_description rule y o))) (sym r.described)
+    (told_holds rule old next y (Some r.description) r.described (record { description = w.description; is = w.is; columns = w.columns }) k (so ∙ ap (λ (o : Option Described). held_behind rule y o) r.described)))
+next_holds rule old next call reply told asked handed (inr (inr (inr (inr (inl f))))) s k is evicts fills h =
+    let runs : RunsAt next f.bound f.bound.again = subst (ToldRuns next) f.tells (told_runs next call reply told handed k evicts fills) in
+    subst (λ (r : Request). IsHeldFor next (exchange_for (asked_by rule r))) (sym f.asks) (runs_so f.bound.again runs)
+  where
+    runs_so : (o : Option (List ℕ)) → RunsAt next f.bound o → RunsAt next (record f.bound { is_looked_up = f.looked; keeping = f.keeping }) o
+    runs_so (Some sql) r = tt
+    runs_so None r = r
+next_holds rule old next call reply told asked handed (inr (inr (inr (inr (inr f))))) s k is evicts fills h = subst (λ (r : Request). IsHeldFor next (exchange_for (asked_by rule r))) (sym f.asks) tt
+next_holds rule old next call reply told asked handed (inr (inl l)) s k is evicts fills h =
     let held : CanHold next next.rule l.extended = subst (CanHoldTold next next.rule) l.tells (h l) in
     subst (λ (r : Request). IsHeldFor next (exchange_for (asked_by rule r))) (sym l.asks) (λ d is e. held d is e)
+
+-- the first exchange runs a statement that stands there, where it runs one
+abbrev RunsFirst : Place → Call → Type 0
+RunsFirst at (calls.Run bound) = RunsAt at bound bound.again
+RunsFirst at call = Unit {0}
+
+run_first : (at : Place) (how : How) (sql : List ℕ) (arguments : ArgumentsSeen) (persistent : Bool) → Keeps at → (o : Option Entry) → entry_at sql at.rule.cache.entries ≡ o → RunsFirst at (exchange_for (run_or_describe at.rule how sql arguments persistent o))
+run_first at how sql arguments persistent k None e = tt
+run_first at how sql arguments persistent k (Some entry) e =
+    let known = found_has (λ e. (0 < e.statement) × IsKeptAt at e) (λ e. bytes_eq e.sql sql) at.rule.cache.entries entry (each_known at k) e in
+    (entry, refl, refl, known.0, known.1)
+
+as_first : (at : Place) (how : How) (query : QueryText) (call : Call) → Keeps at → RunsFirst at call → (o : Option ArgumentsSeen) → RunsFirst at (first_as at.rule how query o call)
+as_first at how query call k h None = h
+as_first at how query call k h (Some arguments) = run_first at how query.sql arguments query.persistent k (entry_at query.sql at.rule.cache.entries) refl
+
+first_runs_so : (at : Place) (call : Call) → Keeps at → RunsFirst at (first_call at.rule call)
+first_runs_so at (calls.Execute query) k = as_first at hows.Execute query (calls.Execute query) k tt query.arguments
+first_runs_so at (calls.ExecuteMany query) k = as_first at hows.ExecuteMany query (calls.ExecuteMany query) k tt query.arguments
+first_runs_so at (calls.Fetch query) k = as_first at hows.Fetch query (calls.Fetch query) k tt query.arguments
+first_runs_so at (calls.FetchMany query) k = as_first at hows.FetchMany query (calls.FetchMany query) k tt query.arguments
+first_runs_so at (calls.FetchAll query) k = as_first at hows.FetchAll query (calls.FetchAll query) k tt query.arguments
+first_runs_so at (calls.FetchOptional query) k = as_first at hows.FetchOptional query (calls.FetchOptional query) k tt query.arguments
+first_runs_so at (calls.FetchOne query) k = as_first at hows.FetchOne query (calls.FetchOne query) k tt query.arguments
+first_runs_so at (calls.Prepare p) k = by (entry_at p.sql at.rule.cache.entries)
+  where
+    by : (o : Option Entry) → RunsFirst at (exchange_for (tell_or_describe at.rule (record { sql = p.sql; parameters = []; columns = None; keeping = keepings.Stays; declared = Some p.types }) o))
+    by (Some e) = tt
+    by None = tt
+first_runs_so at calls.Clear k = by (nat_eq (length at.rule.cache.entries) 0)
+  where
+    by : (b : Bool) → RunsFirst at (exchange_for (asked_by at.rule (cond b requests.Flush (requests.Clear []))))
+    by true = tt
+    by false = tt
+first_runs_so at _ k = tt
+
+pub first_runs : (at : Place) (call : Call) (bound : Bound) → Keeps at → first_call at.rule call ≡ calls.Run bound → RunsAt at bound bound.again
+first_runs at call bound k is = subst (RunsFirst at) is (first_runs_so at call k)
 
 first_as_holds : (at : Place) (rule : Rule) (how : How) (query : QueryText) (o : Option ArgumentsSeen) (call : Call) → IsHeldFor at call → IsHeldFor at (first_as rule how query o call)
 first_as_holds at rule how query None call h = h
@@ -310,6 +541,11 @@ pub looked_kept : (at next : Place) (call : Call) (l : Lookup) (d : ℕ) (slice 
     → (t : Described) → l.extended.described ≡ Some t → nat_eq l.extended.statement 0 ≡ false → IsKeptAt next (entry_of l.extended t)
 looked_kept at next call l d slice is h groups frames t described e =
     (looked_holds at next l.extended (groups_of (requests.Look l)) slice (subst (IsHeldFor at) is h) (λ n. spares_asked n d (calls.Look l) (λ z. z)) (groups ∙ ap (λ (y : Call). at.groups ++ groups_of (request_of d y)) is) frames t described e).0
+
+-- and so is the one for whose arguments something is looked up
+pub filled_kept : (at next : Place) (call : Call) (f : Filling) (d : ℕ) (slice : List Frame) → call ≡ calls.Fill f → IsHeldFor at call → next.groups ≡ at.groups ++ groups_of (request_of d call) → heard next.frames ≡ heard at.frames ++ slice → RunsAt next f.bound f.bound.again
+filled_kept at next call f d slice is h groups frames =
+    runs_holds at next f.bound f.bound.again (groups_of (requests.Fill f)) slice (subst (IsHeldFor at) is h) (λ n. spares_asked n d (calls.Fill f) (λ z. z)) (groups ∙ ap (λ (y : Call). at.groups ++ groups_of (request_of d y)) is) frames
 
 -- the first exchange looks nothing up
 pub first_holds : (at : Place) (rule : Rule) (call : Call) → IsHeldFor at (first_call rule call)

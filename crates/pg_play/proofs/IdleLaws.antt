@@ -97,7 +97,9 @@ no_cleanup d calls.Clear end (g ∷ gs) o b a = refl
 no_cleanup d (calls.Evict eviction) end [] o b a = refl
 no_cleanup d (calls.Evict eviction) end (g ∷ gs) o b a = refl
 no_cleanup d (calls.Look lookup) end [] o b a = refl
+no_cleanup d (calls.Fill filling) end [] o b a = refl
 no_cleanup d (calls.Look lookup) end (g ∷ gs) o b a = refl
+no_cleanup d (calls.Fill filling) end (g ∷ gs) o b a = refl
 no_cleanup d (calls.Tell prepared) end [] o b a = refl
 no_cleanup d (calls.Tell prepared) end (g ∷ gs) o b a = refl
 no_cleanup d (calls.CloseAll statements) end [] o b a = refl
@@ -189,6 +191,7 @@ idle_by idle n d (calls.Prepare preparation) end own cleanup owed others commits
 idle_by idle n d calls.Clear end own cleanup owed others commits rolls cleans c q l i z = plain_idle idle n own cleanup (few_own d calls.Clear end own q) (c ∙ no_cleanup d calls.Clear end own owed refl refl) (i z) (others refl)
 idle_by idle n d (calls.Evict eviction) end own cleanup owed others commits rolls cleans c q l i z = plain_idle idle n own cleanup (few_own d (calls.Evict eviction) end own q) (c ∙ no_cleanup d (calls.Evict eviction) end own owed refl refl) (i z) (others refl)
 idle_by idle n d (calls.Look lookup) end own cleanup owed others commits rolls cleans c q l i z = plain_idle idle n own cleanup (few_own d (calls.Look lookup) end own q) (c ∙ no_cleanup d (calls.Look lookup) end own owed refl refl) (i z) (others refl)
+idle_by idle n d (calls.Fill filling) end own cleanup owed others commits rolls cleans c q l i z = plain_idle idle n own cleanup (few_own d (calls.Fill filling) end own q) (c ∙ no_cleanup d (calls.Fill filling) end own owed refl refl) (i z) (others refl)
 idle_by idle n d (calls.Tell prepared) end own cleanup owed others commits rolls cleans c q l i z = plain_idle idle n own cleanup (few_own d (calls.Tell prepared) end own q) (c ∙ no_cleanup d (calls.Tell prepared) end own owed refl refl) (i z) (others refl)
 idle_by idle n d (calls.CloseAll statements) end own cleanup owed others commits rolls cleans c q l i z = plain_idle idle n own cleanup (few_own d (calls.CloseAll statements) end own q) (c ∙ no_cleanup d (calls.CloseAll statements) end own owed refl refl) (i z) (others refl)
 

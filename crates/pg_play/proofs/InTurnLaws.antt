@@ -1,4 +1,5 @@
 -- The exchanges of a step, one behind another: an induction over those that were handed on.
+use Rattle.pg_call.specs.declared.statement.Filling.{Filling}
 use Rattle.std.proofs.Common.{◌≡◌, ℕ, ◌+◌, ◌-◌, ◌*◌, ◌^◌, ◌≤◌, ◌<◌, true, false, List, [], ◌∷◌, ◌++◌, length, refl, sym, ap, ◌∙◌, subst, arith, append-nil, ap₂, Option, Some, None, sum_by}
 use Rattle.std.specs.List.{AllByRecursion}
 use Rattle.pg_wire.specs.Frame.{Frame}
@@ -44,7 +45,7 @@ use Rattle.pg_play.proofs.ExchangeLaws.{LeadsTo, NextIs, looks_or, next_how, nex
 use Rattle.pg_play.proofs.NextLaws.{good_after, good_messages, replies_same, whole_behind}
 use Rattle.pg_play.proofs.KeptLaws.{DescribedAt, IsHeldFor, IsSound, keeps_next, next_sound}
 use Rattle.pg_play.proofs.NumberLaws.{numbers_on}
-use Rattle.pg_play.proofs.FollowLaws.{closes_known, known_next, looked_kept, next_holds}
+use Rattle.pg_play.proofs.FollowLaws.{closes_known, known_next, looked_kept, next_holds, filled_kept}
 use Rattle.pg_play.proofs.PartLaws.{after_more, no_error}
 use Rattle.pg_play.specs.Kept.{Keeps}
 use Rattle.pg_play.specs.Told.{HasNoError}
@@ -287,6 +288,7 @@ none_left d call response (ends.Ok told) l = by call l
     by (calls.Describe x) l = absurd (l refl)
     by (calls.Evict v) l = absurd (l refl)
     by (calls.Look lookup) l = absurd (l refl)
+    by (calls.Fill filling) l = absurd (l refl)
     by _ l = refl
 none_left d call response (ends.Err e) l = refl
 none_left d call response ends.Dropped l = refl
@@ -399,7 +401,8 @@ turns_on start first old at a m step call next b p z l hands =
     let asks = n.asks t.next.rule.depth in
     let knows_so : t.next.rule ≡ rule_after at.rule call s.own (Some next) (ends.Ok AnswersUnit) = t.settles.rule ∙ ap (λ (o : Option Request). rule_after at.rule call s.own o (ends.Ok AnswersUnit)) t.asked in
     let closed = λ (v : Eviction) (is : call ≡ calls.Evict v). closes_known at t.next call v s.own response told next is (subst (λ (y : Call). IsSound at.rule y) is b.sound) handed looked knows_so in
-    let known : KnownAt (widths_of (asked_from m next)) t.next = known_next rule start at t.next a (held_conn (knowing learnt m) next) at.rule.depth call told next h.said (heard h.fs) [] st t.stands keeps groups frames closed (λ v is. (subst (λ (y : Call). IsSound at.rule y) is b.sound, looked_kept at t.next call v at.rule.depth (heard h.fs) is b.holds groups frames)) h.ends.0 looked in
+    let filled = λ (f : Filling) (is : call ≡ calls.Fill f). filled_kept at t.next call f at.rule.depth (heard h.fs) is b.holds groups frames in
+    let known : KnownAt (widths_of (asked_from m next)) t.next = known_next rule start at t.next a (held_conn (knowing learnt m) next) at.rule.depth call told next h.said (heard h.fs) [] st t.stands keeps groups frames closed (λ v is. (subst (λ (y : Call). IsSound at.rule y) is b.sound, looked_kept at t.next call v at.rule.depth (heard h.fs) is b.holds groups frames)) filled h.ends.0 looked in
     record {
       mid = mid;
       one = c;
@@ -415,7 +418,7 @@ turns_on start first old at a m step call next b p z l hands =
         fits = omega arith;
         keeps = keeps;
         sound = subst (λ (k : Rule). IsSound k n.part) (sym knows) (subst (λ (y : Call). IsSound (held_by rule next) y) (sym n.is) (next_sound rule at.rule call f.reply told next n.handed looked b.sound (numbers_on at.rule rule call s.own response told next handed looked (sym knows ∙ knows_so)) (subst (λ (k : Rule). IsOrderly k) knows keeps.orderly)));
-        holds = subst (λ (y : Call). IsHeldFor t.next y) (sym n.is) (next_holds rule t.next call f.reply told next n.handed looked (λ l. kept.1 told next refl handed t.asked l));
+        holds = subst (λ (y : Call). IsHeldFor t.next y) (sym n.is) (next_holds rule at.rule t.next call f.reply told next n.handed looked b.sound keeps knows closed filled (λ l. kept.1 told next refl handed t.asked l));
       };
     }
 

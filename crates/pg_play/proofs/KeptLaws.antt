@@ -1,4 +1,5 @@
 -- Which statements the server keeps, from one exchange of a play to the next.
+use Rattle.pg_call.specs.declared.statement.Bound.{Bound}
 use Rattle.std.proofs.Common.{◌≡◌, ◌≢◌, ◌⊎◌, ◌-◌, Ok, ℕ, zero, suc, ◌+◌, ◌<◌, ◌≤◌, ◌^◌, nat_eq, ltb, leb, Bool, true, false, not, cond, ◌&&◌, ◌||◌, List, [], ◌∷◌, ◌++◌, length, map, option_to_list, find, subst, refl, sym, ap, ◌∙◌, arith, append_assoc, append-nil, Option, Some, None, is_some, option_map, unwrap_or, inl, inr, IfSome, bytes_eq}
 use Rattle.std.specs.List.{AllByRecursion, count_by, last_or}
 use Rattle.std.proofs.lemmas.Bool.{leb-true, lt-ltb, ltb-true}
@@ -35,7 +36,7 @@ use Rattle.pg_call.specs.declared.statement.Goal.TheVariants as goals
 use Rattle.pg_call.specs.declared.request.Request.{Request}
 use Rattle.pg_call.specs.declared.request.Request.TheVariants as requests
 use Rattle.pg_request.specs.Texts.{begin_text, commit_text, rollback_text}
-use Rattle.pg_call.specs.Requests.{ended_by, named_keeping, parsing_by, Group, name_of, groups_of, keeping_of, behind_goal, numbered_by as with_oids, request_behind, CanBeSaid}
+use Rattle.pg_call.specs.Requests.{ended_by, named_keeping, parsing_by, Group, name_of, groups_of, keeping_of, behind_goal, numbered_by as with_oids, request_behind, CanBeSaid, bound_by, bound_for, looked_behind}
 use Rattle.pg_call.specs.Items.{parameters_after}
 use Rattle.pg_call.specs.Drains.{after_readys}
 use Rattle.pg_conn.specs.Connections.{rollback, with_depth}
@@ -137,8 +138,12 @@ abbrev pub IsNumbered : Rule → Extended → Type 0
 IsNumbered rule x = x.is_numbered ≡ true → (x.statement ≡ 0) ⊎ ((x.statement ≡ rule.next) × (rule.next < 2 ^ 32))
 
 -- what comes behind a close is of a statement that is kept then
+abbrev pub IsKeptFirst : Rule → Bound → Type 0
+IsKeptFirst rule bound = (e : Entry) × (others : List Entry) × (rule.cache.entries ≡ e ∷ others) × (bound.statement ≡ e.statement) × (bound.columns ≡ Some e.columns)
+
 abbrev pub IsAfter : Rule → After → Type 0
-IsAfter rule (afters.Run bound) = (e : Entry) × (others : List Entry) × (rule.cache.entries ≡ e ∷ others) × (bound.statement ≡ e.statement) × (bound.columns ≡ Some e.columns)
+IsAfter rule (afters.Run bound) = IsKeptFirst rule bound
+IsAfter rule (afters.Fill filling) = IsKeptFirst rule filling.bound
 IsAfter rule (afters.Prepare prepared) = Unit {0}
 
 -- a close is of none that is kept behind it
@@ -244,6 +249,15 @@ closes_last rule new last a o full held is after =
         newest_below : new.statement < rule.next
         newest_below = (subst (λ (h : Option Entry). IfSome h (λ e. IsNewest e rule)) held o.newest).1
 
+-- what is run, or looked up before that
+bound_sound : (filling : Option (List ℕ)) (bound : Bound) (rule : Rule) → IsSound rule (exchange_for (request_behind (bound_by filling bound)))
+bound_sound None bound rule = tt
+bound_sound (Some text) bound rule = tt
+
+bound_after : (filling : Option (List ℕ)) (bound : Bound) (rule : Rule) → IsKeptFirst rule bound → IsAfter rule (bound_by filling bound)
+bound_after None bound rule h = h
+bound_after (Some text) bound rule h = h
+
 -- what is asked behind a description
 told_sound : (rule : Rule) (x : Extended) (d : Described) → d.columns ≡ Some (unwrap_or d.columns []) → IsOrderly (held_by rule (requests.Describe (record x { described = Some d })))
     → IsSound (held_by rule (requests.Describe (record x { described = Some d }))) (exchange_for (asked_by rule (requests.Describe (record x { described = Some d }))))
@@ -256,11 +270,11 @@ told_sound rule x d columns o = by (nat_eq x.statement 0) o
     new = entry_of x' d
 
     runs : (goal : Goal) (keeping : Keeping) (r : Rule) → IsSound r (exchange_for (request_behind (behind_goal goal x' d keeping)))
-    runs (goals.Run how) keeping r = tt
+    runs (goals.Run how) keeping r = bound_sound x.filling (bound_for how x' d keeping) r
     runs goals.Prepare keeping r = tt
 
     after : (goal : Goal) (others : List Entry) → IsAfter (record (holding new rule) { cache = record { entries = new ∷ others; held = None } }) (behind_goal goal x' d keepings.Stays)
-    after (goals.Run how) others = (new, others, refl, refl, columns)
+    after (goals.Run how) others = bound_after x.filling (bound_for how x' d keepings.Stays) (record (holding new rule) { cache = record { entries = new ∷ others; held = None } }) (new, others, refl, refl, columns)
     after goals.Prepare others = tt
 
     closes : (full : Bool) → leb rule.capacity (length rule.cache.entries) ≡ full → (last : Option Entry) → last_or None rule.cache.entries ≡ last → IsOrderly (holding new rule)
@@ -282,6 +296,7 @@ described_sound rule x w o =
 -- and behind a close
 after_sound : (rule : Rule) (a : After) → IsSound (held_by rule (request_behind a)) (exchange_for (asked_by rule (request_behind a)))
 after_sound rule (afters.Run bound) = tt
+after_sound rule (afters.Fill filling) = tt
 after_sound rule (afters.Prepare prepared) = by prepared.columns
   where
     by : (o : Option (List FieldDescription)) → IsSound rule (exchange_for (prepare_by rule (record prepared { declared = None }) o))
@@ -306,6 +321,7 @@ told_was rule x reply = record { description = record { parameters = parameters_
 
 after_whole : (rule : Rule) (a : After) → IsToldWhole rule (request_behind a)
 after_whole rule (afters.Run bound) = tt
+after_whole rule (afters.Fill filling) = tt
 after_whole rule (afters.Prepare prepared) = tt
 
 sought_whole : (rule : Rule) (x : Extended) (o : Option Described) → IsSought rule x o → IsToldFor rule x o
@@ -316,6 +332,7 @@ pub told_whole : (rule : Rule) (call : Call) (reply : List BackendMessage) (told
 told_whole rule (calls.Describe x) reply told e s = subst (IsToldWhole rule) (same_Some (told_by x reply) told e) (told_was rule x reply)
 told_whole rule (calls.Evict v) reply told e s = subst (IsToldWhole rule) (same_Some (request_behind v.after) told e) (after_whole rule v.after)
 told_whole rule (calls.Look l) reply told e s = subst (IsToldWhole rule) (same_Some (requests.Describe l.extended) told e) (sought_whole rule l.extended l.extended.described s)
+told_whole rule (calls.Fill f) reply told e s = subst (IsToldWhole rule) (same_Some (requests.Run (looked_behind f.bound)) told e) tt
 told_whole rule _ reply told e s = absurd cc
 
 -- so is what something is looked up for
@@ -345,6 +362,7 @@ handed_sound rule old (calls.Evict v) reply told e s n o = subst (λ (r : Reques
 handed_sound rule old (calls.Look l) reply told e s n o =
     let is = same_Some (requests.Describe l.extended) told e in
     subst (λ (r : Request). IsSound (held_by rule r) (exchange_for (asked_by rule r))) is (sought_sound rule old l.extended l.extended.described refl s (n l.extended (sym is)) (subst (λ (r : Request). IsOrderly (held_by rule r)) (sym is) o))
+handed_sound rule old (calls.Fill f) reply told e s n o = subst (λ (r : Request). IsSound (held_by rule r) (exchange_for (asked_by rule r))) (same_Some (requests.Run (looked_behind f.bound)) told e) tt
 handed_sound rule old _ reply told e s n o = absurd cc
 
 pub next_sound : (rule old : Rule) (call : Call) (reply : List BackendMessage) (told next : Request) → handed_by call reply ≡ Some told → LeadsTo told next → IsSound old call → NumbersOn old rule told → IsOrderly (held_by rule next) → IsSound (held_by rule next) (exchange_for (asked_by rule next))
@@ -356,7 +374,14 @@ next_sound rule old call reply told next e (inr (inl l)) s n o =
     by : (o : Option Described) → l.extended.described ≡ o → IsSought old (record l.extended { is_looked_up = true }) o → IsSought rule (record l.extended { is_looked_up = true }) l.extended.described
     by None e s = subst (λ (o : Option Described). IsSought rule (record l.extended { is_looked_up = true }) o) (sym e) (n l.extended l.tells e s)
     by (Some d) e s = subst (λ (o : Option Described). IsSought rule (record l.extended { is_looked_up = true }) o) (sym e) s
-next_sound rule old call reply told next e (inr (inr f)) s n o =
+next_sound rule old call reply told next e (inr (inr (inr (inl r)))) s n o =
+    let w : WasDescribed r.extended = subst (λ (o : Option Described). IsToldFor old r.extended o) r.described (subst (IsToldWhole old) r.tells (told_whole old call reply told e s)) in
+    let y = record r.extended { arguments = r.arguments; filling = r.filling } in
+    subst (λ (q : Request). IsSound (held_by rule q) (exchange_for (asked_by rule q))) (sym r.asks)
+    (described_sound rule y (record { description = w.description; is = w.is; columns = w.columns }) (subst (λ (q : Request). IsOrderly (held_by rule q)) r.asks o))
+next_sound rule old call reply told next e (inr (inr (inr (inr (inl f))))) s n o = subst (λ (r : Request). IsSound (held_by rule r) (exchange_for (asked_by rule r))) (sym f.asks) tt
+next_sound rule old call reply told next e (inr (inr (inr (inr (inr f))))) s n o = subst (λ (r : Request). IsSound (held_by rule r) (exchange_for (asked_by rule r))) (sym f.asks) tt
+next_sound rule old call reply told next e (inr (inr (inl f))) s n o =
     let was : IsToldFor old f.extended None = subst (λ (o : Option Described). IsToldFor old f.extended o) f.undescribed (subst (IsToldWhole old) f.tells (told_whole old call reply told e s)) in
     subst (λ (r : Request). IsSound (held_by rule r) (exchange_for (asked_by rule r))) (sym f.asks) (undescribed_sound rule (with_oids f.oids f.extended) f.undescribed (n f.extended f.tells f.undescribed was))
 
@@ -424,6 +449,7 @@ spares_asked n d (calls.Prepare p) h = tt
 spares_asked n d calls.Clear h = tt
 spares_asked n d (calls.Evict v) h = absurd (h tt)
 spares_asked n d (calls.Look l) h = (query_spares n l.text, tt)
+spares_asked n d (calls.Fill filling) h = (query_spares n filling.text, tt)
 spares_asked n d (calls.Tell prepared) h = tt
 spares_asked n d (calls.CloseAll statements) h = absurd (h tt)
 
@@ -599,6 +625,7 @@ leaves_statements at next call end own cleanup slice rule q cleans sound groups 
     kept_by calls.Clear s q = others calls.Clear (λ z. z) q
     kept_by (calls.Tell prepared) s q = others (calls.Tell prepared) (λ z. z) q
     kept_by (calls.Look l) s q = others (calls.Look l) (λ z. z) q
+    kept_by (calls.Fill filling) s q = others (calls.Fill filling) (λ z. z) q
 
 -- ---- a statement that an exchange described
 
@@ -639,9 +666,15 @@ abbrev pub CanHoldTold : Place → Rule → Request → Type 0
 CanHoldTold at rule (requests.Describe x) = CanHold at rule x
 CanHoldTold at rule _ = Unit {0}
 
+-- what is run behind a lookup stands at the server, unless it is prepared once more
+abbrev pub RunsAt : Place → Bound → Option (List ℕ) → Type 0
+RunsAt at bound (Some sql) = Unit {0}
+RunsAt at bound None = (e : Entry) × (bound.statement ≡ e.statement) × (bound.columns ≡ Some e.columns) × (0 < e.statement) × IsKeptAt at e
+
 -- and what something is looked up for
 abbrev pub IsHeldFor : Place → Call → Type 0
 IsHeldFor at (calls.Look l) = CanHold at at.rule l.extended
+IsHeldFor at (calls.Fill f) = RunsAt at f.bound f.bound.again
 IsHeldFor at _ = Unit {0}
 
 -- it is so behind the description
@@ -690,7 +723,13 @@ leaves_told at next rule _ h l = l
 leaves_asked : (at next : Place) (rule : Rule) (told asked : Request) → LeadsTo told asked → CanHoldTold next rule told → LeavesKept at next rule → LeavesKept at next (held_by rule asked)
 leaves_asked at next rule told asked (inl same) h l = subst (λ (r : Request). LeavesKept at next (held_by rule r)) (sym same) (leaves_told at next rule told h l)
 leaves_asked at next rule told asked (inr (inl k)) h l = subst (λ (r : Request). LeavesKept at next (held_by rule r)) (sym k.asks) l
-leaves_asked at next rule told asked (inr (inr f)) h l =
+leaves_asked at next rule told asked (inr (inr (inr (inl r)))) h l =
+    let y = record r.extended { arguments = r.arguments; filling = r.filling } in
+    let holds : CanHold next rule r.extended = subst (CanHoldTold next rule) r.tells h in
+    subst (λ (q : Request). LeavesKept at next (held_by rule q)) (sym r.asks) (holds_told at next rule y (λ d is e. holds d is e) l)
+leaves_asked at next rule told asked (inr (inr (inr (inr (inl f))))) h l = subst (λ (r : Request). LeavesKept at next (held_by rule r)) (sym f.asks) l
+leaves_asked at next rule told asked (inr (inr (inr (inr (inr f))))) h l = subst (λ (r : Request). LeavesKept at next (held_by rule r)) (sym f.asks) l
+leaves_asked at next rule told asked (inr (inr (inl f))) h l =
     subst (λ (r : Request). LeavesKept at next (held_by rule r)) (sym f.asks) (subst (λ (r : Rule). LeavesKept at next r) (sym (undescribed_held rule (with_oids f.oids f.extended) f.undescribed)) l)
 
 -- a lookup changes nothing of that
@@ -698,6 +737,10 @@ pub looked_holds : (at next : Place) (x : Extended) (own : List Group) (slice : 
 looked_holds at next x own slice h spared groups frames d is e =
     let k = h d is e in
     (kept_further at next (entry_of x d) own slice k.0 (spared (named_of (entry_of x d))) groups frames, k.1)
+
+pub runs_holds : (at next : Place) (bound : Bound) (o : Option (List ℕ)) (own : List Group) (slice : List Frame) → RunsAt at bound o → ((n : Named) → AllByRecursion (Spares n) own) → next.groups ≡ at.groups ++ own → heard next.frames ≡ heard at.frames ++ slice → RunsAt next bound o
+runs_holds at next bound (Some sql) own slice h spared groups frames = tt
+runs_holds at next bound None own slice (e, same, columns, positive, kept) spared groups frames = (e, same, columns, positive, kept_further at next e own slice kept (spared (named_of e)) groups frames)
 
 -- ---- behind an exchange
 
@@ -709,6 +752,7 @@ to_keeps at next rule l e = record {
 
 after_open : (depth : ℕ) (rule : Rule) (a : After) → IsAfter (kept rule) a → IsAfter (kept (with_depth depth rule)) a
 after_open depth rule (afters.Run bound) h = h
+after_open depth rule (afters.Fill filling) h = h
 after_open depth rule (afters.Prepare prepared) h = h
 
 sought_open : (depth : ℕ) (rule : Rule) (x : Extended) (o : Option Described) → IsSought rule x o → IsSought (with_depth depth rule) x o
@@ -723,6 +767,7 @@ sound_open depth rule _ s = tt
 
 pub held_after_close : (rule : Rule) (a : After) → held_by rule (request_behind a) ≡ rule
 held_after_close rule (afters.Run bound) = refl
+held_after_close rule (afters.Fill filling) = refl
 held_after_close rule (afters.Prepare prepared) = refl
 
 fine_handed : (end : End) (call : Call) (response : List BackendMessage) → is_fine end ≡ true → handed_at end call response ≡ handed_by call response
@@ -735,6 +780,7 @@ handed_fine ends.Dropped call response told e = absurd cc
 
 after_holds : (at : Place) (rule : Rule) (a : After) → CanHoldTold at rule (request_behind a)
 after_holds at rule (afters.Run bound) = tt
+after_holds at rule (afters.Fill filling) = tt
 after_holds at rule (afters.Prepare prepared) = tt
 
 -- each statement that is kept is kept still, or was closed, or another one was put in its place
@@ -766,6 +812,7 @@ keeps_by at next call end own cleanup slice response asks learnt k sound held q 
         subst (λ (r : Rule). CanHoldTold next r told) (sym (looked (has_moved own end)))
         (subst (CanHoldTold next at.rule) (same_Some (requests.Describe l.extended) told e)
         (looked_holds at next l.extended (own ++ cleanup) slice h (λ n. each_join (Spares n) own cleanup (front_each_group (Spares n) end (groups_of (requests.Look l)) own q (spares_asked n at.rule.depth (calls.Look l) (λ z. z))) (cleans n)) groups frames))
+    fine f (calls.Fill v) s h q d told e = subst (CanHoldTold next (S (calls.Fill v))) (same_Some (requests.Run (looked_behind v.bound)) told e) tt
     fine f _ s h q d told e = absurd cc
 
     by : (o : Option Request) → handed_at end call response ≡ o → LooksOn o learnt asks next.learnt → Keeps next

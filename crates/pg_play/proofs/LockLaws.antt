@@ -253,9 +253,9 @@ starts_held : (a from : ConnSeen) (r asked : Request) → StartsAt a r from aske
 starts_held a from r asked (inl (f, q)) = ap (λ (x : ConnSeen). x.held) f
 starts_held a from r asked (inr h) = by (named_in r) h
   where
-    by : (o : Option Extended) → LooksFirst o a from asked → from.held ≡ a.held
+    by : (o : Option Request) → LooksFirst o a from asked → from.held ≡ a.held
     by None h = absurd h
-    by (Some x) (whole, can, (learnt, next, looks, is, f)) = ap (λ (y : ConnSeen). y.held) f
+    by (Some told) (whole, can, (learnt, next, looks, is, f)) = ap (λ (y : ConnSeen). y.held) f
 
 polled_holds : (a b : ConnSeen) (step : Step) (out : Outcome) → PlaysPolled a b step out → b.held ≡ a.held
 polled_holds a b step out (inl (u, is, k)) = ap (λ (x : ConnSeen). x.held) is

@@ -37,7 +37,8 @@ use Rattle.pg_learning.specs.declared.learnt.Seeking.TheVariants as seekings
 use Rattle.pg_request.specs.Asked.{RefusesType}
 use Rattle.pg_learning.specs.Learning.{FailsSeeking, TakesBy, TakesRow}
 use Rattle.pg_learning.specs.Naming.{unknown_name}
-use Rattle.pg_conn.specs.Turns.{FailsBy, LookFails, ends_request, HasAllRoom}
+use Rattle.pg_conn.specs.Looking.{LookFails}
+use Rattle.pg_conn.specs.Turns.{FailsBy, ends_request, HasAllRoom}
 use Rattle.pg_report.specs.declared.outcome.Item.{Item}
 use Rattle.pg_report.specs.declared.outcome.End.{End}
 use Rattle.pg_report.specs.declared.outcome.End.TheVariants as ends
@@ -106,9 +107,9 @@ missed_errors missing (errors.TypeNotFound name) h = inr (inr (inr (name, refl))
 missed_errors missing _ h = absurd h
 
 pub look_errors : (r : Request) (hs : List Frame) (learnt : Learnt) (e : Error) → LookFails r hs learnt e → IsLookError e
-look_errors r hs learnt e (lookup, is, inl fails) = seeking_errors learnt.seeking e fails
-look_errors r hs learnt e (lookup, is, inr (inl row)) = row_errors row.1 row.2 learnt e row.5
-look_errors r hs learnt e (lookup, is, inr (inr misses)) = missed_errors (unknown_name learnt.types lookup.extended.arguments.names) e misses
+look_errors r hs learnt e (names, is, inl fails) = seeking_errors learnt.seeking e fails
+look_errors r hs learnt e (names, is, inr (inl row)) = row_errors row.1 row.2 learnt e row.5
+look_errors r hs learnt e (names, is, inr (inr misses)) = missed_errors (unknown_name learnt.types names) e misses
 
 look_no_reply : (tag : ℕ) → IsLookError (errors.Protocol (protocol.Reply tag)) → ⊥
 look_no_reply tag (inl e) = cc
@@ -248,6 +249,7 @@ plain_asked d (calls.Prepare preparation) n = tt
 plain_asked d calls.Clear n = tt
 plain_asked d (calls.Evict eviction) n = (closing_group (name_of eviction.statement ∷ []), tt)
 plain_asked d (calls.Look lookup) n = (inl (lookup.text, refl), tt)
+plain_asked d (calls.Fill filling) n = (inl (filling.text, refl), tt)
 plain_asked d (calls.Tell prepared) n = tt
 plain_asked d (calls.CloseAll statements) n = (closing_group (map name_of statements), tt)
 plain_asked d (calls.Feed fed) n = absurd cc
@@ -367,6 +369,7 @@ requests_asked d (calls.Prepare preparation) = refl
 requests_asked d calls.Clear = refl
 requests_asked d (calls.Evict eviction) = requests_closing (name_of eviction.statement ∷ [])
 requests_asked d (calls.Look lookup) = refl
+requests_asked d (calls.Fill filling) = refl
 requests_asked d (calls.Tell prepared) = refl
 requests_asked d (calls.CloseAll statements) = requests_closing (map name_of statements)
 requests_asked d (calls.Feed fed) = requests_fed fed

@@ -83,7 +83,7 @@ use Rattle.pg_learning.specs.Learning.{unnamed_types}
 use Rattle.pg_conn.specs.Looking.{named_in, LooksUp}
 use Rattle.pg_play.proofs.BeforeLaws.{before_first, looked_begun, begins_before, dropped_before, duly_looked, keeps_begun, stands_so_at}
 use Rattle.pg_play.proofs.ForgetLaws.{begins_forgotten, forgets_so, knows_act, knows_query, knows_savepoint, knows_unpolled}
-use Rattle.pg_play.proofs.ThroughLaws.{named_is}
+use Rattle.pg_play.proofs.ThroughLaws.{named_is, named_self}
 use Rattle.pg_call.specs.declared.request.Request.TheVariants as requests
 
 -- ---- one step
@@ -99,7 +99,7 @@ counts_to : (n m k : ℕ) → GrewBy n 0 m → k ≡ m → CountsTo n k
 counts_to n m k g e = (omega (arith, g.1, e), omega (arith, g.2, e))
 
 -- nothing was learnt before the first exchange, which asks nothing where it has types that are known by their names alone
-begins_plain : (o : Option Extended) (first : Call) (at : Learnt) (groups : ℕ) → ((x : Extended) → o ≡ Some x → groups ≡ 0) → BeginsAs o first at groups first at
+begins_plain : (o : Option Request) (first : Call) (at : Learnt) (groups : ℕ) → ((told : Request) → o ≡ Some told → groups ≡ 0) → BeginsAs o first at groups first at
 begins_plain None first at groups g = (refl, refl)
 begins_plain (Some x) first at groups g = inl (refl, refl, g x refl)
 
@@ -169,7 +169,7 @@ begins_first start at a step st k later = record {
 
 -- what its exchanges came to is the step's
 polled_turns : (start : StreamSeen) (at : Place) (a b : ConnSeen) (step : Step) (out : Outcome) (stop : Place) → known_at at step ≡ at.learnt → StandsAt start at a → acts_at_once step.call ≡ false → step.polls < 2 ^ 32 → PlaysInTurn start (begun_call (request_of at.rule.depth (first_call at.rule step.call)) a).stream at step (first_call at.rule step.call) none_counted out stop b
-    → ((x : Extended) → named_in (request_of at.rule.depth (first_call at.rule step.call)) ≡ Some x → out.groups ≡ 0) → EndsDuly at step (request_of at.rule.depth (first_call at.rule step.call)) out stop → StepsTo start at step out b
+    → ((told : Request) → named_in (request_of at.rule.depth (first_call at.rule step.call)) ≡ Some told → out.groups ≡ 0) → EndsDuly at step (request_of at.rule.depth (first_call at.rule step.call)) out stop → StepsTo start at step out b
 polled_turns start at a b step out stop knows st later p o asks duly =
     steps_to start at step out stop b at.learnt (first_call at.rule step.call) knows (begins_plain (named_in (request_of at.rule.depth (first_call at.rule step.call))) (first_call at.rule step.call) at.learnt out.groups asks) o.turns (omega (arith, o.waits, p)) (omega (arith, o.calls, ap (λ (x : StreamSeen). x.link.calls) st.seen)) o.dropped (λ now. let x = sym later ∙ now in absurd cc)
     (λ x. duly)
@@ -179,7 +179,7 @@ groups_of_idle : (a m : ConnSeen) → a.groups ≡ 0 → a.earlier ≡ 0 → m.g
 groups_of_idle a m g e h k = omega (arith, g, e, h, k)
 
 -- what has types that are known by their names alone asks nothing as it is
-named_idles : (o : Option ServerFault) (limits : Bounds) (first : StreamSeen) (a m : ConnSeen) (r : Request) (said : List FrontendMessage) (fs : List Frame) (shown : List Item) (end : End) (x : Extended) → a.broken ≡ o → a.groups ≡ 0 → a.earlier ≡ 0 → named_in r ≡ Some x → Ended limits first a m r shown end said fs → EndsOn o limits first a m r said (heard fs) shown end
+named_idles : (o : Option ServerFault) (limits : Bounds) (first : StreamSeen) (a m : ConnSeen) (r : Request) (said : List FrontendMessage) (fs : List Frame) (shown : List Item) (end : End) (x : Request) → a.broken ≡ o → a.groups ≡ 0 → a.earlier ≡ 0 → named_in r ≡ Some x → Ended limits first a m r shown end said fs → EndsOn o limits first a m r said (heard fs) shown end
     → (all_groups m ≡ 0) × (is_fine end ≡ false)
 named_idles None limits first a m r said fs shown end x w g e n ended ends =
     let h = (ended.at_once w).refused (inr (x, n)) in
@@ -205,7 +205,7 @@ polled_plain start at a b step out knows st k n opens later p ([], (m, (said, fs
     let stop : Place = next_place at m said found.1.own fs out.end in
     let turn = last_turn start begun.stream none_counted at a m step call out.items out.end said fs (begins_first start at a step st k later) p refl refl (polled_most step n) parts e last over found in
     let dues : EndsDuly at step r raw stop = duly_step start at a m step r raw said fs found.0 st n opens p ends found.1 refl (λ x. ap (λ (y : Call). request_of at.rule.depth (first_call at.rule y)) x) (λ w. turn.0.most (first_waits at.rule step.call w)) in
-    let asks_none = λ (x : Extended) (named : named_in r ≡ Some x). (
+    let asks_none = λ (x : Request) (named : named_in r ≡ Some x). (
     let idles = named_idles a.broken (limits_of step) begun.stream begun m r said fs out.items out.end x refl refl refl named ends ends.ends in
     subst (λ (c : ConnSeen). (all_groups (behind_end out.end c) ≡ 0) × ((behind_end out.end c).cache ≡ m.cache)) (sym (turn.2 idles.0)) (still_made out.end m idles.0 idles.1)).0 in
     let steps : StepsTo start at step real d = polled_turns start at a d step real stop knows st later p turn.0 asks_none (duly_out at step r raw real stop turn.1 (λ z f. subst (λ (c : ConnSeen). (all_groups (behind_end out.end c) ≡ 0) × ((behind_end out.end c).cache ≡ m.cache)) (sym (turn.2 z)) (still_made out.end m z f))
@@ -233,22 +233,22 @@ polled_step start at a b step out knows st k n opens later p (from, asked, inr h
     begun : ConnSeen
     begun = begun_call r a
 
-    by : (o : Option Extended) → named_in r ≡ o → LooksFirst o begun from asked → StepsTo start at step out b
+    by : (o : Option Request) → named_in r ≡ o → LooksFirst o begun from asked → StepsTo start at step out b
     by None e h = absurd h
-    by (Some x) e (whole, can, (learnt, next, looks, is, f)) =
-        let looks_so : LooksUp (requests.Describe x) at.learnt next learnt = subst (λ (l : Learnt). LooksUp (requests.Describe x) l next learnt) st.learnt looks in
-        let first = before_first at.rule at.rule.depth step.call x next at.learnt learnt e looks_so in
+    by (Some told) e (whole, can, (learnt, next, looks, is, f)) =
+        let looks_so : LooksUp told at.learnt next learnt = subst (λ (l : Learnt). LooksUp told l next learnt) st.learnt looks in
+        let first = before_first at.rule at.rule.depth step.call told next at.learnt learnt e looks_so in
         let known : ConnSeen = knowing learnt a in
         let asks : request_of at.rule.depth (exchange_for next) ≡ asked = exchange_asks at.rule.depth next first.stands ∙ sym first.same ∙ ap (λ (k : Rule). asked_by k next) (sym st.rule) ∙ sym is in
-        let from_is = looked_begun a r x asked next learnt from (named_is r x e) is f looks (first.held a.rule) in
+        let from_is = looked_begun a r told asked next learnt from (named_is r told e) (named_self r told e) is f looks (first.held a.rule) in
         let on_so = subst (λ (q : Request). OfLastOn step.polls begun.stream (λ y z. PlaysOne (limits_of step) begun.stream y b z out) (begun_call q known) q) (sym asks)
         (subst (λ (c : ConnSeen). OfLastOn step.polls begun.stream (λ y z. PlaysOne (limits_of step) begun.stream y b z out) c asked) from_is on) in
-        let t = turns_through on_so.0 start begun.stream none_counted (begun_at at learnt) known b step (exchange_for next) out (begins_before start at a step x next learnt st k e looks_so) p refl refl (polled_most step n)
+        let t = turns_through on_so.0 start begun.stream none_counted (begun_at at learnt) known b step (exchange_for next) out (begins_before start at a step told next learnt st k e looks_so) p refl refl (polled_most step n)
         (first.parts ∙ first_parts at.rule step.call) on_so.1 in
         let o = t.1 in
-        steps_to start at step out t.0 b learnt (exchange_for next) knows (subst (λ (z : Option Extended). BeginsAs z (first_call at.rule step.call) at.learnt out.groups (exchange_for next) learnt) (sym e) (inr (next, looks_so, refl))) o.turns (omega (arith, o.waits, p))
+        steps_to start at step out t.0 b learnt (exchange_for next) knows (subst (λ (z : Option Request). BeginsAs z (first_call at.rule step.call) at.learnt out.groups (exchange_for next) learnt) (sym e) (inr (next, looks_so, refl))) o.turns (omega (arith, o.waits, p))
         (omega (arith, o.calls, ap (λ (y : StreamSeen). y.link.calls) st.seen)) (λ z. dropped_before (parting_of step.call) at learnt step out t.0 (o.dropped z)) (λ now. let y = sym later ∙ now in absurd cc)
-        (λ y. duly_looked at step r out t.0 x n opens (sym st.broken ∙ whole) can e (λ c. ap (λ (z : Call). request_of at.rule.depth (first_call at.rule z)) c) o.few (λ w. o.most (ap waits_how first.how ∙ first_waits at.rule step.call w)))
+        (λ y. duly_looked at step r out t.0 told n opens (sym st.broken ∙ whole) can e (λ c. ap (λ (z : Call). request_of at.rule.depth (first_call at.rule z)) c) o.few (λ w. o.most (ap waits_how first.how ∙ first_waits at.rule step.call w)))
 
 -- a step that does nothing, and is no failure of the server
 abbrev IsQuiet : End → Type 0
@@ -480,7 +480,7 @@ acts_first rule calls.StartRollback acts = refl
 acts_first rule (calls.Release text) acts = refl
 acts_first rule _ acts = absurd cc
 
-acts_unnamed : (d : ℕ) (call : Call) (x : Extended) → acts_at_once call ≡ true → named_in (request_of d call) ≡ Some x → ⊥
+acts_unnamed : (d : ℕ) (call : Call) (x : Request) → acts_at_once call ≡ true → named_in (request_of d call) ≡ Some x → ⊥
 acts_unnamed d calls.StartRollback x acts e = cc
 acts_unnamed d (calls.Release text) x acts e = cc
 acts_unnamed d _ x acts e = absurd cc

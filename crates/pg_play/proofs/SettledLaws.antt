@@ -166,6 +166,7 @@ opens_begins d (calls.Prepare preparation) = refl
 opens_begins d calls.Clear = refl
 opens_begins d (calls.Evict eviction) = refl
 opens_begins d (calls.Look lookup) = refl
+opens_begins d (calls.Fill filling) = refl
 opens_begins d (calls.Tell prepared) = refl
 opens_begins d (calls.CloseAll statements) = refl
 
@@ -196,6 +197,7 @@ depth_ok d (calls.Prepare preparation) groups end f a b = refl
 depth_ok d calls.Clear groups end f a b = refl
 depth_ok d (calls.Evict eviction) groups end f a b = refl
 depth_ok d (calls.Look lookup) groups end f a b = refl
+depth_ok d (calls.Fill filling) groups end f a b = refl
 depth_ok d (calls.Tell prepared) groups end f a b = refl
 depth_ok d (calls.CloseAll statements) groups end f a b = refl
 
@@ -224,6 +226,7 @@ depth_other d (calls.Prepare preparation) end f a = refl
 depth_other d calls.Clear end f a = refl
 depth_other d (calls.Evict eviction) end f a = refl
 depth_other d (calls.Look lookup) end f a = refl
+depth_other d (calls.Fill filling) end f a = refl
 depth_other d (calls.Tell prepared) end f a = refl
 depth_other d (calls.CloseAll statements) end f a = refl
 
@@ -278,7 +281,9 @@ cleanup_polled d calls.Clear end (g ∷ gs) n a = refl
 cleanup_polled d (calls.Evict eviction) end [] n a = refl
 cleanup_polled d (calls.Evict eviction) end (g ∷ gs) n a = refl
 cleanup_polled d (calls.Look lookup) end [] n a = refl
+cleanup_polled d (calls.Fill filling) end [] n a = refl
 cleanup_polled d (calls.Look lookup) end (g ∷ gs) n a = refl
+cleanup_polled d (calls.Fill filling) end (g ∷ gs) n a = refl
 cleanup_polled d (calls.Tell prepared) end [] n a = refl
 cleanup_polled d (calls.Tell prepared) end (g ∷ gs) n a = refl
 cleanup_polled d (calls.CloseAll statements) end [] n a = refl

@@ -82,6 +82,7 @@ no_close d (calls.Prepare preparation) = refl
 no_close d calls.Clear = refl
 no_close d (calls.Evict eviction) = refl
 no_close d (calls.Look lookup) = refl
+no_close d (calls.Fill filling) = refl
 no_close d (calls.Tell prepared) = refl
 no_close d (calls.CloseAll statements) = refl
 
@@ -112,6 +113,7 @@ closes_none d (calls.Prepare preparation) e = cc
 closes_none d calls.Clear e = cc
 closes_none d (calls.Evict eviction) e = cc
 closes_none d (calls.Look lookup) e = cc
+closes_none d (calls.Fill filling) e = cc
 closes_none d (calls.Tell prepared) e = cc
 closes_none d (calls.CloseAll statements) e = cc
 
@@ -142,6 +144,7 @@ at_most_group d (calls.Prepare preparation) = inl refl
 at_most_group d calls.Clear = inl refl
 at_most_group d (calls.Evict eviction) = inr refl
 at_most_group d (calls.Look lookup) = inr refl
+at_most_group d (calls.Fill filling) = inr refl
 at_most_group d (calls.Tell prepared) = inl refl
 at_most_group d (calls.CloseAll statements) = inr refl
 
@@ -171,6 +174,7 @@ begins_one d (calls.Prepare preparation) b e = cc
 begins_one d calls.Clear b e = cc
 begins_one d (calls.Evict eviction) b e = cc
 begins_one d (calls.Look lookup) b e = cc
+begins_one d (calls.Fill filling) b e = cc
 begins_one d (calls.Tell prepared) b e = cc
 begins_one d (calls.CloseAll statements) b e = cc
 
@@ -194,6 +198,7 @@ flush_shows d (calls.Prepare preparation) items e = none_shown kinds.Flush items
 flush_shows d calls.Clear items e = none_shown kinds.Flush items (λ x. refl)
 flush_shows d (calls.Evict eviction) items e = absurd cc
 flush_shows d (calls.Look lookup) items e = absurd cc
+flush_shows d (calls.Fill filling) items e = absurd cc
 flush_shows d (calls.Tell prepared) items e = none_shown kinds.Prepare items (λ x. refl)
 flush_shows d (calls.CloseAll statements) items e = absurd cc
 flush_shows d calls.Ping items e = absurd cc

@@ -3,7 +3,6 @@ use Rattle.std.proofs.Common.{nat_eq, cond, ◌≡◌, ℕ, ◌+◌, ◌*◌, �
 use Rattle.std.proofs.lemmas.Option.{same_Some}
 use Rattle.pg_wire.specs.Backend.{BackendMessage}
 use Rattle.pg_rule.specs.declared.rule.Rule.{Rule}
-use Rattle.pg_call.specs.declared.statement.Extended.{Extended}
 use Rattle.pg_call.specs.declared.statement.After.TheVariants as afters
 use Rattle.pg_call.specs.declared.statement.After.{After}
 use Rattle.pg_call.specs.declared.statement.Goal.TheVariants as goals
@@ -37,7 +36,7 @@ use Rattle.pg_call.specs.declared.answer.Turn.TheVariants as turns
 use Rattle.pg_call.specs.declared.calling.Call.TheVariants as calls
 use Rattle.pg_call.specs.declared.calling.Beat.{Beat}
 use Rattle.pg_call.specs.declared.calling.Beat.TheVariants as beats
-use Rattle.pg_call.specs.Requests.{CanBeSaid, IsRefusal, kind_of, main_kind, change_of, goal_kind, after_kind, request_behind}
+use Rattle.pg_call.specs.Requests.{CanBeSaid, IsRefusal, kind_of, main_kind, change_of, goal_kind, after_kind, request_behind, looked_behind}
 use Rattle.pg_call.specs.Items.{own_items, shown}
 use Rattle.pg_call.specs.Calls.{CallIs, EndsFine, next_of}
 use Rattle.pg_call.specs.Hearing.{IsOpen}
@@ -49,7 +48,7 @@ use Rattle.pg_call.proofs.FitLaws.{hands_on_described, next_is}
 use Rattle.pg_conn.specs.Connections.{ConnSeen, begun_with, handed, settled, runs, left, started_call, cleaned, ended, idle, resolved, resolved_by}
 use Rattle.pg_learning.specs.declared.learnt.Learnt.{Learnt}
 use Rattle.pg_conn.specs.Looking.{AsksNamed, AsksNext, LooksUp, named_by, named_in}
-use Rattle.pg_conn.proofs.FirstLaws.{IsHanded, handed_unnamed, polls_refused}
+use Rattle.pg_conn.proofs.FirstLaws.{IsHanded, handed_unnamed, polls_refused, named_flushes}
 use Rattle.pg_conn.proofs.StateLaws.{named_asked}
 use Rattle.pg_conn.proofs.FeedingLaws.{copies_main}
 use Rattle.pg_conn.proofs.StatementLaws.{asked_main}
@@ -80,10 +79,12 @@ on_last polls first P Q a r f (from, asked, starts, on) = (from, asked, starts, 
 handed_is : (r : Request) (reply : List BackendMessage) (told : Request) → next_of r reply ≡ Some told → IsHanded told
 handed_is (requests.Describe x) reply told e = subst IsHanded (same_Some (told_by x reply) told e) tt
 handed_is (requests.Look l) reply told e = subst IsHanded (same_Some (requests.Describe l.extended) told e) tt
+handed_is (requests.Fill f) reply told e = subst IsHanded (same_Some (requests.Run (looked_behind f.bound)) told e) tt
 handed_is (requests.Evict v) reply told e = subst IsHanded (same_Some (request_behind v.after) told e) (by v.after)
   where
     by : (a : After) → IsHanded (request_behind a)
     by (afters.Run bound) = tt
+    by (afters.Fill filling) = tt
     by (afters.Prepare prepared) = refl
 handed_is _ reply told e = absurd cc
 
@@ -151,6 +152,7 @@ described_stays (requests.Evict eviction) k = by eviction.after
   where
     by : (after : After) → change_of (after_kind after) ≡ changes.Stays
     by (afters.Run bound) = refl
+    by (afters.Fill filling) = refl
     by (afters.Prepare prepared) = refl
 described_stays (requests.Look lookup) k = by lookup.extended.goal
   where
@@ -158,6 +160,7 @@ described_stays (requests.Look lookup) k = by lookup.extended.goal
     by (goals.Run how) = refl
     by goals.Prepare = refl
 described_stays (requests.Run bound) k = refl
+described_stays (requests.Fill filling) k = refl
 described_stays _ k = absurd cc
 
 -- nor is it a copy from the client
@@ -171,7 +174,9 @@ described_main (requests.Evict eviction) k e = by eviction.after e
   where
     by : (after : After) → after_kind after ≡ kinds.CopyIn → ⊥
     by (afters.Run bound) e = cc
+    by (afters.Fill filling) e = cc
     by (afters.Prepare prepared) e = cc
+described_main (requests.Fill filling) k e = cc
 described_main (requests.Look lookup) k e = by lookup.extended.goal e
   where
     by : (goal : Goal) → goal_kind goal ≡ kinds.CopyIn → ⊥
@@ -183,7 +188,10 @@ described_main _ k e = absurd cc
 looked_main : (told next : Request) → LeadsTo told next → main_kind next ≡ main_kind told
 looked_main told next (inl same) = ap main_kind same
 looked_main told next (inr (inl l)) = ap main_kind l.asks ∙ sym (ap main_kind l.tells)
-looked_main told next (inr (inr f)) = ap main_kind f.asks ∙ sym (ap main_kind f.tells)
+looked_main told next (inr (inr (inl f))) = ap main_kind f.asks ∙ sym (ap main_kind f.tells)
+looked_main told next (inr (inr (inr (inl r)))) = ap main_kind r.asks ∙ sym (ap main_kind r.tells)
+looked_main told next (inr (inr (inr (inr (inl f))))) = ap main_kind f.asks ∙ sym (ap main_kind f.tells)
+looked_main told next (inr (inr (inr (inr (inr f))))) = ap main_kind f.asks ∙ sym (ap main_kind f.tells)
 
 handed_main : (polls : ℕ) (first : StreamSeen) (a m : ConnSeen) (r told next : Request) (learnt : Learnt) → HandedOn polls first a m r told → LooksUp told m.learnt next learnt → main_kind next ≡ main_kind r
 handed_main polls first a m r told next learnt h looks = looked_main told next (looks_or told next m.learnt learnt looks) ∙ (next_is r h.ends.0.0.reply h.ends.0.0.status told h.ends.0.1).0
@@ -384,32 +392,62 @@ turns_on polls most first a b c r waits shown answer l e n i t = by t.later t.ha
 
 -- ---- the first poll of a call whose types are known by their names alone
 
-pub named_is : (r : Request) (x : Extended) → named_in r ≡ Some x → r ≡ requests.Describe x
-named_is r x e = by (named_asked (calls.Asked r) x e)
+pub named_is : (r told : Request) → named_in r ≡ Some told → r ≡ told
+named_is r told e = by (named_asked (calls.Asked r) told e)
   where
-    by : calls.Asked r ≡ calls.Asked (requests.Describe x) → r ≡ requests.Describe x
+    by : calls.Asked r ≡ calls.Asked told → r ≡ told
     by e = cc
 
--- what is looked up for a description opens and closes nothing
-pub looked_stays : (rule : Rule) (x : Extended) (next : Request) (a b : Learnt) → LooksUp (requests.Describe x) a next b → change_for (asked_by rule next) ≡ changes.Stays
-looked_stays rule x next a b looks =
-    let main = looked_main (requests.Describe x) next (looks_or (requests.Describe x) next a b looks) in
-    not_fed (asked_by rule next) (λ e. described_main (requests.Describe x) refl (sym main ∙ sym (asked_main rule next) ∙ e)) ∙ asked_changes rule next ∙ ap change_of main ∙ described_stays (requests.Describe x) refl
+-- it describes a statement, or runs one
+named_stays : (r told : Request) → named_in r ≡ Some told → change_of (main_kind r) ≡ changes.Stays
+named_stays (requests.Describe x) told e = described_stays (requests.Describe x) refl
+named_stays (requests.Run bound) told e = refl
+named_stays _ told e = absurd cc
 
-looks_first : (polls most : ℕ) (first : StreamSeen) (a b c now : ConnSeen) (r : Request) (waits : ℕ) (shown : List Item) (answer : Poll Turn) → waits < polls → a.broken ≡ None → IsPlayingOn None most first a b r waits shown → (x : Extended) → named_by (resolved (begun_with 256 b)).call ≡ Some x
-    → CanBeSaid (requests.Describe x) → (next : Request) → AsksNext (requests.Describe x) (resolved (begun_with 256 b)) next now → PollsOn now c answer → OfLast polls first (Turned most first c waits shown answer) a r
-looks_first polls most first a b c now r waits shown answer l whole i x n can next (learnt, looks, is) t =
-    let asked_x : (resolved (begun_with 256 b)).call ≡ calls.Asked (requests.Describe x) = named_asked (resolved (begun_with 256 b)).call x n in
-    let in_call : (resolved b).call ≡ calls.Asked (requests.Describe x) = ap (λ (y : ConnSeen). y.call) (sym (begun_resolved b)) ∙ asked_x in
+named_plain : (r told : Request) → named_in r ≡ Some told → change_for r ≡ changes.Stays
+named_plain (requests.Describe x) told e = refl
+named_plain (requests.Run bound) told e = refl
+named_plain _ told e = absurd cc
+
+named_main : (r told : Request) → named_in r ≡ Some told → main_kind r ≡ kinds.CopyIn → ⊥
+named_main (requests.Describe x) told e k = described_main (requests.Describe x) refl k
+named_main (requests.Run bound) told e k = cc
+named_main _ told e k = absurd cc
+
+named_handed : (r told : Request) → named_in r ≡ Some told → IsHanded r
+named_handed (requests.Describe x) told e = tt
+named_handed (requests.Run bound) told e = tt
+named_handed _ told e = absurd cc
+
+named_again : (r told : Request) → named_in r ≡ Some told → again r ≡ 0
+named_again (requests.Describe x) told e = refl
+named_again (requests.Run bound) told e = refl
+named_again _ told e = absurd cc
+
+pub named_self : (r told : Request) → named_in r ≡ Some told → named_in told ≡ Some told
+named_self r told e = ap named_in (sym (named_is r told e)) ∙ e
+
+-- what is looked up for it opens and closes nothing
+pub looked_stays : (rule : Rule) (told next : Request) (a b : Learnt) → named_in told ≡ Some told → LooksUp told a next b → change_for (asked_by rule next) ≡ changes.Stays
+looked_stays rule told next a b named looks =
+    let main = looked_main told next (looks_or told next a b looks) in
+    not_fed (asked_by rule next) (λ e. named_main told told named (sym main ∙ sym (asked_main rule next) ∙ e)) ∙ asked_changes rule next ∙ ap change_of main ∙ named_stays told told named
+
+looks_first : (polls most : ℕ) (first : StreamSeen) (a b c now : ConnSeen) (r : Request) (waits : ℕ) (shown : List Item) (answer : Poll Turn) → waits < polls → a.broken ≡ None → IsPlayingOn None most first a b r waits shown → (told : Request) → named_by (resolved (begun_with 256 b)).call ≡ Some told
+    → CanBeSaid told → (next : Request) → AsksNext told (resolved (begun_with 256 b)) next now → PollsOn now c answer → OfLast polls first (Turned most first c waits shown answer) a r
+looks_first polls most first a b c now r waits shown answer l whole i told n can next (learnt, looks, is) t =
+    let asked_x : (resolved (begun_with 256 b)).call ≡ calls.Asked told = named_asked (resolved (begun_with 256 b)).call told n in
+    let in_call : (resolved b).call ≡ calls.Asked told = ap (λ (y : ConnSeen). y.call) (sym (begun_resolved b)) ∙ asked_x in
     let runs_so = subst (λ (k : Call). CallIs a.ledger r i.1 (heard i.2) i.0 (resolved b).ledger k) in_call i.5.call in
-    let named : named_in r ≡ Some x = ap named_in (sym runs_so.0) ∙ subst (λ (k : Call). named_by k ≡ Some x) asked_x n in
-    let fresh = i.5.unsaid (inr (x, named)) in
+    let self : named_in told ≡ Some told = subst (λ (k : Call). named_by k ≡ Some told) asked_x n in
+    let named : named_in r ≡ Some told = ap named_in (sym runs_so.0) ∙ self in
+    let fresh = i.5.unsaid (inr (told, named)) in
     let begun : resolved (begun_with 256 b) ≡ begun_with 256 a = begun_resolved b ∙ ap (λ (y : ConnSeen). begun_with 256 y) fresh.0 in
-    let looks_so : LooksUp (requests.Describe x) a.learnt next learnt = subst (λ (y : ConnSeen). LooksUp (requests.Describe x) y.learnt next learnt) begun looks in
+    let looks_so : LooksUp told a.learnt next learnt = subst (λ (y : ConnSeen). LooksUp told y.learnt next learnt) begun looks in
     let asking_on : ConnSeen = handed next (knowing learnt a) in
     let from : ConnSeen = resolved asking_on in
     let asked : Request = asked_by a.rule next in
-    let change : from.change ≡ change_for asked = i.5.asked ∙ ap (λ (q : Request). change_for q) (sym runs_so.0) ∙ sym (looked_stays a.rule x next a.learnt learnt looks_so) in
+    let change : from.change ≡ change_for asked = i.5.asked ∙ ap (λ (q : Request). change_for q) (sym runs_so.0) ∙ named_plain told told self ∙ sym (looked_stays a.rule told next a.learnt learnt self looks_so) in
     let play = fresh_play from asked whole refl change in
     let moved : (resolved b).stream.link.calls ≡ a.stream.link.calls = ap (λ (y : ConnSeen). y.stream.link.calls) fresh.0 in
     let j : InPlay first from from asked waits [] [] [] = record {
@@ -419,32 +457,32 @@ looks_first polls most first a b c now r waits shown answer l whole i x n can ne
       asked = play.asked;
       room = play.room;
       waited = subst (λ (y : ConnSeen). Waited waits first y.stream) fresh.0 i.5.waited;
-      calls = omega (arith, i.5.calls, moved, ap (λ (ys : List CallItem). length ys) runs_so.4, described_again r (ap kind_of (sym runs_so.0)));
+      calls = omega (arith, i.5.calls, moved, ap (λ (ys : List CallItem). length ys) runs_so.4, named_again r told named);
       unsaid = play.unsaid;
       unflushed = play.unflushed;
     } in
-    let on = turns_on polls most first from asking_on c asked waits shown answer l whole (handed_unnamed a.rule (requests.Describe x) next a.learnt learnt tt looks_so) ([], [], [], i.3 ∙ ap (map item_of) runs_so.4, i.4, j)
+    let on = turns_on polls most first from asking_on c asked waits shown answer l whole (handed_unnamed a.rule told next a.learnt learnt (named_handed told told self) looks_so) ([], [], [], i.3 ∙ ap (map item_of) runs_so.4, i.4, j)
     (subst (λ (y : ConnSeen). PollsOn y c answer) (is ∙ ap (λ (y : ConnSeen). handed next (record y { learnt = learnt })) begun) t) in
-    (from, asked, inr (subst (λ (o : Option Extended). LooksFirst o a from asked) (sym named) (whole, can, (learnt, next, looks_so, refl, refl))), on)
+    (from, asked, inr (subst (λ (o : Option Request). LooksFirst o a from asked) (sym named) (whole, can, (learnt, next, looks_so, refl, refl))), on)
 
 -- it is refused before anything is looked up for it
-refused_first : (polls most : ℕ) (first : StreamSeen) (a b c : ConnSeen) (r : Request) (waits : ℕ) (shown : List Item) (x : Extended) (e : Error) → a.broken ≡ None → IsPlayingOn None most first a b r waits shown → named_by (resolved (begun_with 256 b)).call ≡ Some x
-    → IsRefusal (requests.Describe x) e → c ≡ cleaned (idle (resolved (begun_with 256 b))) → OfLast polls first (Turned most first c waits shown (Ready (turns.Err e))) a r
-refused_first polls most first a b c r waits shown x e whole i n h is =
-    let one = polls_refused (begun_with 256 b) c x e (sym (resolved_broken b) ∙ i.5.broken) (named_asked (resolved (begun_with 256 b)).call x n) h is in
+refused_first : (polls most : ℕ) (first : StreamSeen) (a b c : ConnSeen) (r : Request) (waits : ℕ) (shown : List Item) (told : Request) (e : Error) → a.broken ≡ None → IsPlayingOn None most first a b r waits shown → named_by (resolved (begun_with 256 b)).call ≡ Some told
+    → IsRefusal told e → c ≡ cleaned (idle (resolved (begun_with 256 b))) → OfLast polls first (Turned most first c waits shown (Ready (turns.Err e))) a r
+refused_first polls most first a b c r waits shown told e whole i n h is =
+    let one = polls_refused (begun_with 256 b) c told e (sym (resolved_broken b) ∙ i.5.broken) (named_flushes (resolved (begun_with 256 b)).call told n) (named_asked (resolved (begun_with 256 b)).call told n) h is in
     let p = subst (λ (y : ConnSeen). (q : Polled y c (beats.Ends (Err e))) × Refused y q.stopped (beats.Ends (Err e))) (begun_resolved b) one in
     (a, r, inl (refl, refl), ([], turned_whole most first a c r waits shown (Ready (turns.Err e)) None whole (i.0, i.3, i.4, p.0.stopped, p.0.behind_is, goes_on most first a b c r waits shown (beats.Ends (Err e)) i p.0 (inr p.1), p.0.asked) (λ next z. absurd cc)))
 
 turns_through : (polls most : ℕ) (first : StreamSeen) (a b c : ConnSeen) (r : Request) (waits : ℕ) (shown : List Item) (answer : Poll Turn) → waits < polls → a.broken ≡ None → IsPlayingOn None most first a b r waits shown → PollsThrough (begun_with 256 b) c answer → OfLast polls first (Turned most first c waits shown answer) a r
 turns_through polls most first a b c r waits shown answer l e i (now, begins, t) = starts begins
   where
-    asks : (o : Option Extended) → named_by (resolved (begun_with 256 b)).call ≡ o → AsksNamed o (begun_with 256 b) now → OfLast polls first (Turned most first c waits shown answer) a r
+    asks : (o : Option Request) → named_by (resolved (begun_with 256 b)).call ≡ o → AsksNamed o (begun_with 256 b) now → OfLast polls first (Turned most first c waits shown answer) a r
     asks None n same =
         let plain : named_by (resolved b).call ≡ None = ap (λ (x : ConnSeen). named_by x.call) (sym (begun_resolved b)) ∙ n in
         (a, r, inl (refl, refl), turns_on polls most first a b c r waits shown answer l e plain i (subst (λ (x : ConnSeen). PollsOn x c answer) same t))
     asks (Some x) n (can, (next, looks)) = looks_first polls most first a b c now r waits shown answer l e i x n can next looks t
 
-    refused : (o : Option Extended) → named_by (resolved (begun_with 256 b)).call ≡ o → (z : Poll Turn) → RefusesNamed o (begun_with 256 b) c z → OfLast polls first (Turned most first c waits shown z) a r
+    refused : (o : Option Request) → named_by (resolved (begun_with 256 b)).call ≡ o → (z : Poll Turn) → RefusesNamed o (begun_with 256 b) c z → OfLast polls first (Turned most first c waits shown z) a r
     refused None n z h = absurd h
     refused (Some x) n Pending h = absurd h
     refused (Some x) n (Ready (turns.Item item)) h = absurd h
@@ -481,7 +519,7 @@ turns_plain polls most first a b c r waits shown answer n l i p = by a.broken re
     called said fs items ledger _ h = refl
 
     begins_at : (now : ConnSeen) → named_by (resolved (begun_with 256 b)).call ≡ None → BeginsBy (begun_with 256 b) now c answer → now ≡ begun_with 256 b
-    begins_at now none (inl h) = subst (λ (o : Option Extended). AsksNamed o (begun_with 256 b) now) none h
+    begins_at now none (inl h) = subst (λ (o : Option Request). AsksNamed o (begun_with 256 b) now) none h
     begins_at now none (inr (same, h)) = same
 
     by : (o : Option ServerFault) → a.broken ≡ o → IsPlayingOn o most first a b r waits shown → OfLastOn polls first (Turned most first c waits shown answer) a r
@@ -502,11 +540,11 @@ turns_last (next ∷ later) polls most first a b c r waits shown answer n l (m, 
 
 -- what comes before a description has no such type either
 starts_unnamed : (a from : ConnSeen) (r asked : Request) → LooksFirst (named_in r) a from asked → named_in asked ≡ None
-starts_unnamed a from r asked h = by (named_in r) h
+starts_unnamed a from r asked h = by (named_in r) refl h
   where
-    by : (o : Option Extended) → LooksFirst o a from asked → named_in asked ≡ None
-    by None h = absurd h
-    by (Some x) (whole, can, (learnt, next, looks, is, f)) = ap named_in is ∙ handed_unnamed a.rule (requests.Describe x) next a.learnt learnt tt looks
+    by : (o : Option Request) → named_in r ≡ o → LooksFirst o a from asked → named_in asked ≡ None
+    by None n h = absurd h
+    by (Some told) n (whole, can, (learnt, next, looks, is, f)) = ap named_in is ∙ handed_unnamed a.rule told next a.learnt learnt (named_handed told told (named_self r told n)) looks
 
 call_turns : (limits : Limits) (a b c : ConnSeen) (r : Request) (waits : ℕ) (shown : List Item) (answer : Poll Turn) → waits < limits.polls → IsCallPlaying limits a b r waits shown → PollsBy b.broken (begun_with 256 b) b c answer → OfLast limits.polls a.stream (Turned limits.most a.stream c waits shown answer) a r
 call_turns limits a b c r waits shown answer l (from, asked, inl (f, q), ([], i)) p =
@@ -616,10 +654,10 @@ starts_main : (a from : ConnSeen) (r asked : Request) → StartsAt a r from aske
 starts_main a from r asked (inl (f, q)) = ap main_kind q
 starts_main a from r asked (inr h) = by (named_in r) refl h
   where
-    by : (o : Option Extended) → named_in r ≡ o → LooksFirst o a from asked → main_kind asked ≡ main_kind r
+    by : (o : Option Request) → named_in r ≡ o → LooksFirst o a from asked → main_kind asked ≡ main_kind r
     by None e h = absurd h
-    by (Some x) e (whole, can, (learnt, next, looks, is, f)) =
-        ap main_kind is ∙ asked_main a.rule next ∙ looked_main (requests.Describe x) next (looks_or (requests.Describe x) next a.learnt learnt looks) ∙ sym (ap main_kind (named_is r x e))
+    by (Some told) e (whole, can, (learnt, next, looks, is, f)) =
+        ap main_kind is ∙ asked_main a.rule next ∙ looked_main told next (looks_or told next a.learnt learnt looks) ∙ sym (ap main_kind (named_is r told e))
 
 -- what copies nothing from the client opens no copy
 pub unopened : (limits : Limits) (old b : ConnSeen) (request : Request) (waits : ℕ) (shown : List Item) → IsUncopied request → Pauses limits (first_conn request old) b (first_exchange request old) waits shown pauses.Opened → ⊥
@@ -637,6 +675,7 @@ unopened limits old b request waits shown u (from, asked, starts, on) =
 
     after_other : (after : After) → after_kind after ≡ kinds.CopyIn → ⊥
     after_other (afters.Run bound) e = cc
+    after_other (afters.Fill filling) e = cc
     after_other (afters.Prepare prepared) e = cc
 
     other : (request : Request) → IsUncopied request → main_kind (begun_as (left old).rule request) ≡ kinds.CopyIn → ⊥
@@ -645,6 +684,7 @@ unopened limits old b request waits shown u (from, asked, starts, on) =
     other (requests.Evict v) u e = after_other v.after e
     other (requests.Look lookup) u e = goals_other lookup.extended.goal e
     other (requests.Run bound) u e = cc
+    other (requests.Fill filling) u e = cc
     other (requests.Clear statements) u e = clears (nat_eq (length (left old).rule.cache.entries) 0) statements e
     other _ u e = cc
 

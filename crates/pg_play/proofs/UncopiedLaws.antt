@@ -41,6 +41,7 @@ exchange_plain (requests.Describe x) = refl
 exchange_plain (requests.Run bound) = refl
 exchange_plain (requests.Evict v) = refl
 exchange_plain (requests.Look lookup) = refl
+exchange_plain (requests.Fill filling) = refl
 exchange_plain (requests.Prepare p) = refl
 exchange_plain (requests.Clear statements) = refl
 exchange_plain _ = refl
@@ -145,7 +146,7 @@ handed_plain at (s ∷ t ∷ more) (o ∷ outs) last run first rest e n h =
     (ap (λ (x : Step). is_fed x.call) same ∙ n, handed_plain run.0 (t ∷ more) outs last run.2 t more refl (next_plain run.0.rule run.1.settles.asks t.call h.0.1) h.1)
 
 -- nor is what comes before it
-begins_plain : (o : Option Extended) (first : Call) (at : Learnt) (groups : ℕ) (call : Call) (learnt : Learnt) → is_fed first ≡ false → BeginsAs o first at groups call learnt → is_fed call ≡ false
+begins_plain : (o : Option Request) (first : Call) (at : Learnt) (groups : ℕ) (call : Call) (learnt : Learnt) → is_fed first ≡ false → BeginsAs o first at groups call learnt → is_fed call ≡ false
 begins_plain None first at groups call learnt n (same, l) = ap is_fed same ∙ n
 begins_plain (Some x) first at groups call learnt n (inl (same, l, g)) = ap is_fed same ∙ n
 begins_plain (Some x) first at groups call learnt n (inr (next, looks, is)) = ap is_fed is ∙ by next
@@ -155,6 +156,7 @@ begins_plain (Some x) first at groups call learnt n (inr (next, looks, is)) = ap
     by (requests.Run bound) = refl
     by (requests.Evict eviction) = refl
     by (requests.Look lookup) = refl
+    by (requests.Fill filling) = refl
     by (requests.Prepare prepared) = refl
     by (requests.Clear statements) = refl
     by _ = refl

@@ -14,7 +14,6 @@ use Rattle.pg_request.specs.declared.progress.CacheStep.TheVariants as cache
 use Rattle.pg_stream.specs.Links.{RoseBy, Rose, GrewBy}
 use Rattle.pg_stream.specs.Streams.{StreamSeen, Tallies, HasNone}
 use Rattle.pg_call.specs.declared.request.Request.{Request}
-use Rattle.pg_call.specs.declared.statement.Extended.{Extended}
 use Rattle.pg_call.specs.declared.request.Request.TheVariants as requests
 use Rattle.pg_call.specs.declared.answer.CallItem.{CallItem}
 use Rattle.pg_call.specs.declared.answer.CallAnswer.{CallAnswer}
@@ -142,7 +141,7 @@ all_groups c = min (c.earlier + c.groups) (2 ^ 64 - 1)
 
 -- what is not asked by its first poll: what no frame can say, and what has types that are known by their names alone
 abbrev pub IsHeldBack : Request → Type 0
-IsHeldBack r = (CanBeSaid r → ⊥) ⊎ ((x : Extended) × (named_in r ≡ Some x))
+IsHeldBack r = (CanBeSaid r → ⊥) ⊎ ((told : Request) × (named_in r ≡ Some told))
 
 -- it was not polled yet
 abbrev pub IsFresh : ConnSeen → ConnSeen → Request → List Frame → Type 0
@@ -347,12 +346,12 @@ OfLastIn (next ∷ later) polls first P a r = (m : ConnSeen) × (h : HandsTo pol
 abbrev pub OfLastOn : ℕ → StreamSeen → (ConnSeen → Request → Type 0) → ConnSeen → Request → Type 0
 OfLastOn polls first P a r = (later : List Request) × OfLastIn later polls first P a r
 
--- Where a statement has types that are known by their names alone, what has to be looked up for it is asked first, or it is asked with their OIDs; the
--- exchange begins on this connection, with what is learnt then.
-abbrev pub LooksFirst : Option Extended → ConnSeen → ConnSeen → Request → Type 0
+-- Where a statement, or what it is run with, has types that are known by their names alone, what has to be looked up for it is asked first, or it is asked with
+-- their OIDs; the exchange begins on this connection, with what is learnt then.
+abbrev pub LooksFirst : Option Request → ConnSeen → ConnSeen → Request → Type 0
 LooksFirst None a from asked = ⊥
-LooksFirst (Some x) a from asked = (a.broken ≡ None) × CanBeSaid (requests.Describe x)
-    × ((learnt : Learnt) × (next : Request) × LooksUp (requests.Describe x) a.learnt next learnt × (asked ≡ asked_by a.rule next) × (from ≡ resolved (handed next (knowing learnt a))))
+LooksFirst (Some told) a from asked = (a.broken ≡ None) × CanBeSaid told
+    × ((learnt : Learnt) × (next : Request) × LooksUp told a.learnt next learnt × (asked ≡ asked_by a.rule next) × (from ≡ resolved (handed next (knowing learnt a))))
 
 -- the first exchange is the one that begins here, or comes before that
 abbrev pub StartsAt : ConnSeen → Request → ConnSeen → Request → Type 0

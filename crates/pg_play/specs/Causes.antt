@@ -22,11 +22,7 @@ use Rattle.pg_call.specs.Requests.{Group, groups_of, widths_of, CanBeSaid, IsRef
 use Rattle.pg_call.specs.declared.request.Request.{Request}
 use Rattle.pg_call.specs.Replies.{awaits_first, part_after, may_stray}
 use Rattle.pg_call.specs.Calls.{HasMessage}
-use Rattle.pg_call.specs.declared.statement.Lookup.{Lookup}
-use Rattle.pg_learning.specs.declared.learnt.Seeking.{Seeking}
-use Rattle.pg_learning.specs.Learning.{FailsSeeking}
-use Rattle.pg_learning.specs.declared.learnt.Learnt.{Learnt}
-use Rattle.pg_conn.specs.Looking.{FailsRow, MissesName}
+use Rattle.pg_conn.specs.Looking.{LookFails}
 use Rattle.pg_report.specs.declared.outcome.Answer.TheVariants.{Unit as AnswersUnit}
 use Rattle.pg_report.specs.declared.outcome.End.{End}
 use Rattle.pg_report.specs.declared.outcome.End.TheVariants as ends
@@ -105,10 +101,6 @@ pub record BeginsNone (at : Place) (step : Step) (own : List Group) (slice : Lis
   pub slice_is : slice ≡ front ++ backend_frame (ReadyForQuery status) ∷ []
   pub other : status ≢ statuses.Transaction
 
--- With so much learnt, a lookup isn't asked since rows wait for types that nothing more asks for, or since a name has no OID; or its last row wasn't taken.
-abbrev pub FailsToLook : Step → List Frame → Learnt → Error → Type 0
-FailsToLook step slice learnt e = (lookup : Lookup) × (step.call ≡ calls.Look lookup) × (FailsSeeking learnt.seeking e ⊎ (FailsRow slice learnt e ⊎ MissesName lookup.extended learnt e))
-
 -- a text of its own would open a savepoint
 abbrev pub OpensSavepoint : Place → Step → Type 0
 OpensSavepoint at step = (begins_with step.call ≡ true) × (0 < at.rule.depth)
@@ -126,9 +118,9 @@ Causes at step own slice next (errors.Protocol (protocol.Caller fault)) = (own �
 Causes at step own slice next errors.RowNotFound = HasNoRow at step own slice next
 Causes at step own slice next (errors.BeginFailed status) = BeginsNone at step own slice status
 Causes at step own slice next errors.InvalidSavePointStatement = OpensSavepoint at step × (own ≡ []) × (slice ≡ [])
-Causes at step own slice next (errors.Protocol (protocol.Types oids)) = FailsToLook step slice next.learnt (errors.Protocol (protocol.Types oids))
-Causes at step own slice next (errors.ColumnDecode place) = FailsToLook step slice next.learnt (errors.ColumnDecode place)
-Causes at step own slice next (errors.TypeNotFound name) = FailsToLook step slice next.learnt (errors.TypeNotFound name)
+Causes at step own slice next (errors.Protocol (protocol.Types oids)) = LookFails (request_of at.rule.depth step.call) slice next.learnt (errors.Protocol (protocol.Types oids))
+Causes at step own slice next (errors.ColumnDecode place) = LookFails (request_of at.rule.depth step.call) slice next.learnt (errors.ColumnDecode place)
+Causes at step own slice next (errors.TypeNotFound name) = LookFails (request_of at.rule.depth step.call) slice next.learnt (errors.TypeNotFound name)
 Causes at step own slice next _ = ⊥
 
 -- ---- why a step was dropped

@@ -1,5 +1,5 @@
 -- How a step may end where nobody failed: neither the link nor the server.
-use Rattle.std.specs.Prelude.{◌≡◌, ◌+◌, ◌*◌, ◌≤◌, ◌⊎◌, ℕ, true, false, List, [], ◌∷◌, ◌++◌, length, map, ◌≢◌}
+use Rattle.std.specs.Prelude.{◌≡◌, ◌+◌, ◌*◌, ◌≤◌, ◌⊎◌, ℕ, true, false, List, [], ◌∷◌, ◌++◌, length, map, ◌≢◌, Some}
 use Rattle.pg_wire.specs.declared.status.TransactionStatus.TheVariants as statuses
 use Rattle.std.specs.List.{AllByRecursion}
 use Rattle.pg_wire.specs.declared.error.Error.{Error}
@@ -19,7 +19,8 @@ use Rattle.pg_call.specs.Requests.{IsRefusal}
 use Rattle.pg_report.specs.declared.outcome.End.{End}
 use Rattle.pg_report.specs.declared.outcome.End.TheVariants as ends
 use Rattle.pg_report.specs.declared.outcome.Outcome.{Outcome}
-use Rattle.pg_call.specs.declared.statement.Lookup.{Lookup}
+use Rattle.pg_request.specs.declared.naming.Declared.{Declared}
+use Rattle.pg_conn.specs.Looking.{looks_for}
 use Rattle.pg_script.specs.declared.step.Call.{Call}
 use Rattle.pg_script.specs.declared.step.Call.TheVariants as calls
 use Rattle.pg_script.specs.declared.step.Step.{Step}
@@ -44,7 +45,7 @@ pub record IsFaultless (first : LinkSeen) (at : Place) (sent read : List Frame) 
 
 -- one of its exchanges looks something up
 abbrev pub LooksUpFor : Call → Type 0
-LooksUpFor call = (lookup : Lookup) × IsPartOf call (calls.Look lookup)
+LooksUpFor call = (depth : ℕ) × (part : Call) × (names : List Declared) × IsPartOf call part × (looks_for (request_of depth part) ≡ Some names)
 
 -- an error that is neither the link's nor the server's fault: want of memory; an error of the database; no row where one is wanted; a text of
 -- the caller's that no frame can carry, or that would open a savepoint; a begin behind which no transaction is open; a reply without a copy to

@@ -27,7 +27,6 @@ use Rattle.pg_stream.specs.Links.{LinkSeen, NoneFalls, GrewBy}
 use Rattle.pg_stream.specs.Streams.{StreamSeen, Sends}
 use Rattle.pg_call.specs.declared.request.Request.{Request}
 use Rattle.pg_call.specs.declared.request.Request.TheVariants as requests
-use Rattle.pg_call.specs.declared.statement.Extended.{Extended}
 use Rattle.pg_learning.specs.declared.learnt.Learnt.{Learnt}
 use Rattle.pg_learning.specs.Learning.{unnamed_types}
 use Rattle.pg_conn.specs.Looking.{LooksUp, named_in}
@@ -142,11 +141,11 @@ forgets_at at step = clears step.call && (not (nat_eq step.polls 0 || nat_eq ste
 abbrev pub known_at : Place → Step → Learnt
 known_at at step = if forgets_at at step then unnamed_types at.learnt else at.learnt
 
--- The first exchange is that of the call, and nothing was learnt before it. Where a statement has types that are known by their names alone, that one asks
--- nothing of the server, or what has to be looked up for it is asked before, or it is asked with their OIDs.
-abbrev pub BeginsAs : Option Extended → Call → Learnt → ℕ → Call → Learnt → Type 0
+-- The first exchange is that of the call, and nothing was learnt before it. Where a statement, or what it is run with, has types that are known by their names
+-- alone, that one asks nothing of the server, or what has to be looked up for it is asked before, or it is asked with their OIDs.
+abbrev pub BeginsAs : Option Request → Call → Learnt → ℕ → Call → Learnt → Type 0
 BeginsAs None first at groups call learnt = (call ≡ first) × (learnt ≡ at)
-BeginsAs (Some x) first at groups call learnt = ((call ≡ first) × (learnt ≡ at) × (groups ≡ 0)) ⊎ ((next : Request) × LooksUp (requests.Describe x) at next learnt × (call ≡ exchange_for next))
+BeginsAs (Some told) first at groups call learnt = ((call ≡ first) × (learnt ≡ at) × (groups ≡ 0)) ⊎ ((next : Request) × LooksUp told at next learnt × (call ≡ exchange_for next))
 
 -- the first exchange of a step is that of its call, by what is known of the session, or comes before it
 abbrev pub FirstIs : Place → Step → Outcome → Learnt → List Step → Type 0

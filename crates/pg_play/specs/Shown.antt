@@ -72,6 +72,7 @@ request_of depth (calls.Describe extended) = requests.Describe extended
 request_of depth (calls.Run bound) = requests.Run bound
 request_of depth (calls.Evict eviction) = requests.Evict eviction
 request_of depth (calls.Look lookup) = requests.Look lookup
+request_of depth (calls.Fill filling) = requests.Fill filling
 request_of depth (calls.Tell prepared) = requests.Prepare prepared
 request_of depth (calls.CloseAll statements) = requests.Clear statements
 request_of depth (calls.Feed fed) = requests.CopyIn (feed_of fed)
@@ -84,6 +85,7 @@ asked_of depth (calls.Describe extended) = requests.Flush
 asked_of depth (calls.Run bound) = requests.Flush
 asked_of depth (calls.Evict eviction) = requests.Flush
 asked_of depth (calls.Look lookup) = requests.Flush
+asked_of depth (calls.Fill filling) = requests.Flush
 asked_of depth (calls.Tell prepared) = requests.Flush
 asked_of depth (calls.CloseAll statements) = requests.Flush
 asked_of depth call = request_of depth call
@@ -94,6 +96,7 @@ IsWanted (requests.Describe extended) = ⊥
 IsWanted (requests.Run bound) = ⊥
 IsWanted (requests.Evict eviction) = ⊥
 IsWanted (requests.Look lookup) = ⊥
+IsWanted (requests.Fill filling) = ⊥
 IsWanted (requests.Prepare prepared) = prepared.columns ≡ None
 IsWanted _ = Unit {0}
 
@@ -115,6 +118,7 @@ exchange_for (requests.Describe extended) = calls.Describe extended
 exchange_for (requests.Run bound) = calls.Run bound
 exchange_for (requests.Evict eviction) = calls.Evict eviction
 exchange_for (requests.Look lookup) = calls.Look lookup
+exchange_for (requests.Fill filling) = calls.Fill filling
 exchange_for (requests.Prepare prepared) = calls.Tell prepared
 exchange_for (requests.Clear statements) = calls.CloseAll statements
 exchange_for _ = calls.Flush
@@ -139,6 +143,7 @@ first_call rule (calls.Describe extended) = calls.Flush
 first_call rule (calls.Run bound) = calls.Flush
 first_call rule (calls.Evict eviction) = calls.Flush
 first_call rule (calls.Look lookup) = calls.Flush
+first_call rule (calls.Fill filling) = calls.Flush
 first_call rule (calls.Tell prepared) = calls.Flush
 first_call rule (calls.CloseAll statements) = calls.Flush
 first_call rule call = call
@@ -148,6 +153,7 @@ abbrev pub handed_by : Call → List BackendMessage → Option Request
 handed_by (calls.Describe extended) response = next_of (requests.Describe extended) response
 handed_by (calls.Evict eviction) response = next_of (requests.Evict eviction) response
 handed_by (calls.Look lookup) response = next_of (requests.Look lookup) response
+handed_by (calls.Fill filling) response = next_of (requests.Fill filling) response
 handed_by call response = None
 
 -- what is asked next, by what was learnt: what was handed on, or before it what has to be looked up for it
@@ -163,9 +169,9 @@ next_call rule next = option_map (λ asked. exchange_for (asked_by rule asked)) 
 abbrev pub ComesBehind : Rule → Call → List BackendMessage → Call → Type 0
 ComesBehind rule before response part = (told : Request) × (a b : Learnt) × (next : Request) × (handed_by before response ≡ Some told) × LooksUp told a next b × (part ≡ exchange_for (asked_by rule next))
 
--- what is looked up before a statement is described, or its description once the types are known
+-- what is looked up before a statement is described, or before one that is kept is run; or that itself, once the types are known
 abbrev pub ComesBefore : Call → Call → Type 0
-ComesBefore first part = (x : Extended) × (a b : Learnt) × (next : Request) × (first ≡ calls.Describe x) × LooksUp (requests.Describe x) a next b × (part ≡ exchange_for next)
+ComesBefore first part = (told : Request) × (a b : Learnt) × (next : Request) × (first ≡ exchange_for told) × LooksUp told a next b × (part ≡ exchange_for next)
 
 -- an exchange is one of this call, with so many before it, whatever may be known of the session
 abbrev pub IsPartBehind : ℕ → Call → Call → Type 0

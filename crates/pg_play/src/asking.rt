@@ -48,6 +48,7 @@ pub(crate) fn request_of(alloc: Global, depth: u64, call: &Call) -> Result<Reque
         | Call::Run(_)
         | Call::Evict(_)
         | Call::Look(_)
+        | Call::Fill(_)
         | Call::Tell(_)
         | Call::CloseAll(_) => Request::Flush,
     })

@@ -5,7 +5,7 @@ use Rattle.std.specs.List.{AllByRecursion}
 use Rattle.std.proofs.lemmas.Bool.{eqb-true}
 use Rattle.std.proofs.lemmas.Option.{same_Some}
 use Rattle.pg_request.specs.Queries.{QueryText}
-use Rattle.pg_request.specs.Asked.{names_in, oids_in, missing_type, sent_as, HasBytesOf, AsksWith, kept_query}
+use Rattle.pg_request.specs.Asked.{names_in, oids_in, sent_as, HasBytesOf, AsksWith, kept_query}
 use Rattle.pg_arguments.specs.Types.{TypeParts, oid_of, numbered_type}
 use Rattle.pg_arguments.specs.Builtin.{Builtin, builtin_types, builtin_type, first_under, or_else, type_under, under, single_of}
 use Rattle.pg_arguments.specs.Encoded.{Encoded, plain, joined, wires}
@@ -147,17 +147,12 @@ fails_given errors.Bad given done behind x e f = rw e (refused_behind done x beh
 
 -- ---- the query
 
-none_missing : (given : List Argument) (a : Arguments) → AreEncoded given a → missing_type a ≡ None
-none_missing given a h =
-    let closed : a.encoded.holes ≡ [] = ap (λ (e : Encoded). e.holes) h.made.2 ∙ wires_closed h.values (elements_closed argument_encoding argument_closed given h.values h.encoded) in
-    rw closed refl
-
-pub never_missing : (given : List Argument) (a : Arguments) (name : List ℕ) → AreEncoded given a → missing_type a ≡ Some name → ⊥
-never_missing given a name h e = none_some name (sym (none_missing given a h) ∙ e)
+none_open : (given : List Argument) (a : Arguments) → AreEncoded given a → a.encoded.holes ≡ []
+none_open given a h = ap (λ (e : Encoded). e.holes) h.made.2 ∙ wires_closed h.values (elements_closed argument_encoding argument_closed given h.values h.encoded)
 
 pub given_is : (persistent : Bool) (sql : List ℕ) (given : List Argument) (a : Arguments) (q : QueryText) → AreEncoded given a → AsksWith a q.arguments → q ≡ kept_query sql (sent_as a) → given_query persistent sql given ≡ Some (record q { persistent = persistent })
 given_is persistent sql given a q h v e =
     let types : oids_in a.types ≡ map argument_oid given = ap oids_in h.types ∙ all_oids given in
     let values : HasBytesOf a (sent_as a) = subst (λ (x : QueryText). AsksWith a x.arguments) e v in
     let names : names_in a.types ≡ names_in (map argument_type given) = ap names_in h.types in
-    rw (e, types, names, values h.values h.made, h.encoded) refl
+    rw (e, types, names, values h.values h.made, none_open given a h, h.encoded) refl

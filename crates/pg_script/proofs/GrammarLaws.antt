@@ -277,6 +277,7 @@ call_again asked (calls.Feed x) f = absurd f
 call_again asked (calls.Run b) f = absurd f
 call_again asked (calls.Evict x) f = absurd f
 call_again asked (calls.Look x) f = absurd f
+call_again asked (calls.Fill x) f = absurd f
 call_again asked (calls.Tell x) f = absurd f
 call_again asked (calls.CloseAll ns) f = absurd f
 

@@ -1,5 +1,5 @@
 -- What the arguments that a script gives are as arguments of a call (PostgreSQL manual, "pg_type", and the send functions of the types).
-use Rattle.std.specs.Prelude.{◌≡◌, ℕ, Bool, List, map, Option, Some}
+use Rattle.std.specs.Prelude.{◌≡◌, ℕ, Bool, List, [], map, Option, Some, None}
 use Rattle.pg_request.specs.Queries.{QueryText}
 use Rattle.pg_request.specs.Asked.{bytes_of, names_in}
 use Rattle.pg_arguments.specs.Types.{TypeParts, named_type}
@@ -56,7 +56,7 @@ argument_encoding (given.Texts ss) = array_encoding (type_under 25) (elements (�
 
 -- a query with these arguments, which have these values, and whose statement is to be kept or not
 abbrev pub given_with : Bool → List ℕ → List Argument → List (Option Encoded) → QueryText
-given_with persistent sql arguments values = record { sql = sql; arguments = Some (record { types = map argument_oid arguments; values = bytes_of values; names = names_in (map argument_type arguments) }); persistent = persistent }
+given_with persistent sql arguments values = record { sql = sql; arguments = Some (record { types = map argument_oid arguments; values = bytes_of values; names = names_in (map argument_type arguments); holes = []; open_in = None }); persistent = persistent }
 
 -- the same, where each argument has an encoding, which may have 2147483647 bytes
 abbrev pub given_query : Bool → List ℕ → List Argument → Option QueryText

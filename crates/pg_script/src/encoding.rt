@@ -99,7 +99,6 @@ pub(crate) fn given_query(
     let arguments = encoded(alloc, given)?;
     match Query::with(alloc, sql.as_str(), &arguments) {
         Ok(query) => Ok(query.persistent(is_kept)),
-        Err(Error::TypeNotFound { type_name: _ }) => Err(LineError::Bad),
         Err(_) => Err(LineError::OutOfMemory),
     }
 }

@@ -1,6 +1,6 @@
 ghost use Rattle.std.specs.Prelude.{◌≡◌, IfOk, IfErr};
 
-use pg_call::{Bound, Eviction, Extended, Lookup, Prepared};
+use pg_call::{Bound, Eviction, Extended, Filling, Lookup, Prepared};
 use pg_locks::PgAdvisoryLockKey;
 use pg_request::{Preparation, Query};
 use pg_wire::{Blob, Error, Sequence, StatementId, Text};
@@ -192,6 +192,8 @@ pub enum Call {
     Evict(Eviction),
     /// The one that looks up types, or the names of columns, for a statement that was described.
     Look(Lookup),
+    /// The one that looks up types within the arguments with which a statement is run.
+    Fill(Filling),
     /// The one that tells what a statement was described to be, which asks nothing of the server.
     Tell(Prepared),
     /// The one that closes these statements.
@@ -240,6 +242,7 @@ impl Call {
             Call::Chain(chain) => Call::Chain(chain.to_copy(alloc)?),
             Call::Evict(eviction) => Call::Evict(eviction.to_copy(alloc)?),
             Call::Look(lookup) => Call::Look(lookup.to_copy(alloc)?),
+            Call::Fill(filling) => Call::Fill(filling.to_copy(alloc)?),
             Call::Tell(prepared) => Call::Tell(prepared.to_copy(alloc)?),
             Call::CloseAll(statements) => Call::CloseAll(copied(alloc, statements)?),
             Call::Feed(fed) => Call::Feed(fed.to_copy(alloc)?),

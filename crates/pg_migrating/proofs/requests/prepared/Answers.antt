@@ -7,4 +7,4 @@ pub returns-in-Ok-with : goal.returns-in-Ok-with
 returns-in-Ok-with c bounds h = c.raw.ensures ∙ ap (raw c.args.how) (query_is bounds c.args.sql.now c.in-Ok.arguments c.in-Ok-with.query (rw c.in-Ok.is at h) c.in-Ok-with.ensures.values c.in-Ok-with.ensures.query)
 
 pub returns : goal.returns
-returns c bounds h = refuses_query c.args.sql.now bounds c.in-Ok.arguments c.in-Err-with.e (rw c.in-Ok.is at h) c.in-Err-with.ensures.cause
+returns c bounds h = refuses_query c.args.sql.now bounds c.in-Err-with.e c.in-Err-with.ensures.memory
