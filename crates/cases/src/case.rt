@@ -13,7 +13,9 @@
 //     has       with `end`, a line further on
 //     states    the steps are played by the states of calls: what is written is how each stood, and the rows of its last poll
 //     next      with `states`: the connection gives its last number to the next statement
-//     then      what is done with the connection behind them: `close`, or `keep` for a close that is given up
+//     then      what is done with the connection behind them: `close`, `keep` for a close that is given up, or `tell` for a close behind which what was sent
+//               behind the start-up is written
+//     holes     with `states`: the arguments of each query that is executed are the OIDs of these types, one step behind another by `/`
 //
 // A line with another mark is a remark.
 

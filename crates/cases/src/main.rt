@@ -8,6 +8,7 @@ mod calls;
 mod case;
 mod dials;
 mod guards;
+mod holes;
 mod options;
 mod playing;
 mod states;

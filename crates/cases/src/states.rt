@@ -4,6 +4,7 @@
 use crate::calls::{Stand, close, keep, play_step, settled};
 use crate::case::{entry, script};
 use crate::guards::{give_up, transact};
+use crate::holes::filled;
 use crate::options::options;
 use pg_conn::laws::at_statement;
 use pg_conn::{PgConnection, establish};
@@ -65,14 +66,33 @@ fn push_stand(told: &mut String, stand: Stand) -> Result<(), AllocError> {
     }
 }
 
+// Plays a step with such arguments.
+fn play_filled(alloc: Global, conn: &mut Connection, step: Step, names: &str) -> Stand {
+    let Step { call, polls, most } = step;
+    match filled(alloc, call, names) {
+        Some(call) => play_step(alloc, conn, Step { call, polls, most }),
+        None => Stand::Fails,
+    }
+}
+
 fn play_steps(
     alloc: Global,
     conn: &mut Connection,
+    case: &str,
     steps: Vec<Step>,
     told: &mut String,
 ) -> Result<(), AllocError> {
+    let mut rest = entry(case, "holes");
     for step in steps {
-        push_stand(told, play_step(alloc, conn, step))?;
+        let stand = match rest {
+            Some(holes) => {
+                let (names, later) = holes.split_once('/').unwrap_or((holes, holes));
+                rest = Some(later);
+                play_filled(alloc, conn, step, names)
+            }
+            None => play_step(alloc, conn, step),
+        };
+        push_stand(told, stand)?;
     }
     Ok(())
 }
@@ -107,6 +127,28 @@ fn close_behind_the_last_number(conn: Connection) -> Stand {
     close(conn, last)
 }
 
+// Closes a connection, and tells what was sent behind its start-up, whose message says its own length.
+fn tell_sent(alloc: Global, conn: Connection, told: &mut String) -> Result<(), AllocError> {
+    let mut call = conn.close();
+    let answer = settled(call.poll());
+    drop(call);
+    match answer {
+        Poll::Ready(Some(link)) => {
+            let sent = behind_start(alloc, link.taken());
+            drop(link);
+            write!(told, "sent {}\n", sent?)
+        }
+        Poll::Ready(None) | Poll::Pending => told.push_str("fails\n"),
+    }
+}
+
+fn behind_start(alloc: Global, taken: &[u8]) -> Result<String, AllocError> {
+    match taken {
+        [0, 0, 0, length, ..] => hex::encode(alloc, taken.get(*length as usize..).unwrap_or(&[])),
+        _ => Ok(String::new(alloc)),
+    }
+}
+
 // What is done with a connection behind its steps.
 fn leave(conn: Connection, case: &str) -> Option<Stand> {
     match entry(case, "then") {
@@ -129,7 +171,10 @@ fn play_over(
     steps: Vec<Step>,
     told: &mut String,
 ) -> Result<(), AllocError> {
-    let played = play_steps(alloc, &mut conn, steps, told);
+    let played = play_steps(alloc, &mut conn, case, steps, told);
+    if let Some("tell") = entry(case, "then") {
+        return tell_sent(alloc, conn, told);
+    }
     match leave(conn, case) {
         Some(stand) => push_stand(told, stand),
         None => played,
