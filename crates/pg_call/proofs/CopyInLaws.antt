@@ -4,7 +4,6 @@ use Rattle.std.proofs.Common.{◌≡◌, ℕ, ℤ, Bool, true, false, List, [], 
 use Rattle.std.specs.List.{AllByRecursion}
 use Rattle.std.proofs.lemmas.Option.{same_Some}
 use Rattle.std.proofs.lemmas.List.{map-append, same_from_push}
-use Rattle.pg_wire.specs.declared.status.TransactionStatus.{TransactionStatus}
 use Rattle.pg_wire.specs.declared.status.TransactionStatus.TheVariants as statuses
 use Rattle.pg_wire.specs.Frame.{Frame}
 use Rattle.pg_wire.specs.Frontend.{FrontendMessage, Query, CopyData as SendsData, CopyDone}
@@ -14,7 +13,7 @@ use Rattle.pg_wire.specs.Groups.{IsBetween}
 use Rattle.pg_wire.specs.Acceptor.{FirstSegment}
 use Rattle.pg_wire.specs.Copying.{CopyMode, CopyServer, CopyRun, CopyStep, NotCopying, QueryCopies, AnswersQuery, StepsInMode, StepsInQueryCopy, fresh_copy_server}
 use Rattle.pg_wire.specs.Refusals.{BeginsCopyResponse}
-use Rattle.pg_wire.proofs.CopyAcceptorLaws.{Expects, Plain, ClientData, follows, takes, answer_taken}
+use Rattle.pg_wire.proofs.CopyAcceptorLaws.{Expects, Plain, follows, takes, answer_taken}
 use Rattle.pg_wire.proofs.OpenCopyLaws.{data_is_silent}
 use Rattle.pg_wire.proofs.RefusalLaws.{split}
 use Rattle.pg_wire.proofs.Tests.{where_neither}
@@ -22,7 +21,7 @@ use Rattle.pg_call.specs.declared.judging.Part.{Part}
 use Rattle.pg_call.specs.declared.judging.Part.TheVariants.{Copied, Opening, Feeding}
 use Rattle.pg_call.specs.declared.feed.Feed.{Feed}
 use Rattle.pg_call.specs.Requests.{ended_by, feeding}
-use Rattle.pg_call.specs.Replies.{goes_on, part_after, begins_segment, may_stray, MayNotCome}
+use Rattle.pg_call.specs.Replies.{part_after, begins_segment, may_stray, MayNotCome}
 
 abbrev replied : List (List BackendMessage) → List BackendMessage
 replied rss = flat_map (λ rs. rs) rss

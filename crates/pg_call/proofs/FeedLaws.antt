@@ -12,16 +12,15 @@ use Rattle.pg_call.specs.declared.request.Request.{Request}
 use Rattle.pg_call.specs.declared.request.Request.TheVariants as requests
 use Rattle.pg_call.specs.declared.answer.CallItem.{CallItem}
 use Rattle.pg_call.specs.declared.judging.Part.{Part}
-use Rattle.pg_call.specs.declared.judging.Part.TheVariants.{Opening, Feeding, Copied}
+use Rattle.pg_call.specs.declared.judging.Part.TheVariants.{Opening, Feeding}
 use Rattle.pg_call.specs.declared.ledger.Ledger.{Ledger}
-use Rattle.pg_call.specs.declared.reply.Reply.{Reply}
 use Rattle.pg_call.specs.declared.calling.Call.{Call}
 use Rattle.pg_call.specs.declared.calling.Call.TheVariants as calls
-use Rattle.pg_call.specs.Requests.{said_in, kind_of, groups_of, feeding, ended_by, CanBeSaid}
+use Rattle.pg_call.specs.Requests.{kind_of, feeding, ended_by, CanBeSaid}
 use Rattle.pg_call.specs.Replies.{part_after}
 use Rattle.pg_call.specs.Drains.{before_readys, drain_fails}
 use Rattle.pg_call.specs.Hearing.{IsOpen, fed_part, fed_whole}
-use Rattle.pg_call.specs.Calls.{CallIs, IsReplying}
+use Rattle.pg_call.specs.Calls.{CallIs}
 use Rattle.pg_call.proofs.CopyInLaws.{came}
 
 -- the same copy, with one more piece, and with the last

@@ -36,7 +36,6 @@ use Rattle.pg_call.specs.declared.statement.Bound.{Bound}
 use Rattle.pg_call.specs.declared.statement.Prepared.{Prepared}
 use Rattle.pg_call.specs.declared.statement.After.{After}
 use Rattle.pg_call.specs.declared.statement.After.TheVariants as afters
-use Rattle.pg_call.specs.declared.statement.Filling.{Filling}
 use Rattle.pg_call.specs.declared.statement.Rest.{Rest}
 use Rattle.pg_call.specs.declared.statement.Rest.TheVariants as rests
 use Rattle.pg_call.specs.declared.feed.Feed.{Feed}

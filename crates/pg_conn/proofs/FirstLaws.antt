@@ -10,8 +10,8 @@ use Rattle.pg_wire.specs.declared.error.ServerFault.{ServerFault}
 use Rattle.pg_wire.specs.Backend.{FieldDescription}
 use Rattle.pg_request.specs.declared.naming.Declared.{Declared}
 use Rattle.pg_arguments.specs.Arguments.{Arguments}
-use Rattle.pg_request.specs.Asked.{declared_arguments, declared_names, filled_by}
-use Rattle.pg_request.specs.Queries.{ArgumentsSeen, QueryText, names_by}
+use Rattle.pg_request.specs.Asked.{declared_names, filled_by}
+use Rattle.pg_request.specs.Queries.{ArgumentsSeen, QueryText}
 use Rattle.pg_rule.specs.Caches.{entry_at}
 use Rattle.pg_rule.specs.declared.cache.Entry.{Entry}
 use Rattle.pg_rule.specs.declared.rule.Rule.{Rule}
@@ -41,7 +41,7 @@ use Rattle.pg_learning.specs.Naming.{oids_under, unknown_name}
 use Rattle.pg_stream.specs.Links.{LinkSeen}
 use Rattle.pg_conn.specs.Connections.{ConnOf, ConnSeen, IsUnresolved, cleaned, ends_copy, handed, idle, resolved, resolved_by, seen_by, unfed}
 use Rattle.pg_conn.specs.Looking.{AsksFirst, AsksNamed, AsksNext, FailsFirst, IsFound, IsUnlooked, LooksAny, LooksFor, LooksIn, LooksInto, LooksNamed, LooksUp, MayLook, MayLookFor, MissesName, RefusesFirst, UnlooksFirst, asks_by, asks_names, asks_query, has_names, holes_for, if_kept, if_named, is_kept, lookup_for, named_by, named_in, unlooked, vain_lookup, wanted_in}
-use Rattle.pg_conn.specs.Statements.{asked_by, behind_description, by_leaving, is_numbered, leaving, number_for, prepare_by, query_by, run_or_describe, tell_or_describe}
+use Rattle.pg_conn.specs.Statements.{asked_by, behind_description, by_leaving, leaving, prepare_by, query_by, run_or_describe, tell_or_describe}
 use Rattle.pg_conn.specs.Turns.{IsAsked, Polled, PollsOn, PollsThrough, Refused, Refuses, RefusesNamed, broken_by, flushes}
 use Rattle.pg_conn.proofs.RefusalLaws.{refusal_breaks_none}
 use Rattle.pg_conn.proofs.StateLaws.{first_keeps, named_asked, unasked_lookup}

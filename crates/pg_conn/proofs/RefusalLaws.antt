@@ -14,7 +14,6 @@ use Rattle.pg_call.specs.declared.calling.Call.TheVariants as calls
 use Rattle.pg_call.specs.Requests.{CanBeSaid, IsRefusal, copy_fail, spelled}
 use Rattle.pg_call.proofs.RefusalLaws.{refusal_is}
 use Rattle.pg_conn.specs.Connections.{ConnSeen, idle, started_call, begun, left, cleaned, copies, ends_copy, owned, unfed, with_copy_fail, settled, ended, resolved, restated, runs, may_open, has_room_for, with_group, rollback}
-use Rattle.pg_call.specs.declared.statement.Extended.{Extended}
 use Rattle.pg_conn.specs.Looking.{AsksNamed, named_by}
 use Rattle.pg_conn.specs.Statements.{moved, unmoved, step_of}
 use Rattle.pg_conn.specs.Turns.{BeginsBy, Refused, Polled, PollsThrough, HandsOver, PollsBy, PollsCall, hands_on, beat_of, broken_by, first_exchange, RefusesAtOnce, FlushesAtOnce, behind}

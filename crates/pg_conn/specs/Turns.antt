@@ -34,7 +34,6 @@ use Rattle.pg_call.specs.Hearing.{IsOpen, fails_of, looks_up, sent_answer}
 use Rattle.pg_call.specs.declared.calling.Taken.{Taken}
 use Rattle.pg_call.specs.declared.running.Running.{Running}
 use Rattle.pg_call.specs.Calls.{CallIs, IsAwaiting, Leaves, CallEnds, IsFrontFault, TakesMessage, RefusesMessage, StaysIn}
-use Rattle.pg_learning.specs.declared.learnt.Learnt.{Learnt}
 use Rattle.pg_conn.specs.Looking.{AsksFirst, AsksNext, Learns, LookFails, TakesFront, named_by}
 use Rattle.pg_conn.specs.Connections.{ConnOf, ConnSeen, idle, left, standing, started_call, begun, begun_with, resolved, settled, cleaned, ended, ends_copy, unfed}
 use Rattle.pg_conn.specs.Statements.{asked_by, begun_as}

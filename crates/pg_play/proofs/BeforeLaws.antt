@@ -1,25 +1,21 @@
 -- What is looked up before a call's first exchange: it begins as any other, with what is known then.
 use Rattle.pg_play.proofs.FollowLaws.{first_runs, first_known}
-use Rattle.std.proofs.Common.{◌≡◌, ◌≢◌, ℕ, ◌+◌, ◌-◌, ◌^◌, ◌<◌, ◌≤◌, min, true, false, List, [], ◌∷◌, length, refl, sym, ap, ◌∙◌, subst, arith, Option, Some, None, inl, inr}
-use Rattle.std.specs.List.{AllByRecursion}
+use Rattle.std.proofs.Common.{◌≡◌, ℕ, ◌+◌, ◌-◌, ◌^◌, min, true, false, List, [], ◌∷◌, refl, sym, ap, ◌∙◌, subst, arith, Option, Some, None, inl, inr}
 use Rattle.pg_request.specs.declared.naming.Declared.{Declared}
 use Rattle.pg_rule.specs.declared.cache.Entry.{Entry}
 use Rattle.pg_rule.specs.declared.rule.Rule.{Rule}
 use Rattle.pg_rule.proofs.OrderLaws.{each_by}
 use Rattle.pg_stream.specs.Streams.{StreamSeen}
-use Rattle.pg_call.specs.declared.calling.Call.TheVariants as states
 use Rattle.pg_call.specs.declared.kind.Change.{Change}
 use Rattle.pg_call.specs.declared.kind.Change.TheVariants as changes
 use Rattle.pg_call.specs.declared.request.Request.{Request}
 use Rattle.pg_call.specs.declared.request.Request.TheVariants as requests
 use Rattle.pg_call.specs.declared.statement.Described.{Described}
-use Rattle.pg_call.specs.declared.statement.Extended.{Extended}
-use Rattle.pg_call.specs.Requests.{CanBeSaid, keeping_of, numbered_by, widths_of}
+use Rattle.pg_call.specs.Requests.{CanBeSaid, numbered_by, widths_of}
 use Rattle.pg_learning.specs.declared.learnt.Learnt.{Learnt}
 use Rattle.pg_conn.specs.Connections.{ConnSeen, handed, resolved}
 use Rattle.pg_conn.specs.Looking.{LooksUp, if_named, named_in}
 use Rattle.pg_conn.specs.Statements.{asked_by, held_by}
-use Rattle.pg_report.specs.declared.outcome.End.TheVariants as ends
 use Rattle.pg_report.specs.declared.outcome.Outcome.{Outcome}
 use Rattle.pg_script.specs.declared.step.Call.{Call}
 use Rattle.pg_script.specs.declared.step.Call.TheVariants as calls
@@ -27,14 +23,14 @@ use Rattle.pg_script.specs.declared.step.Step.{Step}
 use Rattle.pg_script.specs.declared.step.Parting.{Parting}
 use Rattle.pg_script.specs.declared.step.Parting.TheVariants as partings
 use Rattle.pg_play.specs.Shown.{exchange_for, first_call, parting_of, request_of, waits_to_show}
-use Rattle.pg_play.specs.Calls.{IsUnpolled, WaitsFew, all_groups, begun_call, change_for, knowing, none_counted}
+use Rattle.pg_play.specs.Calls.{IsUnpolled, WaitsFew, begun_call, change_for, knowing, none_counted}
 use Rattle.pg_play.specs.Causes.{AnsweredPending, EndsDuly, IsDroppedAs, OpensSavepoint}
 use Rattle.pg_play.specs.Places.{Place}
 use Rattle.pg_play.specs.Plays.{StandsAt, begun_at}
 use Rattle.pg_play.specs.Kept.{IsKeptAt, Keeps}
 use Rattle.pg_play.proofs.CalledLaws.{KnownAt, known_none}
 use Rattle.pg_play.proofs.DueLaws.{WithinMost}
-use Rattle.pg_play.proofs.ExchangeLaws.{IsExchange, LeadsTo, before_how, exchange_asks, exchange_parts, exchange_polled, looks_or, runs_how, undescribed_asks, undescribed_next, IsReady, IsLooked, described_else, named_call, undescribed_held}
+use Rattle.pg_play.proofs.ExchangeLaws.{IsExchange, LeadsTo, before_how, exchange_asks, exchange_parts, exchange_polled, looks_or, runs_how, undescribed_asks, IsReady, IsLooked, described_else, named_call, undescribed_held}
 use Rattle.pg_play.proofs.InTurnLaws.{BeginsAt}
 use Rattle.pg_play.proofs.KeptLaws.{IsHeldFor, IsNumbered, IsSought, IsSound, first_sound, RunsAt}
 use Rattle.pg_play.proofs.ThroughLaws.{looked_stays, named_is, named_self}

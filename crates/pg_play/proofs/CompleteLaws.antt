@@ -44,12 +44,11 @@ use Rattle.pg_script.specs.declared.step.Parting.TheVariants as partings
 use Rattle.pg_call.specs.declared.request.Request.{Request}
 use Rattle.pg_conn.specs.Statements.{asked_by}
 use Rattle.pg_report.specs.declared.outcome.Answer.TheVariants.{Unit as AnswersUnit}
-use Rattle.pg_play.specs.Shown.{ComesBehind, IsPartOf, LooksOn, parting_of, request_of, copies, exchange_for, handed_by, next_call, first_call}
+use Rattle.pg_play.specs.Shown.{ComesBehind, LooksOn, parting_of, request_of, copies, exchange_for, handed_by, next_call, first_call}
 use Rattle.pg_play.proofs.RepliesLaws.{starts_copy, StartsNoCopy, all_prefix, replies_start_no_copy, replies_are_said}
 use Rattle.pg_play.proofs.LinkLaws.{Refutes, breaks_first, fault_breaks, broken_in, broken_stays, some_first, front_read, front_heard, taken_heard, hears_groups, unlawful_refuted}
 use Rattle.pg_wire.proofs.Each.{each_last}
 use Rattle.pg_learning.specs.declared.learnt.Learnt.{Learnt}
-use Rattle.pg_call.specs.declared.statement.Extended.{Extended}
 use Rattle.pg_conn.specs.Looking.{named_in}
 use Rattle.pg_play.proofs.ThroughLaws.{named_is}
 

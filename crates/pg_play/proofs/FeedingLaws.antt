@@ -46,7 +46,6 @@ use Rattle.pg_script.specs.declared.step.Step.{Step}
 use Rattle.pg_script.specs.declared.step.Call.TheVariants as calls
 use Rattle.pg_script.specs.declared.step.Copying.{Copying}
 use Rattle.pg_play.specs.Opened.{PlaysCopy, fed_of}
-use Rattle.pg_script.specs.declared.step.Fed.{Fed}
 use Rattle.pg_play.specs.Feeding.{CameOf, fed_with, parts_of}
 
 -- what was fed stands as asked from the first on

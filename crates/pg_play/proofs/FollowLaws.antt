@@ -1,11 +1,11 @@
 -- What is so of the exchange that comes next: what it knows of its statement, and what may be held of it.
 use Rattle.pg_call.specs.declared.statement.Filling.{Filling}
-use Rattle.std.proofs.Common.{◌≡◌, ◌-◌, Ok, ℕ, zero, suc, ◌+◌, ◌<◌, nat_eq, Bool, true, false, cond, ◌&&◌, List, [], ◌∷◌, ◌++◌, length, map, subst, refl, sym, ap, ◌∙◌, arith, append_assoc, Option, Some, None, option_map, inl, inr, bytes_eq, ◌||◌, is_some, unwrap_or, option_to_list, ap₂, IsSome}
+use Rattle.std.proofs.Common.{◌≡◌, Ok, ℕ, zero, suc, ◌<◌, nat_eq, Bool, true, false, cond, ◌&&◌, List, [], ◌∷◌, ◌++◌, length, map, subst, refl, sym, ap, ◌∙◌, arith, append_assoc, Option, Some, None, option_map, inl, inr, bytes_eq, ◌||◌, is_some, unwrap_or, option_to_list, ap₂, IsSome}
 use Rattle.std.specs.List.{AllByRecursion}
 use Rattle.std.proofs.lemmas.Option.{same_Some}
 use Rattle.pg_wire.specs.Frame.{Frame}
 use Rattle.pg_wire.specs.Parts.{heard}
-use Rattle.pg_wire.specs.Frontend.{FrontendMessage, Execute}
+use Rattle.pg_wire.specs.Frontend.{FrontendMessage}
 use Rattle.pg_wire.specs.Backend.{BackendMessage, backend_frame, FieldDescription}
 use Rattle.pg_wire.specs.Groups.{IsGroup}
 use Rattle.pg_wire.specs.Server.{MayHear}
@@ -47,7 +47,7 @@ use Rattle.pg_report.specs.declared.outcome.Answer.TheVariants.{Unit as AnswersU
 use Rattle.pg_report.specs.declared.outcome.End.TheVariants as ends
 use Rattle.pg_script.specs.declared.step.Call.{Call}
 use Rattle.pg_script.specs.declared.step.Call.TheVariants as calls
-use Rattle.pg_play.specs.Shown.{begins, request_of, first_as, first_call, handed_by, exchange_for}
+use Rattle.pg_play.specs.Shown.{request_of, first_as, first_call, handed_by, exchange_for}
 use Rattle.pg_play.specs.Places.{Place, owed}
 use Rattle.pg_play.specs.Settling.{rule_after}
 use Rattle.pg_play.specs.Kept.{IsKeptAt, Keeps}

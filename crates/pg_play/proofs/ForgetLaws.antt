@@ -1,5 +1,5 @@
 -- A call that closes the statements that are kept begins with the names of types forgotten, and is otherwise as any other.
-use Rattle.std.proofs.Common.{◌≡◌, ◌≢◌, ℕ, ◌+◌, ◌<◌, ◌≤◌, ◌^◌, Bool, true, false, not, is_some, nat_eq, ◌&&◌, ◌||◌, ◌==◌, cond, ◌⊎◌, inl, inr, List, [], ◌∷◌, ◌++◌, length, map, reverse, refl, sym, ap, ap₂, ◌∙◌, subst, arith, Option, Some, None, codes, decimal, zero, suc, ne_eqb}
+use Rattle.std.proofs.Common.{◌≡◌, ℕ, ◌<◌, ◌≤◌, ◌^◌, Bool, true, false, not, is_some, nat_eq, ◌&&◌, ◌||◌, ◌==◌, cond, inl, inr, List, [], ◌∷◌, ◌++◌, length, map, reverse, refl, sym, ap, ap₂, ◌∙◌, subst, arith, Option, Some, None, codes, decimal, zero, suc, ne_eqb}
 use Rattle.std.specs.List.{AllByRecursion}
 use Rattle.std.proofs.lemmas.List.{reverse-append}
 use Rattle.pg_wire.specs.Bytes.{HasNoNul}
@@ -7,18 +7,15 @@ use Rattle.pg_wire.specs.Frontend.{FrontendMessage, CloseStatement, HasFrontendF
 use Rattle.pg_wire.specs.declared.error.ServerFault.{ServerFault}
 use Rattle.pg_wire.proofs.Each.{each_end, each_join}
 use Rattle.pg_wire.proofs.NameLaws.{numbered_nul_free}
-use Rattle.pg_request.specs.declared.progress.CacheStep.TheVariants as cache
 use Rattle.pg_call.specs.declared.request.Request.{Request}
 use Rattle.pg_call.specs.declared.request.Request.TheVariants as requests
 use Rattle.pg_call.specs.Requests.{CanBeSaid, name_of}
 use Rattle.pg_rule.specs.declared.cache.Entry.{Entry}
-use Rattle.pg_rule.specs.declared.rule.Rule.{Rule}
 use Rattle.pg_learning.specs.declared.learnt.Learnt.{Learnt}
 use Rattle.pg_learning.specs.Learning.{unnamed_types}
 use Rattle.pg_conn.specs.Connections.{forgets}
 use Rattle.pg_conn.specs.Looking.{named_in}
-use Rattle.pg_conn.specs.Statements.{asked_by, begun_as}
-use Rattle.pg_report.specs.declared.outcome.End.TheVariants as ends
+use Rattle.pg_conn.specs.Statements.{asked_by}
 use Rattle.pg_report.specs.declared.outcome.Outcome.{Outcome}
 use Rattle.pg_script.specs.declared.step.Call.{Call}
 use Rattle.pg_script.specs.declared.step.Call.TheVariants as calls

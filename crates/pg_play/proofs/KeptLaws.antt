@@ -1,6 +1,6 @@
 -- Which statements the server keeps, from one exchange of a play to the next.
 use Rattle.pg_call.specs.declared.statement.Bound.{Bound}
-use Rattle.std.proofs.Common.{◌≡◌, ◌≢◌, ◌⊎◌, ◌-◌, Ok, ℕ, zero, suc, ◌+◌, ◌<◌, ◌≤◌, ◌^◌, nat_eq, ltb, leb, Bool, true, false, not, cond, ◌&&◌, ◌||◌, List, [], ◌∷◌, ◌++◌, length, map, option_to_list, find, subst, refl, sym, ap, ◌∙◌, arith, append_assoc, append-nil, Option, Some, None, is_some, option_map, unwrap_or, inl, inr, IfSome, bytes_eq}
+use Rattle.std.proofs.Common.{◌≡◌, ◌≢◌, ◌⊎◌, ◌-◌, ℕ, zero, suc, ◌+◌, ◌<◌, ◌≤◌, ◌^◌, nat_eq, ltb, leb, Bool, true, false, not, cond, ◌&&◌, ◌||◌, List, [], ◌∷◌, ◌++◌, length, map, option_to_list, find, subst, refl, sym, ap, ◌∙◌, arith, append_assoc, append-nil, Option, Some, None, is_some, option_map, unwrap_or, inl, inr, IfSome, bytes_eq}
 use Rattle.std.specs.List.{AllByRecursion, count_by, last_or}
 use Rattle.std.proofs.lemmas.Bool.{leb-true, lt-ltb, ltb-true}
 use Rattle.std.proofs.lemmas.Slice.Eq.{bytes_eq-Decides}

@@ -33,7 +33,6 @@ use Rattle.pg_script.specs.declared.step.Call.{Call}
 use Rattle.pg_report.specs.declared.outcome.End.TheVariants as ends
 use Rattle.pg_report.specs.declared.outcome.Outcome.{Outcome}
 use Rattle.pg_script.specs.declared.step.Step.{Step}
-use Rattle.pg_rule.specs.declared.rule.Rule.{Rule}
 use Rattle.pg_play.specs.Kept.{Keeps}
 use Rattle.pg_play.proofs.NameLaws.{names_kept}
 use Rattle.pg_play.specs.Calls.{broken_after}

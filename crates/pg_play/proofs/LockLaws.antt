@@ -1,6 +1,6 @@
 -- Steps about advisory locks: releases without waiting, what is held behind a step, and the calls of a step one behind another.
 use Rattle.std.proofs.Common.{◌≡◌, inl, inr, ℕ, ◌+◌, ◌-◌, ◌^◌, ◌<◌, ◌≤◌, Bool, true, false, cond, nat_eq, ltb, ne_eqb, List, [], ◌∷◌, ◌++◌, take, drop, Option, Some, None, refl, sym, ap, ◌∙◌, subst, arith, append-nil}
-use Rattle.std.specs.Prelude.{not, leb}
+use Rattle.std.specs.Prelude.{leb}
 use Rattle.std.proofs.lemmas.Bool.{ltb-true}
 use Rattle.pg_wire.proofs.Tests.{both_true}
 use Rattle.pg_stream.specs.Links.{LinkSeen}
@@ -12,7 +12,6 @@ use Rattle.pg_conn.specs.Connections.{ConnOf, ConnSeen, begins_copy, cleaned, co
 use Rattle.pg_conn.specs.Holding.{IsRelease, held_fewer, held_more, let_go, release, took_held}
 use Rattle.pg_conn.specs.Turns.{HasAllRoom, first_exchange, kept_for, level_of}
 use Rattle.pg_conn.specs.Looking.{named_in}
-use Rattle.pg_call.specs.declared.statement.Extended.{Extended}
 use Rattle.pg_conn.proofs.CleanupLaws.{has_room, held_cleaned, held_queued, held_unfed}
 use Rattle.pg_conn.proofs.HoldingLaws.{all_held, all_took_held, release_short}
 use Rattle.pg_locks.specs.declared.key.PgAdvisoryLockKey.{PgAdvisoryLockKey}

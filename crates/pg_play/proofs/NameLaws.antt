@@ -1,5 +1,5 @@
 -- Which statements a lawful server has, of those that are kept.
-use Rattle.std.proofs.Common.{◌≡◌, ◌≢◌, ℕ, suc, ◌+◌, ◌<◌, ◌≤◌, Bool, true, false, cond, List, [], ◌∷◌, ◌++◌, length, map, option_to_list, flat_map, refl, sym, ap, ◌∙◌, subst, append_assoc, append-nil, arith, ne_eqb, inl, inr, bytes_eq, Option, Some, None}
+use Rattle.std.proofs.Common.{◌≡◌, ◌≢◌, ℕ, suc, ◌+◌, ◌<◌, ◌≤◌, Bool, true, false, cond, List, [], ◌∷◌, ◌++◌, length, map, option_to_list, flat_map, refl, sym, ap, ◌∙◌, subst, append_assoc, append-nil, arith, ne_eqb, inl, inr, bytes_eq, Some, None}
 use Rattle.std.specs.List.{AllByRecursion, count_by}
 use Rattle.std.proofs.lemmas.List.{map-append}
 use Rattle.std.proofs.lemmas.Slice.Eq.{bytes_eq-Decides}

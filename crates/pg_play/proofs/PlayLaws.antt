@@ -84,7 +84,6 @@ use Rattle.pg_conn.specs.Looking.{named_in, LooksUp}
 use Rattle.pg_play.proofs.BeforeLaws.{before_first, looked_begun, begins_before, dropped_before, duly_looked, keeps_begun, stands_so_at}
 use Rattle.pg_play.proofs.ForgetLaws.{begins_forgotten, forgets_so, knows_act, knows_query, knows_savepoint, knows_unpolled}
 use Rattle.pg_play.proofs.ThroughLaws.{named_is, named_self}
-use Rattle.pg_call.specs.declared.request.Request.TheVariants as requests
 
 -- ---- one step
 

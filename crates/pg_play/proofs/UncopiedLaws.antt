@@ -27,7 +27,6 @@ use Rattle.pg_play.specs.Settling.{cleanup_of, release_at, rollback_at}
 use Rattle.pg_play.specs.Plays.{CopyNone, FirstIs, HandsOn, Plays_exchange, Plays_exchanges, Plays_from, Plays_step, BeginsAs, begun_at, known_at}
 use Rattle.pg_play.proofs.PlaceLaws.{all_split, plain_asked}
 use Rattle.pg_learning.specs.declared.learnt.Learnt.{Learnt}
-use Rattle.pg_call.specs.declared.statement.Extended.{Extended}
 use Rattle.pg_conn.specs.Looking.{named_in}
 
 -- nothing is failed for it

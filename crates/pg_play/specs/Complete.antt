@@ -22,7 +22,6 @@ use Rattle.pg_report.specs.declared.outcome.Outcome.{Outcome}
 use Rattle.pg_request.specs.declared.naming.Declared.{Declared}
 use Rattle.pg_conn.specs.Looking.{looks_for}
 use Rattle.pg_script.specs.declared.step.Call.{Call}
-use Rattle.pg_script.specs.declared.step.Call.TheVariants as calls
 use Rattle.pg_script.specs.declared.step.Step.{Step}
 use Rattle.pg_script.specs.declared.step.Parting.{Parting}
 use Rattle.pg_script.specs.declared.step.Parting.TheVariants as partings

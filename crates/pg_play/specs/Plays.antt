@@ -26,7 +26,6 @@ use Rattle.pg_wire.specs.Groups.{IsGroup, AnswerGroups}
 use Rattle.pg_stream.specs.Links.{LinkSeen, NoneFalls, GrewBy}
 use Rattle.pg_stream.specs.Streams.{StreamSeen, Sends}
 use Rattle.pg_call.specs.declared.request.Request.{Request}
-use Rattle.pg_call.specs.declared.request.Request.TheVariants as requests
 use Rattle.pg_learning.specs.declared.learnt.Learnt.{Learnt}
 use Rattle.pg_learning.specs.Learning.{unnamed_types}
 use Rattle.pg_conn.specs.Looking.{LooksUp, named_in}

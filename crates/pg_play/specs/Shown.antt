@@ -13,7 +13,6 @@ use Rattle.pg_conn.specs.Statements.{run_or_describe, asked_by, begun_as}
 use Rattle.pg_call.specs.Calls.{next_of}
 use Rattle.pg_call.specs.declared.kind.How.{How}
 use Rattle.pg_call.specs.declared.kind.How.TheVariants as hows
-use Rattle.pg_call.specs.declared.statement.Extended.{Extended}
 use Rattle.pg_call.specs.declared.statement.Prepared.{Prepared}
 use Rattle.pg_call.specs.declared.feed.Feed.{Feed}
 use Rattle.pg_call.specs.declared.request.Request.{Request}

@@ -13,7 +13,7 @@ use Rattle.pg_script.specs.declared.error.LineError.TheVariants as errors
 use Rattle.pg_script.specs.Reading.{◌>>=◌, Fails}
 use Rattle.pg_script.specs.Arguments.{text_in, number_arg}
 use Rattle.pg_script.specs.Asking.{prepare_arg, type_at, types_in}
-use Rattle.pg_script.specs.Grammar.{PreparationFits, TypeFits, preparation_tokens, types_tokens, IsUnicode}
+use Rattle.pg_script.specs.Grammar.{PreparationFits, TypeFits, preparation_tokens, types_tokens}
 use Rattle.pg_script.proofs.Found.{bind_some}
 use Rattle.pg_script.proofs.Apart.{is_word, apart}
 use Rattle.pg_script.proofs.AskedLaws.{spaced, unicode}
