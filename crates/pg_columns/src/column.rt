@@ -100,13 +100,25 @@ impl PgColumn {
         &self.field
     }
 
+    /// The same column with this type and this origin. Only want of memory refuses it.
+    pub fn learnt(
+        &self,
+        alloc: Global,
+        type_info: PgTypeInfo,
+        origin: ColumnOrigin,
+    ) -> Result<Self, AllocError>
+        ensures { IfOk result (λ c. c ≡ record { ordinal = self.now.ordinal; field = self.now.field; type_info = type_info; origin = origin }) }
+    {
+        let field = copy_of(alloc, &self.field)?;
+        Ok(PgColumn::new(self.ordinal, field, type_info, origin))
+    }
+
     /// An equal column. Only want of memory refuses it.
     pub fn to_copy(&self, alloc: Global) -> Result<Self, AllocError>
         ensures { IfOk result (λ c. c ≡ self.now) }
     {
-        let field = copy_of(alloc, &self.field)?;
         let type_info = self.type_info.to_copy(alloc)?;
         let origin = self.origin.to_copy(alloc)?;
-        Ok(PgColumn::new(self.ordinal, field, type_info, origin))
+        self.learnt(alloc, type_info, origin)
     }
 }

@@ -6,24 +6,8 @@ use crate::Learnt;
 use pg_arguments::PgTypeInfo;
 use pg_columns::{ColumnOrigin, PgColumn, TableColumn};
 use pg_resolve::{TableCache, TypeCache};
-use pg_wire::{Field, Oid, Sequence, Text};
+use pg_wire::{Sequence, Text};
 use std::alloc::{AllocError, Global};
-
-fn field_of(alloc: Global, column: &PgColumn) -> Result<Field, AllocError>
-    ensures { IfOk result (λ f. f ≡ column.now.field) }
-{
-    let field = column.field();
-    let name = field.name.to_copy(alloc)?;
-    Ok(Field {
-        name,
-        relation_id: field.relation_id,
-        relation_attribute_no: field.relation_attribute_no,
-        type_id: field.type_id,
-        size: field.size,
-        modifier: field.modifier,
-        format: field.format,
-    })
-}
 
 fn type_of(alloc: Global, types: &TypeCache, column: &PgColumn) -> Result<PgTypeInfo, AllocError>
     ensures { IfOk result (λ t. t ≡ learnt_type types.now column.now) }
@@ -68,10 +52,9 @@ impl Learnt {
     fn column(&self, alloc: Global, column: &PgColumn) -> Result<PgColumn, AllocError>
         ensures { IfOk result (λ c. c ≡ learnt_column self.now column.now) }
     {
-        let field = field_of(alloc, column)?;
         let type_info = type_of(alloc, &self.types, column)?;
         let origin = origin_of(alloc, &self.tables, column)?;
-        Ok(PgColumn::new(column.ordinal(), field, type_info, origin))
+        column.learnt(alloc, type_info, origin)
     }
 
     /// The same columns, with the types that were looked up under their OIDs, and with the names of their tables and of themselves where these were looked up.
