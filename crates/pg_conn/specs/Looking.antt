@@ -4,7 +4,7 @@ use Rattle.std.specs.List.{AllByRecursion}
 use Rattle.pg_wire.specs.declared.error.Error.{Error}
 use Rattle.pg_wire.specs.declared.error.Error.TheVariants as errors
 use Rattle.pg_wire.specs.Frame.{Frame}
-use Rattle.pg_wire.specs.Backend.{Values, DataRow, backend_frame, HasBackendFrame}
+use Rattle.pg_wire.specs.Backend.{FieldDescription, Values, DataRow, backend_frame, HasBackendFrame}
 use Rattle.pg_request.specs.declared.naming.Declared.{Declared}
 use Rattle.pg_request.specs.Asked.{RefusesType, declared_names}
 use Rattle.pg_request.specs.Queries.{ArgumentsSeen, holes_by, names_by}
@@ -41,12 +41,13 @@ abbrev pub wants_names : Goal → Bool
 wants_names goals.Prepare = true
 wants_names (goals.Run how) = false
 
-abbrev pub columns_in : Described → List PgColumn
-columns_in d = columns_of (unwrap_or d.columns [])
+-- the columns that were described, none of what gives no rows
+abbrev pub columns_told : Option (List FieldDescription) → List PgColumn
+columns_told columns = columns_of (unwrap_or columns [])
 
 -- behind the description itself, lookups begin
 abbrev pub begun_for : Extended → Described → Learnt → Learnt
-begun_for x d a = if x.is_looked_up then a else begun_with d.parameters (columns_in d) a
+begun_for x d a = if x.is_looked_up then a else begun_with d.parameters (columns_told d.columns) a
 
 -- what a statement has by name alone: the types of its arguments before it is described, and behind that those within the arguments with which it is run
 abbrev pub holes_for : Goal → ArgumentsSeen → List Declared
@@ -96,7 +97,7 @@ LooksInto x None m next b = LooksAny false (holes_for x.goal x.arguments) (reque
 
 abbrev pub LooksFor : Extended → Option Described → Learnt → Request → Learnt → Type 0
 LooksFor x None a next b = LooksAny x.is_looked_up x.arguments.names (requests.Describe x) (lookup_for (requests.Describe x)) (λ oids. requests.Describe (numbered_by oids x)) a next b
-LooksFor x (Some d) a next b = (text : Option (List ℕ)) × (m : Learnt) × Seeks (columns_in d) (wants_names x.goal) (begun_for x d a) text m × LooksInto x text m next b
+LooksFor x (Some d) a next b = (text : Option (List ℕ)) × (m : Learnt) × Seeks (columns_told d.columns) (wants_names x.goal) (begun_for x d a) text m × LooksInto x text m next b
 
 abbrev pub LooksIn : Request → Learnt → Request → Learnt → Type 0
 LooksIn (requests.Describe x) a next b = LooksFor x x.described a next b

@@ -1,5 +1,5 @@
 -- The states of calls: what is known of the call that runs, and what a poll of it answers.
-use Rattle.std.specs.Prelude.{◌≡◌, ℕ, Bool, true, false, List, [], Option, Some, None, unwrap_or, Result, Ok, Err}
+use Rattle.std.specs.Prelude.{◌≡◌, ℕ, Bool, true, false, List, [], Option, Some, None, Result, Ok, Err}
 use Rattle.futures.specs.declared.task.Poll.{Poll}
 use Rattle.futures.specs.declared.task.Poll.TheVariants.{Ready, Pending}
 use Rattle.pg_wire.specs.declared.error.Error.{Error}
@@ -23,12 +23,11 @@ use Rattle.pg_call.specs.Requests.{kind_of, main_kind}
 use Rattle.pg_call.specs.Answers.{TurnFits, TurnIsPlain, statement_turn}
 use Rattle.pg_call.specs.Calls.{CallIs}
 use Rattle.pg_call.specs.Hearing.{IsOpen}
-use Rattle.pg_columns.specs.declared.column.PgColumn.{PgColumn}
-use Rattle.pg_columns.specs.Told.{columns_of}
 use Rattle.pg_learning.specs.declared.learnt.Learnt.{Learnt}
 use Rattle.pg_learning.specs.Telling.{learnt_columns}
 use Rattle.pg_conn.specs.declared.statement.PgStatement.{PgStatement}
 use Rattle.pg_conn.specs.Connections.{ConnOf, ConnSeen, seen_by, begun_by, is_over}
+use Rattle.pg_conn.specs.Looking.{columns_told}
 use Rattle.pg_conn.specs.Turns.{HasRoom, PollsCall}
 
 -- an exchange of this kind runs, which has come where it is by messages queued, frames heard and items shown, and has room for its cleanup
@@ -96,13 +95,9 @@ untyped sql = record { sql = sql; types = [] }
 abbrev pub to_prepare : Preparation → Request
 to_prepare p = requests.Prepare (record { sql = p.sql; parameters = []; columns = None; keeping = keepings.Stays; declared = Some p.types })
 
--- the columns that were described of it, none where it gives no rows
-abbrev pub columns_told : Prepared → List PgColumn
-columns_told p = columns_of (unwrap_or p.columns [])
-
 -- what its caller is told of it: the text, the parameters, and the columns with what was learnt of them
 abbrev pub statement_of : Learnt → Prepared → PgStatement
-statement_of learnt p = record { sql = p.sql; parameters = p.parameters; columns = learnt_columns learnt (columns_told p) }
+statement_of learnt p = record { sql = p.sql; parameters = p.parameters; columns = learnt_columns learnt (columns_told p.columns) }
 
 -- or memory is wanting
 abbrev pub TellsStatement : Learnt → Prepared → Result PgStatement Error → Type 0

@@ -9,11 +9,11 @@ ghost use Rattle.pg_call.specs.declared.request.Request as request;
 ghost use Rattle.pg_learning.specs.Learning.{FailsSeeking, Seeks};
 ghost use Rattle.pg_learning.specs.Naming.{oids_under, unknown_name};
 ghost use Rattle.pg_conn.specs.Connections.{ConnOf, cleaned};
-ghost use Rattle.pg_conn.specs.Looking.{AsksFirst, AsksNext, FailsFirst, IsUnlooked, IsUnlookedFor, LooksFor, LooksIn, LooksInto, LooksNamed, LooksUp, MayLook, MayLookFor, MissesName, asks_by, asks_names, asks_query, begun_by, begun_for, columns_in, has_names, holes_for, is_kept, lookup_for, unlooked, wanted_by, wants_names};
+ghost use Rattle.pg_conn.specs.Looking.{AsksFirst, AsksNext, FailsFirst, IsUnlooked, IsUnlookedFor, LooksFor, LooksIn, LooksInto, LooksNamed, LooksUp, MayLook, MayLookFor, MissesName, asks_by, asks_names, asks_query, begun_by, begun_for, columns_told, has_names, holes_for, is_kept, lookup_for, unlooked, wanted_by, wants_names};
 
+use crate::statement::columns_told;
 use crate::{PgConnection, Request};
 use pg_call::{Bound, Call, Described, Extended, Filling, Goal, Keeping, Lookup, Prepared};
-use pg_columns::PgColumn;
 use pg_request::{Arguments, Declared, Query, declared_names};
 use pg_rule::Rule;
 use pg_wire::{Error, Text};
@@ -23,16 +23,6 @@ fn wants_names(goal: Goal) -> bool
     ensures { result ≡ wants_names goal }
 {
     matches!(goal, Goal::Prepare)
-}
-
-// The columns that were described.
-fn columns_in(described: &Described) -> &[PgColumn]
-    ensures { result.now ≡ columns_in described.now }
-{
-    match &described.columns {
-        Some(columns) => columns.as_slice(),
-        None => &[],
-    }
 }
 
 // What is run has these types by name alone, which are within its arguments.
@@ -123,18 +113,19 @@ impl<L> PgConnection<L> {
         }
         let parameters = described.parameters.as_slice();
         self.learnt
-            .begin(self.alloc, parameters, columns_in(described))
+            .begin(self.alloc, parameters, columns_told(&described.columns))
     }
 
     // The text of the next lookup for a statement that was described.
     fn seek(&mut self, extended: &Extended, described: &Described) -> Result<Option<Text>, Error>
-        ensures ok { IfOk result (λ text. (self.new ≡ record self.old { learnt = self.new.learnt }) × Seeks (columns_in described.now) (wants_names extended.now.goal) (begun_for extended.now described.now self.old.learnt) text self.new.learnt) }
+        ensures ok { IfOk result (λ text. (self.new ≡ record self.old { learnt = self.new.learnt }) × Seeks (columns_told described.now.columns) (wants_names extended.now.goal) (begun_for extended.now described.now self.old.learnt) text self.new.learnt) }
         ensures kept { (self.new.learnt.types ≡ self.old.learnt.types) × (self.new.learnt.tables ≡ self.old.learnt.tables) }
         ensures err { IfErr result (λ e. (self.new ≡ record self.old { learnt = self.new.learnt }) × ((e ≡ Error.OutOfMemory) ⊎ FailsSeeking self.new.learnt.seeking e)) }
     {
         self.begin_lookups(extended, described)?;
         let names = wants_names(extended.goal);
-        self.learnt.seek(self.alloc, columns_in(described), names)
+        self.learnt
+            .seek(self.alloc, columns_told(&described.columns), names)
     }
 
     // Where nothing was looked up for them yet, lookups begin for types that are known by their names alone.

@@ -1,12 +1,13 @@
 ghost use Rattle.std.specs.Prelude.{◌≡◌, ℕ, Some, None, slice_get, IfOk, IfErr};
 ghost use Rattle.pg_columns.specs.Columns.{IsLastNamed, MissesName, names_of};
-ghost use Rattle.pg_conn.specs.States.{TellsStatement, columns_told};
+ghost use Rattle.pg_conn.specs.Looking.{columns_told};
+ghost use Rattle.pg_conn.specs.States.{TellsStatement};
 ghost use Rattle.pg_request.specs.Asked.{AsksWith, kept_query, no_arguments, sent_as};
 
 use crate::Query;
 use pg_arguments::PgArguments;
 use pg_call::Prepared;
-use pg_columns::{PgColumn, column_by_name};
+use pg_columns::{PgColumn, PgColumns, column_by_name};
 use pg_learning::Learnt;
 use pg_wire::{Error, Oid, Oids, Sequence, Text};
 use std::alloc::{AllocError, Global};
@@ -31,11 +32,11 @@ impl Drop for PgStatement {
     }
 }
 
-// The columns that were described, none where it gives no rows.
-fn columns_told(prepared: &Prepared) -> &[PgColumn]
-    ensures { result.now ≡ columns_told prepared.now }
+/// The columns that were described, none of what gives no rows.
+pub(crate) fn columns_told(columns: &Option<PgColumns>) -> &[PgColumn]
+    ensures { result.now ≡ columns_told columns.now }
 {
-    match &prepared.columns {
+    match columns {
         Some(columns) => columns.as_slice(),
         None => &[],
     }
@@ -57,7 +58,7 @@ impl PgStatement {
     pub fn told(alloc: Global, learnt: &Learnt, prepared: Prepared) -> Result<Self, Error>
         ensures { TellsStatement learnt.now prepared result }
     {
-        let columns = learnt.columns(alloc, columns_told(&prepared))?;
+        let columns = learnt.columns(alloc, columns_told(&prepared.columns))?;
         let (sql, parameters) = prepared.into_parts();
         Ok(PgStatement {
             sql,
@@ -92,8 +93,8 @@ impl PgStatement {
         self.parameters.as_slice()
     }
 
-    /// The columns of its rows, in their order; none where it gives no rows. Each tells the type that was looked up under its OID, and its table and its name
-    /// there where it is a column of one.
+    /// The columns of its rows, in their order; none where it gives no rows. Each tells the type that was looked up under its OID. A column of a table tells
+    /// the table and its own name there where both were looked up, and is of an unknown origin where not.
     pub fn columns(&self) -> &[PgColumn]
         ensures { result.now ≡ self.now.columns }
     {
