@@ -12,6 +12,7 @@
 //     end       how what is written ends, where the lines of `<` are its begin and not all of it
 //     has       with `end`, a line further on
 //     states    the steps are played by the states of calls: what is written is how each stood, and the rows of its last poll
+//     url       with `states`: the options of the connection, where they aren't `postgres://u@h`
 //     next      with `states`: the connection gives its last number to the next statement
 //     then      what is done with the connection behind them: `close`, `keep` for a close that is given up, or `tell` for a close behind which what was sent
 //               behind the start-up is written

@@ -41,8 +41,8 @@ fn start(alloc: Global, options: &PgConnectOptions, link: MemoryLink) -> Option<
 }
 
 // A connection over the link, whose start-up ends with its first poll.
-fn connect(alloc: Global, link: MemoryLink) -> Option<Connection> {
-    match options(alloc, "postgres://u@h") {
+fn connect(alloc: Global, url: &str, link: MemoryLink) -> Option<Connection> {
+    match options(alloc, url) {
         Ok(options) => {
             let conn = start(alloc, &options, link);
             drop(options);
@@ -189,6 +189,10 @@ fn numbered(conn: Connection, case: &str) -> Connection {
     }
 }
 
+fn url(case: &str) -> &str {
+    entry(case, "url").unwrap_or("postgres://u@h")
+}
+
 // The link that a script says.
 fn link(alloc: Global, script: &mut Script) -> MemoryLink {
     let reads = mem::replace(&mut script.events, Sequence::new(alloc));
@@ -205,7 +209,7 @@ fn play_script(
     let link = link(alloc, &mut script);
     let steps = mem::replace(&mut script.steps, Sequence::new(alloc)).into_vec();
     drop(script);
-    match connect(alloc, link) {
+    match connect(alloc, url(case), link) {
         Some(conn) => play_over(alloc, numbered(conn, case), case, steps, told),
         None => {
             drop(steps);
