@@ -14,7 +14,7 @@ use Rattle.pg_locks.specs.Keys.{key_arguments}
 use Rattle.pg_locking.specs.Locking.{lock_request}
 
 pub kept_runs : (key : PgAdvisoryLockKey) (rule : Rule) (e : Entry) → entry_at (lock_statement key) rule.cache.entries ≡ Some e
-    → asked_by rule (lock_request key) ≡ requests.Run (record { how = hows.Execute; statement = e.statement; again = None; arguments = key_arguments key; columns = Some e.columns; keeping = keepings.Hits e.statement })
+    → asked_by rule (lock_request key) ≡ requests.Run (record { how = hows.Execute; statement = e.statement; again = None; arguments = key_arguments key; columns = Some e.columns; is_looked_up = false; keeping = keepings.Hits e.statement })
 kept_runs key rule e k = ap (λ (entry : Option Entry). run_or_describe rule hows.Execute (lock_statement key) (key_arguments key) true entry) k
 
 pub unkept_describes : (key : PgAdvisoryLockKey) (rule : Rule) → entry_at (lock_statement key) rule.cache.entries ≡ None → asked_by rule (lock_request key) ≡ describe (goals.Run hows.Execute) (lock_statement key) (key_arguments key) true rule

@@ -44,6 +44,6 @@ pub fn a_lock_that_is_given_up_is_released()
 /// Which exchange comes first once the statement that locks is to run: where it is kept it runs in that one, with the key's numbers, and else it is described
 /// in that one, to be run in the next.
 pub fn a_statement_that_is_kept_is_run_at_once()
-    ensures kept { (key : PgAdvisoryLockKey) (rule : Rule) (e : Entry) → entry_at (lock_statement key) rule.cache.entries ≡ Some e → asked_by rule (lock_request key) ≡ requests.Run (record { how = hows.Execute; statement = e.statement; again = None; arguments = key_arguments key; columns = Some e.columns; keeping = keepings.Hits e.statement }) }
+    ensures kept { (key : PgAdvisoryLockKey) (rule : Rule) (e : Entry) → entry_at (lock_statement key) rule.cache.entries ≡ Some e → asked_by rule (lock_request key) ≡ requests.Run (record { how = hows.Execute; statement = e.statement; again = None; arguments = key_arguments key; columns = Some e.columns; is_looked_up = false; keeping = keepings.Hits e.statement }) }
     ensures unkept { (key : PgAdvisoryLockKey) (rule : Rule) → entry_at (lock_statement key) rule.cache.entries ≡ None → asked_by rule (lock_request key) ≡ describe (goals.Run hows.Execute) (lock_statement key) (key_arguments key) true rule }
 {}
