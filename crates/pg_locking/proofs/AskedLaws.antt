@@ -1,5 +1,5 @@
 -- Which exchange comes first once the statement that locks is to run.
-use Rattle.std.proofs.Common.{◌≡◌, Option, true, Some, None, ap}
+use Rattle.std.proofs.Common.{◌≡◌, Option, true, false, Some, None, ap}
 use Rattle.pg_locks.specs.declared.key.PgAdvisoryLockKey.{PgAdvisoryLockKey}
 use Rattle.pg_locks.specs.Locks.{lock_statement}
 use Rattle.pg_rule.specs.Caches.{entry_at}
