@@ -1,5 +1,5 @@
 //! What follows from the definitions of this crate, each law as the contract of a function that does nothing.
-ghost use Rattle.std.specs.Prelude.{◌≡◌, ◌<◌, ◌-◌, ◌^◌, Bool, true, List, ℕ, None, Result, Some};
+ghost use Rattle.std.specs.Prelude.{◌≡◌, ◌<◌, ◌-◌, ◌^◌, Bool, true, false, List, ℕ, None, Result, Some};
 ghost use Rattle.futures.specs.declared.task.Poll.{Poll};
 ghost use Rattle.pg_wire.specs.declared.error.Error.{Error};
 ghost use Rattle.pg_stream.specs.Links.{LinkSeen};
