@@ -1,32 +1,27 @@
-// What is asked of the columns of a statement.
+//! What is asked of the columns of a statement.
 
+use crate::telling::{push, push_number};
 use pg_resolve::nullable_query;
-use pg_wire::{CallerFault, Error, ProtocolFault, Text};
-use std::alloc::{AllocError, Global};
+use pg_wire::{Error, Text};
+use std::alloc::Global;
 
 // A long text is told by its length.
-fn tell_text(alloc: Global, text: Text) -> Result<String, AllocError> {
+fn push_query(told: &mut String, text: &Text) {
     if text.len() < 1000 {
-        return Ok(text.into_string());
+        return push(told, text.as_str());
     }
-    format!(in alloc; "{} bytes", text.len())
-}
-
-fn tell_query(alloc: Global, query: Result<Text, Error>) -> Result<String, AllocError> {
-    match query {
-        Ok(text) => tell_text(alloc, text),
-        Err(Error::Protocol(ProtocolFault::Caller(CallerFault::TooMany { count }))) => {
-            format!(in alloc; "too many {count}")
-        }
-        Err(_) => String::from_str(alloc, "another error"),
-    }
+    push_number(told, text.len() as u64);
+    push(told, " bytes");
 }
 
 /// The query that asks of so many columns whether they may be null.
-pub fn nullable(alloc: Global, columns: &str) -> Result<String, Error> {
+pub fn nullable(told: &mut String, alloc: Global, columns: &str) -> Result<(), Error> {
     let columns = columns.parse::<usize>().unwrap_or(0);
     if columns == 0 {
-        return Ok(String::from_str(alloc, "no columns")?);
+        push(told, "no columns");
+        return Ok(());
     }
-    Ok(tell_query(alloc, nullable_query(alloc, columns))?)
+    let query = nullable_query(alloc, columns)?;
+    push_query(told, &query);
+    Ok(())
 }

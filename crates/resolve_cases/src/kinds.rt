@@ -1,38 +1,41 @@
-// What a type is made of, in words.
+//! What a type is made of, in words.
 
+use crate::telling::push;
 use pg_arguments::{PgTypeInfo, PgTypeKind};
 use pg_wire::Text;
-use std::alloc::{AllocError, Global};
 
-fn labels(alloc: Global, labels: &[Text]) -> Result<String, AllocError> {
-    let mut told = String::from_str(alloc, "enum")?;
+fn push_labels(told: &mut String, labels: &[Text]) {
+    push(told, "enum");
     for label in labels {
-        told.push_str(" ")?;
-        told.push_str(label.as_str())?;
+        push(told, " ");
+        push(told, label.as_str());
     }
-    Ok(told)
 }
 
-fn attributes(alloc: Global, attributes: &[(Text, PgTypeInfo)]) -> Result<String, AllocError> {
-    let mut told = String::from_str(alloc, "composite")?;
+fn push_attributes(told: &mut String, attributes: &[(Text, PgTypeInfo)]) {
+    push(told, "composite");
     for attribute in attributes {
-        told.push_str(" ")?;
-        told.push_str(attribute.0.as_str())?;
-        told.push_str(":")?;
-        told.push_str(attribute.1.name())?;
+        push(told, " ");
+        push(told, attribute.0.as_str());
+        push(told, ":");
+        push(told, attribute.1.name());
     }
-    Ok(told)
+}
+
+fn push_other(told: &mut String, word: &str, of: &PgTypeInfo) {
+    push(told, word);
+    push(told, of.name());
 }
 
 /// The kind of a type.
-pub fn tell(alloc: Global, kind: &PgTypeKind) -> Result<String, AllocError> {
+pub fn push_kind(told: &mut String, kind: &PgTypeKind) {
     match kind {
-        PgTypeKind::Simple => String::from_str(alloc, "simple"),
-        PgTypeKind::Pseudo => String::from_str(alloc, "pseudo"),
-        PgTypeKind::Domain(base) => format!(in alloc; "domain {}", base.name()),
-        PgTypeKind::Composite(parts) => attributes(alloc, parts),
-        PgTypeKind::Array(element) => format!(in alloc; "array {}", element.name()),
-        PgTypeKind::Enum(words) => labels(alloc, words.as_slice()),
-        PgTypeKind::Range(bound) => format!(in alloc; "range {}", bound.name()),
+        PgTypeKind::Simple => push(told, "simple"),
+        PgTypeKind::Pseudo => push(told, "pseudo"),
+        PgTypeKind::Domain(base) => push_other(told, "domain ", base),
+        PgTypeKind::Composite(parts) => push_attributes(told, parts),
+        PgTypeKind::Array(element) => push_other(told, "array ", element),
+        PgTypeKind::Enum(labels) => push_labels(told, labels.as_slice()),
+        PgTypeKind::Range(bound) => push_other(told, "range ", bound),
     }
 }

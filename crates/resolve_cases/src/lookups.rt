@@ -1,104 +1,114 @@
-// Rows of lookups, as a server sends them.
+//! Rows of lookups, as a server sends them.
 
-use crate::types::oid_or_minus;
+use crate::telling::{push, push_number, push_oid, push_quoted};
 use pg_lookup::{column_row, type_row};
 use pg_resolve::{ColumnResolverRow, TypeResolverRow};
 use pg_wire::{DataRow, Error, Oid, Text, decode_data_row};
-use std::alloc::{AllocError, Global};
+use std::alloc::Global;
 use std::fmt::Write;
 
-// A value behind its length; a minus stands for a null.
-fn push_value(values: &mut Vec<u8>, word: &str) -> Result<(), AllocError> {
-    if word == "-" {
-        return values.extend_from_slice(&u32::MAX.to_be_bytes());
-    }
-    let length = u32::try_from(word.len()).unwrap_or(u32::MAX);
-    values.extend_from_slice(&length.to_be_bytes())?;
-    values.extend_from_slice(word.as_bytes())
+fn put(bytes: &mut Vec<u8>, more: &[u8]) {
+    let _ = bytes.extend_from_slice(more);
 }
 
-// The row of these values, which have a bar between them.
-fn row_of(alloc: Global, words: &str) -> Result<DataRow, Error> {
-    if words.is_empty() {
-        return Ok(DataRow::new(alloc));
+// A value behind its length; a minus stands for a null.
+fn put_value(values: &mut Vec<u8>, word: &str) {
+    if word == "-" {
+        return put(values, &u32::MAX.to_be_bytes());
     }
+    let length = u32::try_from(word.len()).unwrap_or(u32::MAX);
+    put(values, &length.to_be_bytes());
+    put(values, word.as_bytes());
+}
+
+// The body of a row's message, of values that have a bar between them.
+fn body_of(alloc: Global, words: &str) -> Vec<u8> {
     let mut count: u16 = 0;
     let mut values = Vec::new(alloc);
     for word in words.split('|') {
         count = count.wrapping_add(1);
-        push_value(&mut values, word)?;
+        put_value(&mut values, word);
     }
     let mut body = Vec::new(alloc);
-    body.extend_from_slice(&count.to_be_bytes())?;
-    body.extend_from_slice(values.as_slice())?;
-    decode_data_row(alloc, body.as_slice())
+    put(&mut body, &count.to_be_bytes());
+    put(&mut body, &values);
+    body
 }
 
-fn tell_name(alloc: Global, name: &Option<Text>) -> Result<String, AllocError> {
-    match name {
-        Some(name) => format!(in alloc; "{:?}", name.as_str()),
-        None => String::from_str(alloc, "-"),
+fn row_of(alloc: Global, words: &str) -> Result<DataRow, Error> {
+    if words.is_empty() {
+        return Ok(DataRow::new(alloc));
     }
+    decode_data_row(alloc, &body_of(alloc, words))
 }
 
-fn tell_labels(alloc: Global, labels: &[Text]) -> Result<String, AllocError> {
-    let mut told = String::from_str(alloc, "labels")?;
+fn push_labels(told: &mut String, labels: &[Text]) {
+    push(told, " labels");
     for label in labels {
-        write!(told, " {:?}", label.as_str())?;
+        push(told, " ");
+        push_quoted(told, label.as_str());
     }
-    Ok(told)
 }
 
-fn tell_attributes(alloc: Global, attributes: &[(Text, Oid)]) -> Result<String, AllocError> {
-    let mut told = String::from_str(alloc, "attributes")?;
+fn push_attributes(told: &mut String, attributes: &[(Text, Oid)]) {
+    push(told, " attributes");
     for attribute in attributes {
-        write!(told, " {:?}:{}", attribute.0.as_str(), attribute.1.0)?;
+        push(told, " ");
+        push_quoted(told, attribute.0.as_str());
+        push(told, ":");
+        push_number(told, u64::from(attribute.1.0));
     }
-    Ok(told)
 }
 
-fn tell_names(alloc: Global, row: &TypeResolverRow) -> Result<String, AllocError> {
-    let original = tell_name(alloc, &row.original_name)?;
-    let (pretty, catalog) = (row.pretty_name.as_str(), row.catalog_name.as_str());
-    format!(in alloc; "{} {pretty:?} {catalog:?} {original}", row.oid.0)
-}
-
-fn tell_related(alloc: Global, row: &TypeResolverRow) -> Result<String, AllocError> {
-    let element = oid_or_minus(alloc, row.typelem)?;
-    let base = oid_or_minus(alloc, row.typbasetype)?;
-    let subtype = oid_or_minus(alloc, row.rngsubtype)?;
-    format!(in alloc;
-        "{:?} {:?} {element} {base} {subtype}",
-        row.typtype, row.typcategory
-    )
-}
-
-fn tell_type_row(alloc: Global, row: &TypeResolverRow) -> Result<String, AllocError> {
-    let names = tell_names(alloc, row)?;
-    let related = tell_related(alloc, row)?;
-    let labels = tell_labels(alloc, row.enum_labels.as_slice())?;
-    let attributes = tell_attributes(alloc, row.record_attributes.as_slice())?;
-    format!(in alloc; "{names} {related} {labels} {attributes}")
+fn push_type_row(told: &mut String, row: &TypeResolverRow) {
+    push_number(told, u64::from(row.oid.0));
+    push(told, " ");
+    push_quoted(told, row.pretty_name.as_str());
+    push(told, " ");
+    push_quoted(told, row.catalog_name.as_str());
+    push(told, " ");
+    match &row.original_name {
+        Some(name) => push_quoted(told, name.as_str()),
+        None => push(told, "-"),
+    }
+    let _ = write!(told, " {:?} {:?} ", row.typtype, row.typcategory);
+    push_oid(told, row.typelem);
+    push(told, " ");
+    push_oid(told, row.typbasetype);
+    push(told, " ");
+    push_oid(told, row.rngsubtype);
+    push_labels(told, row.enum_labels.as_slice());
+    push_attributes(told, row.record_attributes.as_slice());
 }
 
 /// What a row of a type lookup with these values tells.
-pub fn read_type(alloc: Global, words: &str) -> Result<String, Error> {
+pub fn read_type(told: &mut String, alloc: Global, words: &str) -> Result<(), Error> {
     let values = row_of(alloc, words)?;
-    let row = type_row(alloc, &values)?;
-    Ok(tell_type_row(alloc, &row)?)
+    let row = type_row(alloc, &values);
+    drop(values);
+    let row = row?;
+    push_type_row(told, &row);
+    drop(row);
+    Ok(())
 }
 
-fn tell_column_row(alloc: Global, row: &ColumnResolverRow) -> Result<String, AllocError> {
-    let mut told = format!(in alloc; "{} {:?}", row.table_oid.0, row.table_name.as_str())?;
+fn push_column_row(told: &mut String, row: &ColumnResolverRow) {
+    push_number(told, u64::from(row.table_oid.0));
+    push(told, " ");
+    push_quoted(told, row.table_name.as_str());
     for column in row.columns.as_slice() {
-        write!(told, " {}:{:?}", column.0, column.1.as_str())?;
+        let _ = write!(told, " {}:", column.0);
+        push_quoted(told, column.1.as_str());
     }
-    Ok(told)
 }
 
 /// What a row of a column lookup with these values tells.
-pub fn read_columns(alloc: Global, words: &str) -> Result<String, Error> {
+pub fn read_columns(told: &mut String, alloc: Global, words: &str) -> Result<(), Error> {
     let values = row_of(alloc, words)?;
-    let row = column_row(alloc, &values)?;
-    Ok(tell_column_row(alloc, &row)?)
+    let row = column_row(alloc, &values);
+    drop(values);
+    let row = row?;
+    push_column_row(told, &row);
+    drop(row);
+    Ok(())
 }

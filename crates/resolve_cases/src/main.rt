@@ -15,48 +15,100 @@ mod kinds;
 mod lookups;
 mod plans;
 mod rows;
+mod telling;
 mod types;
+mod words;
 
 use pg_wire::{Error, Text};
-use std::alloc::{AllocError, Global};
+use std::alloc::Global;
 use std::io;
+use telling::{push, push_error};
+use words::{meant, text, two};
 
-fn played(alloc: Global, rows: &mut Vec<Text>, verb: &str, rest: &str) -> Result<String, Error> {
+#[derive(Clone, Copy)]
+enum Verb {
+    Row,
+    Forget,
+    Take,
+    Serve,
+    Text,
+    Columns,
+    Names,
+    TypeRow,
+    ColumnRow,
+    Nullable,
+    Plan,
+}
+
+static VERBS: [(&str, Verb); 11] = [
+    ("row", Verb::Row),
+    ("forget", Verb::Forget),
+    ("take", Verb::Take),
+    ("serve", Verb::Serve),
+    ("text", Verb::Text),
+    ("columns", Verb::Columns),
+    ("names", Verb::Names),
+    ("type_row", Verb::TypeRow),
+    ("column_row", Verb::ColumnRow),
+    ("nullable", Verb::Nullable),
+    ("plan", Verb::Plan),
+];
+
+fn play(
+    told: &mut String,
+    alloc: Global,
+    rows: &mut Vec<Text>,
+    verb: Verb,
+    rest: &str,
+) -> Result<(), Error> {
     match verb {
-        "row" => {
-            rows.push(Text::from_str(alloc, rest)?)?;
-            Ok(String::from_str(alloc, "kept")?)
+        Verb::Row => {
+            let _ = rows.push(text(alloc, rest));
+            push(told, "kept");
+            Ok(())
         }
-        "forget" => {
-            *rows = Vec::new(alloc);
-            Ok(String::from_str(alloc, "forgotten")?)
+        Verb::Forget => {
+            rows.clear();
+            push(told, "forgotten");
+            Ok(())
         }
-        "take" => types::take(alloc, rows, rest),
-        "serve" => types::serve(alloc, rows, rest),
-        "text" => types::lookup(alloc, rest),
-        "columns" => columns::lookup(alloc, rest),
-        "names" => columns::names(alloc, rest),
-        "type_row" => lookups::read_type(alloc, rest),
-        "column_row" => lookups::read_columns(alloc, rest),
-        "nullable" => described::nullable(alloc, rest),
-        "plan" => plans::walk(alloc, rest),
-        _ => Ok(String::from_str(alloc, "no such case")?),
+        Verb::Take => {
+            types::take(told, alloc, rows, rest);
+            Ok(())
+        }
+        Verb::Serve => types::serve(told, alloc, rows, rest),
+        Verb::Text => types::lookup(told, alloc, rest),
+        Verb::Columns => columns::lookup(told, alloc, rest),
+        Verb::Names => {
+            columns::names(told, alloc, rest);
+            Ok(())
+        }
+        Verb::TypeRow => lookups::read_type(told, alloc, rest),
+        Verb::ColumnRow => lookups::read_columns(told, alloc, rest),
+        Verb::Nullable => described::nullable(told, alloc, rest),
+        Verb::Plan => plans::walk(told, alloc, rest),
     }
 }
 
-fn answer(alloc: Global, rows: &mut Vec<Text>, line: &str) -> Result<String, AllocError> {
-    let (verb, rest) = line.split_once(' ').unwrap_or((line, ""));
-    match played(alloc, rows, verb, rest) {
-        Ok(told) => Ok(told),
-        Err(error) => types::tell_error(alloc, &error),
+fn answer(alloc: Global, rows: &mut Vec<Text>, line: &str) -> String {
+    let mut told = String::new(alloc);
+    let (word, rest) = two(line, ' ');
+    match meant(&VERBS, word) {
+        None => push(&mut told, "no such case"),
+        Some(verb) => {
+            if let Err(error) = play(&mut told, alloc, rows, verb, rest) {
+                push_error(&mut told, error);
+            }
+        }
     }
+    told
 }
 
 fn main(rt: HostRuntime) -> io::Result<()> {
     let mut rows = Vec::new(rt.alloc());
     for line in rt.lines(rt.alloc()) {
         let line = line?;
-        let answer = answer(rt.alloc(), &mut rows, line.as_str())?;
+        let answer = answer(rt.alloc(), &mut rows, line.as_str());
         println!(rt; "{line} -> {answer}")?;
     }
     Ok(())

@@ -1,82 +1,72 @@
-// What a query's plan tells of its outputs.
+//! What a query's plan tells of its outputs.
 
+use crate::telling::push;
+use crate::words::{list, next, text_or_none};
 use pg_resolve::{Plan, plan_walk};
 use pg_wire::{Error, Sequence, Text};
-use std::alloc::{AllocError, Global};
+use std::alloc::Global;
 
-// A text, where there is one.
-fn word(alloc: Global, word: &str) -> Result<Option<Text>, AllocError> {
-    if word == "-" {
-        return Ok(None);
-    }
-    Ok(Some(Text::from_str(alloc, word)?))
-}
-
-fn texts(alloc: Global, words: &str) -> Result<Vec<Text>, AllocError> {
-    let mut texts = Vec::new(alloc);
+fn output(alloc: Global, words: &str) -> Option<Sequence<Text>> {
     if words == "-" {
-        return Ok(texts);
+        return None;
     }
-    for word in words.split('|') {
-        texts.push(Text::from_str(alloc, word)?)?;
-    }
-    Ok(texts)
-}
-
-fn output(alloc: Global, words: &str) -> Result<Option<Sequence<Text>>, AllocError> {
-    if words == "-" {
-        return Ok(None);
-    }
-    Ok(Some(Sequence::from_vec(texts(alloc, words)?)))
+    Some(Sequence::from_vec(list(alloc, words, '|')))
 }
 
 // The last nodes, as many as a word says.
-fn taken(nodes: &mut Vec<Plan>, count: &str) -> Result<Option<Vec<Plan>>, AllocError> {
-    let Ok(count) = count.parse::<usize>() else {
-        return Ok(None);
-    };
+fn taken(alloc: Global, nodes: &mut Vec<Plan>, count: &str) -> Option<Vec<Plan>> {
+    let count = count.parse::<usize>().ok()?;
     let first = nodes.len().saturating_sub(count);
-    Ok(Some(nodes.split_off(first)?))
+    Some(nodes.split_off(first).unwrap_or(Vec::new(alloc)))
 }
 
-// Adds a node over those that it takes.
-fn add_node(alloc: Global, nodes: &mut Vec<Plan>, line: &str) -> Result<(), AllocError> {
-    let (join, rest) = line.split_once('/').unwrap_or((line, "-/-/-"));
-    let (parent, rest) = rest.split_once('/').unwrap_or((rest, "-/-"));
-    let (count, outputs) = rest.split_once('/').unwrap_or((rest, "-"));
-    let plans = taken(nodes, count)?;
-    nodes.push(Plan {
-        join_type: word(alloc, join)?,
-        parent_relation: word(alloc, parent)?,
-        output: output(alloc, outputs)?,
-        plans,
-    })?;
-    Ok(())
-}
-
-fn tell(alloc: Global, marks: &[Option<bool>]) -> Result<String, AllocError> {
-    let mut told = String::new(alloc);
-    for mark in marks {
-        told.push_str(match mark {
-            Some(true) => "t",
-            Some(false) => "f",
-            None => "-",
-        })?;
+// A node over those that it takes.
+fn node(alloc: Global, nodes: &mut Vec<Plan>, line: &str) -> Plan {
+    let mut fields = line;
+    let fields = &mut fields;
+    Plan {
+        join_type: text_or_none(alloc, next(fields, '/')),
+        parent_relation: text_or_none(alloc, next(fields, '/')),
+        plans: taken(alloc, nodes, next(fields, '/')),
+        output: output(alloc, next(fields, '/')),
     }
-    Ok(told)
+}
+
+// The node of the last line.
+fn plan(alloc: Global, lines: &str) -> Option<Plan> {
+    let mut nodes = Vec::new(alloc);
+    for line in lines.split(" ; ") {
+        let node = node(alloc, &mut nodes, line);
+        let _ = nodes.push(node);
+    }
+    nodes.pop()
+}
+
+fn push_marks(told: &mut String, marks: &[Option<bool>]) {
+    for mark in marks {
+        push(
+            told,
+            match mark {
+                Some(true) => "t",
+                Some(false) => "f",
+                None => "-",
+            },
+        );
+    }
 }
 
 /// Marks the outputs in front of the first semicolon by the plan behind it: its nodes, each behind those below it, as a join type, a parent
 /// relation, how many nodes it takes of those in front of it, and its outputs. A minus stands for a field that it lacks.
-pub fn walk(alloc: Global, rest: &str) -> Result<String, Error> {
+pub fn walk(told: &mut String, alloc: Global, rest: &str) -> Result<(), Error> {
     let (outputs, lines) = rest.split_once(" ; ").unwrap_or((rest, ""));
-    let outputs = texts(alloc, outputs)?;
-    let mut nodes = Vec::new(alloc);
-    for line in lines.split(" ; ") {
-        add_node(alloc, &mut nodes, line)?;
-    }
-    match nodes.pop() {
-        Some(plan) => Ok(tell(alloc, &plan_walk(alloc, &plan, &outputs)?)?),
-        None => Ok(String::from_str(alloc, "no plan")?),
-    }
+    let Some(plan) = plan(alloc, lines) else {
+        push(told, "no plan");
+        return Ok(());
+    };
+    let outputs: Vec<Text> = list(alloc, outputs, '|');
+    let marks = plan_walk(alloc, &plan, &outputs);
+    drop(plan);
+    drop(outputs);
+    push_marks(told, &marks?);
+    Ok(())
 }

@@ -1,11 +1,13 @@
-// Types that are looked up.
+//! Types that are looked up.
 
-use crate::kinds;
-use crate::rows::{number, oid, type_row};
+use crate::kinds::push_kind;
+use crate::rows::{oid, type_row};
+use crate::telling::{push, push_asked, push_end, push_number, push_oid};
+use crate::words::{number, text, two};
+use pg_arguments::PgTypeInfo;
 use pg_resolve::{Resolver, TypeCache, Wanted};
-use pg_wire::{Error, Oid, ProtocolFault, Text};
-use std::alloc::{AllocError, Global};
-use std::fmt::Write;
+use pg_wire::{Error, Oid, Text};
+use std::alloc::Global;
 
 fn take_row(
     alloc: Global,
@@ -13,94 +15,72 @@ fn take_row(
     cache: &mut TypeCache,
     row: &Text,
 ) -> Result<(), Error> {
-    let row = type_row(alloc, row.as_str())?;
+    let row = type_row(alloc, row.as_str());
     resolver.take_row(alloc, cache, row)
 }
 
-// Takes the rows with this OID.
-fn take_one(
-    alloc: Global,
-    resolver: &mut Resolver,
-    cache: &mut TypeCache,
-    rows: &[Text],
-    wanted: Oid,
-) -> Result<(), Error> {
-    for row in rows {
-        if oid(row.as_str()) == wanted {
-            take_row(alloc, resolver, cache, row)?;
-        }
-    }
-    Ok(())
-}
-
+// Takes the rows with each of these OIDs.
 fn take_all(alloc: Global, cache: &mut TypeCache, rows: &[Text], oids: &str) -> Result<(), Error> {
     let mut resolver = Resolver::new(alloc);
     for word in oids.split(' ') {
-        take_one(alloc, &mut resolver, cache, rows, Oid(number(word)))?;
+        let wanted = Oid(number(word));
+        for row in rows {
+            if oid(row.as_str()) == wanted {
+                take_row(alloc, &mut resolver, cache, row)?;
+            }
+        }
     }
     resolver.ended(alloc)
 }
 
-/// A number, or a minus where there is none.
-pub fn oid_or_minus(alloc: Global, oid: Option<Oid>) -> Result<String, AllocError> {
-    match oid {
-        Some(oid) => format!(in alloc; "{}", oid.0),
-        None => String::from_str(alloc, "-"),
-    }
-}
-
 // The name, the levels, the kind, the OID under the name, and that of the array.
-fn tell_type(alloc: Global, cache: &TypeCache, oid: Oid) -> Result<String, AllocError> {
+fn push_known(told: &mut String, cache: &TypeCache, oid: Oid, of: &PgTypeInfo) {
+    push(told, of.name());
+    push(told, "/");
+    push_number(told, u64::from(of.levels()));
+    push(told, "/");
+    push_kind(told, of.kind());
+    push(told, "/");
+    push_oid(told, cache.by_name(of.name()));
+    push(told, "/");
+    push_oid(told, cache.array_of(oid));
+}
+
+// What is known of a type, told by a copy of it.
+fn push_type(told: &mut String, alloc: Global, cache: &TypeCache, oid: Oid) {
     let Some(of) = cache.by_oid(oid) else {
-        return String::from_str(alloc, "not known");
+        return push(told, "not known");
     };
-    let copy = of.to_copy(alloc)?;
-    let kind = kinds::tell(alloc, copy.kind())?;
-    let named = oid_or_minus(alloc, cache.by_name(copy.name()))?;
-    let array = oid_or_minus(alloc, cache.array_of(oid))?;
-    let (name, levels) = (copy.name(), copy.levels());
-    format!(in alloc; "{name}/{levels}/{kind}/{named}/{array}")
-}
-
-/// Why nothing came of a case.
-pub fn tell_error(alloc: Global, error: &Error) -> Result<String, AllocError> {
-    match error {
-        Error::Protocol(ProtocolFault::Types { oids }) => {
-            let mut told = String::from_str(alloc, "types")?;
-            for oid in oids.as_slice() {
-                write!(told, " {}", oid.0)?;
-            }
-            Ok(told)
-        }
-        Error::ColumnDecode { index } => format!(in alloc; "column {index}"),
-        _ => String::from_str(alloc, "another error"),
+    if let Ok(copy) = of.to_copy(alloc) {
+        push_known(told, cache, oid, &copy);
+        drop(copy);
     }
 }
 
-/// How it ended.
-pub fn tell_end(alloc: Global, end: &Result<(), Error>) -> Result<String, AllocError> {
-    match end {
-        Ok(()) => String::from_str(alloc, "ok"),
-        Err(error) => tell_error(alloc, error),
-    }
-}
-
-fn tell_types(alloc: Global, cache: &TypeCache, oids: &str) -> Result<String, AllocError> {
-    let mut told = String::new(alloc);
+fn push_types(told: &mut String, alloc: Global, cache: &TypeCache, oids: &str) {
     for word in oids.split(' ') {
-        let of = tell_type(alloc, cache, Oid(number(word)))?;
-        write!(told, ", {word} {of}")?;
+        push(told, ", ");
+        push(told, word);
+        push(told, " ");
+        push_type(told, alloc, cache, Oid(number(word)));
     }
-    Ok(told)
 }
 
 /// What the rows with these OIDs leave, taken in this order.
-pub fn take(alloc: Global, rows: &[Text], oids: &str) -> Result<String, Error> {
+pub fn take(told: &mut String, alloc: Global, rows: &[Text], oids: &str) {
     let mut cache = TypeCache::new(alloc);
-    let end = take_all(alloc, &mut cache, rows, oids);
-    let end = tell_end(alloc, &end)?;
-    let types = tell_types(alloc, &cache, oids)?;
-    Ok(format!(in alloc; "{end}{types}")?)
+    push_end(told, take_all(alloc, &mut cache, rows, oids));
+    push_types(told, alloc, &cache, oids);
+    drop(cache);
+}
+
+// Whether a lookup asks for the type with this OID.
+fn is_asked(alloc: Global, text: &str, oid: Oid) -> bool {
+    let mut entry = String::new(alloc);
+    push(&mut entry, "(NULL, ");
+    push_number(&mut entry, u64::from(oid.0));
+    push(&mut entry, ")");
+    text.contains(entry.as_str())
 }
 
 // Takes the rows that a lookup asks by their OIDs.
@@ -112,8 +92,7 @@ fn answer_lookup(
     text: &str,
 ) -> Result<(), Error> {
     for row in rows {
-        let entry = format!(in alloc; "(NULL, {})", oid(row.as_str()).0)?;
-        if text.contains(entry.as_str()) {
+        if is_asked(alloc, text, oid(row.as_str())) {
             take_row(alloc, resolver, cache, row)?;
         }
     }
@@ -137,41 +116,49 @@ fn answer_lookups(
 }
 
 /// What a type is, where each lookup is answered by the rows that it asks.
-pub fn serve(alloc: Global, rows: &[Text], wanted: &str) -> Result<String, Error> {
+pub fn serve(told: &mut String, alloc: Global, rows: &[Text], wanted: &str) -> Result<(), Error> {
+    let wanted = Oid(number(wanted));
     let mut cache = TypeCache::new(alloc);
     let mut resolver = Resolver::new(alloc);
-    resolver.push_type(alloc, None, Wanted::Oid(Oid(number(wanted))))?;
-    let rounds = answer_lookups(alloc, &mut resolver, &mut cache, rows)?;
-    let end = tell_end(alloc, &resolver.ended(alloc))?;
-    let of = tell_type(alloc, &cache, Oid(number(wanted)))?;
-    Ok(format!(in alloc; "{rounds} lookups, {end}, {of}")?)
+    resolver.push_type(alloc, None, Wanted::Oid(wanted))?;
+    let made = answer_lookups(alloc, &mut resolver, &mut cache, rows)?;
+    push_number(told, u64::from(made));
+    push(told, " lookups, ");
+    push_end(told, resolver.ended(alloc));
+    push(told, ", ");
+    push_type(told, alloc, &cache, wanted);
+    Ok(())
 }
 
 // `oid:7`, `name:mood` or `element:mood`.
-fn push(alloc: Global, resolver: &mut Resolver, word: &str) -> Result<(), Error> {
+fn push_wanted(alloc: Global, resolver: &mut Resolver, word: &str) -> Result<(), Error> {
     match word.split_once(':') {
         Some(("name", name)) => {
-            let wanted = Wanted::Name(Text::from_str(alloc, name)?);
-            resolver.push_type(alloc, Some(name), wanted)
+            resolver.push_type(alloc, Some(name), Wanted::Name(text(alloc, name)))
         }
         Some(("element", name)) => {
-            let wanted = Wanted::Element(Text::from_str(alloc, name)?);
-            resolver.push_type(alloc, Some(name), wanted)
+            resolver.push_type(alloc, Some(name), Wanted::Element(text(alloc, name)))
         }
         Some((_, oid)) => resolver.push_type(alloc, None, Wanted::Oid(Oid(number(oid)))),
         None => Ok(()),
     }
 }
 
-/// The text of a lookup, and that of the next.
-pub fn lookup(alloc: Global, words: &str) -> Result<String, Error> {
-    let mut resolver = Resolver::new(alloc);
+fn ask(alloc: Global, resolver: &mut Resolver, words: &str) -> Result<(Option<Text>, bool), Error> {
     for word in words.split(' ') {
-        push(alloc, &mut resolver, word)?;
+        push_wanted(alloc, resolver, word)?;
     }
     let first = resolver.query(alloc)?;
     let next = resolver.query(alloc)?;
-    let first = first.unwrap_or(Text::new(alloc));
-    let is_last = next.is_none();
-    Ok(format!(in alloc; "{:?} {is_last}", first.as_str())?)
+    Ok((first, next.is_none()))
+}
+
+/// The text of a lookup, and whether it is the last.
+pub fn lookup(told: &mut String, alloc: Global, words: &str) -> Result<(), Error> {
+    let mut resolver = Resolver::new(alloc);
+    let asked = ask(alloc, &mut resolver, words);
+    drop(resolver);
+    let (first, is_last) = asked?;
+    push_asked(told, first, is_last);
+    Ok(())
 }
