@@ -50,17 +50,14 @@ impl Errand {
 pub(crate) fn errand_at(
     alloc: Global,
     task: Task,
-    options: PgConnectOptions,
+    options: &PgConnectOptions,
 ) -> Result<Errand, Error>
-    ensures ok { IfOk result (IsErrand task options) }
-    ensures err { IfErr result (RefusesErrand task options) }
+    ensures ok { IfOk result (IsErrand task options.now) }
+    ensures err { IfErr result (RefusesErrand task options.now) }
 {
-    let request = match request(alloc, task, database_of(&options)) {
+    let request = match request(alloc, task, database_of(options)) {
         Ok(request) => request,
-        Err(e) => {
-            drop(options);
-            return Err(e);
-        }
+        Err(e) => return Err(e),
     };
     match maintenance(options) {
         Ok(options) => Ok(Errand { options, request }),
@@ -81,7 +78,11 @@ pub(crate) fn errand_of(
     ensures { AsksOf (AsksAt task) env.now url.now result }
 {
     match PgConnectOptions::from_str(alloc, env, url) {
-        Ok(options) => errand_at(alloc, task, options),
+        Ok(options) => {
+            let errand = errand_at(alloc, task, &options);
+            drop(options);
+            errand
+        }
         Err(e) => Err(e),
     }
 }

@@ -57,11 +57,11 @@ pub struct ForceDropDatabase<'d, D: Sessions> {
 }
 
 // What is asked, of the database that options name.
-fn forcing_at(alloc: Global, options: PgConnectOptions) -> Result<Forcing, Error>
-    ensures { AsksForce options result }
+fn forcing_at(alloc: Global, options: &PgConnectOptions) -> Result<Forcing, Error>
+    ensures { AsksForce options.now result }
 {
-    let database = Text::from_str(alloc, database_of(&options))?;
-    let last = match errand_at(alloc, Task::Remove, options.clone()?) {
+    let database = Text::from_str(alloc, database_of(options))?;
+    let last = match errand_at(alloc, Task::Remove, options) {
         Ok(last) => last,
         Err(e) => return Err(e),
     };
@@ -80,7 +80,11 @@ pub(crate) fn forcing_of(alloc: Global, env: &PgSettings, url: &str) -> Result<F
     ensures { AsksOf AsksForce env.now url.now result }
 {
     match PgConnectOptions::from_str(alloc, env, url) {
-        Ok(options) => forcing_at(alloc, options),
+        Ok(options) => {
+            let forcing = forcing_at(alloc, &options);
+            drop(options);
+            forcing
+        }
         Err(e) => Err(e),
     }
 }

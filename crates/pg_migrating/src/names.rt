@@ -29,9 +29,9 @@ fn maintenance_name(database: &str) -> &'static str
 }
 
 /// The same options, but for the database: it is one that the other's call can be made from.
-pub(crate) fn maintenance(options: PgConnectOptions) -> Result<PgConnectOptions, Error>
-    ensures { Makes result (maintenance options) }
+pub(crate) fn maintenance(options: &PgConnectOptions) -> Result<PgConnectOptions, Error>
+    ensures { Makes result (maintenance options.now) }
 {
-    let name = maintenance_name(database_of(&options));
-    options.database(name)
+    let name = maintenance_name(database_of(options));
+    options.clone()?.database(name)
 }
