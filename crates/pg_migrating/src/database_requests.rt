@@ -3,7 +3,7 @@
 ghost use Rattle.std.specs.Prelude.{◌∷◌, []};
 ghost use Rattle.pg_call.specs.declared.kind.How.TheVariants as hows;
 ghost use Rattle.pg_migrate.specs.Orders.{Prepared, Script, Words};
-ghost use Rattle.pg_migrate.specs.Texts.{create_database_text, database_exists_text, drop_database_text, terminate_text, version_text};
+ghost use Rattle.pg_migrate.specs.Texts.{create_database_text, database_exists_text, drop_database_text, terminate_text};
 ghost use Rattle.pg_migrating.specs.Requests.{IsRequestOf};
 ghost use Rattle.pg_migrating.specs.Errands.{how_of, statement_of};
 
@@ -40,12 +40,6 @@ fn exists(alloc: Global, database: &str) -> Result<Request, Error>
     prepared(alloc, How::FetchOne, database_exists_text(), arguments)
 }
 
-fn version(alloc: Global) -> Result<Request, Error>
-    ensures { IsRequestOf hows.FetchOne 0 (Prepared version_text []) result }
-{
-    bare(alloc, How::FetchOne, version_text())
-}
-
 /// The request of a task on this database.
 pub(crate) fn request(alloc: Global, task: Task, database: &str) -> Result<Request, Error>
     ensures { IsRequestOf (how_of task) 0 (statement_of task database.now) result }
@@ -53,7 +47,7 @@ pub(crate) fn request(alloc: Global, task: Task, database: &str) -> Result<Reque
     match task {
         Task::Create => create(alloc, database),
         Task::Exists => exists(alloc, database),
-        Task::Version => version(alloc),
+        Task::Version => bare(alloc, How::FetchOne, version_text()),
         Task::Remove => remove(alloc, database),
     }
 }

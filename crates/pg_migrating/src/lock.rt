@@ -80,20 +80,16 @@ fn key_of(alloc: Global, turn: Turn) -> Result<i64, MigrateError>
 }
 
 impl<C: PgExecutor> MigrationLock<C> {
-    pub(crate) fn new(
-        alloc: Global,
-        conn: C,
-        way: LockWay,
-        question: Result<Request, Error>,
-    ) -> Self
+    pub(crate) fn new(alloc: Global, conn: C, way: LockWay) -> Self
         ensures conn { result.asking.conn ≡ conn }
-        ensures question { result.asking.question ≡ Some question }
         ensures way { result.way ≡ way }
-        ensures named { result.is_named ≡ false }
+        ensures stands { StandsLock C.L.seen way (C.conn conn) result.is_named result.asking.question (C.conn result.asking.conn) }
+        ensures goes { is_asked result.asking.question (C.conn result.asking.conn).call ≡ true }
+        ensures calling { CallsLock result.is_named result.asking.question (C.conn result.asking.conn) }
     {
         MigrationLock {
             alloc,
-            asking: Asking::new(conn, question),
+            asking: Asking::new(conn, requests::current_database(alloc)),
             way,
             is_named: false,
         }

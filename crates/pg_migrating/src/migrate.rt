@@ -125,12 +125,7 @@ impl Migrate {
         ensures goes { is_asked result.asking.question (C.conn result.asking.conn).call ≡ true }
         ensures calling { CallsLock result.is_named result.asking.question (C.conn result.asking.conn) }
     {
-        MigrationLock::new(
-            alloc,
-            conn,
-            LockWay::Lock,
-            requests::current_database(alloc),
-        )
+        MigrationLock::new(alloc, conn, LockWay::Lock)
     }
 
     /// Gives it back.
@@ -141,12 +136,7 @@ impl Migrate {
         ensures goes { is_asked result.asking.question (C.conn result.asking.conn).call ≡ true }
         ensures calling { CallsLock result.is_named result.asking.question (C.conn result.asking.conn) }
     {
-        MigrationLock::new(
-            alloc,
-            conn,
-            LockWay::Unlock,
-            requests::current_database(alloc),
-        )
+        MigrationLock::new(alloc, conn, LockWay::Unlock)
     }
 
     /// Runs the script of a migration and adds its row, both in a transaction unless the migration wants none, and then notes how long that took. It
