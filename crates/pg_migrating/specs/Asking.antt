@@ -21,8 +21,11 @@ use Rattle.pg_migrating.specs.Calls.{Waits, Called}
 abbrev pub Question : Type 0
 Question = Option (Result Request Error)
 
+abbrev pub no_question : Question
+no_question = None
+
 -- the call is over where its question was handed on, and no call runs
-abbrev pub is_asked : Question → Call → Bool
+abbrev pub is_asked : {Q : Type 0} → Option Q → Call → Bool
 is_asked (Some asked) call = true
 is_asked None call = runs call
 
@@ -41,7 +44,7 @@ abbrev pub groups_of : {A : Type 0} → ConnOf A → ℕ
 groups_of c = min (c.earlier + c.groups) (2 ^ 64 - 1)
 
 -- what is left of it: nothing changes where it was never polled, and what was opened and not committed is rolled back
-abbrev pub left_of : {A : Type 0} → Bool → Question → ConnOf A → ConnOf A
+abbrev pub left_of : {Q A : Type 0} → Bool → Option Q → ConnOf A → ConnOf A
 left_of true question c = rolled_back c
 left_of false None c = left c
 left_of false (Some asked) c = c

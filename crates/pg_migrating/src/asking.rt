@@ -13,10 +13,13 @@ use pg_call::{Request, Turn};
 use pg_guards::PgExecutor;
 use pg_wire::{Error, Poll};
 
-/// A call on what is held, which does nothing before its first poll: what it asks, or why there is no request for that.
-pub(crate) struct Asking<C: PgExecutor> {
+/// What a call asks, or why there is no request for that.
+pub type Question = Result<Request, Error>;
+
+/// A call on what is held, which does nothing before its first poll. Its question is a parameter, since what doesn't look at it is cheaper to prove so.
+pub(crate) struct Asking<C: PgExecutor, Q> {
     conn: C,
-    question: Option<Result<Request, Error>>,
+    question: Option<Q>,
 }
 
 // What the end of a call without items was.
@@ -31,8 +34,8 @@ fn ended(turn: Turn) -> Result<(), Error>
     }
 }
 
-impl<C: PgExecutor> Asking<C> {
-    pub(crate) fn new(conn: C, question: Result<Request, Error>) -> Self
+impl<C: PgExecutor, Q> Asking<C, Q> {
+    pub(crate) fn new(conn: C, question: Q) -> Self
         ensures { result ≡ record { conn = conn; question = Some question } }
     {
         Asking {
@@ -68,14 +71,36 @@ impl<C: PgExecutor> Asking<C> {
     {
         self.conn.conn_ref().progress().groups
     }
+}
 
+impl<C: PgExecutor, Q: Drop> Asking<C, Q> {
     /// Another call comes behind one that has ended.
-    pub(crate) fn ask(&mut self, question: Result<Request, Error>)
+    pub(crate) fn ask(&mut self, question: Q)
         ensures { self.new ≡ record { conn = self.old.conn; question = Some question } }
     {
         drop(self.question.replace(question));
     }
 
+    /// Hands back what holds the connection: a call that runs is given up, and what was opened is rolled back where that is due.
+    pub(crate) fn into_conn(self, is_open: bool) -> C
+        ensures { result ≡ C.with_conn self.conn (left_of is_open self.question (C.conn self.conn)) }
+    {
+        let Asking { mut conn, question } = self;
+        let is_begun = question.is_none();
+        drop(question);
+        if is_open {
+            holding::start_rollback(&mut conn);
+            return conn;
+        }
+        if is_begun {
+            holding::abandon(&mut conn);
+            return conn;
+        }
+        conn
+    }
+}
+
+impl<C: PgExecutor> Asking<C, Question> {
     // Begins the call where it was not, and tells why it can't be asked.
     fn begin(&mut self) -> Result<(), Error>
         ensures conn { self.new.conn ≡ C.with_conn self.old.conn (asked_by self.old.question (C.conn self.old.conn)) }
@@ -126,19 +151,5 @@ impl<C: PgExecutor> Asking<C> {
             Poll::Pending => Poll::Pending,
             Poll::Ready(turn) => Poll::Ready(ended(turn)),
         }
-    }
-
-    /// Hands back what holds the connection: a call that runs is given up, and what was opened is rolled back where that is due.
-    pub(crate) fn into_conn(self, is_open: bool) -> C
-        ensures { result ≡ C.with_conn self.conn (left_of is_open self.question (C.conn self.conn)) }
-    {
-        let Asking { mut conn, question } = self;
-        if is_open {
-            holding::start_rollback(&mut conn);
-        } else if question.is_none() {
-            holding::abandon(&mut conn);
-        }
-        drop(question);
-        conn
     }
 }

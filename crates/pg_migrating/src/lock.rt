@@ -17,7 +17,7 @@ ghost use Rattle.pg_migrating.specs.Asking.{CallsFor, Tells, is_asked, left_of};
 ghost use Rattle.pg_migrating.specs.Locks.{CallsLock, HidesName, IsNamed, NameGoes, StandsLock, StaysLock, TellsLock, TellsName, lock_statement};
 ghost use Rattle.pg_migrating.specs.Requests.{Asks, IsRequestOf};
 
-use crate::asking::Asking;
+use crate::asking::{Asking, Question};
 use crate::reading::told;
 use crate::requests;
 use pg_call::{Request, Turn};
@@ -37,9 +37,9 @@ pub(crate) enum LockWay {
 /// The state of `Migrate::lock` and `Migrate::unlock`, which owns what holds the connection. It asks for the database's name, whose
 /// `generate_lock_id` is the key of the lock, and then for the lock. It does nothing before its first poll, and is dropped as any call: a lock that
 /// was sent may be held then. (PostgreSQL manual, "Explicit Locking", "Advisory Locks".)
-pub struct MigrationLock<C: PgExecutor> {
+pub struct MigrationLock<C: PgExecutor, Q = Question> {
     alloc: Global,
-    asking: Asking<C>,
+    asking: Asking<C, Q>,
     way: LockWay,
     is_named: bool,
 }
@@ -93,13 +93,6 @@ impl<C: PgExecutor> MigrationLock<C> {
             way,
             is_named: false,
         }
-    }
-
-    /// Whether a poll has ended the call.
-    pub fn is_finished(&self) -> bool
-        ensures { result ≡ not (is_asked self.now.asking.question (C.conn self.now.asking.conn).call) }
-    {
-        !self.asking.is_asked()
     }
 
     // Asks for the lock of this key.
@@ -189,7 +182,18 @@ impl<C: PgExecutor> MigrationLock<C> {
             None => self.poll_lock(&mut left),
         }
     }
+}
 
+impl<C: PgExecutor, Q> MigrationLock<C, Q> {
+    /// Whether a poll has ended the call.
+    pub fn is_finished(&self) -> bool
+        ensures { result ≡ not (is_asked self.now.asking.question (C.conn self.now.asking.conn).call) }
+    {
+        !self.asking.is_asked()
+    }
+}
+
+impl<C: PgExecutor, Q: Drop> MigrationLock<C, Q> {
     /// Hands back what holds the connection, as the drop of the state leaves it: a call that runs is given up.
     pub fn into_conn(self) -> C
         ensures { result ≡ C.with_conn self.asking.conn (left_of false self.asking.question (C.conn self.asking.conn)) }
@@ -204,7 +208,7 @@ impl<C: PgExecutor> MigrationLock<C> {
     }
 }
 
-impl<C: PgExecutor + Drop> Drop for MigrationLock<C> {
+impl<C: PgExecutor + Drop, Q: Drop> Drop for MigrationLock<C, Q> {
     fn drop(self) {
         let conn = self.into_conn();
         let _ = conn;

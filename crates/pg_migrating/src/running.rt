@@ -8,7 +8,7 @@ ghost use Rattle.pg_migrating.specs.Courses.{ends_work, statement_at};
 ghost use Rattle.pg_migrating.specs.Requests.{Asks};
 ghost use Rattle.pg_migrating.specs.Migrating.{HasRun, Runs, StandsIn, StepEnds, StepGoes, StopsBy, TellsRun, TellsStep, entered, is_database, is_script, told_as};
 
-use crate::asking::Asking;
+use crate::asking::{Asking, Question};
 use crate::binding::version_of;
 use crate::course::{Course, Step, Way, Work};
 use pg_guards::PgExecutor;
@@ -19,9 +19,9 @@ use std::alloc::Global;
 /// The state of `Migrate::apply` and `Migrate::revert`, which owns what holds the connection. It does nothing before its first poll, which reads the
 /// clock. Where it is given up within its transaction, that is rolled back without waiting, as the drop of a `Transaction` does: the next call on the
 /// connection sends the ROLLBACK. (PostgreSQL manual, "Tutorial", "Transactions".)
-pub struct RunMigration<'m, C: PgExecutor, K> {
+pub struct RunMigration<'m, C: PgExecutor, K, Q = Question> {
     alloc: Global,
-    asking: Asking<C>,
+    asking: Asking<C, Q>,
     clock: &'m mut K,
     work: Work<'m>,
     course: Course,
@@ -45,7 +45,7 @@ fn is_database(e: &Error) -> bool
     }
 }
 
-impl<'m, C: PgExecutor, K> RunMigration<'m, C, K> {
+impl<'m, C: PgExecutor, K, Q> RunMigration<'m, C, K, Q> {
     /// Whether a poll has ended the call.
     pub fn is_finished(&self) -> bool
         ensures { result ≡ not (is_asked self.now.asking.question (C.conn self.now.asking.conn).call) }
@@ -63,7 +63,9 @@ impl<'m, C: PgExecutor, K> RunMigration<'m, C, K> {
             MigrateError::Execute(e)
         }
     }
+}
 
+impl<'m, C: PgExecutor, K> RunMigration<'m, C, K> {
     // Asks this step.
     fn enter(&mut self, step: Step)
         ensures conn { self.new.asking.conn ≡ self.old.asking.conn }
@@ -81,7 +83,9 @@ impl<'m, C: PgExecutor, K> RunMigration<'m, C, K> {
             .request(self.alloc, step, depth, self.course.nanos);
         self.asking.ask(question);
     }
+}
 
+impl<'m, C: PgExecutor, K, Q: Drop> RunMigration<'m, C, K, Q> {
     /// Hands back what holds the connection, as the drop of the state leaves it: a call that runs is given up, and a transaction that was opened and
     /// not committed is rolled back without waiting. (PostgreSQL manual, "SQL Commands", ROLLBACK.)
     pub fn into_conn(self) -> C
@@ -144,18 +148,6 @@ impl<'m, C: PgExecutor, K: Clock> RunMigration<'m, C, K> {
     {
         if self.asking.is_new() {
             self.course.start = self.clock.now();
-        }
-    }
-
-    // Reads it again behind the last step whose time is taken.
-    fn stop_clock(&mut self)
-        ensures asking { self.new.asking ≡ self.old.asking }
-        ensures same { self.new.clock.ghost_name ≡ self.old.clock.ghost_name }
-        ensures work { self.new.work ≡ self.old.work }
-        ensures stops { StopsBy K.seen K.tells (ends_work self.old.work.migration.no_tx self.old.course.step) self.old.course self.new.course self.old.clock.now self.new.clock.now }
-    {
-        if self.work.ends_work(self.course.step) {
-            self.course.nanos = elapsed(self.course.start, self.clock.now());
         }
     }
 
@@ -237,7 +229,21 @@ impl<'m, C: PgExecutor, K: Clock> RunMigration<'m, C, K> {
     }
 }
 
-impl<C: PgExecutor + Drop, K> Drop for RunMigration<'_, C, K> {
+impl<'m, C: PgExecutor, K: Clock, Q> RunMigration<'m, C, K, Q> {
+    // Reads it again behind the last step whose time is taken.
+    fn stop_clock(&mut self)
+        ensures asking { self.new.asking ≡ self.old.asking }
+        ensures same { self.new.clock.ghost_name ≡ self.old.clock.ghost_name }
+        ensures work { self.new.work ≡ self.old.work }
+        ensures stops { StopsBy K.seen K.tells (ends_work self.old.work.migration.no_tx self.old.course.step) self.old.course self.new.course self.old.clock.now self.new.clock.now }
+    {
+        if self.work.ends_work(self.course.step) {
+            self.course.nanos = elapsed(self.course.start, self.clock.now());
+        }
+    }
+}
+
+impl<C: PgExecutor + Drop, K, Q: Drop> Drop for RunMigration<'_, C, K, Q> {
     fn drop(self) {
         let conn = self.into_conn();
         let _ = conn;

@@ -9,7 +9,7 @@ ghost use Rattle.pg_conn.specs.Connections.{ConnOf};
 ghost use Rattle.pg_migrating.specs.Asking.{CallsFor, StandsAt, StaysFor, is_asked, left_of};
 ghost use Rattle.pg_migrating.specs.Answers.{TellsBy, is_done, never};
 
-use crate::asking::Asking;
+use crate::asking::{Asking, Question};
 use crate::reading::{Reading, told};
 use pg_call::Turn;
 use pg_guards::PgExecutor;
@@ -20,9 +20,9 @@ use std::marker::PhantomData;
 
 /// The state of a call of `Migrate` that asks one statement, which owns what holds the connection. It does nothing before its first poll, and is
 /// dropped as any call.
-pub struct MigrateCall<C: PgExecutor, R> {
+pub struct MigrateCall<C: PgExecutor, R, Q = Question> {
     pub(crate) alloc: Global,
-    pub(crate) asking: Asking<C>,
+    pub(crate) asking: Asking<C, Q>,
     pub(crate) reading: PhantomData<R>,
 }
 
@@ -50,14 +50,16 @@ impl Reading for Done {
     }
 }
 
-impl<C: PgExecutor, R> MigrateCall<C, R> {
+impl<C: PgExecutor, R, Q> MigrateCall<C, R, Q> {
     /// Whether a poll has ended the call.
     pub fn is_finished(&self) -> bool
         ensures { result ≡ not (is_asked self.now.asking.question (C.conn self.now.asking.conn).call) }
     {
         !self.asking.is_asked()
     }
+}
 
+impl<C: PgExecutor, R, Q: Drop> MigrateCall<C, R, Q> {
     /// Hands back what holds the connection, as the drop of the state leaves it: a call that runs is given up.
     pub fn into_conn(self) -> C
         ensures { result ≡ C.with_conn self.asking.conn (left_of false self.asking.question (C.conn self.asking.conn)) }
@@ -89,7 +91,7 @@ impl<C: PgExecutor, R: Reading> MigrateCall<C, R> {
     }
 }
 
-impl<C: PgExecutor + Drop, R> Drop for MigrateCall<C, R> {
+impl<C: PgExecutor + Drop, R, Q: Drop> Drop for MigrateCall<C, R, Q> {
     fn drop(self) {
         let conn = self.into_conn();
         let _ = conn;

@@ -1,5 +1,5 @@
 use Rattle.pg_migrating.proofs.AnswerLaws.{told_by}
-use Rattle.pg_migrating.proofs.lock.MigrationLock.poll_lock.Goals as goal
+use Rattle.pg_migrating.proofs.lock.MigrationLock+C.poll_lock.Goals as goal
 
 pub returns-in-Pending-clause-tells : goal.returns-in-Pending-clause-tells
 returns-in-Pending-clause-tells g c first s = (s.0, s.1, s.2, c.in-Pending.ensures.tells s.1 s.0 s.3)

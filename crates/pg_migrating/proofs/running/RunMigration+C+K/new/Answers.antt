@@ -1,6 +1,6 @@
 use Rattle.pg_migrating.specs.Courses.{WorkSeen, statement_at}
 use Rattle.pg_migrating.proofs.AskingLaws.{asks_quietly}
-use Rattle.pg_migrating.proofs.running.RunMigration.new.Goals as goal
+use Rattle.pg_migrating.proofs.running.RunMigration+C+K.new.Goals as goal
 
 pub returns-clause-calling : goal.returns-clause-calling
 returns-clause-calling g c =

@@ -3,7 +3,7 @@ use Rattle.pg_conn.specs.Connections.{ConnOf}
 use Rattle.pg_migrating.specs.Asking.{CallsQuietly, is_asked}
 use Rattle.pg_migrating.specs.Courses.{rank}
 use Rattle.pg_migrating.specs.Migrating.{Runs}
-use Rattle.pg_migrating.proofs.running.RunMigration.poll.Given as goal
+use Rattle.pg_migrating.proofs.running.RunMigration+C+K.poll.Given as goal
 
 abbrev pub invariant-loop-answer : goal.invariant-loop-answer
 invariant-loop-answer g l = record {

@@ -1,7 +1,7 @@
 use Rattle.std.proofs.Common.{ap, ◌∙◌, sym}
 use Rattle.pg_migrating.proofs.AskingLaws.{calls_on, goes_on, refused}
 use Rattle.pg_conn.proofs.StateLaws.{poll_fits_within}
-use Rattle.pg_migrating.proofs.asking.Asking.poll.Goals as goal
+use Rattle.pg_migrating.proofs.asking.Asking+C+Question.poll.Goals as goal
 
 pub returns-in-Ok-clause-tells : goal.returns-in-Ok-clause-tells
 returns-in-Ok-clause-tells g c asked first s =

@@ -2,7 +2,7 @@ use Rattle.std.proofs.Common.{[], refl}
 use Rattle.pg_call.specs.declared.kind.How.TheVariants as hows
 use Rattle.pg_migrate.specs.Texts.{current_database_text}
 use Rattle.pg_migrating.proofs.AskingLaws.{calls_prepared}
-use Rattle.pg_migrating.proofs.lock.MigrationLock.new.Goals as goal
+use Rattle.pg_migrating.proofs.lock.MigrationLock+C.new.Goals as goal
 
 pub returns-clause-stands : goal.returns-clause-stands
 returns-clause-stands g c = rw c.new.ensures (c.current_database.result, c.current_database.ensures, (refl, refl))

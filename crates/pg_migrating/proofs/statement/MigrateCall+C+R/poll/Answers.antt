@@ -1,5 +1,5 @@
 use Rattle.pg_migrating.proofs.AnswerLaws.{ends_told, tells_by}
-use Rattle.pg_migrating.proofs.statement.MigrateCall.poll.Goals as goal
+use Rattle.pg_migrating.proofs.statement.MigrateCall+C+R.poll.Goals as goal
 
 pub returns-in-Ready-clause-tells : goal.returns-in-Ready-clause-tells
 returns-in-Ready-clause-tells g c asked first s =

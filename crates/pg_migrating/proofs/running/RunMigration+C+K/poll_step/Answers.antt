@@ -1,5 +1,5 @@
 use Rattle.pg_migrating.proofs.CourseLaws.{step_ends, step_waits}
-use Rattle.pg_migrating.proofs.running.RunMigration.poll_step.Goals as goal
+use Rattle.pg_migrating.proofs.running.RunMigration+C+K.poll_step.Goals as goal
 
 pub returns-in-Pending-clause-tells : goal.returns-in-Pending-clause-tells
 returns-in-Pending-clause-tells g c first zero r =

@@ -5,7 +5,7 @@ use Rattle.pg_migrating.specs.Locks.{lock_statement}
 use Rattle.pg_migrating.specs.Requests.{Asks}
 use Rattle.pg_migrating.proofs.BoundLaws.{kept_int8}
 use Rattle.pg_migrating.proofs.LockLaws.{lock_goes, lock_stands}
-use Rattle.pg_migrating.proofs.lock.MigrationLock.end_name.Goals as goal
+use Rattle.pg_migrating.proofs.lock.MigrationLock+C.end_name.Goals as goal
 
 pub returns-in-Ok-clause-goes : goal.returns-in-Ok-clause-goes
 returns-in-Ok-clause-goes g c = lock_goes c.args.self.now.way _ c.ask.new.self.is_named c.ask.new.self.asking.question (g.C.PgExecutor.conn c.ask.new.self.asking.conn) c.ask.ensures.named c.ask.ensures.asks

@@ -1,5 +1,5 @@
 use Rattle.pg_migrating.proofs.AskingLaws.{ends_as, turn_ends}
-use Rattle.pg_migrating.proofs.asking.Asking.poll_end.Goals as goal
+use Rattle.pg_migrating.proofs.asking.Asking+C+Question.poll_end.Goals as goal
 
 pub ended-requires : goal.ended-requires
 ended-requires g c =

@@ -2,7 +2,7 @@ use Rattle.std.proofs.Common.{subst, sym, true}
 use Rattle.pg_migrating.specs.Locks.{StandsLock}
 use Rattle.pg_migrating.specs.declared.lock.LockWay.{LockWay}
 use Rattle.pg_migrating.proofs.LockLaws.{lock_told, names_first}
-use Rattle.pg_migrating.proofs.lock.MigrationLock.poll.Goals as goal
+use Rattle.pg_migrating.proofs.lock.MigrationLock+C.poll.Goals as goal
 
 pub returns-in-None-clause-tells : goal.returns-in-None-clause-tells
 returns-in-None-clause-tells g c first s =

@@ -1,6 +1,6 @@
 use Rattle.std.proofs.Common.{ap}
 use Rattle.pg_migrating.proofs.CourseLaws.{last_ends, next_goes, next_runs}
-use Rattle.pg_migrating.proofs.running.RunMigration.go_on.Goals as goal
+use Rattle.pg_migrating.proofs.running.RunMigration+C+K.go_on.Goals as goal
 
 pub returns-in-Some-clause-goes : goal.returns-in-Some-clause-goes
 returns-in-Some-clause-goes g c =

@@ -1,6 +1,6 @@
 use Rattle.std.proofs.Common.{sym, ◌∙◌}
 use Rattle.pg_migrating.proofs.CourseLaws.{clock_begins}
-use Rattle.pg_migrating.proofs.running.RunMigration.start_clock.Goals as goal
+use Rattle.pg_migrating.proofs.running.RunMigration+C+K.start_clock.Goals as goal
 
 pub returns-then-is_new-clause-runs : goal.returns-then-is_new-clause-runs
 returns-then-is_new-clause-runs g c first zero s =
