@@ -13,11 +13,12 @@ use Rattle.pg_wire.specs.declared.fields.ErrorField.{ErrorField}
 use Rattle.pg_wire.specs.Frame.{Frame}
 use Rattle.pg_wire.specs.Parts.{is_ready}
 use Rattle.pg_wire.specs.Frontend.{FrontendMessage}
-use Rattle.pg_wire.specs.Backend.{FieldDescription, BackendMessage, backend_frame, HasBackendFrame, ErrorResponse, ReadyForQuery}
+use Rattle.pg_wire.specs.Backend.{BackendMessage, backend_frame, HasBackendFrame, ErrorResponse, ReadyForQuery}
 use Rattle.pg_wire.specs.Decoding.{IsRefused}
 use Rattle.pg_wire.specs.declared.status.TransactionStatus.{TransactionStatus}
 use Rattle.pg_rows.specs.declared.heading.Heading.{Heading}
 use Rattle.pg_rows.specs.Rows.{RowSeen}
+use Rattle.pg_columns.specs.declared.column.PgColumn.{PgColumn}
 use Rattle.pg_call.specs.declared.kind.How.TheVariants as hows
 use Rattle.pg_call.specs.declared.kind.Kind.{Kind}
 use Rattle.pg_call.specs.declared.kind.Kind.TheVariants as kinds
@@ -357,7 +358,7 @@ closed_fine start r said hs items reply i status can =
 own_not_close : (r : Request) → length (groups_of r) ≡ 1 → kind_of r ≡ kinds.Close → ⊥
 own_not_close r n k = let z = ap (λ (g : List Group). length g) (no_groups_close r k).0 in absurd (omega (arith, n, z))
 
-handed_last : (rest : Rest) (parameters : List ℕ) (columns : Option (List FieldDescription)) (answer : Result CallAnswer Error) → IsLast answer → IsLast (handed_on rest parameters columns answer)
+handed_last : (rest : Rest) (parameters : List ℕ) (columns : Option (List PgColumn)) (answer : Result CallAnswer Error) → IsLast answer → IsLast (handed_on rest parameters columns answer)
 handed_last rests.Nothing parameters columns answer l = l
 handed_last _ parameters columns answer l = tt
 
@@ -377,7 +378,7 @@ answers_same : (r : Request) (own : List BackendMessage) (reply : Reply) (status
     → answer_by r (own ++ ReadyForQuery status ∷ []) status ≡ handed_on reply.rest reply.parameters reply.heading.columns (finished reply.kind reply.tally status)
 answers_same (requests.Describe x) own reply status k h t p c e =
     let r : Request = requests.Describe x in
-    ap (λ (w : Option (List FieldDescription)). Ok (answers.Next (requests.Describe (told (parameters_after [] (own ++ ReadyForQuery status ∷ [])) w x)))) (sym (ap (λ (y : Heading). y.columns) h ∙ described_at (heading_of r) own reply.part status refl p c))
+    ap (λ (w : Option (List PgColumn)). Ok (answers.Next (requests.Describe (told (parameters_after [] (own ++ ReadyForQuery status ∷ [])) w x)))) (sym (ap (λ (y : Heading). y.columns) h ∙ described_at (heading_of r) own reply.part status refl p c))
     ∙ ap (λ (w : List ℕ). Ok (answers.Next (requests.Describe (told w reply.heading.columns x)))) (parameters-push [] own (ReadyForQuery status) ∙ sym t)
     ∙ ap (λ (o : Rest). handed_on o reply.parameters reply.heading.columns (finished reply.kind reply.tally status)) (sym k)
 answers_same (requests.Look lookup) own reply status k h t p c e = ap (λ (o : Rest). handed_on o reply.parameters reply.heading.columns (finished reply.kind reply.tally status)) (sym k)

@@ -7,7 +7,7 @@ use Rattle.std.proofs.lemmas.Slice.Eq.{bytes_eq-Decides}
 use Rattle.pg_wire.specs.declared.status.TransactionStatus.{TransactionStatus}
 use Rattle.pg_wire.specs.Frame.{Frame}
 use Rattle.pg_wire.specs.Frontend.{Query, Parse, DescribeStatement, Bind, Execute, CloseStatement, ClosePortal}
-use Rattle.pg_wire.specs.Backend.{FieldDescription, BackendMessage, backend_frame, HasBackendFrame, ReadyForQuery, RowDescription, DataRow, CommandComplete, ErrorResponse, EmptyQueryResponse, ParameterDescription, ParseComplete, BindComplete, CloseComplete, NoData, CopyInResponse, CopyOutResponse}
+use Rattle.pg_wire.specs.Backend.{BackendMessage, backend_frame, HasBackendFrame, ReadyForQuery, RowDescription, DataRow, CommandComplete, ErrorResponse, EmptyQueryResponse, ParameterDescription, ParseComplete, BindComplete, CloseComplete, NoData, CopyInResponse, CopyOutResponse}
 use Rattle.pg_wire.specs.Acceptor.{Awaits, FirstSegment, FurtherSegment, RowsOf, next, accepts}
 use Rattle.pg_wire.specs.Groups.{IsGroup, IsInner}
 use Rattle.pg_wire.specs.Refusals.{BeginsCopyResponse, MayBeginCopy}
@@ -15,6 +15,8 @@ use Rattle.pg_exchanges.specs.Expecting.{Step, Closes, Expected, steps_of, InQue
 use Rattle.pg_exchanges.specs.Answering.{described, running}
 use Rattle.pg_exchanges.specs.Answering.{closing as closing_group}
 use Rattle.pg_exchanges.proofs.ExpectingLaws.{refused_begins_no_group_response}
+use Rattle.pg_columns.specs.declared.column.PgColumn.{PgColumn}
+use Rattle.pg_columns.specs.Told.{columns_of}
 use Rattle.pg_call.proofs.CopyBegun.{copy_begins_response, copy_begins_run, copy_begins_parsed}
 use Rattle.pg_call.proofs.CopyOutLaws.{copy_refused, copy_strays, copied_parts}
 use Rattle.pg_call.proofs.CopyInLaws.{feed_refused, feed_strays}
@@ -329,7 +331,7 @@ run_awaits : (name : List ℕ) (values : List (Option (List ℕ))) (width : Opti
 run_awaits name values width = ap (λ (w : Option ℕ). awaited (Binding w)) (known_at name width)
 
 -- of one that is prepared once more any width is awaited
-bound_awaits : (name types : List ℕ) (values : List (Option (List ℕ))) (columns : Option (List FieldDescription)) (again : Option (List ℕ)) → expected (known name (width_by again columns)) (parsing_by name types again ++ running name values 0) ≡ awaited (awaits_run (width_by again columns) again)
+bound_awaits : (name types : List ℕ) (values : List (Option (List ℕ))) (columns : Option (List PgColumn)) (again : Option (List ℕ)) → expected (known name (width_by again columns)) (parsing_by name types again ++ running name values 0) ≡ awaited (awaits_run (width_by again columns) again)
 bound_awaits name types values columns None = run_awaits name values (option_map length columns)
 bound_awaits name types values columns (Some sql) = refl
 
@@ -632,7 +634,7 @@ opens_for r own part next m opened came goes opens =
 
 -- ---- which columns were described
 
-pub described_columns : (h : Heading) (own : List BackendMessage) (columns : ℕ) (status : TransactionStatus) → h.columns ≡ Some [] → part_after Parsing own ≡ Some (Described columns) → (heading_after h own).columns ≡ Some (described (own ++ ReadyForQuery status ∷ []))
+pub described_columns : (h : Heading) (own : List BackendMessage) (columns : ℕ) (status : TransactionStatus) → h.columns ≡ Some [] → part_after Parsing own ≡ Some (Described columns) → (heading_after h own).columns ≡ Some (columns_of (described (own ++ ReadyForQuery status ∷ [])))
 described_columns h (ParseComplete ∷ ParameterDescription types ∷ RowDescription fields ∷ []) columns status none e = rw none refl
 described_columns h (ParseComplete ∷ ParameterDescription types ∷ NoData ∷ []) columns status none e = none
 described_columns h _ columns status none e = absurd cc

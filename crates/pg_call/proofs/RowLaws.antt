@@ -4,6 +4,7 @@ use Rattle.pg_wire.specs.declared.error.Error.{Error}
 use Rattle.pg_wire.specs.Backend.{FieldDescription, BackendMessage, Values, RowDescription, DataRow}
 use Rattle.pg_wire.specs.Decoding.{Says}
 use Rattle.pg_rows.specs.Rows.{RowSeen}
+use Rattle.pg_columns.specs.declared.column.PgColumn.{PgColumn}
 use Rattle.pg_call.specs.declared.kind.How.TheVariants as hows
 use Rattle.pg_call.specs.declared.kind.Kind.{Kind}
 use Rattle.pg_call.specs.declared.kind.Kind.TheVariants as kinds
@@ -76,7 +77,7 @@ passes_row a body values next says goes keeps =
 -- so do columns that nobody sees
 pub passes_columns : (a : Reply) (body : List ℕ) (fields : List FieldDescription) (next : Part) → Says 84 body (RowDescription fields) → goes_on a.part (RowDescription fields) ≡ Some next → a.heading.columns ≡ None → Hears a (record a { part = next }) 84 body heards.More
 passes_columns a body fields next says goes none =
-    (RowDescription fields, says, (next, goes, ap (λ (c : Option (List FieldDescription)). record a { part = next; heading = record a.heading { columns = c } }) (rw none refl), refl, tt))
+    (RowDescription fields, says, (next, goes, ap (λ (c : Option (List PgColumn)). record a { part = next; heading = record a.heading { columns = c } }) (rw none refl), refl, tt))
 
 -- what a verdict makes of the reply is what its message does
 pub hears_verdict : (a b : Reply) (tag : ℕ) (body : List ℕ) (verdict : Verdict) (r : Result Heard Error) → Judges a.part tag body (Ok verdict) → IfOk r (λ heard. (m : BackendMessage) → IsVerdict a.part m verdict → HearsMessage a b m heard) → IfOk r (Hears a b tag body)

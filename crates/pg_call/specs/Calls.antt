@@ -14,6 +14,7 @@ use Rattle.pg_wire.specs.Server.{IsPrefixOf}
 use Rattle.pg_wire.specs.Refusals.{BeginsCopyResponse}
 use Rattle.pg_exchanges.specs.Expecting.{BeginsKnowing}
 use Rattle.pg_exchanges.specs.Answering.{described}
+use Rattle.pg_columns.specs.Told.{columns_of}
 use Rattle.pg_call.specs.declared.kind.Kind.TheVariants as kinds
 use Rattle.pg_call.specs.declared.request.Request.{Request}
 use Rattle.pg_call.specs.declared.request.Request.TheVariants as requests
@@ -146,7 +147,7 @@ pub record IsFine (start : Ledger) (r : Request) (said : List FrontendMessage) (
 -- What is asked behind a description, behind a lookup and behind a close: what the statement was described for, and what the other one was closed for. What every other call answers is told by its
 -- items and by the status behind them.
 abbrev pub next_of : Request → List BackendMessage → Option Request
-next_of (requests.Describe extended) reply = Some (requests.Describe (told (parameters_after [] reply) (Some (described reply)) extended))
+next_of (requests.Describe extended) reply = Some (requests.Describe (told (parameters_after [] reply) (Some (columns_of (described reply))) extended))
 next_of (requests.Look lookup) reply = Some (requests.Describe lookup.extended)
 next_of (requests.Evict eviction) reply = Some (request_behind eviction.after)
 next_of (requests.Fill filling) reply = Some (requests.Run (looked_behind filling.bound))

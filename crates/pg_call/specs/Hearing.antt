@@ -9,8 +9,9 @@ use Rattle.pg_wire.specs.declared.status.TransactionStatus.{TransactionStatus}
 use Rattle.pg_wire.specs.Frame.{Frame}
 use Rattle.pg_wire.specs.Parts.{is_ready}
 use Rattle.pg_wire.specs.Frontend.{FrontendMessage}
-use Rattle.pg_wire.specs.Backend.{FieldDescription, BackendMessage, ReadyForQuery, ErrorResponse}
+use Rattle.pg_wire.specs.Backend.{BackendMessage, ReadyForQuery, ErrorResponse}
 use Rattle.pg_wire.specs.Decoding.{Says}
+use Rattle.pg_columns.specs.declared.column.PgColumn.{PgColumn}
 use Rattle.pg_call.specs.declared.kind.Kind.{Kind}
 use Rattle.pg_call.specs.declared.answer.CallItem.{CallItem}
 use Rattle.pg_call.specs.declared.answer.CallAnswer.{CallAnswer}
@@ -165,7 +166,7 @@ looks_up (calls.Own reply) = is_look reply.rest
 looks_up _ = false
 
 -- what comes of it at its end, where that is not its answer
-abbrev pub handed_on : Rest → List ℕ → Option (List FieldDescription) → Result CallAnswer Error → Result CallAnswer Error
+abbrev pub handed_on : Rest → List ℕ → Option (List PgColumn) → Result CallAnswer Error → Result CallAnswer Error
 handed_on rests.Nothing parameters columns answer = answer
 handed_on (rests.Describe extended) parameters columns answer = Ok (answers.Next (requests.Describe (told parameters columns extended)))
 handed_on (rests.After after) parameters columns answer = Ok (answers.Next (request_behind after))

@@ -6,6 +6,7 @@ use Rattle.pg_wire.specs.declared.status.TransactionStatus.{TransactionStatus}
 use Rattle.pg_wire.specs.declared.status.TransactionStatus.TheVariants as statuses
 use Rattle.pg_wire.specs.Backend.{BackendMessage, RowDescription, DataRow, CommandComplete, ParameterDescription, CopyInResponse, BackendCopyData}
 use Rattle.pg_wire.specs.Completion.{rows_affected}
+use Rattle.pg_columns.specs.Told.{columns_of}
 use Rattle.pg_rows.specs.declared.heading.Heading.{Heading}
 use Rattle.pg_rows.specs.Rows.{RowSeen}
 use Rattle.pg_call.specs.declared.kind.How.TheVariants as hows
@@ -23,7 +24,7 @@ use Rattle.pg_call.specs.Requests.{heading_of}
 
 -- what a message tells: the columns of rows, a row, or the count of rows; the types of parameters; some data of a copy; or that the client is to send some
 abbrev pub news_of : BackendMessage → News
-news_of (RowDescription fields) = news.Columns fields
+news_of (RowDescription fields) = news.Columns (columns_of fields)
 news_of (DataRow values) = news.Row values
 news_of (CommandComplete tag) = news.Count (record { rows = rows_affected tag })
 news_of (ParameterDescription types) = news.Parameters types
@@ -33,7 +34,7 @@ news_of _ = news.Nothing
 
 -- the heading of the rows behind it, where their columns are kept
 abbrev pub heading_by : Heading → News → Heading
-heading_by heading (news.Columns fields) = record heading { columns = option_map (λ earlier. fields) heading.columns }
+heading_by heading (news.Columns columns) = record heading { columns = option_map (λ earlier. columns) heading.columns }
 heading_by heading _ = heading
 
 -- the item that it is: a row under its heading, a count, or a piece of a copy

@@ -16,7 +16,7 @@ use Rattle.pg_request.specs.declared.naming.Declared.TheVariants as declared
 use Rattle.pg_request.specs.Asked.{filled, numbered}
 use Rattle.pg_request.specs.Queries.{QueryText, ArgumentsSeen, plain_text}
 use Rattle.pg_request.specs.Texts.{begin_text, commit_text, rollback_text}
-use Rattle.pg_wire.specs.Backend.{FieldDescription}
+use Rattle.pg_columns.specs.declared.column.PgColumn.{PgColumn}
 use Rattle.pg_values.specs.declared.format.PgValueFormat.{PgValueFormat}
 use Rattle.pg_values.specs.declared.format.PgValueFormat.TheVariants as formats
 use Rattle.pg_rows.specs.declared.heading.Heading.{Heading}
@@ -142,7 +142,7 @@ groups_of (requests.CopyIn feed) = feeding feed ∷ []
 groups_of request = groups_by (kind_of request) (query_of request)
 
 -- how many columns a statement has, where that is known: of one that is prepared once more it isn't
-abbrev pub width_by : Option (List ℕ) → Option (List FieldDescription) → Option ℕ
+abbrev pub width_by : Option (List ℕ) → Option (List PgColumn) → Option ℕ
 width_by None columns = option_map length columns
 width_by (Some sql) columns = None
 
@@ -221,8 +221,12 @@ behind_goal (goals.Run how) x d keeping = bound_by x.filling (bound_for how x d 
 behind_goal goals.Prepare x d keeping = afters.Prepare (record { sql = x.sql; parameters = d.parameters; columns = d.columns; keeping = keeping; declared = None })
 
 -- a statement that was described so
-abbrev pub told : List ℕ → Option (List FieldDescription) → Extended → Extended
+abbrev pub told : List ℕ → Option (List PgColumn) → Extended → Extended
 told parameters columns x = record x { described = Some (record { parameters = parameters; columns = columns }) }
+
+-- the same with other columns
+abbrev pub with_columns : Option (List PgColumn) → Extended → Extended
+with_columns columns x = record x { described = option_map (λ (d : Described). record d { columns = columns }) x.described }
 
 -- a statement whose types are known by their OIDs, and behind whose Parse nothing was looked up
 abbrev pub numbered_by : List ℕ → Extended → Extended
@@ -271,7 +275,7 @@ sees_rows kinds.Describe = true
 sees_rows _ = false
 
 -- the heading of rows of these columns, which are kept where rows are seen
-abbrev pub heading_for : Kind → List FieldDescription → PgValueFormat → Heading
+abbrev pub heading_for : Kind → List PgColumn → PgValueFormat → Heading
 heading_for kind columns format = record { columns = if sees_rows kind then Some columns else None; format = format }
 
 -- what is known of its rows before a message of its reply has come: those of a statement that is bound are binary, and all others texts

@@ -1,6 +1,6 @@
-ghost use Rattle.std.specs.Prelude.{◌≡◌, true, IfOk, IfErr, IsSome, Some};
+ghost use Rattle.std.specs.Prelude.{◌≡◌, true, IfOk, IfErr, IsSome, Some, option_map};
 ghost use Rattle.pg_call.specs.declared.statement.Described.{Described as DescribedOf};
-ghost use Rattle.pg_call.specs.Requests.{after_kind, behind_goal, bound_by, declared_for, filled_bound, filled_for, goal_kind, heading_of, is_parsed_again, looked_behind, named_keeping, numbered_by, parsed_again, request_behind, told, width_of};
+ghost use Rattle.pg_call.specs.Requests.{after_kind, behind_goal, bound_by, declared_for, filled_bound, filled_for, goal_kind, heading_of, is_parsed_again, looked_behind, named_keeping, numbered_by, parsed_again, request_behind, told, width_of, with_columns};
 
 use crate::heading::heading;
 use crate::{How, Keeping, Kind, Request};
@@ -61,6 +61,17 @@ impl Described {
         (parameters, columns)
     }
 
+    // The same with other columns.
+    fn with_columns(self, columns: Option<PgColumns>) -> Self
+        ensures { result ≡ record self { columns = columns } }
+    {
+        let (parameters, _) = self.into_parts();
+        Described {
+            parameters,
+            columns,
+        }
+    }
+
     /// The same again. Only want of memory refuses it.
     pub fn to_copy(&self, alloc: Global) -> Result<Self, Error>
         ensures copy { IfOk result (λ x. x ≡ self.now) }
@@ -72,6 +83,16 @@ impl Described {
             parameters,
             columns,
         })
+    }
+}
+
+// A description with other columns, where there is one.
+fn redescribed(described: Option<Described>, columns: Option<PgColumns>) -> Option<Described>
+    ensures { result ≡ option_map (λ (d : DescribedOf). record d { columns = columns }) described }
+{
+    match described {
+        Some(described) => Some(described.with_columns(columns)),
+        None => None,
     }
 }
 
@@ -322,6 +343,32 @@ impl Extended {
             is_looked_up,
             filling,
         })
+    }
+
+    /// The same with other columns, where it was described.
+    pub fn with_columns(self, columns: Option<PgColumns>) -> Self
+        ensures { result ≡ with_columns columns self }
+    {
+        let Extended {
+            goal,
+            statement,
+            is_numbered,
+            sql,
+            arguments,
+            described,
+            is_looked_up,
+            filling,
+        } = self;
+        Extended {
+            goal,
+            statement,
+            is_numbered,
+            sql,
+            arguments,
+            described: redescribed(described, columns),
+            is_looked_up,
+            filling,
+        }
     }
 
     /// The same, once it was described.

@@ -1,5 +1,5 @@
 -- What was told of columns that were made of their descriptions.
-use Rattle.std.proofs.Common.{◌≡◌, ◌≢◌, ℕ, zero, suc, ◌+◌, List, [], ◌∷◌, length, map, Option, Some, None, IfSome, unwrap_or, refl, ap, ◌∙◌}
+use Rattle.std.proofs.Common.{◌≡◌, ◌≢◌, ℕ, zero, suc, ◌+◌, List, [], ◌∷◌, length, map, Option, Some, None, IfSome, unwrap_or, refl, sym, ap, ◌∙◌}
 use Rattle.std.specs.Prelude.{ℤ, pos, negsuc}
 use Rattle.std.specs.List.{AllByRecursion}
 use Rattle.std.proofs.lemmas.List.{length-map}
@@ -38,6 +38,26 @@ fields_back : (fs : List Field) → AllByRecursion TellsNone fs → map field_of
 fields_back [] h = refl
 fields_back (f ∷ fs) h = rw (field_back f h.0, fields_back fs h.1) refl
 
--- what was told of them are these columns again
-pub made_back : (fs : List Field) (columns : List PgColumn) → AllByRecursion TellsNone fs → columns ≡ made_columns 0 fs → columns ≡ columns_of (told_by columns)
-made_back fs columns h e = rw (e, told_made 0 fs, fields_back fs h) refl
+-- the columns of their descriptions are these
+pub made_back : (fs : List Field) → AllByRecursion TellsNone fs → made_columns 0 fs ≡ columns_of (map described fs)
+made_back fs h = ap (made_columns 0) (sym (fields_back fs h))
+
+-- what was told of the columns of descriptions are these again
+told_table : (n : ℕ) → unwrap_or (table_of n) 0 ≡ n
+told_table zero = refl
+told_table (suc n) = refl
+
+told_attribute : (z : ℤ) → unwrap_or (attribute_of z) (pos 0) ≡ z
+told_attribute (pos zero) = refl
+told_attribute (pos (suc n)) = refl
+told_attribute (negsuc n) = refl
+
+told_field : (f : FieldDescription) → described (field_of f) ≡ f
+told_field f = rw (told_table f.table, told_attribute f.attribute) refl
+
+told_fields : (fs : List FieldDescription) → map described (map field_of fs) ≡ fs
+told_fields [] = refl
+told_fields (f ∷ fs) = rw (told_field f, told_fields fs) refl
+
+pub told_columns : (fields : List FieldDescription) → told_by (columns_of fields) ≡ fields
+told_columns fields = told_made 0 (map field_of fields) ∙ told_fields fields

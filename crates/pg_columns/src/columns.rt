@@ -6,12 +6,12 @@ ghost use Rattle.pg_columns.specs.Told.{column_at, columns_of, made_columns, ori
 use crate::column::copy_of;
 use crate::{ColumnOrigin, PgColumn};
 use pg_arguments::PgTypeInfo;
-use pg_wire::{Field, RowDescription};
+use pg_wire::{Field, RowDescription, Sequence};
 use std::alloc::{AllocError, Global};
 use std::marker::Model;
 use std::sync::Arc;
 
-/// The columns of a result, which all its rows share: contracts see what the server told of them.
+/// The columns of a result, which all its rows share.
 #[derive(Debug)]
 pub struct PgColumns {
     shared: Option<Arc<Vec<PgColumn>>>,
@@ -25,15 +25,13 @@ impl Drop for PgColumns {
 }
 
 impl Model for PgColumns {
-    ghost use Rattle.std.specs.Prelude.{List, ◌≡◌};
-    ghost use Rattle.pg_wire.specs.Backend.{FieldDescription};
-    ghost use Rattle.pg_columns.specs.Told.{columns_of, items_in, told_by};
+    ghost use Rattle.std.specs.Prelude.{List};
+    ghost use Rattle.pg_columns.specs.declared.column.PgColumn.{PgColumn};
+    ghost use Rattle.pg_columns.specs.Told.{items_in};
 
-    ghost Value = { List FieldDescription };
+    ghost Value = { List PgColumn };
 
-    ghost view = { λ c. told_by (items_in c.shared) };
-
-    ghost invariant = { λ c. items_in c.shared ≡ columns_of (told_by (items_in c.shared)) };
+    ghost view = { λ c. items_in c.shared };
 }
 
 // Where a column comes from, as far as its description tells.
@@ -78,9 +76,22 @@ impl PgColumns {
     /// told; its origin is not looked up.
     pub fn described(alloc: Global, description: &RowDescription) -> Result<Self, AllocError>
         requires { AllByRecursion TellsNone description.now }
-        ensures { IfOk result (λ c. c ≡ map described description.now) }
+        ensures { IfOk result (λ c. c ≡ columns_of (map described description.now)) }
     {
         let columns = columns(alloc, description.as_slice())?;
+        Self::shared(alloc, columns)
+    }
+
+    /// These columns. Only want of memory refuses it.
+    pub fn of(alloc: Global, columns: Sequence<PgColumn>) -> Result<Self, AllocError>
+        ensures { IfOk result (λ c. c ≡ columns) }
+    {
+        Self::shared(alloc, columns.into_vec())
+    }
+
+    fn shared(alloc: Global, columns: Vec<PgColumn>) -> Result<Self, AllocError>
+        ensures { IfOk result (λ c. c ≡ columns.items) }
+    {
         let shared = Arc::new(alloc, columns)?;
         Ok(PgColumns {
             shared: Some(shared),
@@ -96,7 +107,7 @@ impl PgColumns {
 
     /// The columns, in the order of a row's values.
     pub fn as_slice(&self) -> &[PgColumn]
-        ensures { result.now ≡ columns_of self.now }
+        ensures { result.now ≡ self.now }
     {
         match &self.shared {
             Some(shared) => shared.as_slice(),

@@ -7,7 +7,6 @@ use Rattle.pg_arguments.specs.Types.{TypeParts}
 use Rattle.pg_values.specs.declared.format.PgValueFormat.{PgValueFormat}
 use Rattle.pg_columns.specs.declared.column.PgColumn.{PgColumn}
 use Rattle.pg_columns.specs.Columns.{IsLastNamed, MissesName, MissesPlace, names_of}
-use Rattle.pg_columns.specs.Told.{columns_of}
 use Rattle.pg_rows.specs.declared.heading.Heading.{Heading}
 
 -- a row's values in order, where None is a null, and what it has in common with the other rows of its statement
@@ -17,7 +16,7 @@ pub record RowSeen : Type 0 where
 
 -- its columns: those that are described, and no more than it has values
 abbrev pub columns_in : RowSeen → List PgColumn
-columns_in row = take (length row.values) (columns_of (unwrap_or row.heading.columns []))
+columns_in row = take (length row.values) (unwrap_or row.heading.columns [])
 
 -- the bytes of a value
 abbrev pub value_at : RowSeen → ℕ → Option (List ℕ)
