@@ -19,6 +19,7 @@ use Rattle.pg_wire.specs.declared.status.TransactionStatus.{TransactionStatus}
 use Rattle.pg_rows.specs.declared.heading.Heading.{Heading}
 use Rattle.pg_rows.specs.Rows.{RowSeen}
 use Rattle.pg_columns.specs.declared.column.PgColumn.{PgColumn}
+use Rattle.pg_columns.specs.Told.{columns_of}
 use Rattle.pg_call.specs.declared.kind.How.TheVariants as hows
 use Rattle.pg_call.specs.declared.kind.Kind.{Kind}
 use Rattle.pg_call.specs.declared.kind.Kind.TheVariants as kinds
@@ -363,10 +364,10 @@ handed_last rests.Nothing parameters columns answer l = l
 handed_last _ parameters columns answer l = tt
 
 -- what closes a description has described these columns
-described_at : (h : Heading) (own : List BackendMessage) (part : Part) (status : TransactionStatus) → h.columns ≡ Some [] → part_after parts.Parsing own ≡ Some part → may_close part ≡ true → (heading_after h own).columns ≡ Some (described (own ++ ReadyForQuery status ∷ []))
+described_at : (h : Heading) (own : List BackendMessage) (part : Part) (status : TransactionStatus) → h.columns ≡ Some [] → part_after parts.Parsing own ≡ Some part → may_close part ≡ true → (heading_after h own).columns ≡ Some (columns_of (described (own ++ ReadyForQuery status ∷ [])))
 described_at h own part status none e c = by part (describes_after parts.Parsing part own tt e) e c
   where
-    by : (part : Part) → Describes part → part_after parts.Parsing own ≡ Some part → may_close part ≡ true → (heading_after h own).columns ≡ Some (described (own ++ ReadyForQuery status ∷ []))
+    by : (part : Part) → Describes part → part_after parts.Parsing own ≡ Some part → may_close part ≡ true → (heading_after h own).columns ≡ Some (columns_of (described (own ++ ReadyForQuery status ∷ [])))
     by (parts.Described columns) d e c = described_columns h own columns status none e
     by parts.Parsing d e c = absurd cc
     by parts.Typing d e c = absurd cc

@@ -7,7 +7,7 @@ use Rattle.futures.specs.declared.task.Poll.TheVariants.{Ready}
 use Rattle.pg_wire.specs.declared.error.Error.{Error}
 use Rattle.pg_wire.specs.declared.error.Error.TheVariants as errors
 use Rattle.pg_wire.specs.declared.error.ServerFault.{ServerFault}
-use Rattle.pg_wire.specs.Backend.{FieldDescription}
+use Rattle.pg_columns.specs.declared.column.PgColumn.{PgColumn}
 use Rattle.pg_request.specs.declared.naming.Declared.{Declared}
 use Rattle.pg_arguments.specs.Arguments.{Arguments}
 use Rattle.pg_request.specs.Asked.{declared_names, filled_by}
@@ -40,7 +40,7 @@ use Rattle.pg_resolve.specs.Cached.{CacheSeen}
 use Rattle.pg_learning.specs.Naming.{oids_under, unknown_name}
 use Rattle.pg_stream.specs.Links.{LinkSeen}
 use Rattle.pg_conn.specs.Connections.{ConnOf, ConnSeen, IsUnresolved, cleaned, ends_copy, handed, idle, resolved, resolved_by, seen_by, unfed}
-use Rattle.pg_conn.specs.Looking.{AsksFirst, AsksNamed, AsksNext, FailsFirst, IsFound, IsUnlooked, LooksAny, LooksFor, LooksIn, LooksInto, LooksNamed, LooksUp, MayLook, MayLookFor, MissesName, RefusesFirst, UnlooksFirst, asks_by, asks_names, asks_query, has_names, holes_for, if_kept, if_named, is_kept, lookup_for, named_by, named_in, unlooked, vain_lookup, wanted_in}
+use Rattle.pg_conn.specs.Looking.{AsksFirst, AsksNamed, AsksNext, FailsFirst, IsFound, IsUnlooked, LooksAny, LooksFor, LooksIn, LooksBehind, LooksNamed, LooksUp, MayLook, MayLookFor, MissesName, RefusesFirst, UnlooksFirst, asks_by, asks_names, asks_query, has_names, holes_for, if_kept, if_named, is_kept, lookup_for, named_by, named_in, unlooked, vain_lookup, wanted_in, telling, described_with}
 use Rattle.pg_conn.specs.Statements.{asked_by, behind_description, by_leaving, leaving, prepare_by, query_by, run_or_describe, tell_or_describe}
 use Rattle.pg_conn.specs.Turns.{IsAsked, Polled, PollsOn, PollsThrough, Refused, Refuses, RefusesNamed, broken_by, flushes}
 use Rattle.pg_conn.proofs.RefusalLaws.{refusal_breaks_none}
@@ -89,12 +89,12 @@ tell_named rule p (Some e) = sym (no_and (has_names (declared_names (declared_fo
 tell_named rule p None =
     undescribed_named (tell_or_describe rule p None) (declared_names (declared_for p))
 
-prepare_named : (rule : Rule) (p : Prepared) (o : Option (List FieldDescription))
+prepare_named : (rule : Rule) (p : Prepared) (o : Option (List PgColumn))
     → is_some (named_in (prepare_by rule p o)) ≡ has_names (declared_names (declared_for p)) && (not (is_some o) && not (is_some (entry_at p.sql rule.cache.entries)))
 prepare_named rule p (Some columns) = sym (no_and (has_names (declared_names (declared_for p))))
 prepare_named rule p None = tell_named rule p (entry_at p.sql rule.cache.entries)
 
-prepare_unnamed : (rule : Rule) (p : Prepared) (o : Option (List FieldDescription)) → p.declared ≡ None → is_some (named_in (prepare_by rule p o)) ≡ false
+prepare_unnamed : (rule : Rule) (p : Prepared) (o : Option (List PgColumn)) → p.declared ≡ None → is_some (named_in (prepare_by rule p o)) ≡ false
 prepare_unnamed rule p o e = prepare_named rule p o ∙ ap (λ (d : Option (List Declared)). has_names (declared_names (unwrap_or d [])) && (not (is_some o) && not (is_some (entry_at p.sql rule.cache.entries)))) e
 
 -- what is run so isn't kept yet
@@ -214,11 +214,17 @@ for_unnamed rule x None next a b e h =
     (λ t. refl) (λ oids. undescribed_unnamed rule (numbered_by oids x) e refl) (λ n. undescribed_unnamed rule x e n) h
 for_unnamed rule x (Some d) next a b e (text, m, seeks, h) = by text h
   where
-    by : (text : Option (List ℕ)) → LooksInto x text m next b → named_in (asked_by rule next) ≡ None
+    y : Extended
+    y = telling m x
+
+    tells : y.described ≡ Some (described_with m d)
+    tells = ap (option_map (described_with m)) e
+
+    by : (text : Option (List ℕ)) → LooksBehind x text m next b → named_in (asked_by rule next) ≡ None
     by (Some text) h = ap (λ (r : Request). named_in (asked_by rule r)) h.0
     by None h =
-        any_unnamed rule false (holes_for x.goal x.arguments) (requests.Describe x) (λ (text : List ℕ). requests.Describe (record x { filling = Some text })) (λ (oids : List ℕ). requests.Describe (filled_for oids x)) m b next
-        (λ t. described_unnamed rule (record x { filling = Some t }) d e) (λ oids. described_unnamed rule (filled_for oids x) d e) (λ n. described_unnamed rule x d e) h
+        any_unnamed rule false (holes_for x.goal x.arguments) (requests.Describe y) (λ (text : List ℕ). requests.Describe (record y { filling = Some text })) (λ (oids : List ℕ). requests.Describe (filled_for oids y)) m b next
+        (λ t. described_unnamed rule (record y { filling = Some t }) (described_with m d) tells) (λ oids. described_unnamed rule (filled_for oids y) (described_with m d) tells) (λ n. described_unnamed rule y (described_with m d) tells) h
 
 pub handed_unnamed : (rule : Rule) (told next : Request) (a b : Learnt) → IsHanded told → LooksUp told a next b → named_in (asked_by rule next) ≡ None
 handed_unnamed rule told next a b h (inr looks) = ap (λ (r : Request). named_in (asked_by rule r)) looks.1 ∙ vain_unnamed rule told looks.0

@@ -1,6 +1,6 @@
 -- What a poll answers is of the call's kind.
 use Rattle.pg_request.specs.declared.naming.Declared.{Declared}
-use Rattle.pg_conn.specs.Looking.{AsksFirst, AsksNamed, IsFound, IsUnlooked, LooksAny, LooksFor, LooksIn, LooksInto, LooksUp, MayLook, holes_for, if_named, lookup_for, named_by, named_in, unlooked, vain_lookup, if_kept}
+use Rattle.pg_conn.specs.Looking.{AsksFirst, AsksNamed, IsFound, IsUnlooked, LooksAny, LooksFor, LooksBehind, LooksIn, LooksUp, MayLook, holes_for, if_named, lookup_for, named_by, named_in, unlooked, vain_lookup, if_kept, telling}
 use Rattle.pg_learning.specs.Naming.{oids_under}
 use Rattle.pg_learning.specs.declared.learnt.Learnt.{Learnt}
 use Rattle.pg_call.specs.declared.statement.Described.{Described}
@@ -193,10 +193,10 @@ any_main : (looked : Bool) (names : List Declared) (told : Request) (looks knows
 any_main looked [] told looks knows a b next l k h = ap (λ (r : Request). main_kind r) h.0
 any_main looked (name ∷ names) told looks knows a b next l k h = found_main told (name ∷ names) looks knows b h.0 next l k h.2
 
-into_main : (x : Extended) (text : Option (List ℕ)) (m b : Learnt) (next : Request) → LooksInto x text m next b → main_kind next ≡ goal_kind x.goal
+into_main : (x : Extended) (text : Option (List ℕ)) (m b : Learnt) (next : Request) → LooksBehind x text m next b → main_kind next ≡ goal_kind x.goal
 into_main x (Some text) m b next h = ap (λ (r : Request). main_kind r) h.0
 into_main x None m b next h =
-    any_main false (holes_for x.goal x.arguments) (requests.Describe x) (λ (text : List ℕ). requests.Describe (record x { filling = Some text })) (λ (oids : List ℕ). requests.Describe (filled_for oids x)) m b next (λ t. refl) (λ oids. refl) h
+    any_main false (holes_for x.goal x.arguments) (requests.Describe (telling m x)) (λ (text : List ℕ). requests.Describe (record (telling m x) { filling = Some text })) (λ (oids : List ℕ). requests.Describe (filled_for oids (telling m x))) m b next (λ t. refl) (λ oids. refl) h
 
 looks_main : (told next : Request) (a b : Learnt) → LooksUp told a next b → main_kind next ≡ main_kind told
 looks_main told next a b (inr h) = ap (λ (r : Request). main_kind r) h.1 ∙ vain_main told

@@ -1,6 +1,6 @@
 -- What an exchange makes of the statements that are kept leaves the rest of the session alone, and what stands as an exchange is of the call's kind.
 use Rattle.std.proofs.Common.{◌≡◌, ◌≢◌, ℕ, Bool, true, false, cond, nat_eq, ne_eqb, refl, sym, ap, ◌∙◌, Option, Some, None, IsSome, is_some, List, option_map, Result, Ok, Err, IfErr}
-use Rattle.pg_wire.specs.Backend.{FieldDescription}
+use Rattle.pg_columns.specs.declared.column.PgColumn.{PgColumn}
 use Rattle.pg_wire.specs.declared.error.Error.{Error}
 use Rattle.pg_wire.specs.declared.error.Error.TheVariants as errors
 use Rattle.pg_request.specs.Queries.{QueryText, ArgumentsSeen}
@@ -72,7 +72,7 @@ tell_main : (rule : Rule) (p : Prepared) (o : Option Entry) → main_kind (tell_
 tell_main rule p (Some e) = refl
 tell_main rule p None = refl
 
-prepare_main : (rule : Rule) (p : Prepared) (o : Option (List FieldDescription)) → main_kind (prepare_by rule p o) ≡ kinds.Prepare
+prepare_main : (rule : Rule) (p : Prepared) (o : Option (List PgColumn)) → main_kind (prepare_by rule p o) ≡ kinds.Prepare
 prepare_main rule p (Some columns) = refl
 prepare_main rule p None = tell_main rule p _
 
@@ -140,7 +140,7 @@ tell_unmoved : (rule : Rule) (p : Prepared) (o : Option Entry) → unmoved (keep
 tell_unmoved rule p (Some e) = refl
 tell_unmoved rule p None = named_unmoved (number_for true rule) rule
 
-prepare_unmoved : (rule : Rule) (p : Prepared) (o : Option (List FieldDescription)) → o ≡ None → unmoved (keeping_of (prepare_by rule p o)) rule ≡ rule
+prepare_unmoved : (rule : Rule) (p : Prepared) (o : Option (List PgColumn)) → o ≡ None → unmoved (keeping_of (prepare_by rule p o)) rule ≡ rule
 prepare_unmoved rule p None none = tell_unmoved rule p _
 prepare_unmoved rule p (Some columns) none = absurd cc
 

@@ -1,15 +1,14 @@
 -- What is looked up before a statement is described and behind that, and what the rows of a lookup make of what was learnt.
-use Rattle.std.specs.Prelude.{◌≡◌, ◌≢◌, ◌⊎◌, ℕ, ◌+◌, ◌-◌, ◌^◌, min, not, is_some, ◌&&◌, Bool, true, false, List, [], ◌∷◌, ◌++◌, unwrap_or, Option, Some, None, Result, Err, if◌then◌else◌}
+use Rattle.std.specs.Prelude.{◌≡◌, ◌≢◌, ◌⊎◌, ℕ, ◌+◌, ◌-◌, ◌^◌, min, not, is_some, ◌&&◌, Bool, true, false, List, [], ◌∷◌, ◌++◌, unwrap_or, option_map, Option, Some, None, Result, Err, if◌then◌else◌}
 use Rattle.std.specs.List.{AllByRecursion}
 use Rattle.pg_wire.specs.declared.error.Error.{Error}
 use Rattle.pg_wire.specs.declared.error.Error.TheVariants as errors
 use Rattle.pg_wire.specs.Frame.{Frame}
-use Rattle.pg_wire.specs.Backend.{FieldDescription, Values, DataRow, backend_frame, HasBackendFrame}
+use Rattle.pg_wire.specs.Backend.{Values, DataRow, backend_frame, HasBackendFrame}
 use Rattle.pg_request.specs.declared.naming.Declared.{Declared}
 use Rattle.pg_request.specs.Asked.{RefusesType, declared_names}
 use Rattle.pg_request.specs.Queries.{ArgumentsSeen, holes_by, names_by}
 use Rattle.pg_columns.specs.declared.column.PgColumn.{PgColumn}
-use Rattle.pg_columns.specs.Told.{columns_of}
 use Rattle.pg_call.specs.declared.kind.Keeping.{Keeping}
 use Rattle.pg_call.specs.declared.kind.Keeping.TheVariants as keepings
 use Rattle.pg_call.specs.declared.statement.Bound.{Bound}
@@ -29,6 +28,7 @@ use Rattle.pg_resolve.specs.Settling.{Has}
 use Rattle.pg_learning.specs.declared.learnt.Learnt.{Learnt}
 use Rattle.pg_learning.specs.Learning.{FailsSeeking, Seeks, TakesRow, begun_with}
 use Rattle.pg_learning.specs.Naming.{begun_names, oids_under, unknown_name}
+use Rattle.pg_learning.specs.Telling.{learnt_columns}
 use Rattle.pg_call.specs.declared.calling.Call.{Call}
 use Rattle.pg_call.specs.declared.calling.Call.TheVariants as calls
 use Rattle.pg_call.specs.Hearing.{asked_in}
@@ -42,8 +42,15 @@ wants_names goals.Prepare = true
 wants_names (goals.Run how) = false
 
 -- the columns that were described, none of what gives no rows
-abbrev pub columns_told : Option (List FieldDescription) → List PgColumn
-columns_told columns = columns_of (unwrap_or columns [])
+abbrev pub columns_told : Option (List PgColumn) → List PgColumn
+columns_told columns = unwrap_or columns []
+
+-- what was described, with what was looked up of its columns
+abbrev pub described_with : Learnt → Described → Described
+described_with a d = record d { columns = option_map (learnt_columns a) d.columns }
+
+abbrev pub telling : Learnt → Extended → Extended
+telling a x = record x { described = option_map (described_with a) x.described }
 
 -- behind the description itself, lookups begin
 abbrev pub begun_for : Extended → Described → Learnt → Learnt
@@ -90,14 +97,18 @@ LooksAny looked (name ∷ names) told looks knows a next b = LooksNamed looked (
 
 -- ---- the next lookup for what was told, or none
 
--- behind the lookups for what was described, those for what it is run with
-abbrev pub LooksInto : Extended → Option (List ℕ) → Learnt → Request → Learnt → Type 0
-LooksInto x (Some text) m next b = (next ≡ lookup_for (requests.Describe x) text) × (b ≡ m)
-LooksInto x None m next b = LooksAny false (holes_for x.goal x.arguments) (requests.Describe x) (λ text. requests.Describe (record x { filling = Some text })) (λ oids. requests.Describe (filled_for oids x)) m next b
+-- the lookups for what it is run with
+abbrev pub LooksInto : Extended → Learnt → Request → Learnt → Type 0
+LooksInto x m next b = LooksAny false (holes_for x.goal x.arguments) (requests.Describe x) (λ text. requests.Describe (record x { filling = Some text })) (λ oids. requests.Describe (filled_for oids x)) m next b
+
+-- they come behind those for what was described, whose columns tell then what was looked up
+abbrev pub LooksBehind : Extended → Option (List ℕ) → Learnt → Request → Learnt → Type 0
+LooksBehind x (Some text) m next b = (next ≡ lookup_for (requests.Describe x) text) × (b ≡ m)
+LooksBehind x None m next b = LooksInto (telling m x) m next b
 
 abbrev pub LooksFor : Extended → Option Described → Learnt → Request → Learnt → Type 0
 LooksFor x None a next b = LooksAny x.is_looked_up x.arguments.names (requests.Describe x) (lookup_for (requests.Describe x)) (λ oids. requests.Describe (numbered_by oids x)) a next b
-LooksFor x (Some d) a next b = (text : Option (List ℕ)) × (m : Learnt) × Seeks (columns_told d.columns) (wants_names x.goal) (begun_for x d a) text m × LooksInto x text m next b
+LooksFor x (Some d) a next b = (text : Option (List ℕ)) × (m : Learnt) × Seeks (columns_told d.columns) (wants_names x.goal) (begun_for x d a) text m × LooksBehind x text m next b
 
 abbrev pub LooksIn : Request → Learnt → Request → Learnt → Type 0
 LooksIn (requests.Describe x) a next b = LooksFor x x.described a next b

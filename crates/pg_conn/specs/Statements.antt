@@ -2,7 +2,7 @@
 -- and what its end makes of these.
 use Rattle.std.specs.Prelude.{ℕ, Bool, true, false, not, ◌&&◌, ◌||◌, nat_eq, leb, List, [], length, map, reverse, Option, Some, None, is_some, option_map, unwrap_or, if◌then◌else◌}
 use Rattle.std.specs.List.{last_or}
-use Rattle.pg_wire.specs.Backend.{FieldDescription}
+use Rattle.pg_columns.specs.declared.column.PgColumn.{PgColumn}
 use Rattle.pg_request.specs.Queries.{QueryText, ArgumentsSeen}
 use Rattle.pg_request.specs.Asked.{declared_arguments}
 use Rattle.pg_request.specs.declared.progress.CacheStep.{CacheStep}
@@ -58,7 +58,7 @@ abbrev pub tell_or_describe : Rule → Prepared → Option Entry → Request
 tell_or_describe rule p (Some e) = requests.Prepare (record { sql = p.sql; parameters = e.parameters; columns = Some e.columns; keeping = keepings.Hits e.statement; declared = p.declared })
 tell_or_describe rule p None = describe goals.Prepare p.sql (declared_arguments (declared_for p)) true rule
 
-abbrev pub prepare_by : Rule → Prepared → Option (List FieldDescription) → Request
+abbrev pub prepare_by : Rule → Prepared → Option (List PgColumn) → Request
 prepare_by rule p (Some columns) = requests.Prepare p
 prepare_by rule p None = tell_or_describe rule p (entry_at p.sql rule.cache.entries)
 

@@ -1,22 +1,26 @@
 //! What is looked up before a statement is described, and behind that.
-ghost use Rattle.std.specs.Prelude.{◌≡◌, ◌≢◌, ◌⊎◌, [], Some, None, false, not, is_some, ◌&&◌, unwrap_or, IsSome, IfOk, IfErr, OnOk, OnErr};
+ghost use Rattle.std.specs.Prelude.{◌≡◌, ◌≢◌, ◌⊎◌, [], Some, None, false, not, is_some, ◌&&◌, option_and_then, option_copied, unwrap_or, IsSome, IfOk, IfErr, OnOk, OnErr};
 ghost use Rattle.pg_rule.specs.Caches.{entry_at};
 ghost use Rattle.pg_call.specs.Hearing.{asked_in, without_asked};
 ghost use Rattle.pg_call.specs.Requests.{CanBeSaid, IsRefusal, declared_for, filled_bound, filled_for, numbered_by};
+ghost use Rattle.pg_call.specs.declared.statement.Described.{Described as DescribedOf};
 ghost use Rattle.pg_call.specs.declared.statement.Extended.{Extended as ExtendedOf};
 ghost use Rattle.pg_request.specs.Asked.{declared_names};
 ghost use Rattle.pg_call.specs.declared.request.Request as request;
 ghost use Rattle.pg_learning.specs.Learning.{FailsSeeking, Seeks};
 ghost use Rattle.pg_learning.specs.Naming.{oids_under, unknown_name};
+ghost use Rattle.pg_learning.specs.Telling.{learnt_columns};
 ghost use Rattle.pg_conn.specs.Connections.{ConnOf, cleaned};
-ghost use Rattle.pg_conn.specs.Looking.{AsksFirst, AsksNext, FailsFirst, IsUnlooked, IsUnlookedFor, LooksFor, LooksIn, LooksInto, LooksNamed, LooksUp, MayLook, MayLookFor, MissesName, asks_by, asks_names, asks_query, begun_by, begun_for, columns_told, has_names, holes_for, is_kept, lookup_for, unlooked, wanted_by, wants_names};
+ghost use Rattle.pg_conn.specs.Looking.{AsksFirst, AsksNext, FailsFirst, IsUnlooked, IsUnlookedFor, LooksFor, LooksIn, LooksInto, LooksNamed, LooksBehind, LooksUp, MayLook, MayLookFor, MissesName, asks_by, asks_names, asks_query, begun_by, begun_for, columns_told, has_names, holes_for, is_kept, lookup_for, telling, unlooked, wanted_by, wants_names};
 
 use crate::statement::columns_told;
 use crate::{PgConnection, Request};
 use pg_call::{Bound, Call, Described, Extended, Filling, Goal, Keeping, Lookup, Prepared};
+use pg_columns::PgColumns;
 use pg_request::{Arguments, Declared, Query, declared_names};
 use pg_rule::Rule;
 use pg_wire::{Error, Text};
+use std::alloc::AllocError;
 
 // Whether the names of columns are told.
 fn wants_names(goal: Goal) -> bool
@@ -32,6 +36,16 @@ fn holes_for(goal: Goal, arguments: &Arguments) -> &[Declared]
     match goal {
         Goal::Run(_) => arguments.holes(),
         Goal::Prepare => &[],
+    }
+}
+
+// The columns that were described, where they were.
+fn described_columns(described: &Option<Described>) -> Option<&PgColumns>
+    ensures { option_copied result ≡ option_and_then (λ (d : DescribedOf). d.columns) described.now }
+{
+    match described {
+        Some(described) => described.columns.as_ref(),
+        None => None,
     }
 }
 
@@ -219,9 +233,9 @@ impl<L> PgConnection<L> {
         }
     }
 
-    // What is asked of a statement that was described, behind the lookups for that.
+    // What is asked of a statement that was described, by what it is run with.
     fn look_into(&mut self, extended: Extended) -> Result<Request, Error>
-        ensures ok { IfOk result (λ next. (self.new ≡ record self.old { learnt = self.new.learnt }) × LooksInto extended None self.old.learnt next self.new.learnt) }
+        ensures ok { IfOk result (λ next. (self.new ≡ record self.old { learnt = self.new.learnt }) × LooksInto extended self.old.learnt next self.new.learnt) }
         ensures err { IfErr result (IsUnlookedFor (holes_for extended.goal extended.arguments) self.old self.new) }
     {
         if !has_names(holes_for(extended.goal, &extended.arguments)) {
@@ -229,6 +243,35 @@ impl<L> PgConnection<L> {
         }
         let next = self.look_for_holes(extended)?;
         Ok(next)
+    }
+
+    // The columns with what was looked up of them.
+    fn learnt_columns(&self, columns: &PgColumns) -> Result<PgColumns, AllocError>
+        ensures { IfOk result (λ told. told ≡ learnt_columns self.now.learnt columns.now) }
+    {
+        let told = self.learnt.columns(self.alloc, columns.as_slice())?;
+        PgColumns::of(self.alloc, told)
+    }
+
+    // A statement whose columns tell what was looked up of them. Only want of memory refuses it.
+    fn told(&self, extended: Extended) -> Result<Extended, Error>
+        ensures told { IfOk result (λ x. x ≡ telling self.now.learnt extended) }
+        ensures memory { IfErr result (λ e. e ≡ Error.OutOfMemory) }
+    {
+        let Some(columns) = described_columns(&extended.described) else {
+            return Ok(extended);
+        };
+        let told = self.learnt_columns(columns)?;
+        Ok(extended.with_columns(Some(told)))
+    }
+
+    // What is asked of a statement that was described, behind the lookups for that.
+    fn look_behind(&mut self, extended: Extended) -> Result<Request, Error>
+        ensures ok { IfOk result (λ next. (self.new ≡ record self.old { learnt = self.new.learnt }) × LooksBehind extended None self.old.learnt next self.new.learnt) }
+        ensures err { IfErr result (IsUnlookedFor (holes_for extended.goal extended.arguments) self.old self.new) }
+    {
+        let told = self.told(extended)?;
+        self.look_into(told)
     }
 
     // What is asked where an exchange has handed this on, or a call begins by it.
@@ -241,7 +284,7 @@ impl<L> PgConnection<L> {
         };
         match self.seek(&extended, described)? {
             Some(text) => Ok(lookup(extended, text)),
-            None => self.look_into(extended),
+            None => self.look_behind(extended),
         }
     }
 

@@ -1,5 +1,6 @@
 -- One more poll of an exchange of a call that is played.
 use Rattle.std.proofs.Common.{◌≡◌, ◌≢◌, ◌⊎◌, ℕ, ◌+◌, ◌*◌, ◌<◌, ◌≤◌, inl, inr, cond, Bool, true, false, List, [], ◌∷◌, ◌++◌, length, map, refl, sym, ap, ◌∙◌, subst, arith, append_assoc, append-nil, Option, Some, None, Ok, Err, not, ◌&&◌, nat_eq, leb, Result, ◌-◌, ◌==◌}
+use Rattle.pg_columns.specs.declared.column.PgColumn.{PgColumn}
 use Rattle.pg_rule.specs.Caches.{entry_at}
 use Rattle.pg_rule.specs.declared.cache.Entry.{Entry}
 use Rattle.pg_request.specs.Queries.{QueryText, ArgumentsSeen}
@@ -37,7 +38,7 @@ use Rattle.pg_wire.specs.declared.error.ServerFault.TheVariants as faults
 use Rattle.pg_wire.specs.Frame.{Frame}
 use Rattle.pg_wire.specs.Parts.{heard}
 use Rattle.pg_wire.specs.Frontend.{FrontendMessage}
-use Rattle.pg_wire.specs.Backend.{BackendMessage, FieldDescription}
+use Rattle.pg_wire.specs.Backend.{BackendMessage}
 use Rattle.pg_wire.proofs.PartLaws.{heard-append}
 use Rattle.pg_stream.specs.Links.{NoneFalls, GrewBy, LinkSeen}
 use Rattle.pg_stream.specs.Streams.{StreamSeen, Moves, Tallies, NoneWaited, PendingCause, HeardCause, fuel_of}
@@ -843,7 +844,7 @@ wanted_stays rule (requests.Run bound) w = absurd w
 wanted_stays rule (requests.Evict eviction) w = absurd w
 wanted_stays rule (requests.Look lookup) w = absurd w
 wanted_stays rule (requests.Fill filling) w = absurd w
-wanted_stays rule (requests.Prepare prepared) w = ap (λ (o : Option (List FieldDescription)). unmoved (keeping_of (prepare_by rule prepared o)) rule) w ∙ by (entry_at prepared.sql rule.cache.entries)
+wanted_stays rule (requests.Prepare prepared) w = ap (λ (o : Option (List PgColumn)). unmoved (keeping_of (prepare_by rule prepared o)) rule) w ∙ by (entry_at prepared.sql rule.cache.entries)
   where
     by : (o : Option Entry) → unmoved (keeping_of (tell_or_describe rule prepared o)) rule ≡ rule
     by (Some e) = refl

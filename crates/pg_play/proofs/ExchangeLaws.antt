@@ -1,8 +1,10 @@
 -- The exchanges of a call.
 use Rattle.std.proofs.Common.{◌≡◌, ◌⊎◌, ℕ, zero, suc, nat_eq, Bool, true, false, cond, List, [], ◌∷◌, length, subst, refl, sym, ap, ◌∙◌, Option, Some, None, option_map, Ok, inl, inr}
 use Rattle.std.proofs.lemmas.Option.{same_Some}
+use Rattle.pg_columns.specs.Told.{columns_of}
+use Rattle.pg_columns.specs.declared.column.PgColumn.{PgColumn}
 use Rattle.pg_wire.specs.declared.status.TransactionStatus.{TransactionStatus}
-use Rattle.pg_wire.specs.Backend.{BackendMessage, FieldDescription}
+use Rattle.pg_wire.specs.Backend.{BackendMessage}
 use Rattle.pg_exchanges.specs.Answering.{described}
 use Rattle.pg_request.specs.Queries.{QueryText, ArgumentsSeen}
 use Rattle.pg_request.specs.declared.naming.Declared.{Declared}
@@ -34,7 +36,7 @@ use Rattle.pg_rule.specs.Caches.{entry_at}
 use Rattle.pg_rule.specs.Rules.{holding}
 use Rattle.pg_learning.specs.declared.learnt.Learnt.{Learnt}
 use Rattle.pg_learning.specs.Naming.{oids_under}
-use Rattle.pg_conn.specs.Looking.{IsFound as IsFoundBy, LooksAny, LooksFor, LooksIn, LooksInto, LooksUp, MayLook, holes_for, lookup_for, named_in, vain_lookup}
+use Rattle.pg_conn.specs.Looking.{IsFound as IsFoundBy, LooksAny, LooksFor, LooksIn, LooksBehind, LooksUp, MayLook, holes_for, lookup_for, named_in, vain_lookup, telling}
 use Rattle.pg_conn.specs.Statements.{asked_by, begun_as, behind_description, by_leaving, entry_of, held_behind, held_by, leaving, prepare_by, query_by, run_or_describe, tell_or_describe}
 use Rattle.pg_conn.specs.States.{to_prepare}
 use Rattle.pg_call.specs.Calls.{answer_by}
@@ -352,7 +354,7 @@ behind_exchange (afters.Prepare prepared) = tt
 
 -- what a description hands on
 abbrev pub told_by : Extended → List BackendMessage → Request
-told_by x reply = requests.Describe (record x { described = Some (record { parameters = parameters_after [] reply; columns = Some (described reply) }) })
+told_by x reply = requests.Describe (record x { described = Some (record { parameters = parameters_after [] reply; columns = Some (columns_of (described reply)) }) })
 
 told_exchange : (rule : Rule) (x : Extended) (d : Described) → IsExchange (asked_by rule (requests.Describe (record x { described = Some d })))
 told_exchange rule x d = by (nat_eq x.statement 0) (option_map (λ (e : Entry). e.statement) (leaving rule))
@@ -373,7 +375,7 @@ after_exchange rule (afters.Run bound) = tt
 after_exchange rule (afters.Fill filling) = tt
 after_exchange rule (afters.Prepare prepared) = by prepared.columns
   where
-    by : (o : Option (List FieldDescription)) → IsExchange (prepare_by rule (record prepared { declared = None }) o)
+    by : (o : Option (List PgColumn)) → IsExchange (prepare_by rule (record prepared { declared = None }) o)
     by (Some columns) = tt
     by None = tells (entry_at prepared.sql rule.cache.entries)
       where
@@ -418,7 +420,7 @@ record HandsSo (rule : Rule) (next : Request) : Type 0 where
 
 hands_so : (rule : Rule) (call : Call) (reply : List BackendMessage) (next : Request) → handed_by call reply ≡ Some next → HandsSo rule next
 hands_so rule (calls.Describe x) reply next e =
-    let d : Described = record { parameters = parameters_after [] reply; columns = Some (described reply) } in
+    let d : Described = record { parameters = parameters_after [] reply; columns = Some (columns_of (described reply)) } in
     subst (HandsSo rule) (same_Some (requests.Describe (record x { described = Some d })) next e) (record { stands = told_exchange rule x d; same = told_held rule x d })
 hands_so rule (calls.Evict v) reply next e = subst (HandsSo rule) (same_Some (request_behind v.after) next e) (record { stands = after_exchange rule v.after; same = after_held rule v.after })
 hands_so rule (calls.Look l) reply next e = subst (HandsSo rule) (same_Some (requests.Describe l.extended) next e) (record { stands = described_exchange rule l.extended; same = described_held rule l.extended })
@@ -449,15 +451,19 @@ pub record IsFound (told next : Request) : Type 0 where
   pub undescribed : extended.described ≡ None
   pub asks : next ≡ requests.Describe (numbered_by oids extended)
 
--- a described statement, once it is known what is asked within its arguments
+-- a described statement, once its columns tell what was looked up, and it is known what is asked within its arguments
+abbrev pub ready : Learnt → ArgumentsSeen → Option (List ℕ) → Extended → Extended
+ready a arguments filling x = record (telling a x) { arguments = arguments; filling = filling }
+
 pub record IsReady (told next : Request) : Type 0 where
   pub extended : Extended
   pub description : Described
+  pub learnt : Learnt
   pub arguments : ArgumentsSeen
   pub filling : Option (List ℕ)
   pub tells : told ≡ requests.Describe extended
   pub described : extended.described ≡ Some description
-  pub asks : next ≡ requests.Describe (record extended { arguments = arguments; filling = filling })
+  pub asks : next ≡ requests.Describe (ready learnt arguments filling extended)
 
 -- a lookup for the arguments of what is run
 pub record IsFilling (told next : Request) : Type 0 where
@@ -495,10 +501,10 @@ leads_filling f = inr (inr (inr (inr (inl f))))
 abbrev leads_filled : {told next : Request} → IsFilled told next → LeadsTo told next
 leads_filled f = inr (inr (inr (inr (inr f))))
 
-any_leads : (looked : Bool) (names : List Declared) (told : Request) (looks knows : List ℕ → Request) (a b : Learnt) (next : Request) → ((text : List ℕ) → next ≡ looks text → LeadsTo told next) → ((oids : List ℕ) → next ≡ knows oids → LeadsTo told next)
-    → LooksAny looked names told looks knows a next b → LeadsTo told next
-any_leads looked [] told looks knows a b next l k h = inl h.0
-any_leads looked (name ∷ names) told looks knows a b next l k (text, seeks, h) = by text h
+any_leads : (looked : Bool) (names : List Declared) (told asked : Request) (looks knows : List ℕ → Request) (a b : Learnt) (next : Request) → (next ≡ asked → LeadsTo told next) → ((text : List ℕ) → next ≡ looks text → LeadsTo told next) → ((oids : List ℕ) → next ≡ knows oids → LeadsTo told next)
+    → LooksAny looked names asked looks knows a next b → LeadsTo told next
+any_leads looked [] told asked looks knows a b next n l k h = n h.0
+any_leads looked (name ∷ names) told asked looks knows a b next n l k (text, seeks, h) = by text h
   where
     by : (text : Option (List ℕ)) → IsFoundBy (name ∷ names) looks knows b text next → LeadsTo told next
     by (Some text) h = l text h
@@ -509,22 +515,26 @@ looks_or told next a b (inl h) = by told h
   where
     for : (x : Extended) (o : Option Described) → x.described ≡ o → LooksFor x o a next b → LeadsTo (requests.Describe x) next
     for x None e h =
-        any_leads x.is_looked_up x.arguments.names (requests.Describe x) (lookup_for (requests.Describe x)) (λ (oids : List ℕ). requests.Describe (numbered_by oids x)) a b next
+        any_leads x.is_looked_up x.arguments.names (requests.Describe x) (requests.Describe x) (lookup_for (requests.Describe x)) (λ (oids : List ℕ). requests.Describe (numbered_by oids x)) a b next
+        (λ is. inl is)
         (λ text is. leads_looked (record { extended = x; text = text; tells = refl; asks = is }))
         (λ oids is. leads_found (record { extended = x; oids = oids; tells = refl; undescribed = e; asks = is })) h
     for x (Some d) e (text, m, seeks, h) = into text h
       where
-        into : (text : Option (List ℕ)) → LooksInto x text m next b → LeadsTo (requests.Describe x) next
+        into : (text : Option (List ℕ)) → LooksBehind x text m next b → LeadsTo (requests.Describe x) next
         into (Some text) h = leads_looked (record { extended = x; text = text; tells = refl; asks = h.0 })
         into None h =
-            any_leads false (holes_for x.goal x.arguments) (requests.Describe x) (λ (text : List ℕ). requests.Describe (record x { filling = Some text })) (λ (oids : List ℕ). requests.Describe (filled_for oids x)) m b next
-            (λ text is. leads_ready (record { extended = x; description = d; arguments = x.arguments; filling = Some text; tells = refl; described = e; asks = is }))
-            (λ oids is. leads_ready (record { extended = x; description = d; arguments = filled oids x.arguments; filling = x.filling; tells = refl; described = e; asks = is })) h
+            let y = telling m x in
+            any_leads false (holes_for x.goal x.arguments) (requests.Describe x) (requests.Describe y) (λ (text : List ℕ). requests.Describe (record y { filling = Some text })) (λ (oids : List ℕ). requests.Describe (filled_for oids y)) m b next
+            (λ is. leads_ready (record { extended = x; description = d; learnt = m; arguments = x.arguments; filling = x.filling; tells = refl; described = e; asks = is }))
+            (λ text is. leads_ready (record { extended = x; description = d; learnt = m; arguments = x.arguments; filling = Some text; tells = refl; described = e; asks = is }))
+            (λ oids is. leads_ready (record { extended = x; description = d; learnt = m; arguments = filled oids x.arguments; filling = x.filling; tells = refl; described = e; asks = is })) h
 
     by : (told : Request) → LooksIn told a next b → LeadsTo told next
     by (requests.Describe x) h = for x x.described refl h
     by (requests.Run bound) h =
-        any_leads bound.is_looked_up bound.arguments.holes (requests.Run bound) (lookup_for (requests.Run bound)) (λ (oids : List ℕ). requests.Run (filled_bound oids bound)) a b next
+        any_leads bound.is_looked_up bound.arguments.holes (requests.Run bound) (requests.Run bound) (lookup_for (requests.Run bound)) (λ (oids : List ℕ). requests.Run (filled_bound oids bound)) a b next
+        (λ is. inl is)
         (λ text is. leads_filling (record { bound = bound; text = text; looked = bound.is_looked_up; keeping = bound.keeping; tells = refl; asks = is }))
         (λ oids is. leads_filled (record { bound = bound; oids = oids; tells = refl; asks = is })) h
     by _ h = inl h.0
@@ -542,7 +552,7 @@ looks_so rule told next (inr (inr (inl f))) h =
     let x = numbered_by f.oids f.extended in
     subst (HandsSo rule) (sym f.asks) (record { stands = described_exchange rule x; same = described_held rule x })
 looks_so rule told next (inr (inr (inr (inl r)))) h =
-    let x = record r.extended { arguments = r.arguments; filling = r.filling } in
+    let x = ready r.learnt r.arguments r.filling r.extended in
     subst (HandsSo rule) (sym r.asks) (record { stands = described_exchange rule x; same = described_held rule x })
 looks_so rule told next (inr (inr (inr (inr (inl f))))) h = subst (HandsSo rule) (sym f.asks) (record { stands = tt; same = refl })
 looks_so rule told next (inr (inr (inr (inr (inr f))))) h = subst (HandsSo rule) (sym f.asks) (record { stands = tt; same = refl })
@@ -640,7 +650,7 @@ evicted_how rule (afters.Run bound) = refl
 evicted_how rule (afters.Fill filling) = refl
 evicted_how rule (afters.Prepare prepared) = by prepared.columns
   where
-    by : (o : Option (List FieldDescription)) → runs_how (exchange_for (prepare_by rule (record prepared { declared = None }) o)) ≡ None
+    by : (o : Option (List PgColumn)) → runs_how (exchange_for (prepare_by rule (record prepared { declared = None }) o)) ≡ None
     by (Some columns) = refl
     by None = tells (entry_at prepared.sql rule.cache.entries)
       where
@@ -649,7 +659,7 @@ evicted_how rule (afters.Prepare prepared) = by prepared.columns
         tells None = refl
 
 handed_how : (rule : Rule) (call : Call) (response : List BackendMessage) (told : Request) → handed_by call response ≡ Some told → runs_how (exchange_for (asked_by rule told)) ≡ runs_how call
-handed_how rule (calls.Describe x) response told e = ap (λ (r : Request). runs_how (exchange_for (asked_by rule r))) (sym (same_Some _ told e)) ∙ told_how rule x (record { parameters = parameters_after [] response; columns = Some (described response) })
+handed_how rule (calls.Describe x) response told e = ap (λ (r : Request). runs_how (exchange_for (asked_by rule r))) (sym (same_Some _ told e)) ∙ told_how rule x (record { parameters = parameters_after [] response; columns = Some (columns_of (described response)) })
 handed_how rule (calls.Evict v) response told e = ap (λ (r : Request). runs_how (exchange_for (asked_by rule r))) (sym (same_Some _ told e)) ∙ evicted_how rule v.after
 handed_how rule (calls.Look l) response told e = ap (λ (r : Request). runs_how (exchange_for (asked_by rule r))) (sym (same_Some _ told e)) ∙ described_how rule l.extended
 handed_how rule (calls.Fill f) response told e = ap (λ (r : Request). runs_how (exchange_for (asked_by rule r))) (sym (same_Some _ told e))
@@ -665,7 +675,7 @@ next_how rule call response part (told, a, b, next, handed, looks, is) = ap runs
     by (inl same) = ap how same
     by (inr (inl l)) = ap how l.asks ∙ sym (ap how l.tells ∙ described_how rule l.extended)
     by (inr (inr (inl f))) = ap how f.asks ∙ described_how rule (numbered_by f.oids f.extended) ∙ sym (ap how f.tells ∙ described_how rule f.extended)
-    by (inr (inr (inr (inl r)))) = ap how r.asks ∙ described_how rule (record r.extended { arguments = r.arguments; filling = r.filling }) ∙ sym (ap how r.tells ∙ described_how rule r.extended)
+    by (inr (inr (inr (inl r)))) = ap how r.asks ∙ described_how rule (ready r.learnt r.arguments r.filling r.extended) ∙ sym (ap how r.tells ∙ described_how rule r.extended)
     by (inr (inr (inr (inr (inl f))))) = ap how f.asks ∙ sym (ap how f.tells)
     by (inr (inr (inr (inr (inr f))))) = ap how f.asks ∙ sym (ap how f.tells)
 

@@ -1,4 +1,10 @@
 -- What is so of the exchange that comes next: what it knows of its statement, and what may be held of it.
+use Rattle.pg_learning.specs.declared.learnt.Learnt.{Learnt}
+use Rattle.pg_play.proofs.ColumnLaws.{kept_learnt, learnt_width, told_width}
+use Rattle.pg_conn.specs.Looking.{described_with}
+use Rattle.pg_columns.proofs.ToldLaws.{length_columns}
+use Rattle.pg_columns.specs.Told.{columns_of}
+use Rattle.pg_columns.specs.declared.column.PgColumn.{PgColumn}
 use Rattle.pg_call.specs.declared.statement.Filling.{Filling}
 use Rattle.std.proofs.Common.{◌≡◌, Ok, ℕ, zero, suc, ◌<◌, nat_eq, Bool, true, false, cond, ◌&&◌, List, [], ◌∷◌, ◌++◌, length, map, subst, refl, sym, ap, ◌∙◌, arith, append_assoc, Option, Some, None, option_map, inl, inr, bytes_eq, ◌||◌, is_some, unwrap_or, option_to_list, ap₂, IsSome}
 use Rattle.std.specs.List.{AllByRecursion}
@@ -56,10 +62,10 @@ use Rattle.pg_play.proofs.PlaceLaws.{owed_is}
 use Rattle.pg_play.proofs.PartLaws.{after_more}
 use Rattle.pg_play.proofs.KnownLaws.{lawful_keeps}
 use Rattle.pg_play.proofs.CalledLaws.{KnownAt, known_none}
-use Rattle.pg_play.proofs.ExchangeLaws.{HandsBy, IsLooked, LeadsTo, hands_by, told_by, undescribed_asks, undescribed_held}
+use Rattle.pg_play.proofs.ExchangeLaws.{HandsBy, IsLooked, LeadsTo, hands_by, told_by, undescribed_asks, undescribed_held, ready}
 use Rattle.pg_play.proofs.NameLaws.{each_known, named_nothing}
 use Rattle.pg_play.proofs.NextLaws.{after_further, described_known}
-use Rattle.pg_play.proofs.KeptLaws.{CanHold, CanHoldTold, ClosesNone, IsAfter, IsHeldFor, IsLooking, IsSought, held_after_close, looked_holds, spares_asked, RunsAt, runs_holds, IsKeptFirst, told_whole, IsToldWhole, IsToldFor, WasDescribed, IsSound}
+use Rattle.pg_play.proofs.KeptLaws.{CanHold, CanHoldTold, ClosesNone, IsAfter, IsHeldFor, IsLooking, IsSought, held_after_close, looked_holds, spares_asked, RunsAt, runs_holds, IsKeptFirst, told_whole, IsToldWhole, IsToldFor, WasDescribed, IsSound, was_ready}
 
 -- ---- what is known of a statement that is kept
 
@@ -69,7 +75,7 @@ known_kept start at a e st positive k group slice front gs g l count =
     let begun : after_readys (length k.before) (heard at.frames ++ slice) ≡ map backend_frame k.told ++ (k.more ++ slice) = further ∙ ap (λ (f : List Frame). f ++ slice) k.answered ∙ append_assoc (map backend_frame k.told) k.more slice in
     let part : after_readys (length at.groups) (heard at.frames ++ slice) ≡ after_readys (owed at) slice =
     after_more (heard at.frames) slice (length at.groups) a.ledger.owed st.ledger st.between ∙ ap (λ (n : ℕ). after_readys n slice) (sym (owed_is start at a st)) in
-    subst (λ (n : ℕ). BeginsKnowing ((name_of e.statement, n) ∷ []) group (after_readys (owed at) slice ++ front ∷ [])) (ap (λ (c : List FieldDescription). length c) k.columns)
+    subst (λ (n : ℕ). BeginsKnowing ((name_of e.statement, n) ∷ []) group (after_readys (owed at) slice ++ front ∷ [])) (told_width k.columns)
     (lawful_keeps k.before (name_of e.statement) e.sql k.types k.later group (heard at.frames ++ slice) (after_readys (owed at) slice) (k.more ++ slice) front k.told
     (subst (AllByRecursion IsGroup) k.groups gs) g (named_nothing e.statement positive) k.spared (subst (λ (gs : List Group). MayHear (said_in (gs ++ group ∷ [])) ((heard at.frames ++ slice) ++ front ∷ [])) k.groups l) (count ∙ ap (λ (gs : List Group). length gs) k.groups) begun (ap (λ (gs : List Group). after_readys (length gs) (heard at.frames ++ slice)) (sym k.groups) ∙ part) k.ends k.has_frames k.well)
 
@@ -126,8 +132,8 @@ after_known start at a (afters.Run bound) st k (e, others, is, same, columns) = 
     by : (again : Option (List ℕ)) → KnownAt (known_under (name_of bound.statement) (width_by again bound.columns)) at
     by (Some sql) = known_none start at a st
     by None =
-        subst (λ (n : ℕ). KnownAt (known_under (name_of n) (option_map (λ (c : List FieldDescription). length c) bound.columns)) at) (sym same)
-        (subst (λ (o : Option (List FieldDescription)). KnownAt (known_under (name_of e.statement) (option_map (λ (c : List FieldDescription). length c) o)) at) (sym columns) known)
+        subst (λ (n : ℕ). KnownAt (known_under (name_of n) (option_map (λ (c : List PgColumn). length c) bound.columns)) at) (sym same)
+        (subst (λ (o : Option (List PgColumn)). KnownAt (known_under (name_of e.statement) (option_map (λ (c : List PgColumn). length c) o)) at) (sym columns) known)
 
 -- what is run knows no more, and a lookup before that knows nothing
 bound_known : (filling : Option (List ℕ)) (bound : Bound) (at : Place) → KnownAt (widths_of (requests.Run bound)) at → KnownAt [] at → KnownAt (widths_of (request_behind (bound_by filling bound))) at
@@ -135,7 +141,7 @@ bound_known None bound at k none = k
 bound_known (Some text) bound at k none = none
 
 -- so does what comes behind a description, where its columns are known or it is prepared once more
-told_known : (rule : Rule) (x : Extended) (d : Described) (at : Place) → (is_parsed_again x ≡ false → KnownAt (known_under (name_of x.statement) (option_map (λ (c : List FieldDescription). length c) d.columns)) at) → KnownAt [] at → KnownAt (widths_of (asked_by rule (requests.Describe (record x { described = Some d })))) at
+told_known : (rule : Rule) (x : Extended) (d : Described) (at : Place) → (is_parsed_again x ≡ false → KnownAt (known_under (name_of x.statement) (option_map (λ (c : List PgColumn). length c) d.columns)) at) → KnownAt [] at → KnownAt (widths_of (asked_by rule (requests.Describe (record x { described = Some d })))) at
 told_known rule x d at k none = by (nat_eq x.statement 0) (option_map (λ (e : Entry). e.statement) (leaving rule))
   where
     x' : Extended
@@ -162,7 +168,7 @@ closed_known rule at (afters.Run bound) k none = k
 closed_known rule at (afters.Fill filling) k none = k
 closed_known rule at (afters.Prepare prepared) k none = by prepared.columns
   where
-    by : (o : Option (List FieldDescription)) → KnownAt (widths_of (prepare_by rule (record prepared { declared = None }) o)) at
+    by : (o : Option (List PgColumn)) → KnownAt (widths_of (prepare_by rule (record prepared { declared = None }) o)) at
     by (Some columns) = none
     by None = tells (entry_at prepared.sql rule.cache.entries)
       where
@@ -170,13 +176,17 @@ closed_known rule at (afters.Prepare prepared) k none = by prepared.columns
         tells (Some e) = none
         tells None = none
 
+-- of what was described the columns are known that were made of it
+known_columns : (at : Place) (name : List ℕ) (fields : List FieldDescription) → KnownAt ((name, length fields) ∷ []) at → KnownAt ((name, length (columns_of fields)) ∷ []) at
+known_columns at name fields k = subst (λ (n : ℕ). KnownAt ((name, n) ∷ []) at) (sym (length_columns fields)) k
+
 -- what a description that hands on has told is known where the next exchange begins
 known_told : (rule : Rule) (start : StreamSeen) (at next : Place) (a c : ConnSeen) (x : Extended) (after : Request) (said : List FrontendMessage) (slice : List Frame) (items : List CallItem) → StandsAt start at a → StandsAt start next c → next.groups ≡ at.groups ++ groups_of (requests.Describe x) → heard next.frames ≡ heard at.frames ++ slice
     → EndsFine a.ledger (requests.Describe x) said slice items c.ledger (Ok (answers.Next after)) → KnownAt (widths_of (asked_by rule after)) next
 known_told rule start at next a c x after said slice items st st' groups frames e =
     let told : told_by x e.0.reply ≡ after = same_Some (told_by x e.0.reply) after (next_is (requests.Describe x) e.0.reply e.0.status after e.1).1 in
     let known = described_known start at next a c x said slice items st st' groups frames e.0 in
-    subst (λ (r : Request). KnownAt (widths_of (asked_by rule r)) next) told (told_known rule x (record { parameters = parameters_after [] e.0.reply; columns = Some (described e.0.reply) }) next (λ o. known) (known_none start next c st'))
+    subst (λ (r : Request). KnownAt (widths_of (asked_by rule r)) next) told (told_known rule x (record { parameters = parameters_after [] e.0.reply; columns = Some (columns_of (described e.0.reply)) }) next (λ o. known_columns next (name_of x.statement) (described e.0.reply) known) (known_none start next c st'))
 
 -- and what comes behind a close knows its statement
 known_closed : (rule : Rule) (start : StreamSeen) (at next : Place) (a c : ConnSeen) (v : Eviction) (after : Request) (said : List FrontendMessage) (slice : List Frame) (items : List CallItem) → StandsAt start next c → Keeps next → IsAfter next.rule v.after
@@ -196,10 +206,10 @@ known_looked rule start next c x st s h =
     named zero e = absurd cc
     named (suc n) e = omega arith
 
-    known : is_parsed_again x ≡ false → KnownAt (known_under (name_of x.statement) (option_map (λ (cs : List FieldDescription). length cs) s.was.description.columns)) next
+    known : is_parsed_again x ≡ false → KnownAt (known_under (name_of x.statement) (option_map (λ (cs : List PgColumn). length cs) s.was.description.columns)) next
     known e =
         let has : nat_eq x.statement 0 ≡ false = sym (ap (λ (b : Bool). (b || is_some x.filling) && nat_eq x.statement 0) s.looked) ∙ e in
-        subst (λ (o : Option (List FieldDescription)). KnownAt (known_under (name_of x.statement) (option_map (λ (cs : List FieldDescription). length cs) o)) next) (sym s.was.columns)
+        subst (λ (o : Option (List PgColumn)). KnownAt (known_under (name_of x.statement) (option_map (λ (cs : List PgColumn). length cs) o)) next) (sym s.was.columns)
         (known_kept start next c (entry_of x s.was.description) st (named x.statement has) (h s.was.description s.was.is has))
 
 -- and what isn't described yet knows nothing
@@ -214,8 +224,8 @@ known_sought rule start next c old x (Some d) e st s h = known_looked rule start
 runs_known : (start : StreamSeen) (at : Place) (a : ConnSeen) (bound : Bound) (o : Option (List ℕ)) → StandsAt start at a → RunsAt at bound o → KnownAt (known_under (name_of bound.statement) (width_by o bound.columns)) at
 runs_known start at a bound (Some sql) st h = known_none start at a st
 runs_known start at a bound None st (e, same, columns, positive, kept) =
-    subst (λ (n : ℕ). KnownAt (known_under (name_of n) (option_map (λ (c : List FieldDescription). length c) bound.columns)) at) (sym same)
-    (subst (λ (o : Option (List FieldDescription)). KnownAt (known_under (name_of e.statement) (option_map (λ (c : List FieldDescription). length c) o)) at) (sym columns) (known_of start at a e st (positive, kept)))
+    subst (λ (n : ℕ). KnownAt (known_under (name_of n) (option_map (λ (c : List PgColumn). length c) bound.columns)) at) (sym same)
+    (subst (λ (o : Option (List PgColumn)). KnownAt (known_under (name_of e.statement) (option_map (λ (c : List PgColumn). length c) o)) at) (sym columns) (known_of start at a e st (positive, kept)))
 
 -- what the exchange knows that is handed on
 handed_known : (rule : Rule) (start : StreamSeen) (at next : Place) (a c : ConnSeen) (d : ℕ) (call : Call) (after : Request) (said : List FrontendMessage) (slice : List Frame) (items : List CallItem) → StandsAt start at a → StandsAt start next c → Keeps next → next.groups ≡ at.groups ++ groups_of (request_of d call) → heard next.frames ≡ heard at.frames ++ slice
@@ -242,57 +252,57 @@ handed_known rule start at next a c d call after said slice items st st' k group
         let told : requests.Run (looked_behind f.bound) ≡ after = same_Some (requests.Run (looked_behind f.bound)) after (next_is (requests.Fill f) fine.0.reply fine.0.status after fine.1).1 in
         subst (λ (r : Request). KnownAt (widths_of (asked_by rule r)) next) told (runs_known start next c f.bound f.bound.again st' (fills f is))
 
--- a description that was told, once it is known what is asked within its arguments
-abbrev readied : ArgumentsSeen → Option (List ℕ) → Request → Request
-readied arguments filling (requests.Describe x) = requests.Describe (record x { arguments = arguments; filling = filling })
-readied arguments filling told = told
+-- a description that was told, once its columns tell what was looked up, and it is known what is asked within its arguments
+abbrev readied : Learnt → ArgumentsSeen → Option (List ℕ) → Request → Request
+readied l arguments filling (requests.Describe x) = requests.Describe (ready l arguments filling x)
+readied l arguments filling told = told
 
-after_readied : (arguments : ArgumentsSeen) (filling : Option (List ℕ)) (a : After) → readied arguments filling (request_behind a) ≡ request_behind a
-after_readied arguments filling (afters.Run bound) = refl
-after_readied arguments filling (afters.Fill f) = refl
-after_readied arguments filling (afters.Prepare prepared) = refl
+after_readied : (l : Learnt) (arguments : ArgumentsSeen) (filling : Option (List ℕ)) (a : After) → readied l arguments filling (request_behind a) ≡ request_behind a
+after_readied l arguments filling (afters.Run bound) = refl
+after_readied l arguments filling (afters.Fill f) = refl
+after_readied l arguments filling (afters.Prepare prepared) = refl
 
 -- so it knows as much
-ready_known : (arguments : ArgumentsSeen) (filling : Option (List ℕ)) (rule : Rule) (start : StreamSeen) (at next : Place) (a c : ConnSeen) (d : ℕ) (call : Call) (after : Request) (said : List FrontendMessage) (slice : List Frame) (items : List CallItem) → StandsAt start at a → StandsAt start next c → Keeps next → next.groups ≡ at.groups ++ groups_of (request_of d call) → heard next.frames ≡ heard at.frames ++ slice
+ready_known : (learnt : Learnt) (arguments : ArgumentsSeen) (filling : Option (List ℕ)) (rule : Rule) (start : StreamSeen) (at next : Place) (a c : ConnSeen) (d : ℕ) (call : Call) (after : Request) (said : List FrontendMessage) (slice : List Frame) (items : List CallItem) → StandsAt start at a → StandsAt start next c → Keeps next → next.groups ≡ at.groups ++ groups_of (request_of d call) → heard next.frames ≡ heard at.frames ++ slice
     → ((v : Eviction) → call ≡ calls.Evict v → IsAfter next.rule v.after) → ((l : Lookup) → call ≡ calls.Look l → IsSought at.rule l.extended l.extended.described × ((t : Described) → l.extended.described ≡ Some t → nat_eq l.extended.statement 0 ≡ false → IsKeptAt next (entry_of l.extended t)))
     → ((f : Filling) → call ≡ calls.Fill f → RunsAt next f.bound f.bound.again)
-    → EndsFine a.ledger (request_of d call) said slice items c.ledger (Ok (answers.Next after)) → KnownAt (widths_of (asked_by rule (readied arguments filling after))) next
-ready_known arguments filling rule start at next a c d call after said slice items st st' k groups frames evicts looks fills e =
+    → EndsFine a.ledger (request_of d call) said slice items c.ledger (Ok (answers.Next after)) → KnownAt (widths_of (asked_by rule (readied learnt arguments filling after))) next
+ready_known learnt arguments filling rule start at next a c d call after said slice items st st' k groups frames evicts looks fills e =
     by (hands_by d call (hands_on_described (request_of d call) e.0.reply e.0.status after e.1))
   where
-    by : HandsBy call → KnownAt (widths_of (asked_by rule (readied arguments filling after))) next
+    by : HandsBy call → KnownAt (widths_of (asked_by rule (readied learnt arguments filling after))) next
     by (inl (x, is)) =
         let fine = subst (λ (y : Call). EndsFine a.ledger (request_of d y) said slice items c.ledger (Ok (answers.Next after))) is e in
         let told : told_by x fine.0.reply ≡ after = same_Some (told_by x fine.0.reply) after (next_is (requests.Describe x) fine.0.reply fine.0.status after fine.1).1 in
         let known = described_known start at next a c x said slice items st st' (groups ∙ ap (λ (y : Call). at.groups ++ groups_of (request_of d y)) is) frames fine.0 in
-        subst (λ (r : Request). KnownAt (widths_of (asked_by rule (readied arguments filling r))) next) told
-        (told_known rule (record x { arguments = arguments; filling = filling }) (record { parameters = parameters_after [] fine.0.reply; columns = Some (described fine.0.reply) }) next (λ o. known) (known_none start next c st'))
+        subst (λ (r : Request). KnownAt (widths_of (asked_by rule (readied learnt arguments filling r))) next) told
+        (told_known rule (record x { arguments = arguments; filling = filling }) (described_with learnt (record { parameters = parameters_after [] fine.0.reply; columns = Some (columns_of (described fine.0.reply)) })) next
+        (λ o. subst (λ (w : Option ℕ). KnownAt (known_under (name_of x.statement) w) next) (sym (learnt_width learnt (Some (columns_of (described fine.0.reply))))) (known_columns next (name_of x.statement) (described fine.0.reply) known)) (known_none start next c st'))
     by (inr (inl (v, is))) =
         let fine = subst (λ (y : Call). EndsFine a.ledger (request_of d y) said slice items c.ledger (Ok (answers.Next after))) is e in
         let told : request_behind v.after ≡ after = same_Some (request_behind v.after) after (next_is (requests.Evict v) fine.0.reply fine.0.status after fine.1).1 in
-        subst (λ (r : Request). KnownAt (widths_of (asked_by rule r)) next) (sym (after_readied arguments filling v.after) ∙ ap (readied arguments filling) told) (closed_known rule next v.after (after_known start next c v.after st' k (evicts v is)) (known_none start next c st'))
+        subst (λ (r : Request). KnownAt (widths_of (asked_by rule r)) next) (sym (after_readied learnt arguments filling v.after) ∙ ap (readied learnt arguments filling) told) (closed_known rule next v.after (after_known start next c v.after st' k (evicts v is)) (known_none start next c st'))
     by (inr (inr (inl (l, is)))) =
         let fine = subst (λ (y : Call). EndsFine a.ledger (request_of d y) said slice items c.ledger (Ok (answers.Next after))) is e in
         let told : requests.Describe l.extended ≡ after = same_Some (requests.Describe l.extended) after (next_is (requests.Look l) fine.0.reply fine.0.status after fine.1).1 in
         let h = looks l is in
-        let y : Extended = record l.extended { arguments = arguments; filling = filling } in
-        subst (λ (r : Request). KnownAt (widths_of (asked_by rule (readied arguments filling r))) next) told (sought_known l.extended y refl refl refl refl h.0 h.1)
+        subst (λ (r : Request). KnownAt (widths_of (asked_by rule (readied learnt arguments filling r))) next) told (sought_known l.extended h.0 h.1)
       where
-        sought_known : (x y : Extended) → y.described ≡ x.described → y.statement ≡ x.statement → y.sql ≡ x.sql → y.is_looked_up ≡ x.is_looked_up → IsSought at.rule x x.described → ((t : Described) → x.described ≡ Some t → nat_eq x.statement 0 ≡ false → IsKeptAt next (entry_of x t)) → KnownAt (widths_of (asked_by rule (requests.Describe y))) next
-        sought_known x y d n q u s h = for x.described refl s
+        sought_known : (x : Extended) → IsSought at.rule x x.described → ((t : Described) → x.described ≡ Some t → nat_eq x.statement 0 ≡ false → IsKeptAt next (entry_of x t)) → KnownAt (widths_of (asked_by rule (requests.Describe (ready learnt arguments filling x)))) next
+        sought_known x s h = for x.described refl s
           where
-            entries : (t : Described) → entry_of x t ≡ entry_of y t
-            entries t = ap₂ (λ (sql : List ℕ) (number : ℕ). record { sql = sql; statement = number; parameters = t.parameters; columns = unwrap_or t.columns [] }) (sym q) (sym n)
+            y : Extended
+            y = ready learnt arguments filling x
 
             for : (o : Option Described) → x.described ≡ o → IsSought at.rule x o → KnownAt (widths_of (asked_by rule (requests.Describe y))) next
-            for None e s = known_undescribed rule start next c y (d ∙ e) st'
+            for None e s = known_undescribed rule start next c y (ap (option_map (described_with learnt)) e) st'
             for (Some t) e s =
-                known_looked rule start next c y st' (record { was = record { description = s.was.description; is = d ∙ s.was.is; columns = s.was.columns }; looked = u ∙ s.looked })
-                (λ v is z. subst (IsKeptAt next) (entries v) (h v (sym d ∙ is) (ap (λ (k : ℕ). nat_eq k 0) (sym n) ∙ z)))
+                known_looked rule start next c y st' (record { was = was_ready learnt arguments filling x s.was; looked = s.looked })
+                (λ v is z. subst (λ (u : Described). IsKeptAt next (entry_of x u)) (same_Some (described_with learnt t) v (sym (ap (option_map (described_with learnt)) e) ∙ is)) (kept_learnt next x t learnt (h t e z)))
     by (inr (inr (inr (f, is)))) =
         let fine = subst (λ (y : Call). EndsFine a.ledger (request_of d y) said slice items c.ledger (Ok (answers.Next after))) is e in
         let told : requests.Run (looked_behind f.bound) ≡ after = same_Some (requests.Run (looked_behind f.bound)) after (next_is (requests.Fill f) fine.0.reply fine.0.status after fine.1).1 in
-        subst (λ (r : Request). KnownAt (widths_of (asked_by rule (readied arguments filling r))) next) told (runs_known start next c f.bound f.bound.again st' (fills f is))
+        subst (λ (r : Request). KnownAt (widths_of (asked_by rule (readied learnt arguments filling r))) next) told (runs_known start next c f.bound f.bound.again st' (fills f is))
 
 -- and the one that is asked next
 pub known_next : (rule : Rule) (start : StreamSeen) (at next : Place) (a c : ConnSeen) (d : ℕ) (call : Call) (told asked : Request) (said : List FrontendMessage) (slice : List Frame) (items : List CallItem) → StandsAt start at a → StandsAt start next c → Keeps next → next.groups ≡ at.groups ++ groups_of (request_of d call) → heard next.frames ≡ heard at.frames ++ slice
@@ -304,8 +314,8 @@ known_next rule start at next a c d call told asked said slice items st st' k gr
 known_next rule start at next a c d call told asked said slice items st st' k groups frames evicts looks fills e (inr (inl l)) =
     subst (λ (r : Request). KnownAt (widths_of (asked_by rule r)) next) (sym l.asks) (known_none start next c st')
 known_next rule start at next a c d call told asked said slice items st st' k groups frames evicts looks fills e (inr (inr (inr (inl r)))) =
-    subst (λ (q : Request). KnownAt (widths_of (asked_by rule q)) next) (ap (readied r.arguments r.filling) r.tells ∙ sym r.asks)
-    (ready_known r.arguments r.filling rule start at next a c d call told said slice items st st' k groups frames evicts looks fills e)
+    subst (λ (q : Request). KnownAt (widths_of (asked_by rule q)) next) (ap (readied r.learnt r.arguments r.filling) r.tells ∙ sym r.asks)
+    (ready_known r.learnt r.arguments r.filling rule start at next a c d call told said slice items st st' k groups frames evicts looks fills e)
 known_next rule start at next a c d call told asked said slice items st st' k groups frames evicts looks fills e (inr (inr (inr (inr (inl f))))) =
     subst (λ (r : Request). KnownAt (widths_of (asked_by rule r)) next) (sym f.asks) (known_none start next c st')
 known_next rule start at next a c d call told asked said slice items st st' k groups frames evicts looks fills e (inr (inr (inr (inr (inr f))))) =
@@ -439,7 +449,7 @@ asked_holds rule old next call reply told e s k is evicts = by told (told_whole 
     tells p (Some e) = tt
     tells p None = tt
 
-    prepares : (p : Prepared) (o : Option (List FieldDescription)) → IsHeldFor next (exchange_for (prepare_by rule p o))
+    prepares : (p : Prepared) (o : Option (List PgColumn)) → IsHeldFor next (exchange_for (prepare_by rule p o))
     prepares p (Some columns) = tt
     prepares p None = tells p (entry_at p.sql rule.cache.entries)
 
@@ -472,12 +482,14 @@ next_holds rule old next call reply told asked handed (inl same) s k is evicts f
 next_holds rule old next call reply told asked handed (inr (inr (inl f))) s k is evicts fills h =
     subst (λ (r : Request). IsHeldFor next (exchange_for (asked_by rule r))) (sym f.asks) (subst (λ (r : Request). IsHeldFor next (exchange_for r)) (sym (undescribed_asks rule (numbered_by f.oids f.extended) f.undescribed)) tt)
 next_holds rule old next call reply told asked handed (inr (inr (inr (inl r)))) s k is evicts fills h =
-    let y : Extended = record r.extended { arguments = r.arguments; filling = r.filling } in
+    let y : Extended = ready r.learnt r.arguments r.filling r.extended in
+    let d : Described = described_with r.learnt r.description in
+    let tells : y.described ≡ Some d = ap (option_map (described_with r.learnt)) r.described in
     let w : WasDescribed r.extended = subst (λ (o : Option Described). IsToldFor old r.extended o) r.described (subst (IsToldWhole old) r.tells (told_whole old call reply told handed s)) in
     let so : next.rule ≡ held_by rule (requests.Describe y) = is ∙ ap (held_by rule) r.asks in
     subst (λ (q : Request). IsHeldFor next (exchange_for (asked_by rule q))) (sym r.asks)
-    (subst (λ (o : Option Described). IsHeldFor next (exchange_for (behind_description rule y o))) (sym r.described)
-    (told_holds rule old next y (Some r.description) r.described (record { description = w.description; is = w.is; columns = w.columns }) k (so ∙ ap (λ (o : Option Described). held_behind rule y o) r.described)))
+    (subst (λ (o : Option Described). IsHeldFor next (exchange_for (behind_description rule y o))) (sym tells)
+    (told_holds rule old next y (Some d) tells (was_ready r.learnt r.arguments r.filling r.extended w) k (so ∙ ap (λ (o : Option Described). held_behind rule y o) tells)))
 next_holds rule old next call reply told asked handed (inr (inr (inr (inr (inl f))))) s k is evicts fills h =
     let runs : RunsAt next f.bound f.bound.again = subst (ToldRuns next) f.tells (told_runs next call reply told handed k evicts fills) in
     subst (λ (r : Request). IsHeldFor next (exchange_for (asked_by rule r))) (sym f.asks) (runs_so f.bound.again runs)

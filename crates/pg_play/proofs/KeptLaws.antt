@@ -1,4 +1,9 @@
 -- Which statements the server keeps, from one exchange of a play to the next.
+use Rattle.pg_play.proofs.ColumnLaws.{kept_learnt, learnt_some}
+use Rattle.pg_conn.specs.Looking.{described_with}
+use Rattle.pg_columns.proofs.ToldLaws.{told_columns}
+use Rattle.pg_columns.specs.Told.{columns_of, told_by as fields_in}
+use Rattle.pg_columns.specs.declared.column.PgColumn.{PgColumn}
 use Rattle.pg_call.specs.declared.statement.Bound.{Bound}
 use Rattle.std.proofs.Common.{◌≡◌, ◌≢◌, ◌⊎◌, ◌-◌, ℕ, zero, suc, ◌+◌, ◌<◌, ◌≤◌, ◌^◌, nat_eq, ltb, leb, Bool, true, false, not, cond, ◌&&◌, ◌||◌, List, [], ◌∷◌, ◌++◌, length, map, option_to_list, find, subst, refl, sym, ap, ◌∙◌, arith, append_assoc, append-nil, Option, Some, None, is_some, option_map, unwrap_or, inl, inr, IfSome, bytes_eq}
 use Rattle.std.specs.List.{AllByRecursion, count_by, last_or}
@@ -59,7 +64,7 @@ use Rattle.pg_play.specs.Plays.{Plays_call}
 use Rattle.pg_play.proofs.PlaceLaws.{all_split, readies-append}
 use Rattle.pg_play.proofs.SettleLaws.{left_frames, left_groups}
 use Rattle.pg_play.proofs.SettledLaws.{cleanup_by, cleanup_polled}
-use Rattle.pg_play.proofs.ExchangeLaws.{IsLooked, LeadsTo, looks_or, told_by, undescribed_held}
+use Rattle.pg_play.proofs.ExchangeLaws.{IsLooked, LeadsTo, looks_or, told_by, undescribed_held, ready}
 use Rattle.pg_play.proofs.NameLaws.{apart_last, each_two, named_some}
 use Rattle.pg_play.proofs.NextLaws.{after_further}
 
@@ -156,6 +161,10 @@ pub record WasDescribed (x : Extended) : Type 0 where
   pub description : Described
   pub is : x.described ≡ Some description
   pub columns : description.columns ≡ Some (unwrap_or description.columns [])
+
+-- it is so whatever its columns tell
+pub was_ready : (a : Learnt) (arguments : ArgumentsSeen) (filling : Option (List ℕ)) (x : Extended) → WasDescribed x → WasDescribed (ready a arguments filling x)
+was_ready a arguments filling x w = record { description = described_with a w.description; is = ap (option_map (described_with a)) w.is; columns = learnt_some a w.description.columns w.columns }
 
 -- something is looked up for it
 pub record IsLooking (x : Extended) : Type 0 where
@@ -299,7 +308,7 @@ after_sound rule (afters.Run bound) = tt
 after_sound rule (afters.Fill filling) = tt
 after_sound rule (afters.Prepare prepared) = by prepared.columns
   where
-    by : (o : Option (List FieldDescription)) → IsSound rule (exchange_for (prepare_by rule (record prepared { declared = None }) o))
+    by : (o : Option (List PgColumn)) → IsSound rule (exchange_for (prepare_by rule (record prepared { declared = None }) o))
     by (Some columns) = tt
     by None = tells (entry_at prepared.sql rule.cache.entries)
       where
@@ -317,7 +326,7 @@ IsToldWhole rule (requests.Describe x) = IsToldFor rule x x.described
 IsToldWhole rule _ = Unit {0}
 
 told_was : (rule : Rule) (x : Extended) (reply : List BackendMessage) → IsToldWhole rule (told_by x reply)
-told_was rule x reply = record { description = record { parameters = parameters_after [] reply; columns = Some (described reply) }; is = refl; columns = refl }
+told_was rule x reply = record { description = record { parameters = parameters_after [] reply; columns = Some (columns_of (described reply)) }; is = refl; columns = refl }
 
 after_whole : (rule : Rule) (a : After) → IsToldWhole rule (request_behind a)
 after_whole rule (afters.Run bound) = tt
@@ -376,9 +385,9 @@ next_sound rule old call reply told next e (inr (inl l)) s n o =
     by (Some d) e s = subst (λ (o : Option Described). IsSought rule (record l.extended { is_looked_up = true }) o) (sym e) s
 next_sound rule old call reply told next e (inr (inr (inr (inl r)))) s n o =
     let w : WasDescribed r.extended = subst (λ (o : Option Described). IsToldFor old r.extended o) r.described (subst (IsToldWhole old) r.tells (told_whole old call reply told e s)) in
-    let y = record r.extended { arguments = r.arguments; filling = r.filling } in
+    let y = ready r.learnt r.arguments r.filling r.extended in
     subst (λ (q : Request). IsSound (held_by rule q) (exchange_for (asked_by rule q))) (sym r.asks)
-    (described_sound rule y (record { description = w.description; is = w.is; columns = w.columns }) (subst (λ (q : Request). IsOrderly (held_by rule q)) r.asks o))
+    (described_sound rule y (was_ready r.learnt r.arguments r.filling r.extended w) (subst (λ (q : Request). IsOrderly (held_by rule q)) r.asks o))
 next_sound rule old call reply told next e (inr (inr (inr (inr (inl f))))) s n o = subst (λ (r : Request). IsSound (held_by rule r) (exchange_for (asked_by rule r))) (sym f.asks) tt
 next_sound rule old call reply told next e (inr (inr (inr (inr (inr f))))) s n o = subst (λ (r : Request). IsSound (held_by rule r) (exchange_for (asked_by rule r))) (sym f.asks) tt
 next_sound rule old call reply told next e (inr (inr (inl f))) s n o =
@@ -640,7 +649,7 @@ pub record DescribedAt (at next : Place) (x : Extended) (own cleanup : List Grou
   pub can : CanBeSaid (requests.Describe x)
 
 new_kept : (at next : Place) (x : Extended) (own cleanup : List Group) (slice : List Frame) (response : List BackendMessage) → DescribedAt at next x own cleanup slice response → ((n : Named) → AllByRecursion (Spares n) cleanup) → next.groups ≡ at.groups ++ (own ++ cleanup)
-    → (d : Described) → d.columns ≡ Some (described response) → IsKeptAt next (entry_of (record x { described = Some d }) d)
+    → (d : Described) → d.columns ≡ Some (columns_of (described response)) → IsKeptAt next (entry_of (record x { described = Some d }) d)
 new_kept at next x own cleanup slice response t cleans groups d columns = record {
   before = at.groups;
   later = cleanup;
@@ -654,7 +663,7 @@ new_kept at next x own cleanup slice response t cleans groups d columns = record
   ends = t.ends;
   has_frames = t.has_frames;
   well = t.well;
-  columns = sym (ap (λ (o : Option (List FieldDescription)). unwrap_or o []) columns);
+  columns = ap (λ (o : Option (List PgColumn)). fields_in (unwrap_or o [])) columns ∙ told_columns (described response);
 }
 
 -- what was described stands at the server where it has a name, and is newer than all that are kept
@@ -689,7 +698,7 @@ described_holds at next rule x own cleanup slice response t cleans groups o numb
     )
   where
     told : Described
-    told = record { parameters = parameters_after [] response; columns = Some (described response) }
+    told = record { parameters = parameters_after [] response; columns = Some (columns_of (described response)) }
 
     is_new : nat_eq x.statement 0 ≡ false → (x.statement ≡ 0) ⊎ ((x.statement ≡ rule.next) × (rule.next < 2 ^ 32)) → (x.statement ≡ rule.next) × (rule.next < 2 ^ 32)
     is_new e (inl z) = let y = sym (ap (λ (n : ℕ). nat_eq n 0) z) ∙ e in absurd cc
@@ -719,14 +728,20 @@ leaves_told : (at next : Place) (rule : Rule) (told : Request) → CanHoldTold n
 leaves_told at next rule (requests.Describe x) h l = holds_told at next rule x h l
 leaves_told at next rule _ h l = l
 
+-- whatever its columns tell
+ready_holds : (at : Place) (rule : Rule) (a : Learnt) (arguments : ArgumentsSeen) (filling : Option (List ℕ)) (x : Extended) (d : Described) → x.described ≡ Some d → CanHold at rule x → CanHold at rule (ready a arguments filling x)
+ready_holds at rule a arguments filling x d told h t is e =
+    let same : described_with a d ≡ t = same_Some (described_with a d) t (sym (ap (option_map (described_with a)) told) ∙ is) in
+    let k = h d told e in
+    subst (λ (u : Described). IsKeptAt at (entry_of x u) × IsNewest (entry_of x u) rule) same (kept_learnt at x d a k.0, k.1)
+
 -- what is asked next, by what was handed on
 leaves_asked : (at next : Place) (rule : Rule) (told asked : Request) → LeadsTo told asked → CanHoldTold next rule told → LeavesKept at next rule → LeavesKept at next (held_by rule asked)
 leaves_asked at next rule told asked (inl same) h l = subst (λ (r : Request). LeavesKept at next (held_by rule r)) (sym same) (leaves_told at next rule told h l)
 leaves_asked at next rule told asked (inr (inl k)) h l = subst (λ (r : Request). LeavesKept at next (held_by rule r)) (sym k.asks) l
 leaves_asked at next rule told asked (inr (inr (inr (inl r)))) h l =
-    let y = record r.extended { arguments = r.arguments; filling = r.filling } in
     let holds : CanHold next rule r.extended = subst (CanHoldTold next rule) r.tells h in
-    subst (λ (q : Request). LeavesKept at next (held_by rule q)) (sym r.asks) (holds_told at next rule y (λ d is e. holds d is e) l)
+    subst (λ (q : Request). LeavesKept at next (held_by rule q)) (sym r.asks) (holds_told at next rule (ready r.learnt r.arguments r.filling r.extended) (ready_holds next rule r.learnt r.arguments r.filling r.extended r.description r.described holds) l)
 leaves_asked at next rule told asked (inr (inr (inr (inr (inl f))))) h l = subst (λ (r : Request). LeavesKept at next (held_by rule r)) (sym f.asks) l
 leaves_asked at next rule told asked (inr (inr (inr (inr (inr f))))) h l = subst (λ (r : Request). LeavesKept at next (held_by rule r)) (sym f.asks) l
 leaves_asked at next rule told asked (inr (inr (inl f))) h l =

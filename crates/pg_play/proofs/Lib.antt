@@ -9,6 +9,7 @@ pub mod StepLaws
 pub mod PlaceLaws
 pub mod ShownLaws
 pub mod ToldLaws
+pub mod ColumnLaws
 pub mod ExchangeLaws
 pub mod CauseLaws
 pub mod LawfulLaws

@@ -7,7 +7,6 @@ use Rattle.pg_wire.specs.Bytes.{HasNoNul}
 use Rattle.pg_wire.specs.Encoding.{Refuses}
 use Rattle.pg_wire.specs.Frontend.{CopyFail, frontend_frame}
 use Rattle.pg_wire.specs.Reports.{code_of}
-use Rattle.pg_columns.specs.Told.{columns_of}
 use Rattle.pg_request.specs.Queries.{QueryText}
 use Rattle.pg_resolve.specs.Nullable.{RefusesColumns}
 use Rattle.pg_nullable.specs.Nulls.{AsksNulls}
@@ -42,19 +41,19 @@ asking_nulls step waits query = record step { call = calls.FetchAll query; polls
 -- nothing comes behind a preparation that failed or was dropped, or that told of no column; too many columns are refused
 abbrev pub EndsAlone : End → End → Type 0
 EndsAlone (ends.Ok (Described parameters fields)) end =
-    ((columns_of fields ≡ []) × (end ≡ ends.Ok (Described parameters fields)))
-    ⊎ ((e : Error) × (end ≡ ends.Err e) × RefusesColumns (length (columns_of fields)) e)
+    ((fields ≡ []) × (end ≡ ends.Ok (Described parameters fields)))
+    ⊎ ((e : Error) × (end ≡ ends.Err e) × RefusesColumns (length fields) e)
 EndsAlone first end = end ≡ first
 
 -- the query asks of the columns that were told
 abbrev pub AsksBehind : End → QueryText → Type 0
-AsksBehind (ends.Ok (Described parameters fields)) query = AsksNulls (columns_of fields) query
+AsksBehind (ends.Ok (Described parameters fields)) query = AsksNulls fields query
 AsksBehind first query = ⊥
 
 abbrev pub GoesOn : End → Result (Option QueryText) Error → Type 0
-GoesOn (ends.Ok (Described parameters fields)) (Ok None) = columns_of fields ≡ []
-GoesOn (ends.Ok (Described parameters fields)) (Ok (Some query)) = AsksNulls (columns_of fields) query
-GoesOn (ends.Ok (Described parameters fields)) (Err e) = RefusesColumns (length (columns_of fields)) e
+GoesOn (ends.Ok (Described parameters fields)) (Ok None) = fields ≡ []
+GoesOn (ends.Ok (Described parameters fields)) (Ok (Some query)) = AsksNulls fields query
+GoesOn (ends.Ok (Described parameters fields)) (Err e) = RefusesColumns (length fields) e
 GoesOn first query = query ≡ Ok None
 
 -- a row whose first column has a truth value or a null

@@ -7,6 +7,7 @@ use Rattle.pg_wire.specs.Backend.{BackendMessage, backend_frame, HasBackendFrame
 use Rattle.pg_wire.specs.Groups.{EndsReady}
 use Rattle.pg_exchanges.specs.Answering.{described, describing, IsNoError}
 use Rattle.pg_exchanges.specs.Keeping.{Named, Spares}
+use Rattle.pg_columns.specs.Told.{told_by}
 use Rattle.pg_rule.specs.declared.cache.Entry.{Entry}
 use Rattle.pg_rule.specs.Rules.{IsOrderly}
 use Rattle.pg_call.specs.Requests.{Group, name_of}
@@ -32,7 +33,7 @@ pub record IsKeptAt (at : Place) (e : Entry) : Type 0 where
   pub ends : EndsReady told
   pub has_frames : AllByRecursion HasBackendFrame told
   pub well : AllByRecursion IsNoError told
-  pub columns : described told ≡ e.columns
+  pub columns : told_by e.columns ≡ described told
 
 -- So it is with each that is kept, or is held to be kept.
 pub record Keeps (at : Place) : Type 0 where
