@@ -13,6 +13,7 @@
 //!     first         `fetch_optional` of it, told by whether it gives one
 //!     prepare       `prepare_with` of a statement, told by how many parameters it has, and by its columns with their types and origins
 //!     describe      `describe` of it, told by its columns and by whether each may be null
+//!     row           `fetch_optional` of it, which is kept, told in the same way by the columns of its row
 //!     next          `next_buffered`
 //!     take          `take_lost`, told by what each link has taken
 //!     lazy          a loss is told before the reconnect

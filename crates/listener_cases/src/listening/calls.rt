@@ -2,7 +2,7 @@
 ghost use Rattle.std.specs.Prelude.{◌≡◌};
 
 use crate::listening::polling::{change, fetch_many, fetch_optional, recv, try_recv};
-use crate::listening::statements::{make_describe, make_prepare};
+use crate::listening::statements::{make_describe, make_prepare, make_row};
 use crate::listening::telling::{changed, lost, received, tried};
 use case_tools::push_error;
 use pg_conn::{MemoryDial, Query};
@@ -195,6 +195,7 @@ where
         "first" => return make_first(rt, alloc, out, listener),
         "prepare" => return make_prepare(rt, alloc, out, listener),
         "describe" => return make_describe(rt, alloc, out, listener),
+        "row" => return make_row(rt, alloc, out, listener),
         "next" => return next(out, listener),
         "take" => return take(out, listener),
         "lazy" => listener.eager_reconnect(false),

@@ -1,9 +1,10 @@
-//! A listener that prepares and describes a statement.
+//! A listener that prepares and describes a statement, and runs one that is kept.
 ghost use Rattle.std.specs.Prelude.{◌≡◌};
 
 use crate::listening::calls::POLLS;
+use crate::listening::polling::fetch_optional;
 use case_tools::push_error;
-use pg_conn::{ColumnOrigin, Dial, MemoryDial, PgColumn, PgStatement, Preparation};
+use pg_conn::{ColumnOrigin, Dial, MemoryDial, PgColumn, PgStatement, Preparation, Query};
 use pg_listen::{PoolLedger, PoolSeat};
 use pg_listeners::{Describe, PgListener, PoolHolder, SeatHolder};
 use pg_stream::MemoryLink;
@@ -99,6 +100,29 @@ where
             write!(out, " parameters {}", told.parameter_oids().len())?;
             push_columns(out, told.columns())?;
         }
+        Poll::Ready(Err(error)) => push_error(out, &error)?,
+    }
+    Ok(())
+}
+
+/// A statement is kept and run, and told by the columns of its row.
+pub(crate) fn make_row<G, P, S, R>(
+    rt: &R,
+    alloc: Global,
+    out: &mut String,
+    listener: &mut PgListener<G, P, S, MemoryDial>,
+) -> Result<(), Error>
+where
+    G: PoolLedger,
+    P: PoolHolder<G, MemoryLink>,
+    S: SeatHolder<Seat = PoolSeat<G>>,
+    R: Wait,
+{
+    let query = Query::new(alloc, "SELECT")?;
+    match fetch_optional(rt, listener, query, POLLS) {
+        Poll::Pending => out.push_str(" pending")?,
+        Poll::Ready(Ok(Some(row))) => push_columns(out, row.columns())?,
+        Poll::Ready(Ok(None)) => out.push_str(" no row")?,
         Poll::Ready(Err(error)) => push_error(out, &error)?,
     }
     Ok(())
