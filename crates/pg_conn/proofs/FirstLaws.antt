@@ -1,6 +1,7 @@
 -- Which calls begin by looking up what they ask first, and how their first poll ends where that fails.
 use Rattle.std.proofs.lemmas.Option.{same_Some}
 use Rattle.std.proofs.Common.{◌≡◌, ◌≢◌, ◌⊎◌, ℕ, inl, inr, refl, sym, ap, ◌∙◌, subst, Bool, true, false, cond, nat_eq, not, ◌&&◌, ◌==◌, List, [], ◌∷◌, length, Option, Some, None, is_some, unwrap_or, option_map, Result, Ok, Err, IfErr, OnOk}
+use Rattle.pg_learning.specs.Telling.{learnt_columns}
 use Rattle.pg_wire.proofs.Tests.{both_true}
 use Rattle.futures.specs.declared.task.Poll.{Poll}
 use Rattle.futures.specs.declared.task.Poll.TheVariants.{Ready}
@@ -33,7 +34,7 @@ use Rattle.pg_call.specs.declared.statement.Goal.TheVariants as goals
 use Rattle.pg_call.specs.declared.statement.Bound.{Bound}
 use Rattle.pg_call.specs.declared.statement.Prepared.{Prepared}
 use Rattle.pg_call.specs.Hearing.{asked_in, without_asked}
-use Rattle.pg_call.specs.Requests.{CanBeSaid, IsRefusal, behind_goal, bound_by, bound_for, declared_for, filled_bound, filled_for, numbered_by, raw, request_behind}
+use Rattle.pg_call.specs.Requests.{CanBeSaid, IsRefusal, behind_goal, bound_by, bound_for, declared_for, filled_bound, filled_for, numbered_by, raw, request_behind, with_columns}
 use Rattle.pg_learning.specs.declared.learnt.Learnt.{Learnt}
 use Rattle.pg_learning.specs.Learning.{FailsSeeking}
 use Rattle.pg_resolve.specs.Cached.{CacheSeen}
@@ -303,6 +304,15 @@ pub asks_err : {A X : Type 0} (result : Result X Error) (a s c b : ConnOf A) (to
 asks_err {A} (Err e) a s c b told asks is in_call taken h =
     asks_fail a c b told e asks (subst (λ (x : ConnOf A). asked_in x.call ≡ Some told) is in_call) (taken ∙ ap (λ (x : ConnOf A). record x { call = without_asked x.call }) is) h
 asks_err (Ok u) a s c b told asks is in_call taken h = tt
+
+-- ---- the columns that tell what was looked up
+
+pub told_none : (a : Learnt) (x : Extended) → x.described ≡ None → x ≡ telling a x
+told_none a x e = ap (λ (o : Option Described). record x { described = o }) (e ∙ ap (option_map (described_with a)) (sym e))
+
+pub told_some : (a : Learnt) (x y : Extended) (d : Described) (columns : Option (List PgColumn)) → x.described ≡ Some d → columns ≡ option_map (learnt_columns a) d.columns → y ≡ with_columns columns x → y ≡ telling a x
+told_some a x y d columns e c is =
+    is ∙ ap (λ (o : Option Described). record x { described = o }) (ap (option_map (λ (t : Described). record t { columns = columns })) e ∙ ap (λ (cs : Option (List PgColumn)). Some (record d { columns = cs })) c ∙ ap (option_map (described_with a)) (sym e))
 
 -- ---- the OIDs of types that were looked up
 

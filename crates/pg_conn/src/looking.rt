@@ -1,9 +1,8 @@
 //! What is looked up before a statement is described, and behind that.
-ghost use Rattle.std.specs.Prelude.{◌≡◌, ◌≢◌, ◌⊎◌, [], Some, None, false, not, is_some, ◌&&◌, option_and_then, option_copied, unwrap_or, IsSome, IfOk, IfErr, OnOk, OnErr};
+ghost use Rattle.std.specs.Prelude.{◌≡◌, ◌≢◌, ◌⊎◌, [], Some, None, false, not, is_some, ◌&&◌, option_map, unwrap_or, IsSome, IfOk, IfErr, OnOk, OnErr};
 ghost use Rattle.pg_rule.specs.Caches.{entry_at};
 ghost use Rattle.pg_call.specs.Hearing.{asked_in, without_asked};
 ghost use Rattle.pg_call.specs.Requests.{CanBeSaid, IsRefusal, declared_for, filled_bound, filled_for, numbered_by};
-ghost use Rattle.pg_call.specs.declared.statement.Described.{Described as DescribedOf};
 ghost use Rattle.pg_call.specs.declared.statement.Extended.{Extended as ExtendedOf};
 ghost use Rattle.pg_request.specs.Asked.{declared_names};
 ghost use Rattle.pg_call.specs.declared.request.Request as request;
@@ -36,16 +35,6 @@ fn holes_for(goal: Goal, arguments: &Arguments) -> &[Declared]
     match goal {
         Goal::Run(_) => arguments.holes(),
         Goal::Prepare => &[],
-    }
-}
-
-// The columns that were described, where they were.
-fn described_columns(described: &Option<Described>) -> Option<&PgColumns>
-    ensures { option_copied result ≡ option_and_then (λ (d : DescribedOf). d.columns) described.now }
-{
-    match described {
-        Some(described) => described.columns.as_ref(),
-        None => None,
     }
 }
 
@@ -245,24 +234,33 @@ impl<L> PgConnection<L> {
         Ok(next)
     }
 
-    // The columns with what was looked up of them.
-    fn learnt_columns(&self, columns: &PgColumns) -> Result<PgColumns, AllocError>
-        ensures { IfOk result (λ told. told ≡ learnt_columns self.now.learnt columns.now) }
+    // The columns that were described, with what was looked up of them.
+    fn learnt_columns(
+        &self,
+        columns: &Option<PgColumns>,
+    ) -> Result<Option<PgColumns>, AllocError>
+        ensures { IfOk result (λ told. told ≡ option_map (learnt_columns self.now.learnt) columns.now) }
     {
-        let told = self.learnt.columns(self.alloc, columns.as_slice())?;
-        PgColumns::of(self.alloc, told)
+        match columns {
+            Some(columns) => {
+                let told = self.learnt.columns(self.alloc, columns.as_slice())?;
+                Ok(Some(PgColumns::of(self.alloc, told)?))
+            }
+            None => Ok(None),
+        }
     }
 
     // A statement whose columns tell what was looked up of them. Only want of memory refuses it.
+    #[tactic(auto, using(crate::proofs::FirstLaws::told_some, crate::proofs::FirstLaws::told_none))]
     fn told(&self, extended: Extended) -> Result<Extended, Error>
         ensures told { IfOk result (λ x. x ≡ telling self.now.learnt extended) }
         ensures memory { IfErr result (λ e. e ≡ Error.OutOfMemory) }
     {
-        let Some(columns) = described_columns(&extended.described) else {
+        let Some(described) = &extended.described else {
             return Ok(extended);
         };
-        let told = self.learnt_columns(columns)?;
-        Ok(extended.with_columns(Some(told)))
+        let columns = self.learnt_columns(&described.columns)?;
+        Ok(extended.with_columns(columns))
     }
 
     // What is asked of a statement that was described, behind the lookups for that.
