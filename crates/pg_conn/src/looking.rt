@@ -235,10 +235,7 @@ impl<L> PgConnection<L> {
     }
 
     // The columns that were described, with what was looked up of them.
-    fn learnt_columns(
-        &self,
-        columns: &Option<PgColumns>,
-    ) -> Result<Option<PgColumns>, AllocError>
+    fn learnt_columns(&self, columns: &Option<PgColumns>) -> Result<Option<PgColumns>, AllocError>
         ensures { IfOk result (λ told. told ≡ option_map (learnt_columns self.now.learnt) columns.now) }
     {
         match columns {
