@@ -6,7 +6,6 @@ use Rattle.std.proofs.lemmas.List.{length-map}
 use Rattle.pg_wire.specs.declared.message.row_description.Field.{Field}
 use Rattle.pg_wire.specs.Backend.{FieldDescription}
 use Rattle.pg_wire.specs.Fields.{described, TellsNone}
-use Rattle.pg_columns.specs.declared.column.PgColumn.{PgColumn}
 use Rattle.pg_columns.specs.Told.{table_of, attribute_of, field_of, made_columns, columns_of, told_by}
 
 pub told_made : (n : ℕ) (fs : List Field) → told_by (made_columns n fs) ≡ map described fs

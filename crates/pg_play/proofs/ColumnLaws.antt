@@ -21,8 +21,8 @@ use Rattle.pg_play.specs.Places.{Place}
 length_told : (columns : List PgColumn) → length (told_by columns) ≡ length columns
 length_told columns = length-map columns (λ (column : PgColumn). described column.field)
 
-pub told_width : {fields : List FieldDescription} {columns : List PgColumn} → told_by columns ≡ fields → length fields ≡ length columns
-told_width {fields} {columns} e = sym (ap (λ (t : List FieldDescription). length t) e) ∙ length_told columns
+pub told_width : (fields : List FieldDescription) (columns : List PgColumn) → told_by columns ≡ fields → length fields ≡ length columns
+told_width fields columns e = sym (ap (λ (t : List FieldDescription). length t) e) ∙ length_told columns
 
 -- nothing is learnt of what the server told of them
 told_learnt : (a : Learnt) (columns : List PgColumn) → told_by (learnt_columns a columns) ≡ told_by columns

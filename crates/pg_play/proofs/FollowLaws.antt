@@ -75,7 +75,7 @@ known_kept start at a e st positive k group slice front gs g l count =
     let begun : after_readys (length k.before) (heard at.frames ++ slice) ≡ map backend_frame k.told ++ (k.more ++ slice) = further ∙ ap (λ (f : List Frame). f ++ slice) k.answered ∙ append_assoc (map backend_frame k.told) k.more slice in
     let part : after_readys (length at.groups) (heard at.frames ++ slice) ≡ after_readys (owed at) slice =
     after_more (heard at.frames) slice (length at.groups) a.ledger.owed st.ledger st.between ∙ ap (λ (n : ℕ). after_readys n slice) (sym (owed_is start at a st)) in
-    subst (λ (n : ℕ). BeginsKnowing ((name_of e.statement, n) ∷ []) group (after_readys (owed at) slice ++ front ∷ [])) (told_width k.columns)
+    subst (λ (n : ℕ). BeginsKnowing ((name_of e.statement, n) ∷ []) group (after_readys (owed at) slice ++ front ∷ [])) (told_width (described k.told) e.columns k.columns)
     (lawful_keeps k.before (name_of e.statement) e.sql k.types k.later group (heard at.frames ++ slice) (after_readys (owed at) slice) (k.more ++ slice) front k.told
     (subst (AllByRecursion IsGroup) k.groups gs) g (named_nothing e.statement positive) k.spared (subst (λ (gs : List Group). MayHear (said_in (gs ++ group ∷ [])) ((heard at.frames ++ slice) ++ front ∷ [])) k.groups l) (count ∙ ap (λ (gs : List Group). length gs) k.groups) begun (ap (λ (gs : List Group). after_readys (length gs) (heard at.frames ++ slice)) (sym k.groups) ∙ part) k.ends k.has_frames k.well)
 

@@ -141,7 +141,7 @@ one_kept : (at : Place) (responses : List (List BackendMessage)) (after : Server
 one_kept at responses after e gs a h p (positive, k) =
     described_is_kept (named_of e) at.groups responses fresh_server after (named_nothing e.statement positive) (refl, refl) gs a
     (subst (λ (g : List Group). IsDescribedIn (named_of e) g responses) (sym k.groups)
-    (described_in (named_of e) k.before k.types k.later responses k.told (heard at.frames) k.more fresh_server after (subst (λ (g : List Group). AnswerGroups fresh_server g responses after) k.groups a) h p k.answered k.read k.ends k.has_frames k.well (told_width k.columns) k.spared))
+    (described_in (named_of e) k.before k.types k.later responses k.told (heard at.frames) k.more fresh_server after (subst (λ (g : List Group). AnswerGroups fresh_server g responses after) k.groups a) h p k.answered k.read k.ends k.has_frames k.well (told_width (described k.told) e.columns k.columns) k.spared))
 
 -- a lawful server has each statement that is kept
 pub names_kept : (at : Place) (responses : List (List BackendMessage)) (after : Server) → AllByRecursion IsGroup at.groups → Keeps at → AnswerGroups fresh_server at.groups responses after → AllByRecursion HasBackendFrame (flat_map (λ r. r) responses) → PiecesOf (parts (heard at.frames)) (map (map backend_frame) responses)
