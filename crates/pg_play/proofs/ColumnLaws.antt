@@ -15,7 +15,7 @@ use Rattle.pg_call.specs.declared.statement.Described.{Described}
 use Rattle.pg_call.specs.declared.statement.Extended.{Extended}
 use Rattle.pg_conn.specs.Looking.{described_with}
 use Rattle.pg_conn.specs.Statements.{entry_of}
-use Rattle.pg_play.specs.Kept.{IsKeptAt, named_of}
+use Rattle.pg_play.specs.Kept.{IsKeptAt}
 use Rattle.pg_play.specs.Places.{Place}
 
 length_told : (columns : List PgColumn) → length (told_by columns) ≡ length columns

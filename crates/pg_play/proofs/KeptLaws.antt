@@ -13,7 +13,7 @@ use Rattle.std.proofs.lemmas.Option.{same_Some}
 use Rattle.pg_wire.specs.Frame.{Frame}
 use Rattle.pg_wire.specs.Parts.{heard, is_ready}
 use Rattle.pg_wire.specs.Frontend.{FrontendMessage, Bind, ClosePortal, CopyData, CopyDone, CloseStatement, DescribeStatement, Execute, Parse, Query, Sync, statement_name}
-use Rattle.pg_wire.specs.Backend.{BackendMessage, backend_frame, HasBackendFrame, FieldDescription}
+use Rattle.pg_wire.specs.Backend.{BackendMessage, backend_frame, HasBackendFrame}
 use Rattle.pg_wire.specs.Groups.{EndsReady}
 use Rattle.pg_wire.proofs.Each.{each_join}
 use Rattle.pg_stream.specs.Streams.{StreamSeen}

@@ -8,7 +8,7 @@ use Rattle.pg_wire.specs.Frame.{Frame}
 use Rattle.pg_wire.specs.Parts.{is_ready, parts, onto_first, heard}
 use Rattle.pg_wire.specs.Frontend.{statement_name}
 use Rattle.pg_wire.specs.Pieces.{PiecesOf}
-use Rattle.pg_wire.specs.Backend.{BackendMessage, FieldDescription, ReadyForQuery, backend_frame, HasBackendFrame}
+use Rattle.pg_wire.specs.Backend.{BackendMessage, ReadyForQuery, backend_frame, HasBackendFrame}
 use Rattle.pg_wire.specs.Server.{Server, IsPrefixOf, fresh_server}
 use Rattle.pg_wire.specs.Groups.{AnswerGroups, AreUnready, EndsReady, IsGroup}
 use Rattle.pg_exchanges.specs.Answering.{described, describing, IsNoError}
