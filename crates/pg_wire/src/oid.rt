@@ -18,9 +18,16 @@ impl Model for Oid {
 }
 
 /// OIDs in order: contracts see the list of their numbers.
-#[derive(Debug, Drop)]
+#[derive(Debug)]
 pub struct Oids {
     oids: Vec<Oid>,
+}
+
+// By hand, so that whoever lets one go makes one call, and doesn't go through its parts.
+impl Drop for Oids {
+    fn drop(self) {
+        let Oids { oids: _ } = self;
+    }
 }
 
 impl Model for Oids {
