@@ -210,9 +210,9 @@ impl Request {
         match self {
             Request::Describe(extended) => (Rest::Describe(extended), raw_heading(kind)),
             Request::Run(bound) => (Rest::Nothing, bound.into_heading()),
-            Request::Look(lookup) => (Rest::Look(lookup.extended), raw_heading(kind)),
-            Request::Fill(filling) => (Rest::Fill(filling.bound), raw_heading(kind)),
-            Request::Evict(eviction) => (Rest::After(eviction.after), raw_heading(kind)),
+            Request::Look(lookup) => (Rest::Look(lookup.into_extended()), raw_heading(kind)),
+            Request::Fill(filling) => (Rest::Fill(filling.into_bound()), raw_heading(kind)),
+            Request::Evict(eviction) => (Rest::After(eviction.into_after()), raw_heading(kind)),
             Request::Prepare(prepared) => (Rest::Tell(prepared), raw_heading(kind)),
             _ => (Rest::Nothing, raw_heading(kind)),
         }

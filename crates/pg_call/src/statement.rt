@@ -660,12 +660,21 @@ impl Prepared {
 }
 
 /// What comes behind the close of a statement.
-#[derive(Debug, Drop)]
+#[derive(Debug)]
 pub enum After {
     Run(Bound),
     /// Types within its arguments are looked up first.
     Fill(Filling),
     Prepare(Prepared),
+}
+
+// By hand, so that whoever lets one go makes one call, and doesn't go through its parts.
+impl Drop for After {
+    fn drop(self) {
+        match self {
+            After::Run(_) | After::Fill(_) | After::Prepare(_) => {}
+        }
+    }
 }
 
 impl After {
@@ -705,13 +714,28 @@ impl After {
 }
 
 /// The close of the statement that was used longest ago, and what comes behind it.
-#[derive(Debug, Drop)]
+#[derive(Debug)]
 pub struct Eviction {
     pub statement: StatementId,
     pub after: After,
 }
 
+// By hand, so that whoever lets one go makes one call, and doesn't go through its parts.
+impl Drop for Eviction {
+    fn drop(self) {
+        let Eviction { statement: _, after: _ } = self;
+    }
+}
+
 impl Eviction {
+    /// What comes behind the close.
+    pub(crate) fn into_after(self) -> After
+        ensures { result ≡ self.after }
+    {
+        let Eviction { statement: _, after } = self;
+        after
+    }
+
     /// The same again. Only want of memory refuses it.
     pub fn to_copy(&self, alloc: Global) -> Result<Self, Error>
         ensures copy { IfOk result (λ x. x ≡ self.now) }
@@ -726,13 +750,28 @@ impl Eviction {
 }
 
 /// A lookup of types or of the names of columns, and the statement for which they are looked up.
-#[derive(Debug, Drop)]
+#[derive(Debug)]
 pub struct Lookup {
     pub text: Text,
     pub extended: Extended,
 }
 
+// By hand, so that whoever lets one go makes one call, and doesn't go through its parts.
+impl Drop for Lookup {
+    fn drop(self) {
+        let Lookup { text: _, extended: _ } = self;
+    }
+}
+
 impl Lookup {
+    /// The statement for which something is looked up.
+    pub(crate) fn into_extended(self) -> Extended
+        ensures { result ≡ self.extended }
+    {
+        let Lookup { text: _, extended } = self;
+        extended
+    }
+
     /// The same again. Only want of memory refuses it.
     pub fn to_copy(&self, alloc: Global) -> Result<Self, Error>
         ensures copy { IfOk result (λ x. x ≡ self.now) }
@@ -745,13 +784,28 @@ impl Lookup {
 }
 
 /// A lookup of types whose OIDs are open within the arguments of a statement, which is run behind it.
-#[derive(Debug, Drop)]
+#[derive(Debug)]
 pub struct Filling {
     pub text: Text,
     pub bound: Bound,
 }
 
+// By hand, so that whoever lets one go makes one call, and doesn't go through its parts.
+impl Drop for Filling {
+    fn drop(self) {
+        let Filling { text: _, bound: _ } = self;
+    }
+}
+
 impl Filling {
+    /// What is run behind the lookup.
+    pub(crate) fn into_bound(self) -> Bound
+        ensures { result ≡ self.bound }
+    {
+        let Filling { text: _, bound } = self;
+        bound
+    }
+
     /// The same again. Only want of memory refuses it.
     pub fn to_copy(&self, alloc: Global) -> Result<Self, Error>
         ensures copy { IfOk result (λ x. x ≡ self.now) }
