@@ -8,10 +8,18 @@ use std::marker::Model;
 
 /// A type of PostgreSQL: one of its built-in types, one that the database's catalog describes, or one that is only declared,
 /// by its name or its OID. (PostgreSQL manual, "pg_type".)
-#[derive(Debug, Drop)]
+#[derive(Debug)]
 #[cycle(types)]
 pub struct PgTypeInfo {
     of: Box<PgType>,
+}
+
+// By hand, so that whoever lets one go makes one call, and doesn't go through its parts.
+impl Drop for PgTypeInfo {
+    #[cycle(types)]
+    fn drop(self) {
+        let PgTypeInfo { of: _ } = self;
+    }
 }
 
 /// What a `PgTypeInfo` holds. It is seen through `oid`, `name` and `kind` alone.

@@ -723,7 +723,10 @@ pub struct Eviction {
 // By hand, so that whoever lets one go makes one call, and doesn't go through its parts.
 impl Drop for Eviction {
     fn drop(self) {
-        let Eviction { statement: _, after: _ } = self;
+        let Eviction {
+            statement: _,
+            after: _,
+        } = self;
     }
 }
 
@@ -732,7 +735,10 @@ impl Eviction {
     pub(crate) fn into_after(self) -> After
         ensures { result ≡ self.after }
     {
-        let Eviction { statement: _, after } = self;
+        let Eviction {
+            statement: _,
+            after,
+        } = self;
         after
     }
 
@@ -759,7 +765,10 @@ pub struct Lookup {
 // By hand, so that whoever lets one go makes one call, and doesn't go through its parts.
 impl Drop for Lookup {
     fn drop(self) {
-        let Lookup { text: _, extended: _ } = self;
+        let Lookup {
+            text: _,
+            extended: _,
+        } = self;
     }
 }
 
