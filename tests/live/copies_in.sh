@@ -5,7 +5,7 @@
 #
 #     tests/live/copies_in.sh PROGRAM [PORT]
 #
-# PROGRAM is the built program of `copying_cases`. Where this is run by root the server runs as the user `postgres`.
+# PROGRAM is the built program `pool_cases`. Where this is run by root the server runs as the user `postgres`.
 set -u
 port=54338
 . "$(dirname "$0")/session.sh"

@@ -3,40 +3,16 @@ ghost use Rattle.std.specs.Prelude.{◌≡◌, false, IfOk};
 ghost use Rattle.pg_auth.specs.Nonce.{IsNonce};
 ghost use Rattle.pool_cases.specs.Names.{IsOfPool};
 
-use arrayvec::ArrayString;
-use pg_auth::nonce_of;
-use pg_conn::{Dial, DialFailed};
+use case_tools::dialled;
+use pg_conn::Dial;
 use pg_listen::{Acquired, EstablishPooled, PgPool, PoolConnection, PoolLedger, PoolSeat, Ticket};
-use pg_options::PgConnectOptions;
 use pg_stream::Link;
-use pg_wire::{Error, IoCause, Poll};
+use pg_wire::{Error, Poll};
 use std::alloc::Global;
 use std::sync::Wait;
 
 /// A poll that answers `Pending` has waited for the link's own time.
 pub(crate) const POLLS: u32 = 1000;
-
-fn dial_error(failed: DialFailed) -> Error {
-    match failed {
-        DialFailed::Fault => Error::Io(IoCause::Fault),
-        DialFailed::OutOfMemory => Error::OutOfMemory,
-    }
-}
-
-// The words that a nonce is made of.
-fn draw<D: Dial>(dial: &mut D) -> Result<[u32; 128], Error> {
-    let mut words = [0; 128];
-    for word in words.iter_mut() {
-        *word = dial.word().map_err(dial_error)?;
-    }
-    Ok(words)
-}
-
-fn nonce<D: Dial>(dial: &mut D) -> Result<ArrayString<127>, Error>
-    ensures { IfOk result (λ nonce. IsNonce nonce.bytes) }
-{
-    Ok(nonce_of(&draw(dial)?))
-}
 
 // Gives the leave back where the start-up still has it.
 fn give_up<G: PoolLedger, L: Link + Drop, R: Wait>(
@@ -106,20 +82,6 @@ fn start<G: PoolLedger, L: Link + Drop, R: Wait>(
             let _ = ticket.give_back(rt, pool, seat);
             Err(error)
         }
-    }
-}
-
-// A link, and a nonce for its start-up.
-fn dialled<L: Link + Drop, D: Dial<L = L>>(
-    dial: &mut D,
-    options: &PgConnectOptions,
-) -> Result<(ArrayString<127>, L), Error>
-    ensures { IfOk result (λ d. IsNonce d.0.bytes) }
-{
-    let nonce = nonce(dial)?;
-    match dial.dial(options) {
-        Ok(link) => Ok((nonce, link)),
-        Err(failed) => Err(dial_error(failed)),
     }
 }
 

@@ -1,6 +1,6 @@
 use Rattle.std.proofs.Common.{◌≡◌, false}
 use Rattle.pg_conn.specs.Feeding.{IsFed}
-use Rattle.copying_cases.proofs.polling.read.Given as goal
+use Rattle.pool_cases.proofs.acts.polling.read.Given as goal
 
 abbrev pub invariant-loop : goal.invariant-loop
 invariant-loop g l = record {

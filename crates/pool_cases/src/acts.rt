@@ -1,6 +1,6 @@
-//! Cases of copies, most of them from the client, and of notifications, over links in memory and over a server.
+//! Cases of copies, most of them from the client, and of notifications, each on a connection of its own.
 //!
-//! Each line of standard input is a row: its name, what is done on a connection, and what its link does behind the start-up. What is done stands with commas, each with
+//! A case is what is done on a connection, and what its link does behind the start-up. What is done stands with commas, each with
 //! what it takes behind a dash:
 //!
 //!     copy-N      a copy to the table `t` begins, and is polled so often at most; where it isn't open by then its state is dropped
@@ -21,22 +21,19 @@
 //!
 //! What the link does: bytes in hexadecimal that a read gives, `wait`, `end`, `fail`; and of its writes `take` for one that takes all, and `block` for one that takes nothing yet.
 //!
-//! The name is written with each answer; of copies behind each call how far it came (groups, frames heard, waits and moves), and last the bytes that were sent. With a URL as
-//! argument, `postgres://USER@HOST:PORT/DATABASE`, each row is done on a connection to that server.
-#![tactic(auto)]
+//! Told is each answer, of copies behind each call how far it came (groups, frames heard, waits and moves), and last the bytes that were sent.
 
 mod acting;
 mod news;
 mod polling;
 mod telling;
 
-use crate::telling::push_sent;
 use case_tools::{connect_to, open};
 use pg_conn::PgConnection;
 use pg_stream::MemoryLink;
 use pg_wire::Error;
 use std::alloc::Global;
-use std::{env, io};
+use telling::push_sent;
 
 fn play(
     alloc: Global,
@@ -71,23 +68,11 @@ fn on_server(rt: &HostRuntime, url: &str, acts: &str) -> Result<String, Error> {
     Ok(told)
 }
 
-fn told(rt: &HostRuntime, url: Option<&str>, row: &str) -> Result<String, Error> {
-    let (acts, events) = row.split_once(' ').unwrap_or((row, ""));
+/// What comes of a case, on a connection to the server of this URL where there is one.
+pub(crate) fn told(rt: &HostRuntime, url: Option<&str>, case: &str) -> Result<String, Error> {
+    let (acts, events) = case.split_once(' ').unwrap_or((case, ""));
     match url {
         Some(url) => on_server(rt, url, acts),
         None => in_memory(rt.alloc(), acts, events),
     }
-}
-
-fn main(rt: HostRuntime) -> io::Result<()> {
-    let url = env::args(&rt)?.nth(1);
-    for row in rt.lines(rt.alloc()) {
-        let row = row?;
-        let (name, case) = row.as_str().split_once(' ').unwrap_or((row.as_str(), ""));
-        match told(&rt, url.as_deref(), case) {
-            Ok(told) => println!(rt; "{name}:{told}")?,
-            Err(error) => println!(rt; "{name}: {error:?}")?,
-        }
-    }
-    Ok(())
 }

@@ -1,5 +1,5 @@
-use Rattle.copying_cases.proofs.polling.copy_out.Goals as goal
-use Rattle.copying_cases.proofs.polling.copy_out.Goals.{in-Pending, in-Ready-Some-Ok}
+use Rattle.pool_cases.proofs.acts.polling.copy_out.Goals as goal
+use Rattle.pool_cases.proofs.acts.polling.copy_out.Goals.{in-Pending, in-Ready-Some-Ok}
 
 pub loop-preserved : goal.loop-preserved
 loop-preserved g c = elim c.match-poll_next.branch [

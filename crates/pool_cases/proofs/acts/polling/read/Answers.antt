@@ -1,10 +1,10 @@
-use Rattle.std.proofs.Common.{rules, refl, arith}
+use Rattle.std.proofs.Common.{rules, refl}
 use Rattle.pg_copying.specs.declared.copy_in.PgCopyIn.{PgCopyIn}
-use Rattle.copying_cases.proofs.CopyLaws.{still_open}
-use Rattle.copying_cases.proofs.polling.send.Goals as goal
+use Rattle.pool_cases.proofs.CopyLaws.{still_open}
+use Rattle.pool_cases.proofs.acts.polling.read.Goals as goal
 
 pub loop-init : goal.loop-init
-loop-init g c = record { within = rw c.send-state.ensures.queued (omega arith); open_ = rw c.send-state.ensures.copy c.requires; same = refl }
+loop-init g c = record { over = c.read_from-state.ensures.ended; open_ = rw c.read_from-state.ensures.copy c.requires; same = refl }
 
 pub returns-in_default : goal.returns-in_default
 returns-in_default g c = still_open (λ (copy : PgCopyIn g.row.C.Denot g.row.C-L.Denot). g.C.PgExecutor.conn copy.conn) c.copy-1.given.0 c.poll.new.self.copy.now (search rules) c.in_default.ensures.open

@@ -2,8 +2,8 @@
 
 ghost use Rattle.pg_conn.specs.Feeding.{IsFed};
 
-use crate::polling;
-use crate::telling::{push_answer, push_formats, push_number, push_progress};
+use crate::acts::polling;
+use crate::acts::telling::{push_answer, push_formats, push_number, push_progress};
 use case_tools::push_error;
 use pg_conn::PgConnection;
 use pg_copying::{PgCopyIn, copy_in_raw};

@@ -1,6 +1,6 @@
 use Rattle.std.proofs.Common.{◌≡◌, ◌≤◌, length}
 use Rattle.pg_conn.specs.Feeding.{IsFed}
-use Rattle.copying_cases.proofs.polling.send.Given as goal
+use Rattle.pool_cases.proofs.acts.polling.send.Given as goal
 
 abbrev pub invariant-loop : goal.invariant-loop
 invariant-loop g l = record {

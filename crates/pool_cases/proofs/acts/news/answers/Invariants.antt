@@ -1,5 +1,5 @@
 use Rattle.std.proofs.Common.{◌≡◌, true}
-use Rattle.copying_cases.proofs.news.answers.Given as goal
+use Rattle.pool_cases.proofs.acts.news.answers.Given as goal
 
 abbrev pub invariant-loop : goal.invariant-loop
 invariant-loop l = l.conn.stream.notifications.keeping ≡ true
