@@ -1,6 +1,6 @@
 """Reads every short text by the grammars of array texts and record texts, and prints a digest of all answers.
 
-The program `value_cases` reads the same texts with `read_array` and `read_composite`: the row `digests` of its file `stdout` has what this
+The program `row_cases` reads the same texts with `read_array` and `read_composite`: the row `digests` of its file `stdout` has what this
 program prints.
 
 An array is braces round elements joined by commas, or `{}`. An element is NULL, or a text in quotes in which a backslash keeps the next

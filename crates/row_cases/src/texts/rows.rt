@@ -1,0 +1,24 @@
+use std::alloc::{AllocError, Global};
+
+fn plain_character(ch: char) -> char {
+    if ch == '␊' {
+        '\n'
+    } else if ch == '␉' {
+        '\t'
+    } else if ch == '␟' {
+        '\u{1f}'
+    } else if ch == '␡' {
+        '\u{7f}'
+    } else {
+        ch
+    }
+}
+
+// The text that a row stands for.
+pub(crate) fn plain(alloc: Global, row: &str) -> Result<String, AllocError> {
+    let mut text = String::new(alloc);
+    for ch in row.chars() {
+        text.push(plain_character(ch))?;
+    }
+    Ok(text)
+}
