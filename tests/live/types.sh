@@ -5,17 +5,20 @@
 #
 #     tests/live/types.sh PROGRAM [PORT]
 #
-# PROGRAM is the built `resolve_cases`. Where this is run by root the server runs as the user `postgres`.
+# PROGRAM is the built `row_cases`. Where this is run by root the server runs as the user `postgres`.
 set -u
 port=54347
 . "$(dirname "$0")/session.sh"
 python3 - "$program" "$folder" "$port" <<'PY'
 import json
+import os
 import random
 import subprocess
 import sys
+import tempfile
 
 program, folder, port = sys.argv[1:]
+program = os.path.abspath(program)
 letters = dict(
     typtype=dict(b='Base', c='Composite', d='Domain', e='Enum', p='Pseudo', r='Range'),
     typcategory=dict(A='Array', B='Boolean', C='Composite', D='DateTime', E='Enum', G='Geometric', I='Network', N='Numeric', P='Pseudo', R='Range', S='String', T='Timespan', U='User', V='BitString', X='Unknown'),
@@ -27,7 +30,10 @@ def psql(text, *flags):
 
 
 def play(lines):
-    told = subprocess.run([program], input='\n'.join(lines) + '\n', capture_output=True, text=True, check=True).stdout
+    with tempfile.TemporaryDirectory() as at:
+        with open(f'{at}/resolving', 'w') as rows:
+            rows.write('\n'.join(lines) + '\n')
+        told = subprocess.run([program, 'resolving'], cwd=at, capture_output=True, text=True, check=True).stdout
     return [line[len(asked) + 4:] for asked, line in zip(lines, told.splitlines(), strict=True)]
 
 

@@ -1,7 +1,7 @@
 //! What a query's plan tells of its outputs.
 
-use crate::telling::push;
-use crate::words::{list, next, text_or_none};
+use crate::resolving::telling::push;
+use crate::resolving::words::{list, next, text_or_none};
 use pg_resolve::{Plan, plan_walk};
 use pg_wire::{Error, Sequence, Text};
 use std::alloc::Global;

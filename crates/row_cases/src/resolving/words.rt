@@ -1,28 +1,14 @@
 //! What the words of a line stand for. Want of memory makes something shorter of them, and so another answer than the line's.
 
+use crate::row::{text, two};
 use pg_wire::{Oid, Text};
 use std::alloc::Global;
-
-/// What stands before a mark, and behind it.
-pub fn two(words: &str, mark: char) -> (&str, &str) {
-    words.split_once(mark).unwrap_or((words, ""))
-}
 
 /// The word in front of the next mark; behind the last word there are minuses.
 pub fn next<'w>(words: &mut &'w str, mark: char) -> &'w str {
     let (word, rest) = words.split_once(mark).unwrap_or((*words, "-"));
     *words = rest;
     word
-}
-
-/// What a word means, if it is one of these.
-pub fn meant<T: Copy + Drop>(words: &[(&str, T)], word: &str) -> Option<T> {
-    for (name, meaning) in words {
-        if *name == word {
-            return Some(*meaning);
-        }
-    }
-    None
 }
 
 /// A number, or 0 where there is none.
@@ -33,13 +19,6 @@ pub fn number(word: &str) -> u32 {
 /// The number of a column, or 0 where there is none.
 pub fn attribute(word: &str) -> i16 {
     word.parse::<i16>().unwrap_or(0)
-}
-
-pub fn text(alloc: Global, word: &str) -> Text {
-    match Text::from_str(alloc, word) {
-        Ok(text) => text,
-        Err(_) => Text::new(alloc),
-    }
 }
 
 /// A text, where there is one.

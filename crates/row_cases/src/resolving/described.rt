@@ -1,6 +1,6 @@
 //! What is asked of the columns of a statement.
 
-use crate::telling::{push, push_number};
+use crate::resolving::telling::{push, push_number};
 use pg_resolve::nullable_query;
 use pg_wire::{Error, Text};
 use std::alloc::Global;

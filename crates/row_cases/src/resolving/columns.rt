@@ -1,8 +1,9 @@
 //! Columns that are asked for.
 
-use crate::rows::column_row;
-use crate::telling::{push, push_asked, push_end};
-use crate::words::{attribute, number, two};
+use crate::resolving::rows::column_row;
+use crate::resolving::telling::{push, push_asked, push_end};
+use crate::resolving::words::{attribute, number};
+use crate::row::two;
 use pg_resolve::{ColumnResolver, TableCache};
 use pg_wire::{Error, Oid, Text};
 use std::alloc::Global;

@@ -1,6 +1,7 @@
 //! Rows of lookups, made of words.
 
-use crate::words::{list, meant, next, number, text, text_or_none, two};
+use crate::resolving::words::{list, next, number, text_or_none};
+use crate::row::{meant, text, two};
 use pg_resolve::{ColumnResolverRow, TypCategory, TypType, TypeResolverRow};
 use pg_wire::{Oid, Sequence};
 use std::alloc::Global;

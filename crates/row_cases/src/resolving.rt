@@ -1,13 +1,11 @@
 //! Cases of the resolver. The rows are those that a server with such types gives.
 //!
-//! Each line of standard input begins with a word. `row` keeps a row of a type lookup: its OID, its pretty, catalog and original names, its
-//! two codes, the OIDs of element, base and subtype, its labels and its attributes; a minus stands for none. `forget` forgets all rows.
-//! `take` takes the rows with these OIDs in this order. `serve` asks for a type and answers each lookup by the rows that it asks. `text`
-//! writes a lookup, and `columns` a column lookup. `names` takes rows of a column lookup, behind a semicolon each, and tells names of columns.
-//! `type_row` and `column_row` read a row of a lookup from its values, which have a bar between them; a minus stands for a null.
-//! `nullable` writes the query that asks of so many columns whether they may be null, and `plan` marks a query's outputs by its plan. The line is
-//! written with what came of it behind it.
-#![tactic(auto)]
+//! A row begins with a word. `row` keeps a row of a type lookup: its OID, its pretty, catalog and original names, its two codes, the OIDs of
+//! element, base and subtype, its labels and its attributes; a minus stands for none. `forget` forgets all rows. `take` takes the rows with
+//! these OIDs in this order. `serve` asks for a type and answers each lookup by the rows that it asks. `text` writes a lookup, and `columns`
+//! a column lookup. `names` takes rows of a column lookup, behind a semicolon each, and tells names of columns. `type_row` and `column_row`
+//! read a row of a lookup from its values, which have a bar between them; a minus stands for a null. `nullable` writes the query that asks of
+//! so many columns whether they may be null, and `plan` marks a query's outputs by its plan.
 
 mod columns;
 mod described;
@@ -19,11 +17,10 @@ mod telling;
 mod types;
 mod words;
 
+use crate::resolving::telling::{push, push_error};
+use crate::row::{meant, text, two};
 use pg_wire::{Error, Text};
 use std::alloc::Global;
-use std::io;
-use telling::{push, push_error};
-use words::{meant, text, two};
 
 #[derive(Clone, Copy)]
 enum Verb {
@@ -90,26 +87,17 @@ fn play(
     }
 }
 
-fn answer(alloc: Global, rows: &mut Vec<Text>, line: &str) -> String {
+/// What came of a row, with those that are kept.
+pub fn answer(alloc: Global, kept: &mut Vec<Text>, row: &str) -> String {
     let mut told = String::new(alloc);
-    let (word, rest) = two(line, ' ');
+    let (word, rest) = two(row, ' ');
     match meant(&VERBS, word) {
         None => push(&mut told, "no such case"),
         Some(verb) => {
-            if let Err(error) = play(&mut told, alloc, rows, verb, rest) {
+            if let Err(error) = play(&mut told, alloc, kept, verb, rest) {
                 push_error(&mut told, error);
             }
         }
     }
     told
-}
-
-fn main(rt: HostRuntime) -> io::Result<()> {
-    let mut rows = Vec::new(rt.alloc());
-    for line in rt.lines(rt.alloc()) {
-        let line = line?;
-        let answer = answer(rt.alloc(), &mut rows, line.as_str());
-        println!(rt; "{line} -> {answer}")?;
-    }
-    Ok(())
 }

@@ -1,6 +1,6 @@
 //! Rows of lookups, as a server sends them.
 
-use crate::telling::{push, push_number, push_oid, push_quoted};
+use crate::resolving::telling::{push, push_number, push_oid, push_quoted};
 use pg_lookup::{column_row, type_row};
 use pg_resolve::{ColumnResolverRow, TypeResolverRow};
 use pg_wire::{DataRow, Error, Oid, Text, decode_data_row};

@@ -1,9 +1,10 @@
 //! Types that are looked up.
 
-use crate::kinds::push_kind;
-use crate::rows::{oid, type_row};
-use crate::telling::{push, push_asked, push_end, push_number, push_oid};
-use crate::words::{number, text, two};
+use crate::resolving::kinds::push_kind;
+use crate::resolving::rows::{oid, type_row};
+use crate::resolving::telling::{push, push_asked, push_end, push_number, push_oid};
+use crate::resolving::words::number;
+use crate::row::{text, two};
 use pg_arguments::PgTypeInfo;
 use pg_resolve::{Resolver, TypeCache, Wanted};
 use pg_wire::{Error, Oid, Text};
