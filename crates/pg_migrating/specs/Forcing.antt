@@ -26,7 +26,7 @@ use Rattle.pg_migrating.specs.Databases.{EndsBy, is_done, never}
 use Rattle.pg_migrating.specs.Errands.{AsksOf, IsErrand, RefusesErrand}
 use Rattle.pg_migrating.specs.Names.{database_of}
 use Rattle.pg_migrating.specs.Openings.{FailsToOpen}
-use Rattle.pg_migrating.specs.Sessions.{CameTo, Comes, Fails, Goes, Opening, SessionSeen, Stands, fresh_session}
+use Rattle.pg_migrating.specs.Sessions.{CameTo, Comes, Fails, Goes, Opening, SessionFor, SessionSeen, Stands, fresh_session}
 use Rattle.pg_migrating.specs.declared.errand.Errand.{Errand}
 use Rattle.pg_migrating.specs.declared.errand.Task.TheVariants as tasks
 use Rattle.pg_migrating.specs.declared.forcing.ForceStep.{ForceStep}
@@ -147,7 +147,7 @@ TellsForce seen o asked d step database s last e (Ready (Ok u)) = SucceedsForce 
 TellsForce seen o asked d step database s last e (Ready (Err error)) = FailsForce seen o asked d e error
 
 -- what comes behind the version: its request is begun on the connection, or the call is over
-abbrev pub EndsVersion : {S A : Type 0} → Turn → List ℕ → SessionSeen S A → ForceStep → SessionSeen S A → Option (Poll (Result (Unit {0}) Error)) → Type 0
+abbrev pub EndsVersion : {Q S A : Type 0} → Turn → List ℕ → SessionFor Q S A → ForceStep → SessionFor Q S A → Option (Poll (Result (Unit {0}) Error)) → Type 0
 EndsVersion turn database s step t None = (r : Request) × EndsBy (Terminating database) HidesVersion turn (Ok r) × (step ≡ steps.Terminate) × (t ≡ record s { conn = option_map (started_call r) s.conn })
 EndsVersion turn database s step t (Some (Ready (Err e))) = EndsBy (Terminating database) HidesVersion turn (Err e) × (step ≡ steps.Over)
 EndsVersion turn database s step t answer = ⊥

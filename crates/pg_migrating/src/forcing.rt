@@ -20,7 +20,7 @@ use crate::errand::{Errand, Task, errand_at};
 use crate::names::database_of;
 use crate::opening::Sessions;
 use crate::reading::Reading;
-use crate::session::{Session, SessionOf, poll};
+use crate::session::{Asked, Session, SessionOf, poll};
 use crate::statement::Done;
 use pg_call::{Request, Turn};
 use pg_options::{PgConnectOptions, PgSettings};
@@ -47,13 +47,13 @@ pub(crate) enum ForceStep {
 /// The state of `MigrateDatabase::force_drop_database`. Its first poll dials. From one connection it asks for the server's version and ends all other
 /// sessions on the database; then it lets that connection go, dials again, and drops the database. A drop of the state lets go what it has opened, and
 /// leaves the dial as it is.
-pub struct ForceDropDatabase<'d, D: Sessions> {
+pub struct ForceDropDatabase<'d, D: Sessions, Q = Asked> {
     alloc: Global,
     dial: &'d mut D,
     step: ForceStep,
     database: Text,
-    session: SessionOf<D>,
-    last: SessionOf<D>,
+    session: SessionOf<D, Q>,
+    last: SessionOf<D, Q>,
 }
 
 // What is asked, of the database that options name.
@@ -133,41 +133,7 @@ fn terminating(alloc: Global, turn: Turn, database: &str) -> Result<Request, Err
     }
 }
 
-impl<'d, D: Sessions> ForceDropDatabase<'d, D> {
-    pub(crate) fn new(alloc: Global, dial: &'d mut D, forcing: Result<Forcing, Error>) -> Self
-        ensures dial { result.dial.now ≡ dial.old }
-        ensures same { result.dial.ghost_name ≡ dial.entry.ghost_name }
-        ensures step { result.step ≡ steps.Version }
-        ensures session { result.session ≡ fresh_session (version_in forcing) }
-        ensures last { StandsBy forcing result.database result.last }
-    {
-        match forcing {
-            Ok(
-                Forcing {
-                    version,
-                    last,
-                    database,
-                },
-            ) => ForceDropDatabase {
-                alloc,
-                dial,
-                step: ForceStep::Version,
-                database,
-                session: Session::new(Ok(version)),
-                last: Session::new(Ok(last)),
-            },
-            // The first poll tells the error, and the last session is never polled.
-            Err(e) => ForceDropDatabase {
-                alloc,
-                dial,
-                step: ForceStep::Version,
-                database: Text::new(alloc),
-                session: Session::new(Err(e)),
-                last: Session::new(Err(Error::OutOfMemory)),
-            },
-        }
-    }
-
+impl<'d, D: Sessions, Q> ForceDropDatabase<'d, D, Q> {
     /// Whether a poll has ended the call.
     pub fn is_finished(&self) -> bool
         ensures { result ≡ is_forced self.now.step }
@@ -220,22 +186,6 @@ impl<'d, D: Sessions> ForceDropDatabase<'d, D> {
         }
     }
 
-    // One poll of the call that asks for the version. Where it was answered, the other sessions are to be ended, and there is no answer yet.
-    fn poll_version(&mut self, left: &mut u16) -> Option<Poll<Result<(), Error>>>
-        requires left { left.old ≤ 256 }
-        requires step { self.old.step ≡ steps.Version }
-        requires goes { GoesForce D.opens steps.Version self.old.session self.old.last }
-        ensures left { left.new ≤ left.old }
-        ensures same { self.new.dial.ghost_name ≡ self.old.dial.ghost_name }
-        ensures goes { StepGoes D.opens steps.Terminate self.new.step self.new.session self.new.last result }
-        ensures tells { (asked : Result declared_forcing.Forcing declared_error.Error) (first : D) → StandsForce D.L.seen D.opens asked first steps.Version self.old.database self.old.session self.old.last self.old.dial.now → TellsForceStep D.L.seen D.opens asked first self.new.step self.new.database self.new.session self.new.last self.new.dial.now result }
-    {
-        match poll(self.alloc, &mut self.session, self.dial, left) {
-            Poll::Pending => Some(Poll::Pending),
-            Poll::Ready(turn) => self.end_version(turn),
-        }
-    }
-
     // What comes behind the end of the other sessions.
     fn end_terminate(&mut self, turn: Turn) -> Option<Poll<Result<(), Error>>>
         requires { TurnFits (kinds.Run hows.Execute) turn }
@@ -251,6 +201,58 @@ impl<'d, D: Sessions> ForceDropDatabase<'d, D> {
                 None
             }
             Err(e) => Some(self.finish(Err(e))),
+        }
+    }
+}
+
+impl<'d, D: Sessions> ForceDropDatabase<'d, D> {
+    pub(crate) fn new(alloc: Global, dial: &'d mut D, forcing: Result<Forcing, Error>) -> Self
+        ensures dial { result.dial.now ≡ dial.old }
+        ensures same { result.dial.ghost_name ≡ dial.entry.ghost_name }
+        ensures step { result.step ≡ steps.Version }
+        ensures session { result.session ≡ fresh_session (version_in forcing) }
+        ensures last { StandsBy forcing result.database result.last }
+    {
+        match forcing {
+            Ok(
+                Forcing {
+                    version,
+                    last,
+                    database,
+                },
+            ) => ForceDropDatabase {
+                alloc,
+                dial,
+                step: ForceStep::Version,
+                database,
+                session: Session::new(Ok(version)),
+                last: Session::new(Ok(last)),
+            },
+            // The first poll tells the error, and the last session is never polled.
+            Err(e) => ForceDropDatabase {
+                alloc,
+                dial,
+                step: ForceStep::Version,
+                database: Text::new(alloc),
+                session: Session::new(Err(e)),
+                last: Session::new(Err(Error::OutOfMemory)),
+            },
+        }
+    }
+
+    // One poll of the call that asks for the version. Where it was answered, the other sessions are to be ended, and there is no answer yet.
+    fn poll_version(&mut self, left: &mut u16) -> Option<Poll<Result<(), Error>>>
+        requires left { left.old ≤ 256 }
+        requires step { self.old.step ≡ steps.Version }
+        requires goes { GoesForce D.opens steps.Version self.old.session self.old.last }
+        ensures left { left.new ≤ left.old }
+        ensures same { self.new.dial.ghost_name ≡ self.old.dial.ghost_name }
+        ensures goes { StepGoes D.opens steps.Terminate self.new.step self.new.session self.new.last result }
+        ensures tells { (asked : Result declared_forcing.Forcing declared_error.Error) (first : D) → StandsForce D.L.seen D.opens asked first steps.Version self.old.database self.old.session self.old.last self.old.dial.now → TellsForceStep D.L.seen D.opens asked first self.new.step self.new.database self.new.session self.new.last self.new.dial.now result }
+    {
+        match poll(self.alloc, &mut self.session, self.dial, left) {
+            Poll::Pending => Some(Poll::Pending),
+            Poll::Ready(turn) => self.end_version(turn),
         }
     }
 
@@ -323,7 +325,7 @@ impl<'d, D: Sessions> ForceDropDatabase<'d, D> {
     }
 }
 
-impl<D: Sessions> Drop for ForceDropDatabase<'_, D> {
+impl<D: Sessions, Q: Drop> Drop for ForceDropDatabase<'_, D, Q> {
     fn drop(self) {
         let ForceDropDatabase {
             alloc: _,

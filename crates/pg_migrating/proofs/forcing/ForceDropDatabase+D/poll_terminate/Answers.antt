@@ -1,6 +1,6 @@
 use Rattle.futures.specs.declared.task.Poll.TheVariants.{Ready}
 use Rattle.pg_migrating.proofs.ForceLaws.{remove_goes, terminate_fits, terminate_stands, terminate_tells, terminate_waits}
-use Rattle.pg_migrating.proofs.forcing.ForceDropDatabase.poll_terminate.Goals as goal
+use Rattle.pg_migrating.proofs.forcing.ForceDropDatabase+D.poll_terminate.Goals as goal
 
 pub end_terminate-requires : goal.end_terminate-requires
 end_terminate-requires g c =

@@ -2,7 +2,7 @@ use Rattle.pg_call.specs.declared.kind.How.TheVariants as hows
 use Rattle.pg_call.specs.declared.kind.Kind.TheVariants as kinds
 use Rattle.pg_migrating.specs.Forcing.{version_in}
 use Rattle.pg_migrating.proofs.ForceLaws.{version_goes, version_tells}
-use Rattle.pg_migrating.proofs.forcing.ForceDropDatabase.poll_version.Goals as goal
+use Rattle.pg_migrating.proofs.forcing.ForceDropDatabase+D.poll_version.Goals as goal
 
 pub returns-in-Ready-clause-goes : goal.returns-in-Ready-clause-goes
 returns-in-Ready-clause-goes g c =
