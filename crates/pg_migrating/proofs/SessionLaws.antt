@@ -196,3 +196,23 @@ module _ {D S A : Type 0} (seen : A → LinkSeen) (o : Opening D S A) where
       let n = dialled_none seen o s.errand s.start s.conn t d e (Ok u) p in
       let spent = connect_spent seen o t.errand t.start t.conn v (Ok x) n q in
       called seen o asked first v.errand v.start v.conn w e left answer spent.0 spent.1 few r (connect_opens seen o asked first t.errand t.start t.conn v e x n q (dialled_stands seen o asked first s.errand s.start s.conn t d e u p k))
+
+  pub start_goes_on : (kind : Kind) (s t : SessionSeen S A) (d e : D) (u : Unit {0}) → DialsFirst seen o s.errand s t d e (Ok u) → Goes o kind s → StartGoes o t.start
+  start_goes_on kind s t d e u p g = start_goes o kind t.errand t.start t.conn (dialled_none seen o s.errand s.start s.conn t d e (Ok u) p) (dialled_goes seen o kind s.errand s.start s.conn t d e u p g)
+
+  pub calls_runs : (kind : Kind) (s t v : SessionSeen S A) (d e : D) (u x : Unit {0}) → DialsFirst seen o s.errand s t d e (Ok u) → ConnectsSession seen o t.start t v (Ready (Ok x)) → Goes o kind s → ConnRuns v.conn
+  calls_runs kind s t v d e u x p q g =
+      let n = dialled_none seen o s.errand s.start s.conn t d e (Ok u) p in
+      let spent = connect_spent seen o t.errand t.start t.conn v (Ok x) n q in
+      conn_runs o kind v.errand v.start v.conn spent.0 spent.1 (connect_goes seen o kind t.errand t.start t.conn v x n q (dialled_goes seen o kind s.errand s.start s.conn t d e u p g))
+
+  pub fails_goes : (kind : Kind) (s t v : SessionSeen S A) (d e : D) (u : Unit {0}) (error : Error) → DialsFirst seen o s.errand s t d e (Ok u) → ConnectsSession seen o t.start t v (Ready (Err error)) → GoesOn o kind v (Ready (turns.Err error))
+  fails_goes kind s t v d e u error p q =
+      let spent = connect_spent seen o t.errand t.start t.conn v (Err error) (dialled_none seen o s.errand s.start s.conn t d e (Ok u) p) q in
+      (spent.0, spent.1, tt, tt)
+
+  pub refused_goes : (kind : Kind) (s t : SessionSeen S A) (d e : D) (error : Error) → DialsFirst seen o s.errand s t d e (Err error) → Goes o kind s → GoesOn o kind t (Ready (turns.Err error))
+  refused_goes kind s t d e error p g = (dialled_none seen o s.errand s.start s.conn t d e (Err error) p, dialled_spent seen o kind s.errand s.start s.conn t d e error p g, tt, tt)
+
+  pub refused_tells : (asked : Result Errand Error) (first : D) (s t : SessionSeen S A) (d e : D) (error : Error) → DialsFirst seen o s.errand s t d e (Err error) → Stands seen o asked first s d → Fails seen o asked first e error
+  refused_tells asked first s t d e error p k = dialled_fails seen o asked first s.errand s.start s.conn t d e error p k
