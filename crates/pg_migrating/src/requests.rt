@@ -23,7 +23,10 @@ use std::alloc::Global;
 pub(crate) fn script(alloc: Global, sql: &str) -> Result<Request, Error>
     ensures { IsRequestOf hows.Execute 0 (Script sql.now) result }
 {
-    Ok(Request::Execute(Query::raw(alloc, sql)?))
+    match Query::raw(alloc, sql) {
+        Ok(query) => Ok(Request::Execute(query)),
+        Err(e) => Err(e),
+    }
 }
 
 /// The same of a text that is owned.
@@ -37,7 +40,10 @@ pub(crate) fn owned_script(sql: String) -> Request
 pub(crate) fn bare(alloc: Global, how: How, sql: &str) -> Result<Request, Error>
     ensures { IsRequestOf how 0 (Prepared sql.now []) result }
 {
-    Ok(Request::raw(how, Query::new(alloc, sql)?))
+    match Query::new(alloc, sql) {
+        Ok(query) => Ok(Request::raw(how, query)),
+        Err(e) => Err(e),
+    }
 }
 
 /// A statement with these arguments, where there are such.
