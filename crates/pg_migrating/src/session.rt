@@ -123,10 +123,13 @@ fn dial_first<D: Sessions>(
     match session.errand.take() {
         None => Ok(()),
         Some(Err(e)) => Err(e),
-        Some(Ok(errand)) => {
-            session.start = Some(dial.begin_session(alloc, errand)?);
-            Ok(())
-        }
+        Some(Ok(errand)) => match dial.begin_session(alloc, errand) {
+            Ok(start) => {
+                session.start = Some(start);
+                Ok(())
+            }
+            Err(e) => Err(e),
+        },
     }
 }
 
