@@ -134,10 +134,7 @@ fn dial_first<D: Sessions>(
 }
 
 // Moves the start-up on, where there is one.
-fn connect<D: Sessions, Q>(
-    session: &mut SessionOf<D, Q>,
-    left: &mut u16,
-) -> Poll<Result<(), Error>>
+fn connect<D: Sessions, Q>(session: &mut SessionOf<D, Q>, left: &mut u16) -> Poll<Result<(), Error>>
     requires goes { StartGoes D.opens session.old.start }
     requires left { left.old ≤ 256 }
     ensures left { left.new ≤ left.old }
