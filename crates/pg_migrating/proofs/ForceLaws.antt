@@ -24,7 +24,7 @@ use Rattle.pg_migrating.specs.Calls.{Called, Waits}
 use Rattle.pg_migrating.specs.Requests.{IsRequestOf}
 use Rattle.pg_migrating.proofs.AskingLaws.{calls_raw}
 use Rattle.pg_migrating.specs.Databases.{EndsBy, is_done, never}
-use Rattle.pg_migrating.specs.Forcing.{AsksTerminate, EndsTerminate, EndsVersion, FailsForce, FailsVersion, GoesForce, HidesNumber, HidesVersion, IsNotTerminated, IsNumber, StandsBy, StandsForce, StaysForce, StepGoes, TellsForce, TellsForceStep, Terminated, Terminates, Terminating, version_in}
+use Rattle.pg_migrating.specs.Forcing.{AsksTerminate, FailsForce, FailsVersion, GoesForce, HidesNumber, HidesVersion, IsNotTerminated, IsNumber, StandsBy, StandsForce, StaysForce, StepGoes, TellsForce, TellsForceStep, Terminated, Terminates, Terminating, version_in}
 use Rattle.pg_migrating.specs.Openings.{FailsToOpen}
 use Rattle.pg_migrating.specs.Sessions.{Comes, ConnRuns, Goes, GoesBy, GoesOn, KeepsConn, Opening, PollsSession, SessionSeen, Stands, Tells}
 use Rattle.pg_migrating.proofs.SessionLaws.{call_fits, conn_runs}
@@ -51,52 +51,46 @@ terminates_err row sql (Err e) asks = inl (only_memory sql e asks)
 -- ---- the version
 
 module _ {D S A : Type 0} (seen : A → LinkSeen) (o : Opening D S A) where
-  -- what comes behind the version's answer
-  pub version_goes : (turn : Turn) (database : List ℕ) (s t last last_now : SessionSeen S A) (step : ForceStep) (result : Option (Poll (Result (Unit {0}) Error))) → EndsVersion turn database s step t result → (result ≡ None → last_now ≡ last) → GoesOn o (kinds.Run hows.FetchOne) s (Ready turn) → Goes o (kinds.Run hows.Execute) last → StepGoes o steps.Terminate step t last_now result
-  version_goes (turns.Ok answer) database s t last last_now step None p same g l = by s.conn refl g.3
+  -- the version was told, and what ends the other sessions is asked
+  pub version_goes : (turn : Turn) (database : List ℕ) (r : Request) (s t last : SessionSeen S A) → EndsBy (Terminating database) HidesVersion turn (Ok r) → t ≡ record s { conn = option_map (started_call r) s.conn } → GoesOn o (kinds.Run hows.FetchOne) s (Ready turn) → Goes o (kinds.Run hows.Execute) last → GoesForce o steps.Terminate t last
+  version_goes (turns.Ok answer) database r s t last h is g l = by s.conn refl g.3
     where
-      by : (conn : Option (ConnOf A)) → s.conn ≡ conn → KeepsConn (turns.Ok answer) conn → StepGoes {X = Result (Unit {0}) Error} o steps.Terminate step t last_now None
+      by : (conn : Option (ConnOf A)) → s.conn ≡ conn → KeepsConn (turns.Ok answer) conn → GoesForce o steps.Terminate t last
       by None e k = absurd k
       by (Some c) e k =
-          let errand : t.errand ≡ None = ap (λ (x : SessionSeen S A). x.errand) p.3 ∙ g.0 in
-          let start : t.start ≡ None = ap (λ (x : SessionSeen S A). x.start) p.3 ∙ g.1 in
-          let conn : t.conn ≡ Some (started_call p.0 c) = ap (λ (x : SessionSeen S A). x.conn) p.3 ∙ ap (option_map (started_call p.0)) e in
-          let calls : IsCalling (kinds.Run hows.Execute) (started_call p.0 c) = rw p.1.2 (calls_raw hows.Execute _ c) in
+          let errand : t.errand ≡ None = ap (λ (x : SessionSeen S A). x.errand) is ∙ g.0 in
+          let start : t.start ≡ None = ap (λ (x : SessionSeen S A). x.start) is ∙ g.1 in
+          let conn : t.conn ≡ Some (started_call r c) = ap (λ (x : SessionSeen S A). x.conn) is ∙ ap (option_map (started_call r)) e in
+          let calls : IsCalling (kinds.Run hows.Execute) (started_call r c) = rw h.2 (calls_raw hows.Execute _ c) in
           let goes : Goes o (kinds.Run hows.Execute) t = rw (errand, start, conn) calls in
-          (p.2, (errand, start, goes, rw (same refl) l))
-  version_goes (turns.Err e) database s t last last_now step None p same g l = absurd p.1
-  version_goes (turns.Item item) database s t last last_now step None p same g l = absurd p.1
-  version_goes (turns.Opened opened) database s t last last_now step None p same g l = absurd p.1
-  version_goes turn database s t last last_now step (Some Pending) p same g l = absurd p
-  version_goes turn database s t last last_now step (Some (Ready (Ok u))) p same g l = absurd p
-  version_goes turn database s t last last_now step (Some (Ready (Err e))) p same g l = p.1
+          (errand, start, goes, l)
+  version_goes (turns.Err e) database r s t last h is g l = absurd h
+  version_goes (turns.Item item) database r s t last h is g l = absurd h
+  version_goes (turns.Opened opened) database r s t last h is g l = absurd h
 
   -- what was asked is the errand that was answered
   of_errand : (P : Errand → Type 0) (a b : Errand) → ◌≡◌ {A = Result Errand Error} (Ok a) (Ok b) → P b → P a
   of_errand P a b e p = let same : a ≡ b = cc in subst P (sym same) p
 
-  asks_next : (asked : Result Forcing Error) (first e : D) (answer : CallAnswer) (database now : List ℕ) (s t last last_now : SessionSeen S A) (step : ForceStep) → EndsVersion (turns.Ok answer) database s step t None → now ≡ database → last_now ≡ last → Tells seen o (version_in asked) first s e (Ready (turns.Ok answer)) → StandsBy asked database last → TellsForceStep seen o asked first step now t last_now e None
-  asks_next (Err x) first e answer database now s t last last_now step p d l k b = absurd cc
-  asks_next (Ok f) first e answer database now s t last last_now step p d l k b =
+  pub version_tells : (asked : Result Forcing Error) (first e : D) (turn : Turn) (database : List ℕ) (r : Request) (s t last : SessionSeen S A) → EndsBy (Terminating database) HidesVersion turn (Ok r) → t ≡ record s { conn = option_map (started_call r) s.conn } → Tells seen o (version_in asked) first s e (Ready turn) → StandsBy asked database last → StandsForce seen o asked first steps.Terminate database t last e
+  version_tells (Err x) first e (turns.Ok answer) database r s t last h is k b = absurd cc
+  version_tells (Ok f) first e (turns.Ok answer) database r s t last h is k b =
       let comes : Comes seen o f.version first e (turns.Ok answer) k.0 = of_errand (λ (x : Errand). Comes seen o x first e (turns.Ok answer) k.0) f.version k.2.0 k.2.1 k.2.2 in
-      let asks : AsksTerminate seen o f first e k.0 p.0 = record { answer = answer; comes = comes; asks = subst (λ (x : List ℕ). Terminating x answer p.0) b.0 p.1 } in
-      let waits : Terminates seen o f first e (started_call p.0 k.0) = record { middle = k.0; request = p.0; asks = asks; waits = record { earlier = []; waited = refl } } in
-      let is : t.conn ≡ Some (started_call p.0 k.0) = ap (λ (x : SessionSeen S A). x.conn) p.3 ∙ ap (option_map (started_call p.0)) k.1 in
-      let later : StandsBy (Ok f) now last_now = rw (d, l) b in
-      subst (λ (x : ForceStep). StandsForce seen o (Ok f) first x now t last_now e) (sym p.2) (f, refl, (started_call p.0 k.0, is, waits), later)
+      let asks : AsksTerminate seen o f first e k.0 r = record { answer = answer; comes = comes; asks = subst (λ (x : List ℕ). Terminating x answer r) b.0 h } in
+      let waits : Terminates seen o f first e (started_call r k.0) = record { middle = k.0; request = r; asks = asks; waits = record { earlier = []; waited = refl } } in
+      let conn : t.conn ≡ Some (started_call r k.0) = ap (λ (x : SessionSeen S A). x.conn) is ∙ ap (option_map (started_call r)) k.1 in
+      (f, refl, (started_call r k.0, conn, waits), b)
+  version_tells asked first e (turns.Err x) database r s t last h is k b = absurd h
+  version_tells asked first e (turns.Item item) database r s t last h is k b = absurd h
+  version_tells asked first e (turns.Opened opened) database r s t last h is k b = absurd h
 
-  pub version_tells : (asked : Result Forcing Error) (first e : D) (turn : Turn) (database now : List ℕ) (s t last last_now : SessionSeen S A) (step : ForceStep) (result : Option (Poll (Result (Unit {0}) Error))) → EndsVersion turn database s step t result → (result ≡ None → now ≡ database) → (result ≡ None → last_now ≡ last) → Tells seen o (version_in asked) first s e (Ready turn) → StandsBy asked database last → TellsForceStep seen o asked first step now t last_now e result
-  version_tells asked first e (turns.Ok answer) database now s t last last_now step None p d l k b = asks_next asked first e answer database now s t last last_now step p (d refl) (l refl) k b
-  version_tells asked first e (turns.Err x) database now s t last last_now step None p d l k b = absurd p.1
-  version_tells asked first e (turns.Item item) database now s t last last_now step None p d l k b = absurd p.1
-  version_tells asked first e (turns.Opened opened) database now s t last last_now step None p d l k b = absurd p.1
-  version_tells asked first e turn database now s t last last_now step (Some Pending) p d l k b = absurd p
-  version_tells asked first e turn database now s t last last_now step (Some (Ready (Ok u))) p d l k b = absurd p
-  version_tells asked first e (turns.Ok answer) database now s t last last_now step (Some (Ready (Err error))) p d l k b = inl (inr (inr (answer, k.0, k.2, p.0)))
-  version_tells asked first e (turns.Err x) database now s t last last_now step (Some (Ready (Err error))) p d l (inl k) b = inl (inl (rw p.0 k))
-  version_tells asked first e (turns.Err x) database now s t last last_now step (Some (Ready (Err error))) p d l (inr k) b = inl (inr (inl (rw p.0 k)))
-  version_tells asked first e (turns.Item item) database now s t last last_now step (Some (Ready (Err error))) p d l k b = absurd p.0
-  version_tells asked first e (turns.Opened opened) database now s t last last_now step (Some (Ready (Err error))) p d l k b = absurd p.0
+  -- or it was not told
+  pub version_fails : (asked : Result Forcing Error) (first e : D) (turn : Turn) (database now : List ℕ) (s t last : SessionSeen S A) (step : ForceStep) (error : Error) → EndsBy {X = Request} (Terminating database) HidesVersion turn (Err error) → Tells seen o (version_in asked) first s e (Ready turn) → TellsForce seen o asked first step now t last e (Ready (Err error))
+  version_fails asked first e (turns.Ok answer) database now s t last step error h k = inl (inr (inr (answer, k.0, k.2, h)))
+  version_fails asked first e (turns.Err x) database now s t last step error h (inl k) = inl (inl (rw h k))
+  version_fails asked first e (turns.Err x) database now s t last step error h (inr k) = inl (inr (inl (rw h k)))
+  version_fails asked first e (turns.Item item) database now s t last step error h k = absurd h
+  version_fails asked first e (turns.Opened opened) database now s t last step error h k = absurd h
 
   -- ---- the other sessions
 
@@ -116,12 +110,6 @@ module _ {D S A : Type 0} (seen : A → LinkSeen) (o : Opening D S A) where
       let k = alone s t left s.conn Pending p in
       rw is (k.0 ∙ g.0, k.1 ∙ g.1, terminate_fits s t left Pending g.0 g.1 g.2 p, g.3)
 
-  pub remove_goes : (turn : Turn) (t last last_now : SessionSeen S A) (step : ForceStep) (result : Option (Poll (Result (Unit {0}) Error))) → EndsTerminate turn step result → (result ≡ None → last_now ≡ last) → Goes o (kinds.Run hows.Execute) last → StepGoes o steps.Remove step t last_now result
-  remove_goes turn t last last_now step None p same g = (p.1, rw (same refl) g)
-  remove_goes turn t last last_now step (Some Pending) p same g = absurd p
-  remove_goes turn t last last_now step (Some (Ready (Ok u))) p same g = absurd p
-  remove_goes turn t last last_now step (Some (Ready (Err e))) p same g = p.1
-
   -- where its connection stands behind a poll
   polled : (s t : SessionSeen S A) (a : ConnOf A) (left : ℕ) (answer : Poll Turn) → s.conn ≡ Some a → PollsSession seen left s.conn s t answer → (b : ConnOf A) × (t.conn ≡ Some b) × PollsWithin left (seen_by seen a) (seen_by seen b) answer
   polled s t a left answer e p =
@@ -140,25 +128,24 @@ module _ {D S A : Type 0} (seen : A → LinkSeen) (o : Opening D S A) where
       let k : StandsBy (Ok f) database last = subst (λ (x : Result Forcing Error). StandsBy x database last) same b in
       rw k.1 (refl, refl)
 
-  pub terminate_tells : (asked : Result Forcing Error) (first e : D) (turn : Turn) (database now : List ℕ) (s t u last last_now : SessionSeen S A) (step : ForceStep) (left : ℕ) (result : Option (Poll (Result (Unit {0}) Error))) → left ≤ 256 → PollsSession seen left s.conn s t (Ready turn) → EndsTerminate turn step result → (result ≡ None → last_now ≡ last) → StandsForce seen o asked first steps.Terminate database s last e → TellsForceStep seen o asked first step now u last_now e result
-  terminate_tells asked first e (turns.Ok answer) database now s t u last last_now step left None few p q l (f, same, (a, held, k), b) =
+  pub terminate_tells : (asked : Result Forcing Error) (first e : D) (turn : Turn) (database : List ℕ) (s t u last : SessionSeen S A) (left : ℕ) → left ≤ 256 → PollsSession seen left s.conn s t (Ready turn) → EndsBy is_done never turn (Ok tt) → StandsForce seen o asked first steps.Terminate database s last e → StandsForce seen o asked first steps.Remove database u last e
+  terminate_tells asked first e (turns.Ok answer) database s t u last left few p h (f, same, (a, held, k), b) =
       let w = polled s t a left (Ready (turns.Ok answer)) held p in
       let done : Terminated seen o f first e = record { middle = k.middle; conn = w.0; request = k.request; answer = answer; asks = k.asks; called = record { last = a; waits = k.waits; ends = record { left = left; few = few; polls = w.2 } } } in
-      let new : Stands seen o (Ok f.last) e last_now e = rw (l refl) (last_new asked f database last e same b) in
-      subst (λ (x : ForceStep). StandsForce seen o asked first x now u last_now e) (sym q.1) (f, same, (e, done, new))
-  terminate_tells asked first e (turns.Err x) database now s t u last last_now step left None few p q l k = absurd q.0
-  terminate_tells asked first e (turns.Item item) database now s t u last last_now step left None few p q l k = absurd q.0
-  terminate_tells asked first e (turns.Opened opened) database now s t u last last_now step left None few p q l k = absurd q.0
-  terminate_tells asked first e turn database now s t u last last_now step left (Some Pending) few p q l k = absurd q
-  terminate_tells asked first e turn database now s t u last last_now step left (Some (Ready (Ok v))) few p q l k = absurd q
-  terminate_tells asked first e (turns.Ok answer) database now s t u last last_now step left (Some (Ready (Err error))) few p q l k = absurd q.0
-  terminate_tells asked first e (turns.Err x) database now s t u last last_now step left (Some (Ready (Err error))) few p q l (f, same, (a, held, k), b) =
+      (f, same, (e, done, last_new asked f database last e same b))
+  terminate_tells asked first e (turns.Err x) database s t u last left few p h k = absurd h
+  terminate_tells asked first e (turns.Item item) database s t u last left few p h k = absurd h
+  terminate_tells asked first e (turns.Opened opened) database s t u last left few p h k = absurd h
+
+  pub terminate_fails : (asked : Result Forcing Error) (first e : D) (turn : Turn) (database now : List ℕ) (s t u last last_now : SessionSeen S A) (step : ForceStep) (left : ℕ) (error : Error) → left ≤ 256 → PollsSession seen left s.conn s t (Ready turn) → EndsBy {X = Unit {0}} is_done never turn (Err error) → StandsForce seen o asked first steps.Terminate database s last e → TellsForce seen o asked first step now u last_now e (Ready (Err error))
+  terminate_fails asked first e (turns.Err x) database now s t u last last_now step left error few p h (f, same, (a, held, k), b) =
       let w = polled s t a left (Ready (turns.Err x)) held p in
       let called : Called seen k.request k.middle w.0 (turns.Err x) = record { last = a; waits = k.waits; ends = record { left = left; few = few; polls = w.2 } } in
-      let failed : IsNotTerminated seen o f first e error = record { middle = k.middle; conn = w.0; request = k.request; asks = k.asks; called = rw q.0 called } in
+      let failed : IsNotTerminated seen o f first e error = record { middle = k.middle; conn = w.0; request = k.request; asks = k.asks; called = rw h called } in
       inr (f, same, inl failed)
-  terminate_tells asked first e (turns.Item item) database now s t u last last_now step left (Some (Ready (Err error))) few p q l k = absurd q.0
-  terminate_tells asked first e (turns.Opened opened) database now s t u last last_now step left (Some (Ready (Err error))) few p q l k = absurd q.0
+  terminate_fails asked first e (turns.Ok answer) database now s t u last last_now step left error few p h k = absurd h
+  terminate_fails asked first e (turns.Item item) database now s t u last last_now step left error few p h k = absurd h
+  terminate_fails asked first e (turns.Opened opened) database now s t u last last_now step left error few p h k = absurd h
 
   -- ---- the drop
 

@@ -146,18 +146,6 @@ TellsForce seen o asked d step database s last e Pending = StandsForce seen o as
 TellsForce seen o asked d step database s last e (Ready (Ok u)) = SucceedsForce seen o asked d e
 TellsForce seen o asked d step database s last e (Ready (Err error)) = FailsForce seen o asked d e error
 
--- what comes behind the version: its request is begun on the connection, or the call is over
-abbrev pub EndsVersion : {Q S A : Type 0} → Turn → List ℕ → SessionFor Q S A → ForceStep → SessionFor Q S A → Option (Poll (Result (Unit {0}) Error)) → Type 0
-EndsVersion turn database s step t None = (r : Request) × EndsBy (Terminating database) HidesVersion turn (Ok r) × (step ≡ steps.Terminate) × (t ≡ record s { conn = option_map (started_call r) s.conn })
-EndsVersion turn database s step t (Some (Ready (Err e))) = EndsBy (Terminating database) HidesVersion turn (Err e) × (step ≡ steps.Over)
-EndsVersion turn database s step t answer = ⊥
-
--- and behind the end of the other sessions
-abbrev pub EndsTerminate : Turn → ForceStep → Option (Poll (Result (Unit {0}) Error)) → Type 0
-EndsTerminate turn step None = EndsBy is_done never turn (Ok tt) × (step ≡ steps.Remove)
-EndsTerminate turn step (Some (Ready (Err e))) = EndsBy {X = Unit {0}} is_done never turn (Err e) × (step ≡ steps.Over)
-EndsTerminate turn step answer = ⊥
-
 -- what a step of it tells: another step is asked, or the poll ends
 abbrev pub TellsForceStep : {D S A : Type 0} → (A → LinkSeen) → Opening D S A → Result Forcing Error → D → ForceStep → List ℕ → SessionSeen S A → SessionSeen S A → D → Option (Poll (Result (Unit {0}) Error)) → Type 0
 TellsForceStep seen o asked d step database s last e None = StandsForce seen o asked d step database s last e

@@ -10,7 +10,7 @@ ghost use Rattle.pg_call.specs.declared.kind.Kind.TheVariants as kinds;
 ghost use Rattle.pg_call.specs.Answers.{TurnFits};
 ghost use Rattle.pg_migrating.specs.Databases.{EndsBy};
 ghost use Rattle.pg_migrating.specs.Errands.{AsksOf};
-ghost use Rattle.pg_migrating.specs.Forcing.{AsksForce, EndsTerminate, EndsVersion, GoesForce, HidesNumber, HidesVersion, IsNumber, StandsBy, StandsForce, StaysForce, StepGoes, TellsForce, TellsForceStep, Terminating, conn_at, is_forced, version_in};
+ghost use Rattle.pg_migrating.specs.Forcing.{AsksForce, GoesForce, HidesNumber, HidesVersion, IsNumber, StandsBy, StandsForce, StaysForce, StepGoes, TellsForce, TellsForceStep, Terminating, conn_at, is_forced, version_in};
 ghost use Rattle.pg_migrating.specs.Sessions.{fresh_session};
 ghost use Rattle.pg_migrating.specs.declared.forcing.Forcing as declared_forcing;
 ghost use Rattle.pg_migrating.specs.declared.forcing.ForceStep.TheVariants as steps;
@@ -166,43 +166,6 @@ impl<'d, D: Sessions, Q> ForceDropDatabase<'d, D, Q> {
         self.last.close();
         Poll::Ready(answer)
     }
-
-    // What comes behind the version.
-    fn end_version(&mut self, turn: Turn) -> Option<Poll<Result<(), Error>>>
-        requires { TurnFits (kinds.Run hows.FetchOne) turn }
-        ensures dial { self.new.dial.now ≡ self.old.dial.now }
-        ensures same { self.new.dial.ghost_name ≡ self.old.dial.ghost_name }
-        ensures ends { EndsVersion turn self.old.database self.old.session self.new.step self.new.session result }
-        ensures last { result ≡ None → self.new.last ≡ self.old.last }
-        ensures database { result ≡ None → self.new.database ≡ self.old.database }
-    {
-        match terminating(self.alloc, turn, self.database.as_str()) {
-            Ok(request) => {
-                self.session.ask(request);
-                self.step = ForceStep::Terminate;
-                None
-            }
-            Err(e) => Some(self.finish(Err(e))),
-        }
-    }
-
-    // What comes behind the end of the other sessions.
-    fn end_terminate(&mut self, turn: Turn) -> Option<Poll<Result<(), Error>>>
-        requires { TurnFits (kinds.Run hows.Execute) turn }
-        ensures dial { self.new.dial.now ≡ self.old.dial.now }
-        ensures same { self.new.dial.ghost_name ≡ self.old.dial.ghost_name }
-        ensures ends { EndsTerminate turn self.new.step result }
-        ensures last { result ≡ None → self.new.last ≡ self.old.last }
-    {
-        match Done::read(self.alloc, turn) {
-            Ok(()) => {
-                self.session.close();
-                self.step = ForceStep::Remove;
-                None
-            }
-            Err(e) => Some(self.finish(Err(e))),
-        }
-    }
 }
 
 impl<'d, D: Sessions> ForceDropDatabase<'d, D> {
@@ -252,23 +215,14 @@ impl<'d, D: Sessions> ForceDropDatabase<'d, D> {
     {
         match poll(self.alloc, &mut self.session, self.dial, left) {
             Poll::Pending => Some(Poll::Pending),
-            Poll::Ready(turn) => self.end_version(turn),
-        }
-    }
-
-    // One poll of the call that ends the other sessions.
-    fn poll_terminate(&mut self, left: &mut u16) -> Option<Poll<Result<(), Error>>>
-        requires left { left.old ≤ 256 }
-        requires step { self.old.step ≡ steps.Terminate }
-        requires goes { GoesForce D.opens steps.Terminate self.old.session self.old.last }
-        ensures left { left.new ≤ left.old }
-        ensures same { self.new.dial.ghost_name ≡ self.old.dial.ghost_name }
-        ensures goes { StepGoes D.opens steps.Remove self.new.step self.new.session self.new.last result }
-        ensures tells { (asked : Result declared_forcing.Forcing declared_error.Error) (first : D) → StandsForce D.L.seen D.opens asked first steps.Terminate self.old.database self.old.session self.old.last self.old.dial.now → TellsForceStep D.L.seen D.opens asked first self.new.step self.new.database self.new.session self.new.last self.new.dial.now result }
-    {
-        match self.session.poll_call(left) {
-            Poll::Pending => Some(Poll::Pending),
-            Poll::Ready(turn) => self.end_terminate(turn),
+            Poll::Ready(turn) => match terminating(self.alloc, turn, self.database.as_str()) {
+                Ok(request) => {
+                    self.session.ask(request);
+                    self.step = ForceStep::Terminate;
+                    None
+                }
+                Err(e) => Some(self.finish(Err(e))),
+            },
         }
     }
 
@@ -290,7 +244,7 @@ impl<'d, D: Sessions> ForceDropDatabase<'d, D> {
         }
     }
 
-    // The steps behind the version.
+    // The steps behind the version: one poll of the call that ends the other sessions, and where it was answered, one of the call that drops the database.
     fn poll_others(&mut self, left: &mut u16) -> Poll<Result<(), Error>>
         requires left { left.old ≤ 256 }
         requires step { self.old.step ≡ steps.Terminate }
@@ -299,9 +253,16 @@ impl<'d, D: Sessions> ForceDropDatabase<'d, D> {
         ensures goes { StaysForce D.opens self.new.step self.new.session self.new.last result }
         ensures tells { (asked : Result declared_forcing.Forcing declared_error.Error) (first : D) → StandsForce D.L.seen D.opens asked first steps.Terminate self.old.database self.old.session self.old.last self.old.dial.now → TellsForce D.L.seen D.opens asked first self.new.step self.new.database self.new.session self.new.last self.new.dial.now result }
     {
-        match self.poll_terminate(left) {
-            Some(answer) => answer,
-            None => self.poll_remove(left),
+        match self.session.poll_call(left) {
+            Poll::Pending => Poll::Pending,
+            Poll::Ready(turn) => match Done::read(self.alloc, turn) {
+                Ok(()) => {
+                    self.session.close();
+                    self.step = ForceStep::Remove;
+                    self.poll_remove(left)
+                }
+                Err(e) => self.finish(Err(e)),
+            },
         }
     }
 
