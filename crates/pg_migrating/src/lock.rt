@@ -1,21 +1,16 @@
 //! The lock of migrations.
 
-ghost use Rattle.std.specs.Prelude.{◌≡◌, ◌≤◌, ℕ, List, [], true, false, not, None, Some, Result, IfOk, IfErr};
-ghost use Rattle.futures.specs.declared.task.Poll.TheVariants.{Ready};
-ghost use Rattle.pg_wire.specs.declared.error.Error as declared_error;
+ghost use Rattle.std.specs.Prelude.{◌≡◌, ◌≤◌, ℕ, List, true, false, not, None, IfOk, IfErr};
 ghost use Rattle.pg_rows.specs.Rows.{Misreads, Reads};
 ghost use Rattle.pg_call.specs.declared.kind.How.TheVariants as hows;
 ghost use Rattle.pg_call.specs.declared.kind.Kind.TheVariants as kinds;
-ghost use Rattle.pg_call.specs.declared.request.Request as declared_request;
 ghost use Rattle.pg_call.specs.Answers.{TurnFits};
 ghost use Rattle.pg_conn.specs.Connections.{ConnOf};
 ghost use Rattle.pg_migrate.specs.Crc32.{lock_id};
-ghost use Rattle.pg_migrate.specs.Orders.{Prepared};
-ghost use Rattle.pg_migrate.specs.Texts.{current_database_text};
 ghost use Rattle.pg_migrating.specs.Answers.{EndsBy, text};
-ghost use Rattle.pg_migrating.specs.Asking.{CallsFor, Tells, is_asked, left_of};
+ghost use Rattle.pg_migrating.specs.Asking.{CallsFor, is_asked, left_of};
 ghost use Rattle.pg_migrating.specs.Locks.{CallsLock, HidesName, IsNamed, NameGoes, StandsLock, StaysLock, TellsLock, TellsName, lock_statement};
-ghost use Rattle.pg_migrating.specs.Requests.{Asks, IsRequestOf};
+ghost use Rattle.pg_migrating.specs.Requests.{IsRequestOf};
 
 use crate::asking::{Asking, Question};
 use crate::reading::told;
@@ -95,37 +90,6 @@ impl<C: PgExecutor> MigrationLock<C> {
         }
     }
 
-    // Asks for the lock of this key.
-    fn ask(&mut self, id: i64)
-        ensures conn { self.new.asking.conn ≡ self.old.asking.conn }
-        ensures asks { Asks hows.Execute 0 (lock_statement self.old.way id) self.new.asking.question }
-        ensures way { self.new.way ≡ self.old.way }
-        ensures named { self.new.is_named ≡ true }
-    {
-        self.is_named = true;
-        let question = request(self.alloc, self.way, id);
-        self.asking.ask(question);
-    }
-
-    // What comes behind the name.
-    fn end_name(&mut self, turn: Turn) -> Option<Poll<Result<(), MigrateError>>>
-        requires fits { TurnFits (kinds.Run hows.FetchOne) turn }
-        requires question { self.old.asking.question ≡ None }
-        requires named { self.old.is_named ≡ false }
-        ensures conn { self.new.asking.conn ≡ self.old.asking.conn }
-        ensures way { self.new.way ≡ self.old.way }
-        ensures goes { NameGoes self.new.is_named self.new.asking.question (C.conn self.new.asking.conn) result }
-        ensures tells { (first : ConnOf C.L) (asked : Result declared_request.Request declared_error.Error) → IsRequestOf hows.FetchOne 0 (Prepared current_database_text []) asked → Tells C.L.seen asked first (C.conn self.old.asking.conn) (Ready turn) → TellsName C.L.seen self.old.way first self.new.asking.question (C.conn self.new.asking.conn) result }
-    {
-        match key_of(self.alloc, turn) {
-            Ok(id) => {
-                self.ask(id);
-                None
-            }
-            Err(e) => Some(Poll::Ready(Err(e))),
-        }
-    }
-
     // One poll of the call that asks for the name. Where it was answered, the lock is asked, and there is no answer yet.
     fn poll_name(&mut self, left: &mut u16) -> Option<Poll<Result<(), MigrateError>>>
         requires over { is_asked self.old.asking.question (C.conn self.old.asking.conn).call ≡ true }
@@ -140,7 +104,15 @@ impl<C: PgExecutor> MigrationLock<C> {
     {
         match self.asking.poll(left) {
             Poll::Pending => Some(Poll::Pending),
-            Poll::Ready(turn) => self.end_name(turn),
+            Poll::Ready(turn) => match key_of(self.alloc, turn) {
+                Ok(id) => {
+                    self.is_named = true;
+                    let question = request(self.alloc, self.way, id);
+                    self.asking.ask(question);
+                    None
+                }
+                Err(e) => Some(Poll::Ready(Err(e))),
+            },
         }
     }
 
