@@ -21,7 +21,7 @@ use Rattle.pg_migrating.specs.Calls.{Called}
 use Rattle.pg_migrating.specs.Requests.{Asks, IsRequestOf}
 use Rattle.pg_migrating.specs.Asking.{Question, StandsAt, TellsEnd}
 use Rattle.pg_migrating.specs.Courses.{WorkSeen, IsStepOf, before, before_by, ends_work, is_open_at, next_step, rank, statement_at, statement_by, statements_by}
-use Rattle.pg_migrating.specs.Migrating.{AllRan, HasRun, IsNew, IsRead, IsTimed, Ran, Runs, StandsIn, StepEnds, StepGoes, StopsBy, Succeeds, Took, entered}
+use Rattle.pg_migrating.specs.Migrating.{AllRan, HasRun, IsNew, IsRead, IsTimed, Ran, Runs, StandsIn, StepGoes, StopsBy, Succeeds, Took, entered, Fails, told_as}
 use Rattle.pg_migrating.proofs.AskingLaws.{asks_quietly}
 
 -- ---- their order
@@ -176,12 +176,14 @@ module _ {A K : Type 0} (seen : A → LinkSeen) (sees : K → ClockSeen) (tells 
   pub step_waits : (w : WorkSeen) (first a b : ConnOf A) (zero k : K) (c : Course) (question : Question) → ((asked : Result Request Error) (from : ConnOf A) → StandsAt seen asked from question a → TellsEnd seen asked from b Pending) → Runs seen sees tells w first zero c question a k → Runs seen sees tells w first zero c None b k
   step_waits w first a b zero k c question t r = record { asked = r.asked; from = r.from; step = r.step; open_is = r.open_is; earlier = r.earlier; asks = r.asks; stands = t r.asked r.from r.stands; timed = r.timed }
 
-  pub step_ends : (w : WorkSeen) (first a b : ConnOf A) (zero k : K) (c : Course) (question : Question) (end : Result (Unit {0}) Error) → ((asked : Result Request Error) (from : ConnOf A) → StandsAt seen asked from question a → TellsEnd seen asked from b (Ready end)) → Runs seen sees tells w first zero c question a k → StepEnds seen sees tells w first zero c b k end
-  step_ends w first a b zero k c question (Ok u) t r =
+  pub step_ran : (w : WorkSeen) (first a b : ConnOf A) (zero k : K) (c : Course) (question : Question) → ((asked : Result Request Error) (from : ConnOf A) → StandsAt seen asked from question a → TellsEnd seen asked from b (Ready (Ok tt))) → Runs seen sees tells w first zero c question a k → HasRun seen sees tells w first zero c b k
+  step_ran w first a b zero k c question t r =
       let h = t r.asked r.from r.stands in
       let is = subst (λ (x : Result Request Error). IsRequestOf hows.Execute r.from.rule.depth (statement_at w c.nanos c.step) x) h.1.1 r.asks in
       record { from = r.from; step = r.step; earlier = r.earlier; ran = record { answer = h.0; called = subst (λ (x : Request). Called seen x r.from b (turns.Ok h.0)) is h.1.2 }; timed = r.timed }
-  step_ends w first a b zero k c question (Err e) t r = record { asked = r.asked; from = r.from; cause = e; step = r.step; open_is = r.open_is; earlier = r.earlier; asks = r.asks; ends = t r.asked r.from r.stands; told = refl }
+
+  pub step_fails : (w : WorkSeen) (first a b : ConnOf A) (zero k : K) (c : Course) (question : Question) (e : Error) → ((asked : Result Request Error) (from : ConnOf A) → StandsAt seen asked from question a → TellsEnd seen asked from b (Ready (Err e))) → Runs seen sees tells w first zero c question a k → Fails seen w first c b (told_as c.step w.migration.version b e)
+  step_fails w first a b zero k c question e t r = record { asked = r.asked; from = r.from; cause = e; step = r.step; open_is = r.open_is; earlier = r.earlier; asks = r.asks; ends = t r.asked r.from r.stands; told = refl }
 
   -- the first poll reads the clock
   pub begins : (w : WorkSeen) (first conn : ConnOf A) (zero a b : K) (c d : Course) (asked : Result Request Error) (time : ℕ) → IsRead sees tells a time b → d ≡ record c { start = time } → IsNew w first zero c asked conn a → Runs seen sees tells w first zero d (Some asked) conn b

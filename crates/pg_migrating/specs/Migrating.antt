@@ -149,8 +149,3 @@ pub record HasRun {A K : Type 0} (seen : A → LinkSeen) (sees : K → ClockSeen
   pub earlier : AllRan seen (before w c.step) first from
   pub ran : Ran seen (statement_at w c.nanos c.step) from conn
   pub timed : IsTimed sees tells c c.step zero clock
-
--- how it ended
-abbrev pub StepEnds : {A K : Type 0} → (A → LinkSeen) → (K → ClockSeen) → (K → ℕ → K → Type 0) → WorkSeen → ConnOf A → K → Course → ConnOf A → K → Result (Unit {0}) Error → Type 0
-StepEnds seen sees tells w first zero c conn clock (Ok u) = HasRun seen sees tells w first zero c conn clock
-StepEnds seen sees tells w first zero c conn clock (Err e) = Fails seen w first c conn (told_as c.step w.migration.version conn e)

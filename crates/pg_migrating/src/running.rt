@@ -1,12 +1,10 @@
 //! How a migration is applied, or reverted.
 
 ghost use Rattle.std.specs.Prelude.{◌≡◌, ◌≤◌, true, false, not, is_some, None, Some};
-ghost use Rattle.pg_call.specs.declared.kind.How.TheVariants as hows;
 ghost use Rattle.pg_conn.specs.Connections.{ConnOf};
 ghost use Rattle.pg_migrating.specs.Asking.{CallsQuietly, StaysQuiet, is_asked, left_of};
-ghost use Rattle.pg_migrating.specs.Courses.{ends_work, statement_at};
-ghost use Rattle.pg_migrating.specs.Requests.{Asks};
-ghost use Rattle.pg_migrating.specs.Migrating.{HasRun, Runs, StandsIn, StepEnds, StepGoes, StopsBy, TellsRun, TellsStep, entered, is_database, is_script, told_as};
+ghost use Rattle.pg_migrating.specs.Courses.{ends_work};
+ghost use Rattle.pg_migrating.specs.Migrating.{HasRun, Runs, StandsIn, StepGoes, StopsBy, TellsRun, TellsStep, is_database, is_script, told_as};
 
 use crate::asking::{Asking, Question};
 use crate::binding::version_of;
@@ -62,26 +60,6 @@ impl<'m, C: PgExecutor, K, Q> RunMigration<'m, C, K, Q> {
         } else {
             MigrateError::Execute(e)
         }
-    }
-}
-
-impl<'m, C: PgExecutor, K> RunMigration<'m, C, K> {
-    // Asks this step.
-    fn enter(&mut self, step: Step)
-        ensures conn { self.new.asking.conn ≡ self.old.asking.conn }
-        ensures asks { Asks hows.Execute (C.conn self.old.asking.conn).rule.depth (statement_at self.old.work self.old.course.nanos step) self.new.asking.question }
-        ensures clock { self.new.clock.now ≡ self.old.clock.now }
-        ensures same { self.new.clock.ghost_name ≡ self.old.clock.ghost_name }
-        ensures work { self.new.work ≡ self.old.work }
-        ensures course { self.new.course ≡ entered self.old.work.migration.no_tx step self.old.course }
-    {
-        self.course.is_open = self.work.is_open_at(step);
-        self.course.step = step;
-        let depth = self.asking.depth();
-        let question = self
-            .work
-            .request(self.alloc, step, depth, self.course.nanos);
-        self.asking.ask(question);
     }
 }
 
@@ -163,28 +141,19 @@ impl<'m, C: PgExecutor, K: Clock> RunMigration<'m, C, K> {
         self.stop_clock();
         match self.work.next_step(self.course.step) {
             Some(step) => {
-                self.enter(step);
+                self.course.is_open = self.work.is_open_at(step);
+                self.course.step = step;
+                let depth = self.asking.depth();
+                let question = self
+                    .work
+                    .request(self.alloc, step, depth, self.course.nanos);
+                self.asking.ask(question);
                 None
             }
             None => {
                 self.course.is_open = false;
                 Some(Poll::Ready(Ok(self.course.nanos)))
             }
-        }
-    }
-
-    // What comes behind the end of a step.
-    fn end_step(&mut self, end: Result<(), Error>) -> Option<Poll<Result<u64, MigrateError>>>
-        requires { self.old.asking.question ≡ None }
-        ensures conn { self.new.asking.conn ≡ self.old.asking.conn }
-        ensures same { self.new.clock.ghost_name ≡ self.old.clock.ghost_name }
-        ensures work { self.new.work ≡ self.old.work }
-        ensures goes { StepGoes self.old.course.step self.new.course.step self.new.asking.question (C.conn self.new.asking.conn) result }
-        ensures tells { (first : ConnOf C.L) (zero : K) → StepEnds C.L.seen K.seen K.tells self.old.work first zero self.old.course (C.conn self.old.asking.conn) self.old.clock.now end → TellsStep C.L.seen K.seen K.tells self.old.work first zero self.new.course self.new.asking.question (C.conn self.new.asking.conn) self.new.clock.now result }
-    {
-        match end {
-            Ok(()) => self.go_on(),
-            Err(e) => Some(Poll::Ready(Err(self.told(e)))),
         }
     }
 
@@ -202,7 +171,8 @@ impl<'m, C: PgExecutor, K: Clock> RunMigration<'m, C, K> {
     {
         match self.asking.poll_end(left) {
             Poll::Pending => Some(Poll::Pending),
-            Poll::Ready(end) => self.end_step(end),
+            Poll::Ready(Ok(())) => self.go_on(),
+            Poll::Ready(Err(e)) => Some(Poll::Ready(Err(self.told(e)))),
         }
     }
 

@@ -1,4 +1,9 @@
-use Rattle.std.proofs.Common.{ap}
+use Rattle.std.proofs.Common.{◌≡◌, Bool, ap, refl}
+use Rattle.pg_call.specs.declared.kind.How.TheVariants as hows
+use Rattle.pg_migrating.specs.Courses.{statement_at}
+use Rattle.pg_migrating.specs.Migrating.{entered}
+use Rattle.pg_migrating.specs.Requests.{Asks}
+use Rattle.pg_migrating.specs.declared.course.Course.{Course}
 use Rattle.pg_migrating.proofs.CourseLaws.{last_ends, next_goes, next_runs}
 use Rattle.pg_migrating.proofs.running.RunMigration+C+K.go_on.Goals as goal
 
@@ -6,15 +11,19 @@ pub returns-in-Some-clause-goes : goal.returns-in-Some-clause-goes
 returns-in-Some-clause-goes g c =
     let a = c.args.self.now in
     let b = c.stop_clock.new.self in
-    let d = c.enter.new.self in
-    next_goes g.C.L.Link.seen g.K.Clock.seen g.K.Clock.tells a.work b.work (g.C.PgExecutor.conn b.asking.conn) (g.C.PgExecutor.conn d.asking.conn) a.clock.now b.clock.now a.course b.course d.course c.in-Some.step d.asking.question c.stop_clock.ensures.work c.stop_clock.ensures.stops c.in-Some.ensures c.enter.ensures.asks c.enter.ensures.course
+    let d : Course = record b.course { step = c.in-Some.step; is_open = c.is_open_at-self.result } in
+    let asks : Asks hows.Execute (g.C.PgExecutor.conn b.asking.conn).rule.depth (statement_at b.work b.course.nanos c.in-Some.step) c.ask.new.self.question = rw c.ask.ensures (rw c.depth-depth.ensures at c.request-question.ensures) in
+    let enters : d ≡ entered b.work.migration.no_tx c.in-Some.step b.course = ap (λ (x : Bool). record b.course { step = c.in-Some.step; is_open = x }) c.is_open_at-self.ensures in
+    next_goes g.C.L.Link.seen g.K.Clock.seen g.K.Clock.tells a.work b.work (g.C.PgExecutor.conn b.asking.conn) (g.C.PgExecutor.conn c.ask.new.self.conn) a.clock.now b.clock.now a.course b.course d c.in-Some.step c.ask.new.self.question c.stop_clock.ensures.work c.stop_clock.ensures.stops c.in-Some.ensures asks enters
 
 pub returns-in-Some-clause-tells : goal.returns-in-Some-clause-tells
 returns-in-Some-clause-tells g c first zero h =
     let a = c.args.self.now in
     let b = c.stop_clock.new.self in
-    let d = c.enter.new.self in
-    next_runs g.C.L.Link.seen g.K.Clock.seen g.K.Clock.tells a.work b.work first (g.C.PgExecutor.conn a.asking.conn) (g.C.PgExecutor.conn b.asking.conn) (g.C.PgExecutor.conn d.asking.conn) zero a.clock.now b.clock.now d.clock.now a.course b.course d.course c.in-Some.step d.asking.question c.stop_clock.ensures.work (ap (λ x. g.C.PgExecutor.conn x.conn) c.stop_clock.ensures.asking) (ap g.C.PgExecutor.conn c.enter.ensures.conn) c.enter.ensures.clock c.stop_clock.ensures.stops c.in-Some.ensures c.enter.ensures.asks c.enter.ensures.course h
+    let d : Course = record b.course { step = c.in-Some.step; is_open = c.is_open_at-self.result } in
+    let asks : Asks hows.Execute (g.C.PgExecutor.conn b.asking.conn).rule.depth (statement_at b.work b.course.nanos c.in-Some.step) c.ask.new.self.question = rw c.ask.ensures (rw c.depth-depth.ensures at c.request-question.ensures) in
+    let enters : d ≡ entered b.work.migration.no_tx c.in-Some.step b.course = ap (λ (x : Bool). record b.course { step = c.in-Some.step; is_open = x }) c.is_open_at-self.ensures in
+    next_runs g.C.L.Link.seen g.K.Clock.seen g.K.Clock.tells a.work b.work first (g.C.PgExecutor.conn a.asking.conn) (g.C.PgExecutor.conn b.asking.conn) (g.C.PgExecutor.conn c.ask.new.self.conn) zero a.clock.now b.clock.now b.clock.now a.course b.course d c.in-Some.step c.ask.new.self.question c.stop_clock.ensures.work (ap (λ x. g.C.PgExecutor.conn x.conn) c.stop_clock.ensures.asking) (ap (λ x. g.C.PgExecutor.conn x.conn) c.ask.ensures) refl c.stop_clock.ensures.stops c.in-Some.ensures asks enters h
 
 pub returns-in-None-clause-tells : goal.returns-in-None-clause-tells
 returns-in-None-clause-tells g c first zero h =
