@@ -32,6 +32,7 @@ pub(crate) enum Step {
 
 /// How far a migration has come: the step that is asked, whether a transaction is to be rolled back where that is given up, when it began, and how
 /// long its work took, both in nanoseconds.
+#[derive(Clone, Copy)]
 pub(crate) struct Course {
     pub(crate) step: Step,
     pub(crate) is_open: bool,
@@ -50,17 +51,6 @@ impl Course {
             start: 0,
             nanos: 0,
         }
-    }
-}
-
-impl Drop for Course {
-    fn drop(self) {
-        let Course {
-            step: _,
-            is_open: _,
-            start: _,
-            nanos: _,
-        } = self;
     }
 }
 
