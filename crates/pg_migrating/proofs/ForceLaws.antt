@@ -9,7 +9,6 @@ use Rattle.pg_wire.specs.declared.error.Error.TheVariants as errors
 use Rattle.pg_rows.specs.Rows.{RowSeen}
 use Rattle.pg_call.specs.declared.kind.How.TheVariants as hows
 use Rattle.pg_call.specs.declared.kind.Kind.TheVariants as kinds
-use Rattle.pg_call.specs.declared.answer.CallAnswer.{CallAnswer}
 use Rattle.pg_call.specs.declared.answer.CallAnswer.TheVariants as answers
 use Rattle.pg_call.specs.declared.answer.Turn.{Turn}
 use Rattle.pg_call.specs.declared.answer.Turn.TheVariants as turns
@@ -24,7 +23,7 @@ use Rattle.pg_migrating.specs.Calls.{Called, Waits}
 use Rattle.pg_migrating.specs.Requests.{IsRequestOf}
 use Rattle.pg_migrating.proofs.AskingLaws.{calls_raw}
 use Rattle.pg_migrating.specs.Databases.{EndsBy, is_done, never}
-use Rattle.pg_migrating.specs.Forcing.{AsksTerminate, FailsForce, FailsVersion, GoesForce, HidesNumber, HidesVersion, IsNotTerminated, IsNumber, StandsBy, StandsForce, StaysForce, StepGoes, TellsForce, TellsForceStep, Terminated, Terminates, Terminating, version_in}
+use Rattle.pg_migrating.specs.Forcing.{AsksTerminate, FailsForce, FailsVersion, GoesForce, HidesNumber, HidesVersion, IsNotTerminated, IsNumber, StandsBy, StandsForce, StaysForce, TellsForce, Terminated, Terminates, Terminating, version_in}
 use Rattle.pg_migrating.specs.Openings.{FailsToOpen}
 use Rattle.pg_migrating.specs.Sessions.{Comes, ConnRuns, Goes, GoesBy, GoesOn, KeepsConn, Opening, PollsSession, SessionSeen, Stands, Tells}
 use Rattle.pg_migrating.proofs.SessionLaws.{call_fits, conn_runs}

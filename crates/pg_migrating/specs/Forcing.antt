@@ -1,5 +1,5 @@
 -- How a database is dropped though there are sessions on it (PostgreSQL manual, "Server Signaling Functions").
-use Rattle.std.specs.Prelude.{◌≡◌, ◌⊎◌, ℕ, ◌^◌, Bool, true, false, List, Option, Some, None, option_map, Result, Ok, Err}
+use Rattle.std.specs.Prelude.{◌≡◌, ◌⊎◌, ℕ, ◌^◌, Bool, true, false, List, Option, Some, None, Result, Ok, Err}
 use Rattle.futures.specs.declared.task.Poll.{Poll}
 use Rattle.futures.specs.declared.task.Poll.TheVariants.{Ready, Pending}
 use Rattle.pg_wire.specs.declared.error.Error.{Error}
@@ -13,20 +13,18 @@ use Rattle.pg_call.specs.declared.kind.How.TheVariants as hows
 use Rattle.pg_call.specs.declared.kind.Kind.TheVariants as kinds
 use Rattle.pg_call.specs.declared.answer.CallAnswer.{CallAnswer}
 use Rattle.pg_call.specs.declared.answer.CallAnswer.TheVariants as answers
-use Rattle.pg_call.specs.declared.answer.Turn.{Turn}
 use Rattle.pg_call.specs.declared.answer.Turn.TheVariants as turns
 use Rattle.pg_call.specs.declared.request.Request.{Request}
-use Rattle.pg_conn.specs.Connections.{ConnOf, started_call}
+use Rattle.pg_conn.specs.Connections.{ConnOf}
 use Rattle.pg_migrate.specs.Orders.{Script}
 use Rattle.pg_migrate.specs.Texts.{terminate_text}
 use Rattle.pg_migrating.specs.Answers.{text}
 use Rattle.pg_migrating.specs.Calls.{Called, Waits}
 use Rattle.pg_migrating.specs.Requests.{request_of}
-use Rattle.pg_migrating.specs.Databases.{EndsBy, is_done, never}
 use Rattle.pg_migrating.specs.Errands.{AsksOf, IsErrand, RefusesErrand}
 use Rattle.pg_migrating.specs.Names.{database_of}
 use Rattle.pg_migrating.specs.Openings.{FailsToOpen}
-use Rattle.pg_migrating.specs.Sessions.{CameTo, Comes, Fails, Goes, Opening, SessionFor, SessionSeen, Stands, fresh_session}
+use Rattle.pg_migrating.specs.Sessions.{CameTo, Comes, Fails, Goes, Opening, SessionSeen, Stands, fresh_session}
 use Rattle.pg_migrating.specs.declared.errand.Errand.{Errand}
 use Rattle.pg_migrating.specs.declared.errand.Task.TheVariants as tasks
 use Rattle.pg_migrating.specs.declared.forcing.ForceStep.{ForceStep}
