@@ -9,7 +9,7 @@ ghost use Rattle.pg_migrating.specs.declared.errand.Errand as declared_errand;
 
 use crate::opening::Sessions;
 use crate::reading::Reading;
-use crate::session::{Asked, SessionOf, poll};
+use crate::session::{SessionOf, poll};
 use crate::statement::Done;
 use pg_guards::PgExecutor;
 use pg_wire::{Error, Poll};
@@ -18,17 +18,17 @@ use std::marker::PhantomData;
 
 /// The state of a call of `MigrateDatabase` that asks one statement. Its first poll dials; once its statement is answered, its connection is let
 /// go. A drop lets go what it has opened, and leaves the dial as it is.
-pub struct DatabaseCall<'d, D: Sessions, R, Q = Asked> {
+pub struct DatabaseCall<'d, D: Sessions, R> {
     pub(crate) alloc: Global,
     pub(crate) dial: &'d mut D,
-    pub(crate) session: SessionOf<D, Q>,
+    pub(crate) session: SessionOf<D>,
     pub(crate) reading: PhantomData<R>,
 }
 
 /// The state of `create_database` and `drop_database` of `MigrateDatabase`.
 pub type DatabaseStatement<'d, D> = DatabaseCall<'d, D, Done>;
 
-impl<'d, D: Sessions, R, Q> DatabaseCall<'d, D, R, Q> {
+impl<'d, D: Sessions, R> DatabaseCall<'d, D, R> {
     /// Whether a poll has ended the call.
     pub fn is_finished(&self) -> bool
         ensures { result ≡ is_over self.now.session }
@@ -63,7 +63,7 @@ impl<'d, D: Sessions, R: Reading> DatabaseCall<'d, D, R> {
     }
 }
 
-impl<D: Sessions, R, Q: Drop> Drop for DatabaseCall<'_, D, R, Q> {
+impl<D: Sessions, R> Drop for DatabaseCall<'_, D, R> {
     fn drop(self) {
         let DatabaseCall {
             alloc: _,
