@@ -15,7 +15,8 @@ use Rattle.pg_arguments.specs.Encoded.{Encoded, wire, wires, FitsWire}
 use Rattle.pg_arguments.specs.Arguments.{Arguments, HasValues}
 use Rattle.pg_request.specs.declared.naming.Declared.{Declared}
 use Rattle.pg_arguments.specs.declared.hole.Hole.{Hole}
-use Rattle.pg_request.specs.Queries.{ArgumentsSeen, values_in, those_in, AreValues}
+use Rattle.pg_request.specs.declared.unresolved.Open.{Open}
+use Rattle.pg_request.specs.Queries.{ArgumentsSeen, values_in, those_in, AreValues, nothing_open}
 use Rattle.pg_request.specs.Asked.{bytes_of, declared_arguments, declared_names, filled, filled_by, numbers_in, patched_all, patched_first, typed_arguments}
 
 -- as many values as there are, with some bytes behind them
@@ -86,13 +87,14 @@ pub none_are_values : (bytes : List ℕ) → bytes ≡ [] → AreValues 0 bytes
 unfolding many_at
 none_are_values bytes e = rw e (refl, refl)
 
-pub no_values : (types bytes : List ℕ) (names holes : List Declared) → names ≡ [] → holes ≡ [] → record { types = types; values = values_in 0 bytes; names = names; holes = holes; open_in = None } ≡ typed_arguments types
+pub no_values : (types bytes : List ℕ) (open_ : Open) → open_ ≡ nothing_open → record { types = types; values = values_in 0 bytes; names = open_.names; holes = open_.holes; open_in = open_.given } ≡ typed_arguments types
 unfolding many_at
-no_values types bytes names holes e h = rw (e, h) refl
+no_values types bytes open_ e = rw e refl
 
-pub no_values_but : (ds : List Declared) (types bytes : List ℕ) (names holes : List Declared) → types ≡ numbers_in ds → names ≡ declared_names ds → holes ≡ [] → record { types = types; values = values_in 0 bytes; names = names; holes = holes; open_in = None } ≡ declared_arguments ds
+pub no_values_but : (ds : List Declared) (types bytes : List ℕ) (names holes : List Declared) (open_ : Open) → types ≡ numbers_in ds → names ≡ declared_names ds → holes ≡ [] → open_ ≡ record { names = names; holes = holes; given = None }
+    → record { types = types; values = values_in 0 bytes; names = open_.names; holes = open_.holes; open_in = open_.given } ≡ declared_arguments ds
 unfolding many_at
-no_values_but ds types bytes names holes e n h = rw (e, n, h) refl
+no_values_but ds types bytes names holes open_ e n h o = rw (o, e, n, h) refl
 
 -- ---- open OIDs that are known at last
 
@@ -105,15 +107,19 @@ all_types [] a = refl
 all_types (oid ∷ oids) a = all_types oids (patched_first oid a.encoded.holes a) ∙ first_types oid a.encoded.holes a
 
 -- the values are those of the arguments with the OIDs in their places
-pub filled_is : (oids : List ℕ) (seen : ArgumentsSeen) (a new : Arguments) (count : ℕ) (bytes : List ℕ) (holes : List Declared) → seen.open_in ≡ Some a → new ≡ patched_all oids a → count ≡ length new.types → bytes ≡ new.encoded.bytes → holes ≡ []
-    → record { types = seen.types; values = values_in count bytes; names = seen.names; holes = holes; open_in = None } ≡ filled oids seen
-filled_is oids seen a new count bytes holes o n c b none =
+pub filled_is : (oids : List ℕ) (seen : ArgumentsSeen) (a new : Arguments) (count : ℕ) (bytes : List ℕ) (holes : List Declared) (open_ : Open) → seen.open_in ≡ Some a → new ≡ patched_all oids a → count ≡ length new.types → bytes ≡ new.encoded.bytes → holes ≡ []
+    → open_ ≡ record { names = seen.names; holes = holes; given = None }
+    → record { types = seen.types; values = values_in count bytes; names = open_.names; holes = open_.holes; open_in = open_.given } ≡ filled oids seen
+filled_is oids seen a new count bytes holes open_ o n c b none left =
     let size : count ≡ length a.types = c ∙ ap (λ (x : Arguments). length x.types) n ∙ ap length (all_types oids a) in
     let same : bytes ≡ (patched_all oids a).encoded.bytes = b ∙ ap (λ (x : Arguments). x.encoded.bytes) n in
-    ap (λ (hs : List Declared). record { types = seen.types; values = values_in count bytes; names = seen.names; holes = hs; open_in = None }) none
+    ap (λ (x : Open). record { types = seen.types; values = values_in count bytes; names = x.names; holes = x.holes; open_in = x.given }) left
+    ∙ ap (λ (hs : List Declared). record { types = seen.types; values = values_in count bytes; names = seen.names; holes = hs; open_in = None }) none
     ∙ ap₂ (λ (k : ℕ) (bs : List ℕ). record { types = seen.types; values = values_in k bs; names = seen.names; holes = []; open_in = None }) size same ∙ sym (ap (λ (x : Option Arguments). filled_by oids x seen) o)
 
-pub unfilled_is : (oids : List ℕ) (seen : ArgumentsSeen) (holes : List Declared) → seen.open_in ≡ None → holes ≡ [] → record { types = seen.types; values = seen.values; names = seen.names; holes = holes; open_in = None } ≡ filled oids seen
-unfilled_is oids seen holes o none =
-    ap (λ (hs : List Declared). record { types = seen.types; values = seen.values; names = seen.names; holes = hs; open_in = None }) none
+pub unfilled_is : (oids : List ℕ) (seen : ArgumentsSeen) (holes : List Declared) (open_ : Open) → seen.open_in ≡ None → holes ≡ [] → open_ ≡ record { names = seen.names; holes = holes; given = None }
+    → record { types = seen.types; values = seen.values; names = open_.names; holes = open_.holes; open_in = open_.given } ≡ filled oids seen
+unfilled_is oids seen holes open_ o none left =
+    ap (λ (x : Open). record { types = seen.types; values = seen.values; names = x.names; holes = x.holes; open_in = x.given }) left
+    ∙ ap (λ (hs : List Declared). record { types = seen.types; values = seen.values; names = seen.names; holes = hs; open_in = None }) none
     ∙ ap (λ (x : Option Arguments). record { types = seen.types; values = seen.values; names = seen.names; holes = []; open_in = x }) (sym o) ∙ sym (ap (λ (x : Option Arguments). filled_by oids x seen) o)

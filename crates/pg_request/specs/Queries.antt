@@ -1,8 +1,10 @@
 -- What is seen of a query and of its arguments.
 use Rattle.std.specs.Prelude.{◌≡◌, ℕ, Bool, false, List, [], length, flat_map, Option, Some, None, Result, Ok, Err}
+use Rattle.std.specs.Global.{Box}
 use Rattle.pg_wire.specs.Bytes.{value}
 use Rattle.pg_arguments.specs.Arguments.{Arguments}
 use Rattle.pg_request.specs.declared.naming.Declared.{Declared}
+use Rattle.pg_request.specs.declared.unresolved.Open.{Open}
 use Rattle.pg_wire.specs.Reading.{value_at, many_at}
 
 -- the types of arguments, and their values in order; a null is None. Where a type is known by its name alone, all are told as they were declared; and where
@@ -13,6 +15,17 @@ pub record ArgumentsSeen : Type 0 where
   pub names : List Declared
   pub holes : List Declared
   pub open_in : Option Arguments
+
+-- what has to be looked up for arguments
+abbrev pub OpenOf : Type 0
+OpenOf = Open
+
+abbrev pub nothing_open : Open
+nothing_open = record { names = []; holes = []; given = None }
+
+abbrev pub opened : Option (Box Open) → Open
+opened None = nothing_open
+opened (Some parts) = parts.value
 
 -- a text; its arguments, where it is one of the extended query; and whether its statement is to be kept
 pub record QueryText : Type 0 where

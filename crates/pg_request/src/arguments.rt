@@ -5,6 +5,7 @@ ghost use Rattle.pg_request.specs.Asked.{oids_in, filled, names_in, patched_all,
 use crate::naming::{
     Declared, all_declared, are_numbered, copy_declared, declared_names, numbers_in, types_of_holes,
 };
+use crate::unresolved::{Open, Unresolved};
 use pg_arguments::{PgArguments, PgTypeInfo};
 use pg_wire::{Blob, Error, Oid, Oids, Sequence, Text};
 use std::alloc::Global;
@@ -16,10 +17,7 @@ pub struct Arguments {
     types: Oids,
     count: u64,
     encoded: Blob,
-    names: Sequence<Declared>,
-    holes: Sequence<Declared>,
-    // As they were given, where OIDs are open within their values.
-    given: Option<PgArguments>,
+    unresolved: Unresolved,
 }
 
 // By hand, so that whoever lets one go makes one call, and doesn't go through its parts.
@@ -29,9 +27,7 @@ impl Drop for Arguments {
             types: _,
             count: _,
             encoded: _,
-            names: _,
-            holes: _,
-            given: _,
+            unresolved: _,
         } = self;
     }
 }
@@ -41,7 +37,7 @@ impl Model for Arguments {
 
     ghost Value = { ArgumentsSeen };
 
-    ghost view = { λ a. record { types = a.types; values = values_in a.count a.encoded; names = a.names; holes = a.holes; open_in = a.given } };
+    ghost view = { λ a. record { types = a.types; values = values_in a.count a.encoded; names = a.unresolved.names; holes = a.unresolved.holes; open_in = a.unresolved.given } };
 
     ghost invariant = { λ a. AreValues a.count a.encoded };
 }
@@ -81,17 +77,6 @@ fn where_open(alloc: Global, arguments: &PgArguments) -> Result<Option<PgArgumen
     }
 }
 
-// The same again.
-fn copied_given(given: &Option<PgArguments>, alloc: Global) -> Result<Option<PgArguments>, Error>
-    ensures copy { IfOk result (λ a. a ≡ given.now) }
-    ensures memory { IfErr result (λ e. e ≡ Error.OutOfMemory) }
-{
-    match given {
-        Some(arguments) => Ok(Some(arguments.to_copy(alloc)?)),
-        None => Ok(None),
-    }
-}
-
 // Writes an OID in the place of the first that is open.
 fn patch_first(arguments: &mut PgArguments, oid: Oid)
     ensures { arguments.new ≡ patched_first oid arguments.old.encoded.holes arguments.old }
@@ -120,9 +105,7 @@ impl Arguments {
             types,
             count: 0,
             encoded: Blob::new(alloc),
-            names: Sequence::new(alloc),
-            holes: Sequence::new(alloc),
-            given: None,
+            unresolved: Unresolved::none(),
         }
     }
 
@@ -133,13 +116,17 @@ impl Arguments {
     {
         let types = numbers_in(alloc, declared)?;
         let names = copy_declared(alloc, declared_names(declared))?;
+        let open = Open {
+            names,
+            holes: Sequence::new(alloc),
+            given: None,
+        };
+        let unresolved = Unresolved::of(alloc, open)?;
         Ok(Arguments {
             types,
             count: 0,
             encoded: Blob::new(alloc),
-            names,
-            holes: Sequence::new(alloc),
-            given: None,
+            unresolved,
         })
     }
 
@@ -160,14 +147,18 @@ impl Arguments {
         let names = names_in(alloc, arguments.types())?;
         let holes = types_of_holes(alloc, arguments.holes())?;
         let given = where_open(alloc, arguments)?;
+        let open = Open {
+            names,
+            holes,
+            given,
+        };
+        let unresolved = Unresolved::of(alloc, open)?;
         let encoded = Blob::from_slice(alloc, arguments.encoded())?;
         Ok(Arguments {
             types,
             count: arguments.len() as u64,
             encoded,
-            names,
-            holes,
-            given,
+            unresolved,
         })
     }
 
@@ -175,7 +166,7 @@ impl Arguments {
     pub fn holes(&self) -> &[Declared]
         ensures { result.now ≡ self.now.holes }
     {
-        self.holes.as_slice()
+        self.unresolved.holes()
     }
 
     /// The same, once these are the open OIDs. Only want of memory refuses them.
@@ -187,18 +178,25 @@ impl Arguments {
             types,
             count,
             encoded,
+            unresolved,
+        } = self;
+        let Open {
             names,
             holes: _,
             given,
-        } = self;
+        } = unresolved.into_open(alloc);
+        let left = Open {
+            names,
+            holes: Sequence::new(alloc),
+            given: None,
+        };
+        let unresolved = Unresolved::of(alloc, left)?;
         let Some(mut arguments) = given else {
             return Ok(Arguments {
                 types,
                 count,
                 encoded,
-                names,
-                holes: Sequence::new(alloc),
-                given: None,
+                unresolved,
             });
         };
         patch_all(&mut arguments, oids);
@@ -207,9 +205,7 @@ impl Arguments {
             types,
             count: arguments.len() as u64,
             encoded,
-            names,
-            holes: Sequence::new(alloc),
-            given: None,
+            unresolved,
         })
     }
 
@@ -217,7 +213,7 @@ impl Arguments {
     pub fn names(&self) -> &[Declared]
         ensures { result.now ≡ self.now.names }
     {
-        self.names.as_slice()
+        self.unresolved.names()
     }
 
     /// The same, once the OID of each type is known.
@@ -228,17 +224,13 @@ impl Arguments {
             types: _,
             count,
             encoded,
-            names: _,
-            holes,
-            given,
+            unresolved,
         } = self;
         Arguments {
             types,
             count,
             encoded,
-            names: Sequence::new(alloc),
-            holes,
-            given,
+            unresolved: unresolved.without_names(alloc),
         }
     }
 
@@ -271,16 +263,12 @@ impl Arguments {
     {
         let types = self.types.to_copy(alloc)?;
         let encoded = Blob::from_slice(alloc, self.encoded.as_bytes())?;
-        let names = copy_declared(alloc, self.names.as_slice())?;
-        let holes = copy_declared(alloc, self.holes.as_slice())?;
-        let given = copied_given(&self.given, alloc)?;
+        let unresolved = self.unresolved.to_copy(alloc)?;
         Ok(Arguments {
             types,
             count: self.count,
             encoded,
-            names,
-            holes,
-            given,
+            unresolved,
         })
     }
 }

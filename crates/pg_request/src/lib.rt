@@ -9,6 +9,7 @@ mod preparation;
 mod progress;
 mod query;
 mod texts;
+mod unresolved;
 
 pub use arguments::Arguments;
 pub use naming::{Declared, copy_declared, declared_names};

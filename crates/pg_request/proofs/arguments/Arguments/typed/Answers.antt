@@ -5,4 +5,4 @@ pub invariant_of-result : goal.invariant_of-result
 invariant_of-result c = none_are_values c.new.result c.new.ensures
 
 pub returns : goal.returns
-returns c = no_values c.args.types c.new.result c.new-2.result c.new-3.result c.new-2.ensures c.new-3.ensures
+returns c = no_values c.args.types c.new.result c.none.result c.none.ensures
