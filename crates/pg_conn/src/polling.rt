@@ -42,6 +42,13 @@ fn ends_copy(error: &Error) -> bool
     }
 }
 
+// Whether the exchange hands on what is asked next. Most polls don't, and their answers needn't be moved to be told apart.
+fn may_hand_on(answer: &Poll<Turn>) -> bool
+    ensures { result ≡ false → HandsOnNone answer.now }
+{
+    matches!(answer, Poll::Ready(Turn::Ok(CallAnswer::Next(_))))
+}
+
 // What is asked next, where the exchange hands it on, or else the answer of the poll.
 fn next_of(answer: Poll<Turn>) -> Result<Request, Poll<Turn>>
     ensures next { IfOk result (λ next. answer ≡ hands_on next) }
@@ -520,7 +527,11 @@ impl<L: Link> PgConnection<L> {
         ensures { PollsOn (seen_by L.seen self.old) (seen_by L.seen self.new) result }
     {
         loop {
-            match next_of(self.poll_on()) {
+            let answer = self.poll_on();
+            if !may_hand_on(&answer) {
+                return answer;
+            }
+            match next_of(answer) {
                 Ok(told) => {
                     if let Err(e) = self.hand_on(told) {
                         return Poll::Ready(Turn::Err(e));
