@@ -24,8 +24,8 @@ use Rattle.pg_call.specs.declared.kind.How.TheVariants as hows
 use Rattle.pg_call.specs.declared.kind.Kind.{Kind}
 use Rattle.pg_call.specs.declared.kind.Kind.TheVariants as kinds
 use Rattle.pg_call.specs.declared.tally.Tally.{Tally}
-use Rattle.pg_call.specs.declared.statement.Rest.{Rest}
-use Rattle.pg_call.specs.declared.statement.Rest.TheVariants as rests
+use Rattle.pg_call.specs.declared.after.Rest.{Rest}
+use Rattle.pg_call.specs.declared.after.Rest.TheVariants as rests
 use Rattle.pg_call.specs.declared.answer.CallAnswer.TheVariants as answers
 use Rattle.pg_exchanges.specs.Answering.{described}
 use Rattle.pg_call.specs.declared.request.Request.{Request}

@@ -5,11 +5,11 @@ use Rattle.pg_call.specs.contracts.statement.Described as Described
 use Rattle.pg_call.specs.contracts.statement.Extended as Extended
 use Rattle.pg_call.specs.contracts.statement.Bound as Bound
 use Rattle.pg_call.specs.contracts.statement.Prepared as Prepared
-use Rattle.pg_call.specs.contracts.statement.After as After
-use Rattle.pg_call.specs.contracts.statement.Eviction as Eviction
-use Rattle.pg_call.specs.contracts.statement.Filling as Filling
-use Rattle.pg_call.specs.contracts.statement.Lookup as Lookup
-use Rattle.pg_call.specs.contracts.statement.Rest as Rest
+use Rattle.pg_call.specs.contracts.after.After as After
+use Rattle.pg_call.specs.contracts.after.Eviction as Eviction
+use Rattle.pg_call.specs.contracts.after.Filling as Filling
+use Rattle.pg_call.specs.contracts.after.Lookup as Lookup
+use Rattle.pg_call.specs.contracts.after.Rest as Rest
 use Rattle.pg_call.specs.contracts.feed.Feed as Feed
 use Rattle.pg_call.specs.contracts.request.Request as Request
 use Rattle.pg_call.specs.contracts.waiting.Waiting as Waiting

@@ -21,8 +21,8 @@ use Rattle.pg_call.specs.declared.calling.Call.{Call}
 use Rattle.pg_call.specs.declared.calling.Call.TheVariants as calls
 use Rattle.pg_call.specs.declared.statement.Goal.{Goal}
 use Rattle.pg_call.specs.declared.statement.Goal.TheVariants as goals
-use Rattle.pg_call.specs.declared.statement.After.{After}
-use Rattle.pg_call.specs.declared.statement.After.TheVariants as afters
+use Rattle.pg_call.specs.declared.after.After.{After}
+use Rattle.pg_call.specs.declared.after.After.TheVariants as afters
 use Rattle.pg_call.specs.Requests.{kind_of, main_kind, goal_kind, after_kind, request_behind}
 use Rattle.pg_call.specs.Items.{answer_to, own_items, tally_of, yields, finished, one_row, begun}
 use Rattle.pg_call.specs.Answers.{AnswerFits}

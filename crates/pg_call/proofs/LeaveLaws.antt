@@ -20,7 +20,7 @@ use Rattle.pg_call.specs.Requests.{Group, said_in, kind_of, groups_of, messages_
 use Rattle.pg_call.specs.declared.tally.Tally.{Tally}
 use Rattle.pg_call.specs.Items.{items_of, shown, empty_tally, tally_of, keeps_all, keeps_first}
 use Rattle.pg_call.specs.Hearing.{fresh_reply, sent_rest}
-use Rattle.pg_call.specs.declared.statement.Rest.{Rest}
+use Rattle.pg_call.specs.declared.after.Rest.{Rest}
 use Rattle.pg_call.specs.Drains.{is_error, before_readys, after_readys, drain_fails}
 use Rattle.pg_call.specs.Calls.{answer_by, CallIs, IsDraining, IsClosing, Leaves, IsFine, EndsByReady, CallEnds, owes_own}
 use Rattle.pg_call.proofs.DrainLaws.{count-cons, after_nil, before_nil}

@@ -4,12 +4,12 @@ use Rattle.pg_values.specs.declared.format.PgValueFormat.TheVariants as formats
 use Rattle.pg_rows.specs.declared.heading.Heading.{Heading}
 use Rattle.pg_call.specs.declared.statement.Extended.{Extended}
 use Rattle.pg_call.specs.declared.statement.Bound.{Bound}
-use Rattle.pg_call.specs.declared.statement.Eviction.{Eviction}
-use Rattle.pg_call.specs.declared.statement.Filling.{Filling}
-use Rattle.pg_call.specs.declared.statement.Lookup.{Lookup}
+use Rattle.pg_call.specs.declared.after.Eviction.{Eviction}
+use Rattle.pg_call.specs.declared.after.Filling.{Filling}
+use Rattle.pg_call.specs.declared.after.Lookup.{Lookup}
 use Rattle.pg_call.specs.declared.statement.Prepared.{Prepared}
-use Rattle.pg_call.specs.declared.statement.Rest.{Rest}
-use Rattle.pg_call.specs.declared.statement.Rest.TheVariants as rests
+use Rattle.pg_call.specs.declared.after.Rest.{Rest}
+use Rattle.pg_call.specs.declared.after.Rest.TheVariants as rests
 use Rattle.pg_call.specs.declared.request.Request.{Request}
 use Rattle.pg_call.specs.declared.request.Request.TheVariants as requests
 use Rattle.pg_call.specs.declared.waiting.Waiting.{Waiting}

@@ -16,8 +16,8 @@ use Rattle.pg_call.specs.declared.kind.Kind.{Kind}
 use Rattle.pg_call.specs.declared.answer.CallItem.{CallItem}
 use Rattle.pg_call.specs.declared.answer.CallAnswer.{CallAnswer}
 use Rattle.pg_call.specs.declared.answer.CallAnswer.TheVariants as answers
-use Rattle.pg_call.specs.declared.statement.Rest.{Rest}
-use Rattle.pg_call.specs.declared.statement.Rest.TheVariants as rests
+use Rattle.pg_call.specs.declared.after.Rest.{Rest}
+use Rattle.pg_call.specs.declared.after.Rest.TheVariants as rests
 use Rattle.pg_call.specs.declared.request.Request.{Request}
 use Rattle.pg_call.specs.declared.request.Request.TheVariants as requests
 use Rattle.pg_call.specs.declared.waiting.Waiting.{Waiting}

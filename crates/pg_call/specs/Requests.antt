@@ -34,10 +34,10 @@ use Rattle.pg_call.specs.declared.statement.Described.{Described}
 use Rattle.pg_call.specs.declared.statement.Extended.{Extended}
 use Rattle.pg_call.specs.declared.statement.Bound.{Bound}
 use Rattle.pg_call.specs.declared.statement.Prepared.{Prepared}
-use Rattle.pg_call.specs.declared.statement.After.{After}
-use Rattle.pg_call.specs.declared.statement.After.TheVariants as afters
-use Rattle.pg_call.specs.declared.statement.Rest.{Rest}
-use Rattle.pg_call.specs.declared.statement.Rest.TheVariants as rests
+use Rattle.pg_call.specs.declared.after.After.{After}
+use Rattle.pg_call.specs.declared.after.After.TheVariants as afters
+use Rattle.pg_call.specs.declared.after.Rest.{Rest}
+use Rattle.pg_call.specs.declared.after.Rest.TheVariants as rests
 use Rattle.pg_call.specs.declared.feed.Feed.{Feed}
 use Rattle.pg_call.specs.declared.request.Request.{Request}
 use Rattle.pg_call.specs.declared.request.Sort.{Sort}

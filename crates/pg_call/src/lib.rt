@@ -4,6 +4,7 @@
 //! what a caller asks, and `Running`, which takes the messages.
 #![tactic(auto)]
 
+mod after;
 mod answer;
 mod calling;
 mod feed;
@@ -22,6 +23,7 @@ mod tally;
 mod waiting;
 mod writing;
 
+pub use after::{After, Eviction, Filling, Lookup, Rest};
 pub use answer::{CallAnswer, CallItem, Turn};
 pub use calling::{Beat, Call, Taken};
 pub use feed::Feed;
@@ -34,8 +36,6 @@ pub use reply::{Heard, Reply};
 pub use request::{Request, Sort};
 pub use rollback::rollback_frame;
 pub use running::Running;
-pub use statement::{
-    After, Bound, Described, Eviction, Extended, Filling, Goal, Lookup, Prepared, Rest,
-};
+pub use statement::{Bound, Described, Extended, Goal, Prepared};
 pub use tally::Tally;
 pub use waiting::Waiting;

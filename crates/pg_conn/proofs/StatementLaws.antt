@@ -22,8 +22,8 @@ use Rattle.pg_call.specs.declared.request.Request.TheVariants as requests
 use Rattle.pg_call.specs.declared.request.Sort.{Sort}
 use Rattle.pg_call.specs.declared.request.Sort.TheVariants as sorts
 use Rattle.pg_call.specs.declared.statement.Bound.{Bound}
-use Rattle.pg_call.specs.declared.statement.After.{After}
-use Rattle.pg_call.specs.declared.statement.After.TheVariants as afters
+use Rattle.pg_call.specs.declared.after.After.{After}
+use Rattle.pg_call.specs.declared.after.After.TheVariants as afters
 use Rattle.pg_call.specs.Requests.{after_kind, behind_goal, bound_by, bound_for, goal_kind, keeping_of, main_kind, named_keeping, request_behind, sort_of}
 use Rattle.pg_conn.specs.Statements.{asked_as, asked_by, behind_description, by_leaving, entry_of, held_as, held_behind, held_by, leaving, moved, number_for, prepare_by, query_by, run_or_describe, tell_or_describe, unmoved}
 

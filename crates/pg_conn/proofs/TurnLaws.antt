@@ -7,8 +7,8 @@ use Rattle.pg_call.specs.declared.kind.Kind.TheVariants as kinds
 use Rattle.pg_call.specs.declared.kind.Keeping.TheVariants as keepings
 use Rattle.pg_call.specs.declared.statement.Goal.{Goal}
 use Rattle.pg_call.specs.declared.statement.Goal.TheVariants as goals
-use Rattle.pg_call.specs.declared.statement.After.{After}
-use Rattle.pg_call.specs.declared.statement.After.TheVariants as afters
+use Rattle.pg_call.specs.declared.after.After.{After}
+use Rattle.pg_call.specs.declared.after.After.TheVariants as afters
 use Rattle.futures.specs.declared.task.Poll.{Poll}
 use Rattle.pg_call.specs.declared.answer.Turn.{Turn}
 use Rattle.pg_call.specs.declared.answer.Turn.TheVariants as turns
@@ -55,8 +55,8 @@ use Rattle.pg_call.specs.declared.calling.Taken.{Taken}
 use Rattle.pg_call.specs.declared.running.Running.{Running}
 use Rattle.pg_call.specs.Requests.{Group, spelled, copy_fail, feeding, kind_of, after_kind, goal_kind, main_kind, messages_of, name_of, rest_of, running_bound, is_flush, is_close, CanBeSaid, IsRefusal}
 use Rattle.pg_call.specs.Hearing.{framed, fails_of, fresh_reply, awaits, waits, waiting_for, is_look, looks_up, sent_answer, sent_rest, IsReplied}
-use Rattle.pg_call.specs.declared.statement.Rest.{Rest}
-use Rattle.pg_call.specs.declared.statement.Rest.TheVariants as rests
+use Rattle.pg_call.specs.declared.after.Rest.{Rest}
+use Rattle.pg_call.specs.declared.after.Rest.TheVariants as rests
 use Rattle.pg_call.specs.Items.{yields}
 use Rattle.pg_call.specs.Calls.{owes_own, CallIs, IsAwaiting, CallEnds, CallTakes, Leaves, EndsByReady, StaysIn, TakesMessage, RefusesMessage}
 use Rattle.pg_call.proofs.CallLaws.{own_errs}

@@ -16,12 +16,12 @@ use Rattle.pg_call.specs.declared.kind.Keeping.{Keeping}
 use Rattle.pg_call.specs.declared.kind.Keeping.TheVariants as keepings
 use Rattle.pg_call.specs.declared.statement.Extended.{Extended}
 use Rattle.pg_call.specs.declared.statement.Described.{Described}
-use Rattle.pg_call.specs.declared.statement.Eviction.{Eviction}
+use Rattle.pg_call.specs.declared.after.Eviction.{Eviction}
 use Rattle.pg_call.specs.declared.statement.Bound.{Bound}
-use Rattle.pg_call.specs.declared.statement.Filling.{Filling}
-use Rattle.pg_call.specs.declared.statement.Lookup.{Lookup}
-use Rattle.pg_call.specs.declared.statement.After.{After}
-use Rattle.pg_call.specs.declared.statement.After.TheVariants as afters
+use Rattle.pg_call.specs.declared.after.Filling.{Filling}
+use Rattle.pg_call.specs.declared.after.Lookup.{Lookup}
+use Rattle.pg_call.specs.declared.after.After.{After}
+use Rattle.pg_call.specs.declared.after.After.TheVariants as afters
 use Rattle.pg_call.specs.declared.request.Request.{Request}
 use Rattle.pg_call.specs.declared.request.Request.TheVariants as requests
 use Rattle.pg_call.specs.declared.answer.CallAnswer.TheVariants as answers

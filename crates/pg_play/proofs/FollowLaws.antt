@@ -5,7 +5,7 @@ use Rattle.pg_conn.specs.Looking.{described_with}
 use Rattle.pg_columns.proofs.ToldLaws.{length_columns}
 use Rattle.pg_columns.specs.Told.{columns_of}
 use Rattle.pg_columns.specs.declared.column.PgColumn.{PgColumn}
-use Rattle.pg_call.specs.declared.statement.Filling.{Filling}
+use Rattle.pg_call.specs.declared.after.Filling.{Filling}
 use Rattle.std.proofs.Common.{◌≡◌, Ok, ℕ, zero, suc, ◌<◌, nat_eq, Bool, true, false, cond, ◌&&◌, List, [], ◌∷◌, ◌++◌, length, map, subst, refl, sym, ap, ◌∙◌, arith, append_assoc, Option, Some, None, option_map, inl, inr, bytes_eq, ◌||◌, is_some, unwrap_or, option_to_list, ap₂, IsSome}
 use Rattle.std.specs.List.{AllByRecursion}
 use Rattle.std.proofs.lemmas.Option.{same_Some}
@@ -31,11 +31,11 @@ use Rattle.pg_call.specs.declared.kind.Keeping.TheVariants as keepings
 use Rattle.pg_call.specs.declared.statement.Extended.{Extended}
 use Rattle.pg_call.specs.declared.statement.Described.{Described}
 use Rattle.pg_call.specs.declared.statement.Bound.{Bound}
-use Rattle.pg_call.specs.declared.statement.Eviction.{Eviction}
-use Rattle.pg_call.specs.declared.statement.Lookup.{Lookup}
+use Rattle.pg_call.specs.declared.after.Eviction.{Eviction}
+use Rattle.pg_call.specs.declared.after.Lookup.{Lookup}
 use Rattle.pg_call.specs.declared.statement.Prepared.{Prepared}
-use Rattle.pg_call.specs.declared.statement.After.{After}
-use Rattle.pg_call.specs.declared.statement.After.TheVariants as afters
+use Rattle.pg_call.specs.declared.after.After.{After}
+use Rattle.pg_call.specs.declared.after.After.TheVariants as afters
 use Rattle.pg_call.specs.declared.statement.Goal.{Goal}
 use Rattle.pg_call.specs.declared.statement.Goal.TheVariants as goals
 use Rattle.pg_call.specs.declared.request.Request.{Request}

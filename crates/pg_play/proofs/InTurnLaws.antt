@@ -1,5 +1,5 @@
 -- The exchanges of a step, one behind another: an induction over those that were handed on.
-use Rattle.pg_call.specs.declared.statement.Filling.{Filling}
+use Rattle.pg_call.specs.declared.after.Filling.{Filling}
 use Rattle.std.proofs.Common.{◌≡◌, ℕ, ◌+◌, ◌-◌, ◌*◌, ◌^◌, ◌≤◌, ◌<◌, true, false, List, [], ◌∷◌, ◌++◌, length, refl, sym, ap, ◌∙◌, subst, arith, append-nil, ap₂, Option, Some, None, sum_by}
 use Rattle.std.specs.List.{AllByRecursion}
 use Rattle.pg_wire.specs.Frame.{Frame}
@@ -52,7 +52,7 @@ use Rattle.pg_play.specs.Told.{HasNoError}
 use Rattle.pg_rule.specs.declared.rule.Rule.{Rule}
 use Rattle.pg_rule.specs.Rules.{IsOrderly}
 use Rattle.pg_call.specs.declared.statement.Extended.{Extended}
-use Rattle.pg_call.specs.declared.statement.Eviction.{Eviction}
+use Rattle.pg_call.specs.declared.after.Eviction.{Eviction}
 use Rattle.pg_learning.specs.declared.learnt.Learnt.{Learnt}
 use Rattle.pg_script.specs.declared.step.Call.TheVariants as calls
 use Rattle.pg_script.specs.declared.step.Parting.{Parting}

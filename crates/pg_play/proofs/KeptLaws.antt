@@ -33,9 +33,9 @@ use Rattle.pg_call.specs.declared.kind.Keeping.{Keeping}
 use Rattle.pg_call.specs.declared.kind.Keeping.TheVariants as keepings
 use Rattle.pg_call.specs.declared.statement.Extended.{Extended}
 use Rattle.pg_call.specs.declared.statement.Described.{Described}
-use Rattle.pg_call.specs.declared.statement.Eviction.{Eviction}
-use Rattle.pg_call.specs.declared.statement.After.{After}
-use Rattle.pg_call.specs.declared.statement.After.TheVariants as afters
+use Rattle.pg_call.specs.declared.after.Eviction.{Eviction}
+use Rattle.pg_call.specs.declared.after.After.{After}
+use Rattle.pg_call.specs.declared.after.After.TheVariants as afters
 use Rattle.pg_call.specs.declared.statement.Goal.{Goal}
 use Rattle.pg_call.specs.declared.statement.Goal.TheVariants as goals
 use Rattle.pg_call.specs.declared.request.Request.{Request}

@@ -6,8 +6,8 @@ use Rattle.pg_wire.specs.Backend.{BackendMessage}
 use Rattle.pg_call.specs.declared.kind.Keeping.TheVariants as keepings
 use Rattle.pg_call.specs.declared.request.Request.{Request}
 use Rattle.pg_call.specs.declared.request.Request.TheVariants as requests
-use Rattle.pg_call.specs.declared.statement.After.{After}
-use Rattle.pg_call.specs.declared.statement.After.TheVariants as afters
+use Rattle.pg_call.specs.declared.after.After.{After}
+use Rattle.pg_call.specs.declared.after.After.TheVariants as afters
 use Rattle.pg_call.specs.declared.statement.Described.{Described}
 use Rattle.pg_call.specs.declared.statement.Extended.{Extended}
 use Rattle.pg_call.specs.Requests.{Group, request_behind, looked_behind}

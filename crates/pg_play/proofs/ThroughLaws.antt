@@ -3,8 +3,8 @@ use Rattle.std.proofs.Common.{nat_eq, cond, ◌≡◌, ℕ, ◌+◌, ◌*◌, �
 use Rattle.std.proofs.lemmas.Option.{same_Some}
 use Rattle.pg_wire.specs.Backend.{BackendMessage}
 use Rattle.pg_rule.specs.declared.rule.Rule.{Rule}
-use Rattle.pg_call.specs.declared.statement.After.TheVariants as afters
-use Rattle.pg_call.specs.declared.statement.After.{After}
+use Rattle.pg_call.specs.declared.after.After.TheVariants as afters
+use Rattle.pg_call.specs.declared.after.After.{After}
 use Rattle.pg_call.specs.declared.statement.Goal.TheVariants as goals
 use Rattle.pg_call.specs.declared.statement.Goal.{Goal}
 use Rattle.pg_call.specs.declared.calling.Call.{Call}
