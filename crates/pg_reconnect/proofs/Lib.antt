@@ -1,8 +1,11 @@
 pub mod BufferingLaws
+pub mod ChangingLaws
 pub mod ClosedLaws
 pub mod DialLaws
 pub mod FailingLaws
 pub mod HearingLaws
+pub mod HeldLaws
+pub mod PollLaws
 pub mod QueryingLaws
 pub mod ReleasingLaws
 pub mod TellingLaws

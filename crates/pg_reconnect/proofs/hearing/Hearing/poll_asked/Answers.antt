@@ -1,22 +1,60 @@
-use Rattle.std.proofs.Common.{ap, arith, inl, refl}
+use Rattle.std.proofs.Common.{◌∙◌, List, [], ℕ, unwrap_or, ap, inl, refl, subst, sym}
+use Rattle.std.proofs.Math.Nat.{le_refl, le_trans}
+use Rattle.pg_listening.specs.Listening.{stored_behind}
+use Rattle.pg_reconnect.specs.Hearing.{Changes, HearingOf, HearsBy}
+use Rattle.pg_reconnect.proofs.BufferingLaws.{hears_behind}
 use Rattle.pg_reconnect.proofs.FailingLaws.{caused_beside, caused_on}
 use Rattle.pg_reconnect.proofs.HearingLaws.{hears_nothing}
 use Rattle.pg_reconnect.proofs.WaitingLaws.{waits_then}
 use Rattle.pg_reconnect.proofs.hearing.Hearing.poll_asked.Goals as goal
 
-pub returns-then-not-listens-clause-causes : goal.returns-then-not-listens-clause-causes
-returns-then-not-listens-clause-causes g c = caused_beside g.L.Link.seen _ _ _ _ _ c.poll_fewer.result refl c.poll_fewer.ensures.causes
+pub returns-then-not-listens : goal.returns-then-not-listens
+returns-then-not-listens g c =
+    let told = c.poll_fewer.ensures in
+    record {
+      hears = told.hears;
+      changes = told.changes;
+      seat = refl;
+      left = told.left;
+      loss = told.loss;
+      causes = caused_beside g.L.Link.seen _ _ _ _ _ c.poll_fewer.result refl told.causes;
+    }
 
-pub returns-in-Pending-clause-causes : goal.returns-in-Pending-clause-causes
-returns-in-Pending-clause-causes g c =
-    let conn = ap (λ h. h.listening.conn) c.self.view_is in
-    let startup = ap (λ h. h.startup) c.self.view_is in
-    waits_then g.L.Link.seen _ _ _ _ c.args.self.now c.poll_connected.new.self _ (hears_nothing g.L.Link.seen _ _ refl) (inl refl) (omega arith) conn startup c.in-Pending.ensures.causes
+pub returns-in-Pending : goal.returns-in-Pending
+returns-in-Pending g c =
+    let seen = g.L.Link.seen in
+    let a = c.args.self.now in
+    let view = c.self.view_is in
+    let told = c.in-Pending.ensures in
+    let channels = ap (λ h. h.listening.channels) view ∙ told.channels in
+    record {
+      hears = subst (λ (h : HearingOf _). HearsBy seen a h []) (sym view) told.hears;
+      changes = (channels, ap (λ (l : List (List ℕ)). unwrap_or (stored_behind c.args.change l) l) channels, refl);
+      seat = told.seat;
+      left = told.left;
+      loss = ap (λ h. h.is_lost) view ∙ told.loss;
+      causes = waits_then seen _ _ _ _ a c.poll_connected.new.self _ (hears_nothing seen _ _ refl) (inl refl) (le_refl _) (ap (λ h. h.listening.conn) view) (ap (λ h. h.startup) view) told.causes;
+    }
 
-pub returns-clause-causes : goal.returns-clause-causes
-returns-clause-causes g c =
+pub returns-in-Ready-Err : goal.returns-in-Ready-Err
+returns-in-Ready-Err g c =
+    let told = c.in-Ready-Err.ensures in
+    let causes = rw c.in-Ready-Err.field-0-is at told.causes in
+    record { hears = told.hears; changes = told.channels; seat = told.seat; left = told.left; loss = told.loss; causes = causes }
+
+pub returns : goal.returns
+returns g c =
+    let seen = g.L.Link.seen in
     let first = c.in-Ready-Ok.ensures in
+    let told = c.poll_asked_held.ensures in
+    let answer = c.poll_asked_held.result in
     let startup = rw c.in-Ready-Ok.field-0-is at first.startup in
     let faults = rw c.in-Ready-Ok.field-0-is at first.causes in
-    let asked = caused_on g.L.Link.seen _ _ _ _ _ _ c.poll_asked_held.result first.hears startup (omega (arith, first.left)) c.poll_asked_held.ensures.causes in
-    caused_beside g.L.Link.seen _ _ _ _ _ c.poll_asked_held.result faults asked
+    record {
+      hears = hears_behind seen _ _ _ _ first.hears told.hears;
+      changes = subst (λ (l : List (List ℕ)). Changes l (unwrap_or (stored_behind c.args.change l) l) c.poll_asked_held.new.self answer) first.channels told.changes;
+      seat = first.seat;
+      left = le_trans told.left first.left;
+      loss = told.loss ∙ first.loss;
+      causes = caused_beside seen _ _ _ _ _ answer faults (caused_on seen _ _ _ _ _ _ answer first.hears startup first.left told.causes);
+    }

@@ -1,10 +1,33 @@
-use Rattle.std.proofs.Common.{arith, inl, refl}
+use Rattle.std.proofs.Common.{◌≡◌, [], Some, inl, refl, rules}
+use Rattle.std.proofs.Math.Nat.{le_refl}
 use Rattle.pg_reconnect.proofs.FailingLaws.{caused_beside, caused_by, caused_statement}
-use Rattle.pg_reconnect.proofs.HearingLaws.{hears_nothing}
+use Rattle.pg_reconnect.proofs.HearingLaws.{hears_nothing, hears_without}
 use Rattle.pg_reconnect.proofs.hearing.Hearing.poll_change.Goals as goal
 
-pub returns-in-Some-clause-causes : goal.returns-in-Some-clause-causes
-returns-in-Some-clause-causes g c = rw (← c.self.view_is) (caused_by g.L.Link.seen _ _ _ _ _ _ _ _ c.poll_asked.result refl (hears_nothing g.L.Link.seen _ _ refl) (inl refl) (omega arith) c.poll_asked.ensures.causes)
+pub returns-in-Some : goal.returns-in-Some
+returns-in-Some g c =
+    let told = c.poll_asked.ensures in
+    let is : c.self.inside.asked ≡ Some c.in-Some.change = search rules in
+    record {
+      hears = rw (← c.self.view_is) told.hears;
+      changes = rw (← c.self.view_is, is) told.changes;
+      seat = told.seat;
+      left = told.left;
+      loss = rw (← c.self.view_is) told.loss;
+      causes = rw (← c.self.view_is) (caused_by g.L.Link.seen _ _ _ _ _ _ _ _ c.poll_asked.result refl (hears_nothing g.L.Link.seen _ _ refl) (inl refl) (le_refl _) told.causes);
+    }
+
+pub returns-in-None-clause-hears : goal.returns-in-None-clause-hears
+returns-in-None-clause-hears g c = rw (← c.self.view_is) (hears_without g.L.Link.seen _ _ [] refl refl refl refl c.poll_change.ensures.hears)
+
+pub returns-in-None-clause-seat : goal.returns-in-None-clause-seat
+returns-in-None-clause-seat g c = refl
+
+pub returns-in-None-clause-left : goal.returns-in-None-clause-left
+returns-in-None-clause-left g c = c.poll_change.ensures.left
+
+pub returns-in-None-clause-loss : goal.returns-in-None-clause-loss
+returns-in-None-clause-loss g c = rw (← c.self.view_is) refl
 
 pub returns-in-None-clause-causes : goal.returns-in-None-clause-causes
 returns-in-None-clause-causes g c = rw (← c.self.view_is) (caused_beside g.L.Link.seen _ _ _ _ _ c.poll_change.result refl (caused_statement g.L.Link.seen _ _ _ _ c.poll_change.result c.poll_change.ensures.apart c.poll_change.ensures.polls))

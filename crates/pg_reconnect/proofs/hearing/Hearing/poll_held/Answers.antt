@@ -1,14 +1,67 @@
-use Rattle.std.proofs.Common.{arith, refl}
+use Rattle.std.proofs.Common.{◌≡◌, ◌∙◌, false, inl, refl, rules, subst, true}
+use Rattle.std.proofs.Math.Nat.{le_refl}
+use Rattle.pg_reconnect.specs.Hearing.{HearingOf}
+use Rattle.pg_reconnect.proofs.BufferingLaws.{at_once, hears_behind, on_ready}
 use Rattle.pg_reconnect.proofs.FailingLaws.{caused_beside, caused_on, unfound}
+use Rattle.pg_reconnect.proofs.HearingLaws.{hears_nothing}
+use Rattle.pg_reconnect.proofs.PollLaws.{both, starts_behind}
 use Rattle.pg_reconnect.proofs.hearing.Hearing.poll_held.Goals as goal
 
-pub returns-then-is_some-clause-causes : goal.returns-then-is_some-clause-causes
-returns-then-is_some-clause-causes g c = caused_beside g.L.Link.seen _ _ _ _ _ c.poll_start_up.result refl c.poll_start_up.ensures.causes
+pub returns-then-is_some : goal.returns-then-is_some
+returns-then-is_some g c =
+    let told = c.poll_start_up.ensures in
+    let answer = c.poll_start_up.result in
+    let b = c.poll_start_up.new.self in
+    record {
+      hears = told.hears;
+      channels = told.channels;
+      seat = told.seat;
+      loss = told.loss;
+      left = told.left;
+      lost = told.lost;
+      held = told.held;
+      startup = told.startup;
+      ready = on_ready answer (b.is_ready ≡ false) (b.is_ready ≡ true → b ≡ c.args.self.now) (λ n r. both b.is_ready n r) told.ready;
+      causes = caused_beside g.L.Link.seen _ _ _ _ _ answer refl told.causes;
+    }
 
-pub returns-in-Ok-clause-causes : goal.returns-in-Ok-clause-causes
-returns-in-Ok-clause-causes g c =
-    let begun = caused_on g.L.Link.seen _ _ _ _ _ _ c.poll_begun.result c.in-Ok.ensures.hears c.in-Ok.ensures.startup (omega arith) c.poll_begun.ensures.causes in
-    caused_beside g.L.Link.seen _ _ _ _ _ c.poll_begun.result c.in-Ok.ensures.faults begun
+pub returns-in-Ok : goal.returns-in-Ok
+returns-in-Ok g c =
+    let seen = g.L.Link.seen in
+    let m = c.connect.new.self in
+    let b = c.poll_begun.new.self in
+    let answer = c.poll_begun.result in
+    let first = c.in-Ok.ensures in
+    let told = c.poll_begun.ensures in
+    let stays : (b.is_ready ≡ true → b ≡ m) → b.is_ready ≡ true → b ≡ c.args.self.now = λ f r. both m.is_ready first.ready (subst (λ (h : HearingOf _). h.is_ready ≡ true) (f r) r) in
+    record {
+      hears = hears_behind seen _ _ _ _ first.hears told.hears;
+      channels = told.channels ∙ first.channels;
+      seat = told.seat ∙ first.seat;
+      loss = told.loss ∙ first.loss;
+      left = told.left;
+      lost = at_once answer _ _ _ first.lost told.lost;
+      held = told.held;
+      startup = starts_behind seen _ _ _ answer first.startup told.startup;
+      ready = on_ready answer (b.is_ready ≡ true → b ≡ m) (b.is_ready ≡ true → b ≡ c.args.self.now) stays told.ready;
+      causes = caused_beside seen _ _ _ _ _ answer first.faults (caused_on seen _ _ _ _ _ _ answer first.hears first.startup (le_refl _) told.causes);
+    }
 
-pub returns-in-Err-clause-causes : goal.returns-in-Err-clause-causes
-returns-in-Err-clause-causes g c = unfound g.L.Link.seen _ _ _ _ _ c.in-Err.e c.in-Err.ensures.fails
+pub returns-in-Err : goal.returns-in-Err
+returns-in-Err g c =
+    let told = c.in-Err.ensures in
+    record { hears = told.hears; channels = told.channels; seat = told.seat; loss = told.loss; left = le_refl _; lost = tt; held = tt; startup = tt; ready = tt; causes = unfound g.L.Link.seen _ _ _ _ _ c.in-Err.e told.fails }
+
+pub returns-then-is_held : goal.returns-then-is_held
+returns-then-is_held g c = record {
+  hears = hears_nothing g.L.Link.seen _ _ refl;
+  channels = refl;
+  seat = refl;
+  loss = refl;
+  left = le_refl _;
+  lost = refl;
+  held = search rules;
+  startup = inl refl;
+  ready = λ _. refl;
+  causes = refl;
+}

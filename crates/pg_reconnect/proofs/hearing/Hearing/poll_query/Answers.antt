@@ -7,11 +7,28 @@ use Rattle.pg_reconnect.proofs.hearing.Hearing.poll_query.Goals as goal
 pub poll_running-requires-clause-calling : goal.poll_running-requires-clause-calling
 poll_running-requires-clause-calling g c = (c.requires.querying.0, subst (λ (r : Option Request). IsQuerying c.requires.querying.0 r c.args.self.now) c.in-None.is c.requires.querying.1)
 
-pub returns-in-Some-clause-closed : goal.returns-in-Some-clause-closed
-returns-in-Some-clause-closed g c = notes_queried g.L.Link.seen _ _ _ _ _ _ _ c.poll_unasked.result.0 c.poll_unasked.ensures.queries
+pub returns-in-Some : goal.returns-in-Some
+returns-in-Some g c =
+    let told = c.poll_unasked.ensures in
+    record {
+      hears = told.hears;
+      channels = told.channels;
+      seat = told.seat;
+      loss = told.loss;
+      left = told.left;
+      queries = rw c.in-Some.is told.queries;
+      closed = notes_queried g.L.Link.seen _ _ _ _ _ _ _ c.poll_unasked.result.0 told.queries;
+    }
 
-pub returns-in-None-clause-queries : goal.returns-in-None-clause-queries
-returns-in-None-clause-queries g c = rw c.in-None.is (polled_on g.L.Link.seen _ _ _ c.args.self.now c.poll_running.new.self c.poll_running.result c.poll_running.ensures.polls c.poll_running.ensures.apart)
-
-pub returns-in-None-clause-closed : goal.returns-in-None-clause-closed
-returns-in-None-clause-closed g c = notes_apart _ _ _ c.poll_running.result c.poll_running.ensures.apart
+pub returns-in-None : goal.returns-in-None
+returns-in-None g c =
+    let told = c.poll_running.ensures in
+    record {
+      hears = told.hears;
+      channels = told.channels;
+      seat = refl;
+      loss = told.loss;
+      left = told.left;
+      queries = rw c.in-None.is (polled_on g.L.Link.seen _ _ _ c.args.self.now c.poll_running.new.self c.poll_running.result told.polls told.apart);
+      closed = notes_apart _ _ _ c.poll_running.result told.apart;
+    }

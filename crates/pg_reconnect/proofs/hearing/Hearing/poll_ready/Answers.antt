@@ -1,31 +1,95 @@
-use Rattle.std.proofs.Common.{[]}
+use Rattle.std.proofs.Common.{◌∙◌, inl, refl, rules}
+use Rattle.std.proofs.Math.Nat.{le_refl}
 use Rattle.pg_reconnect.proofs.BufferingLaws.{hears_behind}
-use Rattle.std.proofs.Common.{arith, inl, refl, rules}
-use Rattle.pg_reconnect.specs.Hearing.{AsksAgain}
-use Rattle.pg_reconnect.proofs.FailingLaws.{again_readies, again_waits, listen_fails}
+use Rattle.pg_reconnect.proofs.FailingLaws.{again_readies, again_waits, listen_fails, memory_fails}
+use Rattle.pg_reconnect.proofs.HearingLaws.{hears_nothing}
 use Rattle.pg_reconnect.proofs.WaitingLaws.{waits_then}
 use Rattle.pg_reconnect.proofs.hearing.Hearing.poll_ready.Goals as goal
 
-pub returns-in-Ready-Err-clause-hears : goal.returns-in-Ready-Err-clause-hears
-returns-in-Ready-Err-clause-hears g c =
+pub returns-then-self : goal.returns-then-self
+returns-then-self g c = record {
+  hears = hears_nothing g.L.Link.seen _ _ refl;
+  channels = refl;
+  seat = refl;
+  loss = refl;
+  left = le_refl _;
+  lost = refl;
+  held = c.requires.held;
+  startup = refl;
+  ready = inl (search rules);
+  causes = tt;
+}
+
+pub returns-in-Err : goal.returns-in-Err
+returns-in-Err g c =
+    let told = c.in-Err.ensures in
+    record {
+      hears = told.hears;
+      channels = told.channels;
+      seat = refl;
+      loss = told.loss;
+      left = le_refl _;
+      lost = tt;
+      held = tt;
+      startup = tt;
+      ready = tt;
+      causes = memory_fails g.L.Link.seen _ _ _ _ c.in-Err.e told.memory;
+    }
+
+pub returns-in-Pending : goal.returns-in-Pending
+returns-in-Pending g c =
     let seen = g.L.Link.seen in
-    hears_behind seen _ _ _ [] c.ask_again.ensures.hears (hears_behind seen _ _ _ [] c.poll_again.ensures.hears c.fail.ensures.hears)
+    let first = c.ask_again.ensures in
+    let told = c.in-Pending.ensures in
+    record {
+      hears = hears_behind seen _ _ _ _ first.hears told.hears;
+      channels = told.channels ∙ first.channels;
+      seat = refl;
+      loss = told.loss ∙ first.loss;
+      left = told.left;
+      lost = tt;
+      held = tt;
+      startup = tt;
+      ready = tt;
+      causes = waits_then seen _ _ _ _ _ _ _ first.hears (inl first.startup) (le_refl _) refl refl (again_waits seen c.args.left.now c.poll_again.new.left c.ask_again.new.self c.poll_again.new.self told.polls);
+    }
 
-pub returns-in-Pending-clause-causes : goal.returns-in-Pending-clause-causes
-returns-in-Pending-clause-causes g c =
+pub returns-in-Ready-Ok : goal.returns-in-Ready-Ok
+returns-in-Ready-Ok g c =
     let seen = g.L.Link.seen in
-    let waits = again_waits seen c.args.left.now c.poll_again.new.left c.ask_again.new.self c.poll_again.new.self c.in-Pending.ensures.polls in
-    waits_then seen _ _ _ _ _ _ _ c.ask_again.ensures.hears (inl c.ask_again.ensures.startup) (omega arith) refl refl waits
+    let first = c.ask_again.ensures in
+    let told = c.in-Ready-Ok.ensures in
+    let polls = rw c.in-Ready-Ok.field-0-is at told.polls in
+    record {
+      hears = hears_behind seen _ _ _ _ first.hears told.hears;
+      channels = told.channels ∙ first.channels;
+      seat = refl;
+      loss = told.loss ∙ first.loss;
+      left = told.left;
+      lost = told.lost ∙ first.lost;
+      held = told.held;
+      startup = told.startup ∙ first.startup;
+      ready = again_readies seen _ _ c.ask_again.new.self _ c.in-Ok.ensures.starts polls;
+      causes = tt;
+    }
 
-pub returns-in-Ready-Err-clause-causes : goal.returns-in-Ready-Err-clause-causes
-returns-in-Ready-Err-clause-causes g c =
-    let apart = rw c.in-Ready-Err.field-0-is at c.in-Ready-Err.ensures.apart in
-    let polls = rw c.in-Ready-Err.field-0-is at c.in-Ready-Err.ensures.polls in
-    let starts : AsksAgain c.args.self.now c.ask_again.new.self = search rules in
-    listen_fails g.L.Link.seen _ _ _ c.ask_again.new.self c.poll_again.new.self _ c.in-Ready-Err.e c.fail.result starts apart polls c.fail.ensures.fails
-
-pub returns-in-Ready-Ok-clause-ready : goal.returns-in-Ready-Ok-clause-ready
-returns-in-Ready-Ok-clause-ready g c =
-    let polls = rw c.in-Ready-Ok.field-0-is at c.in-Ready-Ok.ensures.polls in
-    let starts : AsksAgain c.args.self.now c.ask_again.new.self = search rules in
-    again_readies g.L.Link.seen _ _ c.ask_again.new.self _ starts polls
+pub returns-in-Ready-Err : goal.returns-in-Ready-Err
+returns-in-Ready-Err g c =
+    let seen = g.L.Link.seen in
+    let first = c.ask_again.ensures in
+    let told = c.in-Ready-Err.ensures in
+    let last = c.fail.ensures in
+    let apart = rw c.in-Ready-Err.field-0-is at told.apart in
+    let polls = rw c.in-Ready-Err.field-0-is at told.polls in
+    record {
+      hears = hears_behind seen _ _ _ _ first.hears (hears_behind seen _ _ _ _ told.hears last.hears);
+      channels = last.channels ∙ told.channels ∙ first.channels;
+      seat = last.seat;
+      loss = last.loss ∙ told.loss ∙ first.loss;
+      left = told.left;
+      lost = tt;
+      held = tt;
+      startup = tt;
+      ready = tt;
+      causes = listen_fails seen _ _ _ c.ask_again.new.self c.poll_again.new.self _ c.in-Ready-Err.e c.fail.result c.in-Ok.ensures.starts apart polls last.fails;
+    }

@@ -1,8 +1,20 @@
+use Rattle.std.proofs.Common.{◌∙◌}
+use Rattle.pg_reconnect.proofs.BufferingLaws.{hears_behind}
 use Rattle.pg_reconnect.proofs.QueryingLaws.{starts_some}
 use Rattle.pg_reconnect.proofs.hearing.Hearing.poll_started.Goals as goal
 
 pub poll_running-requires-clause-calling : goal.poll_running-requires-clause-calling
 poll_running-requires-clause-calling g c = starts_some c.args.request _ _ c.start_call.ensures.starts
 
-pub returns-clause-asked : goal.returns-clause-asked
-returns-clause-asked g c = (c.start_call.new.self, c.start_call.ensures.hears, c.start_call.ensures.starts, c.poll_running.ensures.polls)
+pub returns : goal.returns
+returns g c =
+    let first = c.start_call.ensures in
+    let told = c.poll_running.ensures in
+    record {
+      hears = hears_behind g.L.Link.seen _ _ _ _ first.hears told.hears;
+      channels = told.channels ∙ first.channels;
+      loss = told.loss ∙ first.loss;
+      left = told.left;
+      asked = (c.start_call.new.self, first.hears, first.starts, told.polls);
+      apart = told.apart;
+    }

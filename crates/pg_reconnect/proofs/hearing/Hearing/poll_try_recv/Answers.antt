@@ -1,8 +1,45 @@
+use Rattle.std.proofs.Common.{◌≡◌, inr, rules, true}
+use Rattle.pg_reconnect.specs.Waiting.{ListensAgain, ReadiesBy}
 use Rattle.pg_reconnect.proofs.FailingLaws.{notes_caused}
+use Rattle.pg_reconnect.proofs.PollLaws.{both, on_none}
+use Rattle.pg_reconnect.proofs.TellingLaws.{tells_later}
 use Rattle.pg_reconnect.proofs.hearing.Hearing.poll_try_recv.Goals as goal
 
-pub returns-then-self-clause-closed : goal.returns-then-self-clause-closed
-returns-then-self-clause-closed g c = notes_caused g.L.Link.seen _ _ _ _ _ c.poll_loss.result c.poll_loss.ensures.causes
+pub returns-then-self : goal.returns-then-self
+returns-then-self g c =
+    let seen = g.L.Link.seen in
+    let told = c.poll_loss.ensures in
+    let is : c.args.self.now.is_lost ≡ true = search rules in
+    record {
+      hears = told.hears;
+      channels = told.channels;
+      seat = told.seat;
+      left = told.left;
+      loss = tells_later seen c.args.self.now c.poll_loss.new.self c.poll_loss.result is told.none told.loss;
+      oldest = λ e. both c.args.self.now.is_lost e is;
+      startup = told.startup;
+      again = told.again;
+      causes = told.causes;
+      closed = notes_caused seen _ _ _ _ _ c.poll_loss.result told.causes;
+      asks = λ e _ _. both c.args.self.now.is_lost e is;
+    }
 
-pub returns-else-self-clause-closed : goal.returns-else-self-clause-closed
-returns-else-self-clause-closed g c = notes_caused g.L.Link.seen _ _ _ _ _ c.poll_fresh.result c.poll_fresh.ensures.causes
+pub returns-else-self : goal.returns-else-self
+returns-else-self g c =
+    let seen = g.L.Link.seen in
+    let a = c.args.self.now in
+    let b = c.poll_fresh.new.self in
+    let told = c.poll_fresh.ensures in
+    record {
+      hears = told.hears;
+      channels = told.channels;
+      seat = told.seat;
+      left = told.left;
+      loss = told.loss;
+      oldest = λ _. told.oldest;
+      startup = told.startup;
+      again = on_none c.poll_fresh.result (a.is_eager ≡ true → ListensAgain seen a.listening.channels b) (a.is_eager ≡ true → ReadiesBy seen a b) (λ f e. inr (f e)) told.again;
+      causes = told.causes;
+      closed = notes_caused seen _ _ _ _ _ c.poll_fresh.result told.causes;
+      asks = λ _. told.asks;
+    }

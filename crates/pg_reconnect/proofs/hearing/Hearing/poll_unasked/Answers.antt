@@ -1,17 +1,31 @@
-use Rattle.std.proofs.Common.{arith, inr, refl}
+use Rattle.std.proofs.Common.{◌∙◌, inr, refl}
+use Rattle.std.proofs.Math.Nat.{le_trans}
+use Rattle.pg_reconnect.proofs.BufferingLaws.{hears_behind}
 use Rattle.pg_reconnect.proofs.QueryingLaws.{asked_now}
 use Rattle.pg_reconnect.proofs.hearing.Hearing.poll_unasked.Goals as goal
 
-pub returns-in-Pending-clause-queries : goal.returns-in-Pending-clause-queries
-returns-in-Pending-clause-queries g c = inr (refl, c.in-Pending.ensures.causes, refl)
+pub returns-in-Pending : goal.returns-in-Pending
+returns-in-Pending g c =
+    let told = c.in-Pending.ensures in
+    record { hears = told.hears; channels = told.channels; seat = told.seat; loss = told.loss; left = told.left; queries = inr (refl, told.causes, refl) }
 
-pub returns-in-Ready-Err-clause-queries : goal.returns-in-Ready-Err-clause-queries
-returns-in-Ready-Err-clause-queries g c =
-    let causes = rw c.in-Ready-Err.field-0-is at c.in-Ready-Err.ensures.causes in
-    inr (refl, causes, refl)
+pub returns-in-Ready-Err : goal.returns-in-Ready-Err
+returns-in-Ready-Err g c =
+    let told = c.in-Ready-Err.ensures in
+    let causes = rw c.in-Ready-Err.field-0-is at told.causes in
+    record { hears = told.hears; channels = told.channels; seat = told.seat; loss = told.loss; left = told.left; queries = inr (refl, causes, refl) }
 
-pub returns-in-Ready-Ok-clause-queries : goal.returns-in-Ready-Ok-clause-queries
-returns-in-Ready-Ok-clause-queries g c =
+pub returns-in-Ready-Ok : goal.returns-in-Ready-Ok
+returns-in-Ready-Ok g c =
+    let seen = g.L.Link.seen in
     let first = c.in-Ready-Ok.ensures in
+    let told = c.poll_started.ensures in
     let ready = rw c.in-Ready-Ok.field-0-is at first.ready in
-    asked_now g.L.Link.seen _ _ _ _ c.args.request _ _ _ c.poll_started.result first.hears (omega (arith, first.left)) ready c.poll_started.ensures.asked c.poll_started.ensures.apart
+    record {
+      hears = hears_behind seen _ _ _ _ first.hears told.hears;
+      channels = told.channels ∙ first.channels;
+      seat = first.seat;
+      loss = told.loss ∙ first.loss;
+      left = le_trans told.left first.left;
+      queries = asked_now seen _ _ _ _ c.args.request _ _ _ c.poll_started.result first.hears first.left ready told.asked told.apart;
+    }

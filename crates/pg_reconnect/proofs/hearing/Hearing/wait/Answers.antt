@@ -1,9 +1,38 @@
-use Rattle.std.proofs.Common.{refl}
+use Rattle.std.proofs.Common.{[], refl}
+use Rattle.std.proofs.Math.Nat.{le_refl}
+use Rattle.pg_listening.proofs.BufferLaws.{hears_none}
 use Rattle.pg_reconnect.proofs.FailingLaws.{caused_news, memory_fails}
+use Rattle.pg_reconnect.proofs.HearingLaws.{hears_without}
+use Rattle.pg_reconnect.proofs.HeldLaws.{stays_some}
 use Rattle.pg_reconnect.proofs.hearing.Hearing.wait.Goals as goal
 
-pub returns-clause-causes : goal.returns-clause-causes
-returns-clause-causes g c = rw (← c.self.view_is) (caused_news g.L.Link.seen _ _ _ _ c.poll_within.result c.poll_within.ensures.oldest c.poll_within.ensures.polls)
+pub returns : goal.returns
+returns g c =
+    let told = c.poll_within.ensures in
+    let lost = c.reserve.ensures.items in
+    record {
+      hears = rw (← c.self.view_is) (hears_without g.L.Link.seen _ _ _ lost refl refl refl told.hears);
+      channels = rw (← c.self.view_is) told.channels;
+      left = told.left;
+      fails = rw (← c.self.view_is) told.fails;
+      held = stays_some {A = g.row.L.Denot} c.self.inside.listening.conn c.poll_within.new.self.conn told.holder (rw (← c.self.view_is) at c.requires.held);
+      lost = rw (← c.self.view_is) lost;
+      loss = rw (← c.self.view_is) refl;
+      startup = rw (← c.self.view_is) refl;
+      causes = rw (← c.self.view_is) (caused_news g.L.Link.seen _ _ _ _ c.poll_within.result told.oldest told.polls);
+    }
 
-pub returns-in-Err-clause-causes : goal.returns-in-Err-clause-causes
-returns-in-Err-clause-causes g c = rw (← c.self.view_is) (memory_fails g.L.Link.seen _ _ _ _ _ refl)
+pub returns-in-Err : goal.returns-in-Err
+returns-in-Err g c =
+    let lost = c.reserve.ensures.items in
+    record {
+      hears = rw (← c.self.view_is) (hears_without g.L.Link.seen _ _ [] lost refl refl refl (hears_none _));
+      channels = rw (← c.self.view_is) refl;
+      left = le_refl _;
+      fails = tt;
+      held = rw (← c.self.view_is) at c.requires.held;
+      lost = rw (← c.self.view_is) lost;
+      loss = rw (← c.self.view_is) refl;
+      startup = rw (← c.self.view_is) refl;
+      causes = rw (← c.self.view_is) (memory_fails g.L.Link.seen _ _ _ _ _ refl);
+    }

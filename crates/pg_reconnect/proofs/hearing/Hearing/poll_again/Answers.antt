@@ -1,0 +1,37 @@
+use Rattle.std.proofs.Common.{[], inl, inr, refl}
+use Rattle.std.proofs.Math.Nat.{le_refl}
+use Rattle.pg_listening.proofs.BufferLaws.{hears_none}
+use Rattle.pg_reconnect.proofs.HearingLaws.{hears_without}
+use Rattle.pg_reconnect.proofs.HeldLaws.{stays_some}
+use Rattle.pg_reconnect.proofs.hearing.Hearing.poll_again.Goals as goal
+
+pub returns-in-Err : goal.returns-in-Err
+returns-in-Err g c =
+    let lost = c.reserve.ensures.items in
+    record {
+      hears = rw (← c.self.view_is) (hears_without g.L.Link.seen _ _ [] lost refl refl refl (hears_none _));
+      channels = rw (← c.self.view_is) refl;
+      loss = rw (← c.self.view_is) refl;
+      left = le_refl _;
+      lost = rw (← c.self.view_is) lost;
+      held = rw (← c.self.view_is) at c.requires.held;
+      startup = rw (← c.self.view_is) refl;
+      polls = inl refl;
+      apart = tt;
+    }
+
+pub returns-in-Pending : goal.returns-in-Pending
+returns-in-Pending g c =
+    let told = c.in-Pending.ensures in
+    let lost = c.reserve.ensures.items in
+    record {
+      hears = rw (← c.self.view_is) (hears_without g.L.Link.seen _ _ [] lost refl refl refl told.hears);
+      channels = rw (← c.self.view_is) told.channels;
+      loss = rw (← c.self.view_is) refl;
+      left = told.left;
+      lost = rw (← c.self.view_is) lost;
+      held = stays_some {A = g.row.L.Denot} c.self.inside.listening.conn c.poll_change.new.self.conn told.holder (rw (← c.self.view_is) at c.requires.held);
+      startup = rw (← c.self.view_is) refl;
+      polls = rw (← c.self.view_is) (inr told.polls);
+      apart = tt;
+    }
