@@ -25,7 +25,7 @@ returns-in-Ok g c =
       seat = told.seat ∙ first.seat;
       left = told.left;
       loss = tells_held a.listening.conn a.lost c.lose.new.self.lost told.hears.links b.lost a.is_lost b.is_lost c.poll_loss.result c.in-Ok.ensures.link (told.hears.lost ∙ ap (λ l. l ++ told.hears.links) lost) told.none
-      (subst (λ (s : Bool). LossBehind c.poll_loss.result s b.is_lost) is told.loss);
+          (subst (λ (s : Bool). LossBehind c.poll_loss.result s b.is_lost) is told.loss);
       startup = starts_behind seen _ _ _ c.poll_loss.result startup told.startup;
       again = lost_again seen a c.set_lost.new.self b c.poll_loss.result (ap (λ h. h.is_ready) set ∙ first.ready) hears.settings.0 (ap (λ h. h.listening.channels) set ∙ first.channels) told.again;
       causes = caused_by seen _ _ _ _ _ a c.set_lost.new.self b c.poll_loss.result refl hears startup (le_refl _) told.causes;
