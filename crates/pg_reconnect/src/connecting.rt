@@ -52,7 +52,10 @@ impl<L: Link> Hearing<L> {
         self.is_again = false;
         self.is_ready = false;
         self.listening.save()?;
-        self.lost.reserve(1)?;
+        match self.lost.reserve(1) {
+            Ok(()) => {}
+            Err(_) => return Err(Error::OutOfMemory),
+        }
         match self.listening.let_go() {
             Some(held) => {
                 self.lost.push_reserved(close(rt, held, pool, seat));

@@ -1,15 +1,52 @@
-use Rattle.std.proofs.Common.{inl, refl}
+use Rattle.std.proofs.Common.{◌∙◌, [], ◌∷◌, inl, refl}
+use Rattle.std.proofs.Math.Nat.{le_trans}
+use Rattle.pg_reconnect.proofs.BufferingLaws.{hears_behind}
 use Rattle.pg_reconnect.proofs.FailingLaws.{every_fails}
 use Rattle.pg_reconnect.proofs.WaitingLaws.{waits_then}
 use Rattle.pg_reconnect.proofs.hearing.Hearing.poll_recv.Goals as goal
 
-pub returns-in-Pending-clause-pending : goal.returns-in-Pending-clause-pending
-returns-in-Pending-clause-pending g c =
+pub returns-in-Pending : goal.returns-in-Pending
+returns-in-Pending g c =
     let known = c.loop-e.invariant in
-    inl (waits_then g.L.Link.seen _ _ _ _ _ _ _ known.hears known.startup known.left refl refl c.in-Pending.ensures.causes)
+    let told = c.in-Pending.ensures in
+    record {
+      hears = hears_behind g.L.Link.seen _ _ _ [] known.hears told.hears;
+      channels = told.channels ∙ known.channels;
+      seat = told.seat ∙ known.seat;
+      left = le_trans told.left known.left;
+      pending = inl (waits_then g.L.Link.seen _ _ _ _ _ _ _ known.hears known.startup known.left refl refl told.causes);
+      fails = tt;
+      closed = tt;
+    }
 
-pub returns-in-Ready-Err-clause-fails : goal.returns-in-Ready-Err-clause-fails
-returns-in-Ready-Err-clause-fails g c =
+pub returns-in-Ready-Err : goal.returns-in-Ready-Err
+returns-in-Ready-Err g c =
     let known = c.loop-e.invariant in
-    let causes = rw c.in-Ready-Err.field-0-is at c.in-Ready-Err.ensures.causes in
-    every_fails g.L.Link.seen _ _ _ _ _ _ _ _ c.in-Ready-Err.e known.faults known.hears known.startup known.left causes
+    let told = c.in-Ready-Err.ensures in
+    let hears = rw c.in-Ready-Err.field-0-is at told.hears in
+    let causes = rw c.in-Ready-Err.field-0-is at told.causes in
+    let closed = rw c.in-Ready-Err.field-0-is at told.closed in
+    record {
+      hears = hears_behind g.L.Link.seen _ _ _ [] known.hears hears;
+      channels = told.channels ∙ known.channels;
+      seat = told.seat ∙ known.seat;
+      left = le_trans told.left known.left;
+      pending = tt;
+      fails = every_fails g.L.Link.seen _ _ _ _ _ _ _ _ c.in-Ready-Err.e known.faults known.hears known.startup known.left causes;
+      closed = closed;
+    }
+
+pub returns-in-Ready-Ok-Some : goal.returns-in-Ready-Ok-Some
+returns-in-Ready-Ok-Some g c =
+    let known = c.loop-e.invariant in
+    let told = c.in-Ready-Ok-Some.ensures in
+    let hears = rw (c.in-Ready-Ok-Some.field-0-is, c.in-Ready-Ok-Some.field-0-0-is) at told.hears in
+    record {
+      hears = hears_behind g.L.Link.seen _ _ _ (c.in-Ready-Ok-Some.notification ∷ []) known.hears hears;
+      channels = told.channels ∙ known.channels;
+      seat = told.seat ∙ known.seat;
+      left = le_trans told.left known.left;
+      pending = tt;
+      fails = tt;
+      closed = tt;
+    }
