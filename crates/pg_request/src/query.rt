@@ -1,4 +1,4 @@
-ghost use Rattle.std.specs.Prelude.{◌≡◌, IfOk, IfErr};
+ghost use Rattle.std.specs.Prelude.{◌≡◌, is_some, IfOk, IfErr};
 ghost use Rattle.pg_request.specs.Queries.{extended, holes_by, names_by, plain_text, QueryText};
 ghost use Rattle.pg_request.specs.Asked.{sent_as, no_arguments, kept_query, AsksWith};
 
@@ -145,6 +145,13 @@ impl Query {
             Some(arguments) => arguments.holes(),
             None => &[],
         }
+    }
+
+    /// Whether it is one of the extended query. Its list of arguments may be empty then.
+    pub fn has_arguments(&self) -> bool
+        ensures { result ≡ is_some self.now.arguments }
+    {
+        self.arguments.is_some()
     }
 
     /// Its text and its arguments, or the query itself where it has none.
