@@ -1,5 +1,5 @@
 -- The request rule: which messages a call sends (PostgreSQL manual, "Message Flow", "Simple Query").
-use Rattle.std.specs.Prelude.{◌≡◌, ◌&&◌, ◌||◌, is_some, ℕ, nat_eq, option_map, unwrap_or, ◌<◌, ◌≤◌, ◌⊎◌, List, [], ◌∷◌, ◌++◌, length, map, flat_map, codes, Bool, true, false, Option, Some, None, if◌then◌else◌}
+use Rattle.std.specs.Prelude.{◌≡◌, ◌&&◌, ◌||◌, is_some, not, ℕ, nat_eq, option_map, unwrap_or, ◌<◌, ◌≤◌, ◌⊎◌, List, [], ◌∷◌, ◌++◌, length, map, flat_map, codes, Bool, true, false, Option, Some, None, if◌then◌else◌}
 use Rattle.std.specs.List.{AllByRecursion}
 use Rattle.pg_wire.specs.declared.error.Error.{Error}
 use Rattle.pg_wire.specs.declared.error.Error.TheVariants as errors
@@ -199,6 +199,14 @@ sort_of (requests.Describe extended) = sorts.Describe extended
 sort_of (requests.Prepare prepared) = sorts.Prepare prepared
 sort_of (requests.Clear statements) = sorts.Clear
 sort_of request = sorts.Plain request
+
+-- a query without arguments
+abbrev pub is_raw_sort : Sort → Bool
+is_raw_sort (sorts.Query how query) = not (is_some query.arguments)
+is_raw_sort sort = false
+
+abbrev pub is_raw : Request → Bool
+is_raw request = is_raw_sort (sort_of request)
 
 -- a Query makes an end of the statement without a name ("Extended Query"), so where one comes behind its Parse, it is parsed once more
 abbrev pub is_parsed_again : Extended → Bool

@@ -2,12 +2,10 @@ ghost use Rattle.std.specs.Prelude.{◌≡◌, [], filter, IfOk, IfErr};
 ghost use Rattle.pg_wire.specs.Backend.{BackendMessage};
 ghost use Rattle.pg_call.specs.Items.{added, finished, item_by, keeps_row, shown_if, yields};
 ghost use Rattle.pg_call.specs.Replies.{IsFault, IsVerdict, MayNotCome, list_of};
-ghost use Rattle.pg_call.specs.Hearing.{Hears, HearsMessage, HearsNews, Opens, Shows, fed_part, opens_at, fresh_reply, gone_on, handed_on};
+ghost use Rattle.pg_call.specs.Hearing.{Hears, HearsMessage, HearsNews, Opens, Shows, fed_part, opens_at, gone_on, handed_on};
 
 use crate::judging::{judge_row, pass_columns, pass_row};
-use crate::{
-    CallAnswer, CallItem, How, Kind, News, Part, Request, Rest, Tally, Verdict, Waiting, judge,
-};
+use crate::{CallAnswer, CallItem, How, Kind, News, Part, Request, Rest, Tally, Verdict, judge};
 use pg_rows::{Heading, PgRow};
 use pg_wire::{CopyResponseData, DataRow, Error, Frame, Oids, PgDatabaseError, TransactionStatus};
 use std::alloc::Global;
@@ -65,28 +63,6 @@ fn opened(part: Part, told: CopyResponseData) -> Heard
 }
 
 impl Reply {
-    /// Nothing of it has come.
-    pub fn new(alloc: Global, waiting: Waiting) -> Self
-        ensures { result ≡ fresh_reply waiting }
-    {
-        let Waiting {
-            kind,
-            part,
-            frames: _,
-            is_copy_failed: _,
-            rest,
-            heading,
-        } = waiting;
-        Reply {
-            kind,
-            tally: Tally::new(alloc),
-            part,
-            rest,
-            heading,
-            parameters: Oids::new(alloc),
-        }
-    }
-
     // One more item, which is shown at once, kept for the answer, or dropped.
     fn add(&mut self, item: CallItem) -> Result<Option<CallItem>, Error>
         ensures ok { IfOk result (λ shown. (self.new ≡ record self.old { tally = added self.old.kind self.old.tally item }) × (shown ≡ shown_if (yields self.old.kind item) item)) }

@@ -1,5 +1,5 @@
 ghost use Rattle.std.specs.Prelude.{◌≡◌, ◌++◌, [], IfOk, OnOk, IfErr};
-ghost use Rattle.pg_call.specs.Requests.{kind_of, keeping_of, messages_of, raw, sort_of, spelled, CanBeSaid, IsRefusal, heading_of, rest_of};
+ghost use Rattle.pg_call.specs.Requests.{is_raw, kind_of, keeping_of, messages_of, raw, sort_of, spelled, CanBeSaid, IsRefusal, heading_of, rest_of};
 ghost use Rattle.pg_call.specs.Hearing.{sent_rest};
 ghost use Rattle.pg_call.specs.declared.statement.Extended.{Extended as ExtendedOf};
 ghost use Rattle.pg_call.specs.declared.statement.Bound.{Bound as BoundOf};
@@ -119,6 +119,22 @@ impl Request {
             Request::Prepare(prepared) => Sort::Prepare(prepared),
             Request::Clear(_) => Sort::Clear,
             other => Sort::Plain(other),
+        }
+    }
+
+    /// Whether it is a query without arguments.
+    pub fn is_raw(&self) -> bool
+        ensures { result ≡ is_raw self.now }
+    {
+        match self {
+            Request::Execute(query)
+            | Request::ExecuteMany(query)
+            | Request::Fetch(query)
+            | Request::FetchMany(query)
+            | Request::FetchAll(query)
+            | Request::FetchOptional(query)
+            | Request::FetchOne(query) => !query.has_arguments(),
+            _ => false,
         }
     }
 

@@ -58,16 +58,6 @@ fn waiting(call: Call, frames: Blob, is_copy_failed: bool) -> Call
     }
 }
 
-// Its frames are queued, and the reply to them is awaited.
-fn awaiting(alloc: Global, call: Call) -> Call
-    ensures { result ≡ awaits call }
-{
-    match call {
-        Call::Waiting(waiting) => Call::Own(Reply::new(alloc, waiting)),
-        call => call,
-    }
-}
-
 // What is asked, and what stands in its place.
 fn taken(call: Call) -> (Option<Request>, Call)
     ensures { result ≡ (asked_in call, without_asked call) }
@@ -121,8 +111,16 @@ impl Running {
     pub fn wait(&mut self, frames: Blob)
         ensures { self.new ≡ record self.old { call = waits frames self.old.ledger.is_copy_failed self.old.call } }
     {
-        let call = mem::replace(&mut self.call, Call::Idle);
-        self.call = waiting(call, frames, self.ledger.is_copy_failed);
+        let failed = self.ledger.is_copy_failed;
+        match &self.call {
+            Call::Asked(request) if request.is_raw() => {
+                self.call = Call::Waiting(Waiting::of_raw(request, frames, failed));
+            }
+            _ => {
+                let call = mem::replace(&mut self.call, Call::Idle);
+                self.call = waiting(call, frames, failed);
+            }
+        }
     }
 
     /// The frames that waited are queued, and the reply to them is the only one that is owed.
@@ -133,8 +131,9 @@ impl Running {
             owed: 1,
             is_copy_failed: false,
         };
-        let call = mem::replace(&mut self.call, Call::Idle);
-        self.call = awaiting(alloc, call);
+        if let Call::Waiting(waiting) = &mut self.call {
+            self.call = Call::Own(waiting.reply(alloc));
+        }
     }
 
     // The call ends.
@@ -287,6 +286,7 @@ impl Running {
                 self.drain(alloc, failed, tag, body)
             }
             Call::Own(reply) => match reply.take(alloc, tag, body) {
+                Ok(Heard::More) => Ok(plain(Beat::More)),
                 Ok(heard) => Ok(self.follow(tag, heard)),
                 Err(e) => Err(e),
             },
@@ -326,6 +326,7 @@ impl Running {
     {
         match &mut self.call {
             Call::Own(reply) => match reply.take_row(alloc, frame) {
+                Ok(Heard::More) => Ok(plain(Beat::More)),
                 Ok(heard) => Ok(self.follow(b'D', heard)),
                 Err(e) => Err(e),
             },
