@@ -1,5 +1,6 @@
 pub mod OwedLaws
 pub mod TurnLaws
+pub mod FrontLaws
 pub mod CleanupLaws
 pub mod StateLaws
 pub mod RefusalLaws

@@ -260,6 +260,11 @@ abbrev pub TakesIn : {A : Type 0} → Front → Taken → ConnOf A → ConnOf A 
 TakesIn front taken a b (Ok u) beat = Accepts front taken.fails_copy a b × (beat ≡ taken.beat)
 TakesIn {A} front taken a b (Err e) beat = (c : ConnOf A) × Accepts front taken.fails_copy a c × (b ≡ idle c) × (beat ≡ beats.Ends (Err e))
 
+-- what was heard of the message at the front is told; where it may not come, the call ends
+abbrev pub TakesHeard : {A : Type 0} → Front → Result Taken Error → ConnOf A → ConnOf A → Beat → Type 0
+TakesHeard {A} front (Ok taken) a b beat = (m : ConnOf A) × (learnt : Result (Unit {0}) Error) × LearnsFrom front a m learnt × TakesIn front taken m b learnt beat
+TakesHeard front (Err e) a b beat = (b ≡ idle a) × (beat ≡ beats.Ends (Err e))
+
 -- ---- a poll
 
 abbrev pub beat_of_turn : Turn → Beat

@@ -1,5 +1,5 @@
 //! Which exchange is asked, by the statements that are kept.
-ghost use Rattle.std.specs.Prelude.{◌≡◌, ◌≢◌, Some, None, map, reverse, option_map, true, IfOk, IfErr, IsSome, OnOk, OnErr};
+ghost use Rattle.std.specs.Prelude.{◌≡◌, ◌≢◌, ◌+◌, ◌-◌, ◌^◌, min, Some, None, map, reverse, option_map, true, IfOk, IfErr, IsSome, OnOk, OnErr};
 ghost use Rattle.pg_rule.specs.Rules.{holding, forgotten};
 ghost use Rattle.pg_call.specs.declared.statement.Described.{Described as DescribedOf};
 ghost use Rattle.pg_rule.specs.Caches.{entry_at};
@@ -258,13 +258,20 @@ pub(crate) fn asked_by(alloc: Global, rule: &mut Rule, request: Request) -> Resu
 }
 
 impl<L> PgConnection<L> {
+    // The groups of an exchange are counted anew.
+    fn count_exchange(&mut self)
+        ensures { self.new ≡ record self.old { groups = 0; earlier = min (self.old.earlier + self.old.groups) (2 ^ 64 - 1) } }
+    {
+        self.earlier = self.earlier.saturating_add(self.groups);
+        self.groups = 0;
+    }
+
     // The exchange that is asked begins, and its groups are counted anew.
     fn begin_exchange(&mut self, request: Request) -> Result<(), Error>
         ensures ok { OnOk result (self.new ≡ resolved_by (Call.Asked request) self.old) }
         ensures err { IfErr result (λ e. (e ≡ Error.OutOfMemory) × (self.new ≡ unasked request self.old) × (request ≢ Request.Flush)) }
     {
-        self.earlier = self.earlier.saturating_add(self.groups);
-        self.groups = 0;
+        self.count_exchange();
         match asked_by(self.alloc, &mut self.rule, request) {
             Ok(request) => {
                 self.keeping = request.keeping();
@@ -278,14 +285,30 @@ impl<L> PgConnection<L> {
         }
     }
 
-    /// What is asked stands as an exchange. Without memory the call is over.
-    pub(crate) fn resolve(&mut self) -> Result<(), Error>
+    // What is asked stands as an exchange, whatever it is.
+    fn resolve_asked(&mut self) -> Result<(), Error>
         ensures ok { OnOk result (self.new ≡ resolved self.old) }
         ensures err { IfErr result (λ e. (e ≡ Error.OutOfMemory) × IsUnresolved self.old self.new) }
     {
         match self.running.take_asked() {
             Some(request) => self.begin_exchange(request),
             None => Ok(()),
+        }
+    }
+
+    /// What is asked stands as an exchange. Without memory the call is over. A query without arguments is one as it is, and isn't moved.
+    pub(crate) fn resolve(&mut self) -> Result<(), Error>
+        ensures ok { OnOk result (self.new ≡ resolved self.old) }
+        ensures err { IfErr result (λ e. (e ≡ Error.OutOfMemory) × IsUnresolved self.old self.new) }
+    {
+        match &self.running.call {
+            Call::Asked(request) if request.is_raw() => {
+                self.count_exchange();
+                self.keeping = Keeping::Stays;
+                Ok(())
+            }
+            Call::Asked(_) => self.resolve_asked(),
+            Call::Idle | Call::Waiting(_) | Call::Own(_) | Call::Closing => Ok(()),
         }
     }
 }

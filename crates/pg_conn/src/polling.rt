@@ -3,14 +3,14 @@ ghost use Rattle.pg_stream.specs.Links.{GrewBy};
 ghost use Rattle.pg_stream.specs.Streams.{IsHeardFront, Passes};
 ghost use Rattle.pg_conn.specs.Connections.{seen_by, ended, ends_copy, idle, begun_with, begun_by, is_over, runs, with_spare, queued_call, awaiting, closing, resolved};
 ghost use Rattle.pg_call.specs.Calls.{IsAwaiting};
-ghost use Rattle.pg_call.specs.Hearing.{IsReplied, keeps_now, sent_answer, waits};
+ghost use Rattle.pg_call.specs.Hearing.{IsReplied, keeps_now, looks_up, sent_answer, waits};
 ghost use Rattle.pg_call.specs.declared.kind.Kind as declared_kind;
 ghost use Rattle.pg_call.specs.declared.request.Request as declared_request;
 ghost use Rattle.pg_conn.specs.States.{IsCalling, PollFits};
 ghost use Rattle.std.specs.declared.result.Result.{Result as ResultOf};
 ghost use Rattle.pg_wire.specs.declared.error.Error.{Error as ErrorOf};
 ghost use Rattle.pg_conn.specs.Connections.{ConnOf};
-ghost use Rattle.pg_conn.specs.Turns.{LearnsFront, LearnsFrom, TakesIn, level_of, kept_for, TakesBeat, Falls, GoesOn, HearsFront, Prepares, Readies, Refuses, Accepts, IsAsked, IsSayable, Refused, IsAhead, only_sends, flushes, is_flushed, EndsFlush, queued_copy_fail, Polled, PollsOn, PollsThrough, PollsWithin, PollsCall, PollsMore, beat_of, broken_by, hands_on, HandsOnNone};
+ghost use Rattle.pg_conn.specs.Turns.{LearnsFront, LearnsFrom, TakesHeard, TakesIn, level_of, kept_for, TakesBeat, Falls, GoesOn, HearsFront, Prepares, Readies, Refuses, Accepts, IsAsked, IsSayable, Refused, IsAhead, only_sends, flushes, is_flushed, EndsFlush, queued_copy_fail, Polled, PollsOn, PollsThrough, PollsWithin, PollsCall, PollsMore, beat_of, broken_by, hands_on, HandsOnNone};
 
 use crate::connection::COPY_FAIL;
 use crate::{PgConnection, Request, Turn};
@@ -345,46 +345,68 @@ impl<L: Link> PgConnection<L> {
         }
     }
 
-    // Takes the message at the front, for which there is room; where it may not come, it stays.
-    fn judge_front(&mut self, front: Front) -> Beat
-        requires awaiting { IsAwaiting self.old.ledger self.old.call }
+    // Whether the own reply is awaited.
+    fn is_replied(&self) -> bool
+        ensures { result ≡ true → IsReplied self.now.call }
+    {
+        match &self.running.call {
+            Call::Own(_) => true,
+            Call::Idle | Call::Asked(_) | Call::Waiting(_) | Call::Closing => false,
+        }
+    }
+
+    // What was heard of the message at the front is told; where it may not come, it stays.
+    fn take_heard(&mut self, front: Front, heard: Result<Taken, Error>) -> Beat
         requires front { IsHeardFront self.old.stream.held front }
-        requires room { front.tag ≡ 71 → kept_for self.old + level_of self.old.change self.old.groups + 57 ≤ self.old.stream.spare }
-        requires sent { self.old.stream.unsent ≡ [] }
-        ensures beat { TakesBeat (seen_by L.seen self.old) (seen_by L.seen self.new) result }
-        ensures goes { result ≢ Beat.Waits }
+        requires room { IfOk heard (λ taken. taken.fails_copy ≡ true → 57 ≤ self.old.stream.spare) }
+        ensures takes { TakesHeard front heard self.old self.new result }
         ensures falls { Falls (seen_by L.seen self.old) (seen_by L.seen self.new) result }
     {
-        match self.hear_front(front) {
+        match heard {
             Ok(taken) => self.take_in(front, taken),
             Err(e) => self.stop(Err(e)),
         }
     }
 
-    // The same, with the room made. Without memory the message stays.
-    fn take(&mut self, front: Front) -> Beat
-        requires awaiting { IsAwaiting self.old.ledger self.old.call }
-        requires front { IsHeardFront self.old.stream.held front }
-        requires sent { self.old.stream.unsent ≡ [] }
-        ensures beat { TakesBeat (seen_by L.seen self.old) (seen_by L.seen self.new) result }
-        ensures falls { Falls (seen_by L.seen self.old) (seen_by L.seen self.new) result }
+    // Whether a message of the own reply shows nothing and isn't learnt from, so that the next one is taken in the same way.
+    fn passes(&self, front: Front, heard: &Result<Taken, Error>) -> bool
+        ensures more { result ≡ true → heard.now ≡ Ok (record { beat = Beat.More; fails_copy = false }) }
+        ensures own { result ≡ true → IsReplied self.now.call }
+        ensures plain { result ≡ true → (front.tag == 68 && looks_up self.now.call) ≡ false }
     {
-        match self.make_room(front) {
-            Ok(()) => self.judge_front(front),
-            Err(e) => self.stop(Err(e)),
-        }
+        let Ok(
+            Taken {
+                beat: Beat::More,
+                fails_copy: false,
+            },
+        ) = heard
+        else {
+            return false;
+        };
+        self.is_replied() && !(front.tag == b'D' && self.running.looks_up())
     }
 
-    // Takes the next message.
+    // Takes the next messages, up to the first that shows something or ends the reply. Where it may not come, it stays.
     fn hear(&mut self) -> Beat
         requires { IsAwaiting self.old.ledger self.old.call }
         ensures beat { TakesBeat (seen_by L.seen self.old) (seen_by L.seen self.new) result }
         ensures falls { Falls (seen_by L.seen self.old) (seen_by L.seen self.new) result }
     {
-        match self.stream.poll_ahead(self.alloc) {
-            Poll::Pending => Beat::Waits,
-            Poll::Ready(Err(e)) => self.stop(Err(e)),
-            Poll::Ready(Ok(front)) => self.take(front),
+        loop {
+            match self.stream.poll_ahead(self.alloc) {
+                Poll::Pending => return Beat::Waits,
+                Poll::Ready(Err(e)) => return self.stop(Err(e)),
+                Poll::Ready(Ok(front)) => {
+                    if let Err(e) = self.make_room(front) {
+                        return self.stop(Err(e));
+                    }
+                    let heard = self.hear_front(front);
+                    if !self.passes(front, &heard) {
+                        return self.take_heard(front, heard);
+                    }
+                    self.accept(front, false);
+                }
+            }
         }
     }
 

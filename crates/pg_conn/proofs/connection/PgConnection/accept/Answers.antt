@@ -1,5 +1,5 @@
 use Rattle.std.proofs.Common.{arith, true}
-use Rattle.pg_conn.proofs.TurnLaws.{accepts_by, accepts_plain, room_after}
+use Rattle.pg_conn.proofs.FrontLaws.{accepts_by, accepts_plain, room_after}
 use Rattle.pg_conn.proofs.connection.PgConnection.accept.Goals as goal
 
 pub fail_copy-requires : goal.fail_copy-requires

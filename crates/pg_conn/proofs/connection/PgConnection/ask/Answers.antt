@@ -1,6 +1,7 @@
 use Rattle.std.proofs.Common.{ap, sym, ◌∙◌, arith}
 use Rattle.pg_conn.specs.Connections.{ConnOf, seen_by}
-use Rattle.pg_conn.proofs.TurnLaws.{asks_own, asks_closing, readies_none, ahead_waiting, ahead_other}
+use Rattle.pg_conn.proofs.FrontLaws.{asks_own, asks_closing}
+use Rattle.pg_conn.proofs.TurnLaws.{readies_none, ahead_waiting, ahead_other}
 use Rattle.pg_conn.proofs.connection.PgConnection.ask.Goals as goal
 
 pub returns-in_default : goal.returns-in_default

@@ -1,5 +1,6 @@
 use Rattle.pg_conn.specs.Connections.{seen_by}
-use Rattle.pg_conn.proofs.TurnLaws.{starves, TakesBeat-then}
+use Rattle.pg_conn.proofs.FrontLaws.{starves}
+use Rattle.pg_conn.proofs.TurnLaws.{TakesBeat-then}
 use Rattle.pg_conn.proofs.connection.PgConnection.go_on.Goals as goal
 
 pub returns-in-Ok-clause-beat : goal.returns-in-Ok-clause-beat

@@ -1,16 +1,61 @@
+use Rattle.std.proofs.Common.{arith}
 use Rattle.pg_stream.specs.Streams.{stream_by}
+use Rattle.pg_call.specs.declared.calling.Beat.TheVariants as beats
 use Rattle.pg_conn.specs.Connections.{seen_by}
-use Rattle.pg_conn.proofs.TurnLaws.{hears_nothing, hears_fault, hears_front, TakesBeat-then}
+use Rattle.pg_conn.proofs.FrontLaws.{ahead_in, hears_fault, hears_front, hears_nothing, passed_awaits, passed_in, same_fuel, starves, with_room}
+use Rattle.pg_conn.proofs.TurnLaws.{TakesBeat-none, TakesBeat-then}
 use Rattle.pg_conn.proofs.connection.PgConnection.hear.Goals as goal
 
+pub loop-e-init : goal.loop-e-init
+loop-e-init g c = record { beat = TakesBeat-none _; awaiting = c.requires }
+
 pub returns-in-Pending-clause-beat : goal.returns-in-Pending-clause-beat
-returns-in-Pending-clause-beat g c = rw (← c.self.view_is) (hears_nothing _ _ (rw (← c.self.view_is) at c.requires) c.in-Pending.ensures)
+returns-in-Pending-clause-beat g c =
+    TakesBeat-then (seen_by g.L.Link.seen c.args.self.now) (seen_by g.L.Link.seen c.loop-e.self) _ beats.Waits c.loop-e.invariant.beat
+    (rw (← c.self.view_is) (hears_nothing _ _ (rw (← c.self.view_is) at c.loop-e.invariant.awaiting) c.in-Pending.ensures))
 
 pub returns-in-Ready-Err-clause-beat : goal.returns-in-Ready-Err-clause-beat
 returns-in-Ready-Err-clause-beat g c =
     let s = c.stop.ensures in
-    rw (s.now, s.beat, ← c.self.view_is) (hears_fault _ _ c.in-Ready-Err.e (rw (← c.self.view_is) at c.requires) (rw c.in-Ready-Err.field-0-is at c.in-Ready-Err.ensures))
+    TakesBeat-then (seen_by g.L.Link.seen c.args.self.now) (seen_by g.L.Link.seen c.loop-e.self) (seen_by g.L.Link.seen c.stop.new.self) c.stop.result c.loop-e.invariant.beat
+    (rw (s.now, s.beat, ← c.self.view_is) (hears_fault _ _ c.in-Ready-Err.e (rw (← c.self.view_is) at c.loop-e.invariant.awaiting) (rw c.in-Ready-Err.field-0-is at c.in-Ready-Err.ensures)))
 
-pub returns-in-Ready-Ok-clause-beat : goal.returns-in-Ready-Ok-clause-beat
-returns-in-Ready-Ok-clause-beat g c =
-    rw (← c.self.view_is) (TakesBeat-then _ _ (seen_by g.L.Link.seen c.take.new.self) c.take.result (hears_front _ (stream_by g.L.Link.seen c.poll_ahead.new.self) c.in-Ready-Ok.front (rw c.in-Ready-Ok.field-0-is at c.in-Ready-Ok.ensures)) c.take.ensures.beat)
+pub returns-in-Err-clause-beat : goal.returns-in-Err-clause-beat
+returns-in-Err-clause-beat g c =
+    let p = rw c.in-Ready-Ok.field-0-is at c.in-Ready-Ok.ensures in
+    let e = c.in-Err.ensures in
+    let s = c.stop-in-Err.ensures in
+    TakesBeat-then (seen_by g.L.Link.seen c.args.self.now) (seen_by g.L.Link.seen c.loop-e.self) (seen_by g.L.Link.seen c.stop-in-Err.new.self) c.stop-in-Err.result c.loop-e.invariant.beat
+    (rw (← c.self.view_is) (TakesBeat-then _ _ (seen_by g.L.Link.seen c.stop-in-Err.new.self) c.stop-in-Err.result (hears_front _ (stream_by g.L.Link.seen c.poll_ahead.new.self) c.in-Ready-Ok.front p)
+    (starves g.L.Link.seen _ c.make_room.new.self c.stop-in-Err.new.self c.in-Err.e c.stop-in-Err.result e.now e.spare e.err s.now s.beat)))
+
+pub returns-then-not-passes-clause-beat : goal.returns-then-not-passes-clause-beat
+returns-then-not-passes-clause-beat g c =
+    let p = rw c.in-Ready-Ok.field-0-is at c.in-Ready-Ok.ensures in
+    let m = c.in_default.ensures in
+    let h = c.hear_front-heard.ensures in
+    TakesBeat-then (seen_by g.L.Link.seen c.args.self.now) (seen_by g.L.Link.seen c.loop-e.self) (seen_by g.L.Link.seen c.take_heard.new.self) c.take_heard.result c.loop-e.invariant.beat
+    (rw (← c.self.view_is) (TakesBeat-then _ _ (seen_by g.L.Link.seen c.take_heard.new.self) c.take_heard.result (hears_front _ (stream_by g.L.Link.seen c.poll_ahead.new.self) c.in-Ready-Ok.front p)
+    (ahead_in g.L.Link.seen _ c.make_room.new.self c.hear_front-heard.new.self c.take_heard.new.self c.in-Ready-Ok.front c.hear_front-heard.result c.take_heard.result p.5 p.3 m.now m.spare m.ok h.now h.hears c.take_heard.ensures.takes)))
+
+pub returns-then-not-passes-clause-falls : goal.returns-then-not-passes-clause-falls
+returns-then-not-passes-clause-falls g c x =
+    let p = rw c.in-Ready-Ok.field-0-is at c.in-Ready-Ok.ensures in
+    let m = c.in_default.ensures in
+    let h = c.hear_front-heard.ensures in
+    let near = TakesBeat-then (seen_by g.L.Link.seen c.args.self.now) (seen_by g.L.Link.seen c.loop-e.self) (seen_by g.L.Link.seen c.make_room.new.self) beats.More c.loop-e.invariant.beat
+    (rw (← c.self.view_is) (TakesBeat-then _ _ (seen_by g.L.Link.seen c.make_room.new.self) beats.More (hears_front _ (stream_by g.L.Link.seen c.poll_ahead.new.self) c.in-Ready-Ok.front p) (with_room g.L.Link.seen _ c.make_room.new.self m.now m.spare))) in
+    omega (arith, c.take_heard.ensures.falls x, same_fuel g.L.Link.seen c.make_room.new.self c.hear_front-heard.new.self h.now, near.3.moves.fuel)
+
+pub loop-e-preserved-else-not-passes-17 : goal.loop-e-preserved-else-not-passes-17
+loop-e-preserved-else-not-passes-17 g c =
+    let p = rw c.in-Ready-Ok.field-0-is at c.in-Ready-Ok.ensures in
+    let m = c.in_default.ensures in
+    let h = c.hear_front-heard.ensures in
+    let takes = passed_in c.hear_front-heard.new.self c.accept.new.self c.in-Ready-Ok.front c.hear_front-heard.result (c.passes.ensures.more c.if-not-passes.false) (c.passes.ensures.plain c.if-not-passes.false) c.accept.ensures in
+    record {
+      beat = TakesBeat-then (seen_by g.L.Link.seen c.args.self.now) (seen_by g.L.Link.seen c.loop-e.self) (seen_by g.L.Link.seen c.accept.new.self) beats.More c.loop-e.invariant.beat
+          (rw (← c.self.view_is) (TakesBeat-then _ _ (seen_by g.L.Link.seen c.accept.new.self) beats.More (hears_front _ (stream_by g.L.Link.seen c.poll_ahead.new.self) c.in-Ready-Ok.front p)
+          (ahead_in g.L.Link.seen _ c.make_room.new.self c.hear_front-heard.new.self c.accept.new.self c.in-Ready-Ok.front c.hear_front-heard.result beats.More p.5 p.3 m.now m.spare m.ok h.now h.hears takes)));
+      awaiting = passed_awaits c.hear_front-heard.new.self c.accept.new.self c.in-Ready-Ok.front (c.passes.ensures.own c.if-not-passes.false) c.accept.ensures;
+    }

@@ -1,4 +1,4 @@
-use Rattle.pg_conn.proofs.TurnLaws.{hears_by}
+use Rattle.pg_conn.proofs.FrontLaws.{hears_by}
 use Rattle.pg_conn.proofs.connection.PgConnection.hear_front.Goals as goal
 
 pub returns-clause-hears : goal.returns-clause-hears

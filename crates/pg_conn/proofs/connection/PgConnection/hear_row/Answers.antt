@@ -1,5 +1,5 @@
 use Rattle.std.proofs.Common.{refl}
-use Rattle.pg_conn.proofs.TurnLaws.{hears_row, framed_front, starves_front, same_error}
+use Rattle.pg_conn.proofs.FrontLaws.{hears_row, framed_front, starves_front, same_error}
 use Rattle.pg_conn.proofs.connection.PgConnection.hear_row.Goals as goal
 
 pub returns-in-Ok-clause-hears : goal.returns-in-Ok-clause-hears

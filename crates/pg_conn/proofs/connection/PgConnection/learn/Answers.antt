@@ -1,4 +1,4 @@
-use Rattle.pg_conn.proofs.TurnLaws.{takes_row}
+use Rattle.pg_conn.proofs.FrontLaws.{takes_row}
 use Rattle.pg_conn.proofs.connection.PgConnection.learn.Goals as goal
 
 pub returns-clause-takes : goal.returns-clause-takes

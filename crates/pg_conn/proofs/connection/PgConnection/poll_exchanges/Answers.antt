@@ -50,9 +50,9 @@ returns-in-Err g c =
 
 pub returns-then-not-may_hand_on : goal.returns-then-not-may_hand_on
 returns-then-not-may_hand_on g c = record {
-    later = c.loop-answer.invariant.later;
-    last = seen_by g.L.Link.seen c.loop-answer.self;
-    hands = c.loop-answer.invariant.hands;
-    polled = c.poll_on-answer.ensures.polled;
-    none = c.may_hand_on.ensures c.if-not-may_hand_on.true;
-  }
+  later = c.loop-answer.invariant.later;
+  last = seen_by g.L.Link.seen c.loop-answer.self;
+  hands = c.loop-answer.invariant.hands;
+  polled = c.poll_on-answer.ensures.polled;
+  none = c.may_hand_on.ensures c.if-not-may_hand_on.true;
+}

@@ -1,4 +1,4 @@
-use Rattle.pg_conn.proofs.TurnLaws.{rest_waits, rest_fails, rest_sent}
+use Rattle.pg_conn.proofs.FrontLaws.{rest_waits, rest_fails, rest_sent}
 use Rattle.pg_conn.proofs.connection.PgConnection.send_rest.Goals as goal
 
 pub returns-in-Pending-clause-beat : goal.returns-in-Pending-clause-beat

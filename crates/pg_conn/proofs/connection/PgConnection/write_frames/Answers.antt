@@ -1,6 +1,7 @@
 use Rattle.std.proofs.Common.{ap, ◌∙◌}
 use Rattle.pg_conn.specs.Connections.{ConnOf, seen_by}
-use Rattle.pg_conn.proofs.TurnLaws.{prepares, prepares_none, not_asked}
+use Rattle.pg_conn.proofs.FrontLaws.{not_asked}
+use Rattle.pg_conn.proofs.TurnLaws.{prepares, prepares_none}
 use Rattle.pg_conn.proofs.connection.PgConnection.write_frames.Goals as goal
 
 pub returns-in_default : goal.returns-in_default
