@@ -32,7 +32,8 @@ use Rattle.pg_play.proofs.CalledLaws.{KnownAt, known_none}
 use Rattle.pg_play.proofs.DueLaws.{WithinMost}
 use Rattle.pg_play.proofs.ExchangeLaws.{IsExchange, LeadsTo, before_how, exchange_asks, exchange_parts, exchange_polled, looks_or, runs_how, undescribed_asks, IsReady, IsLooked, described_else, named_call, undescribed_held}
 use Rattle.pg_play.proofs.InTurnLaws.{BeginsAt}
-use Rattle.pg_play.proofs.KeptLaws.{IsHeldFor, IsNumbered, IsSought, IsSound, first_sound, RunsAt}
+use Rattle.pg_play.proofs.BehindLaws.{IsHeldFor, RunsAt}
+use Rattle.pg_play.proofs.KeptLaws.{IsNumbered, IsSought, IsSound, first_sound}
 use Rattle.pg_play.proofs.ThroughLaws.{looked_stays, named_is, named_self}
 
 -- a statement that isn't described yet, or one that is run

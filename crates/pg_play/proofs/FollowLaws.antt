@@ -65,7 +65,8 @@ use Rattle.pg_play.proofs.CalledLaws.{KnownAt, known_none}
 use Rattle.pg_play.proofs.ExchangeLaws.{HandsBy, IsLooked, LeadsTo, hands_by, told_by, undescribed_asks, undescribed_held, ready}
 use Rattle.pg_play.proofs.NameLaws.{each_known, named_nothing}
 use Rattle.pg_play.proofs.NextLaws.{after_further, described_known}
-use Rattle.pg_play.proofs.KeptLaws.{CanHold, CanHoldTold, ClosesNone, IsAfter, IsHeldFor, IsLooking, IsSought, held_after_close, looked_holds, spares_asked, RunsAt, runs_holds, IsKeptFirst, told_whole, IsToldWhole, IsToldFor, WasDescribed, IsSound, was_ready}
+use Rattle.pg_play.proofs.BehindLaws.{CanHold, CanHoldTold, IsHeldFor, held_after_close, looked_holds, RunsAt, runs_holds}
+use Rattle.pg_play.proofs.KeptLaws.{ClosesNone, IsAfter, IsLooking, IsSought, spares_asked, IsKeptFirst, told_whole, IsToldWhole, IsToldFor, WasDescribed, IsSound, was_ready}
 
 -- ---- what is known of a statement that is kept
 

@@ -43,7 +43,8 @@ use Rattle.pg_play.proofs.CalledLaws.{KnownAt, Called, called_exchange, exchange
 use Rattle.pg_play.proofs.ThroughLaws.{counted_by, held_conn, handed_asking, handed_ended}
 use Rattle.pg_play.proofs.ExchangeLaws.{LeadsTo, NextIs, looks_or, next_how, next_parts, runs_how, shows_how, what_is_next}
 use Rattle.pg_play.proofs.NextLaws.{good_after, good_messages, replies_same, whole_behind}
-use Rattle.pg_play.proofs.KeptLaws.{DescribedAt, IsHeldFor, IsSound, keeps_next, next_sound}
+use Rattle.pg_play.proofs.BehindLaws.{IsHeldFor, keeps_next}
+use Rattle.pg_play.proofs.KeptLaws.{DescribedAt, IsSound, next_sound}
 use Rattle.pg_play.proofs.NumberLaws.{numbers_on}
 use Rattle.pg_play.proofs.FollowLaws.{closes_known, known_next, looked_kept, next_holds, filled_kept}
 use Rattle.pg_play.proofs.PartLaws.{after_more, no_error}
@@ -61,7 +62,8 @@ use Rattle.pg_wire.specs.declared.error.ServerFault.{ServerFault}
 use Rattle.pg_call.specs.declared.answer.CallItem.{CallItem}
 use Rattle.pg_conn.specs.Connections.{ends_copy}
 use Rattle.pg_wire.specs.Parts.{is_ready}
-use Rattle.pg_play.proofs.CallLaws.{copy_learnt, unqueued_unfed}
+use Rattle.pg_play.proofs.FirstLaws.{copy_learnt}
+use Rattle.pg_play.proofs.CallLaws.{unqueued_unfed}
 use Rattle.pg_play.proofs.StepLaws.{Summary}
 use Rattle.std.specs.List.{count_by}
 use Rattle.pg_call.specs.Drains.{after_readys}

@@ -1,5 +1,6 @@
 pub mod WaitLaws
 pub mod CallLaws
+pub mod FirstLaws
 pub mod ThroughLaws
 pub mod FeedingLaws
 pub mod CutLaws

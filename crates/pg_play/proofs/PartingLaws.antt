@@ -54,7 +54,8 @@ use Rattle.pg_play.specs.Calls.{Bounds, EndsStarved, HasEnded, InCopy, InPlay, I
 use Rattle.pg_play.specs.Chains.{IsUnsaid, feeding, flushing, is_cancel, summed, told_behind}
 use Rattle.pg_play.specs.Feeding.{CameOf, PartsAs, fed_with, parts_of}
 use Rattle.pg_play.specs.Opened.{IsFed, IsOpenWith, IsPolled, PlaysCopy, asked_of_fed, fed_of, given_up_as, of_step}
-use Rattle.pg_play.proofs.CallLaws.{below_items, ended_whole, given_up, heard_cause, not_at_once, not_held_back, plays_one, waited_after, waited_more, went_on}
+use Rattle.pg_play.proofs.FirstLaws.{given_up, plays_one}
+use Rattle.pg_play.proofs.CallLaws.{below_items, ended_whole, heard_cause, not_at_once, not_held_back, waited_after, waited_more, went_on}
 use Rattle.pg_play.proofs.ThroughLaws.{plays_call}
 use Rattle.pg_play.proofs.FeedingLaws.{asked_with, copy_ended, copy_feeds, copy_stops, fed_all, of_copy, open_stays, said_can}
 use Rattle.pg_play.proofs.NextLaws.{replies_same}

@@ -58,9 +58,10 @@ use Rattle.pg_play.specs.Copying.{LeavesCopy}
 use Rattle.pg_play.proofs.CopyLaws.{leaves_none, fails_nothing}
 use Rattle.pg_play.proofs.UncopiedLaws.{calls_plain}
 use Rattle.pg_play.proofs.SettleLaws.{left_link}
-use Rattle.pg_play.proofs.CallLaws.{left_idle, first_changes, wanted_held, wanted_stays}
+use Rattle.pg_play.proofs.FirstLaws.{left_idle, first_changes, wanted_held, wanted_stays}
 use Rattle.pg_play.proofs.ExchangeLaws.{first_parts, first_request, first_acts, first_begins_with, first_waits, asked_wanted, exchange_asks}
-use Rattle.pg_play.proofs.KeptLaws.{first_sound, keeps_first, keeps_next}
+use Rattle.pg_play.proofs.BehindLaws.{keeps_first, keeps_next}
+use Rattle.pg_play.proofs.KeptLaws.{first_sound}
 use Rattle.pg_play.proofs.FollowLaws.{first_holds, first_known}
 use Rattle.pg_play.specs.Kept.{Keeps}
 use Rattle.pg_call.specs.declared.kind.Keeping.{Keeping}

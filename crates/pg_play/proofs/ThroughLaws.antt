@@ -65,7 +65,8 @@ use Rattle.pg_play.specs.declared.tally.Tally.{Tally}
 use Rattle.pg_play.specs.Shown.{item_of, IsBegun, IsUncopied, IsWanted}
 use Rattle.pg_play.specs.Calls.{Bounds, bounds, Adds, change_fed, change_for, Finishes, again, InCopy, InPlay, IsCopying, Waited, IsPlayingOn, IsPlaying, Ended, EndsOn, broken_after, Counted, asking, HandedOn, HandsTo, handed_from, knowing, LooksFirst, OfLastIn, OfLastOn, OfLast, StartsAt, IsCallPlaying, StopsBy, Pauses, PollGives, PlaysOne, PlaysCall, outcome_of, all_groups, asked_from, first_conn}
 use Rattle.pg_play.proofs.ExchangeLaws.{LeadsTo, looks_or, told_by}
-use Rattle.pg_play.proofs.CallLaws.{AfterSome, PlayBeat, OverPoll, over_poll, after_beat, fresh_play, playing_one, plays_one, goes_waits, goes_yields, goes_ok, goes_unshown, goes_err, drops_waiting, drops_shown, goes_unkept, asked_changes, wanted_stays, not_fed, first_changes}
+use Rattle.pg_play.proofs.FirstLaws.{fresh_play, playing_one, plays_one, asked_changes, wanted_stays, not_fed, first_changes}
+use Rattle.pg_play.proofs.CallLaws.{AfterSome, PlayBeat, OverPoll, over_poll, after_beat, goes_waits, goes_yields, goes_ok, goes_unshown, goes_err, drops_waiting, drops_shown, goes_unkept}
 
 -- what holds of the exchange that came last
 on_last_in : (later : List Request) (polls : ℕ) (first : StreamSeen) (P Q : ConnSeen → Request → Type 0) (a : ConnSeen) (r : Request) → ((at : ConnSeen) (asked : Request) → P at asked → Q at asked) → OfLastIn later polls first P a r → OfLastIn later polls first Q a r

@@ -1,6 +1,6 @@
 use Rattle.std.proofs.Common.{ap, ◌∙◌, inl, inr, rules}
 use Rattle.pg_conn.specs.Connections.{seen_by}
-use Rattle.pg_play.proofs.CallLaws.{seen_rolled}
+use Rattle.pg_play.proofs.FirstLaws.{seen_rolled}
 use Rattle.pg_play.proofs.LockLaws.{step_holds}
 use Rattle.pg_play.proofs.ShownLaws.{acts_later}
 use Rattle.pg_play.proofs.stepping.play_step.Goals as goal
