@@ -33,6 +33,7 @@ pub mod StartLaws
 pub mod TopLaws
 pub mod RefutedLaws
 mod KeptLaws
+mod BehindLaws
 mod NumberLaws
 pub mod BeforeLaws
 pub mod ForgetLaws
