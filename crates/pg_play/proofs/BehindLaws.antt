@@ -50,7 +50,7 @@ use Rattle.pg_play.specs.Plays.{Plays_call}
 use Rattle.pg_play.proofs.PlaceLaws.{all_split}
 use Rattle.pg_play.proofs.SettleLaws.{left_frames, left_groups}
 use Rattle.pg_play.proofs.ExchangeLaws.{IsLooked, LeadsTo, looks_or, told_by, undescribed_held, ready}
-use Rattle.pg_play.proofs.KeptLaws.{all_kept, open_orderly, IsNumbered, IsAfter, IsSought, IsSound, spares_asked, front_each_group, cleanup_spares, kept_further, leaves_statements}
+use Rattle.pg_play.proofs.KeptLaws.{LeavesKept, all_kept, open_orderly, IsNumbered, IsAfter, IsSought, IsSound, spares_asked, front_each_group, cleanup_spares, kept_further, leaves_statements}
 
 -- ---- a statement that an exchange described
 

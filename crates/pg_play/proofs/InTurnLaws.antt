@@ -43,8 +43,8 @@ use Rattle.pg_play.proofs.CalledLaws.{KnownAt, Called, called_exchange, exchange
 use Rattle.pg_play.proofs.ThroughLaws.{counted_by, held_conn, handed_asking, handed_ended}
 use Rattle.pg_play.proofs.ExchangeLaws.{LeadsTo, NextIs, looks_or, next_how, next_parts, runs_how, shows_how, what_is_next}
 use Rattle.pg_play.proofs.NextLaws.{good_after, good_messages, replies_same, whole_behind}
-use Rattle.pg_play.proofs.BehindLaws.{IsHeldFor, keeps_next}
-use Rattle.pg_play.proofs.KeptLaws.{DescribedAt, IsSound, next_sound}
+use Rattle.pg_play.proofs.BehindLaws.{DescribedAt, IsHeldFor, keeps_next}
+use Rattle.pg_play.proofs.KeptLaws.{IsSound, next_sound}
 use Rattle.pg_play.proofs.NumberLaws.{numbers_on}
 use Rattle.pg_play.proofs.FollowLaws.{closes_known, known_next, looked_kept, next_holds, filled_kept}
 use Rattle.pg_play.proofs.PartLaws.{after_more, no_error}

@@ -526,7 +526,7 @@ all_further : (at next : Place) (own : List Group) (slice : List Frame) (es : Li
 all_further at next own slice es spared groups frames h = each_by (IsKeptAt at) (IsKeptAt next) (λ e k. kept_further at next e own slice k (spared e) groups frames) es h
 
 -- Those that an exchange leaves are kept at the place behind it: it closes none of them.
-record LeavesKept (at next : Place) (rule : Rule) : Type 0 where
+pub record LeavesKept (at next : Place) (rule : Rule) : Type 0 where
   orderly : IsOrderly rule
   kept : AllByRecursion (IsKeptAt next) (all_kept rule)
 
