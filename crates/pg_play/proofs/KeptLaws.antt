@@ -527,8 +527,8 @@ all_further at next own slice es spared groups frames h = each_by (IsKeptAt at) 
 
 -- Those that an exchange leaves are kept at the place behind it: it closes none of them.
 pub record LeavesKept (at next : Place) (rule : Rule) : Type 0 where
-  orderly : IsOrderly rule
-  kept : AllByRecursion (IsKeptAt next) (all_kept rule)
+  pub orderly : IsOrderly rule
+  pub kept : AllByRecursion (IsKeptAt next) (all_kept rule)
 
 has_none : (own : List Group) → has_group own ≡ false → own ≡ []
 has_none [] e = refl
