@@ -28,15 +28,11 @@ pub record Opening (D S A : Type 0) : Type 1 where
   pub starts : Errand → D → D → S → Type 0
   pub goes : Kind → S → Type 0
 
--- at most one of them is there: what it is opened for, a start-up, a connection
-pub record SessionFor (Q S A : Type 0) : Type 0 where
-  pub errand : Option Q
+-- at most one of them is there
+pub record SessionSeen (S A : Type 0) : Type 0 where
+  pub errand : Option (Result Errand Error)
   pub start : Option S
   pub conn : Option (ConnOf A)
-
--- an errand, or why there is none
-abbrev pub SessionSeen : Type 0 → Type 0 → Type 0
-SessionSeen S A = SessionFor (Result Errand Error) S A
 
 -- ---- the kind of its call
 
@@ -105,13 +101,13 @@ Tells {D} {S} {A} seen o asked d s e (Ready turn) = (conn : ConnOf A) × (s.conn
 
 -- ---- its parts
 
-abbrev pub fresh_session : {Q S A : Type 0} → Q → SessionFor Q S A
+abbrev pub fresh_session : {S A : Type 0} → Result Errand Error → SessionSeen S A
 fresh_session errand = record { errand = Some errand; start = None; conn = None }
 
-abbrev pub without_conn : {Q S A : Type 0} → SessionFor Q S A → SessionFor Q S A
+abbrev pub without_conn : {S A : Type 0} → SessionSeen S A → SessionSeen S A
 without_conn s = record s { conn = None }
 
-abbrev pub is_over : {Q S A : Type 0} → SessionFor Q S A → Bool
+abbrev pub is_over : {S A : Type 0} → SessionSeen S A → Bool
 is_over s = is_none s.errand && is_none s.start && is_none s.conn
 
 -- where it was not polled yet, nothing else is there
@@ -164,13 +160,13 @@ DialsFirst {D} {S} seen o (Some (Ok errand)) s t d e (Err error) = (t ≡ record
 DialsFirst seen o (Some (Err refused)) s t d e (Err error) = (t ≡ record s { errand = None }) × (e ≡ d) × (error ≡ refused)
 DialsFirst seen o errand s t d e result = ⊥
 
-abbrev pub ConnectsSession : {Q D S A : Type 0} → (A → LinkSeen) → Opening D S A → Option S → SessionFor Q S A → SessionFor Q S A → Poll (Result (Unit {0}) Error) → Type 0
+abbrev pub ConnectsSession : {D S A : Type 0} → (A → LinkSeen) → Opening D S A → Option S → SessionSeen S A → SessionSeen S A → Poll (Result (Unit {0}) Error) → Type 0
 ConnectsSession seen o None s t answer = (t ≡ s) × (answer ≡ Ready (Ok tt))
-ConnectsSession {Q} {D} {S} seen o (Some start) s t Pending = (next : S) × (t ≡ record s { start = Some next }) × WaitsBehind o start next
-ConnectsSession {Q} {D} {S} {A} seen o (Some start) s t (Ready (Ok u)) = (conn : ConnOf A) × (t ≡ record s { start = None; conn = Some conn }) × OpensBehind seen o start conn
+ConnectsSession {D} {S} seen o (Some start) s t Pending = (next : S) × (t ≡ record s { start = Some next }) × WaitsBehind o start next
+ConnectsSession {D} {S} {A} seen o (Some start) s t (Ready (Ok u)) = (conn : ConnOf A) × (t ≡ record s { start = None; conn = Some conn }) × OpensBehind seen o start conn
 ConnectsSession seen o (Some start) s t (Ready (Err e)) = (t ≡ record s { start = None }) × FailsBehind seen o start e
 
 -- of its call
-abbrev pub PollsSession : {Q S A : Type 0} → (A → LinkSeen) → ℕ → Option (ConnOf A) → SessionFor Q S A → SessionFor Q S A → Poll Turn → Type 0
+abbrev pub PollsSession : {S A : Type 0} → (A → LinkSeen) → ℕ → Option (ConnOf A) → SessionSeen S A → SessionSeen S A → Poll Turn → Type 0
 PollsSession seen left None s t answer = ⊥
-PollsSession {Q} {S} {A} seen left (Some a) s t answer = (b : ConnOf A) × (t ≡ record s { conn = Some b }) × PollsWithin left (seen_by seen a) (seen_by seen b) answer
+PollsSession {S} {A} seen left (Some a) s t answer = (b : ConnOf A) × (t ≡ record s { conn = Some b }) × PollsWithin left (seen_by seen a) (seen_by seen b) answer

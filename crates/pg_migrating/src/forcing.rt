@@ -20,7 +20,7 @@ use crate::errand::{Errand, Task, errand_at};
 use crate::names::database_of;
 use crate::opening::Sessions;
 use crate::reading::Reading;
-use crate::session::{Asked, Session, SessionOf, poll};
+use crate::session::{Session, SessionOf, poll};
 use crate::statement::Done;
 use pg_call::{Request, Turn};
 use pg_options::{PgConnectOptions, PgSettings};
@@ -47,13 +47,13 @@ pub(crate) enum ForceStep {
 /// The state of `MigrateDatabase::force_drop_database`. Its first poll dials. From one connection it asks for the server's version and ends all other
 /// sessions on the database; then it lets that connection go, dials again, and drops the database. A drop of the state lets go what it has opened, and
 /// leaves the dial as it is.
-pub struct ForceDropDatabase<'d, D: Sessions, Q = Asked> {
+pub struct ForceDropDatabase<'d, D: Sessions> {
     alloc: Global,
     dial: &'d mut D,
     step: ForceStep,
     database: Text,
-    session: SessionOf<D, Q>,
-    last: SessionOf<D, Q>,
+    session: SessionOf<D>,
+    last: SessionOf<D>,
 }
 
 // What is asked, of the database that options name.
@@ -133,7 +133,7 @@ fn terminating(alloc: Global, turn: Turn, database: &str) -> Result<Request, Err
     }
 }
 
-impl<'d, D: Sessions, Q> ForceDropDatabase<'d, D, Q> {
+impl<'d, D: Sessions> ForceDropDatabase<'d, D> {
     /// Whether a poll has ended the call.
     pub fn is_finished(&self) -> bool
         ensures { result ≡ is_forced self.now.step }
@@ -166,9 +166,7 @@ impl<'d, D: Sessions, Q> ForceDropDatabase<'d, D, Q> {
         self.last.close();
         Poll::Ready(answer)
     }
-}
 
-impl<'d, D: Sessions> ForceDropDatabase<'d, D> {
     pub(crate) fn new(alloc: Global, dial: &'d mut D, forcing: Result<Forcing, Error>) -> Self
         ensures dial { result.dial.now ≡ dial.old }
         ensures same { result.dial.ghost_name ≡ dial.entry.ghost_name }
@@ -286,7 +284,7 @@ impl<'d, D: Sessions> ForceDropDatabase<'d, D> {
     }
 }
 
-impl<D: Sessions, Q: Drop> Drop for ForceDropDatabase<'_, D, Q> {
+impl<D: Sessions> Drop for ForceDropDatabase<'_, D> {
     fn drop(self) {
         let ForceDropDatabase {
             alloc: _,

@@ -8,24 +8,24 @@ ghost use Rattle.pg_migrating.specs.Openings.{DrawsWords, FailsDial, Starts, dia
 ghost use Rattle.pg_migrating.specs.Sessions.{CallsAs};
 
 use crate::errand::Errand;
-use crate::holding;
 use arrayvec::ArrayString;
 use pg_auth::nonce_of;
 use pg_call::Request;
 use pg_conn::{Dial, DialFailed, Establish, PgConnection, establish};
 use pg_guards::PgExecutor;
 use pg_options::PgConnectOptions;
+use pg_stream::Link;
 use pg_wire::{Error, IoCause, Poll};
 use std::alloc::Global;
 
 /// A start-up, and what is asked behind it.
-pub struct Start<E, Q = Request> {
-    pub(crate) request: Q,
-    pub(crate) establish: E,
+pub struct Start<L> {
+    pub(crate) request: Request,
+    pub(crate) establish: Establish<L>,
 }
 
 // By hand, so that whoever lets one go makes one call.
-impl<E: Drop, Q: Drop> Drop for Start<E, Q> {
+impl<L: Drop> Drop for Start<L> {
     fn drop(self) {
         let Start {
             request: _,
@@ -114,14 +114,14 @@ where
     }
 }
 
-impl<E: Drop> Start<E> {
+impl<L: Link + Drop> Start<L> {
     // Begins the call on the connection that this start-up has come to.
-    fn open<C: PgExecutor>(self, mut conn: C) -> C
-        ensures { result ≡ C.with_conn conn (started_call self.request (C.conn conn)) }
+    fn open(self, mut conn: PgConnection<L>) -> PgConnection<L>
+        ensures { result ≡ started_call self.request conn }
     {
         let Start { request, establish } = self;
         drop(establish);
-        holding::start(&mut conn, request);
+        conn.start(request);
         conn
     }
 }
@@ -130,17 +130,13 @@ impl<D: Dial> Sessions for D
 where
     D::L: Drop,
 {
-    type Start = Start<Establish<D::L>>;
+    type Start = Start<D::L>;
 
     type Conn = PgConnection<D::L>;
 
     ghost opens = { record { hands = HandsOut D.gives D.draws; counts = D.seen; starts = λ errand d e s. (s.request ≡ errand.request) × Starts D.L.seen (HandsOut D.gives D.draws) errand.options d e s.establish; goes = λ kind s. (s.establish.startup.is_finished ≡ false) × CallsAs D.L kind s.request } };
 
-    fn begin_session(
-        &mut self,
-        alloc: Global,
-        errand: Errand,
-    ) -> Result<Start<Establish<D::L>>, Error> {
+    fn begin_session(&mut self, alloc: Global, errand: Errand) -> Result<Start<D::L>, Error> {
         let (link, nonce) = match dial_for(self, &errand.options) {
             Ok(dialled) => dialled,
             Err(e) => return Err(e),
@@ -158,9 +154,9 @@ where
     }
 
     fn connect_session(
-        mut start: Start<Establish<D::L>>,
+        mut start: Start<D::L>,
         left: &mut u16,
-    ) -> Connected<Start<Establish<D::L>>, PgConnection<D::L>> {
+    ) -> Connected<Start<D::L>, PgConnection<D::L>> {
         match start.establish.poll_within(left) {
             Poll::Pending => Connected::Waits(start),
             Poll::Ready(Ok(conn)) => Connected::Opens(start.open(conn)),

@@ -18,29 +18,26 @@ use std::marker::Model;
 
 /// A session on its way: what it is opened for, or why it can't be; its start-up; its connection, on which the call runs. At most one of them is
 /// there.
-pub(crate) struct Session<S, C: PgExecutor, Q> {
-    errand: Option<Q>,
+pub(crate) struct Session<S, C: PgExecutor> {
+    errand: Option<Result<Errand, Error>>,
     start: Option<S>,
     conn: Option<C>,
 }
 
-/// What a session is opened for, or why it can't be.
-pub type Asked = Result<Errand, Error>;
-
 /// The session of a dial.
-pub(crate) type SessionOf<D, Q = Asked> = Session<<D as Sessions>::Start, <D as Sessions>::Conn, Q>;
+pub(crate) type SessionOf<D> = Session<<D as Sessions>::Start, <D as Sessions>::Conn>;
 
-impl<S, C: PgExecutor, Q> Model for Session<S, C, Q> {
+impl<S, C: PgExecutor> Model for Session<S, C> {
     ghost use Rattle.std.specs.Prelude.{option_map};
-    ghost use Rattle.pg_migrating.specs.Sessions.{SessionFor};
+    ghost use Rattle.pg_migrating.specs.Sessions.{SessionSeen};
 
-    ghost Value = { SessionFor Q S C.L };
+    ghost Value = { SessionSeen S C.L };
 
     ghost view = { λ s. record { errand = s.errand; start = s.start; conn = option_map C.conn s.conn } };
 }
 
 // By hand, so that whoever lets one go makes one call.
-impl<S: Drop, C: PgExecutor + Drop, Q: Drop> Drop for Session<S, C, Q> {
+impl<S: Drop, C: PgExecutor + Drop> Drop for Session<S, C> {
     fn drop(self) {
         let Session {
             errand,
@@ -53,8 +50,8 @@ impl<S: Drop, C: PgExecutor + Drop, Q: Drop> Drop for Session<S, C, Q> {
     }
 }
 
-impl<S, C: PgExecutor, Q> Session<S, C, Q> {
-    pub(crate) fn new(errand: Q) -> Self
+impl<S, C: PgExecutor> Session<S, C> {
+    pub(crate) fn new(errand: Result<Errand, Error>) -> Self
         ensures { result ≡ fresh_session errand }
     {
         Session {
@@ -102,7 +99,7 @@ impl<S, C: PgExecutor, Q> Session<S, C, Q> {
     }
 }
 
-impl<S: Drop, C: PgExecutor + Drop, Q> Session<S, C, Q> {
+impl<S: Drop, C: PgExecutor + Drop> Session<S, C> {
     /// Lets the connection go.
     pub(crate) fn close(&mut self)
         ensures { self.new ≡ without_conn self.old }
@@ -134,7 +131,7 @@ fn dial_first<D: Sessions>(
 }
 
 // Moves the start-up on, where there is one.
-fn connect<D: Sessions, Q>(session: &mut SessionOf<D, Q>, left: &mut u16) -> Poll<Result<(), Error>>
+fn connect<D: Sessions>(session: &mut SessionOf<D>, left: &mut u16) -> Poll<Result<(), Error>>
     requires goes { StartGoes D.opens session.old.start }
     requires left { left.old ≤ 256 }
     ensures left { left.new ≤ left.old }
@@ -170,7 +167,7 @@ pub(crate) fn poll<D: Sessions>(
     ensures tells { (asked : Result declared_errand.Errand declared_error.Error) (first : D) → Stands D.L.seen D.opens asked first session.old dial.old → Tells D.L.seen D.opens asked first session.new dial.new result }
 {
     match dial_first(alloc, session, dial) {
-        Ok(()) => match connect::<D, Asked>(session, left) {
+        Ok(()) => match connect::<D>(session, left) {
             Poll::Ready(Ok(())) => session.poll_call(left),
             Poll::Ready(Err(e)) => Poll::Ready(Turn::Err(e)),
             Poll::Pending => Poll::Pending,

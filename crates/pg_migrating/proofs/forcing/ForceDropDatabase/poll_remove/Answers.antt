@@ -1,6 +1,6 @@
 use Rattle.std.proofs.Common.{Ok}
 use Rattle.pg_migrating.proofs.ForceLaws.{removed_on}
-use Rattle.pg_migrating.proofs.forcing.ForceDropDatabase+D.poll_remove.Goals as goal
+use Rattle.pg_migrating.proofs.forcing.ForceDropDatabase.poll_remove.Goals as goal
 
 pub returns-in-Pending-clause-tells : goal.returns-in-Pending-clause-tells
 returns-in-Pending-clause-tells g c asked first (f, same, (m, done, k)) = rw c.requires.step (f, same, (m, done, c.in-Pending.ensures.tells (Ok f.last) m k))

@@ -1,6 +1,6 @@
 use Rattle.futures.specs.declared.task.Poll.TheVariants.{Ready}
 use Rattle.pg_migrating.proofs.ForceLaws.{terminate_fails, terminate_fits, terminate_stands, terminate_tells, terminate_waits}
-use Rattle.pg_migrating.proofs.forcing.ForceDropDatabase+D.poll_others.Goals as goal
+use Rattle.pg_migrating.proofs.forcing.ForceDropDatabase.poll_others.Goals as goal
 
 pub read-requires : goal.read-requires
 read-requires g c =

@@ -3,7 +3,7 @@ use Rattle.pg_call.specs.declared.kind.How.TheVariants as hows
 use Rattle.pg_call.specs.declared.kind.Kind.TheVariants as kinds
 use Rattle.pg_migrating.specs.Forcing.{version_in}
 use Rattle.pg_migrating.proofs.ForceLaws.{version_fails, version_goes, version_tells}
-use Rattle.pg_migrating.proofs.forcing.ForceDropDatabase+D.poll_version.Goals as goal
+use Rattle.pg_migrating.proofs.forcing.ForceDropDatabase.poll_version.Goals as goal
 
 pub returns-in-Ok-clause-goes : goal.returns-in-Ok-clause-goes
 returns-in-Ok-clause-goes g c =
