@@ -91,11 +91,14 @@ is_database (errors.Database error) = true
 is_database e = false
 
 -- The migration's own script was answered by it: it is an ErrorResponse behind the script's own group, which is queued once all is read that is owed before it.
-abbrev pub answers_script : {A : Type 0} → Step → ConnOf A → Error → Bool
-answers_script step conn e = is_script step && is_database e && not (nat_eq (groups_of conn) 0)
+abbrev pub answers_script : Step → ℕ → Error → Bool
+answers_script step groups e = is_script step && is_database e && not (nat_eq groups 0)
+
+abbrev pub told_by : Step → ℤ → ℕ → Error → MigrateError
+told_by step version groups e = if answers_script step groups e then failed.ExecuteMigration e version else failed.Execute e
 
 abbrev pub told_as : {A : Type 0} → Step → ℤ → ConnOf A → Error → MigrateError
-told_as step version conn e = if answers_script step conn e then failed.ExecuteMigration e version else failed.Execute e
+told_as step version conn e = told_by step version (groups_of conn) e
 
 -- The call of a step ended by this error, or could not be asked; what was opened stays to be rolled back.
 pub record Fails {A : Type 0} (seen : A → LinkSeen) (w : WorkSeen) (first : ConnOf A) (c : Course) (conn : ConnOf A) (error : MigrateError) : Type 0 where

@@ -1,12 +1,12 @@
 //! One call on what holds a connection.
 
-ghost use Rattle.std.specs.Prelude.{◌≡◌, ◌≤◌, true, None, Some, is_some, Result};
+ghost use Rattle.std.specs.Prelude.{◌≡◌, ◌≤◌, true, None, Some, Result};
 ghost use Rattle.pg_wire.specs.declared.error.Error as declared_error;
 ghost use Rattle.pg_call.specs.declared.kind.Kind as declared_kind;
 ghost use Rattle.pg_call.specs.declared.request.Request as declared_request;
 ghost use Rattle.pg_conn.specs.Connections.{ConnOf};
 ghost use Rattle.pg_conn.specs.States.{PollFits};
-ghost use Rattle.pg_migrating.specs.Asking.{CallsFor, CallsQuietly, EndsAs, IsEnd, StandsAt, StaysQuiet, Tells, TellsEnd, asked_by, groups_of, is_asked, left_of, refusal};
+ghost use Rattle.pg_migrating.specs.Asking.{CallsFor, CallsQuietly, EndsAs, IsEnd, StandsAt, StaysQuiet, Tells, TellsEnd, asked_by, is_asked, left_of, refusal};
 
 use crate::holding;
 use pg_call::{Request, Turn};
@@ -18,8 +18,8 @@ pub type Question = Result<Request, Error>;
 
 /// A call on what is held, which does nothing before its first poll. Its question is a parameter, since what doesn't look at it is cheaper to prove so.
 pub(crate) struct Asking<C: PgExecutor, Q> {
-    conn: C,
-    question: Option<Q>,
+    pub(crate) conn: C,
+    pub(crate) question: Option<Q>,
 }
 
 // What the end of a call without items was.
@@ -35,41 +35,11 @@ fn ended(turn: Turn) -> Result<(), Error>
 }
 
 impl<C: PgExecutor, Q> Asking<C, Q> {
-    pub(crate) fn new(conn: C, question: Q) -> Self
-        ensures { result ≡ record { conn = conn; question = Some question } }
-    {
-        Asking {
-            conn,
-            question: Some(question),
-        }
-    }
-
     /// Whether it is still to be polled.
     pub(crate) fn is_asked(&self) -> bool
         ensures { result ≡ is_asked self.now.question (C.conn self.now.conn).call }
     {
         self.question.is_some() || self.conn.conn_ref().is_running()
-    }
-
-    /// Whether no poll was made yet.
-    pub(crate) fn is_new(&self) -> bool
-        ensures { result ≡ is_some self.now.question }
-    {
-        self.question.is_some()
-    }
-
-    /// How many transactions and savepoints are open.
-    pub(crate) fn depth(&self) -> u64
-        ensures { result ≡ (C.conn self.now.conn).rule.depth }
-    {
-        self.conn.conn_ref().transaction_depth()
-    }
-
-    /// How many groups the call that ran last has queued.
-    pub(crate) fn groups(&self) -> u64
-        ensures { result ≡ groups_of (C.conn self.now.conn) }
-    {
-        self.conn.conn_ref().progress().groups
     }
 }
 
@@ -101,6 +71,15 @@ impl<C: PgExecutor, Q: Drop> Asking<C, Q> {
 }
 
 impl<C: PgExecutor> Asking<C, Question> {
+    pub(crate) fn new(conn: C, question: Question) -> Self
+        ensures { result ≡ record { conn = conn; question = Some question } }
+    {
+        Asking {
+            conn,
+            question: Some(question),
+        }
+    }
+
     // Begins the call where it was not, and tells why it can't be asked.
     fn begin(&mut self) -> Result<(), Error>
         ensures conn { self.new.conn ≡ C.with_conn self.old.conn (asked_by self.old.question (C.conn self.old.conn)) }

@@ -45,7 +45,10 @@ pub(crate) fn with_text(
         Ok(arguments) => arguments,
         Err(e) => return Err(e),
     };
-    let of = Text::type_info(alloc)?;
+    let of = match Text::type_info(alloc) {
+        Ok(of) => of,
+        Err(e) => return Err(e),
+    };
     match arguments.add_image(of, text.as_bytes()) {
         Ok(()) => Ok(arguments),
         Err(e) => Err(e),
@@ -64,7 +67,10 @@ pub(crate) fn with_bytes(
         Ok(arguments) => arguments,
         Err(e) => return Err(e),
     };
-    let of = Blob::type_info(alloc)?;
+    let of = match Blob::type_info(alloc) {
+        Ok(of) => of,
+        Err(e) => return Err(e),
+    };
     match arguments.add_image(of, bytes) {
         Ok(()) => Ok(arguments),
         Err(e) => Err(e),

@@ -21,16 +21,20 @@ fn create(alloc: Global, database: &str) -> Result<Request, Error>
     ensures { IsRequestOf hows.Execute 0 (Script (create_database_text database.now)) result }
 {
     let mut sql = String::new(alloc);
-    put_create_database(&mut sql, database)?;
-    Ok(owned_script(sql))
+    match put_create_database(&mut sql, database) {
+        Ok(()) => Ok(owned_script(sql)),
+        Err(_) => Err(Error::OutOfMemory),
+    }
 }
 
 fn remove(alloc: Global, database: &str) -> Result<Request, Error>
     ensures { IsRequestOf hows.Execute 0 (Script (drop_database_text database.now)) result }
 {
     let mut sql = String::new(alloc);
-    put_drop_database(&mut sql, database)?;
-    Ok(owned_script(sql))
+    match put_drop_database(&mut sql, database) {
+        Ok(()) => Ok(owned_script(sql)),
+        Err(_) => Err(Error::OutOfMemory),
+    }
 }
 
 fn exists(alloc: Global, database: &str) -> Result<Request, Error>
@@ -57,6 +61,8 @@ pub(crate) fn terminate(alloc: Global, version: u32, database: &str) -> Result<R
     ensures { IsRequestOf hows.Execute 0 (Script (terminate_text version database.now)) result }
 {
     let mut sql = String::new(alloc);
-    put_terminate(&mut sql, version, database)?;
-    Ok(owned_script(sql))
+    match put_terminate(&mut sql, version, database) {
+        Ok(()) => Ok(owned_script(sql)),
+        Err(_) => Err(Error::OutOfMemory),
+    }
 }

@@ -60,7 +60,10 @@ pub struct ForceDropDatabase<'d, D: Sessions> {
 fn forcing_at(alloc: Global, options: &PgConnectOptions) -> Result<Forcing, Error>
     ensures { AsksForce options.now result }
 {
-    let database = Text::from_str(alloc, database_of(options))?;
+    let database = match Text::from_str(alloc, database_of(options)) {
+        Ok(database) => database,
+        Err(_) => return Err(Error::OutOfMemory),
+    };
     let last = match errand_at(alloc, Task::Remove, options) {
         Ok(last) => last,
         Err(e) => return Err(e),

@@ -1,12 +1,27 @@
-//! What a state does with the connection that is held. Each lends it once.
+//! What a state asks of the connection that is held, and does with it. Each lends it once.
 
 ghost use Rattle.std.specs.Prelude.{◌≡◌, ◌≤◌, true};
 ghost use Rattle.pg_conn.specs.Connections.{left, rolled_back, runs, seen_by, started_call};
 ghost use Rattle.pg_conn.specs.Turns.{PollsWithin};
+ghost use Rattle.pg_migrating.specs.Asking.{groups_of};
 
 use pg_call::{Request, Turn};
 use pg_guards::PgExecutor;
 use pg_wire::Poll;
+
+/// How many transactions and savepoints are open.
+pub(crate) fn depth<C: PgExecutor>(holder: &C) -> u64
+    ensures { result ≡ (C.conn holder.now).rule.depth }
+{
+    holder.conn_ref().transaction_depth()
+}
+
+/// How many groups the call that ran last has queued.
+pub(crate) fn groups<C: PgExecutor>(holder: &C) -> u64
+    ensures { result ≡ groups_of (C.conn holder.now) }
+{
+    holder.conn_ref().progress().groups
+}
 
 /// Begins a call, which does nothing before its first poll. One that still runs is given up.
 pub(crate) fn start<C: PgExecutor>(holder: &mut C, request: Request)

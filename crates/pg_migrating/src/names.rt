@@ -33,5 +33,8 @@ pub(crate) fn maintenance(options: &PgConnectOptions) -> Result<PgConnectOptions
     ensures { Makes result (maintenance options.now) }
 {
     let name = maintenance_name(database_of(options));
-    options.clone()?.database(name)
+    match options.clone() {
+        Ok(options) => options.database(name),
+        Err(e) => Err(e),
+    }
 }

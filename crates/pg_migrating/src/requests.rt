@@ -69,32 +69,40 @@ pub(crate) fn create_schema(alloc: Global, schema: &str) -> Result<Request, Erro
     ensures { IsRequestOf hows.Execute 0 (Script (create_schema_text schema.now)) result }
 {
     let mut sql = String::new(alloc);
-    put_create_schema(&mut sql, schema)?;
-    Ok(owned_script(sql))
+    match put_create_schema(&mut sql, schema) {
+        Ok(()) => Ok(owned_script(sql)),
+        Err(_) => Err(Error::OutOfMemory),
+    }
 }
 
 pub(crate) fn create_table(alloc: Global, table: &str) -> Result<Request, Error>
     ensures { IsRequestOf hows.Execute 0 (Script (create_table_text table.now)) result }
 {
     let mut sql = String::new(alloc);
-    put_create_table(&mut sql, table)?;
-    Ok(owned_script(sql))
+    match put_create_table(&mut sql, table) {
+        Ok(()) => Ok(owned_script(sql)),
+        Err(_) => Err(Error::OutOfMemory),
+    }
 }
 
 pub(crate) fn dirty_version(alloc: Global, table: &str) -> Result<Request, Error>
     ensures { IsRequestOf hows.FetchOptional 0 (Prepared (dirty_version_text table.now) []) result }
 {
     let mut sql = String::new(alloc);
-    put_dirty_version(&mut sql, table)?;
-    bare(alloc, How::FetchOptional, sql.as_str())
+    match put_dirty_version(&mut sql, table) {
+        Ok(()) => bare(alloc, How::FetchOptional, sql.as_str()),
+        Err(_) => Err(Error::OutOfMemory),
+    }
 }
 
 pub(crate) fn list(alloc: Global, table: &str) -> Result<Request, Error>
     ensures { IsRequestOf hows.FetchAll 0 (Prepared (list_text table.now) []) result }
 {
     let mut sql = String::new(alloc);
-    put_list(&mut sql, table)?;
-    bare(alloc, How::FetchAll, sql.as_str())
+    match put_list(&mut sql, table) {
+        Ok(()) => bare(alloc, How::FetchAll, sql.as_str()),
+        Err(_) => Err(Error::OutOfMemory),
+    }
 }
 
 pub(crate) fn current_database(alloc: Global) -> Result<Request, Error>
@@ -119,9 +127,15 @@ pub(crate) fn insert_row(
     ensures { IsRequestOf hows.Execute 0 (row_of table.now migration.now) result }
 {
     let mut sql = String::new(alloc);
-    put_insert_row(&mut sql, table)?;
-    let arguments = binding::row(alloc, migration);
-    prepared(alloc, How::Execute, sql.as_str(), arguments)
+    match put_insert_row(&mut sql, table) {
+        Ok(()) => prepared(
+            alloc,
+            How::Execute,
+            sql.as_str(),
+            binding::row(alloc, migration),
+        ),
+        Err(_) => Err(Error::OutOfMemory),
+    }
 }
 
 pub(crate) fn delete_row(
@@ -132,8 +146,10 @@ pub(crate) fn delete_row(
     ensures { IsRequestOf hows.Execute 0 (without_row table.now migration.now) result }
 {
     let mut sql = String::new(alloc);
-    put_delete_row(&mut sql, table)?;
-    keyed(alloc, sql.as_str(), binding::version_of(migration))
+    match put_delete_row(&mut sql, table) {
+        Ok(()) => keyed(alloc, sql.as_str(), binding::version_of(migration)),
+        Err(_) => Err(Error::OutOfMemory),
+    }
 }
 
 pub(crate) fn update_time(
@@ -145,8 +161,12 @@ pub(crate) fn update_time(
     ensures { IsRequestOf hows.Execute 0 (time_of table.now migration.now nanos) result }
 {
     let mut sql = String::new(alloc);
-    put_update_time(&mut sql, table)?;
-    let time = binding::with_int8(binding::none(alloc), as_int8(nanos));
-    let arguments = binding::with_int8(time, binding::version_of(migration));
-    prepared(alloc, How::Execute, sql.as_str(), arguments)
+    match put_update_time(&mut sql, table) {
+        Ok(()) => {
+            let time = binding::with_int8(binding::none(alloc), as_int8(nanos));
+            let arguments = binding::with_int8(time, binding::version_of(migration));
+            prepared(alloc, How::Execute, sql.as_str(), arguments)
+        }
+        Err(_) => Err(Error::OutOfMemory),
+    }
 }

@@ -3,12 +3,12 @@
 ghost use Rattle.std.specs.Prelude.{◌≡◌, ◌≤◌, true, false, not, is_some, None, Some};
 ghost use Rattle.pg_conn.specs.Connections.{ConnOf};
 ghost use Rattle.pg_migrating.specs.Asking.{CallsQuietly, StaysQuiet, is_asked, left_of};
-ghost use Rattle.pg_migrating.specs.Courses.{ends_work};
-ghost use Rattle.pg_migrating.specs.Migrating.{HasRun, Runs, StandsIn, StepGoes, StopsBy, TellsRun, TellsStep, is_database, is_script, told_as};
+ghost use Rattle.pg_migrating.specs.Migrating.{HasRun, Runs, StandsIn, StepGoes, StopsBy, TellsRun, TellsStep, is_database, is_script, told_by};
 
 use crate::asking::{Asking, Question};
 use crate::binding::version_of;
 use crate::course::{Course, Step, Way, Work};
+use crate::holding;
 use pg_guards::PgExecutor;
 use pg_migrate::{Clock, MigrateError, Migration, elapsed};
 use pg_wire::{Error, Poll};
@@ -43,23 +43,34 @@ fn is_database(e: &Error) -> bool
     }
 }
 
+impl Work<'_> {
+    // How an error of a step is told whose call has queued so many groups.
+    fn told(&self, step: Step, groups: u64, e: Error) -> MigrateError
+        ensures { result ≡ told_by step self.now.migration.version groups e }
+    {
+        if is_script(step) && is_database(&e) && groups > 0 {
+            MigrateError::ExecuteMigration(e, version_of(self.migration))
+        } else {
+            MigrateError::Execute(e)
+        }
+    }
+}
+
+// Reads the clock again where this ends the work whose time is taken.
+fn stop_clock<K: Clock>(ends: bool, course: &mut Course, clock: &mut K)
+    ensures { StopsBy K.seen K.tells ends course.old course.new clock.old clock.new }
+{
+    if ends {
+        course.nanos = elapsed(course.start, clock.now());
+    }
+}
+
 impl<'m, C: PgExecutor, K, Q> RunMigration<'m, C, K, Q> {
     /// Whether a poll has ended the call.
     pub fn is_finished(&self) -> bool
         ensures { result ≡ not (is_asked self.now.asking.question (C.conn self.now.asking.conn).call) }
     {
         !self.asking.is_asked()
-    }
-
-    // How an error of the step that is asked is told.
-    fn told(&self, e: Error) -> MigrateError
-        ensures { result ≡ told_as self.now.course.step self.now.work.migration.version (C.conn self.now.asking.conn) e }
-    {
-        if is_script(self.course.step) && is_database(&e) && self.asking.groups() > 0 {
-            MigrateError::ExecuteMigration(e, version_of(self.work.migration))
-        } else {
-            MigrateError::Execute(e)
-        }
     }
 }
 
@@ -106,7 +117,7 @@ impl<'m, C: PgExecutor, K: Clock> RunMigration<'m, C, K> {
             migration,
         };
         let step = work.first_step();
-        let depth = conn.conn_ref().transaction_depth();
+        let depth = holding::depth(&conn);
         let question = work.request(alloc, step, depth, 0);
         RunMigration {
             alloc,
@@ -124,8 +135,9 @@ impl<'m, C: PgExecutor, K: Clock> RunMigration<'m, C, K> {
         ensures work { self.new.work ≡ self.old.work }
         ensures runs { (first : ConnOf C.L) (zero : K) → StandsIn C.L.seen K.seen K.tells self.old.work first zero self.old.course self.old.asking.question (C.conn self.old.asking.conn) self.old.clock.now → Runs C.L.seen K.seen K.tells self.old.work first zero self.new.course self.old.asking.question (C.conn self.old.asking.conn) self.new.clock.now }
     {
-        if self.asking.is_new() {
-            self.course.start = self.clock.now();
+        match &self.asking.question {
+            Some(_) => self.course.start = self.clock.now(),
+            None => {}
         }
     }
 
@@ -138,12 +150,13 @@ impl<'m, C: PgExecutor, K: Clock> RunMigration<'m, C, K> {
         ensures goes { StepGoes self.old.course.step self.new.course.step self.new.asking.question (C.conn self.new.asking.conn) result }
         ensures tells { (first : ConnOf C.L) (zero : K) → HasRun C.L.seen K.seen K.tells self.old.work first zero self.old.course (C.conn self.old.asking.conn) self.old.clock.now → TellsStep C.L.seen K.seen K.tells self.old.work first zero self.new.course self.new.asking.question (C.conn self.new.asking.conn) self.new.clock.now result }
     {
-        self.stop_clock();
+        let ends = self.work.ends_work(self.course.step);
+        stop_clock(ends, &mut self.course, self.clock);
         match self.work.next_step(self.course.step) {
             Some(step) => {
                 self.course.is_open = self.work.is_open_at(step);
                 self.course.step = step;
-                let depth = self.asking.depth();
+                let depth = holding::depth(&self.asking.conn);
                 let question = self
                     .work
                     .request(self.alloc, step, depth, self.course.nanos);
@@ -172,7 +185,10 @@ impl<'m, C: PgExecutor, K: Clock> RunMigration<'m, C, K> {
         match self.asking.poll_end(left) {
             Poll::Pending => Some(Poll::Pending),
             Poll::Ready(Ok(())) => self.go_on(),
-            Poll::Ready(Err(e)) => Some(Poll::Ready(Err(self.told(e)))),
+            Poll::Ready(Err(e)) => {
+                let groups = holding::groups(&self.asking.conn);
+                Some(Poll::Ready(Err(self.work.told(self.course.step, groups, e))))
+            }
         }
     }
 
@@ -195,20 +211,6 @@ impl<'m, C: PgExecutor, K: Clock> RunMigration<'m, C, K> {
                 Some(answer) => return answer,
                 None => {}
             }
-        }
-    }
-}
-
-impl<'m, C: PgExecutor, K: Clock, Q> RunMigration<'m, C, K, Q> {
-    // Reads it again behind the last step whose time is taken.
-    fn stop_clock(&mut self)
-        ensures asking { self.new.asking ≡ self.old.asking }
-        ensures same { self.new.clock.ghost_name ≡ self.old.clock.ghost_name }
-        ensures work { self.new.work ≡ self.old.work }
-        ensures stops { StopsBy K.seen K.tells (ends_work self.old.work.migration.no_tx self.old.course.step) self.old.course self.new.course self.old.clock.now self.new.clock.now }
-    {
-        if self.work.ends_work(self.course.step) {
-            self.course.nanos = elapsed(self.course.start, self.clock.now());
         }
     }
 }

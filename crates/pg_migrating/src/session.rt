@@ -72,7 +72,10 @@ impl<S, C: PgExecutor> Session<S, C> {
     pub(crate) fn is_over(&self) -> bool
         ensures { result ≡ is_over self.now }
     {
-        self.errand.is_none() && self.start.is_none() && self.conn.is_none()
+        match &self.errand {
+            Some(_) => false,
+            None => self.start.is_none() && self.conn.is_none(),
+        }
     }
 
     /// Begins another call on the connection, behind one that has ended.

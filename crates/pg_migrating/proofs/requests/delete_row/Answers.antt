@@ -7,9 +7,9 @@ use Rattle.pg_migrating.specs.Requests.{IsRequestOf}
 use Rattle.pg_migrating.proofs.BoundLaws.{asks_text, kept_int8}
 use Rattle.pg_migrating.proofs.requests.delete_row.Goals as goal
 
-pub returns : goal.returns
-returns c =
-    let text = c.as_str.ensures.value ∙ c.in_ok-put_delete_row.ensures ∙ ap (λ (x : List ℕ). x ++ delete_row_text c.args.table.now) c.new-sql.ensures.bytes in
+pub returns-in-Ok : goal.returns-in-Ok
+returns-in-Ok c =
+    let text = c.as_str.ensures.value ∙ c.in-Ok.ensures ∙ ap (λ (x : List ℕ). x ++ delete_row_text c.args.table.now) c.new-sql.ensures.bytes in
     let fits : FitsSigned w64 c.version_of.result = search rules in
     let asked = kept_int8 (λ (z : ℤ). IsRequestOf hows.Execute 0 (Prepared c.as_str.result.now (Int8 z ∷ [])) c.keyed.result) c.version_of.result fits c.keyed.ensures in
     asks_text hows.Execute (delete_row_text c.args.table.now) c.as_str.result.now (Int8 c.args.migration.now.version ∷ []) c.keyed.result text (rw c.version_of.ensures at asked)

@@ -8,9 +8,9 @@ use Rattle.pg_migrating.specs.Requests.{Binds}
 use Rattle.pg_migrating.proofs.BoundLaws.{asks_text, kept_int8}
 use Rattle.pg_migrating.proofs.requests.update_time.Goals as goal
 
-pub returns : goal.returns
-returns c =
-    let text = c.as_str.ensures.value ∙ c.in_ok-put_update_time.ensures ∙ ap (λ (x : List ℕ). x ++ update_time_text c.args.table.now) c.new-sql.ensures.bytes in
+pub returns-in-Ok : goal.returns-in-Ok
+returns-in-Ok c =
+    let text = c.as_str.ensures.value ∙ c.in-Ok.ensures ∙ ap (λ (x : List ℕ). x ++ update_time_text c.args.table.now) c.new-sql.ensures.bytes in
     let bounds = Int8 (as_int8 c.args.nanos) ∷ Int8 c.args.migration.now.version ∷ [] in
     let fits : FitsSigned w64 c.version_of.result = search rules in
     let fits_too : FitsSigned w64 c.as_int8.result = search rules in

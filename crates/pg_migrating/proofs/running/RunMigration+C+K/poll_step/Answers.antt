@@ -14,4 +14,4 @@ returns-in-Ready-Ok-clause-tells g c first zero r =
 pub returns-in-Ready-Err-clause-tells : goal.returns-in-Ready-Err-clause-tells
 returns-in-Ready-Err-clause-tells g c first zero r =
     let a = c.args.self.now in
-    rw c.told.ensures (step_fails g.C.L.Link.seen g.K.Clock.seen g.K.Clock.tells a.work first (g.C.PgExecutor.conn a.asking.conn) (g.C.PgExecutor.conn c.poll_end.new.self.conn) zero a.clock.now a.course a.asking.question c.in-Ready-Err.e (λ asked from s. rw c.in-Ready-Err.field-0-is at (c.in-Ready-Err.ensures.tells asked from s)) r)
+    rw (c.told.ensures, c.groups-groups.ensures) (step_fails g.C.L.Link.seen g.K.Clock.seen g.K.Clock.tells a.work first (g.C.PgExecutor.conn a.asking.conn) (g.C.PgExecutor.conn c.poll_end.new.self.conn) zero a.clock.now a.course a.asking.question c.in-Ready-Err.e (λ asked from s. rw c.in-Ready-Err.field-0-is at (c.in-Ready-Err.ensures.tells asked from s)) r)
