@@ -4,6 +4,7 @@ use Rattle.std.specs.Prelude.{IfOk, IfErr, IsSome}
 use Rattle.futures.specs.declared.task.Poll.{Poll}
 use Rattle.futures.specs.declared.task.Poll.TheVariants.{Ready, Pending}
 use Rattle.pg_wire.specs.declared.error.Error.{Error}
+use Rattle.pg_options.specs.declared.settings.PgSettings.{PgSettings}
 use Rattle.pg_stream.specs.Links.{LinkSeen}
 use Rattle.pg_wire.specs.declared.error.Error.TheVariants as errors
 use Rattle.pg_rows.specs.Rows.{RowSeen}
@@ -23,11 +24,13 @@ use Rattle.pg_migrating.specs.Calls.{Called, Waits}
 use Rattle.pg_migrating.specs.Requests.{IsRequestOf}
 use Rattle.pg_migrating.proofs.AskingLaws.{calls_raw}
 use Rattle.pg_migrating.specs.Databases.{EndsBy, is_done, never}
-use Rattle.pg_migrating.specs.Forcing.{AsksTerminate, FailsForce, FailsVersion, GoesForce, HidesNumber, HidesVersion, IsNotTerminated, IsNumber, StandsBy, StandsForce, StaysForce, TellsForce, Terminated, Terminates, Terminating, version_in}
+use Rattle.pg_migrating.specs.Errands.{AsksOf}
+use Rattle.pg_migrating.specs.Forcing.{AsksForce, AsksTerminate, AsksToForce, FailsForce, FailsVersion, GoesForce, HidesNumber, HidesVersion, IsNotTerminated, IsNumber, StandsBy, StandsForce, StaysForce, TellsForce, Terminated, Terminates, Terminating, version_in}
 use Rattle.pg_migrating.specs.Openings.{FailsToOpen}
-use Rattle.pg_migrating.specs.Sessions.{Comes, ConnRuns, Goes, GoesBy, GoesOn, KeepsConn, Opening, PollsSession, SessionSeen, Stands, Tells}
-use Rattle.pg_migrating.proofs.SessionLaws.{call_fits, conn_runs}
+use Rattle.pg_migrating.specs.Sessions.{Comes, ConnRuns, Goes, GoesBy, GoesOn, IsNewSession, KeepsConn, Opening, PollsSession, SessionSeen, Stands, Tells}
+use Rattle.pg_migrating.proofs.SessionLaws.{call_fits, conn_runs, errand_calls, new_goes, new_stands}
 use Rattle.pg_migrating.specs.declared.errand.Errand.{Errand}
+use Rattle.pg_migrating.specs.declared.errand.Task.TheVariants as tasks
 use Rattle.pg_migrating.specs.declared.forcing.ForceStep.{ForceStep}
 use Rattle.pg_migrating.specs.declared.forcing.ForceStep.TheVariants as steps
 use Rattle.pg_migrating.specs.declared.forcing.Forcing.{Forcing}
@@ -52,17 +55,16 @@ terminates_err row sql (Err e) asks = inl (only_memory sql e asks)
 module _ {D S A : Type 0} (seen : A → LinkSeen) (o : Opening D S A) where
   -- the version was told, and what ends the other sessions is asked
   pub version_goes : (turn : Turn) (database : List ℕ) (r : Request) (s t last : SessionSeen S A) → EndsBy (Terminating database) HidesVersion turn (Ok r) → t ≡ record s { conn = option_map (started_call r) s.conn } → GoesOn o (kinds.Run hows.FetchOne) s (Ready turn) → Goes o (kinds.Run hows.Execute) last → GoesForce o steps.Terminate t last
-  version_goes (turns.Ok answer) database r s t last h is g l = by s.conn refl g.3
+  version_goes (turns.Ok answer) database r s t last h is g l = by s.conn refl g.2
     where
       by : (conn : Option (ConnOf A)) → s.conn ≡ conn → KeepsConn (turns.Ok answer) conn → GoesForce o steps.Terminate t last
       by None e k = absurd k
       by (Some c) e k =
-          let errand : t.errand ≡ None = ap (λ (x : SessionSeen S A). x.errand) is ∙ g.0 in
-          let start : t.start ≡ None = ap (λ (x : SessionSeen S A). x.start) is ∙ g.1 in
+          let start : t.start ≡ None = ap (λ (x : SessionSeen S A). x.start) is ∙ g.0 in
           let conn : t.conn ≡ Some (started_call r c) = ap (λ (x : SessionSeen S A). x.conn) is ∙ ap (option_map (started_call r)) e in
           let calls : IsCalling (kinds.Run hows.Execute) (started_call r c) = rw h.2 (calls_raw hows.Execute _ c) in
-          let goes : Goes o (kinds.Run hows.Execute) t = rw (errand, start, conn) calls in
-          (errand, start, goes, l)
+          let goes : Goes o (kinds.Run hows.Execute) t = rw (start, conn) calls in
+          (start, goes, l)
   version_goes (turns.Err e) database r s t last h is g l = absurd h
   version_goes (turns.Item item) database r s t last h is g l = absurd h
   version_goes (turns.Opened opened) database r s t last h is g l = absurd h
@@ -71,7 +73,7 @@ module _ {D S A : Type 0} (seen : A → LinkSeen) (o : Opening D S A) where
   of_errand : (P : Errand → Type 0) (a b : Errand) → ◌≡◌ {A = Result Errand Error} (Ok a) (Ok b) → P b → P a
   of_errand P a b e p = let same : a ≡ b = cc in subst P (sym same) p
 
-  pub version_tells : (asked : Result Forcing Error) (first e : D) (turn : Turn) (database : List ℕ) (r : Request) (s t last : SessionSeen S A) → EndsBy (Terminating database) HidesVersion turn (Ok r) → t ≡ record s { conn = option_map (started_call r) s.conn } → Tells seen o (version_in asked) first s e (Ready turn) → StandsBy asked database last → StandsForce seen o asked first steps.Terminate database t last e
+  pub version_tells : (asked : Result Forcing Error) (first e : D) (turn : Turn) (database : List ℕ) (r : Request) (s t last : SessionSeen S A) → EndsBy (Terminating database) HidesVersion turn (Ok r) → t ≡ record s { conn = option_map (started_call r) s.conn } → Tells seen o (version_in asked) first s e (Ready turn) → StandsBy o asked database last → StandsForce seen o asked first steps.Terminate database t last e
   version_tells (Err x) first e (turns.Ok answer) database r s t last h is k b = absurd cc
   version_tells (Ok f) first e (turns.Ok answer) database r s t last h is k b =
       let comes : Comes seen o f.version first e (turns.Ok answer) k.0 = of_errand (λ (x : Errand). Comes seen o x first e (turns.Ok answer) k.0) f.version k.2.0 k.2.1 k.2.2 in
@@ -91,23 +93,30 @@ module _ {D S A : Type 0} (seen : A → LinkSeen) (o : Opening D S A) where
   version_fails asked first e (turns.Item item) database now s t last step error h k = absurd h
   version_fails asked first e (turns.Opened opened) database now s t last step error h k = absurd h
 
+  -- it goes on from its first poll
+  pub force_goes : (env : PgSettings) (url database : List ℕ) (s last : SessionSeen S A) → AsksToForce o env url database s last → GoesForce o steps.Version s last
+  force_goes env url database s last k = by k.0 k.1 k.2 k.3
+    where
+      by : (asked : Result Forcing Error) → IsNewSession o (version_in asked) s → StandsBy o asked database last → AsksOf AsksForce env url asked → GoesForce o steps.Version s last
+      by (Ok f) n b a = (new_goes o (kinds.Run hows.FetchOne) (Ok f.version) s n (errand_calls tasks.Version a.0 f.version a.2.version), new_goes o (kinds.Run hows.Execute) (Ok f.last) last b.1 (errand_calls tasks.Remove a.0 f.last a.2.last))
+      by (Err e) n b a = (new_goes o (kinds.Run hows.FetchOne) (Err e) s n tt, new_goes o (kinds.Run hows.Execute) (Err errors.OutOfMemory) last b tt)
+
   -- ---- the other sessions
 
-  pub terminate_runs : (s : SessionSeen S A) → s.errand ≡ None → s.start ≡ None → Goes o (kinds.Run hows.Execute) s → ConnRuns s.conn
-  terminate_runs s e b g = conn_runs o (kinds.Run hows.Execute) s.errand s.start s.conn e b g
+  pub terminate_runs : (s : SessionSeen S A) → s.start ≡ None → Goes o (kinds.Run hows.Execute) s → ConnRuns s.conn
+  terminate_runs s b g = conn_runs o (kinds.Run hows.Execute) s.start s.conn b g
 
-  pub terminate_fits : (s t : SessionSeen S A) (left : ℕ) (answer : Poll Turn) → s.errand ≡ None → s.start ≡ None → Goes o (kinds.Run hows.Execute) s → PollsSession seen left s.conn s t answer → GoesOn o (kinds.Run hows.Execute) t answer
-  terminate_fits s t left answer e b g p = call_fits seen o (kinds.Run hows.Execute) s.errand s.start s.conn t left answer e b p g
+  pub terminate_fits : (s t : SessionSeen S A) (left : ℕ) (answer : Poll Turn) → s.start ≡ None → Goes o (kinds.Run hows.Execute) s → PollsSession seen left s.conn s t answer → GoesOn o (kinds.Run hows.Execute) t answer
+  terminate_fits s t left answer b g p = call_fits seen o (kinds.Run hows.Execute) s.start s.conn t left answer b p g
 
   -- only its connection changes
-  alone : (s t : SessionSeen S A) (left : ℕ) (conn : Option (ConnOf A)) (answer : Poll Turn) → PollsSession seen left conn s t answer → (t.errand ≡ s.errand) × (t.start ≡ s.start)
+  alone : (s t : SessionSeen S A) (left : ℕ) (conn : Option (ConnOf A)) (answer : Poll Turn) → PollsSession seen left conn s t answer → t.start ≡ s.start
   alone s t left None answer p = absurd p
-  alone s t left (Some c) answer p = rw p.1 (refl, refl)
+  alone s t left (Some c) answer p = rw p.1 refl
 
   pub terminate_waits : (s t last : SessionSeen S A) (step : ForceStep) (left : ℕ) → step ≡ steps.Terminate → GoesForce o steps.Terminate s last → PollsSession seen left s.conn s t Pending → GoesForce o step t last
   terminate_waits s t last step left is g p =
-      let k = alone s t left s.conn Pending p in
-      rw is (k.0 ∙ g.0, k.1 ∙ g.1, terminate_fits s t left Pending g.0 g.1 g.2 p, g.3)
+      rw is (alone s t left s.conn Pending p ∙ g.0, terminate_fits s t left Pending g.0 g.1 p, g.2)
 
   -- where its connection stands behind a poll
   polled : (s t : SessionSeen S A) (a : ConnOf A) (left : ℕ) (answer : Poll Turn) → s.conn ≡ Some a → PollsSession seen left s.conn s t answer → (b : ConnOf A) × (t.conn ≡ Some b) × PollsWithin left (seen_by seen a) (seen_by seen b) answer
@@ -122,10 +131,10 @@ module _ {D S A : Type 0} (seen : A → LinkSeen) (o : Opening D S A) where
       subst (λ (x : ForceStep). StandsForce seen o asked first x database t last e) (sym is) (f, same, (q.0, q.1, more), b)
 
   -- the last session is new
-  last_new : (asked : Result Forcing Error) (f : Forcing) (database : List ℕ) (last : SessionSeen S A) (e : D) → asked ≡ Ok f → StandsBy asked database last → Stands seen o (Ok f.last) e last e
+  last_new : (asked : Result Forcing Error) (f : Forcing) (database : List ℕ) (last : SessionSeen S A) (e : D) → asked ≡ Ok f → StandsBy o asked database last → Stands seen o (Ok f.last) e last e
   last_new asked f database last e same b =
-      let k : StandsBy (Ok f) database last = subst (λ (x : Result Forcing Error). StandsBy x database last) same b in
-      rw k.1 (refl, refl)
+      let k : StandsBy o (Ok f) database last = subst (λ (x : Result Forcing Error). StandsBy o x database last) same b in
+      new_stands seen o (Ok f.last) last e k.1
 
   pub terminate_tells : (asked : Result Forcing Error) (first e : D) (turn : Turn) (database : List ℕ) (s t u last : SessionSeen S A) (left : ℕ) → left ≤ 256 → PollsSession seen left s.conn s t (Ready turn) → EndsBy is_done never turn (Ok tt) → StandsForce seen o asked first steps.Terminate database s last e → StandsForce seen o asked first steps.Remove database u last e
   terminate_tells asked first e (turns.Ok answer) database s t u last left few p h (f, same, (a, held, k), b) =

@@ -16,15 +16,15 @@ use Rattle.pg_call.specs.declared.answer.Turn.{Turn}
 use Rattle.pg_call.specs.declared.answer.Turn.TheVariants as turns
 use Rattle.pg_conn.specs.Connections.{ConnOf}
 use Rattle.pg_migrating.specs.Errands.{AsksAt, AsksOf}
-use Rattle.pg_migrating.specs.Sessions.{CameTo, Fails, Goes, Opening, SessionSeen, Stands, fresh_session, is_over}
+use Rattle.pg_migrating.specs.Sessions.{CameTo, Fails, Goes, IsNewSession, Opening, SessionSeen, Stands, is_over}
 use Rattle.pg_migrating.specs.declared.errand.Errand.{Errand}
 use Rattle.pg_migrating.specs.declared.errand.Task.{Task}
 
 -- ---- a call of one statement
 
 -- its session is new, for this task on the database that a URL names
-abbrev pub AsksFor : {S A : Type 0} → Task → PgSettings → List ℕ → SessionSeen S A → Type 0
-AsksFor task env url s = (asked : Result Errand Error) × (s ≡ fresh_session asked) × AsksOf (AsksAt task) env url asked
+abbrev pub AsksFor : {D S A : Type 0} → Opening D S A → Task → PgSettings → List ℕ → SessionSeen S A → Type 0
+AsksFor o task env url s = (asked : Result Errand Error) × IsNewSession o asked s × AsksOf (AsksAt task) env url asked
 
 -- what is made of its end
 abbrev pub EndsBy : {X : Type 0} → (CallAnswer → X → Type 0) → (CallAnswer → Error → Type 0) → Turn → Result X Error → Type 0

@@ -24,7 +24,7 @@ use Rattle.pg_migrating.specs.Requests.{request_of}
 use Rattle.pg_migrating.specs.Errands.{AsksOf, IsErrand, RefusesErrand}
 use Rattle.pg_migrating.specs.Names.{database_of}
 use Rattle.pg_migrating.specs.Openings.{FailsToOpen}
-use Rattle.pg_migrating.specs.Sessions.{CameTo, Comes, Fails, Goes, Opening, SessionSeen, Stands, fresh_session}
+use Rattle.pg_migrating.specs.Sessions.{CameTo, Comes, Fails, Goes, IsNewSession, Opening, SessionSeen, Stands}
 use Rattle.pg_migrating.specs.declared.errand.Errand.{Errand}
 use Rattle.pg_migrating.specs.declared.errand.Task.TheVariants as tasks
 use Rattle.pg_migrating.specs.declared.forcing.ForceStep.{ForceStep}
@@ -105,18 +105,18 @@ pub record IsNotTerminated {D S A : Type 0} (seen : A → LinkSeen) (o : Opening
 -- ---- all of it
 
 -- what stands by for later
-abbrev pub StandsBy : {S A : Type 0} → Result Forcing Error → List ℕ → SessionSeen S A → Type 0
-StandsBy (Ok f) database last = (database ≡ f.database) × (last ≡ fresh_session (Ok f.last))
-StandsBy (Err e) database last = last ≡ fresh_session (Err errors.OutOfMemory)
+abbrev pub StandsBy : {D S A : Type 0} → Opening D S A → Result Forcing Error → List ℕ → SessionSeen S A → Type 0
+StandsBy o (Ok f) database last = (database ≡ f.database) × IsNewSession o (Ok f.last) last
+StandsBy o (Err e) database last = IsNewSession o (Err errors.OutOfMemory) last
 
 -- its sessions are new, for the database that a URL names
-abbrev pub AsksToForce : {S A : Type 0} → PgSettings → List ℕ → List ℕ → SessionSeen S A → SessionSeen S A → Type 0
-AsksToForce env url database s last = (asked : Result Forcing Error) × (s ≡ fresh_session (version_in asked)) × StandsBy asked database last × AsksOf AsksForce env url asked
+abbrev pub AsksToForce : {D S A : Type 0} → Opening D S A → PgSettings → List ℕ → List ℕ → SessionSeen S A → SessionSeen S A → Type 0
+AsksToForce o env url database s last = (asked : Result Forcing Error) × IsNewSession o (version_in asked) s × StandsBy o asked database last × AsksOf AsksForce env url asked
 
 -- where it stands: it began with the dial d, and e is the dial now
 abbrev pub StandsForce : {D S A : Type 0} → (A → LinkSeen) → Opening D S A → Result Forcing Error → D → ForceStep → List ℕ → SessionSeen S A → SessionSeen S A → D → Type 0
-StandsForce seen o asked d steps.Version database s last e = Stands seen o (version_in asked) d s e × StandsBy asked database last
-StandsForce {D} {S} {A} seen o asked d steps.Terminate database s last e = (f : Forcing) × (asked ≡ Ok f) × ((conn : ConnOf A) × (s.conn ≡ Some conn) × Terminates seen o f d e conn) × StandsBy asked database last
+StandsForce seen o asked d steps.Version database s last e = Stands seen o (version_in asked) d s e × StandsBy o asked database last
+StandsForce {D} {S} {A} seen o asked d steps.Terminate database s last e = (f : Forcing) × (asked ≡ Ok f) × ((conn : ConnOf A) × (s.conn ≡ Some conn) × Terminates seen o f d e conn) × StandsBy o asked database last
 StandsForce {D} seen o asked d steps.Remove database s last e = (f : Forcing) × (asked ≡ Ok f) × ((middle : D) × Terminated seen o f d middle × Stands seen o (Ok f.last) middle last e)
 StandsForce seen o asked d steps.Over database s last e = ⊥
 
@@ -153,7 +153,7 @@ TellsForceStep seen o asked d step database s last e (Some answer) = TellsForce 
 
 abbrev pub GoesForce : {D S A : Type 0} → Opening D S A → ForceStep → SessionSeen S A → SessionSeen S A → Type 0
 GoesForce o steps.Version s last = Goes o (kinds.Run hows.FetchOne) s × Goes o (kinds.Run hows.Execute) last
-GoesForce o steps.Terminate s last = (s.errand ≡ None) × (s.start ≡ None) × Goes o (kinds.Run hows.Execute) s × Goes o (kinds.Run hows.Execute) last
+GoesForce o steps.Terminate s last = (s.start ≡ None) × Goes o (kinds.Run hows.Execute) s × Goes o (kinds.Run hows.Execute) last
 GoesForce o steps.Remove s last = Goes o (kinds.Run hows.Execute) last
 GoesForce o steps.Over s last = ⊥
 

@@ -4,15 +4,15 @@ ghost use Rattle.std.specs.Prelude.{◌≡◌};
 ghost use Rattle.pg_call.specs.declared.kind.How.TheVariants as hows;
 ghost use Rattle.pg_call.specs.declared.kind.Kind.TheVariants as kinds;
 ghost use Rattle.pg_migrating.specs.Databases.{AsksFor};
+ghost use Rattle.pg_migrating.specs.Errands.{how_of};
 ghost use Rattle.pg_migrating.specs.Forcing.{AsksToForce, GoesForce};
 ghost use Rattle.pg_migrating.specs.Sessions.{Goes};
 ghost use Rattle.pg_migrating.specs.declared.forcing.ForceStep.TheVariants as steps;
 ghost use Rattle.pg_migrating.specs.declared.errand.Task.TheVariants as tasks;
 
 use crate::errand::{Task, errand_of};
-use crate::forcing::forcing_of;
 use crate::opening::Sessions;
-use crate::session::Session;
+use crate::session::{SessionOf, session_for};
 use crate::{DatabaseCall, DatabaseExists, DatabaseStatement, ForceDropDatabase};
 use pg_options::PgSettings;
 use std::alloc::Global;
@@ -22,6 +22,14 @@ use std::marker::PhantomData;
 /// database of the same server, `postgres`, or `template1` where the database is `postgres` itself. A URL that can't be read is told by the first poll.
 #[derive(Clone, Copy)]
 pub struct MigrateDatabase;
+
+// A session for a task on the database that a URL names.
+fn session_at<D: Sessions>(alloc: Global, env: &PgSettings, url: &str, task: Task) -> SessionOf<D>
+    ensures asks { AsksFor D.opens task env.now url.now result }
+    ensures goes { Goes D.opens (kinds.Run (how_of task)) result }
+{
+    session_for::<D>(errand_of(alloc, env, url, task))
+}
 
 impl MigrateDatabase {
     /// Makes the database. (PostgreSQL manual, "SQL Commands", CREATE DATABASE.)
@@ -33,13 +41,13 @@ impl MigrateDatabase {
     ) -> DatabaseStatement<'d, D>
         ensures dial { result.dial.now ≡ dial.old }
         ensures same { result.dial.ghost_name ≡ dial.entry.ghost_name }
-        ensures asks { AsksFor tasks.Create env.now url.now result.session }
+        ensures asks { AsksFor D.opens tasks.Create env.now url.now result.session }
         ensures goes { Goes D.opens (kinds.Run hows.Execute) result.session }
     {
         DatabaseCall {
             alloc,
             dial,
-            session: Session::new(errand_of(alloc, env, url, Task::Create)),
+            session: session_at::<D>(alloc, env, url, Task::Create),
             reading: PhantomData,
         }
     }
@@ -53,13 +61,13 @@ impl MigrateDatabase {
     ) -> DatabaseExists<'d, D>
         ensures dial { result.dial.now ≡ dial.old }
         ensures same { result.dial.ghost_name ≡ dial.entry.ghost_name }
-        ensures asks { AsksFor tasks.Exists env.now url.now result.session }
+        ensures asks { AsksFor D.opens tasks.Exists env.now url.now result.session }
         ensures goes { Goes D.opens (kinds.Run hows.FetchOne) result.session }
     {
         DatabaseCall {
             alloc,
             dial,
-            session: Session::new(errand_of(alloc, env, url, Task::Exists)),
+            session: session_at::<D>(alloc, env, url, Task::Exists),
             reading: PhantomData,
         }
     }
@@ -73,13 +81,13 @@ impl MigrateDatabase {
     ) -> DatabaseStatement<'d, D>
         ensures dial { result.dial.now ≡ dial.old }
         ensures same { result.dial.ghost_name ≡ dial.entry.ghost_name }
-        ensures asks { AsksFor tasks.Remove env.now url.now result.session }
+        ensures asks { AsksFor D.opens tasks.Remove env.now url.now result.session }
         ensures goes { Goes D.opens (kinds.Run hows.Execute) result.session }
     {
         DatabaseCall {
             alloc,
             dial,
-            session: Session::new(errand_of(alloc, env, url, Task::Remove)),
+            session: session_at::<D>(alloc, env, url, Task::Remove),
             reading: PhantomData,
         }
     }
@@ -94,9 +102,9 @@ impl MigrateDatabase {
         ensures dial { result.dial.now ≡ dial.old }
         ensures same { result.dial.ghost_name ≡ dial.entry.ghost_name }
         ensures step { result.step ≡ steps.Version }
-        ensures asks { AsksToForce env.now url.now result.database result.session result.last }
+        ensures asks { AsksToForce D.opens env.now url.now result.database result.session result.last }
         ensures goes { GoesForce D.opens steps.Version result.session result.last }
     {
-        ForceDropDatabase::new(alloc, dial, forcing_of(alloc, env, url))
+        ForceDropDatabase::new(alloc, env, url, dial)
     }
 }

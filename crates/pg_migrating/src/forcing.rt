@@ -10,8 +10,7 @@ ghost use Rattle.pg_call.specs.declared.kind.Kind.TheVariants as kinds;
 ghost use Rattle.pg_call.specs.Answers.{TurnFits};
 ghost use Rattle.pg_migrating.specs.Databases.{EndsBy};
 ghost use Rattle.pg_migrating.specs.Errands.{AsksOf};
-ghost use Rattle.pg_migrating.specs.Forcing.{AsksForce, GoesForce, HidesNumber, HidesVersion, IsNumber, StandsBy, StandsForce, StaysForce, StepGoes, TellsForce, TellsForceStep, Terminating, conn_at, is_forced, version_in};
-ghost use Rattle.pg_migrating.specs.Sessions.{fresh_session};
+ghost use Rattle.pg_migrating.specs.Forcing.{AsksForce, AsksToForce, GoesForce, HidesNumber, HidesVersion, IsNumber, StandsForce, StaysForce, StepGoes, TellsForce, TellsForceStep, Terminating, conn_at, is_forced};
 ghost use Rattle.pg_migrating.specs.declared.forcing.Forcing as declared_forcing;
 ghost use Rattle.pg_migrating.specs.declared.forcing.ForceStep.TheVariants as steps;
 
@@ -20,7 +19,7 @@ use crate::errand::{Errand, Task, errand_at};
 use crate::names::database_of;
 use crate::opening::Sessions;
 use crate::reading::Reading;
-use crate::session::{Session, SessionOf, poll};
+use crate::session::{SessionOf, poll, session_for};
 use crate::statement::Done;
 use pg_call::{Request, Turn};
 use pg_options::{PgConnectOptions, PgSettings};
@@ -78,8 +77,8 @@ fn forcing_at(alloc: Global, options: &PgConnectOptions) -> Result<Forcing, Erro
     }
 }
 
-/// The same of the database that a URL names, over settings.
-pub(crate) fn forcing_of(alloc: Global, env: &PgSettings, url: &str) -> Result<Forcing, Error>
+// The same of the database that a URL names, over settings.
+fn forcing_of(alloc: Global, env: &PgSettings, url: &str) -> Result<Forcing, Error>
     ensures { AsksOf AsksForce env.now url.now result }
 {
     match PgConnectOptions::from_str(alloc, env, url) {
@@ -170,14 +169,14 @@ impl<'d, D: Sessions> ForceDropDatabase<'d, D> {
         Poll::Ready(answer)
     }
 
-    pub(crate) fn new(alloc: Global, dial: &'d mut D, forcing: Result<Forcing, Error>) -> Self
+    pub(crate) fn new(alloc: Global, env: &PgSettings, url: &str, dial: &'d mut D) -> Self
         ensures dial { result.dial.now ≡ dial.old }
         ensures same { result.dial.ghost_name ≡ dial.entry.ghost_name }
         ensures step { result.step ≡ steps.Version }
-        ensures session { result.session ≡ fresh_session (version_in forcing) }
-        ensures last { StandsBy forcing result.database result.last }
+        ensures asks { AsksToForce D.opens env.now url.now result.database result.session result.last }
+        ensures goes { GoesForce D.opens steps.Version result.session result.last }
     {
-        match forcing {
+        match forcing_of(alloc, env, url) {
             Ok(
                 Forcing {
                     version,
@@ -189,8 +188,8 @@ impl<'d, D: Sessions> ForceDropDatabase<'d, D> {
                 dial,
                 step: ForceStep::Version,
                 database,
-                session: Session::new(Ok(version)),
-                last: Session::new(Ok(last)),
+                session: session_for::<D>(Ok(version)),
+                last: session_for::<D>(Ok(last)),
             },
             // The first poll tells the error, and the last session is never polled.
             Err(e) => ForceDropDatabase {
@@ -198,8 +197,8 @@ impl<'d, D: Sessions> ForceDropDatabase<'d, D> {
                 dial,
                 step: ForceStep::Version,
                 database: Text::new(alloc),
-                session: Session::new(Err(e)),
-                last: Session::new(Err(Error::OutOfMemory)),
+                session: session_for::<D>(Err(e)),
+                last: session_for::<D>(Err(Error::OutOfMemory)),
             },
         }
     }

@@ -2,10 +2,9 @@
 
 ghost use Rattle.std.specs.Prelude.{◌≡◌, ◌≤◌, List, ℕ, IfOk, IfErr, length, false};
 ghost use Rattle.pg_auth.specs.Nonce.{IsNonce, nonce_of};
-ghost use Rattle.pg_conn.specs.Connections.{started_call};
 ghost use Rattle.pg_conn.specs.Dials.{Draws, HandsOut, IsUncalled};
-ghost use Rattle.pg_migrating.specs.Openings.{DrawsWords, FailsDial, Starts, dial_error};
-ghost use Rattle.pg_migrating.specs.Sessions.{CallsAs};
+ghost use Rattle.pg_migrating.specs.Openings.{Begun, DrawsWords, FailsDial, FailsToBegin, dial_error};
+ghost use Rattle.pg_migrating.specs.Sessions.{Connects, over_dial};
 
 use crate::errand::Errand;
 use arrayvec::ArrayString;
@@ -18,23 +17,35 @@ use pg_stream::Link;
 use pg_wire::{Error, IoCause, Poll};
 use std::alloc::Global;
 
-/// A start-up, and what is asked behind it.
+/// A session over a dial that has no connection yet.
 pub struct Start<L> {
-    pub(crate) request: Request,
-    pub(crate) establish: Establish<L>,
+    stage: Stage<L>,
+}
+
+/// What it is opened for, or why it can't be; or its start-up, and what is asked behind that.
+#[derive(Drop)]
+pub(crate) enum Stage<L> {
+    Asked(Result<Errand, Error>),
+    Begun(Request, Establish<L>),
 }
 
 // By hand, so that whoever lets one go makes one call.
 impl<L: Drop> Drop for Start<L> {
     fn drop(self) {
-        let Start {
-            request: _,
-            establish: _,
-        } = self;
+        let Start { stage: _ } = self;
     }
 }
 
-/// What a poll makes of a start-up: it waits, or its connection has begun the call, or it failed.
+impl<L> Start<L> {
+    fn into_stage(self) -> Stage<L>
+        ensures { result ≡ self.stage }
+    {
+        let Start { stage } = self;
+        stage
+    }
+}
+
+/// How far a poll opens a session: it waits, or its connection has begun the call, or there is none.
 pub enum Connected<S, C> {
     Waits(S),
     Opens(C),
@@ -42,12 +53,11 @@ pub enum Connected<S, C> {
 }
 
 /// A dial over which sessions are opened: every one whose links may be dropped. What is opened is a type of its own here, since a function that
-/// names a connection by its parts is dear to prove.
+/// names a connection, or what is asked, by its parts is dear to prove.
 pub trait Sessions: Dial {
-    ghost use Rattle.pg_migrating.specs.Sessions.{BeginsSession, ConnectsAs, GoesStart, Opening};
-    ghost use Rattle.pg_migrating.specs.declared.errand.Errand as declared_errand;
+    ghost use Rattle.pg_migrating.specs.Sessions.{ConnectsAs, GoesStart, IsFresh, Opening};
 
-    /// A start-up that is under way.
+    /// A session that has no connection yet.
     type Start: Drop;
 
     /// What holds the connection that it comes to.
@@ -56,16 +66,21 @@ pub trait Sessions: Dial {
     /// What is known of them.
     ghost opens: { Opening Self Self.Start Self.L };
 
-    /// Dials, and begins a start-up.
-    fn begin_session(&mut self, alloc: Global, errand: Errand) -> Result<Self::Start, Error>
-        ensures { BeginsSession Self.L.seen opens errand self.old self.new result };
+    /// A session for this errand. Where there is none, its first poll says why.
+    fn new_session(errand: Result<Errand, Error>) -> Self::Start
+        ensures { IsFresh opens errand result };
 
-    /// Moves a start-up on, within so many calls of the link, which it takes off.
-    fn connect_session(start: Self::Start, left: &mut u16) -> Connected<Self::Start, Self::Conn>
+    /// Opens it further, within so many calls of the link, which it takes off: dials where that was not done, and moves its start-up on.
+    fn open_session(
+        &mut self,
+        alloc: Global,
+        start: Self::Start,
+        left: &mut u16,
+    ) -> Connected<Self::Start, Self::Conn>
         requires goes { GoesStart opens start }
         requires left { left.old ≤ 256 }
         ensures left { left.new ≤ left.old }
-        ensures connects { ConnectsAs Self.L.seen opens Self.Conn.conn start result };
+        ensures connects { ConnectsAs Self.L.seen opens Self.Conn.conn self.old start self.new result };
 }
 
 // A nonce of 128 words that the dial draws.
@@ -114,15 +129,50 @@ where
     }
 }
 
-impl<L: Link + Drop> Start<L> {
-    // Begins the call on the connection that this start-up has come to.
-    fn open(self, mut conn: PgConnection<L>) -> PgConnection<L>
-        ensures { result ≡ started_call self.request conn }
-    {
-        let Start { request, establish } = self;
-        drop(establish);
-        conn.start(request);
-        conn
+// A start-up over a link that the dial opens.
+fn begin<D: Dial>(
+    dial: &mut D,
+    alloc: Global,
+    options: &PgConnectOptions,
+) -> Result<Establish<D::L>, Error>
+where
+    D::L: Drop,
+    ensures ok { IfOk result (λ start. Begun D.L.seen (HandsOut D.gives D.draws) options.now dial.old dial.new start × (start.startup.is_finished ≡ false)) }
+    ensures err { IfErr result (FailsToBegin D.L.seen (HandsOut D.gives D.draws) D.seen options.now dial.old dial.new) }
+{
+    let (link, nonce) = match dial_for(dial, options) {
+        Ok(dialled) => dialled,
+        Err(e) => return Err(e),
+    };
+    match establish(alloc, options, nonce.as_str().as_bytes(), link) {
+        Ok(start) => Ok(start),
+        Err((e, link)) => {
+            drop(link);
+            Err(e)
+        }
+    }
+}
+
+// Moves a start-up on, behind which this is asked.
+fn connect<L: Link + Drop>(
+    request: Request,
+    mut start: Establish<L>,
+    left: &mut u16,
+) -> Connected<Start<L>, PgConnection<L>>
+    requires goes { start.startup.is_finished ≡ false }
+    requires left { left.old ≤ 256 }
+    ensures left { left.new ≤ left.old }
+    ensures connects { Connects L.seen request start result }
+{
+    match start.poll_within(left) {
+        Poll::Pending => Connected::Waits(Start {
+            stage: Stage::Begun(request, start),
+        }),
+        Poll::Ready(Ok(mut conn)) => {
+            conn.start(request);
+            Connected::Opens(conn)
+        }
+        Poll::Ready(Err(e)) => Connected::Fails(e),
     }
 }
 
@@ -134,33 +184,27 @@ where
 
     type Conn = PgConnection<D::L>;
 
-    ghost opens = { record { hands = HandsOut D.gives D.draws; counts = D.seen; starts = λ errand d e s. (s.request ≡ errand.request) × Starts D.L.seen (HandsOut D.gives D.draws) errand.options d e s.establish; goes = λ kind s. (s.establish.startup.is_finished ≡ false) × CallsAs D.L kind s.request } };
+    ghost opens = { over_dial D.L.seen (HandsOut D.gives D.draws) D.seen };
 
-    fn begin_session(&mut self, alloc: Global, errand: Errand) -> Result<Start<D::L>, Error> {
-        let (link, nonce) = match dial_for(self, &errand.options) {
-            Ok(dialled) => dialled,
-            Err(e) => return Err(e),
-        };
-        match establish(alloc, &errand.options, nonce.as_str().as_bytes(), link) {
-            Ok(establish) => Ok(Start {
-                request: errand.into_request(),
-                establish,
-            }),
-            Err((e, link)) => {
-                drop(link);
-                Err(e)
-            }
+    fn new_session(errand: Result<Errand, Error>) -> Start<D::L> {
+        Start {
+            stage: Stage::Asked(errand),
         }
     }
 
-    fn connect_session(
-        mut start: Start<D::L>,
+    fn open_session(
+        &mut self,
+        alloc: Global,
+        start: Start<D::L>,
         left: &mut u16,
     ) -> Connected<Start<D::L>, PgConnection<D::L>> {
-        match start.establish.poll_within(left) {
-            Poll::Pending => Connected::Waits(start),
-            Poll::Ready(Ok(conn)) => Connected::Opens(start.open(conn)),
-            Poll::Ready(Err(e)) => Connected::Fails(e),
+        match start.into_stage() {
+            Stage::Asked(Ok(errand)) => match begin(self, alloc, &errand.options) {
+                Ok(start) => connect(errand.into_request(), start, left),
+                Err(e) => Connected::Fails(e),
+            },
+            Stage::Asked(Err(e)) => Connected::Fails(e),
+            Stage::Begun(request, start) => connect(request, start, left),
         }
     }
 }

@@ -4,7 +4,7 @@ ghost use Rattle.std.specs.Prelude.{◌≡◌, ◌≤◌, None, Some, Result, op
 ghost use Rattle.pg_wire.specs.declared.error.Error as declared_error;
 ghost use Rattle.pg_call.specs.declared.kind.Kind as declared_kind;
 ghost use Rattle.pg_conn.specs.Connections.{started_call};
-ghost use Rattle.pg_migrating.specs.Sessions.{ConnRuns, ConnectsSession, DialsFirst, Goes, GoesOn, IsBefore, IsGoing, PollsSession, StartGoes, Stands, Tells, fresh_session, is_over, without_conn};
+ghost use Rattle.pg_migrating.specs.Sessions.{ConnRuns, Goes, GoesOn, IsGoing, IsNewSession, OpensSession, PollsSession, StartGoes, Stands, Tells, is_over, without_conn};
 ghost use Rattle.pg_migrating.specs.declared.errand.Errand as declared_errand;
 
 use crate::errand::Errand;
@@ -16,10 +16,8 @@ use pg_wire::{Error, Poll};
 use std::alloc::Global;
 use std::marker::Model;
 
-/// A session on its way: what it is opened for, or why it can't be; its start-up; its connection, on which the call runs. At most one of them is
-/// there.
+/// A session on its way: what has no connection yet, or its connection, on which the call runs. Once it has ended, neither is there.
 pub(crate) struct Session<S, C: PgExecutor> {
-    errand: Option<Result<Errand, Error>>,
     start: Option<S>,
     conn: Option<C>,
 }
@@ -33,34 +31,19 @@ impl<S, C: PgExecutor> Model for Session<S, C> {
 
     ghost Value = { SessionSeen S C.L };
 
-    ghost view = { λ s. record { errand = s.errand; start = s.start; conn = option_map C.conn s.conn } };
+    ghost view = { λ s. record { start = s.start; conn = option_map C.conn s.conn } };
 }
 
 // By hand, so that whoever lets one go makes one call.
 impl<S: Drop, C: PgExecutor + Drop> Drop for Session<S, C> {
     fn drop(self) {
-        let Session {
-            errand,
-            start,
-            conn,
-        } = self;
-        drop(errand);
+        let Session { start, conn } = self;
         drop(start);
         drop(conn);
     }
 }
 
 impl<S, C: PgExecutor> Session<S, C> {
-    pub(crate) fn new(errand: Result<Errand, Error>) -> Self
-        ensures { result ≡ fresh_session errand }
-    {
-        Session {
-            errand: Some(errand),
-            start: None,
-            conn: None,
-        }
-    }
-
     /// What holds the connection, once the start-up has come to it.
     pub(crate) fn conn(&self) -> Option<&C>
         ensures { option_map C.conn (option_copied result) ≡ self.now.conn }
@@ -72,10 +55,7 @@ impl<S, C: PgExecutor> Session<S, C> {
     pub(crate) fn is_over(&self) -> bool
         ensures { result ≡ is_over self.now }
     {
-        match &self.errand {
-            Some(_) => false,
-            None => self.start.is_none() && self.conn.is_none(),
-        }
+        self.start.is_none() && self.conn.is_none()
     }
 
     /// Begins another call on the connection, behind one that has ended.
@@ -111,38 +91,31 @@ impl<S: Drop, C: PgExecutor + Drop> Session<S, C> {
     }
 }
 
-// Begins the start-up where that was not done yet.
-fn dial_first<D: Sessions>(
-    alloc: Global,
-    session: &mut SessionOf<D>,
-    dial: &mut D,
-) -> Result<(), Error>
-    requires { IsBefore session.old.errand session.old.start session.old.conn }
-    ensures { DialsFirst D.L.seen D.opens session.old.errand session.old session.new dial.old dial.new result }
+/// A session for an errand, or for why there is none.
+pub(crate) fn session_for<D: Sessions>(errand: Result<Errand, Error>) -> SessionOf<D>
+    ensures { IsNewSession D.opens errand result }
 {
-    match session.errand.take() {
-        None => Ok(()),
-        Some(Err(e)) => Err(e),
-        Some(Ok(errand)) => match dial.begin_session(alloc, errand) {
-            Ok(start) => {
-                session.start = Some(start);
-                Ok(())
-            }
-            Err(e) => Err(e),
-        },
+    Session {
+        start: Some(D::new_session(errand)),
+        conn: None,
     }
 }
 
-// Moves the start-up on, where there is one.
-fn connect<D: Sessions>(session: &mut SessionOf<D>, left: &mut u16) -> Poll<Result<(), Error>>
+// Opens it further, where it has no connection yet.
+fn connect<D: Sessions>(
+    alloc: Global,
+    session: &mut SessionOf<D>,
+    dial: &mut D,
+    left: &mut u16,
+) -> Poll<Result<(), Error>>
     requires goes { StartGoes D.opens session.old.start }
     requires left { left.old ≤ 256 }
     ensures left { left.new ≤ left.old }
-    ensures connects { ConnectsSession D.L.seen D.opens session.old.start session.old session.new result }
+    ensures connects { OpensSession D.L.seen D.opens session.old.start session.old session.new dial.old dial.new result }
 {
     match session.start.take() {
         None => Poll::Ready(Ok(())),
-        Some(start) => match D::connect_session(start, left) {
+        Some(start) => match dial.open_session(alloc, start, left) {
             Connected::Waits(start) => {
                 session.start = Some(start);
                 Poll::Pending
@@ -169,12 +142,9 @@ pub(crate) fn poll<D: Sessions>(
     ensures goes { (kind : declared_kind.Kind) → Goes D.opens kind session.old → GoesOn D.opens kind session.new result }
     ensures tells { (asked : Result declared_errand.Errand declared_error.Error) (first : D) → Stands D.L.seen D.opens asked first session.old dial.old → Tells D.L.seen D.opens asked first session.new dial.new result }
 {
-    match dial_first(alloc, session, dial) {
-        Ok(()) => match connect::<D>(session, left) {
-            Poll::Ready(Ok(())) => session.poll_call(left),
-            Poll::Ready(Err(e)) => Poll::Ready(Turn::Err(e)),
-            Poll::Pending => Poll::Pending,
-        },
-        Err(e) => Poll::Ready(Turn::Err(e)),
+    match connect(alloc, session, dial, left) {
+        Poll::Ready(Ok(())) => session.poll_call(left),
+        Poll::Ready(Err(e)) => Poll::Ready(Turn::Err(e)),
+        Poll::Pending => Poll::Pending,
     }
 }

@@ -1,11 +1,14 @@
 use Rattle.futures.specs.declared.task.Poll.TheVariants.{Ready}
-use Rattle.pg_migrating.proofs.ForceLaws.{terminate_fails, terminate_fits, terminate_stands, terminate_tells, terminate_waits}
+use Rattle.pg_migrating.proofs.ForceLaws.{terminate_fails, terminate_fits, terminate_runs, terminate_stands, terminate_tells, terminate_waits}
 use Rattle.pg_migrating.proofs.forcing.ForceDropDatabase.poll_others.Goals as goal
+
+pub poll_call-requires-clause-runs : goal.poll_call-requires-clause-runs
+poll_call-requires-clause-runs g c = terminate_runs g.D.L.Link.seen g.D.Sessions.opens c.args.self.now.session c.requires.goes.0 c.requires.goes.1
 
 pub read-requires : goal.read-requires
 read-requires g c =
-    let k = terminate_fits g.D.L.Link.seen g.D.Sessions.opens c.args.self.now.session c.poll_call.new.self c.args.left.now (Ready c.in-Ready.turn) c.requires.goes.0 c.requires.goes.1 c.requires.goes.2 c.in-Ready.ensures.polls in
-    k.2
+    let k = terminate_fits g.D.L.Link.seen g.D.Sessions.opens c.args.self.now.session c.poll_call.new.self c.args.left.now (Ready c.in-Ready.turn) c.requires.goes.0 c.requires.goes.1 c.in-Ready.ensures.polls in
+    k.1
 
 pub returns-in-Pending-clause-goes : goal.returns-in-Pending-clause-goes
 returns-in-Pending-clause-goes g c = terminate_waits g.D.L.Link.seen g.D.Sessions.opens c.args.self.now.session c.poll_call.new.self c.args.self.now.last c.args.self.now.step c.args.left.now c.requires.step c.requires.goes c.in-Pending.ensures.polls
