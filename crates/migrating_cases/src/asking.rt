@@ -4,7 +4,7 @@ ghost use Rattle.pg_call.specs.declared.kind.Kind.TheVariants as kinds;
 ghost use Rattle.pg_migrating.specs.Forcing.{GoesForce};
 ghost use Rattle.pg_migrating.specs.Sessions.{Goes};
 
-use crate::telling::{Shown, push_call};
+use crate::telling::{Shown, Told, push_call};
 use case_tools::push_bytes;
 use pg_guards::PgExecutor;
 use pg_migrating::{DatabaseCall, ForceDropDatabase, MigrateDatabase, Reading, Sessions};
@@ -26,23 +26,32 @@ where
     }
 }
 
-// Polls a call of one statement, so often at most.
-fn statement<D: Sessions, R: Reading>(
-    mut state: DatabaseCall<'_, D, R>,
+// Polls a call of one statement, so often at most, and tells what it answered. The state is handed back, since one that is a parameter and is kept
+// can't be lent.
+fn statement<'d, D: Sessions, R: Reading>(
+    state: DatabaseCall<'d, D, R>,
     polls: u64,
+    word: &str,
     told: &mut String,
-) -> Answer<R::Value>
+) -> DatabaseCall<'d, D, R>
 where
     D::L: Shown,
+    R::Value: Told,
     requires { Goes D.opens (kinds.Run R.how) state.session }
 {
+    let mut state = state;
     for _ in 0..polls {
         match state.poll() {
             Poll::Pending => tell_sent(state.conn(), told),
-            answer => return answer,
+            answer => {
+                push_call(told, word, answer);
+                return state;
+            }
         }
     }
-    Poll::Pending
+    let waits: Answer<R::Value> = Poll::Pending;
+    push_call(told, word, waits);
+    state
 }
 
 fn forcing<D: Sessions>(
@@ -63,35 +72,6 @@ where
     Poll::Pending
 }
 
-// The answer of a call on the database of a URL that tells nothing.
-fn done<D: Sessions>(
-    alloc: Global,
-    settings: &PgSettings,
-    dial: &mut D,
-    word: &str,
-    url: &str,
-    polls: u64,
-    told: &mut String,
-) -> Answer<()>
-where
-    D::L: Shown,
-{
-    match word {
-        "create" => {
-            let state = MigrateDatabase::create_database(alloc, settings, url, dial);
-            statement(state, polls, told)
-        }
-        "drop" => {
-            let state = MigrateDatabase::drop_database(alloc, settings, url, dial);
-            statement(state, polls, told)
-        }
-        _ => {
-            let state = MigrateDatabase::force_drop_database(alloc, settings, url, dial);
-            forcing(state, polls, told)
-        }
-    }
-}
-
 /// Makes a call on the database of a URL, and tells what it answered.
 pub(crate) fn call<D: Sessions>(
     alloc: Global,
@@ -105,12 +85,23 @@ where
     D::L: Shown,
 {
     let (word, url) = words.split_once(' ').unwrap_or((words, ""));
-    if word == "exists" {
-        let state = MigrateDatabase::database_exists(alloc, settings, url, dial);
-        let answer = statement(state, polls, told);
-        push_call(told, word, answer);
-    } else {
-        let answer = done(alloc, settings, dial, word, url, polls, told);
-        push_call(told, word, answer);
+    match word {
+        "exists" => {
+            let state = MigrateDatabase::database_exists(alloc, settings, url, dial);
+            drop(statement(state, polls, word, told));
+        }
+        "create" => {
+            let state = MigrateDatabase::create_database(alloc, settings, url, dial);
+            drop(statement(state, polls, word, told));
+        }
+        "drop" => {
+            let state = MigrateDatabase::drop_database(alloc, settings, url, dial);
+            drop(statement(state, polls, word, told));
+        }
+        _ => {
+            let state = MigrateDatabase::force_drop_database(alloc, settings, url, dial);
+            let answer = forcing(state, polls, told);
+            push_call(told, word, answer);
+        }
     }
 }
