@@ -1,7 +1,8 @@
 ghost use Rattle.std.specs.Prelude.{◌≡◌, ◌++◌, OnOk, IfOk, string_bytes};
+ghost use Rattle.pg_report.specs.Bytes.{hex_or_dash};
 ghost use Rattle.pg_report.specs.Report.{start_line, steps_from, sent_line, report, live_report};
 
-use crate::bytes::{put_hex_or_dash, put_named_number, put_number};
+use crate::bytes::{put_named_number, put_number};
 use crate::errors::put_error;
 use crate::outcome::{Outcome, Started};
 use crate::steps::put_step;
@@ -39,12 +40,23 @@ fn put_steps(out: &mut String, outcomes: &[Outcome]) -> Result<(), AllocError>
     Ok(())
 }
 
+// All bytes that were sent are by far the longest text of a report, so they are spelled at once.
+#[tactic(auto, unfolding(crate::specs::Bytes::hex_or_dash))]
+fn sent_text(alloc: Global, sent: &[u8]) -> Result<String, AllocError>
+    ensures { IfOk result (λ t. string_bytes t ≡ hex_or_dash sent.now) }
+{
+    if sent.is_empty() {
+        return String::from_str(alloc, "-");
+    }
+    hex::encode(alloc, sent)
+}
+
 #[tactic(auto, unfolding(crate::specs::Report::sent_line))]
-fn put_sent(out: &mut String, sent: &[u8]) -> Result<(), AllocError>
+fn put_sent(alloc: Global, out: &mut String, sent: &[u8]) -> Result<(), AllocError>
     ensures { OnOk result (string_bytes out.new ≡ string_bytes out.old ++ sent_line sent.now) }
 {
     out.push_str("sent ")?;
-    put_hex_or_dash(out, sent)?;
+    out.push_str(&sent_text(alloc, sent)?)?;
     out.push_str("\n")
 }
 
@@ -61,7 +73,7 @@ pub fn report(
     let mut out = String::new(alloc);
     put_start(&mut out, start)?;
     put_steps(&mut out, outcomes)?;
-    put_sent(&mut out, sent)?;
+    put_sent(alloc, &mut out, sent)?;
     Ok(out)
 }
 
