@@ -2,10 +2,10 @@
 
   instructions.py PROGRAM [UNIT ..]
 
-Each unit (`steps`, `queries`, `copyout`, `execute`, `fetch`, `fetch_all`, and each of the last three with `4` behind for rows of four int columns) is
-played at two sizes under valgrind's callgrind, and what is printed is the slope: instructions for each step or row more. `script`
-is that of reading the script, for each byte of it, over the script of `steps`. Below each unit stand the crates, each with what it
-calls in the standard library and the C library, and then the functions that take most by themselves.
+Each unit (`steps`, `queries`, `copyout`, `execute`, `fetch`, `fetch_all`, each of the last three with `4` behind for rows of four int columns, and
+with `_many` behind that for fifty rows a piece) is played at two sizes under valgrind's callgrind, and what is printed is the slope: instructions for
+each step or row more. `script` is that of reading the script, for each byte of it, and `play` what is neither script nor report. Below each unit stand
+the crates, each with what it calls in the standard library and the C library, and then the functions that take most by themselves.
 """
 import collections
 import os
@@ -19,14 +19,16 @@ import scripts
 
 SIZES = {'steps': (1000, 2000), 'queries': (1000, 2000), 'copyout': (4000, 8000)}
 ROWS = (4000, 8000)
-UNITS = ['steps', 'queries', 'copyout', 'execute', 'fetch', 'fetch_all', 'execute4', 'fetch4', 'fetch_all4']
+CALLS = ['execute', 'fetch', 'fetch_all']
+UNITS = [*SIZES, *CALLS, *(f'{call}4' for call in CALLS), *(f'{call}4_many' for call in CALLS)]
 
 
 def text_of(unit, size):
     if unit in SIZES:
         return scripts.script(unit, size)
-    call = unit.rstrip('4')
-    return scripts.script('rows', size, call, '4' if unit.endswith('4') else '1')
+    one = unit.removesuffix('_many')
+    call = one.removesuffix('4')
+    return scripts.script('rows', size, call, '1' if one == call else '4', '1' if unit == one else '50')
 
 
 class Profile:
@@ -101,10 +103,11 @@ def entered(profile, crate):
 
 def tell(program, unit):
     profile, units, size = slope(program, unit)
-    print(f'{unit}: {sum(profile.own.values()) / units:.0f} for each')
-    if unit in SIZES:
-        print(f'  script: {entered(profile, "pg_script") / size:.1f} for each of {size / units:.0f} bytes a step')
-        print(f'  report: {entered(profile, "pg_report") / units:.0f} for each')
+    whole, script, report = sum(profile.own.values()), entered(profile, 'pg_script'), entered(profile, 'pg_report')
+    print(f'{unit}: {whole / units:.0f} for each')
+    print(f'  script: {script / size:.1f} for each of {size / units:.0f} bytes')
+    print(f'  report: {report / units:.0f} for each')
+    print(f'  play: {(whole - script - report) / units:.0f} for each')
     for crate, cost in shares(profile).most_common():
         if cost > units / 2:
             print(f'  {crate}: {cost / units:.0f}')

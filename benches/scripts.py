@@ -2,8 +2,9 @@
 
   scripts.py steps N                  N calls, each with a reply of its own
   scripts.py queries N                one call that prepares a text, and N that find its statement kept, with the reply of `steps`
-  scripts.py rows N [CALL [COLUMNS]]  one call, `execute` if none is said, whose reply has N rows of so many int columns, one if
-                                      no number is said, each row a piece of its own
+  scripts.py rows N [CALL [COLUMNS [MANY]]]
+                                      one call, `execute` if none is said, whose reply has N rows of so many int columns, one if
+                                      no number is said, and so many rows a piece, one if no number is said
   scripts.py copyout N                a copy of N rows to the client, each row a message of its own, and 400 of them a piece
 """
 import struct
@@ -51,10 +52,11 @@ def queries(count):
     return first + (server(BOUND + row(VALUES[:1]) + END[:-len(READY)] + CLOSED + READY) + step) * count
 
 
-def rows(count, call='execute', columns='1'):
-    many = int(columns)
-    return (server(fields(NAMES[:many])) + server(row(VALUES[:many])) * count + server(END)
-            + f'step 4000000000 {call} raw "SELECT 1"\n')
+def rows(count, call='execute', columns='1', many='1'):
+    width, at_once = int(columns), int(many)
+    whole, left = divmod(count, at_once)
+    pieces = server(row(VALUES[:width]) * at_once) * whole + (server(row(VALUES[:width]) * left) if left else '')
+    return server(fields(NAMES[:width])) + pieces + server(END) + f'step 4000000000 {call} raw "SELECT 1"\n'
 
 
 def copyout(count):
