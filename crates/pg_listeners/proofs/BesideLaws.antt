@@ -1,21 +1,23 @@
 -- What lies beside a listener is told through what holds its pool and its participant.
-use Rattle.std.proofs.Common.{◌≡◌, inl, ℕ, [], ap, subst, Option, Result, Err}
+use Rattle.std.proofs.Common.{◌≡◌, inl, ℕ, [], ap, sym, subst, ◌∙◌, Option, Result, Ok, Err}
 use Rattle.futures.specs.declared.task.Poll.{Poll}
-use Rattle.futures.specs.declared.task.Poll.TheVariants.{Ready}
+use Rattle.futures.specs.declared.task.Poll.TheVariants.{Ready, Pending}
 use Rattle.pg_wire.specs.declared.error.Error.{Error}
 use Rattle.pg_wire.specs.declared.error.Error.TheVariants as errors
 use Rattle.pg_stream.specs.Links.{LinkSeen}
 use Rattle.pg_call.specs.declared.answer.Turn.{Turn}
 use Rattle.pg_call.specs.declared.request.Request.{Request}
 use Rattle.pg_options.specs.Options.{ConnectOptions}
+use Rattle.pg_listener.specs.declared.changing.ChannelChange.{ChannelChange}
 use Rattle.pg_conn.specs.Dials.{DialSeen}
 use Rattle.pg_pool.specs.Seats.{SeatSeen}
 use Rattle.pg_listen.specs.Handed.{PoolSeen}
 use Rattle.pg_reconnect.specs.Failing.{BesideSeen, CausedBy, Fails, OnFailed}
-use Rattle.pg_reconnect.specs.Hearing.{HearingOf, HearsBy}
+use Rattle.pg_reconnect.specs.Hearing.{Changes, HearingOf, HearsBy, channels_at_ok}
+use Rattle.pg_reconnect.specs.Leaving.{NotesClosed}
 use Rattle.pg_reconnect.specs.Querying.{Queries}
 use Rattle.pg_reconnect.proofs.FailingLaws.{memory_fails}
-use Rattle.pg_listeners.specs.Listeners.{CausedBehind, ListenerOf, beside_of}
+use Rattle.pg_listeners.specs.Listeners.{CausedBehind, ListenerOf, MakesChange, beside_of, stored_by, wanted_by}
 
 beside_at : (P : BesideSeen → Type 0) (o : BesideSeen) (options : ConnectOptions) (seat : SeatSeen) → options ≡ o.options → seat ≡ o.seat → P (record o { options = options; seat = seat }) → P o
 beside_at P o options seat pool held p = subst (λ (x : ConnectOptions). P (record o { options = x })) pool (subst (λ (s : SeatSeen). P (record o { options = options; seat = s })) held p)
@@ -41,3 +43,12 @@ pub begun_causes : {P S D A X : Type 0} (seen : A → LinkSeen) (pool : P → Po
     → CausedBy seen (beside_of pool seat dial most m b) left now m.hearing b.hearing answer → CausedBehind seen (beside_of pool seat dial most a b) left now a.hearing b.hearing answer
 begun_causes {P} {S} {D} {A} seen pool seat dial most left now a m b answer same hears causes =
     (m.hearing, hears, subst (λ (x : BesideSeen). CausedBy seen x left now m.hearing b.hearing answer) (ap (λ (l : ListenerOf P S D A). beside_of pool seat dial most l b) same) causes)
+
+-- a change that was begun makes the channels that it was to make
+pub changes_begun : {A : Type 0} (change : Option ChannelChange) (a m b : HearingOf A) (answer : Poll (Result (Unit {0}) Error)) → m.listening.channels ≡ stored_by change a → channels_at_ok m ≡ wanted_by change a → Changes m.listening.channels (channels_at_ok m) b answer → MakesChange change a b answer
+changes_begun change a m b Pending stored wanted (c, k, i) = (c ∙ stored, k ∙ wanted, i)
+changes_begun change a m b (Ready (Ok u)) stored wanted c = c ∙ wanted
+changes_begun change a m b (Ready (Err e)) stored wanted c = inl (c ∙ stored)
+
+pub notes_wanting : (A : Type 0) (most : ℕ) (s : SeatSeen) (e : Error) → e ≡ errors.OutOfMemory → NotesClosed A most s e
+notes_wanting A most s e is = subst (λ (x : Error). NotesClosed A most s x) (sym is) tt

@@ -1,4 +1,6 @@
 mod AloneLaws
+mod AnswerLaws
 mod BesideLaws
+mod ConnectingLaws
 mod DescribingLaws
 mod ReleasingLaws

@@ -1,16 +1,25 @@
-use Rattle.std.proofs.Common.{refl, sym, ◌∙◌}
+use Rattle.std.proofs.Common.{refl, sym, ◌∙◌, inl, inr}
+use Rattle.std.proofs.Math.Nat.{le_refl}
 use Rattle.pg_reconnect.proofs.HearingLaws.{hears_nothing}
 use Rattle.pg_listeners.specs.Listeners.{beside_of}
-use Rattle.pg_listeners.proofs.DescribingLaws.{tells_at_once}
+use Rattle.pg_listeners.proofs.DescribingLaws.{columns_open, tells_at_once}
 use Rattle.pg_listeners.proofs.describe.Describing+G+P+S+D.go_on.Goals as goal
 
-pub returns-in-Ok-None-clause-hears : goal.returns-in-Ok-None-clause-hears
-returns-in-Ok-None-clause-hears g c = hears_nothing g.D.L.Link.seen _ _ refl
+pub returns-in-Ok-None : goal.returns-in-Ok-None
+returns-in-Ok-None g c = record {
+  same = refl;
+  hears = hears_nothing g.D.L.Link.seen _ _ refl;
+  channels = refl;
+  left = le_refl _;
+  goes =
+      tells_at_once g.D.L.Link.seen (beside_of g.P.PoolHolder.pool g.S.SeatHolder.seat g.D.Dial.seen g.G.PoolLedger.most) c.args.left.now c.args.left.now c.args.statement c.args.self.now.request c.args.self.now.listener.now c.args.self.now.told c.new-in-Ok-None.result c.requires.asked c.requires.told
+      (sym c.columns.ensures ∙ rw c.in-Ok-None.field-0-is at c.in-Ok-None.ensures.ok) c.new-in-Ok-None.ensures.statement (c.new-in-Ok-None.ensures.nullable ∙ c.new.ensures.items);
+  stays = tt;
+  closed = tt;
+}
 
 pub returns-in-Err-clause-hears : goal.returns-in-Err-clause-hears
 returns-in-Err-clause-hears g c = hears_nothing g.D.L.Link.seen _ _ refl
 
-pub returns-in-Ok-None-clause-goes : goal.returns-in-Ok-None-clause-goes
-returns-in-Ok-None-clause-goes g c =
-    tells_at_once g.D.L.Link.seen (beside_of g.P.PoolHolder.pool g.S.SeatHolder.seat g.D.Dial.seen g.G.PoolLedger.most) c.args.left.now c.args.left.now c.args.statement c.args.self.now.request c.args.self.now.listener.now c.args.self.now.told c.new-in-Ok-None.result c.requires.asked c.requires.told
-    (sym c.columns.ensures ∙ rw c.in-Ok-None.field-0-is at c.in-Ok-None.ensures.ok) c.new-in-Ok-None.ensures.statement (c.new-in-Ok-None.ensures.nullable ∙ c.new.ensures.items)
+pub returns-in-Err-clause-closed : goal.returns-in-Err-clause-closed
+returns-in-Err-clause-closed g c = columns_open _ _ _ _ c.in-Err.e c.in-Err.ensures.err

@@ -1,8 +1,9 @@
+use Rattle.std.proofs.Common.{refl}
 use Rattle.pg_call.specs.declared.kind.How.TheVariants as hows
 use Rattle.pg_call.specs.declared.kind.Kind.TheVariants as kinds
 use Rattle.pg_reconnect.proofs.QueryingLaws.{queries_on, runs_none_cleared}
 use Rattle.pg_listeners.specs.Listeners.{beside_of}
-use Rattle.pg_listeners.proofs.DescribingLaws.{nulls_fit, nulls_stay}
+use Rattle.pg_listeners.proofs.DescribingLaws.{notes_heard, nulls_fit, nulls_stay}
 use Rattle.pg_listeners.proofs.describe.Describing+G+P+S+D.poll_nulls.Goals as goal
 
 pub hear-answer-requires : goal.hear-answer-requires
@@ -11,8 +12,19 @@ hear-answer-requires g c =
     (queries_on g.D.L.Link.seen (beside_of g.P.PoolHolder.pool g.S.SeatHolder.seat g.D.Dial.seen g.G.PoolLedger.most c.args.self.now.listener.now c.poll_query-answer.new.self) _ _ (kinds.Run hows.FetchAll) _ _ _ _ c.poll_query-answer.result (runs_none_cleared hows.FetchAll) c.requires.querying
     c.poll_query-answer.ensures.queries)
 
-pub returns-clause-stays : goal.returns-clause-stays
-returns-clause-stays g c =
-    nulls_stay c.args.statement c.poll_query-answer.new.request c.poll_query-answer.new.self.hearing c.poll_query-answer.result c.hear-answer.result.0 c.hear-answer.result.1
-    (queries_on g.D.L.Link.seen (beside_of g.P.PoolHolder.pool g.S.SeatHolder.seat g.D.Dial.seen g.G.PoolLedger.most c.args.self.now.listener.now c.poll_query-answer.new.self) _ _ (kinds.Run hows.FetchAll) _ _ _ _ c.poll_query-answer.result (runs_none_cleared hows.FetchAll) c.requires.querying
-    c.poll_query-answer.ensures.queries) c.hear-answer.ensures
+pub returns : goal.returns
+returns g c =
+    let told = c.poll_query-answer.ensures in
+    let turn = c.poll_query-answer.result in
+    let rest = c.poll_query-answer.new.request in
+    let b = c.poll_query-answer.new.self in
+    let on = queries_on g.D.L.Link.seen (beside_of g.P.PoolHolder.pool g.S.SeatHolder.seat g.D.Dial.seen g.G.PoolLedger.most c.args.self.now.listener.now b) _ _ (kinds.Run hows.FetchAll) _ _ _ _ turn (runs_none_cleared hows.FetchAll) c.requires.querying told.queries in
+    record {
+      same = refl;
+      hears = told.hears;
+      channels = told.channels;
+      left = told.left;
+      nulls = (turn, told.queries, c.hear-answer.ensures);
+      stays = nulls_stay c.args.statement rest b.hearing turn c.hear-answer.result.0 c.hear-answer.result.1 on c.hear-answer.ensures;
+      closed = notes_heard g.row.D-L.Denot g.G.PoolLedger.most (g.S.SeatHolder.seat b.seat) c.args.statement turn c.hear-answer.result.0 c.hear-answer.result.1 c.hear-answer.ensures told.closed;
+    }

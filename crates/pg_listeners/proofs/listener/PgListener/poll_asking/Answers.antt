@@ -1,21 +1,35 @@
-use Rattle.std.proofs.Common.{[], refl}
+use Rattle.std.proofs.Common.{[], ap, inr, refl}
+use Rattle.std.proofs.Math.Nat.{le_refl}
 use Rattle.pg_reconnect.proofs.BufferingLaws.{hears_behind}
 use Rattle.pg_reconnect.proofs.FailingLaws.{notes_caused, wanting}
 use Rattle.pg_reconnect.proofs.HearingLaws.{hears_nothing}
-use Rattle.pg_listeners.proofs.BesideLaws.{begun_causes, unbegun}
+use Rattle.pg_listeners.proofs.BesideLaws.{begun_causes, changes_begun, notes_wanting, unbegun}
 use Rattle.pg_listeners.proofs.listener.PgListener.poll_asking.Goals as goal
 
-pub returns-clause-hears : goal.returns-clause-hears
-returns-clause-hears g c = hears_behind g.D.L.Link.seen _ _ _ [] c.begin_asked.ensures.hears c.poll_change.ensures.hears
+pub returns : goal.returns
+returns g c =
+    let begun = c.in-Ok.ensures in
+    let told = c.poll_change.ensures in
+    let a = c.args.self.now in
+    let m = c.begin_asked.new.self in
+    let b = c.poll_change.new.self in
+    record {
+      hears = hears_behind g.D.L.Link.seen _ _ _ [] c.begin_asked.ensures.hears told.hears;
+      changes = changes_begun c.args.change.now a.hearing m.hearing b.hearing c.poll_change.result begun.channels begun.next told.changes;
+      begun = c.begin_asked.ensures.begun;
+      left = told.left;
+      causes = begun_causes {X = Unit {0}} g.D.L.Link.seen g.P.PoolHolder.pool g.S.SeatHolder.seat g.D.Dial.seen g.G.PoolLedger.most c.args.left.now c.poll_change.new.left a m b c.poll_change.result begun.rest c.begin_asked.ensures.hears told.causes;
+      closed = notes_caused g.D.L.Link.seen _ _ _ _ _ c.poll_change.result told.causes;
+    }
 
-pub returns-clause-causes : goal.returns-clause-causes
-returns-clause-causes g c =
-    begun_causes {X = Unit {0}} g.D.L.Link.seen g.P.PoolHolder.pool g.S.SeatHolder.seat g.D.Dial.seen g.G.PoolLedger.most c.args.left.now c.poll_change.new.left c.args.self.now c.begin_asked.new.self c.poll_change.new.self c.poll_change.result c.in-Ok.ensures.rest
-    c.begin_asked.ensures.hears c.poll_change.ensures.causes
-
-pub returns-clause-closed : goal.returns-clause-closed
-returns-clause-closed g c = notes_caused g.D.L.Link.seen _ _ _ _ _ c.poll_change.result c.poll_change.ensures.causes
-
-pub returns-in-Err-clause-causes : goal.returns-in-Err-clause-causes
-returns-in-Err-clause-causes g c =
-    unbegun (Unit {0}) g.D.L.Link.seen _ _ _ c.args.self.now.hearing _ c.in-Err.e (hears_nothing g.D.L.Link.seen _ _ refl) (wanting c.in-Err.e _ refl c.in-Err.ensures.err)
+pub returns-in-Err : goal.returns-in-Err
+returns-in-Err g c =
+    let none = wanting c.in-Err.e _ refl c.in-Err.ensures.err in
+    record {
+      hears = c.begin_asked.ensures.hears;
+      changes = inr (ap (λ l. l.hearing.listening.channels) c.in-Err.ensures.err.0, none);
+      begun = c.begin_asked.ensures.begun;
+      left = le_refl _;
+      causes = unbegun (Unit {0}) g.D.L.Link.seen _ _ _ c.args.self.now.hearing _ c.in-Err.e (hears_nothing g.D.L.Link.seen _ _ refl) none;
+      closed = notes_wanting _ _ _ c.in-Err.e none;
+    }

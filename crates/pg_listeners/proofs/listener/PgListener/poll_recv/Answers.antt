@@ -4,10 +4,16 @@ use Rattle.pg_reconnect.specs.Waiting.{NotesBy}
 use Rattle.pg_listeners.proofs.BesideLaws.{fails_at}
 use Rattle.pg_listeners.proofs.listener.PgListener.poll_recv.Goals as goal
 
-pub returns-clause-closed : goal.returns-clause-closed
-returns-clause-closed g c =
-    rw c.told_one.ensures (subst (λ (s : SeatSeen). NotesBy g.row.D-L.Denot g.G.PoolLedger.most s c.poll_recv.result) (sym (g.met.S.SeatHolder.written c.self.inside.seat c.poll_recv.new.seat)) c.poll_recv.ensures.closed)
-
-pub returns-clause-fails : goal.returns-clause-fails
-returns-clause-fails g c =
-    rw (← c.self.view_is) (rw c.told_one.ensures (fails_at g.D.L.Link.seen _ _ _ _ _ _ _ c.poll_recv.result (ap (λ p. p.options) c.pool_ref-pool.ensures) (sym (g.met.S.SeatHolder.written c.self.inside.seat c.poll_recv.new.seat)) c.poll_recv.ensures.fails))
+pub returns : goal.returns
+returns g c =
+    let told = c.poll_recv.ensures in
+    let answer = c.poll_recv.result in
+    let seat = sym (g.met.S.SeatHolder.written c.self.inside.seat c.poll_recv.new.seat) in
+    record {
+      hears = rw (← c.self.view_is) (rw c.told_one.ensures told.hears);
+      channels = rw (← c.self.view_is) told.channels;
+      left = told.left;
+      pending = rw (← c.self.view_is) (rw c.told_one.ensures told.pending);
+      fails = rw (← c.self.view_is) (rw c.told_one.ensures (fails_at g.D.L.Link.seen _ _ _ _ _ _ _ answer (ap (λ p. p.options) c.pool_ref-pool.ensures) seat told.fails));
+      closed = rw c.told_one.ensures (subst (λ (s : SeatSeen). NotesBy g.row.D-L.Denot g.G.PoolLedger.most s answer) seat told.closed);
+    }

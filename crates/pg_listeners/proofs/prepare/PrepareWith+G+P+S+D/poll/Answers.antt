@@ -1,20 +1,42 @@
+use Rattle.std.proofs.Common.{refl}
 use Rattle.futures.specs.declared.task.Poll.TheVariants.{Pending, Ready}
 use Rattle.pg_call.specs.declared.kind.Kind.TheVariants as kinds
+use Rattle.pg_reconnect.specs.Hearing.{learnt_of}
 use Rattle.pg_reconnect.proofs.QueryingLaws.{queries_on, query_fits}
 use Rattle.pg_listeners.specs.Listeners.{beside_of}
-use Rattle.pg_listeners.proofs.DescribingLaws.{prepares_none_cleared, prepares_told}
+use Rattle.pg_listeners.proofs.DescribingLaws.{notes_told, prepares_none_cleared, prepares_told}
 use Rattle.pg_listeners.proofs.prepare.PrepareWith+G+P+S+D.poll.Goals as goal
 
 pub statement_told-requires : goal.statement_told-requires
 statement_told-requires g c =
     query_fits kinds.Prepare _ c.poll_query.new.self.hearing c.in-Ready.turn (queries_on g.D.L.Link.seen _ _ _ kinds.Prepare _ _ _ c.poll_query.new.self.hearing (Ready c.in-Ready.turn) prepares_none_cleared c.requires.querying c.in-Ready.ensures.queries)
 
-pub returns-in-Pending-clause-querying : goal.returns-in-Pending-clause-querying
-returns-in-Pending-clause-querying g c =
-    queries_on g.D.L.Link.seen (beside_of g.P.PoolHolder.pool g.S.SeatHolder.seat g.D.Dial.seen g.G.PoolLedger.most c.args.self.now.listener.now c.poll_query.new.self) _ _ kinds.Prepare _ _ _ c.poll_query.new.self.hearing Pending prepares_none_cleared c.requires.querying
-    c.in-Pending.ensures.queries
+pub returns-in-Pending : goal.returns-in-Pending
+returns-in-Pending g c =
+    let told = c.in-Pending.ensures in
+    record {
+      over = c.requires.over;
+      same = refl;
+      hears = told.hears;
+      channels = told.channels;
+      prepares = (Pending, refl, (c.poll_query.new.left, told.queries));
+      querying =
+          queries_on g.D.L.Link.seen (beside_of g.P.PoolHolder.pool g.S.SeatHolder.seat g.D.Dial.seen g.G.PoolLedger.most c.args.self.now.listener.now c.poll_query.new.self) _ _ kinds.Prepare _ _ _ c.poll_query.new.self.hearing Pending prepares_none_cleared c.requires.querying told.queries;
+      closed = tt;
+    }
 
-pub returns-in-Ready-clause-prepares : goal.returns-in-Ready-clause-prepares
-returns-in-Ready-clause-prepares g c =
-    prepares_told g.D.L.Link.seen (beside_of g.P.PoolHolder.pool g.S.SeatHolder.seat g.D.Dial.seen g.G.PoolLedger.most c.args.self.now.listener.now c.poll_query.new.self) c.poll_query.new.left c.args.self.now.request c.poll_query.new.request c.args.self.now.listener.now.hearing
-    c.poll_query.new.self.hearing c.in-Ready.turn c.statement_told.result c.statement_told.ensures c.in-Ready.ensures.queries
+pub returns-in-Ready : goal.returns-in-Ready
+returns-in-Ready g c =
+    let a = c.args.self.now.listener.now in
+    let b = c.poll_query.new.self in
+    let told = c.in-Ready.ensures in
+    record {
+      over = refl;
+      same = refl;
+      hears = told.hears;
+      channels = told.channels;
+      prepares =
+          prepares_told g.D.L.Link.seen (beside_of g.P.PoolHolder.pool g.S.SeatHolder.seat g.D.Dial.seen g.G.PoolLedger.most a b) c.poll_query.new.left c.args.self.now.request c.poll_query.new.request a.hearing b.hearing c.in-Ready.turn c.statement_told.result c.statement_told.ensures told.queries;
+      querying = tt;
+      closed = notes_told g.row.D-L.Denot g.G.PoolLedger.most (g.S.SeatHolder.seat b.seat) (learnt_of b.hearing) c.in-Ready.turn c.statement_told.result c.statement_told.ensures told.closed;
+    }

@@ -1,14 +1,27 @@
+use Rattle.std.proofs.Common.{◌∙◌}
 use Rattle.pg_listeners.proofs.ReleasingLaws.{releases_last, releases_later, releases_none}
 use Rattle.pg_listeners.proofs.release.Release.poll_on.Goals as goal
 
-pub returns-in-Ready-Ok-clause-releases : goal.returns-in-Ready-Ok-clause-releases
-returns-in-Ready-Ok-clause-releases g c =
-    releases_last g.D.L.Link.seen _ _ _ _ c.in-Some.listener c.poll_asking.new.self c.let_go.result c.in-Some.is c.let_go.ensures.gone c.poll_asking.ensures.hears c.let_go.ensures.some c.let_go.ensures.released
+pub returns-in-Ready-Ok : goal.returns-in-Ready-Ok
+returns-in-Ready-Ok g c =
+    let gone = c.let_go.ensures in
+    record {
+      releases = releases_last g.D.L.Link.seen _ _ _ _ c.in-Some.listener c.poll_asking.new.self c.let_go.result c.in-Some.is gone.gone c.poll_asking.ensures.hears gone.some gone.released;
+      begun = gone.rest.0 ∙ c.poll_asking.ensures.begun;
+    }
 
-pub returns-in-Pending-clause-releases : goal.returns-in-Pending-clause-releases
-returns-in-Pending-clause-releases g c =
-    releases_later g.D.L.Link.seen _ _ c.poll_asking.new.left _ c.in-Some.listener c.poll_asking.new.self c.in-Some.is c.poll_asking.ensures.hears c.in-Pending.ensures.changes.2 c.in-Pending.ensures.causes
+pub returns-in-Pending : goal.returns-in-Pending
+returns-in-Pending g c =
+    let told = c.in-Pending.ensures in
+    record {
+      releases = releases_later g.D.L.Link.seen _ _ c.poll_asking.new.left _ c.in-Some.listener c.poll_asking.new.self c.in-Some.is told.hears told.changes.2 told.causes;
+      begun = told.begun;
+    }
 
-pub returns-in-Ready-Err-clause-releases : goal.returns-in-Ready-Err-clause-releases
-returns-in-Ready-Err-clause-releases g c =
-    releases_none g.D.L.Link.seen _ _ c.poll_asking.new.left _ c.in-Some.listener c.poll_asking.new.self c.in-Ready-Err.e c.in-Some.is c.poll_asking.ensures.hears (rw c.in-Ready-Err.field-0-is at c.in-Ready-Err.ensures.causes)
+pub returns-in-Ready-Err : goal.returns-in-Ready-Err
+returns-in-Ready-Err g c =
+    let told = c.in-Ready-Err.ensures in
+    record {
+      releases = releases_none g.D.L.Link.seen _ _ c.poll_asking.new.left _ c.in-Some.listener c.poll_asking.new.self c.in-Ready-Err.e c.in-Some.is told.hears (rw c.in-Ready-Err.field-0-is at told.causes);
+      begun = told.begun;
+    }

@@ -1,0 +1,15 @@
+use Rattle.std.proofs.Common.{refl}
+use Rattle.pg_listeners.proofs.describe.Describing+G+P+S+D.poll.Goals as goal
+
+pub returns : goal.returns
+returns g c =
+    let told = c.poll_on-answer.ensures in
+    record {
+      over = c.is_answered-self.ensures;
+      same = refl;
+      hears = told.hears;
+      channels = told.channels;
+      describes = (c.poll_on-answer.new.left, told.describes);
+      calling = told.calling;
+      closed = told.closed;
+    }
