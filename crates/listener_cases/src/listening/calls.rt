@@ -3,9 +3,8 @@ ghost use Rattle.std.specs.Prelude.{◌≡◌};
 
 use crate::listening::polling::{change, fetch_many, fetch_optional, recv, try_recv};
 use crate::listening::statements::{make_describe, make_prepare, make_row};
-use crate::listening::telling::{changed, lost, received, tried};
-use case_tools::push_error;
-use pg_conn::{MemoryDial, Query};
+use crate::listening::telling::{buffered, changed, counted, found, lost, received, tried};
+use pg_conn::{MemoryDial, Preparation, Query};
 use pg_listen::{PgPool, PoolLedger, PoolSeat};
 use pg_listeners::{ChannelChange, PgListener, PoolHolder, SeatHolder};
 use pg_stream::MemoryLink;
@@ -19,6 +18,9 @@ pub(crate) type Listener<'p, G> = PgListener<G, &'p Pool<G>, &'p mut PoolSeat<G>
 
 /// A call is polled so often at most.
 pub(crate) const POLLS: u32 = 8;
+
+// What is asked in each query.
+const SQL: &str = "SELECT";
 
 // The channel of a word, in which `~` stands for a zero byte.
 fn channel(alloc: Global, word: &str) -> Result<Text, AllocError> {
@@ -47,12 +49,16 @@ fn change_of(alloc: Global, call: &str) -> Result<ChannelChange, AllocError> {
     }
 }
 
+fn preparation(alloc: Global) -> Result<Preparation, AllocError> {
+    Ok(Preparation::untyped(alloc, Text::from_str(alloc, SQL)?))
+}
+
 fn make_change<G, P, S, R>(
     rt: &R,
     out: &mut String,
     listener: &mut PgListener<G, P, S, MemoryDial>,
     asked: ChannelChange,
-) -> Result<(), Error>
+)
 where
     G: PoolLedger,
     P: PoolHolder<G, MemoryLink>,
@@ -60,9 +66,8 @@ where
     R: Wait,
 {
     let answer = change(rt, listener, asked, POLLS);
-    let told = changed(out, &answer);
+    changed(out, &answer);
     drop(answer);
-    told
 }
 
 fn make_try<G, P, S, R>(
@@ -70,7 +75,7 @@ fn make_try<G, P, S, R>(
     out: &mut String,
     listener: &mut PgListener<G, P, S, MemoryDial>,
     polls: u32,
-) -> Result<(), Error>
+)
 where
     G: PoolLedger,
     P: PoolHolder<G, MemoryLink>,
@@ -78,16 +83,11 @@ where
     R: Wait,
 {
     let answer = try_recv(rt, listener, polls);
-    let told = tried(out, &answer);
+    tried(out, &answer);
     drop(answer);
-    told
 }
 
-fn make_recv<G, P, S, R>(
-    rt: &R,
-    out: &mut String,
-    listener: &mut PgListener<G, P, S, MemoryDial>,
-) -> Result<(), Error>
+fn make_recv<G, P, S, R>(rt: &R, out: &mut String, listener: &mut PgListener<G, P, S, MemoryDial>)
 where
     G: PoolLedger,
     P: PoolHolder<G, MemoryLink>,
@@ -95,82 +95,64 @@ where
     R: Wait,
 {
     let answer = recv(rt, listener, POLLS);
-    let told = received(out, &answer);
+    received(out, &answer);
     drop(answer);
-    told
 }
 
 fn make_fetch<G, P, S, R>(
     rt: &R,
-    alloc: Global,
     out: &mut String,
     listener: &mut PgListener<G, P, S, MemoryDial>,
-) -> Result<(), Error>
+    query: Query,
+)
 where
     G: PoolLedger,
     P: PoolHolder<G, MemoryLink>,
     S: SeatHolder<Seat = PoolSeat<G>>,
     R: Wait,
 {
-    let query = Query::raw(alloc, "SELECT")?;
-    match fetch_many(rt, listener, query, POLLS) {
-        Poll::Pending => out.push_str(" pending")?,
-        Poll::Ready(Ok(rows)) => write!(out, " rows {rows}")?,
-        Poll::Ready(Err(error)) => push_error(out, &error)?,
-    }
-    Ok(())
+    let answer = fetch_many(rt, listener, query, POLLS);
+    counted(out, &answer);
+    drop(answer);
 }
 
 fn make_first<G, P, S, R>(
     rt: &R,
-    alloc: Global,
     out: &mut String,
     listener: &mut PgListener<G, P, S, MemoryDial>,
-) -> Result<(), Error>
+    query: Query,
+)
 where
     G: PoolLedger,
     P: PoolHolder<G, MemoryLink>,
     S: SeatHolder<Seat = PoolSeat<G>>,
     R: Wait,
 {
-    let query = Query::raw(alloc, "SELECT")?;
-    match fetch_optional(rt, listener, query, POLLS) {
-        Poll::Pending => out.push_str(" pending")?,
-        Poll::Ready(Ok(row)) => write!(out, " row {}", row.is_some())?,
-        Poll::Ready(Err(error)) => push_error(out, &error)?,
-    }
-    Ok(())
+    let answer = fetch_optional(rt, listener, query, POLLS);
+    found(out, &answer);
+    drop(answer);
 }
 
-fn next<G, P, S>(
-    out: &mut String,
-    listener: &mut PgListener<G, P, S, MemoryDial>,
-) -> Result<(), Error>
+fn next<G, P, S>(out: &mut String, listener: &mut PgListener<G, P, S, MemoryDial>)
 where
     G: PoolLedger,
     P: PoolHolder<G, MemoryLink>,
     S: SeatHolder<Seat = PoolSeat<G>>,
 {
-    match listener.next_buffered() {
-        Some(told) => write!(out, " ({})", told.payload())?,
-        None => out.push_str(" ()")?,
-    }
-    Ok(())
+    let told = listener.next_buffered();
+    buffered(out, &told);
+    drop(told);
 }
 
-fn take<G, P, S>(
-    out: &mut String,
-    listener: &mut PgListener<G, P, S, MemoryDial>,
-) -> Result<(), Error>
+fn take<G, P, S>(out: &mut String, listener: &mut PgListener<G, P, S, MemoryDial>)
 where
     G: PoolLedger,
     P: PoolHolder<G, MemoryLink>,
     S: SeatHolder<Seat = PoolSeat<G>>,
 {
     let links = listener.take_lost();
-    let told = lost(out, links.as_slice());
+    lost(out, links.as_slice());
     drop(links);
-    told
 }
 
 /// A call of a row.
@@ -188,19 +170,19 @@ where
     R: Wait,
 {
     match call {
-        "recv" => return make_recv(rt, out, listener),
-        "try" => return make_try(rt, out, listener, POLLS),
-        "poll" => return make_try(rt, out, listener, 1),
-        "many" => return make_fetch(rt, alloc, out, listener),
-        "first" => return make_first(rt, alloc, out, listener),
-        "prepare" => return make_prepare(rt, alloc, out, listener),
-        "describe" => return make_describe(rt, alloc, out, listener),
-        "row" => return make_row(rt, alloc, out, listener),
-        "next" => return next(out, listener),
-        "take" => return take(out, listener),
+        "recv" => make_recv(rt, out, listener),
+        "try" => make_try(rt, out, listener, POLLS),
+        "poll" => make_try(rt, out, listener, 1),
+        "many" => make_fetch(rt, out, listener, Query::raw(alloc, SQL)?),
+        "first" => make_first(rt, out, listener, Query::raw(alloc, SQL)?),
+        "row" => make_row(rt, out, listener, Query::new(alloc, SQL)?),
+        "prepare" => make_prepare(rt, out, listener, preparation(alloc)?),
+        "describe" => make_describe(rt, out, listener, Text::from_str(alloc, SQL)?),
+        "next" => next(out, listener),
+        "take" => take(out, listener),
         "lazy" => listener.eager_reconnect(false),
         "ignore" => listener.ignore_pool_close_event(true),
-        call => return make_change(rt, out, listener, change_of(alloc, call)?),
+        call => make_change(rt, out, listener, change_of(alloc, call)?),
     }
     Ok(())
 }

@@ -4,8 +4,7 @@ ghost use Rattle.std.specs.Prelude.{◌≡◌};
 use crate::listening::calls::{Listener, POLLS, Pool, make, make_all};
 use crate::listening::opening::{alone, dial, participant, pool};
 use crate::listening::polling::{connect, next, release};
-use crate::listening::telling::{history, lost, released, streamed};
-use case_tools::push_error;
+use crate::listening::telling::{failed, history, lost, push, released, streamed};
 use pg_conn::MemoryDial;
 use pg_listen::{PoolLedger, PoolSeat};
 use pg_listeners::{NotificationStream, PgListener, PoolHolder, SeatHolder, connect_with};
@@ -30,64 +29,44 @@ struct Row<'a> {
 
 type Stream<'p, G> = NotificationStream<G, &'p Pool<G>, &'p mut PoolSeat<G>, MemoryDial>;
 
-fn ask_stream<G: PoolLedger, R: Wait>(
-    rt: &R,
-    out: &mut String,
-    stream: &mut Stream<'_, G>,
-) -> Result<(), Error> {
+fn ask_stream<G: PoolLedger, R: Wait>(rt: &R, out: &mut String, stream: &mut Stream<'_, G>) {
     for _ in 0..NEXT {
         let answer = next(rt, stream, POLLS);
-        let told = streamed(out, &answer);
+        streamed(out, &answer);
         drop(answer);
-        told?;
     }
-    lost(out, stream.lost())
+    lost(out, stream.lost());
 }
 
 // Ends a listener by its stream.
-fn end_by_stream<G: PoolLedger, R: Wait>(
-    rt: &R,
-    out: &mut String,
-    listener: Listener<'_, G>,
-) -> Result<(), Error> {
+fn end_by_stream<G: PoolLedger, R: Wait>(rt: &R, out: &mut String, listener: Listener<'_, G>) {
     let mut stream = listener.into_stream();
-    let told = ask_stream(rt, out, &mut stream);
-    let ended = released(out, stream.into_released(rt));
-    told?;
-    ended
+    ask_stream(rt, out, &mut stream);
+    released(out, stream.into_released(rt));
 }
 
 // Ends a listener by its `release`.
-fn end_by_release<G: PoolLedger, R: Wait>(
-    rt: &R,
-    out: &mut String,
-    listener: Listener<'_, G>,
-) -> Result<(), Error> {
+fn end_by_release<G: PoolLedger, R: Wait>(rt: &R, out: &mut String, listener: Listener<'_, G>) {
     match release(rt, listener, POLLS) {
-        Poll::Pending => out.push_str(" pending")?,
-        Poll::Ready(Ok(what)) => released(out, what)?,
-        Poll::Ready(Err(error)) => push_error(out, &error)?,
+        Poll::Pending => push(out, " pending"),
+        Poll::Ready(Ok(what)) => released(out, what),
+        Poll::Ready(Err(error)) => {
+            failed(out, &error);
+            drop(error);
+        }
     }
-    Ok(())
 }
 
-fn end<G: PoolLedger, R: Wait>(
-    rt: &R,
-    out: &mut String,
-    listener: Listener<'_, G>,
-    calls: &str,
-) -> Result<(), Error> {
+fn end<G: PoolLedger, R: Wait>(rt: &R, out: &mut String, listener: Listener<'_, G>, calls: &str) {
     if calls.ends_with("stream") {
         return end_by_stream(rt, out, listener);
     }
-    let told = lost(out, listener.lost());
-    let ended = if calls.ends_with("release") {
+    lost(out, listener.lost());
+    if calls.ends_with("release") {
         end_by_release(rt, out, listener)
     } else {
         released(out, listener.into_released(rt))
-    };
-    told?;
-    ended
+    }
 }
 
 fn play<G: PoolLedger, R: Wait>(
@@ -105,14 +84,13 @@ fn play<G: PoolLedger, R: Wait>(
         Ok(listener) => {
             let mut listener = listener;
             let made = make_all(rt, alloc, out, pool, other, &mut listener, calls);
-            let ended = end(rt, out, listener, calls);
-            made?;
-            ended
+            end(rt, out, listener, calls);
+            made
         }
         Err(error) => {
-            let told = push_error(out, &error);
+            failed(out, &error);
             drop(error);
-            told
+            Ok(())
         }
     }
 }
@@ -136,7 +114,7 @@ fn played<G: PoolLedger, R: Wait>(
     let mut out = String::new(alloc);
     let begun = connect(rt, connect_with(alloc, &pool, &mut seat, dial), POLLS);
     play(rt, alloc, &mut out, &pool, &mut other, begun, row.calls)?;
-    history(&mut out, &seat)?;
+    history(&mut out, &seat);
     Ok(out)
 }
 
@@ -156,7 +134,8 @@ where
     for call in calls.split(' ') {
         make(rt, alloc, out, listener, call)?;
     }
-    lost(out, listener.lost())
+    lost(out, listener.lost());
+    Ok(())
 }
 
 // A row over a pool of the listener's own.
@@ -174,9 +153,8 @@ fn played_alone<G: PoolLedger, R: Wait>(
     let mut out = String::new(alloc);
     let mut listener = connect(rt, alone::<G, _>(alloc, URL, blank, dial)?, POLLS)?;
     let made = make_each(rt, alloc, &mut out, &mut listener, row.calls);
-    let ended = released(&mut out, listener.into_released(rt));
+    released(&mut out, listener.into_released(rt));
     made?;
-    ended?;
     Ok(out)
 }
 

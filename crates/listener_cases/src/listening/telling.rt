@@ -1,5 +1,6 @@
-//! The words of answers.
+//! The words of answers. What there is no memory for is missing in what is printed.
 use case_tools::{push_byte, push_error};
+use pg_conn::PgRow;
 use pg_listen::{PoolSeat, Released};
 use pg_listeners::PgNotification;
 use pg_stream::MemoryLink;
@@ -10,112 +11,136 @@ use std::sync::ledger::Ledger;
 const START: &[u8] =
     b"\x00\x00\x00\x65\x00\x03\x00\x00user\x00u\x00database\x00d\x00DateStyle\x00ISO, MDY\x00client_encoding\x00UTF8\x00TimeZone\x00UTC\x00extra_float_digits\x002\x00\x00";
 
+/// A text.
+pub(crate) fn push(out: &mut String, text: &str) {
+    let _ = out.push_str(text);
+}
+
+/// Why a call failed.
+pub(crate) fn failed(out: &mut String, error: &Error) {
+    drop(push_error(out, error));
+}
+
+fn payload(out: &mut String, told: &PgNotification) {
+    push(out, " ");
+    push(out, told.payload());
+}
+
 /// What `try_recv` answers.
-pub(crate) fn tried(
-    out: &mut String,
-    answer: &Poll<Result<Option<PgNotification>, Error>>,
-) -> Result<(), Error> {
+pub(crate) fn tried(out: &mut String, answer: &Poll<Result<Option<PgNotification>, Error>>) {
     match answer {
-        Poll::Pending => out.push_str(" pending")?,
-        Poll::Ready(Ok(Some(told))) => write!(out, " {}", told.payload())?,
-        Poll::Ready(Ok(None)) => out.push_str(" none")?,
-        Poll::Ready(Err(error)) => push_error(out, error)?,
+        Poll::Pending => push(out, " pending"),
+        Poll::Ready(Ok(Some(told))) => payload(out, told),
+        Poll::Ready(Ok(None)) => push(out, " none"),
+        Poll::Ready(Err(error)) => failed(out, error),
     }
-    Ok(())
 }
 
 /// What `recv` answers.
-pub(crate) fn received(
-    out: &mut String,
-    answer: &Poll<Result<PgNotification, Error>>,
-) -> Result<(), Error> {
+pub(crate) fn received(out: &mut String, answer: &Poll<Result<PgNotification, Error>>) {
     match answer {
-        Poll::Pending => out.push_str(" pending")?,
-        Poll::Ready(Ok(told)) => write!(out, " {}", told.payload())?,
-        Poll::Ready(Err(error)) => push_error(out, error)?,
+        Poll::Pending => push(out, " pending"),
+        Poll::Ready(Ok(told)) => payload(out, told),
+        Poll::Ready(Err(error)) => failed(out, error),
     }
-    Ok(())
 }
 
 /// What a stream answers.
-pub(crate) fn streamed(
-    out: &mut String,
-    answer: &Poll<Option<Result<PgNotification, Error>>>,
-) -> Result<(), Error> {
+pub(crate) fn streamed(out: &mut String, answer: &Poll<Option<Result<PgNotification, Error>>>) {
     match answer {
-        Poll::Pending => out.push_str(" pending")?,
-        Poll::Ready(Some(Ok(told))) => write!(out, " {}", told.payload())?,
-        Poll::Ready(None) => out.push_str(" none")?,
-        Poll::Ready(Some(Err(error))) => push_error(out, error)?,
+        Poll::Pending => push(out, " pending"),
+        Poll::Ready(Some(Ok(told))) => payload(out, told),
+        Poll::Ready(None) => push(out, " none"),
+        Poll::Ready(Some(Err(error))) => failed(out, error),
     }
-    Ok(())
 }
 
 /// What a change of the channels answers.
-pub(crate) fn changed(out: &mut String, answer: &Poll<Result<(), Error>>) -> Result<(), Error> {
+pub(crate) fn changed(out: &mut String, answer: &Poll<Result<(), Error>>) {
     match answer {
-        Poll::Pending => out.push_str(" pending")?,
-        Poll::Ready(Ok(())) => out.push_str(" ok")?,
-        Poll::Ready(Err(error)) => push_error(out, error)?,
+        Poll::Pending => push(out, " pending"),
+        Poll::Ready(Ok(())) => push(out, " ok"),
+        Poll::Ready(Err(error)) => failed(out, error),
     }
-    Ok(())
+}
+
+/// How many rows a query has given.
+pub(crate) fn counted(out: &mut String, answer: &Poll<Result<u64, Error>>) {
+    match answer {
+        Poll::Pending => push(out, " pending"),
+        Poll::Ready(Ok(rows)) => {
+            let _ = write!(out, " rows {rows}");
+        }
+        Poll::Ready(Err(error)) => failed(out, error),
+    }
+}
+
+/// Whether a query has given a row.
+pub(crate) fn found(out: &mut String, answer: &Poll<Result<Option<PgRow>, Error>>) {
+    match answer {
+        Poll::Pending => push(out, " pending"),
+        Poll::Ready(Ok(Some(_))) => push(out, " row true"),
+        Poll::Ready(Ok(None)) => push(out, " row false"),
+        Poll::Ready(Err(error)) => failed(out, error),
+    }
+}
+
+/// What was read before.
+pub(crate) fn buffered(out: &mut String, told: &Option<PgNotification>) {
+    push(out, " (");
+    if let Some(told) = told {
+        push(out, told.payload());
+    }
+    push(out, ")");
 }
 
 /// What a link has taken.
-pub(crate) fn taken(out: &mut String, link: &MemoryLink) -> Result<(), Error> {
-    out.push_str(" /")?;
+pub(crate) fn taken(out: &mut String, link: &MemoryLink) {
+    push(out, " /");
     let taken = link.taken();
     let rest = match taken.strip_prefix(START) {
         Some(rest) => {
-            out.push_str(" start-up")?;
+            push(out, " start-up");
             rest
         }
         None => taken,
     };
     if !rest.is_empty() {
-        out.push_str(" ")?;
+        push(out, " ");
     }
     for byte in rest {
-        push_byte(out, *byte)?;
+        drop(push_byte(out, *byte));
     }
-    Ok(())
 }
 
 /// What each of these links has taken.
-pub(crate) fn lost(out: &mut String, links: &[MemoryLink]) -> Result<(), Error> {
+pub(crate) fn lost(out: &mut String, links: &[MemoryLink]) {
     for link in links {
-        taken(out, link)?;
+        taken(out, link);
     }
-    Ok(())
 }
 
 /// What became of the connection.
-pub(crate) fn released(
-    out: &mut String,
-    released: Option<Released<MemoryLink>>,
-) -> Result<(), Error> {
+pub(crate) fn released(out: &mut String, released: Option<Released<MemoryLink>>) {
     match released {
         Some(Released::Closed(conn)) => {
-            out.push_str(" closed")?;
+            push(out, " closed");
             let link = conn.close_hard();
-            let told = taken(out, &link);
+            taken(out, &link);
             drop(link);
-            told?;
         }
         Some(Released::Foreign(conn)) => {
             drop(conn);
-            out.push_str(" foreign")?;
+            push(out, " foreign");
         }
-        Some(Released::Kept) => out.push_str(" kept")?,
-        None => out.push_str(" none held")?,
+        Some(Released::Kept) => push(out, " kept"),
+        None => push(out, " none held"),
     }
-    Ok(())
 }
 
 /// What the pool has noted of a participant.
-pub(crate) fn history<G: Ledger>(out: &mut String, seat: &PoolSeat<G>) -> Result<(), Error> {
+pub(crate) fn history<G: Ledger>(out: &mut String, seat: &PoolSeat<G>) {
     for receipt in seat.receipts() {
-        write!(out, " {:?}", receipt.entry.act)?;
+        let _ = write!(out, " {:?}", receipt.entry.act);
     }
-    Ok(())
 }
