@@ -1,12 +1,10 @@
 -- What the two calls of a description come to.
-use Rattle.std.proofs.Common.{◌≡◌, ◌≤◌, inl, ℕ, List, [], refl, sym, subst, Option, None, Result, Ok, Err}
+use Rattle.std.proofs.Common.{◌≡◌, ◌≤◌, inl, ℕ, [], refl, sym, subst, Option, None, Result, Ok, Err}
 use Rattle.futures.specs.declared.task.Poll.{Poll}
 use Rattle.futures.specs.declared.task.Poll.TheVariants.{Ready, Pending}
 use Rattle.pg_wire.specs.declared.error.Error.{Error}
 use Rattle.pg_wire.specs.declared.error.Error.TheVariants as errors
 use Rattle.pg_stream.specs.Links.{LinkSeen}
-use Rattle.pg_resolve.specs.Nullable.{RefusesColumns}
-use Rattle.pg_rows.specs.Rows.{RowSeen}
 use Rattle.pg_call.specs.Answers.{statement_turn}
 use Rattle.pg_call.specs.declared.answer.Turn.{Turn}
 use Rattle.pg_call.specs.declared.kind.How.TheVariants as hows
@@ -16,7 +14,6 @@ use Rattle.pg_conn.specs.declared.statement.PgStatement.{PgStatement}
 use Rattle.pg_pool.specs.Seats.{SeatSeen}
 use Rattle.pg_learning.specs.declared.learnt.Learnt.{Learnt}
 use Rattle.pg_describe.specs.Describing.{FitsNulls, HearsTurn, TellsTurn}
-use Rattle.pg_describe.specs.Flags.{RefusesFlags}
 use Rattle.pg_describe.specs.declared.description.Describe.{Describe}
 use Rattle.pg_reconnect.specs.Failing.{BesideSeen}
 use Rattle.pg_reconnect.specs.Hearing.{HearingOf, learnt_of}
@@ -57,21 +54,14 @@ notes_told A most s learnt turn (Err e) (Ok p, is, wanting) n = subst (λ (x : E
 notes_told A most s learnt turn (Err e) (Err f, is, same) n =
     subst (λ (r : Result PgStatement Error). NotesBy A most s (Ready r)) (sym same) (subst (λ (t : Turn). NotesTurn A most s (Ready t)) is n)
 
-flags_open : (A : Type 0) (most : ℕ) (s : SeatSeen) (rows : List RowSeen) (e : Error) → RefusesFlags rows e → NotesClosed A most s e
-flags_open A most s rows (errors.PoolClosed place) r = absurd r
-flags_open A most s rows _ r = tt
-
-pub columns_open : (A : Type 0) (most columns : ℕ) (s : SeatSeen) (e : Error) → RefusesColumns columns e → NotesClosed A most s e
-columns_open A most columns s (errors.PoolClosed place) r = absurd r
-columns_open A most columns s _ r = tt
-
+-- no row without a truth value is told as a closed pool
 pub notes_heard : (A : Type 0) (most : ℕ) (s : SeatSeen) (p : PgStatement) (turn : Poll Turn) (answer : Poll (Result Describe Error)) (told : Option PgStatement) → HearsTurn p turn answer told → NotesTurn A most s turn → NotesBy A most s answer
 notes_heard A most s p turn answer told (Pending, is, (waits, kept)) n = subst (λ (x : Poll (Result Describe Error)). NotesBy A most s x) (sym waits) tt
 notes_heard A most s p turn answer told (Ready (Err e), is, (ends, none)) n =
     subst (λ (x : Poll (Result Describe Error)). NotesBy A most s x) (sym ends) (subst (λ (t : Poll Turn). NotesTurn A most s t) is n)
 notes_heard A most s p turn answer told (Ready (Ok rows), is, (none, (Ok d, ends, tells))) n = subst (λ (x : Poll (Result Describe Error)). NotesBy A most s x) (sym ends) tt
-notes_heard A most s p turn answer told (Ready (Ok rows), is, (none, (Err e, ends, tells))) n =
-    subst (λ (x : Poll (Result Describe Error)). NotesBy A most s x) (sym ends) (flags_open A most s rows e tells)
+notes_heard A most s p turn answer told (Ready (Ok rows), is, (none, (Err (errors.PoolClosed place), ends, tells))) n = absurd tells
+notes_heard A most s p turn answer told (Ready (Ok rows), is, (none, (Err _, ends, tells))) n = subst (λ (x : Poll (Result Describe Error)). NotesBy A most s x) (sym ends) tt
 
 -- ---- the preparation
 

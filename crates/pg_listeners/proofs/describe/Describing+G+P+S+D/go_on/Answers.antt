@@ -1,8 +1,8 @@
-use Rattle.std.proofs.Common.{refl, sym, ◌∙◌, inl, inr}
+use Rattle.std.proofs.Common.{refl, sym, ◌∙◌}
 use Rattle.std.proofs.Math.Nat.{le_refl}
 use Rattle.pg_reconnect.proofs.HearingLaws.{hears_nothing}
 use Rattle.pg_listeners.specs.Listeners.{beside_of}
-use Rattle.pg_listeners.proofs.DescribingLaws.{columns_open, tells_at_once}
+use Rattle.pg_listeners.proofs.DescribingLaws.{tells_at_once}
 use Rattle.pg_listeners.proofs.describe.Describing+G+P+S+D.go_on.Goals as goal
 
 pub returns-in-Ok-None : goal.returns-in-Ok-None
@@ -20,6 +20,3 @@ returns-in-Ok-None g c = record {
 
 pub returns-in-Err-clause-hears : goal.returns-in-Err-clause-hears
 returns-in-Err-clause-hears g c = hears_nothing g.D.L.Link.seen _ _ refl
-
-pub returns-in-Err-clause-closed : goal.returns-in-Err-clause-closed
-returns-in-Err-clause-closed g c = columns_open _ _ _ _ c.in-Err.e c.in-Err.ensures.err
