@@ -140,7 +140,7 @@ abbrev pub BeginsAlone : {D A : Type 0} → ℕ → Result ConnectOptions Error 
 BeginsAlone {D} {A} name options dial listener is_over = (read : ConnectOptions) × (l : ListenerOf PoolSeen SeatSeen D A) × (options ≡ Ok read) × (listener ≡ Some l) × StandsAlone name read dial l × (is_over ≡ false)
 
 -- it is handed on
-abbrev pub HandsOn : {P S D A : Type 0} → Option (ListenerOf P S D A) → Option (ListenerOf P S D A) → Poll (Result (ListenerOf P S D A) Error) → Type 0
+abbrev pub HandsOn : {W : Type 0} → Option W → Option W → Poll (Result W Error) → Type 0
 HandsOn None after answer = ⊥
 HandsOn (Some a) after answer = (answer ≡ Ready (Ok a)) × (after ≡ None)
 

@@ -13,35 +13,34 @@ use std::sync::Wait;
 
 /// The state of `PgListener::listen`, `listen_all`, `unlisten` and `unlisten_all`. It does nothing before its first poll; dropped before its end it leaves
 /// the channels as they stand, and a statement that was sent is given up.
-pub struct ChangeChannels<
-    'l,
-    G: PoolLedger,
-    P: PoolHolder<G, D::L>,
-    S: SeatHolder<Seat = PoolSeat<G>>,
-    D: Dial,
-    C = ChannelChange,
-> {
-    listener: &'l mut PgListener<G, P, S, D>,
+pub type ChangeChannels<'l, G, P, S, D> = Changing<'l, PgListener<G, P, S, D>, ChannelChange>;
+
+/// That state, over whatever listens.
+pub struct Changing<'l, W, C> {
+    listener: &'l mut W,
     change: Option<C>,
     is_over: bool,
 }
 
-impl<
-    G: PoolLedger,
-    P: PoolHolder<G, D::L>,
-    S: SeatHolder<Seat = PoolSeat<G>>,
-    D: Dial,
-    C: Drop,
-> Drop for ChangeChannels<'_, G, P, S, D, C> {
+impl<W, C: Drop> Drop for Changing<'_, W, C> {
     fn drop(self)
         ensures { self.exit.0.now ≡ self.entry.listener.now }
     {
-        let ChangeChannels {
+        let Changing {
             listener: _,
             change,
             is_over: _,
         } = self;
         drop(change);
+    }
+}
+
+impl<W, C> Changing<'_, W, C> {
+    /// Whether a poll has ended the call.
+    pub fn is_finished(&self) -> bool
+        ensures { result ≡ self.now.is_over }
+    {
+        self.is_over
     }
 }
 
@@ -57,7 +56,7 @@ impl<G: PoolLedger, P: PoolHolder<G, D::L>, S: SeatHolder<Seat = PoolSeat<G>>, D
         ensures change { result.change ≡ Some change }
         ensures over { result.is_over ≡ false }
     {
-        ChangeChannels {
+        Changing {
             listener: self,
             change: Some(change),
             is_over: false,
@@ -114,13 +113,6 @@ impl<
 where
     D::L: Drop,
 {
-    /// Whether a poll has ended the call.
-    pub fn is_finished(&self) -> bool
-        ensures { result ≡ self.now.is_over }
-    {
-        self.is_over
-    }
-
     /// Moves the call on, by at most 256 calls of the link.
     pub fn poll<R: Wait>(&mut self, rt: &R) -> Poll<Result<(), Error>>
         requires over { self.old.is_over ≡ false }

@@ -1,9 +1,8 @@
 //! How a listener begins.
-ghost use Rattle.std.specs.Prelude.{◌≡◌, false, None, Some, IsSome, is_some};
+ghost use Rattle.std.specs.Prelude.{◌≡◌, true, false, None, Some, IsSome, is_some};
 ghost use Rattle.pg_reconnect.specs.Hearing.{fresh_hearing};
 ghost use Rattle.pg_listeners.specs.Listeners.{Connects, HandsOn, LetsGo, beside_of, holds, is_answered};
 
-use crate::answering::is_answered;
 use crate::{PgListener, PoolHolder, SeatHolder};
 use pg_conn::Dial;
 use pg_listen::{PoolLedger, PoolSeat, Released};
@@ -12,13 +11,11 @@ use std::alloc::Global;
 use std::sync::Wait;
 
 /// The state of `connect_with`. It must be spent, by `into_released`.
-pub struct Connect<
-    G: PoolLedger,
-    P: PoolHolder<G, D::L>,
-    S: SeatHolder<Seat = PoolSeat<G>>,
-    D: Dial,
-> {
-    listener: Option<PgListener<G, P, S, D>>,
+pub type Connect<G, P, S, D> = Connecting<PgListener<G, P, S, D>>;
+
+/// That state, over whatever listens.
+pub struct Connecting<W> {
+    listener: Option<W>,
     is_over: bool,
 }
 
@@ -36,16 +33,11 @@ pub fn connect_with<
     Connect::over(PgListener::over(alloc, pool, seat, dial, false))
 }
 
-impl<G: PoolLedger, P: PoolHolder<G, D::L>, S: SeatHolder<Seat = PoolSeat<G>>, D: Dial> Connect<
-    G,
-    P,
-    S,
-    D,
-> {
-    pub(crate) fn over(listener: PgListener<G, P, S, D>) -> Self
+impl<W> Connecting<W> {
+    pub(crate) fn over(listener: W) -> Self
         ensures { result ≡ record { listener = Some listener; is_over = false } }
     {
-        Connect {
+        Connecting {
             listener: Some(listener),
             is_over: false,
         }
@@ -58,6 +50,26 @@ impl<G: PoolLedger, P: PoolHolder<G, D::L>, S: SeatHolder<Seat = PoolSeat<G>>, D
         self.is_over
     }
 
+    // The listener is handed on, and the call is over.
+    fn hand_on(&mut self) -> Poll<Result<W, Error>>
+        requires { IsSome self.old.listener }
+        ensures hands { HandsOn self.old.listener self.new.listener result }
+        ensures over { self.new.is_over ≡ true }
+    {
+        self.is_over = true;
+        match self.listener.take() {
+            Some(listener) => Poll::Ready(Ok(listener)),
+            None => unreachable!(),
+        }
+    }
+}
+
+impl<G: PoolLedger, P: PoolHolder<G, D::L>, S: SeatHolder<Seat = PoolSeat<G>>, D: Dial> Connect<
+    G,
+    P,
+    S,
+    D,
+> {
     /// Gives it up: lets a connection go as it stands, or gives the leave to make one back. There is no answer exactly where no connection is held.
     pub fn into_released<R: Wait>(self, rt: &R) -> Option<Released<D::L>>
     where
@@ -68,7 +80,7 @@ impl<G: PoolLedger, P: PoolHolder<G, D::L>, S: SeatHolder<Seat = PoolSeat<G>>, D
         ensures some { is_some result ≡ holds self.listener }
         ensures releases { LetsGo G.most self.listener result }
     {
-        let Connect {
+        let Connecting {
             listener,
             is_over: _,
         } = self;
@@ -88,32 +100,6 @@ impl<G: PoolLedger, P: PoolHolder<G, D::L>, S: SeatHolder<Seat = PoolSeat<G>>, D
 where
     D::L: Drop,
 {
-    fn hand_on(&mut self) -> Poll<Result<PgListener<G, P, S, D>, Error>>
-        requires { IsSome self.old.listener }
-        ensures { HandsOn self.old.listener self.new.listener result }
-    {
-        match self.listener.take() {
-            Some(listener) => Poll::Ready(Ok(listener)),
-            None => unreachable!(),
-        }
-    }
-
-    // One poll, but for what is noted of its end.
-    fn poll_on<R: Wait>(&mut self, rt: &R) -> Poll<Result<PgListener<G, P, S, D>, Error>>
-        requires { IsSome self.old.listener }
-        ensures { Connects D.L.seen (beside_of P.pool S.seat D.seen G.most) self.old.listener self.new.listener result }
-    {
-        let Some(listener) = &mut self.listener else {
-            unreachable!()
-        };
-        let mut left = 256;
-        match listener.poll_connect(rt, &mut left) {
-            Poll::Pending => Poll::Pending,
-            Poll::Ready(Err(e)) => Poll::Ready(Err(e)),
-            Poll::Ready(Ok(())) => self.hand_on(),
-        }
-    }
-
     /// Moves the call on, by at most 256 calls of the link.
     pub fn poll<R: Wait>(&mut self, rt: &R) -> Poll<Result<PgListener<G, P, S, D>, Error>>
         requires over { self.old.is_over ≡ false }
@@ -121,8 +107,17 @@ where
         ensures over { self.new.is_over ≡ is_answered result }
         ensures connects { Connects D.L.seen (beside_of P.pool S.seat D.seen G.most) self.old.listener self.new.listener result }
     {
-        let answer = self.poll_on(rt);
-        self.is_over = is_answered(&answer);
-        answer
+        let Some(listener) = &mut self.listener else {
+            unreachable!()
+        };
+        let mut left = 256;
+        match listener.poll_connect(rt, &mut left) {
+            Poll::Pending => Poll::Pending,
+            Poll::Ready(Err(e)) => {
+                self.is_over = true;
+                Poll::Ready(Err(e))
+            }
+            Poll::Ready(Ok(())) => self.hand_on(),
+        }
     }
 }

@@ -22,34 +22,27 @@ use std::sync::Wait;
 
 /// The state of `PgListener::describe`, which is made of two calls. It does nothing before its first poll. Dropped before its end it leaves the listener as it
 /// stands, and what was read of notifications is buffered.
-pub struct Describing<
+pub type Describing<'l, G, P, S, D> = DescribingBy<
     'l,
-    G: PoolLedger,
-    P: PoolHolder<G, D::L>,
-    S: SeatHolder<Seat = PoolSeat<G>>,
-    D: Dial,
-    Q = Request,
-    T = PgStatement,
-> {
-    listener: &'l mut PgListener<G, P, S, D>,
+    PgListener<G, P, S, D>,
+    Request,
+    PgStatement,
+>;
+
+/// That state, over whatever listens.
+pub struct DescribingBy<'l, W, Q, T> {
+    listener: &'l mut W,
     request: Option<Q>,
     // The statement, once it is prepared.
     told: Option<T>,
     is_over: bool,
 }
 
-impl<
-    G: PoolLedger,
-    P: PoolHolder<G, D::L>,
-    S: SeatHolder<Seat = PoolSeat<G>>,
-    D: Dial,
-    Q: Drop,
-    T: Drop,
-> Drop for Describing<'_, G, P, S, D, Q, T> {
+impl<W, Q: Drop, T: Drop> Drop for DescribingBy<'_, W, Q, T> {
     fn drop(self)
         ensures { self.exit.0.now ≡ self.entry.listener.now }
     {
-        let Describing {
+        let DescribingBy {
             listener: _,
             request,
             told,
@@ -57,6 +50,15 @@ impl<
         } = self;
         drop(request);
         drop(told);
+    }
+}
+
+impl<W, Q, T> DescribingBy<'_, W, Q, T> {
+    /// Whether a poll has ended the call.
+    pub fn is_finished(&self) -> bool
+        ensures { result ≡ self.now.is_over }
+    {
+        self.is_over
     }
 }
 
@@ -78,7 +80,7 @@ impl<G: PoolLedger, P: PoolHolder<G, D::L>, S: SeatHolder<Seat = PoolSeat<G>>, D
     {
         let alloc = self.allocator();
         let request = prepare_request(alloc, Preparation::untyped(alloc, sql));
-        Describing {
+        DescribingBy {
             listener: self,
             request: Some(request),
             told: None,
@@ -97,13 +99,6 @@ impl<G: PoolLedger, P: PoolHolder<G, D::L>, S: SeatHolder<Seat = PoolSeat<G>>, D
 where
     D::L: Drop,
 {
-    /// Whether a poll has ended the call.
-    pub fn is_finished(&self) -> bool
-        ensures { result ≡ self.now.is_over }
-    {
-        self.is_over
-    }
-
     // One poll of the query on nulls, of a statement that is prepared.
     fn poll_nulls<R: Wait>(
         &mut self,

@@ -19,35 +19,34 @@ use std::sync::Wait;
 
 /// The state of `PgListener::fetch_many`. It does nothing before its first poll. Dropped before its end it leaves the listener as it stands, and what was
 /// read of notifications is buffered.
-pub struct FetchMany<
-    'l,
-    G: PoolLedger,
-    P: PoolHolder<G, D::L>,
-    S: SeatHolder<Seat = PoolSeat<G>>,
-    D: Dial,
-    Q = Request,
-> {
-    listener: &'l mut PgListener<G, P, S, D>,
+pub type FetchMany<'l, G, P, S, D> = FetchingMany<'l, PgListener<G, P, S, D>, Request>;
+
+/// That state, over whatever listens.
+pub struct FetchingMany<'l, W, Q> {
+    listener: &'l mut W,
     request: Option<Q>,
     is_over: bool,
 }
 
-impl<
-    G: PoolLedger,
-    P: PoolHolder<G, D::L>,
-    S: SeatHolder<Seat = PoolSeat<G>>,
-    D: Dial,
-    Q: Drop,
-> Drop for FetchMany<'_, G, P, S, D, Q> {
+impl<W, Q: Drop> Drop for FetchingMany<'_, W, Q> {
     fn drop(self)
         ensures { self.exit.0.now ≡ self.entry.listener.now }
     {
-        let FetchMany {
+        let FetchingMany {
             listener: _,
             request,
             is_over: _,
         } = self;
         drop(request);
+    }
+}
+
+impl<W, Q> FetchingMany<'_, W, Q> {
+    /// Whether a poll has ended the call.
+    pub fn is_finished(&self) -> bool
+        ensures { result ≡ self.now.is_over }
+    {
+        self.is_over
     }
 }
 
@@ -65,7 +64,7 @@ impl<G: PoolLedger, P: PoolHolder<G, D::L>, S: SeatHolder<Seat = PoolSeat<G>>, D
         ensures request { result.request ≡ Some (Request.FetchMany query) }
         ensures over { result.is_over ≡ false }
     {
-        FetchMany {
+        FetchingMany {
             listener: self,
             request: Some(Request::FetchMany(query)),
             is_over: false,
@@ -83,13 +82,6 @@ impl<G: PoolLedger, P: PoolHolder<G, D::L>, S: SeatHolder<Seat = PoolSeat<G>>, D
 where
     D::L: Drop,
 {
-    /// Whether a poll has ended the call.
-    pub fn is_finished(&self) -> bool
-        ensures { result ≡ self.now.is_over }
-    {
-        self.is_over
-    }
-
     /// Moves the call on to its next item, by at most 256 calls of the link.
     pub fn poll_next<R: Wait>(
         &mut self,

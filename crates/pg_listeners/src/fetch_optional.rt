@@ -18,35 +18,34 @@ use std::sync::Wait;
 
 /// The state of `PgListener::fetch_optional`. It does nothing before its first poll. Dropped before its end it leaves the listener as it stands, and what was
 /// read of notifications is buffered.
-pub struct FetchOptional<
-    'l,
-    G: PoolLedger,
-    P: PoolHolder<G, D::L>,
-    S: SeatHolder<Seat = PoolSeat<G>>,
-    D: Dial,
-    Q = Request,
-> {
-    listener: &'l mut PgListener<G, P, S, D>,
+pub type FetchOptional<'l, G, P, S, D> = FetchingOptional<'l, PgListener<G, P, S, D>, Request>;
+
+/// That state, over whatever listens.
+pub struct FetchingOptional<'l, W, Q> {
+    listener: &'l mut W,
     request: Option<Q>,
     is_over: bool,
 }
 
-impl<
-    G: PoolLedger,
-    P: PoolHolder<G, D::L>,
-    S: SeatHolder<Seat = PoolSeat<G>>,
-    D: Dial,
-    Q: Drop,
-> Drop for FetchOptional<'_, G, P, S, D, Q> {
+impl<W, Q: Drop> Drop for FetchingOptional<'_, W, Q> {
     fn drop(self)
         ensures { self.exit.0.now ≡ self.entry.listener.now }
     {
-        let FetchOptional {
+        let FetchingOptional {
             listener: _,
             request,
             is_over: _,
         } = self;
         drop(request);
+    }
+}
+
+impl<W, Q> FetchingOptional<'_, W, Q> {
+    /// Whether a poll has ended the call.
+    pub fn is_finished(&self) -> bool
+        ensures { result ≡ self.now.is_over }
+    {
+        self.is_over
     }
 }
 
@@ -64,7 +63,7 @@ impl<G: PoolLedger, P: PoolHolder<G, D::L>, S: SeatHolder<Seat = PoolSeat<G>>, D
         ensures request { result.request ≡ Some (Request.FetchOptional query) }
         ensures over { result.is_over ≡ false }
     {
-        FetchOptional {
+        FetchingOptional {
             listener: self,
             request: Some(Request::FetchOptional(query)),
             is_over: false,
@@ -81,13 +80,6 @@ impl<
 where
     D::L: Drop,
 {
-    /// Whether a poll has ended the call.
-    pub fn is_finished(&self) -> bool
-        ensures { result ≡ self.now.is_over }
-    {
-        self.is_over
-    }
-
     /// Moves the call on, by at most 256 calls of the link.
     pub fn poll<R: Wait>(&mut self, rt: &R) -> Poll<Result<Option<PgRow>, Error>>
         requires over { self.old.is_over ≡ false }

@@ -18,35 +18,34 @@ use std::sync::Wait;
 
 /// The state of `PgListener::prepare_with`. It does nothing before its first poll. Dropped before its end it leaves the listener as it stands, and what was
 /// read of notifications is buffered.
-pub struct PrepareWith<
-    'l,
-    G: PoolLedger,
-    P: PoolHolder<G, D::L>,
-    S: SeatHolder<Seat = PoolSeat<G>>,
-    D: Dial,
-    Q = Request,
-> {
-    listener: &'l mut PgListener<G, P, S, D>,
+pub type PrepareWith<'l, G, P, S, D> = Preparing<'l, PgListener<G, P, S, D>, Request>;
+
+/// That state, over whatever listens.
+pub struct Preparing<'l, W, Q> {
+    listener: &'l mut W,
     request: Option<Q>,
     is_over: bool,
 }
 
-impl<
-    G: PoolLedger,
-    P: PoolHolder<G, D::L>,
-    S: SeatHolder<Seat = PoolSeat<G>>,
-    D: Dial,
-    Q: Drop,
-> Drop for PrepareWith<'_, G, P, S, D, Q> {
+impl<W, Q: Drop> Drop for Preparing<'_, W, Q> {
     fn drop(self)
         ensures { self.exit.0.now ≡ self.entry.listener.now }
     {
-        let PrepareWith {
+        let Preparing {
             listener: _,
             request,
             is_over: _,
         } = self;
         drop(request);
+    }
+}
+
+impl<W, Q> Preparing<'_, W, Q> {
+    /// Whether a poll has ended the call.
+    pub fn is_finished(&self) -> bool
+        ensures { result ≡ self.now.is_over }
+    {
+        self.is_over
     }
 }
 
@@ -66,7 +65,7 @@ impl<G: PoolLedger, P: PoolHolder<G, D::L>, S: SeatHolder<Seat = PoolSeat<G>>, D
         ensures over { result.is_over ≡ false }
     {
         let request = prepare_request(self.allocator(), preparation);
-        PrepareWith {
+        Preparing {
             listener: self,
             request: Some(request),
             is_over: false,
@@ -84,13 +83,6 @@ impl<G: PoolLedger, P: PoolHolder<G, D::L>, S: SeatHolder<Seat = PoolSeat<G>>, D
 where
     D::L: Drop,
 {
-    /// Whether a poll has ended the call.
-    pub fn is_finished(&self) -> bool
-        ensures { result ≡ self.now.is_over }
-    {
-        self.is_over
-    }
-
     /// Moves the call on, by at most 256 calls of the link.
     pub fn poll<R: Wait>(&mut self, rt: &R) -> Poll<Result<PgStatement, Error>>
         requires over { self.old.is_over ≡ false }

@@ -15,50 +15,60 @@ use pg_wire::{Error, Poll};
 use std::sync::Wait;
 
 /// The state of `PgListener::try_recv`. Dropped before its end it leaves the listener as it stands, and what was read is buffered.
-pub struct TryRecv<
-    'l,
-    G: PoolLedger,
-    P: PoolHolder<G, D::L>,
-    S: SeatHolder<Seat = PoolSeat<G>>,
-    D: Dial,
-> {
-    listener: &'l mut PgListener<G, P, S, D>,
+pub type TryRecv<'l, G, P, S, D> = TryReceiving<'l, PgListener<G, P, S, D>>;
+
+/// That state, over whatever listens.
+pub struct TryReceiving<'l, W> {
+    listener: &'l mut W,
     is_over: bool,
 }
 
 /// The state of `PgListener::recv`. Dropped before its end it leaves the listener as it stands, and what was read is buffered.
-pub struct Recv<
-    'l,
-    G: PoolLedger,
-    P: PoolHolder<G, D::L>,
-    S: SeatHolder<Seat = PoolSeat<G>>,
-    D: Dial,
-> {
-    listener: &'l mut PgListener<G, P, S, D>,
+pub type Recv<'l, G, P, S, D> = Receiving<'l, PgListener<G, P, S, D>>;
+
+/// That state, over whatever listens.
+pub struct Receiving<'l, W> {
+    listener: &'l mut W,
     is_over: bool,
 }
 
-impl<G: PoolLedger, P: PoolHolder<G, D::L>, S: SeatHolder<Seat = PoolSeat<G>>, D: Dial> Drop
-    for TryRecv<'_, G, P, S, D> {
+impl<W> Drop for TryReceiving<'_, W> {
     fn drop(self)
         ensures { self.exit.0.now ≡ self.entry.listener.now }
     {
-        let TryRecv {
+        let TryReceiving {
             listener: _,
             is_over: _,
         } = self;
     }
 }
 
-impl<G: PoolLedger, P: PoolHolder<G, D::L>, S: SeatHolder<Seat = PoolSeat<G>>, D: Dial> Drop
-    for Recv<'_, G, P, S, D> {
+impl<W> TryReceiving<'_, W> {
+    /// Whether a poll has ended the call.
+    pub fn is_finished(&self) -> bool
+        ensures { result ≡ self.now.is_over }
+    {
+        self.is_over
+    }
+}
+
+impl<W> Drop for Receiving<'_, W> {
     fn drop(self)
         ensures { self.exit.0.now ≡ self.entry.listener.now }
     {
-        let Recv {
+        let Receiving {
             listener: _,
             is_over: _,
         } = self;
+    }
+}
+
+impl<W> Receiving<'_, W> {
+    /// Whether a poll has ended the call.
+    pub fn is_finished(&self) -> bool
+        ensures { result ≡ self.now.is_over }
+    {
+        self.is_over
     }
 }
 
@@ -75,7 +85,7 @@ impl<G: PoolLedger, P: PoolHolder<G, D::L>, S: SeatHolder<Seat = PoolSeat<G>>, D
         ensures over { result.is_over ≡ false }
     {
         self.begin_recv();
-        TryRecv {
+        TryReceiving {
             listener: self,
             is_over: false,
         }
@@ -88,7 +98,7 @@ impl<G: PoolLedger, P: PoolHolder<G, D::L>, S: SeatHolder<Seat = PoolSeat<G>>, D
         ensures over { result.is_over ≡ false }
     {
         self.begin_recv();
-        Recv {
+        Receiving {
             listener: self,
             is_over: false,
         }
@@ -105,13 +115,6 @@ impl<G: PoolLedger, P: PoolHolder<G, D::L>, S: SeatHolder<Seat = PoolSeat<G>>, D
 where
     D::L: Drop,
 {
-    /// Whether a poll has ended the call.
-    pub fn is_finished(&self) -> bool
-        ensures { result ≡ self.now.is_over }
-    {
-        self.is_over
-    }
-
     /// Moves the call on, by at most 256 calls of links. `None` tells that the connection was lost in this call.
     pub fn poll<R: Wait>(&mut self, rt: &R) -> Poll<Result<Option<PgNotification>, Error>>
         requires over { self.old.is_over ≡ false }
@@ -143,13 +146,6 @@ impl<G: PoolLedger, P: PoolHolder<G, D::L>, S: SeatHolder<Seat = PoolSeat<G>>, D
 where
     D::L: Drop,
 {
-    /// Whether a poll has ended the call.
-    pub fn is_finished(&self) -> bool
-        ensures { result ≡ self.now.is_over }
-    {
-        self.is_over
-    }
-
     /// Moves the call on, by at most 256 calls of links.
     pub fn poll<R: Wait>(&mut self, rt: &R) -> Poll<Result<PgNotification, Error>>
         requires over { self.old.is_over ≡ false }

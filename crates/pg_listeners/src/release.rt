@@ -2,7 +2,6 @@
 ghost use Rattle.std.specs.Prelude.{◌≡◌, true, false, None, Some, IsSome, is_some};
 ghost use Rattle.pg_listeners.specs.Listeners.{LetsGo, Releases, beside_of, goes_on_in, holds, is_answered};
 
-use crate::answering::is_answered;
 use crate::{ChannelChange, PgListener, PoolHolder, SeatHolder};
 use pg_conn::Dial;
 use pg_listen::{PoolLedger, PoolSeat, Released};
@@ -10,15 +9,35 @@ use pg_wire::{Error, Poll};
 use std::sync::Wait;
 
 /// The state of `PgListener::release`. It does nothing before its first poll, and must be spent, by `into_listener`.
-pub struct Release<
-    G: PoolLedger,
-    P: PoolHolder<G, D::L>,
-    S: SeatHolder<Seat = PoolSeat<G>>,
-    D: Dial,
-> {
-    listener: Option<PgListener<G, P, S, D>>,
+pub type Release<G, P, S, D> = Releasing<PgListener<G, P, S, D>>;
+
+/// That state, over whatever listens.
+pub struct Releasing<W> {
+    listener: Option<W>,
     change: Option<ChannelChange>,
     is_over: bool,
+}
+
+impl<W> Releasing<W> {
+    /// The listener, which is gone exactly where a poll has answered Ok.
+    pub fn into_listener(self) -> Option<W>
+        ensures { result ≡ self.listener }
+    {
+        let Releasing {
+            listener,
+            change,
+            is_over: _,
+        } = self;
+        drop(change);
+        listener
+    }
+
+    /// Whether a poll has ended the call.
+    pub fn is_finished(&self) -> bool
+        ensures { result ≡ self.now.is_over }
+    {
+        self.is_over
+    }
 }
 
 impl<G: PoolLedger, P: PoolHolder<G, D::L>, S: SeatHolder<Seat = PoolSeat<G>>, D: Dial> PgListener<
@@ -31,31 +50,11 @@ impl<G: PoolLedger, P: PoolHolder<G, D::L>, S: SeatHolder<Seat = PoolSeat<G>>, D
     pub fn release(self) -> Release<G, P, S, D>
         ensures { result ≡ record { listener = Some self; change = Some ChannelChange.UnlistenAll; is_over = false } }
     {
-        Release {
+        Releasing {
             listener: Some(self),
             change: Some(ChannelChange::UnlistenAll),
             is_over: false,
         }
-    }
-}
-
-impl<G: PoolLedger, P: PoolHolder<G, D::L>, S: SeatHolder<Seat = PoolSeat<G>>, D: Dial> Release<
-    G,
-    P,
-    S,
-    D,
-> {
-    /// The listener, which is gone exactly where a poll has answered Ok.
-    pub fn into_listener(self) -> Option<PgListener<G, P, S, D>>
-        ensures { result ≡ self.listener }
-    {
-        let Release {
-            listener,
-            change,
-            is_over: _,
-        } = self;
-        drop(change);
-        listener
     }
 }
 
@@ -81,9 +80,11 @@ where
         }
     }
 
-    // One poll, but for what is noted of its end.
-    fn poll_on<R: Wait>(&mut self, rt: &R) -> Poll<Result<Option<Released<D::L>>, Error>>
+    /// Moves the call on, by at most 256 calls of the link. It answers what became of the connection, or `None` where none was held.
+    pub fn poll<R: Wait>(&mut self, rt: &R) -> Poll<Result<Option<Released<D::L>>, Error>>
+        requires over { self.old.is_over ≡ false }
         requires goes { goes_on_in self.old.change self.old.listener ≡ true }
+        ensures over { self.new.is_over ≡ is_answered result }
         ensures releases { Releases D.L.seen (beside_of P.pool S.seat D.seen G.most) G.most self.old.listener self.new.listener result }
         ensures begun { self.new.change ≡ None }
     {
@@ -93,28 +94,14 @@ where
         let mut left = 256;
         match listener.poll_asking(rt, &mut self.change, &mut left) {
             Poll::Pending => Poll::Pending,
-            Poll::Ready(Err(e)) => Poll::Ready(Err(e)),
-            Poll::Ready(Ok(())) => Poll::Ready(Ok(self.let_go(rt))),
+            Poll::Ready(Err(e)) => {
+                self.is_over = true;
+                Poll::Ready(Err(e))
+            }
+            Poll::Ready(Ok(())) => {
+                self.is_over = true;
+                Poll::Ready(Ok(self.let_go(rt)))
+            }
         }
-    }
-
-    /// Whether a poll has ended the call.
-    pub fn is_finished(&self) -> bool
-        ensures { result ≡ self.now.is_over }
-    {
-        self.is_over
-    }
-
-    /// Moves the call on, by at most 256 calls of the link. It answers what became of the connection, or `None` where none was held.
-    pub fn poll<R: Wait>(&mut self, rt: &R) -> Poll<Result<Option<Released<D::L>>, Error>>
-        requires over { self.old.is_over ≡ false }
-        requires goes { goes_on_in self.old.change self.old.listener ≡ true }
-        ensures over { self.new.is_over ≡ is_answered result }
-        ensures releases { Releases D.L.seen (beside_of P.pool S.seat D.seen G.most) G.most self.old.listener self.new.listener result }
-        ensures begun { self.new.change ≡ None }
-    {
-        let answer = self.poll_on(rt);
-        self.is_over = is_answered(&answer);
-        answer
     }
 }

@@ -3,7 +3,7 @@ use Rattle.pg_reconnect.specs.Failing.{Fails}
 use Rattle.pg_reconnect.specs.Waiting.{WaitsBy}
 use Rattle.pg_listeners.specs.Listeners.{FailsWithin, WaitsOrSpent, beside_of}
 use Rattle.pg_listeners.proofs.AnswerLaws.{on_failed, on_pending}
-use Rattle.pg_listeners.proofs.receive.Recv.poll.Goals as goal
+use Rattle.pg_listeners.proofs.receive.Recv+G+P+S+D.poll.Goals as goal
 
 pub returns : goal.returns
 returns g c =

@@ -1,5 +1,5 @@
 use Rattle.std.proofs.Common.{refl}
-use Rattle.pg_listeners.proofs.receive.TryRecv.poll.Goals as goal
+use Rattle.pg_listeners.proofs.receive.TryRecv+G+P+S+D.poll.Goals as goal
 
 pub returns : goal.returns
 returns g c =

@@ -1,11 +1,12 @@
-use Rattle.std.proofs.Common.{◌∙◌}
+use Rattle.std.proofs.Common.{◌∙◌, refl}
 use Rattle.pg_listeners.proofs.ReleasingLaws.{releases_last, releases_later, releases_none}
-use Rattle.pg_listeners.proofs.release.Release.poll_on.Goals as goal
+use Rattle.pg_listeners.proofs.release.Release+G+P+S+D.poll.Goals as goal
 
 pub returns-in-Ready-Ok : goal.returns-in-Ready-Ok
 returns-in-Ready-Ok g c =
     let gone = c.let_go.ensures in
     record {
+      over = gone.rest.1;
       releases = releases_last g.D.L.Link.seen _ _ _ _ c.in-Some.listener c.poll_asking.new.self c.let_go.result c.in-Some.is gone.gone c.poll_asking.ensures.hears gone.some gone.released;
       begun = gone.rest.0 ∙ c.poll_asking.ensures.begun;
     }
@@ -14,6 +15,7 @@ pub returns-in-Pending : goal.returns-in-Pending
 returns-in-Pending g c =
     let told = c.in-Pending.ensures in
     record {
+      over = c.requires.over;
       releases = releases_later g.D.L.Link.seen _ _ c.poll_asking.new.left _ c.in-Some.listener c.poll_asking.new.self c.in-Some.is told.hears told.changes.2 told.causes;
       begun = told.begun;
     }
@@ -22,6 +24,7 @@ pub returns-in-Ready-Err : goal.returns-in-Ready-Err
 returns-in-Ready-Err g c =
     let told = c.in-Ready-Err.ensures in
     record {
+      over = refl;
       releases = releases_none g.D.L.Link.seen _ _ c.poll_asking.new.left _ c.in-Some.listener c.poll_asking.new.self c.in-Ready-Err.e c.in-Some.is told.hears (rw c.in-Ready-Err.field-0-is at told.causes);
       begun = told.begun;
     }
