@@ -6,6 +6,7 @@ pub mod Courses
 pub mod Migrating
 pub mod Locks
 pub mod Names
+pub mod Texts
 pub mod Errands
 pub mod Openings
 pub mod Sessions

@@ -1,11 +1,12 @@
 //! The arguments of the statements: each is added behind those before it, where these could be added.
 
 ghost use Rattle.std.specs.Prelude.{◌≡◌, ◌∷◌, ◌++◌, [], List};
+ghost use Rattle.pg_migrate.specs.Clocks.{as_int8};
 ghost use Rattle.pg_migrate.specs.Orders.{Bound, Int8, Words, Bytes};
 ghost use Rattle.pg_migrating.specs.Requests.{Binds};
 
 use pg_arguments::{PgArguments, Typed};
-use pg_migrate::Migration;
+use pg_migrate::{Migration, as_int8};
 use pg_wire::{Blob, Error, Text};
 use std::alloc::Global;
 
@@ -91,4 +92,12 @@ pub(crate) fn row(alloc: Global, migration: &Migration) -> Result<PgArguments, E
     let version = with_int8(none(alloc), version_of(migration));
     let described = with_text(alloc, version, migration.description.as_str());
     with_bytes(alloc, described, migration.checksum.as_bytes())
+}
+
+/// How long a migration took, and its version.
+pub(crate) fn time(alloc: Global, migration: &Migration, nanos: u64) -> Result<PgArguments, Error>
+    ensures { Binds (Int8 (as_int8 nanos) ∷ Int8 migration.now.version ∷ []) result }
+{
+    let time = with_int8(none(alloc), as_int8(nanos));
+    with_int8(time, version_of(migration))
 }

@@ -5,8 +5,10 @@ ghost use Rattle.pg_call.specs.declared.kind.How.TheVariants as hows;
 ghost use Rattle.pg_migrating.specs.Courses.{ends_work, first_step, is_open_at, next_step, row_at, statement_at, timed};
 ghost use Rattle.pg_migrating.specs.Requests.{IsRequestOf};
 
-use crate::requests;
-use pg_call::Request;
+use crate::binding::{none, time, version_of, with_int8};
+use crate::requests::{insert_row, named, script};
+use crate::texts::Wording;
+use pg_call::{How, Request};
 use pg_conn::commit_request;
 use pg_migrate::Migration;
 use pg_wire::Error;
@@ -139,8 +141,11 @@ impl Work<'_> {
         ensures { IsRequestOf hows.Execute 0 (row_at self.now) result }
     {
         match self.way {
-            Way::Apply => requests::insert_row(alloc, self.table, self.migration),
-            Way::Revert => requests::delete_row(alloc, self.table, self.migration),
+            Way::Apply => insert_row(alloc, self.table, self.migration),
+            Way::Revert => {
+                let version = with_int8(none(alloc), version_of(self.migration));
+                named(alloc, How::Execute, Wording::DeleteRow, self.table, version)
+            }
         }
     }
 
@@ -156,10 +161,13 @@ impl Work<'_> {
     {
         match step {
             Step::Begin => Ok(Request::Begin(depth)),
-            Step::Script => requests::script(alloc, self.migration.sql.as_str()),
+            Step::Script => script(alloc, self.migration.sql.as_str()),
             Step::Row => self.row(alloc),
             Step::Commit => Ok(commit_request(depth)),
-            Step::Time => requests::update_time(alloc, self.table, self.migration, nanos),
+            Step::Time => {
+                let time = time(alloc, self.migration, nanos);
+                named(alloc, How::Execute, Wording::UpdateTime, self.table, time)
+            }
         }
     }
 }

@@ -26,6 +26,7 @@ mod requests;
 mod running;
 mod session;
 mod statement;
+mod texts;
 
 pub use database_statement::{DatabaseCall, DatabaseStatement};
 pub use databases::MigrateDatabase;

@@ -13,11 +13,12 @@ ghost use Rattle.pg_migrating.specs.Locks.{CallsLock, HidesName, IsNamed, NameGo
 ghost use Rattle.pg_migrating.specs.Requests.{IsRequestOf};
 
 use crate::asking::{Asking, Question};
+use crate::binding::{none, with_int8};
 use crate::reading::told;
-use crate::requests;
-use pg_call::{Request, Turn};
+use crate::requests::prepared;
+use pg_call::{How, Request, Turn};
 use pg_guards::PgExecutor;
-use pg_migrate::{MigrateError, generate_lock_id, lock_text, unlock_text};
+use pg_migrate::{MigrateError, current_database_text, generate_lock_id, lock_text, unlock_text};
 use pg_rows::PgRow;
 use pg_wire::{Error, Poll, Text};
 use std::alloc::Global;
@@ -43,9 +44,10 @@ pub struct MigrationLock<C: PgExecutor, Q = Question> {
 fn request(alloc: Global, way: LockWay, id: i64) -> Result<Request, Error>
     ensures { IsRequestOf hows.Execute 0 (lock_statement way id) result }
 {
+    let key = with_int8(none(alloc), id);
     match way {
-        LockWay::Lock => requests::keyed(alloc, lock_text(), id),
-        LockWay::Unlock => requests::keyed(alloc, unlock_text(), id),
+        LockWay::Lock => prepared(alloc, How::Execute, lock_text(), key),
+        LockWay::Unlock => prepared(alloc, How::Execute, unlock_text(), key),
     }
 }
 
@@ -82,9 +84,10 @@ impl<C: PgExecutor> MigrationLock<C> {
         ensures goes { is_asked result.asking.question (C.conn result.asking.conn).call ≡ true }
         ensures calling { CallsLock result.is_named result.asking.question (C.conn result.asking.conn) }
     {
+        let name = prepared(alloc, How::FetchOne, current_database_text(), none(alloc));
         MigrationLock {
             alloc,
-            asking: Asking::new(conn, requests::current_database(alloc)),
+            asking: Asking::new(conn, name),
             way,
             is_named: false,
         }

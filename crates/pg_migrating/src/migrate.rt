@@ -13,12 +13,15 @@ ghost use Rattle.pg_migrating.specs.declared.course.Way.TheVariants as ways;
 ghost use Rattle.pg_migrating.specs.declared.lock.LockWay.TheVariants as lock_ways;
 
 use crate::asking::Asking;
+use crate::binding::none;
 use crate::course::Way;
 use crate::lock::LockWay;
+use crate::requests::{insert_row, named, named_script};
+use crate::texts::Wording;
 use crate::{
-    DirtyVersion, ListAppliedMigrations, MigrateCall, MigrateStatement, MigrationLock,
-    RunMigration, requests,
+    DirtyVersion, ListAppliedMigrations, MigrateCall, MigrateStatement, MigrationLock, RunMigration,
 };
+use pg_call::How;
 use pg_guards::PgExecutor;
 use pg_migrate::{Clock, Migration};
 use std::alloc::Global;
@@ -43,7 +46,7 @@ impl Migrate {
     {
         MigrateCall {
             alloc,
-            asking: Asking::new(conn, requests::create_schema(alloc, schema)),
+            asking: Asking::new(conn, named_script(alloc, Wording::CreateSchema, schema)),
             reading: PhantomData,
         }
     }
@@ -61,7 +64,7 @@ impl Migrate {
     {
         MigrateCall {
             alloc,
-            asking: Asking::new(conn, requests::create_table(alloc, table)),
+            asking: Asking::new(conn, named_script(alloc, Wording::CreateTable, table)),
             reading: PhantomData,
         }
     }
@@ -73,9 +76,11 @@ impl Migrate {
         ensures goes { is_asked result.asking.question (C.conn result.asking.conn).call ≡ true }
         ensures calling { CallsFor (kinds.Run hows.FetchOptional) result.asking.question (C.conn result.asking.conn) }
     {
+        let wording = Wording::DirtyVersion;
+        let question = named(alloc, How::FetchOptional, wording, table, none(alloc));
         MigrateCall {
             alloc,
-            asking: Asking::new(conn, requests::dirty_version(alloc, table)),
+            asking: Asking::new(conn, question),
             reading: PhantomData,
         }
     }
@@ -91,9 +96,10 @@ impl Migrate {
         ensures goes { is_asked result.asking.question (C.conn result.asking.conn).call ≡ true }
         ensures calling { CallsFor (kinds.Run hows.FetchAll) result.asking.question (C.conn result.asking.conn) }
     {
+        let question = named(alloc, How::FetchAll, Wording::List, table, none(alloc));
         MigrateCall {
             alloc,
-            asking: Asking::new(conn, requests::list(alloc, table)),
+            asking: Asking::new(conn, question),
             reading: PhantomData,
         }
     }
@@ -112,7 +118,7 @@ impl Migrate {
     {
         MigrateCall {
             alloc,
-            asking: Asking::new(conn, requests::insert_row(alloc, table, migration)),
+            asking: Asking::new(conn, insert_row(alloc, table, migration)),
             reading: PhantomData,
         }
     }
