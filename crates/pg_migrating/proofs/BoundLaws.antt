@@ -1,5 +1,5 @@
 -- The arguments of statements, as a caller adds them and as the server gets them.
-use Rattle.std.proofs.Common.{◌≡◌, ℕ, zero, suc, ◌∷◌, ◌++◌, [], List, Option, Some, None, Bool, true, false, cond, nat_lt, length, map, refl, sym, ap, ◌∙◌, subst, Result, to_z, of_z}
+use Rattle.std.proofs.Common.{◌≡◌, ℕ, zero, suc, ◌∷◌, ◌++◌, [], List, Option, Some, None, Bool, true, false, cond, nat_lt, length, map, refl, sym, ap, ◌∙◌, subst, Result, Ok, Err, to_z, of_z}
 use Rattle.std.proofs.lemmas.Int.{to_z-of_z}
 use Rattle.std.specs.Int.{w64}
 use Rattle.std.specs.Prelude.{ℤ, FitsSigned, slice_get}
@@ -118,6 +118,11 @@ refuses_query sql bounds e memory = rw memory tt
 -- by another name of its text
 pub asks_text : (how : How) (sql given : List ℕ) (bounds : List Bound) (result : Result Request Error) → given ≡ sql → IsRequestOf how 0 (Prepared given bounds) result → IsRequestOf how 0 (Prepared sql bounds) result
 asks_text how sql given bounds result e h = subst (λ (text : List ℕ). IsRequestOf how 0 (Prepared text bounds) result) e h
+
+-- so many transactions are open at a statement that opens and ends none
+pub at_depth : (how : How) (depth : ℕ) (sql : List ℕ) (bounds : List Bound) (result : Result Request Error) → IsRequestOf how 0 (Prepared sql bounds) result → IsRequestOf how depth (Prepared sql bounds) result
+at_depth how depth sql bounds (Ok r) h = h
+at_depth how depth sql bounds (Err e) h = h
 
 -- a number that was handed to a call is the same
 pub kept_int8 : (P : ℤ → Type 0) (z : ℤ) → FitsSigned w64 z → P (to_z w64 (of_z w64 z)) → P z

@@ -71,15 +71,6 @@ impl<C: PgExecutor, Q: Drop> Asking<C, Q> {
 }
 
 impl<C: PgExecutor> Asking<C, Question> {
-    pub(crate) fn new(conn: C, question: Question) -> Self
-        ensures { result ≡ record { conn = conn; question = Some question } }
-    {
-        Asking {
-            conn,
-            question: Some(question),
-        }
-    }
-
     // Begins the call where it was not, and tells why it can't be asked.
     fn begin(&mut self) -> Result<(), Error>
         ensures conn { self.new.conn ≡ C.with_conn self.old.conn (asked_by self.old.question (C.conn self.old.conn)) }

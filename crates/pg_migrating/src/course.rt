@@ -1,8 +1,8 @@
 //! Which step of a migration comes behind which.
 
-ghost use Rattle.std.specs.Prelude.{◌≡◌, false};
+ghost use Rattle.std.specs.Prelude.{◌≡◌};
 ghost use Rattle.pg_call.specs.declared.kind.How.TheVariants as hows;
-ghost use Rattle.pg_migrating.specs.Courses.{ends_work, first_step, is_open_at, next_step, row_at, statement_at, timed};
+ghost use Rattle.pg_migrating.specs.Courses.{ends_work, first_step, is_open_at, next_step, row_at, statement_at};
 ghost use Rattle.pg_migrating.specs.Requests.{IsRequestOf};
 
 use crate::binding::{none, time, version_of, with_int8};
@@ -42,20 +42,6 @@ pub(crate) struct Course {
     pub(crate) nanos: u64,
 }
 
-impl Course {
-    /// It begins with this step.
-    pub(crate) fn at(step: Step) -> Self
-        ensures { result ≡ record { step = step; is_open = false; start = 0; nanos = 0 } }
-    {
-        Course {
-            step,
-            is_open: false,
-            start: 0,
-            nanos: 0,
-        }
-    }
-}
-
 /// What is to be done.
 pub(crate) struct Work<'m> {
     pub(crate) way: Way,
@@ -81,16 +67,6 @@ impl<'m> Model for Work<'m> {
     ghost view = { λ w. record { way = w.way; table = w.table.now; migration = w.migration.now } };
 }
 
-// The step behind the last one of a transaction.
-fn timed(way: Way) -> Option<Step>
-    ensures { result ≡ timed way }
-{
-    match way {
-        Way::Apply => Some(Step::Time),
-        Way::Revert => None,
-    }
-}
-
 impl Work<'_> {
     pub(crate) fn first_step(&self) -> Step
         ensures { result ≡ first_step self.now.migration.no_tx }
@@ -110,7 +86,10 @@ impl Work<'_> {
             Step::Begin => Some(Step::Script),
             Step::Script => Some(Step::Row),
             Step::Row if !self.migration.no_tx => Some(Step::Commit),
-            Step::Row | Step::Commit => timed(self.way),
+            Step::Row | Step::Commit => match self.way {
+                Way::Apply => Some(Step::Time),
+                Way::Revert => None,
+            },
             Step::Time => None,
         }
     }

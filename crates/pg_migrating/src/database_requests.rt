@@ -16,20 +16,16 @@ use pg_migrate::{database_exists_text, put_terminate, version_text};
 use pg_wire::Error;
 use std::alloc::Global;
 
-fn exists(alloc: Global, database: &str) -> Result<Request, Error>
-    ensures { IsRequestOf hows.FetchOne 0 (Prepared database_exists_text (Words database.now ∷ [])) result }
-{
-    let arguments = with_text(alloc, none(alloc), database);
-    prepared(alloc, How::FetchOne, database_exists_text(), arguments)
-}
-
 /// The request of a task on this database.
 pub(crate) fn request(alloc: Global, task: Task, database: &str) -> Result<Request, Error>
     ensures { IsRequestOf (how_of task) 0 (statement_of task database.now) result }
 {
     match task {
         Task::Create => named_script(alloc, Wording::CreateDatabase, database),
-        Task::Exists => exists(alloc, database),
+        Task::Exists => {
+            let name = with_text(alloc, none(alloc), database);
+            prepared(alloc, How::FetchOne, database_exists_text(), name)
+        }
         Task::Version => prepared(alloc, How::FetchOne, version_text(), none(alloc)),
         Task::Remove => named_script(alloc, Wording::DropDatabase, database),
     }

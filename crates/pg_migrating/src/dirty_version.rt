@@ -1,14 +1,11 @@
 //! Which migration did not end well.
 
-ghost use Rattle.std.specs.Prelude.{IfOk, IfErr};
-ghost use Rattle.pg_rows.specs.Rows.{Misreads, Reads};
 ghost use Rattle.pg_call.specs.declared.kind.How.TheVariants as hows;
-ghost use Rattle.pg_migrating.specs.Answers.{HidesDirty, IsDirty, int8};
+ghost use Rattle.pg_migrating.specs.Answers.{HidesDirty, IsDirty};
 
 use crate::reading::Reading;
 use crate::statement::MigrateCall;
 use pg_call::Turn;
-use pg_rows::PgRow;
 use pg_wire::Error;
 use std::alloc::Global;
 
@@ -18,14 +15,6 @@ pub struct Dirty;
 
 /// The state of `Migrate::dirty_version`.
 pub type DirtyVersion<C> = MigrateCall<C, Dirty>;
-
-// The version in a row.
-fn version_of(alloc: Global, row: &PgRow) -> Result<i64, Error>
-    ensures ok { IfOk result (Reads int8 row.now 0) }
-    ensures err { IfErr result (Misreads int8 row.now 0) }
-{
-    row.try_get(alloc, 0)
-}
 
 impl Reading for Dirty {
     type Value = Option<i64>;
@@ -39,7 +28,7 @@ impl Reading for Dirty {
     fn read(alloc: Global, turn: Turn) -> Result<Option<i64>, Error> {
         match turn.into_optional() {
             Ok(None) => Ok(None),
-            Ok(Some(row)) => match version_of(alloc, &row) {
+            Ok(Some(row)) => match row.try_get(alloc, 0) {
                 Ok(version) => Ok(Some(version)),
                 Err(e) => Err(e),
             },

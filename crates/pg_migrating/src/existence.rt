@@ -1,14 +1,11 @@
 //! Whether there is a database.
 
-ghost use Rattle.std.specs.Prelude.{IfOk, IfErr};
 ghost use Rattle.pg_call.specs.declared.kind.How.TheVariants as hows;
-ghost use Rattle.pg_rows.specs.Rows.{Misreads, Reads};
-ghost use Rattle.pg_migrating.specs.Databases.{HidesBool, Says, boolean};
+ghost use Rattle.pg_migrating.specs.Databases.{HidesBool, Says};
 
 use crate::database_statement::DatabaseCall;
 use crate::reading::Reading;
 use pg_call::Turn;
-use pg_rows::PgRow;
 use pg_wire::Error;
 use std::alloc::Global;
 
@@ -18,14 +15,6 @@ pub struct Exists;
 
 /// The state of `MigrateDatabase::database_exists`.
 pub type DatabaseExists<'d, D> = DatabaseCall<'d, D, Exists>;
-
-// The bool in a row.
-fn bool_of(alloc: Global, row: &PgRow) -> Result<bool, Error>
-    ensures ok { IfOk result (Reads boolean row.now 0) }
-    ensures err { IfErr result (Misreads boolean row.now 0) }
-{
-    row.try_get(alloc, 0)
-}
 
 impl Reading for Exists {
     type Value = bool;
@@ -38,7 +27,7 @@ impl Reading for Exists {
 
     fn read(alloc: Global, turn: Turn) -> Result<bool, Error> {
         match turn.into_one() {
-            Ok(row) => bool_of(alloc, &row),
+            Ok(row) => row.try_get(alloc, 0),
             Err(e) => Err(e),
         }
     }

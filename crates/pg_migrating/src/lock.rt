@@ -1,13 +1,11 @@
 //! The lock of migrations.
 
-ghost use Rattle.std.specs.Prelude.{◌≡◌, ◌≤◌, ℕ, List, true, false, not, None, IfOk, IfErr};
-ghost use Rattle.pg_rows.specs.Rows.{Misreads, Reads};
+ghost use Rattle.std.specs.Prelude.{◌≡◌, ◌≤◌, true, false, not, None};
 ghost use Rattle.pg_call.specs.declared.kind.How.TheVariants as hows;
 ghost use Rattle.pg_call.specs.declared.kind.Kind.TheVariants as kinds;
 ghost use Rattle.pg_call.specs.Answers.{TurnFits};
 ghost use Rattle.pg_conn.specs.Connections.{ConnOf};
-ghost use Rattle.pg_migrate.specs.Crc32.{lock_id};
-ghost use Rattle.pg_migrating.specs.Answers.{EndsBy, text};
+ghost use Rattle.pg_migrating.specs.Answers.{EndsBy};
 ghost use Rattle.pg_migrating.specs.Asking.{CallsFor, is_asked, left_of};
 ghost use Rattle.pg_migrating.specs.Locks.{CallsLock, HidesName, IsNamed, NameGoes, StandsLock, StaysLock, TellsLock, TellsName, lock_statement};
 ghost use Rattle.pg_migrating.specs.Requests.{IsRequestOf};
@@ -19,7 +17,6 @@ use crate::requests::prepared;
 use pg_call::{How, Request, Turn};
 use pg_guards::PgExecutor;
 use pg_migrate::{MigrateError, current_database_text, generate_lock_id, lock_text, unlock_text};
-use pg_rows::PgRow;
 use pg_wire::{Error, Poll, Text};
 use std::alloc::Global;
 
@@ -51,25 +48,14 @@ fn request(alloc: Global, way: LockWay, id: i64) -> Result<Request, Error>
     }
 }
 
-// The key of the lock of the database that a row names.
-fn key_in(alloc: Global, row: &PgRow) -> Result<i64, Error>
-    ensures ok { IfOk result (λ id. (name : List ℕ) × Reads text row.now 0 name × (id ≡ lock_id name)) }
-    ensures err { IfErr result (Misreads text row.now 0) }
-{
-    match row.try_get::<Text>(alloc, 0) {
-        Ok(name) => Ok(generate_lock_id(name.as_str())),
-        Err(e) => Err(e),
-    }
-}
-
-// The same of the row that was asked for.
+// The key of the lock of the database that the row names.
 fn key_of(alloc: Global, turn: Turn) -> Result<i64, MigrateError>
     requires { TurnFits (kinds.Run hows.FetchOne) turn }
     ensures { EndsBy IsNamed HidesName turn result }
 {
     match turn.into_one() {
-        Ok(row) => match key_in(alloc, &row) {
-            Ok(id) => Ok(id),
+        Ok(row) => match row.try_get::<Text>(alloc, 0) {
+            Ok(name) => Ok(generate_lock_id(name.as_str())),
             Err(e) => Err(MigrateError::Execute(e)),
         },
         Err(e) => Err(MigrateError::Execute(e)),
@@ -87,7 +73,10 @@ impl<C: PgExecutor> MigrationLock<C> {
         let name = prepared(alloc, How::FetchOne, current_database_text(), none(alloc));
         MigrationLock {
             alloc,
-            asking: Asking::new(conn, name),
+            asking: Asking {
+                conn,
+                question: Some(name),
+            },
             way,
             is_named: false,
         }

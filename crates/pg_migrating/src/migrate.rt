@@ -46,7 +46,10 @@ impl Migrate {
     {
         MigrateCall {
             alloc,
-            asking: Asking::new(conn, named_script(alloc, Wording::CreateSchema, schema)),
+            asking: Asking {
+                conn,
+                question: Some(named_script(alloc, Wording::CreateSchema, schema)),
+            },
             reading: PhantomData,
         }
     }
@@ -64,7 +67,10 @@ impl Migrate {
     {
         MigrateCall {
             alloc,
-            asking: Asking::new(conn, named_script(alloc, Wording::CreateTable, table)),
+            asking: Asking {
+                conn,
+                question: Some(named_script(alloc, Wording::CreateTable, table)),
+            },
             reading: PhantomData,
         }
     }
@@ -80,7 +86,10 @@ impl Migrate {
         let question = named(alloc, How::FetchOptional, wording, table, none(alloc));
         MigrateCall {
             alloc,
-            asking: Asking::new(conn, question),
+            asking: Asking {
+                conn,
+                question: Some(question),
+            },
             reading: PhantomData,
         }
     }
@@ -99,7 +108,10 @@ impl Migrate {
         let question = named(alloc, How::FetchAll, Wording::List, table, none(alloc));
         MigrateCall {
             alloc,
-            asking: Asking::new(conn, question),
+            asking: Asking {
+                conn,
+                question: Some(question),
+            },
             reading: PhantomData,
         }
     }
@@ -118,7 +130,10 @@ impl Migrate {
     {
         MigrateCall {
             alloc,
-            asking: Asking::new(conn, insert_row(alloc, table, migration)),
+            asking: Asking {
+                conn,
+                question: Some(insert_row(alloc, table, migration)),
+            },
             reading: PhantomData,
         }
     }

@@ -121,10 +121,18 @@ impl<'m, C: PgExecutor, K: Clock> RunMigration<'m, C, K> {
         let question = work.request(alloc, step, depth, 0);
         RunMigration {
             alloc,
-            asking: Asking::new(conn, question),
+            asking: Asking {
+                conn,
+                question: Some(question),
+            },
             clock,
             work,
-            course: Course::at(step),
+            course: Course {
+                step,
+                is_open: false,
+                start: 0,
+                nanos: 0,
+            },
         }
     }
 

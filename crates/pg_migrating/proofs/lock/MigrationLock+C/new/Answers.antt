@@ -8,9 +8,9 @@ use Rattle.pg_migrating.proofs.lock.MigrationLock+C.new.Goals as goal
 pub returns-clause-stands : goal.returns-clause-stands
 returns-clause-stands g c =
     let asks = asks_text hows.FetchOne current_database_text c.current_database_text.result.now [] c.prepared-name.result c.current_database_text.ensures (c.prepared-name.ensures [] c.none.ensures) in
-    rw c.new.ensures (c.prepared-name.result, asks, (refl, refl))
+    (c.prepared-name.result, asks, (refl, refl))
 
 pub returns-clause-calling : goal.returns-clause-calling
 returns-clause-calling g c =
     let asks = c.prepared-name.ensures [] c.none.ensures in
-    rw c.new.ensures (calls_prepared hows.FetchOne c.current_database_text.result.now [] c.prepared-name.result (g.C.PgExecutor.conn c.args.conn) asks)
+    calls_prepared hows.FetchOne c.current_database_text.result.now [] c.prepared-name.result (g.C.PgExecutor.conn c.args.conn) asks

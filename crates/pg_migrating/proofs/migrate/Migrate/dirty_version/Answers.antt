@@ -5,7 +5,7 @@ use Rattle.pg_migrating.proofs.AskingLaws.{calls_prepared}
 use Rattle.pg_migrating.proofs.migrate.Migrate.dirty_version.Goals as goal
 
 pub returns-clause-asks : goal.returns-clause-asks
-returns-clause-asks g c = rw c.new.ensures (c.named-question.ensures [] c.none.ensures)
+returns-clause-asks g c = c.named-question.ensures [] c.none.ensures
 
 pub returns-clause-calling : goal.returns-clause-calling
-returns-clause-calling g c = rw c.new.ensures (calls_prepared hows.FetchOptional (dirty_version_text c.args.table.now) [] c.named-question.result (g.C.PgExecutor.conn c.args.conn) (c.named-question.ensures [] c.none.ensures))
+returns-clause-calling g c = calls_prepared hows.FetchOptional (dirty_version_text c.args.table.now) [] c.named-question.result (g.C.PgExecutor.conn c.args.conn) (c.named-question.ensures [] c.none.ensures)

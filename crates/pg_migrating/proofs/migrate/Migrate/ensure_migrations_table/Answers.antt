@@ -4,4 +4,4 @@ use Rattle.pg_migrating.proofs.AskingLaws.{calls_script}
 use Rattle.pg_migrating.proofs.migrate.Migrate.ensure_migrations_table.Goals as goal
 
 pub returns-clause-calling : goal.returns-clause-calling
-returns-clause-calling g c = rw c.new.ensures (calls_script hows.Execute (create_table_text c.args.table.now) c.named_script.result (g.C.PgExecutor.conn c.args.conn) c.named_script.ensures)
+returns-clause-calling g c = calls_script hows.Execute (create_table_text c.args.table.now) c.named_script.result (g.C.PgExecutor.conn c.args.conn) c.named_script.ensures

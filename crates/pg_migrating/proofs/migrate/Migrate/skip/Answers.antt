@@ -8,4 +8,4 @@ use Rattle.pg_migrating.proofs.migrate.Migrate.skip.Goals as goal
 pub returns-clause-calling : goal.returns-clause-calling
 returns-clause-calling g c =
     let m = c.args.migration.now in
-    rw c.new.ensures (calls_prepared hows.Execute (insert_row_text c.args.table.now) (Int8 m.version ∷ Words m.description ∷ Bytes m.checksum ∷ []) c.insert_row.result (g.C.PgExecutor.conn c.args.conn) c.insert_row.ensures)
+    calls_prepared hows.Execute (insert_row_text c.args.table.now) (Int8 m.version ∷ Words m.description ∷ Bytes m.checksum ∷ []) c.insert_row.result (g.C.PgExecutor.conn c.args.conn) c.insert_row.ensures

@@ -5,4 +5,4 @@ use Rattle.pg_migrating.proofs.running.RunMigration+C+K.new.Goals as goal
 pub returns-clause-calling : goal.returns-clause-calling
 returns-clause-calling g c =
     let work : WorkSeen = record { way = c.args.way; table = c.args.table.now; migration = c.args.migration.now } in
-    rw c.new.ensures (asks_quietly c.depth-depth.result (statement_at work 0 c.first_step-step.result) c.request-question.result (g.C.PgExecutor.conn c.args.conn) c.request-question.ensures)
+    asks_quietly c.depth-depth.result (statement_at work 0 c.first_step-step.result) c.request-question.result (g.C.PgExecutor.conn c.args.conn) c.request-question.ensures
