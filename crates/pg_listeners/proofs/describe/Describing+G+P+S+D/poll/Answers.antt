@@ -1,4 +1,3 @@
-use Rattle.std.proofs.Common.{refl}
 use Rattle.pg_listeners.proofs.describe.Describing+G+P+S+D.poll.Goals as goal
 
 pub returns : goal.returns
@@ -6,7 +5,7 @@ returns g c =
     let told = c.poll_on-answer.ensures in
     record {
       over = c.is_answered-self.ensures;
-      same = refl;
+      same = told.same;
       hears = told.hears;
       channels = told.channels;
       describes = (c.poll_on-answer.new.left, told.describes);
