@@ -45,7 +45,8 @@ fn play(
         "idle" | "owed" => news::play(alloc, conn, acts == "owed", told),
         acts => {
             acting::play(alloc, conn, acts, told)?;
-            push_sent(told, conn)
+            push_sent(told, conn);
+            Ok(())
         }
     }
 }

@@ -3,14 +3,15 @@
 ghost use Rattle.pg_conn.specs.Feeding.{IsFed};
 
 use crate::acts::polling;
-use crate::acts::telling::{push_answer, push_formats, push_number, push_progress};
-use case_tools::push_error;
+use crate::acts::telling::{
+    push, push_answer, push_failure, push_formats, push_number, push_progress,
+};
 use pg_conn::PgConnection;
 use pg_copying::{PgCopyIn, copy_in_raw};
 use pg_guards::{PgExecutor, copy_out_raw};
 use pg_stream::{Link, MemorySource};
-use pg_wire::{Blob, Error, Poll, Sequence, Text};
-use std::alloc::Global;
+use pg_wire::{Blob, Poll, Sequence, Text};
+use std::alloc::{AllocError, Global};
 use std::fmt::Write;
 
 // The most that is done in a row.
@@ -35,7 +36,7 @@ fn bytes(alloc: Global, digits: &str) -> Vec<u8> {
 }
 
 // The source of this word: it gives the bytes three at a time, or as many as it is asked for, and may fail behind the first three.
-fn source(alloc: Global, word: &str, digits: &str) -> Result<MemorySource, Error> {
+fn source(alloc: Global, word: &str, digits: &str) -> Result<MemorySource, AllocError> {
     let mut failing = Sequence::new(alloc);
     if word == "fail" {
         failing.push(2)?;
@@ -64,7 +65,7 @@ fn feed<C: PgExecutor>(
     word: &str,
     argument: &str,
     out: &mut String,
-) -> Result<(), Error>
+) -> Result<(), AllocError>
     requires { IsFed (C.conn copy.old.conn) }
     ensures { IsFed (C.conn copy.new.conn) }
 {
@@ -73,18 +74,17 @@ fn feed<C: PgExecutor>(
         "tell" => push_formats(out, copy),
         "send" | "push" => {
             let answer = polling::send(copy, &bytes(alloc, argument), polls);
-            let pushed = push_answer(out, "sent", &answer);
+            push_answer(out, "sent", &answer);
             drop(answer);
-            pushed
         }
         _ => {
             let mut source = source(alloc, word, argument)?;
             let answer = polling::read(copy, &mut source, polls);
-            let pushed = push_answer(out, "read", &answer);
+            push_answer(out, "read", &answer);
             drop(answer);
-            pushed
         }
     }
+    Ok(())
 }
 
 // How it is ended.
@@ -94,7 +94,7 @@ fn end<C: PgExecutor + Drop>(
     word: &str,
     argument: &str,
     out: &mut String,
-) -> Result<(), Error>
+) -> Result<(), AllocError>
     requires { IsFed (C.conn copy.conn) }
 {
     let polls = number(argument);
@@ -102,21 +102,17 @@ fn end<C: PgExecutor + Drop>(
     match word {
         "finish" => {
             let answer = polling::finish(copy.finish(), polls);
-            let pushed = push_number(out, "rows", &answer);
+            push_number(out, "rows", &answer);
             drop(answer);
-            pushed
         }
         "abort" | "null" => {
             let answer = polling::abort(copy.abort(message), polls);
-            let pushed = push_answer(out, "aborted", &answer);
+            push_answer(out, "aborted", &answer);
             drop(answer);
-            pushed
         }
-        _ => {
-            drop(copy);
-            Ok(())
-        }
+        _ => drop(copy),
     }
+    Ok(())
 }
 
 // What is done with a copy up to its end, and what is to be done behind that.
@@ -125,10 +121,10 @@ fn spend<'t, C: PgExecutor + Drop>(
     mut copy: PgCopyIn<C>,
     mut acts: &'t str,
     out: &mut String,
-) -> Result<&'t str, Error>
+) -> Result<&'t str, AllocError>
     requires { IsFed (C.conn copy.conn) }
 {
-    out.push_str(" open")?;
+    push(out, " open");
     for _ in 0..MOST {
         let (word, argument, rest) = first(acts);
         acts = rest;
@@ -148,46 +144,39 @@ fn copy<'t, C: PgExecutor>(
     polls: u64,
     acts: &'t str,
     out: &mut String,
-) -> Result<&'t str, Error> {
+) -> Result<&'t str, AllocError> {
     let statement = Text::from_str(alloc, "COPY t FROM STDIN")?;
     match polling::open(copy_in_raw(conn, statement), polls) {
         Poll::Ready(Ok(copy)) => spend(alloc, copy, acts, out),
         Poll::Ready(Err(error)) => {
-            push_error(out, &error)?;
+            push_failure(out, &error);
             drop(error);
             Ok(acts)
         }
         Poll::Pending => {
-            out.push_str(" pending")?;
+            push(out, " pending");
             Ok(acts)
         }
     }
 }
 
 // A copy of so many rows to the client.
-fn copy_out<C: PgExecutor>(
-    alloc: Global,
-    conn: &mut C,
-    rows: u64,
-    out: &mut String,
-) -> Result<(), Error> {
+fn copy_out<C: PgExecutor>(alloc: Global, conn: &mut C, rows: u64, out: &mut String) {
     let mut statement = String::new(alloc);
-    write!(
+    let _ = write!(
         statement,
         "COPY (SELECT generate_series(1, {rows})) TO STDOUT"
-    )?;
+    );
     let state = copy_out_raw(conn, Text::from_string(statement));
     let answer = polling::copy_out(state, rows.saturating_add(POLLS));
-    let pushed = push_number(out, "pieces", &answer);
+    push_number(out, "pieces", &answer);
     drop(answer);
-    pushed
 }
 
-fn ping<L: Link>(conn: &mut PgConnection<L>, polls: u64, out: &mut String) -> Result<(), Error> {
+fn ping<L: Link>(conn: &mut PgConnection<L>, polls: u64, out: &mut String) {
     let answer = case_tools::ping(conn, polls);
-    let pushed = push_answer(out, "ok", &answer);
+    push_answer(out, "ok", &answer);
     drop(answer);
-    pushed
 }
 
 // The next call, and what is to be done behind it.
@@ -196,16 +185,16 @@ fn step<'t, C: PgExecutor>(
     conn: &mut C,
     acts: &'t str,
     out: &mut String,
-) -> Result<&'t str, Error> {
+) -> Result<&'t str, AllocError> {
     let (word, argument, mut rest) = first(acts);
     let number = number(argument);
     match word {
         "copy" => rest = copy(alloc, conn, number, rest, out)?,
-        "out" => copy_out(alloc, conn, number, out)?,
-        "ping" => ping(conn.conn_mut(), number, out)?,
+        "out" => copy_out(alloc, conn, number, out),
+        "ping" => ping(conn.conn_mut(), number, out),
         _ => return Ok(rest),
     }
-    push_progress(out, conn.conn_ref())?;
+    push_progress(out, conn.conn_ref());
     Ok(rest)
 }
 
@@ -215,7 +204,7 @@ pub(crate) fn play<C: PgExecutor>(
     conn: &mut C,
     acts: &str,
     out: &mut String,
-) -> Result<(), Error> {
+) -> Result<(), AllocError> {
     let mut rest = acts;
     for _ in 0..MOST {
         if rest.is_empty() {

@@ -1,6 +1,6 @@
 //! Polls for a notification, and what they answer.
 
-use case_tools::push_error;
+use crate::acts::telling::{push, push_failure};
 use pg_conn::{PgConnection, Query};
 use pg_stream::MemoryLink;
 use pg_wire::{Error, Notification, Poll};
@@ -15,25 +15,25 @@ fn drop_query(alloc: Global, conn: &mut PgConnection<MemoryLink>) -> Result<(), 
     Ok(())
 }
 
-fn push_answer(out: &mut String, answer: &Poll<Result<Notification, Error>>) -> Result<(), Error> {
+fn push_answer(out: &mut String, answer: &Poll<Result<Notification, Error>>) {
     match answer {
-        Poll::Pending => write!(out, " pending")?,
-        Poll::Ready(Ok(notification)) => write!(out, " {}", notification.payload.as_str())?,
-        Poll::Ready(Err(error)) => push_error(out, error)?,
+        Poll::Pending => push(out, " pending"),
+        Poll::Ready(Ok(notification)) => {
+            push(out, " ");
+            push(out, notification.payload.as_str());
+        }
+        Poll::Ready(Err(error)) => push_failure(out, error),
     }
-    Ok(())
 }
 
 // Polls five times, and tells what came.
-fn answers(conn: &mut PgConnection<MemoryLink>, out: &mut String) -> Result<(), Error> {
+fn answers(conn: &mut PgConnection<MemoryLink>, out: &mut String) {
     conn.set_notifications(true);
     for _ in 0..5 {
         let answer = conn.poll_notification();
-        let pushed = push_answer(out, &answer);
+        push_answer(out, &answer);
         drop(answer);
-        pushed?;
     }
-    Ok(())
 }
 
 /// The answers of five polls, perhaps behind a query that is polled once and dropped.
@@ -46,5 +46,6 @@ pub(crate) fn play(
     if is_owed {
         drop_query(alloc, conn)?;
     }
-    answers(conn, out)
+    answers(conn, out);
+    Ok(())
 }
