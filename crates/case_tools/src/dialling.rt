@@ -5,33 +5,14 @@ ghost use Rattle.pg_auth.specs.Nonce.{IsNonce};
 
 use crate::opening::{options, start};
 use arrayvec::ArrayString;
-use pg_auth::nonce_of;
-use pg_conn::{Dial, DialFailed, PgConnection, SocketDial};
+use pg_conn::{Dial, PgConnection, SocketDial, draw_nonce};
 use pg_options::PgConnectOptions;
 use pg_stream::SocketLink;
-use pg_wire::{Error, IoCause};
+use pg_wire::Error;
 use rand::rngs::SysRng;
 use std::alloc::Global;
 use std::net::{Net, TcpStream};
 use std::random::RandomSource;
-
-fn dial_error(failed: DialFailed) -> Error {
-    match failed {
-        DialFailed::Fault => Error::Io(IoCause::Fault),
-        DialFailed::OutOfMemory => Error::OutOfMemory,
-    }
-}
-
-// A nonce of 128 words that the dial draws.
-fn nonce<D: Dial>(dial: &mut D) -> Result<ArrayString<127>, DialFailed>
-    ensures { IfOk result (λ nonce. IsNonce nonce.bytes) }
-{
-    let mut words = [0; 128];
-    for word in words.iter_mut() {
-        *word = dial.word()?;
-    }
-    Ok(nonce_of(&words))
-}
 
 /// A link, and a nonce for its start-up.
 pub fn dialled<D: Dial>(
@@ -40,10 +21,13 @@ pub fn dialled<D: Dial>(
 ) -> Result<(ArrayString<127>, D::L), Error>
     ensures { IfOk result (λ d. IsNonce d.0.bytes) }
 {
-    let nonce = nonce(dial).map_err(dial_error)?;
+    let nonce = match draw_nonce(dial) {
+        Ok(nonce) => nonce,
+        Err(failed) => return Err(failed.into_error()),
+    };
     match dial.dial(options) {
         Ok(link) => Ok((nonce, link)),
-        Err(failed) => Err(dial_error(failed)),
+        Err(failed) => Err(failed.into_error()),
     }
 }
 

@@ -12,3 +12,4 @@ pub mod ViewLaws
 pub mod NewsLaws
 pub mod FeedingLaws
 pub mod FirstLaws
+pub mod DiallingLaws

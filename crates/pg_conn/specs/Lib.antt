@@ -12,3 +12,4 @@ pub mod Holding
 pub mod Flags
 pub mod News
 pub mod Feeding
+pub mod Dialling

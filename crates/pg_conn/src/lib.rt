@@ -9,6 +9,7 @@ mod cleanliness;
 mod connection;
 mod dial;
 mod dial_counts;
+mod dialling;
 pub mod drops;
 mod establishing;
 mod feeding;
@@ -28,6 +29,7 @@ mod states;
 
 pub use connection::PgConnection;
 pub use dial::{Dial, DialFailed, MemoryDial};
+pub use dialling::{dial_and_establish, draw_nonce};
 pub use establishing::establish;
 pub use flags::read_flag;
 pub use notification::what_a_call_reads_is_kept;

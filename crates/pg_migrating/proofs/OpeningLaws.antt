@@ -1,13 +1,12 @@
 -- How a connection is opened.
 use Rattle.std.proofs.Common.{◌≡◌, ◌+◌, ◌<◌, List, [], ◌∷◌, ◌++◌, take, set, ℕ, length, Ok, Err, inl, inr, subst, refl, sym, ap, ◌∙◌, false}
-use Rattle.std.proofs.lemmas.List.{take_more_set}
 use Rattle.pg_wire.specs.declared.error.Error.{Error}
 use Rattle.pg_stream.specs.Links.{LinkSeen}
 use Rattle.pg_call.specs.declared.request.Request.{Request}
 use Rattle.pg_conn.specs.Connecting.{ConnectingOf}
 use Rattle.pg_conn.specs.Connections.{ConnOf, started_call}
-use Rattle.pg_conn.specs.Dials.{DialSeen, Draws}
-use Rattle.pg_migrating.specs.Openings.{Begun, FailsToBegin, Handing}
+use Rattle.pg_conn.specs.Dials.{DialSeen}
+use Rattle.pg_conn.specs.Dialling.{Begun, FailsToBegin, Handing}
 use Rattle.pg_migrating.specs.Sessions.{Connects, ConnectsAs, FailsBehind, Opening, WaitsBehind, over_dial}
 use Rattle.pg_migrating.specs.declared.errand.Errand.{Errand}
 use Rattle.pg_migrating.specs.declared.opening.Connected.{Connected}
@@ -15,15 +14,6 @@ use Rattle.pg_migrating.specs.declared.opening.Connected.TheVariants as connecte
 use Rattle.pg_migrating.specs.declared.opening.Stage.{Stage}
 use Rattle.pg_migrating.specs.declared.opening.Stage.TheVariants as stages
 use Rattle.pg_migrating.specs.declared.opening.Start.{Start}
-
--- one more word is drawn
-pub draws_more : {D : Type 0} (draws : D → ℕ → D → Type 0) (d e f : D) (items : List ℕ) (i word : ℕ) → i < length items → Draws draws d (take i items) e → draws e word f → Draws draws d (take (i + 1) (set items i word)) f
-draws_more {D} draws d e f items i word within drawn one =
-    subst (λ (xs : List ℕ). Draws draws d xs f) (sym (take_more_set items i word within)) (draws_then d (take i items) drawn)
-  where
-    draws_then : (from : D) (xs : List ℕ) → Draws draws from xs e → Draws draws from (xs ++ word ∷ []) f
-    draws_then from [] same = (f, subst (λ (x : D). draws x word f) same one, refl)
-    draws_then from (x ∷ xs) h = (h.0, h.1, draws_then h.0 xs h.2)
 
 abbrev pub at_stage : {A : Type 0} → Stage A → Start A
 at_stage stage = record { stage = stage }

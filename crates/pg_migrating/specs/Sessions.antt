@@ -15,7 +15,8 @@ use Rattle.pg_conn.specs.Dials.{DialSeen}
 use Rattle.pg_conn.specs.States.{IsCalling}
 use Rattle.pg_conn.specs.Turns.{PollsWithin}
 use Rattle.pg_migrating.specs.Calls.{Called, Waits}
-use Rattle.pg_migrating.specs.Openings.{Handing, FailsToOpen, Opened, Polls, Starts}
+use Rattle.pg_conn.specs.Dialling.{Handing}
+use Rattle.pg_migrating.specs.Openings.{FailsToOpen, Opened, Polls, Starts}
 use Rattle.pg_migrating.specs.declared.errand.Errand.{Errand}
 use Rattle.pg_migrating.specs.declared.opening.Connected.{Connected}
 use Rattle.pg_migrating.specs.declared.opening.Connected.TheVariants as connected

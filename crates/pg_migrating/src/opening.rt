@@ -1,20 +1,15 @@
 //! A connection that is opened over a dial.
 
-ghost use Rattle.std.specs.Prelude.{◌≡◌, ◌≤◌, List, ℕ, IfOk, IfErr, length, false};
-ghost use Rattle.pg_auth.specs.Nonce.{IsNonce, nonce_of};
-ghost use Rattle.pg_conn.specs.Dials.{Draws, HandsOut, IsUncalled};
-ghost use Rattle.pg_migrating.specs.Openings.{Begun, DrawsWords, FailsDial, FailsToBegin, dial_error};
+ghost use Rattle.std.specs.Prelude.{◌≡◌, ◌≤◌, false};
+ghost use Rattle.pg_conn.specs.Dials.{HandsOut};
 ghost use Rattle.pg_migrating.specs.Sessions.{Connects, over_dial};
 
 use crate::errand::Errand;
-use arrayvec::ArrayString;
-use pg_auth::nonce_of;
 use pg_call::Request;
-use pg_conn::{Dial, DialFailed, Establish, PgConnection, establish};
+use pg_conn::{Dial, Establish, PgConnection, dial_and_establish};
 use pg_guards::PgExecutor;
-use pg_options::PgConnectOptions;
 use pg_stream::Link;
-use pg_wire::{Error, IoCause, Poll};
+use pg_wire::{Error, Poll};
 use std::alloc::Global;
 
 /// A session over a dial that has no connection yet.
@@ -83,76 +78,6 @@ pub trait Sessions: Dial {
         ensures connects { ConnectsAs Self.L.seen opens Self.Conn.conn self.old start self.new result };
 }
 
-// A nonce of 128 words that the dial draws.
-fn draw_nonce<D: Dial>(dial: &mut D) -> Result<ArrayString<127>, DialFailed>
-    ensures value { IfOk result (λ nonce. (words : List ℕ) × (length words ≡ 128) × Draws D.draws dial.old words dial.new × (nonce.bytes ≡ nonce_of words)) }
-    ensures lawful { IfOk result (λ nonce. IsNonce nonce.bytes) }
-    ensures draws { DrawsWords (D.seen dial.old) (D.seen dial.new) result }
-{
-    let mut words = [0; 128];
-    for word in words.iter_mut() {
-        *word = dial.word()?;
-    }
-    Ok(nonce_of(&words))
-}
-
-// How a dial's failure is told.
-fn told(failed: DialFailed) -> Error
-    ensures { result ≡ dial_error failed }
-{
-    match failed {
-        DialFailed::Fault => Error::Io(IoCause::Fault),
-        DialFailed::OutOfMemory => Error::OutOfMemory,
-    }
-}
-
-// A link for these options, and behind it a nonce.
-fn dial_for<D: Dial>(
-    dial: &mut D,
-    options: &PgConnectOptions,
-) -> Result<(D::L, ArrayString<127>), Error>
-where
-    D::L: Drop,
-    ensures ok { IfOk result (λ (link, nonce). (words : List ℕ) × (length words ≡ 128) × HandsOut D.gives D.draws dial.old dial.new options.now link words × IsUncalled (D.L.seen link) × (nonce.bytes ≡ nonce_of words) × IsNonce nonce.bytes) }
-    ensures err { IfErr result (FailsDial (D.seen dial.old) (D.seen dial.new)) }
-{
-    let link = match dial.dial(options) {
-        Ok(link) => link,
-        Err(failed) => return Err(told(failed)),
-    };
-    match draw_nonce(dial) {
-        Ok(nonce) => Ok((link, nonce)),
-        Err(failed) => {
-            drop(link);
-            Err(told(failed))
-        }
-    }
-}
-
-// A start-up over a link that the dial opens.
-fn begin<D: Dial>(
-    dial: &mut D,
-    alloc: Global,
-    options: &PgConnectOptions,
-) -> Result<Establish<D::L>, Error>
-where
-    D::L: Drop,
-    ensures ok { IfOk result (λ start. Begun D.L.seen (HandsOut D.gives D.draws) options.now dial.old dial.new start × (start.startup.is_finished ≡ false)) }
-    ensures err { IfErr result (FailsToBegin D.L.seen (HandsOut D.gives D.draws) D.seen options.now dial.old dial.new) }
-{
-    let (link, nonce) = match dial_for(dial, options) {
-        Ok(dialled) => dialled,
-        Err(e) => return Err(e),
-    };
-    match establish(alloc, options, nonce.as_str().as_bytes(), link) {
-        Ok(start) => Ok(start),
-        Err((e, link)) => {
-            drop(link);
-            Err(e)
-        }
-    }
-}
-
 // Moves a start-up on, behind which this is asked.
 fn connect<L: Link + Drop>(
     request: Request,
@@ -199,7 +124,7 @@ where
         left: &mut u16,
     ) -> Connected<Start<D::L>, PgConnection<D::L>> {
         match start.into_stage() {
-            Stage::Asked(Ok(errand)) => match begin(self, alloc, &errand.options) {
+            Stage::Asked(Ok(errand)) => match dial_and_establish(alloc, &errand.options, self) {
                 Ok(start) => connect(errand.into_request(), start, left),
                 Err(e) => Connected::Fails(e),
             },

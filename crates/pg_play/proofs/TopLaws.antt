@@ -1,6 +1,5 @@
 -- How the program ends.
-use Rattle.std.proofs.Common.{◌≡◌, ◌+◌, ◌<◌, List, [], ◌∷◌, ◌++◌, take, set, ℕ, String, Global, Bool, true, false, Result, Ok, Err, IfOk, length, subst, refl, sym, ap, ◌∙◌, codes, inl, inr}
-use Rattle.std.proofs.lemmas.List.{take_more_set}
+use Rattle.std.proofs.Common.{◌≡◌, List, ℕ, String, Global, Bool, true, false, Result, Ok, Err, IfOk, length, subst, refl, ap, ◌∙◌, codes, inl, inr}
 use Rattle.std.specs.Prelude.{IfErr, unwrap_or}
 use Rattle.pg_wire.specs.declared.error.Error.{Error}
 use Rattle.pg_options.specs.Options.{ConnectOptions}
@@ -10,7 +9,7 @@ use Rattle.pg_stream.specs.declared.memory.MemoryLink.{MemoryLink}
 use Rattle.pg_script.specs.declared.script.Script.{Script}
 use Rattle.pg_script.specs.declared.live.LiveScript.{LiveScript}
 use Rattle.pg_auth.specs.Nonce.{nonce_of}
-use Rattle.pg_conn.specs.Dials.{DialSeen, IsUncalled, Draws}
+use Rattle.pg_conn.specs.Dials.{DialSeen, IsUncalled}
 use Rattle.pg_script.specs.declared.step.Step.{Step}
 use Rattle.pg_report.specs.declared.outcome.Outcome.{Outcome}
 use Rattle.pg_report.specs.declared.outcome.Started.{Started}
@@ -96,12 +95,3 @@ pub dialed : {A : Type 0} (seen : A → LinkSeen) (hands : Handing A) (o : Conne
     → HasOutcomes (length steps) p.start (length p.outcomes) → IfOk p.start (λ started. Plays (opening_of o nonce (seen link).plan) polls (seen link) (seen p.link) started steps p.outcomes) → IfErr p.start (StartEnds (opening_of o nonce (seen link).plan) polls (seen link) (seen p.link)) → LiveEndingIs e p → DialedOnce f g → DialedIs seen hands o script f g e
 dialed seen hands o script f g p e link words nonce polls steps handed new drawn n k s outcomes plays fails ends once =
     live_ends seen hands o script f g p e (is_live_play seen hands o script p link words nonce polls steps handed new drawn n k s outcomes plays fails) ends once
-
--- one more word is drawn
-pub draws_more : {D : Type 0} (draws : D → ℕ → D → Type 0) (d e f : D) (items : List ℕ) (i word : ℕ) → i < length items → Draws draws d (take i items) e → draws e word f → Draws draws d (take (i + 1) (set items i word)) f
-draws_more {D} draws d e f items i word within drawn one =
-    subst (λ (xs : List ℕ). Draws draws d xs f) (sym (take_more_set items i word within)) (draws_then d (take i items) drawn)
-  where
-    draws_then : (from : D) (xs : List ℕ) → Draws draws from xs e → Draws draws from (xs ++ word ∷ []) f
-    draws_then from [] same = (f, subst (λ (x : D). draws x word f) same one, refl)
-    draws_then from (x ∷ xs) h = (h.0, h.1, draws_then h.0 xs h.2)

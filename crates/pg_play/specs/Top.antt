@@ -169,12 +169,6 @@ DialedOnce f g = (g.links ≡ one_more f.links) × (g.faults ≡ f.faults)
 abbrev pub FailedToDial : DialSeen → DialSeen → Type 0
 FailedToDial f g = (g ≡ failed_by f failed.Fault) ⊎ ((g.links ≡ one_more f.links) × (g.faults ≡ one_more f.faults))
 
--- words were drawn, and nothing else was asked of the dial
-abbrev pub DrawsWords : {A : Type 0} → DialSeen → DialSeen → Result A DialFailed → Type 0
-DrawsWords f g (Ok _) = (g.links ≡ f.links) × (g.faults ≡ f.faults)
-DrawsWords f g (Err failed.Fault) = (g.links ≡ f.links) × (g.faults ≡ one_more f.faults)
-DrawsWords f g (Err failed.OutOfMemory) = Unit {0}
-
 -- the dial gave a link and words, or failed
 abbrev pub DialedIs : {A : Type 0} → (A → LinkSeen) → Handing A → ConnectOptions → LiveScript → DialSeen → DialSeen → Ending A → Type 0
 DialedIs seen hands o script f g (endings.Live p) = IsLivePlay seen hands o script p × (start_status p.start ≤ 1) × DialedOnce f g

@@ -1,34 +1,17 @@
-ghost use Rattle.std.specs.Prelude.{◌≡◌, List, ℕ, IfOk, length};
-ghost use Rattle.pg_auth.specs.Nonce.{IsNonce, nonce_of};
-ghost use Rattle.pg_conn.specs.Dials.{Draws, HandsOut};
+ghost use Rattle.pg_conn.specs.Dials.{HandsOut};
 ghost use Rattle.pg_options.specs.FromUrl.{options_of_text};
 ghost use Rattle.pg_options.specs.Options.{no_settings};
-ghost use Rattle.pg_play.specs.Top.{DialedIs, DrawsWords, IsUndialed, LiveIs, LiveUrlIs};
+ghost use Rattle.pg_play.specs.Top.{DialedIs, IsUndialed, LiveIs, LiveUrlIs};
 
 use crate::ending::Ending;
 use crate::playing::play;
 use crate::program::START_POLLS;
-use arrayvec::ArrayString;
-use pg_auth::nonce_of;
-use pg_conn::{Dial, DialFailed};
+use pg_conn::{Dial, DialFailed, draw_nonce};
 use pg_options::{PgConnectOptions, PgSettings};
 use pg_script::{LiveScript, ReadError, read_live};
 use pg_stream::{Gathered, Source, read_all};
 use pg_wire::Error;
 use std::alloc::Global;
-
-// A nonce of 128 words that the dial draws.
-fn draw_nonce<D: Dial>(dial: &mut D) -> Result<ArrayString<127>, DialFailed>
-    ensures value { IfOk result (λ nonce. (words : List ℕ) × (length words ≡ 128) × Draws D.draws dial.old words dial.new × (nonce.bytes ≡ nonce_of words)) }
-    ensures lawful { IfOk result (λ nonce. IsNonce nonce.bytes) }
-    ensures draws { DrawsWords (D.seen dial.old) (D.seen dial.new) result }
-{
-    let mut words = [0; 128];
-    for word in words.iter_mut() {
-        *word = dial.word()?;
-    }
-    Ok(nonce_of(&words))
-}
 
 // How a play ends that has no link or no nonce.
 fn undialed<L>(failed: DialFailed) -> Ending<L>

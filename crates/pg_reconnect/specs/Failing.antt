@@ -12,8 +12,6 @@ use Rattle.pg_conn.specs.Cleanliness.{is_clean}
 use Rattle.pg_conn.specs.Connecting.{PollsConnect}
 use Rattle.pg_conn.specs.Dials.{one_more}
 use Rattle.pg_conn.specs.News.{PollsNews}
-use Rattle.pg_conn.specs.declared.dial.DialFailed.{DialFailed}
-use Rattle.pg_conn.specs.declared.dial.DialFailed.TheVariants as failed
 use Rattle.pg_pool.specs.Sections.{Acquires}
 use Rattle.pg_pool.specs.Seats.{SeatSeen}
 use Rattle.pg_listen.specs.Handed.{FillingOf}
@@ -24,16 +22,6 @@ use Rattle.pg_reconnect.specs.Leaving.{RefusesClosed}
 use Rattle.pg_reconnect.specs.Waiting.{OnConn, StartsFrom, WaitsBy}
 
 -- ---- no connection is found
-
-abbrev pub dial_error : DialFailed → Error
-dial_error failed.Fault = errors.Io io.Fault
-dial_error failed.OutOfMemory = errors.OutOfMemory
-
--- a dial counts a fault exactly where it fails by one
-abbrev pub CountsFaults : {X : Type 0} → ℕ → ℕ → Result X DialFailed → Type 0
-CountsFaults a b (Ok x) = b ≡ a
-CountsFaults a b (Err failed.Fault) = b ≡ one_more a
-CountsFaults a b (Err failed.OutOfMemory) = Unit {0}
 
 -- the dial counted a fault, or memory was refused to it
 abbrev pub FailsDial : ℕ → ℕ → Error → Type 0

@@ -1,18 +1,15 @@
 //! A connection out of a pool: one that is idle, or a start-up over a link that a dial opens.
 ghost use Rattle.std.specs.Prelude.{◌≡◌, ◌⊎◌, IfErr, IfOk, Some};
-ghost use Rattle.pg_auth.specs.Nonce.{IsNonce};
 ghost use Rattle.pg_conn.specs.Dials.{IsUncalled};
 ghost use Rattle.pg_startup.specs.Establishing.{RefusesStart};
 ghost use Rattle.pg_listening.specs.Listening.{IsOpenPool};
-ghost use Rattle.pg_reconnect.specs.Failing.{CountsFaults, FailsDial, FillsNone, FindsNone, dial_error};
+ghost use Rattle.pg_reconnect.specs.Failing.{FailsDial, FillsNone, FindsNone};
 ghost use Rattle.pg_reconnect.specs.Leaving.{Fills, IsFound, IsFresh};
 
-use arrayvec::ArrayString;
-use pg_auth::nonce_of;
-use pg_conn::{Dial, DialFailed};
+use pg_conn::{Dial, draw_nonce};
 use pg_listen::{Acquired, EstablishPooled, PgPool, PoolConnection, PoolLedger, PoolSeat, Ticket};
 use pg_stream::Link;
-use pg_wire::{Error, IoCause};
+use pg_wire::Error;
 use std::alloc::Global;
 use std::sync::Wait;
 
@@ -20,27 +17,6 @@ use std::sync::Wait;
 pub(crate) enum Found<L> {
     Held(PoolConnection<L>),
     Starting(EstablishPooled<L>),
-}
-
-fn dial_error(failed: DialFailed) -> Error
-    ensures { result ≡ dial_error failed }
-{
-    match failed {
-        DialFailed::Fault => Error::Io(IoCause::Fault),
-        DialFailed::OutOfMemory => Error::OutOfMemory,
-    }
-}
-
-// A nonce of the words that the dial draws.
-fn draw_nonce<D: Dial>(dial: &mut D) -> Result<ArrayString<127>, DialFailed>
-    ensures nonce { IfOk result (λ nonce. IsNonce nonce.bytes) }
-    ensures faults { CountsFaults (D.seen dial.old).faults (D.seen dial.new).faults result }
-{
-    let mut words = [0; 128];
-    for word in words.iter_mut() {
-        *word = dial.word()?;
-    }
-    Ok(nonce_of(&words))
 }
 
 // Begins a start-up, or hands back the leave and the link.
@@ -66,7 +42,7 @@ fn establish<L: Link, D: Dial<L = L>, G: PoolLedger>(
             nonce.as_str().as_bytes(),
             link,
         ),
-        Err(failed) => Err((dial_error(failed), ticket, link)),
+        Err(failed) => Err((failed.into_error(), ticket, link)),
     }
 }
 
@@ -91,7 +67,7 @@ fn fill<G: PoolLedger, L: Link, D: Dial<L = L>, R: Wait>(
     match dial.dial(pool.connect_options()) {
         Err(failed) => {
             let _ = ticket.give_back(rt, pool, seat);
-            Err((dial_error(failed), None))
+            Err((failed.into_error(), None))
         }
         Ok(link) => match establish(alloc, pool, ticket, dial, link) {
             Ok(state) => Ok(state),

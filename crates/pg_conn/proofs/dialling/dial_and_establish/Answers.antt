@@ -1,6 +1,6 @@
 use Rattle.std.proofs.Common.{◌≡◌, ◌∙◌}
 use Rattle.pg_auth.specs.Nonce.{nonce_of}
-use Rattle.pg_migrating.proofs.opening.begin.Goals as goal
+use Rattle.pg_conn.proofs.dialling.dial_and_establish.Goals as goal
 
 pub returns-in-Ok-establish-clause-ok : goal.returns-in-Ok-establish-clause-ok
 returns-in-Ok-establish-clause-ok g c =

@@ -1,7 +1,7 @@
 use Rattle.std.proofs.Common.{◌<◌, length, arith, ap, ◌∙◌}
 use Rattle.pg_conn.specs.Dials.{DialSeen}
-use Rattle.pg_migrating.proofs.OpeningLaws.{draws_more}
-use Rattle.pg_migrating.proofs.opening.draw_nonce.Goals as goal
+use Rattle.pg_conn.proofs.DiallingLaws.{draws_more}
+use Rattle.pg_conn.proofs.dialling.draw_nonce.Goals as goal
 
 pub loop-word-preserved : goal.loop-word-preserved
 loop-word-preserved g c =
