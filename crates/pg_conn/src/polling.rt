@@ -386,7 +386,7 @@ impl<L: Link> PgConnection<L> {
         self.is_replied() && !(front.tag == b'D' && self.running.looks_up())
     }
 
-    // Takes the next messages, up to the first that shows something or ends the reply. Where it may not come, it stays.
+    // Takes the next messages, up to the first that shows something, ends the reply, or is one of an earlier call. Where it may not come, it stays.
     fn hear(&mut self) -> Beat
         requires { IsAwaiting self.old.ledger self.old.call }
         ensures beat { TakesBeat (seen_by L.seen self.old) (seen_by L.seen self.new) result }
@@ -404,6 +404,7 @@ impl<L: Link> PgConnection<L> {
                     if !self.passes(front, &heard) {
                         return self.take_heard(front, heard);
                     }
+                    drop(heard);
                     self.accept(front, false);
                 }
             }

@@ -47,8 +47,8 @@ returns-then-not-passes-clause-falls g c x =
     (rw (← c.self.view_is) (TakesBeat-then _ _ (seen_by g.L.Link.seen c.make_room.new.self) beats.More (hears_front _ (stream_by g.L.Link.seen c.poll_ahead.new.self) c.in-Ready-Ok.front p) (with_room g.L.Link.seen _ c.make_room.new.self m.now m.spare))) in
     omega (arith, c.take_heard.ensures.falls x, same_fuel g.L.Link.seen c.make_room.new.self c.hear_front-heard.new.self h.now, near.3.moves.fuel)
 
-pub loop-e-preserved-else-not-passes-17 : goal.loop-e-preserved-else-not-passes-17
-loop-e-preserved-else-not-passes-17 g c =
+pub loop-e-preserved : goal.loop-e-preserved
+loop-e-preserved g c =
     let p = rw c.in-Ready-Ok.field-0-is at c.in-Ready-Ok.ensures in
     let m = c.in_default.ensures in
     let h = c.hear_front-heard.ensures in
