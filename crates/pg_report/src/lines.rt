@@ -40,7 +40,7 @@ fn put_steps(out: &mut String, outcomes: &[Outcome]) -> Result<(), AllocError>
     Ok(())
 }
 
-// All bytes that were sent are by far the longest text of a report, so they are spelled at once.
+// All bytes that were sent are the longest text of a long play, so they are spelled at once.
 #[tactic(auto, unfolding(crate::specs::Bytes::hex_or_dash))]
 fn sent_text(alloc: Global, sent: &[u8]) -> Result<String, AllocError>
     ensures { IfOk result (λ t. string_bytes t ≡ hex_or_dash sent.now) }
