@@ -453,6 +453,10 @@ AreAsynchronous-more : (xs : List Frame) (f : Frame) → AreAsynchronous xs → 
 AreAsynchronous-more [] f p e = (e, tt)
 AreAsynchronous-more (x ∷ xs) f p e = (p.0, AreAsynchronous-more xs f p.1 e)
 
+-- a frame that stands at the front is told at once
+pub ahead_at_once : (a : StreamSeen) (front : Front) → a.unsent ≡ [] → IsHeardFront a.held front → PollsAhead a a (Ready (Ok front))
+ahead_at_once a front sent f = ([], tt, Moves-none a, sent, AllMoved-none a, f, refl)
+
 pub hears_none : (a : StreamSeen) → HearsOn a a
 hears_none a = record { aside = []; asynchronous = tt; moves = Moves-none a; spare = refl; moved = AllMoved-none a }
 

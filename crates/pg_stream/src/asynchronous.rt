@@ -1,5 +1,6 @@
-ghost use Rattle.std.specs.Prelude.{◌≡◌, IfErr, OnOk, OnErr};
+ghost use Rattle.std.specs.Prelude.{◌≡◌, codes, IfErr, OnOk, OnErr};
 ghost use Rattle.pg_wire.specs.Decoding.{IsRefused};
+ghost use Rattle.pg_wire.specs.Frame.{is_known};
 ghost use Rattle.pg_stream.specs.Asynchronous.{IsSaid, TakesAside};
 ghost use Rattle.pg_stream.specs.Notifications.{KeepsBy};
 ghost use Rattle.pg_stream.specs.Parameters.{SetsBy};
@@ -9,6 +10,13 @@ use crate::notifications::Notifications;
 use crate::parameters::Parameters;
 use pg_wire::{Error, decode_notice_response};
 use std::alloc::{AllocError, Global};
+
+/// Whether a message of this tag is an asynchronous one.
+pub(crate) fn is_asynchronous(tag: u8) -> bool
+    ensures { result ≡ is_known (codes "NSA") tag }
+{
+    matches!(tag, b'N' | b'S' | b'A')
+}
 
 fn check_notice(alloc: Global, body: &[u8]) -> Result<(), Error>
     ensures said { OnOk result (IsSaid (framed 78 body.now)) }

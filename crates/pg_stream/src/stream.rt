@@ -1,10 +1,10 @@
-ghost use Rattle.std.specs.Prelude.{◌≡◌, ◌+◌, ◌-◌, ◌<◌, ◌≤◌, ◌++◌, [], length, take, max, IfOk, OnOk, OnErr, option_map};
+ghost use Rattle.std.specs.Prelude.{◌≡◌, ◌+◌, ◌-◌, ◌<◌, ◌≤◌, ◌++◌, [], length, take, max, IfOk, IfSome, OnOk, OnErr, option_map};
 ghost use Rattle.std.specs.Prelude.{nat_eq, List, ℕ};
 ghost use Rattle.pg_stream.specs.Streams.{stream_by, fresh_stream, SendsOnce, ReadsOnce, PollsSend, PollsFront, PollsFrame, PollsHeard, FrontIs, IsFront, IsHeardFront, IsFrontOf, TakesFront, TakesHeard, Passes, PassesAside, PollsAhead, AheadOnce, framed};
 ghost use Rattle.pg_stream.specs.Parameters.{value_of};
 ghost use Rattle.pg_stream.specs.Notifications.{TakesOldest, keeping_from};
 
-use crate::asynchronous::{note_aside, take_aside};
+use crate::asynchronous::{is_asynchronous, note_aside, take_aside};
 use crate::notifications::Notifications;
 use crate::outgoing::Outgoing;
 use crate::parameters::Parameters;
@@ -276,6 +276,19 @@ impl<L> PgStream<L> {
         front_of(self.held.as_slice())
     }
 
+    // The frame at the front, where nothing is left to be sent, it has come whole, and it is no asynchronous message.
+    fn heard_front(&self) -> Option<Front>
+        ensures { IfSome result (λ front. (self.now.unsent ≡ []) × IsHeardFront self.now.held front) }
+    {
+        if !self.is_sent() {
+            return None;
+        }
+        match self.front() {
+            Ok(Some(front)) if !is_asynchronous(front.tag) => Some(front),
+            _ => None,
+        }
+    }
+
     /// The body of the frame at the front.
     pub fn body(&self, front: Front) -> &[u8]
         requires { IsFront self.now.held front }
@@ -497,6 +510,9 @@ impl<L: Link> PgStream<L> {
     pub fn poll_ahead(&mut self, alloc: Global) -> Poll<Result<Front, Error>>
         ensures { PollsAhead (stream_by L.seen self.old) (stream_by L.seen self.new) result }
     {
+        if let Some(front) = self.heard_front() {
+            return Poll::Ready(Ok(front));
+        }
         loop {
             if let Some(answer) = self.ahead_once(alloc) {
                 return answer;
