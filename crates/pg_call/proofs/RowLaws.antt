@@ -74,6 +74,11 @@ passes_row a body values next says goes keeps =
     let same : added a.kind a.tally (Row row) ≡ a.tally = adds_none a.kind a.tally row keeps in
     (DataRow values, says, (next, goes, ap (λ (t : Tally). record a { tally = t; part = next }) (sym same), rw none refl, tt))
 
+-- one that is kept for the answer with all others is shown by none
+pub keeps_all_row : (a : Reply) (body : List ℕ) (values : Values) (next : Part) → Says 68 body (DataRow values) → goes_on a.part (DataRow values) ≡ Some next → a.kind ≡ kinds.Run hows.FetchAll
+    → Hears a (record a { tally = added a.kind a.tally (Row (record { values = values; heading = a.heading })); part = next }) 68 body heards.More
+keeps_all_row a body values next says goes all = (DataRow values, says, (next, goes, refl, rw all refl, tt))
+
 -- so do columns that nobody sees
 pub passes_columns : (a : Reply) (body : List ℕ) (fields : List FieldDescription) (next : Part) → Says 84 body (RowDescription fields) → goes_on a.part (RowDescription fields) ≡ Some next → a.heading.columns ≡ None → Hears a (record a { part = next }) 84 body heards.More
 passes_columns a body fields next says goes none =

@@ -34,7 +34,7 @@ use Rattle.pg_call.specs.Requests.{Group, said_in, spelled, kind_of, groups_of, 
 use Rattle.pg_call.specs.Items.{heading_after, parameters_after, own_items, shown, tally_of, answer_to}
 use Rattle.pg_call.specs.Replies.{awaits_first, part_after, may_stray}
 use Rattle.pg_call.specs.Drains.{is_error, before_readys, after_readys, failed_after, drain_fails}
-use Rattle.pg_call.specs.Hearing.{IsOpen, framed, fails_of}
+use Rattle.pg_call.specs.Hearing.{IsOpen, IsReplied, framed, fails_of, just, looks_up}
 
 -- ---- a running call
 
@@ -230,6 +230,10 @@ StaysIn before fails behind = ⊥
 abbrev pub TakesMessage : ℕ → List ℕ → Running → Running → Taken → Type 0
 TakesMessage tag body a b taken = (start : Ledger) (r : Request) (said : List FrontendMessage) (hs : List Frame) (items : List CallItem)
     → CallIs start r said hs items a.ledger a.call → CallTakes start r (said ++ fails_of taken.fails_copy) (hs ++ framed tag body ∷ []) items b.ledger b.call taken.beat
+
+-- a row of the own reply is taken that shows nothing, and from which nothing is learnt
+abbrev pub PassesRowOf : List ℕ → Running → Running → Type 0
+PassesRowOf body a b = TakesMessage 68 body a b (just beats.More) × StaysIn a.call false b.call × IsReplied b.call × (looks_up b.call ≡ false)
 
 -- why the message is refused, whatever came before it
 abbrev pub RefusesMessage : ℕ → List ℕ → Running → Error → Type 0

@@ -37,7 +37,7 @@ use Rattle.pg_call.specs.declared.calling.Beat.TheVariants as beats
 use Rattle.pg_call.specs.declared.calling.Taken.{Taken}
 use Rattle.pg_call.specs.declared.running.Running.{Running}
 use Rattle.pg_call.specs.Requests.{copy_fail, kind_of, request_behind, rest_of, heading_of, told, looked_behind}
-use Rattle.pg_call.specs.Items.{news_of, heading_by, parameters_by, item_by, yields, added, empty_tally, finished, keeps_row}
+use Rattle.pg_call.specs.Items.{news_of, heading_by, parameters_by, item_by, yields, added, empty_tally, finished, keeps_all, keeps_row}
 use Rattle.pg_call.specs.Replies.{awaits_first, goes_on, may_close, may_stray}
 use Rattle.pg_call.specs.Drains.{is_error, failed_behind, fails_for}
 
@@ -154,6 +154,11 @@ idle_with ledger = record { ledger = ledger; call = calls.Idle }
 abbrev pub keeps_now : Call → Bool
 keeps_now (calls.Own reply) = keeps_row reply.kind reply.tally.first
 keeps_now _ = false
+
+-- whether all rows of the own reply are kept for its answer
+abbrev pub collects : Call → Bool
+collects (calls.Own reply) = keeps_all reply.kind
+collects _ = false
 
 -- whether it is the reply to a lookup
 abbrev pub is_look : Rest → Bool

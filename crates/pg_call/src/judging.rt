@@ -1,4 +1,4 @@
-ghost use Rattle.std.specs.Prelude.{◌≡◌, true, false, length};
+ghost use Rattle.std.specs.Prelude.{◌≡◌, true, false, length, IfSome};
 ghost use Rattle.pg_wire.specs.Backend as backend;
 ghost use Rattle.pg_wire.specs.Backend.{Values};
 ghost use Rattle.pg_wire.specs.Decoding.{Says};
@@ -163,7 +163,7 @@ impl Part {
     }
 
     // The same of a row that has as many values as this body claims.
-    fn after_claimed(self, body: &[u8]) -> Option<Part>
+    pub(crate) fn after_claimed(self, body: &[u8]) -> Option<Part>
         ensures { (values : Values) → Says 68 body.now (backend.DataRow values) → result ≡ after_row self (length values) }
     {
         match claimed_width(body) {
@@ -387,7 +387,18 @@ pub fn pass_row(alloc: Global, part: Part, body: &[u8]) -> Result<Part, Error>
     }
 }
 
-/// The same of a row that is cut from its frame.
+/// What is awaited behind a row of which nothing is kept, where it may come.
+#[tactic(auto, using(crate::proofs::PlaceLaws::row_goes))]
+pub(crate) fn row_passed(part: Part, body: &[u8]) -> Option<Part>
+    ensures { IfSome result (λ next. PassesRow part body.now (Ok next)) }
+{
+    match check_data_row(body) {
+        Ok(width) => part.after_row(usize::from(width)),
+        Err(_) => None,
+    }
+}
+
+/// What a row is to the reply that has come so far, which is cut from its frame.
 pub fn judge_row(alloc: Global, part: Part, frame: Frame) -> Result<Verdict, Error>
     ensures { Judges part 68 frame.body result }
 {

@@ -1,14 +1,18 @@
-ghost use Rattle.std.specs.Prelude.{◌≡◌, [], filter, IfOk, IfErr};
+ghost use Rattle.std.specs.Prelude.{◌≡◌, [], true, false, filter, IfOk, IfErr, OnOk, OnErr};
 ghost use Rattle.pg_wire.specs.Backend.{BackendMessage};
+ghost use Rattle.pg_call.specs.declared.kind.How.TheVariants as hows;
+ghost use Rattle.pg_call.specs.declared.kind.Kind.TheVariants as kinds;
 ghost use Rattle.pg_call.specs.Items.{added, finished, item_by, keeps_row, shown_if, yields};
 ghost use Rattle.pg_call.specs.Replies.{IsFault, IsVerdict, MayNotCome, list_of};
 ghost use Rattle.pg_call.specs.Hearing.{Hears, HearsMessage, HearsNews, Opens, Shows, fed_part, opens_at, gone_on, handed_on};
 
-use crate::judging::{judge_row, pass_columns, pass_row};
+use crate::judging::{judge_row, pass_columns, pass_row, row_passed};
 use crate::{CallAnswer, CallItem, How, Kind, News, Part, Request, Rest, Tally, Verdict, judge};
 use pg_rows::{Heading, PgRow};
-use pg_wire::{CopyResponseData, DataRow, Error, Frame, Oids, PgDatabaseError, TransactionStatus};
-use std::alloc::Global;
+use pg_wire::{
+    CopyResponseData, DataRow, Error, Frame, Oids, PgDatabaseError, TransactionStatus, cut_data_row,
+};
+use std::alloc::{AllocError, Global};
 
 /// The call's own reply, as far as it has come.
 pub struct Reply {
@@ -173,7 +177,58 @@ impl Reply {
         self.hear(verdict)
     }
 
-    /// The same of a row, which is cut from its frame.
+    /// The same of a row of which nothing is kept, where it may come: whether it does. Else nothing has changed.
+    #[tactic(auto, using(crate::proofs::RowLaws::passes_row))]
+    pub(crate) fn passes_row(&mut self, body: &[u8]) -> bool
+        ensures yes { result ≡ true → Hears self.old self.new 68 body.now Heard.More }
+        ensures no { result ≡ false → self.new ≡ self.old }
+        ensures rest { self.new.rest ≡ self.old.rest }
+    {
+        if self.keeps_rows() {
+            return false;
+        }
+        match row_passed(self.part, body) {
+            Some(part) => {
+                self.part = part;
+                true
+            }
+            None => false,
+        }
+    }
+
+    // One more row for the answer, where there is memory for it.
+    fn keep(&mut self, values: DataRow) -> Result<(), AllocError>
+        requires { self.old.kind ≡ kinds.Run hows.FetchAll }
+        ensures ok { OnOk result (self.new ≡ record self.old { tally = added self.old.kind self.old.tally (CallItem.Row (record { values = values; heading = self.old.heading })) }) }
+        ensures err { OnErr result (self.new ≡ self.old) }
+    {
+        let heading = self.heading.share()?;
+        self.tally.rows.push(PgRow::new(values, heading))
+    }
+
+    /// The same of a row that is kept for the answer with all others, where it may come and there is memory for it. It is cut from its frame.
+    pub(crate) fn keeps_row(&mut self, alloc: Global, frame: Frame) -> bool
+        requires { self.old.kind ≡ kinds.Run hows.FetchAll }
+        ensures yes { result ≡ true → Hears self.old self.new 68 frame.body Heard.More }
+        ensures no { result ≡ false → self.new ≡ self.old }
+        ensures rest { self.new.rest ≡ self.old.rest }
+    {
+        let Some(part) = self.part.after_claimed(frame.body()) else {
+            return false;
+        };
+        let Ok(values) = cut_data_row(alloc, frame) else {
+            return false;
+        };
+        match self.keep(values) {
+            Ok(()) => {
+                self.part = part;
+                true
+            }
+            Err(_) => false,
+        }
+    }
+
+    /// What a row makes of the reply, which is cut from its frame.
     pub fn take_row(&mut self, alloc: Global, frame: Frame) -> Result<Heard, Error>
         ensures ok { IfOk result (Hears self.old self.new 68 frame.body) }
         ensures err { IfErr result (IsFault (MayNotCome self.old.part) 68 frame.body) }

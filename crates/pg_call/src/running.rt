@@ -1,10 +1,11 @@
 ghost use Rattle.std.specs.Prelude.{◌≡◌, ◌≢◌, ◌<◌, true, false, IfOk, IfErr, OnErr};
 ghost use Rattle.pg_wire.specs.Decoding.{IsRefused};
-ghost use Rattle.pg_call.specs.Calls.{owes_own, IsAwaiting, StaysIn, TakesMessage, RefusesMessage};
-ghost use Rattle.pg_call.specs.Hearing.{Drains, Closes, RefusesCopy, Follows, IsOpen, IsReplied, fed_whole, asked_in, awaits, keeps_now, looks_up, marked, sent_answer, waits, without_asked};
+ghost use Rattle.pg_call.specs.Calls.{owes_own, IsAwaiting, PassesRowOf, StaysIn, TakesMessage, RefusesMessage};
+ghost use Rattle.pg_call.specs.Hearing.{Drains, Closes, RefusesCopy, Follows, IsOpen, IsReplied, fed_whole, asked_in, awaits, collects, keeps_now, looks_up, marked, sent_answer, waits, without_asked};
 
 use crate::{
-    Beat, Call, CallAnswer, CallItem, Heard, Ledger, Part, Reply, Request, Rest, Taken, Waiting,
+    Beat, Call, CallAnswer, CallItem, Heard, How, Kind, Ledger, Part, Reply, Request, Rest, Taken,
+    Waiting,
 };
 use pg_wire::{
     Blob, Error, Frame, ProtocolFault, TransactionStatus, decode_error_response,
@@ -314,7 +315,48 @@ impl Running {
         }
     }
 
-    /// The same of a row of the own reply, which is cut from its frame.
+    /// Whether all rows of the own reply are kept for its answer.
+    pub fn collects(&self) -> bool
+        ensures { result ≡ collects self.now.call }
+    {
+        match &self.call {
+            Call::Own(reply) => matches!(reply.kind, Kind::Run(How::FetchAll)),
+            Call::Idle | Call::Asked(_) | Call::Waiting(_) | Call::Closing => false,
+        }
+    }
+
+    /// Takes a row of the own reply of which nothing is kept or learnt, where it is one and may come: whether it did. Else nothing has changed.
+    pub fn passes_row(&mut self, body: &[u8]) -> bool
+        ensures yes { result ≡ true → PassesRowOf body.now self.old self.new }
+        ensures no { result ≡ false → self.new ≡ self.old }
+    {
+        if self.looks_up() {
+            return false;
+        }
+        match &mut self.call {
+            Call::Own(reply) => reply.passes_row(body),
+            Call::Idle | Call::Asked(_) | Call::Waiting(_) | Call::Closing => false,
+        }
+    }
+
+    /// The same of a row that is kept for the answer with all others, and cut from its frame, where there is memory for it.
+    pub fn keeps_row(&mut self, alloc: Global, frame: Frame) -> bool
+        ensures yes { result ≡ true → PassesRowOf frame.body self.old self.new }
+        ensures no { result ≡ false → self.new ≡ self.old }
+    {
+        if self.looks_up() {
+            return false;
+        }
+        match &mut self.call {
+            Call::Own(reply) => match reply.kind {
+                Kind::Run(How::FetchAll) => reply.keeps_row(alloc, frame),
+                _ => false,
+            },
+            Call::Idle | Call::Asked(_) | Call::Waiting(_) | Call::Closing => false,
+        }
+    }
+
+    /// What a row makes of the call, which is one of the own reply and is cut from its frame. An `Err` leaves it where it is.
     pub fn take_row(&mut self, alloc: Global, frame: Frame) -> Result<Taken, Error>
         requires { IsReplied self.old.call }
         ensures ok { IfOk result (TakesMessage 68 frame.body self.old self.new) }
