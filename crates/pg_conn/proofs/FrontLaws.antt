@@ -43,7 +43,7 @@ use Rattle.pg_call.proofs.FitLaws.{shown_fits}
 use Rattle.pg_call.proofs.LeaveLaws.{leaves_call, call_well, closing_fine, flush_fine}
 use Rattle.pg_conn.specs.Connections.{ConnOf, ConnSeen, Standing, standing, seen_by, idle, with_spare, queued_call, awaiting, closing, frames_in}
 use Rattle.pg_conn.specs.Statements.{moved}
-use Rattle.pg_conn.specs.Turns.{TakesHeard, HearsBy, kept_for, HearsFront, running_of, IsMissed, FailsBy, Tells, BeatCause, TakesBeat, IsAsked, cleanup_of, only_sends, Readies, Accepts, queued_copy_fail, level_of, behind, LearnsFrom, TakesIn}
+use Rattle.pg_conn.specs.Turns.{TakesHeard, HearsBy, kept_for, HearsFront, running_of, IsMissed, FailsBy, Tells, BeatCause, TakesBeat, IsAsked, cleanup_of, only_sends, Readies, Accepts, queued_copy_fail, level_of, behind, LearnsFrom, PassesFront, TakesIn}
 use Rattle.pg_startup.proofs.GreetLaws.{heard_none, heard_one}
 use Rattle.pg_conn.proofs.OwedLaws.{is_Z, no_groups, none_asked}
 use Rattle.pg_conn.proofs.TurnLaws.{TakesBeat-then, grew-none, Keeps, keeps, keeps_idle, same_level, stays, starved, refused, asks_reply, asks_nothing, kept}
@@ -452,6 +452,16 @@ ahead_in {A} seen v r h b front told beat f sent room le roomy now hears takes =
 -- one that shows nothing, and isn't learnt from
 pub passed_in : {A : Type 0} (h b : ConnOf A) (front : Front) (told : Result Taken Error) → told ≡ Ok (record { beat = beats.More; fails_copy = false }) → (front.tag == 68 && looks_up h.call) ≡ false → Accepts front false h b → TakesHeard front told h b beats.More
 passed_in h b front told more plain accepts = rw more (h, Ok tt, (refl, inr (plain, refl, refl)), (accepts, refl))
+
+no_copy : (tag : ℕ) → tag ≡ 68 → tag ≡ 71 → ⊥
+no_copy tag row copy = absurd (omega (arith, row, copy))
+
+-- a row that shows nothing at once, and from which nothing is learnt
+pub row_in : {A : Type 0} (seen : A → LinkSeen) (a h b : ConnOf A) (front : Front) → IsHeardFront a.stream.held front → a.stream.unsent ≡ [] → PassesFront front a h → Accepts front false h b → TakesBeat (seen_by seen a) (seen_by seen b) beats.More
+row_in {A} seen a h b front f sent (tag, now, body, rest, of, (takes, stay, own, plain)) accepts =
+    let told : Result Taken Error = Ok (record { beat = beats.More; fails_copy = false }) in
+    let hears : HearsFront front a h told = (body, rest, of, (subst (λ (t : ℕ). TakesMessage t body (running_of a) (running_of h) (record { beat = beats.More; fails_copy = false })) (sym tag) takes, (λ e. absurd cc), (λ e. absurd cc), stay)) in
+    heard_in seen a h b front told beats.More f (λ e. absurd (no_copy front.tag tag e)) sent now hears (passed_in h b front told refl (rw (plain, tag) refl) accepts)
 
 -- what was heard of it takes nothing of what the link may still give
 pub same_fuel : {A : Type 0} (seen : A → LinkSeen) (r h : ConnOf A) → h ≡ record r { ledger = h.ledger; call = h.call } → fuel_of (stream_by seen h.stream) ≡ fuel_of (stream_by seen r.stream)

@@ -33,7 +33,7 @@ use Rattle.pg_call.specs.Drains.{is_error}
 use Rattle.pg_call.specs.Hearing.{IsOpen, fails_of, looks_up, sent_answer}
 use Rattle.pg_call.specs.declared.calling.Taken.{Taken}
 use Rattle.pg_call.specs.declared.running.Running.{Running}
-use Rattle.pg_call.specs.Calls.{CallIs, IsAwaiting, Leaves, CallEnds, IsFrontFault, TakesMessage, RefusesMessage, StaysIn}
+use Rattle.pg_call.specs.Calls.{CallIs, IsAwaiting, Leaves, CallEnds, IsFrontFault, PassesRowOf, TakesMessage, RefusesMessage, StaysIn}
 use Rattle.pg_conn.specs.Looking.{AsksFirst, AsksNext, Learns, LookFails, TakesFront, named_by}
 use Rattle.pg_conn.specs.Connections.{ConnOf, ConnSeen, idle, left, standing, started_call, begun, begun_with, resolved, settled, cleaned, ended, ends_copy, unfed}
 use Rattle.pg_conn.specs.Statements.{asked_by, begun_as}
@@ -245,6 +245,10 @@ running_of c = record { ledger = c.ledger; call = c.call }
 
 abbrev pub HearsFront : {A : Type 0} → Front → ConnOf A → ConnOf A → Result Taken Error → Type 0
 HearsFront front a b result = (body : List ℕ) × (rest : List ℕ) × IsFrontOf a.stream.held front (framed front.tag body) rest × HearsBy front.tag body (running_of a) (running_of b) result
+
+-- the call has taken a row at the front that shows nothing at once, and from which nothing is learnt
+abbrev pub PassesFront : {A : Type 0} → Front → ConnOf A → ConnOf A → Type 0
+PassesFront front a b = (front.tag ≡ 68) × (b ≡ record a { ledger = b.ledger; call = b.call }) × (body : List ℕ) × (rest : List ℕ) × IsFrontOf a.stream.held front (framed front.tag body) rest × PassesRowOf body (running_of a) (running_of b)
 
 -- the row of a lookup at the front is taken
 abbrev pub LearnsFront : {A : Type 0} → Front → ConnOf A → ConnOf A → Result (Unit {0}) Error → Type 0

@@ -10,7 +10,7 @@ ghost use Rattle.pg_conn.specs.States.{IsCalling, PollFits};
 ghost use Rattle.std.specs.declared.result.Result.{Result as ResultOf};
 ghost use Rattle.pg_wire.specs.declared.error.Error.{Error as ErrorOf};
 ghost use Rattle.pg_conn.specs.Connections.{ConnOf};
-ghost use Rattle.pg_conn.specs.Turns.{LearnsFront, LearnsFrom, TakesHeard, TakesIn, level_of, kept_for, TakesBeat, Falls, GoesOn, HearsFront, Prepares, Readies, Refuses, Accepts, IsAsked, IsSayable, Refused, IsAhead, only_sends, flushes, is_flushed, EndsFlush, queued_copy_fail, Polled, PollsOn, PollsThrough, PollsWithin, PollsCall, PollsMore, beat_of, broken_by, hands_on, HandsOnNone};
+ghost use Rattle.pg_conn.specs.Turns.{LearnsFront, LearnsFrom, PassesFront, TakesHeard, TakesIn, level_of, kept_for, TakesBeat, Falls, GoesOn, HearsFront, Prepares, Readies, Refuses, Accepts, IsAsked, IsSayable, Refused, IsAhead, only_sends, flushes, is_flushed, EndsFlush, queued_copy_fail, Polled, PollsOn, PollsThrough, PollsWithin, PollsCall, PollsMore, beat_of, broken_by, hands_on, HandsOnNone};
 
 use crate::connection::COPY_FAIL;
 use crate::{PgConnection, Request, Turn};
@@ -292,6 +292,24 @@ impl<L: Link> PgConnection<L> {
         }
     }
 
+    // Takes the row at the front, where it shows nothing at once and nothing is learnt from it, as far as the call goes: whether it did.
+    fn takes_row(&mut self, front: Front) -> bool
+        requires { IsHeardFront self.old.stream.held front }
+        ensures yes { result ≡ true → PassesFront front self.old self.new }
+        ensures no { result ≡ false → self.new ≡ self.old }
+    {
+        if front.tag != b'D' {
+            return false;
+        }
+        if !self.running.collects() {
+            return self.running.passes_row(self.stream.body(front));
+        }
+        match self.stream.share(front) {
+            Ok(frame) => self.running.keeps_row(self.alloc, frame),
+            Err(_) => false,
+        }
+    }
+
     // What the message at the front makes of the call.
     fn hear_front(&mut self, front: Front) -> Result<Taken, Error>
         requires awaiting { IsAwaiting self.old.ledger self.old.call }
@@ -397,6 +415,10 @@ impl<L: Link> PgConnection<L> {
                 Poll::Pending => return Beat::Waits,
                 Poll::Ready(Err(e)) => return self.stop(Err(e)),
                 Poll::Ready(Ok(front)) => {
+                    if self.takes_row(front) {
+                        self.accept(front, false);
+                        continue;
+                    }
                     if let Err(e) = self.make_room(front) {
                         return self.stop(Err(e));
                     }
