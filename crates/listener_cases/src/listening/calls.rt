@@ -2,8 +2,8 @@
 ghost use Rattle.std.specs.Prelude.{◌≡◌};
 
 use crate::listening::polling::{change, fetch_many, fetch_optional, recv, try_recv};
-use crate::listening::statements::{make_describe, make_prepare, make_row};
-use crate::listening::telling::{buffered, changed, counted, found, lost, received, tried};
+use crate::listening::statements::{describe, described, prepare, prepared, shown};
+use crate::listening::telling::{buffered, changed, counted, found, handed_out, received, tried};
 use pg_conn::{MemoryDial, Preparation, Query};
 use pg_listen::{PgPool, PoolLedger, PoolSeat};
 use pg_listeners::{ChannelChange, PgListener, PoolHolder, SeatHolder};
@@ -53,108 +53,6 @@ fn preparation(alloc: Global) -> Result<Preparation, AllocError> {
     Ok(Preparation::untyped(alloc, Text::from_str(alloc, SQL)?))
 }
 
-fn make_change<G, P, S, R>(
-    rt: &R,
-    out: &mut String,
-    listener: &mut PgListener<G, P, S, MemoryDial>,
-    asked: ChannelChange,
-)
-where
-    G: PoolLedger,
-    P: PoolHolder<G, MemoryLink>,
-    S: SeatHolder<Seat = PoolSeat<G>>,
-    R: Wait,
-{
-    let answer = change(rt, listener, asked, POLLS);
-    changed(out, &answer);
-    drop(answer);
-}
-
-fn make_try<G, P, S, R>(
-    rt: &R,
-    out: &mut String,
-    listener: &mut PgListener<G, P, S, MemoryDial>,
-    polls: u32,
-)
-where
-    G: PoolLedger,
-    P: PoolHolder<G, MemoryLink>,
-    S: SeatHolder<Seat = PoolSeat<G>>,
-    R: Wait,
-{
-    let answer = try_recv(rt, listener, polls);
-    tried(out, &answer);
-    drop(answer);
-}
-
-fn make_recv<G, P, S, R>(rt: &R, out: &mut String, listener: &mut PgListener<G, P, S, MemoryDial>)
-where
-    G: PoolLedger,
-    P: PoolHolder<G, MemoryLink>,
-    S: SeatHolder<Seat = PoolSeat<G>>,
-    R: Wait,
-{
-    let answer = recv(rt, listener, POLLS);
-    received(out, &answer);
-    drop(answer);
-}
-
-fn make_fetch<G, P, S, R>(
-    rt: &R,
-    out: &mut String,
-    listener: &mut PgListener<G, P, S, MemoryDial>,
-    query: Query,
-)
-where
-    G: PoolLedger,
-    P: PoolHolder<G, MemoryLink>,
-    S: SeatHolder<Seat = PoolSeat<G>>,
-    R: Wait,
-{
-    let answer = fetch_many(rt, listener, query, POLLS);
-    counted(out, &answer);
-    drop(answer);
-}
-
-fn make_first<G, P, S, R>(
-    rt: &R,
-    out: &mut String,
-    listener: &mut PgListener<G, P, S, MemoryDial>,
-    query: Query,
-)
-where
-    G: PoolLedger,
-    P: PoolHolder<G, MemoryLink>,
-    S: SeatHolder<Seat = PoolSeat<G>>,
-    R: Wait,
-{
-    let answer = fetch_optional(rt, listener, query, POLLS);
-    found(out, &answer);
-    drop(answer);
-}
-
-fn next<G, P, S>(out: &mut String, listener: &mut PgListener<G, P, S, MemoryDial>)
-where
-    G: PoolLedger,
-    P: PoolHolder<G, MemoryLink>,
-    S: SeatHolder<Seat = PoolSeat<G>>,
-{
-    let told = listener.next_buffered();
-    buffered(out, &told);
-    drop(told);
-}
-
-fn take<G, P, S>(out: &mut String, listener: &mut PgListener<G, P, S, MemoryDial>)
-where
-    G: PoolLedger,
-    P: PoolHolder<G, MemoryLink>,
-    S: SeatHolder<Seat = PoolSeat<G>>,
-{
-    let links = listener.take_lost();
-    lost(out, links.as_slice());
-    drop(links);
-}
-
 /// A call of a row.
 pub(crate) fn make<G, P, S, R>(
     rt: &R,
@@ -170,19 +68,28 @@ where
     R: Wait,
 {
     match call {
-        "recv" => make_recv(rt, out, listener),
-        "try" => make_try(rt, out, listener, POLLS),
-        "poll" => make_try(rt, out, listener, 1),
-        "many" => make_fetch(rt, out, listener, Query::raw(alloc, SQL)?),
-        "first" => make_first(rt, out, listener, Query::raw(alloc, SQL)?),
-        "row" => make_row(rt, out, listener, Query::new(alloc, SQL)?),
-        "prepare" => make_prepare(rt, out, listener, preparation(alloc)?),
-        "describe" => make_describe(rt, out, listener, Text::from_str(alloc, SQL)?),
-        "next" => next(out, listener),
-        "take" => take(out, listener),
+        "recv" => received(out, recv(rt, listener, POLLS)),
+        "try" => tried(out, try_recv(rt, listener, POLLS)),
+        "poll" => tried(out, try_recv(rt, listener, 1)),
+        "many" => counted(
+            out,
+            fetch_many(rt, listener, Query::raw(alloc, SQL)?, POLLS),
+        ),
+        "first" => found(
+            out,
+            fetch_optional(rt, listener, Query::raw(alloc, SQL)?, POLLS),
+        ),
+        "row" => shown(
+            out,
+            fetch_optional(rt, listener, Query::new(alloc, SQL)?, POLLS),
+        ),
+        "prepare" => prepared(out, prepare(rt, listener, preparation(alloc)?)),
+        "describe" => described(out, describe(rt, listener, Text::from_str(alloc, SQL)?)),
+        "next" => buffered(out, listener.next_buffered()),
+        "take" => handed_out(out, listener.take_lost()),
         "lazy" => listener.eager_reconnect(false),
         "ignore" => listener.ignore_pool_close_event(true),
-        call => make_change(rt, out, listener, change_of(alloc, call)?),
+        call => changed(out, change(rt, listener, change_of(alloc, call)?, POLLS)),
     }
     Ok(())
 }

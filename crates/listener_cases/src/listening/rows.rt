@@ -31,9 +31,7 @@ type Stream<'p, G> = NotificationStream<G, &'p Pool<G>, &'p mut PoolSeat<G>, Mem
 
 fn ask_stream<G: PoolLedger, R: Wait>(rt: &R, out: &mut String, stream: &mut Stream<'_, G>) {
     for _ in 0..NEXT {
-        let answer = next(rt, stream, POLLS);
-        streamed(out, &answer);
-        drop(answer);
+        streamed(out, next(rt, stream, POLLS));
     }
     lost(out, stream.lost());
 }

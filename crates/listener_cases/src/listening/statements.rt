@@ -1,17 +1,16 @@
-//! A listener that prepares and describes a statement, and runs one that is kept.
+//! Statements that a listener prepares and describes, and what is told of them.
 ghost use Rattle.std.specs.Prelude.{◌≡◌};
 
 use crate::listening::calls::POLLS;
-use crate::listening::polling::fetch_optional;
 use crate::listening::telling::{failed, push};
-use pg_conn::{ColumnOrigin, Dial, MemoryDial, PgColumn, PgRow, PgStatement, Preparation, Query};
+use pg_conn::{ColumnOrigin, Dial, PgColumn, PgRow, PgStatement, Preparation};
 use pg_listen::{PoolLedger, PoolSeat};
 use pg_listeners::{Describe, PgListener, PoolHolder, SeatHolder};
-use pg_stream::MemoryLink;
 use pg_wire::{Error, Poll, Text};
 use std::sync::Wait;
 
-fn prepare<G, P, S, D, R>(
+/// Prepares a statement.
+pub(crate) fn prepare<G, P, S, D, R>(
     rt: &R,
     listener: &mut PgListener<G, P, S, D>,
     preparation: Preparation,
@@ -34,7 +33,8 @@ where
     Poll::Pending
 }
 
-fn describe<G, P, S, D, R>(
+/// Describes a statement in full.
+pub(crate) fn describe<G, P, S, D, R>(
     rt: &R,
     listener: &mut PgListener<G, P, S, D>,
     sql: Text,
@@ -83,8 +83,9 @@ fn push_columns(out: &mut String, columns: &[PgColumn]) {
     }
 }
 
-fn prepared(out: &mut String, answer: &Poll<Result<PgStatement, Error>>) {
-    match answer {
+/// A statement, by how many parameters it has, and by its columns.
+pub(crate) fn prepared(out: &mut String, answer: Poll<Result<PgStatement, Error>>) {
+    match &answer {
         Poll::Pending => push(out, " pending"),
         Poll::Ready(Ok(told)) => {
             let _ = write!(out, " parameters {}", told.parameter_oids().len());
@@ -92,15 +93,18 @@ fn prepared(out: &mut String, answer: &Poll<Result<PgStatement, Error>>) {
         }
         Poll::Ready(Err(error)) => failed(out, error),
     }
+    drop(answer);
 }
 
-fn shown(out: &mut String, answer: &Poll<Result<Option<PgRow>, Error>>) {
-    match answer {
+/// A row, by its columns.
+pub(crate) fn shown(out: &mut String, answer: Poll<Result<Option<PgRow>, Error>>) {
+    match &answer {
         Poll::Pending => push(out, " pending"),
         Poll::Ready(Ok(Some(row))) => push_columns(out, row.columns()),
         Poll::Ready(Ok(None)) => push(out, " no row"),
         Poll::Ready(Err(error)) => failed(out, error),
     }
+    drop(answer);
 }
 
 // Whether a column may be null.
@@ -112,8 +116,9 @@ fn nullable(flag: Option<bool>) -> &'static str {
     }
 }
 
-fn described(out: &mut String, answer: &Poll<Result<Describe, Error>>) {
-    match answer {
+/// A statement that is described in full, by its columns and by whether each may be null.
+pub(crate) fn described(out: &mut String, answer: Poll<Result<Describe, Error>>) {
+    match &answer {
         Poll::Pending => push(out, " pending"),
         Poll::Ready(Ok(told)) => {
             push_columns(out, told.columns());
@@ -123,58 +128,5 @@ fn described(out: &mut String, answer: &Poll<Result<Describe, Error>>) {
         }
         Poll::Ready(Err(error)) => failed(out, error),
     }
-}
-
-/// A statement is prepared, and told by how many parameters it has, and by its columns.
-pub(crate) fn make_prepare<G, P, S, R>(
-    rt: &R,
-    out: &mut String,
-    listener: &mut PgListener<G, P, S, MemoryDial>,
-    preparation: Preparation,
-)
-where
-    G: PoolLedger,
-    P: PoolHolder<G, MemoryLink>,
-    S: SeatHolder<Seat = PoolSeat<G>>,
-    R: Wait,
-{
-    let answer = prepare(rt, listener, preparation);
-    prepared(out, &answer);
-    drop(answer);
-}
-
-/// A statement is kept and run, and told by the columns of its row.
-pub(crate) fn make_row<G, P, S, R>(
-    rt: &R,
-    out: &mut String,
-    listener: &mut PgListener<G, P, S, MemoryDial>,
-    query: Query,
-)
-where
-    G: PoolLedger,
-    P: PoolHolder<G, MemoryLink>,
-    S: SeatHolder<Seat = PoolSeat<G>>,
-    R: Wait,
-{
-    let answer = fetch_optional(rt, listener, query, POLLS);
-    shown(out, &answer);
-    drop(answer);
-}
-
-/// A statement is described in full, and told by its columns and by whether each may be null.
-pub(crate) fn make_describe<G, P, S, R>(
-    rt: &R,
-    out: &mut String,
-    listener: &mut PgListener<G, P, S, MemoryDial>,
-    sql: Text,
-)
-where
-    G: PoolLedger,
-    P: PoolHolder<G, MemoryLink>,
-    S: SeatHolder<Seat = PoolSeat<G>>,
-    R: Wait,
-{
-    let answer = describe(rt, listener, sql);
-    described(out, &answer);
     drop(answer);
 }

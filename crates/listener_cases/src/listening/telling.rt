@@ -27,71 +27,78 @@ fn payload(out: &mut String, told: &PgNotification) {
 }
 
 /// What `try_recv` answers.
-pub(crate) fn tried(out: &mut String, answer: &Poll<Result<Option<PgNotification>, Error>>) {
-    match answer {
+pub(crate) fn tried(out: &mut String, answer: Poll<Result<Option<PgNotification>, Error>>) {
+    match &answer {
         Poll::Pending => push(out, " pending"),
         Poll::Ready(Ok(Some(told))) => payload(out, told),
         Poll::Ready(Ok(None)) => push(out, " none"),
         Poll::Ready(Err(error)) => failed(out, error),
     }
+    drop(answer);
 }
 
 /// What `recv` answers.
-pub(crate) fn received(out: &mut String, answer: &Poll<Result<PgNotification, Error>>) {
-    match answer {
+pub(crate) fn received(out: &mut String, answer: Poll<Result<PgNotification, Error>>) {
+    match &answer {
         Poll::Pending => push(out, " pending"),
         Poll::Ready(Ok(told)) => payload(out, told),
         Poll::Ready(Err(error)) => failed(out, error),
     }
+    drop(answer);
 }
 
 /// What a stream answers.
-pub(crate) fn streamed(out: &mut String, answer: &Poll<Option<Result<PgNotification, Error>>>) {
-    match answer {
+pub(crate) fn streamed(out: &mut String, answer: Poll<Option<Result<PgNotification, Error>>>) {
+    match &answer {
         Poll::Pending => push(out, " pending"),
         Poll::Ready(Some(Ok(told))) => payload(out, told),
         Poll::Ready(None) => push(out, " none"),
         Poll::Ready(Some(Err(error))) => failed(out, error),
     }
+    drop(answer);
 }
 
 /// What a change of the channels answers.
-pub(crate) fn changed(out: &mut String, answer: &Poll<Result<(), Error>>) {
-    match answer {
+pub(crate) fn changed(out: &mut String, answer: Poll<Result<(), Error>>) {
+    match &answer {
         Poll::Pending => push(out, " pending"),
         Poll::Ready(Ok(())) => push(out, " ok"),
         Poll::Ready(Err(error)) => failed(out, error),
     }
+    drop(answer);
 }
 
 /// How many rows a query has given.
-pub(crate) fn counted(out: &mut String, answer: &Poll<Result<u64, Error>>) {
-    match answer {
+pub(crate) fn counted(out: &mut String, answer: Poll<Result<u64, Error>>) {
+    match &answer {
         Poll::Pending => push(out, " pending"),
         Poll::Ready(Ok(rows)) => {
             let _ = write!(out, " rows {rows}");
         }
         Poll::Ready(Err(error)) => failed(out, error),
     }
+    drop(answer);
 }
 
 /// Whether a query has given a row.
-pub(crate) fn found(out: &mut String, answer: &Poll<Result<Option<PgRow>, Error>>) {
-    match answer {
+pub(crate) fn found(out: &mut String, answer: Poll<Result<Option<PgRow>, Error>>) {
+    match &answer {
         Poll::Pending => push(out, " pending"),
         Poll::Ready(Ok(Some(_))) => push(out, " row true"),
         Poll::Ready(Ok(None)) => push(out, " row false"),
         Poll::Ready(Err(error)) => failed(out, error),
     }
+    drop(answer);
 }
 
 /// What was read before.
-pub(crate) fn buffered(out: &mut String, told: &Option<PgNotification>) {
+pub(crate) fn buffered(out: &mut String, told: Option<PgNotification>) {
     push(out, " (");
-    if let Some(told) = told {
+    if let Some(told) = &told {
         push(out, told.payload());
     }
     push(out, ")");
+    drop(told);
 }
 
 /// What a link has taken.
@@ -118,6 +125,12 @@ pub(crate) fn lost(out: &mut String, links: &[MemoryLink]) {
     for link in links {
         taken(out, link);
     }
+}
+
+/// The same of links that are handed out.
+pub(crate) fn handed_out(out: &mut String, links: Vec<MemoryLink>) {
+    lost(out, links.as_slice());
+    drop(links);
 }
 
 /// What became of the connection.
