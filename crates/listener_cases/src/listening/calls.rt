@@ -49,6 +49,15 @@ fn change_of(alloc: Global, call: &str) -> Result<ChannelChange, AllocError> {
     }
 }
 
+fn raw(alloc: Global) -> Result<Query, Error> {
+    Query::raw(alloc, SQL)
+}
+
+// A query whose statement is kept.
+fn kept(alloc: Global) -> Result<Query, Error> {
+    Query::new(alloc, SQL)
+}
+
 fn preparation(alloc: Global) -> Result<Preparation, AllocError> {
     Ok(Preparation::untyped(alloc, Text::from_str(alloc, SQL)?))
 }
@@ -71,18 +80,9 @@ where
         "recv" => received(out, recv(rt, listener, POLLS)),
         "try" => tried(out, try_recv(rt, listener, POLLS)),
         "poll" => tried(out, try_recv(rt, listener, 1)),
-        "many" => counted(
-            out,
-            fetch_many(rt, listener, Query::raw(alloc, SQL)?, POLLS),
-        ),
-        "first" => found(
-            out,
-            fetch_optional(rt, listener, Query::raw(alloc, SQL)?, POLLS),
-        ),
-        "row" => shown(
-            out,
-            fetch_optional(rt, listener, Query::new(alloc, SQL)?, POLLS),
-        ),
+        "many" => counted(out, fetch_many(rt, listener, raw(alloc)?, POLLS)),
+        "first" => found(out, fetch_optional(rt, listener, raw(alloc)?, POLLS)),
+        "row" => shown(out, fetch_optional(rt, listener, kept(alloc)?, POLLS)),
         "prepare" => prepared(out, prepare(rt, listener, preparation(alloc)?)),
         "describe" => described(out, describe(rt, listener, Text::from_str(alloc, SQL)?)),
         "next" => buffered(out, listener.next_buffered()),
