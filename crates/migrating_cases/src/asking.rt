@@ -4,15 +4,13 @@ ghost use Rattle.pg_call.specs.declared.kind.Kind.TheVariants as kinds;
 ghost use Rattle.pg_migrating.specs.Forcing.{GoesForce};
 ghost use Rattle.pg_migrating.specs.Sessions.{Goes};
 
-use crate::telling::{Shown, Told, push_call};
+use crate::telling::{Shown, Told, push_call, push_waits};
 use case_tools::push_bytes;
 use pg_guards::PgExecutor;
 use pg_migrating::{DatabaseCall, ForceDropDatabase, MigrateDatabase, Reading, Sessions};
 use pg_options::PgSettings;
-use pg_wire::{Error, Poll};
+use pg_wire::Poll;
 use std::alloc::Global;
-
-type Answer<T> = Poll<Result<T, Error>>;
 
 // What was sent, where a connection waits. What there is no memory for is missing in what is printed.
 fn tell_sent<C: PgExecutor>(conn: Option<&C>, told: &mut String)
@@ -49,16 +47,16 @@ where
             }
         }
     }
-    let waits: Answer<R::Value> = Poll::Pending;
-    push_call(told, word, waits);
+    push_waits(told, word);
     state
 }
 
 fn forcing<D: Sessions>(
     mut state: ForceDropDatabase<'_, D>,
     polls: u64,
+    word: &str,
     told: &mut String,
-) -> Answer<()>
+)
 where
     D::L: Shown,
     requires { GoesForce D.opens state.step state.session state.last }
@@ -66,10 +64,10 @@ where
     for _ in 0..polls {
         match state.poll() {
             Poll::Pending => tell_sent(state.conn(), told),
-            answer => return answer,
+            answer => return push_call(told, word, answer),
         }
     }
-    Poll::Pending
+    push_waits(told, word);
 }
 
 /// Makes a call on the database of a URL, and tells what it answered.
@@ -100,8 +98,7 @@ where
         }
         _ => {
             let state = MigrateDatabase::force_drop_database(alloc, settings, url, dial);
-            let answer = forcing(state, polls, told);
-            push_call(told, word, answer);
+            forcing(state, polls, word, told);
         }
     }
 }

@@ -132,3 +132,9 @@ pub(crate) fn push_call<T: Told, E: Told>(
     push_answer(out, &answer);
     drop(answer);
 }
+
+/// The same of a call that waits still.
+pub(crate) fn push_waits(out: &mut String, word: &str) {
+    push_word(out, word);
+    push(out, "waits\n");
+}
