@@ -276,8 +276,9 @@ impl<L> PgStream<L> {
         front_of(self.held.as_slice())
     }
 
-    // The frame at the front, where nothing is left to be sent, it has come whole, and it is no asynchronous message.
-    fn heard_front(&self) -> Option<Front>
+    /// The frame at the front, where nothing is left to be sent, it has come whole, and it is no asynchronous message.
+    #[inline(always)]
+    pub fn heard_front(&self) -> Option<Front>
         ensures { IfSome result (λ front. (self.now.unsent ≡ []) × IsHeardFront self.now.held front) }
     {
         if !self.is_sent() {
