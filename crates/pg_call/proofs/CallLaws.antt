@@ -31,6 +31,7 @@ use Rattle.pg_exchanges.specs.Answering.{described}
 use Rattle.pg_call.specs.declared.request.Request.{Request}
 use Rattle.pg_call.specs.declared.request.Request.TheVariants as requests
 use Rattle.pg_call.specs.declared.answer.CallItem.{CallItem}
+use Rattle.pg_call.specs.declared.answer.CallItem.TheVariants.{Row}
 use Rattle.pg_call.specs.declared.answer.CallAnswer.{CallAnswer}
 use Rattle.pg_call.specs.declared.judging.Part.{Part}
 use Rattle.pg_call.specs.declared.judging.Part.TheVariants as parts
@@ -49,8 +50,8 @@ use Rattle.pg_call.specs.Requests.{Group, said_in, kind_of, groups_of, messages_
 use Rattle.pg_call.specs.Items.{news_of, heading_by, heading_after, item_by, items_of, yields, shown, tally_of, answer_to, finished, one_row, begun, parameters_after, parameters_by}
 use Rattle.pg_call.specs.Replies.{awaits_first, goes_on, may_close, part_after, may_stray, MayNotCome, IsFault}
 use Rattle.pg_call.specs.Drains.{is_error, is_copy_in, before_readys, after_readys, failed_behind, fails_for, drain_fails}
-use Rattle.pg_call.specs.Hearing.{framed, added_all, gone_on, HearsMessage, Hears, marked, ledger_behind, fails_of, DrainsBy, Drains, Follows, handed_on, is_look, just, looks_up}
-use Rattle.pg_call.specs.Calls.{answer_by, IsDraining, IsReplying, owes_own, owes_none, CallIs, owner_failed, Leaves, IsFine, EndsFine, CallEnds, IsFrontFault, CallTakes, PassesRowOf, StaysIn, TakesMessage, RefusesMessage}
+use Rattle.pg_call.specs.Hearing.{framed, added_all, gone_on, HearsMessage, Hears, marked, ledger_behind, fails_of, Closes, ClosesBy, DrainsBy, Drains, Follows, IsReplied, handed_on, is_look, just, looks_up}
+use Rattle.pg_call.specs.Calls.{answer_by, IsDraining, IsReplying, owes_own, owes_none, CallIs, owner_failed, Leaves, IsFine, EndsFine, CallEnds, IsFrontFault, CallTakes, EndsBy, PassesOf, PassesRowOf, ShowsRowOf, StaysIn, TakesMessage, RefusesMessage}
 use Rattle.pg_call.proofs.DrainLaws.{count-push, count-same, after_below, after_from, before_below, before_from, failed-push, fails-push, still_failed, no_more_failed}
 use Rattle.pg_call.proofs.ItemLaws.{items-push, heading-push, tally-more, parameters-push}
 use Rattle.pg_wire.specs.Refusals.{BeginsCopyResponse}
@@ -664,6 +665,31 @@ own_stays tag a b reply reply' (heards.Opens opened) taken k f = rw (k, f.0, f.1
 own_stays tag a b reply reply' (heards.Failed error) taken k f = rw f.0 tt
 own_stays tag a b reply reply' (heards.Closed status) taken k f = rw f.0 tt
 own_stays tag a b reply reply' heards.Strays taken k f = rw f.0 tt
+
+-- a row of the own reply that is shown at once, and from which nothing is learnt
+pub own_shows : (body : List ℕ) (row : RowSeen) (a : Running) (reply reply' : Reply) → a.call ≡ calls.Own reply → Hears reply reply' 68 body (heards.Yields (Row row)) → looks_up a.call ≡ false → reply'.rest ≡ reply.rest → ShowsRowOf body row a (as_call a.ledger (calls.Own reply'))
+own_shows body row a reply reply' k h plain rest =
+    let b = as_call a.ledger (calls.Own reply') in
+    let same : looks_up (calls.Own reply) ≡ false = subst (λ (c : Call). looks_up c ≡ false) k plain in
+    (own_oks 68 body a b reply reply' (heards.Yields (Row row)) (just (beats.Yields (Row row))) k h (refl, refl), own_stays 68 a b reply reply' (heards.Yields (Row row)) (just (beats.Yields (Row row))) k (refl, refl), tt, ap is_look rest ∙ same)
+
+-- any other message of the own reply that shows nothing
+pub own_passes_other : (tag : ℕ) (body : List ℕ) (a : Running) (reply reply' : Reply) → a.call ≡ calls.Own reply → Hears reply reply' tag body heards.More → tag ≢ 68 → tag ≢ 71 → PassesOf tag body a (as_call a.ledger (calls.Own reply'))
+own_passes_other tag body a reply reply' k h row copy =
+    let b = as_call a.ledger (calls.Own reply') in
+    (row, copy, own_oks tag body a b reply reply' heards.More (just beats.More) k h (refl, refl), own_stays tag a b reply reply' heards.More (just beats.More) k (refl, refl), tt)
+
+-- the end of the own reply
+pub own_ends : (body : List ℕ) (a b : Running) (status : TransactionStatus) (answer : Result CallAnswer Error) (call : Call) → a.call ≡ call → ClosesBy status body call → Closes status a b (just (beats.Ends answer)) → EndsBy body answer a b
+own_ends body a b status answer (calls.Own reply) k h closes =
+    let same : as_call a.ledger (calls.Own reply) ≡ a = ap (λ (c : Call). as_call a.ledger c) (sym k) in
+    let follows : Closes status (as_call a.ledger (calls.Own reply)) b (just (beats.Ends answer)) = subst (λ (x : Running). Closes status x b (just (beats.Ends answer))) (sym same) closes in
+    (own_oks 90 body a b reply reply (heards.Closed status) (just (beats.Ends answer)) k h follows, own_stays 90 a b reply reply (heards.Closed status) (just (beats.Ends answer)) k follows)
+own_ends body a b status answer _ k h closes = absurd h
+
+pub closes_replied : (status : TransactionStatus) (body : List ℕ) (call : Call) → ClosesBy status body call → IsReplied call
+closes_replied status body (calls.Own reply) h = tt
+closes_replied status body _ h = absurd h
 
 -- a row of the own reply that shows nothing, and from which nothing is learnt
 pub own_passes : (body : List ℕ) (a : Running) (reply reply' : Reply) → a.call ≡ calls.Own reply → Hears reply reply' 68 body heards.More → looks_up a.call ≡ false → reply'.rest ≡ reply.rest → PassesRowOf body a (as_call a.ledger (calls.Own reply'))

@@ -1,21 +1,26 @@
 -- A row that is neither shown nor kept changes nothing.
-use Rattle.std.proofs.Common.{◌≡◌, ℕ, false, List, Option, Some, None, Result, Ok, Err, IfOk, refl, sym, ap}
+use Rattle.std.proofs.Common.{◌≡◌, ℕ, ◌+◌, ◌-◌, ◌^◌, min, true, false, length, option_map, List, Option, Some, None, IsSome, Result, Ok, Err, IfOk, refl, sym, ap}
 use Rattle.pg_wire.specs.declared.error.Error.{Error}
-use Rattle.pg_wire.specs.Backend.{FieldDescription, BackendMessage, Values, RowDescription, DataRow}
+use Rattle.pg_wire.specs.Backend.{FieldDescription, BackendMessage, Values, RowDescription, DataRow, CommandComplete}
 use Rattle.pg_wire.specs.Decoding.{Says}
+use Rattle.pg_wire.specs.Completion.{rows_affected}
+use Rattle.pg_wire.specs.Frame.{is_known}
 use Rattle.pg_rows.specs.Rows.{RowSeen}
+use Rattle.pg_columns.specs.Told.{columns_of}
 use Rattle.pg_columns.specs.declared.column.PgColumn.{PgColumn}
+use Rattle.pg_call.specs.declared.query_result.PgQueryResult.{PgQueryResult}
+use Rattle.pg_call.proofs.PlaceLaws.{describes_at, ends_at}
 use Rattle.pg_call.specs.declared.kind.How.TheVariants as hows
 use Rattle.pg_call.specs.declared.kind.Kind.{Kind}
 use Rattle.pg_call.specs.declared.kind.Kind.TheVariants as kinds
-use Rattle.pg_call.specs.declared.answer.CallItem.TheVariants.{Row}
+use Rattle.pg_call.specs.declared.answer.CallItem.TheVariants.{Count, Row}
 use Rattle.pg_call.specs.declared.tally.Tally.{Tally}
 use Rattle.pg_call.specs.declared.reply.Reply.{Reply}
 use Rattle.pg_call.specs.declared.judging.Verdict.{Verdict}
 use Rattle.pg_call.specs.declared.reply.Heard.{Heard}
 use Rattle.pg_call.specs.declared.reply.Heard.TheVariants as heards
-use Rattle.pg_call.specs.Items.{added, first_of, keeps_row, yields}
-use Rattle.pg_call.specs.Replies.{goes_on, IsVerdict, Judges}
+use Rattle.pg_call.specs.Items.{added, first_of, keeps_row, shows_counts, shows_rows, yields}
+use Rattle.pg_call.specs.Replies.{after_columns, after_end, goes_on, tags_of, IsVerdict, Judges}
 use Rattle.pg_call.specs.declared.judging.Part.{Part}
 use Rattle.pg_call.specs.Hearing.{Hears, HearsMessage}
 
@@ -79,10 +84,42 @@ pub keeps_all_row : (a : Reply) (body : List ℕ) (values : Values) (next : Part
     → Hears a (record a { tally = added a.kind a.tally (Row (record { values = values; heading = a.heading })); part = next }) 68 body heards.More
 keeps_all_row a body values next says goes all = (DataRow values, says, (next, goes, refl, rw all refl, tt))
 
+-- one that is shown at once stays nowhere
+shows_added : (kind : Kind) (t : Tally) (row : RowSeen) → shows_rows kind ≡ true → (added kind t (Row row) ≡ t) × (yields kind (Row row) ≡ true)
+shows_added (kinds.Run hows.Fetch) t row e = (refl, refl)
+shows_added (kinds.Run hows.FetchMany) t row e = (refl, refl)
+shows_added _ t row e = absurd cc
+
+pub shows_row : (a : Reply) (body : List ℕ) (values : Values) (next : Part) → Says 68 body (DataRow values) → goes_on a.part (DataRow values) ≡ Some next → shows_rows a.kind ≡ true
+    → Hears a (record a { part = next }) 68 body (heards.Yields (Row (record { values = values; heading = a.heading })))
+shows_row a body values next says goes shows =
+    let added_none = shows_added a.kind a.tally (record { values = values; heading = a.heading }) shows in
+    (DataRow values, says, (next, goes, ap (λ (t : Tally). record a { tally = t; part = next }) (sym added_none.0), rw added_none.1 refl, tt))
+
 -- so do columns that nobody sees
 pub passes_columns : (a : Reply) (body : List ℕ) (fields : List FieldDescription) (next : Part) → Says 84 body (RowDescription fields) → goes_on a.part (RowDescription fields) ≡ Some next → a.heading.columns ≡ None → Hears a (record a { part = next }) 84 body heards.More
 passes_columns a body fields next says goes none =
     (RowDescription fields, says, (next, goes, ap (λ (c : Option (List PgColumn)). record a { part = next; heading = record a.heading { columns = c } }) (rw none refl), refl, tt))
+
+-- nor does a count that is not shown at once do more than count
+counts_none : (kind : Kind) (n : PgQueryResult) → shows_counts kind ≡ false → yields kind (Count n) ≡ false
+counts_none (kinds.Run hows.ExecuteMany) n e = absurd cc
+counts_none (kinds.Run hows.FetchMany) n e = absurd cc
+counts_none _ n e = refl
+
+pub passes_end : (a : Reply) (body : List ℕ) (tag : List ℕ) → Says 67 body (CommandComplete tag) → is_known (tags_of a.part) 67 ≡ true → shows_counts a.kind ≡ false
+    → Hears a (record a { tally = record a.tally { total = min (a.tally.total + rows_affected tag) (2 ^ 64 - 1) }; part = after_end a.part }) 67 body heards.More
+passes_end a body tag says known plain = (CommandComplete tag, says, (after_end a.part, ends_at a.part tag known, refl, rw (counts_none a.kind (record { rows = rows_affected tag }) plain) refl, tt))
+
+-- columns that somebody sees stand in the heading
+pub keeps_columns : (a : Reply) (body : List ℕ) (fields : List FieldDescription) → Says 84 body (RowDescription fields) → is_known (tags_of a.part) 84 ≡ true → IsSome a.heading.columns
+    → Hears a (record a { part = after_columns a.part (length fields); heading = record a.heading { columns = Some (columns_of fields) } }) 84 body heards.More
+keeps_columns a body fields says known some =
+    (RowDescription fields, says, (after_columns a.part (length fields), describes_at a.part fields known, ap (λ (c : Option (List PgColumn)). record a { part = after_columns a.part (length fields); heading = record a.heading { columns = c } }) (by a.heading.columns some), refl, tt))
+  where
+    by : (earlier : Option (List PgColumn)) → IsSome earlier → Some (columns_of fields) ≡ option_map (λ e. columns_of fields) earlier
+    by (Some e) some = refl
+    by None some = absurd cc
 
 -- what a verdict makes of the reply is what its message does
 pub hears_verdict : (a b : Reply) (tag : ℕ) (body : List ℕ) (verdict : Verdict) (r : Result Heard Error) → Judges a.part tag body (Ok verdict) → IfOk r (λ heard. (m : BackendMessage) → IsVerdict a.part m verdict → HearsMessage a b m heard) → IfOk r (Hears a b tag body)

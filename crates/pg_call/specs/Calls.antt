@@ -1,5 +1,5 @@
 -- How far a call has come, by all that it queued, heard and showed since it began.
-use Rattle.std.specs.Prelude.{◌≡◌, ℕ, ◌+◌, ◌<◌, ◌⊎◌, Bool, true, false, not, ◌&&◌, ◌==◌, List, [], ◌∷◌, ◌++◌, length, map, count_by, Result, Ok, Err, OnOk, Option, Some, None}
+use Rattle.std.specs.Prelude.{◌≡◌, ◌≢◌, ℕ, ◌+◌, ◌<◌, ◌⊎◌, Bool, true, false, not, ◌&&◌, ◌==◌, List, [], ◌∷◌, ◌++◌, length, map, count_by, Result, Ok, Err, OnOk, Option, Some, None}
 use Rattle.std.specs.List.{AllByRecursion, list_any}
 use Rattle.pg_wire.specs.declared.error.Error.{Error}
 use Rattle.pg_wire.specs.declared.error.Error.TheVariants as errors
@@ -18,7 +18,9 @@ use Rattle.pg_columns.specs.Told.{columns_of}
 use Rattle.pg_call.specs.declared.kind.Kind.TheVariants as kinds
 use Rattle.pg_call.specs.declared.request.Request.{Request}
 use Rattle.pg_call.specs.declared.request.Request.TheVariants as requests
+use Rattle.pg_rows.specs.Rows.{RowSeen}
 use Rattle.pg_call.specs.declared.answer.CallItem.{CallItem}
+use Rattle.pg_call.specs.declared.answer.CallItem.TheVariants.{Row}
 use Rattle.pg_call.specs.declared.answer.CallAnswer.{CallAnswer}
 use Rattle.pg_call.specs.declared.answer.CallAnswer.TheVariants as answers
 use Rattle.pg_call.specs.declared.judging.Part.{Part}
@@ -234,6 +236,18 @@ TakesMessage tag body a b taken = (start : Ledger) (r : Request) (said : List Fr
 -- a row of the own reply is taken that shows nothing, and from which nothing is learnt
 abbrev pub PassesRowOf : List ℕ → Running → Running → Type 0
 PassesRowOf body a b = TakesMessage 68 body a b (just beats.More) × StaysIn a.call false b.call × IsReplied b.call × (looks_up b.call ≡ false)
+
+-- the same of any other message, which opens no copy
+abbrev pub PassesOf : ℕ → List ℕ → Running → Running → Type 0
+PassesOf tag body a b = (tag ≢ 68) × (tag ≢ 71) × TakesMessage tag body a b (just beats.More) × StaysIn a.call false b.call × IsReplied b.call
+
+-- the own reply has come to its end by this message, and the call answers this
+abbrev pub EndsBy : List ℕ → Result CallAnswer Error → Running → Running → Type 0
+EndsBy body answer a b = TakesMessage 90 body a b (just (beats.Ends answer)) × StaysIn a.call false b.call
+
+-- the same of a row that is shown at once
+abbrev pub ShowsRowOf : List ℕ → RowSeen → Running → Running → Type 0
+ShowsRowOf body row a b = TakesMessage 68 body a b (just (beats.Yields (Row row))) × StaysIn a.call false b.call × IsReplied b.call × (looks_up b.call ≡ false)
 
 -- why the message is refused, whatever came before it
 abbrev pub RefusesMessage : ℕ → List ℕ → Running → Error → Type 0

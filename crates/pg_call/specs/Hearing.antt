@@ -37,7 +37,7 @@ use Rattle.pg_call.specs.declared.calling.Beat.TheVariants as beats
 use Rattle.pg_call.specs.declared.calling.Taken.{Taken}
 use Rattle.pg_call.specs.declared.running.Running.{Running}
 use Rattle.pg_call.specs.Requests.{copy_fail, kind_of, request_behind, rest_of, heading_of, told, looked_behind}
-use Rattle.pg_call.specs.Items.{news_of, heading_by, parameters_by, item_by, yields, added, empty_tally, finished, keeps_all, keeps_row}
+use Rattle.pg_call.specs.Items.{news_of, heading_by, parameters_by, item_by, yields, added, empty_tally, finished, keeps_all, keeps_row, shows_rows}
 use Rattle.pg_call.specs.Replies.{awaits_first, goes_on, may_close, may_stray}
 use Rattle.pg_call.specs.Drains.{is_error, failed_behind, fails_for}
 
@@ -160,6 +160,11 @@ abbrev pub collects : Call → Bool
 collects (calls.Own reply) = keeps_all reply.kind
 collects _ = false
 
+-- whether each row of the own reply is shown as it comes
+abbrev pub shows_now : Call → Bool
+shows_now (calls.Own reply) = shows_rows reply.kind
+shows_now _ = false
+
 -- whether it is the reply to a lookup
 abbrev pub is_look : Rest → Bool
 is_look (rests.Look extended) = true
@@ -192,6 +197,11 @@ sent_answer _ = answers.Unit
 abbrev pub finished_by : TransactionStatus → Call → Result CallAnswer Error
 finished_by status (calls.Own reply) = handed_on reply.rest reply.parameters reply.heading.columns (finished reply.kind reply.tally status)
 finished_by status _ = Err errors.OutOfMemory
+
+-- its end tells this status, and may come
+abbrev pub ClosesBy : TransactionStatus → List ℕ → Call → Type 0
+ClosesBy status body (calls.Own reply) = Hears reply reply 90 body (heards.Closed status)
+ClosesBy status body _ = ⊥
 
 abbrev pub Closes : TransactionStatus → Running → Running → Taken → Type 0
 Closes status a b taken = (b ≡ idle_with (record { owed = 0; is_copy_failed = false })) × (taken ≡ just (beats.Ends (finished_by status a.call)))

@@ -100,6 +100,18 @@ yields _ _ = false
 abbrev pub shown : Kind → List CallItem → List CallItem
 shown kind items = filter (yields kind) items
 
+-- whether each row is shown as it comes
+abbrev pub shows_rows : Kind → Bool
+shows_rows (kinds.Run hows.Fetch) = true
+shows_rows (kinds.Run hows.FetchMany) = true
+shows_rows _ = false
+
+-- whether each count is
+abbrev pub shows_counts : Kind → Bool
+shows_counts (kinds.Run hows.ExecuteMany) = true
+shows_counts (kinds.Run hows.FetchMany) = true
+shows_counts _ = false
+
 -- whether all rows come with the answer, or the first
 abbrev pub keeps_all : Kind → Bool
 keeps_all (kinds.Run hows.FetchAll) = true

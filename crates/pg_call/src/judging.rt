@@ -113,8 +113,8 @@ impl Part {
         }
     }
 
-    // Whether a message of this tag is awaited.
-    fn awaits(self, tag: u8) -> bool
+    /// Whether a message of this tag is awaited.
+    pub(crate) fn awaits(self, tag: u8) -> bool
         ensures { result ≡ is_known (tags_of self) tag }
     {
         match self {
@@ -172,8 +172,8 @@ impl Part {
         }
     }
 
-    // Behind the description of so many columns.
-    fn after_columns(self, columns: usize) -> Part
+    /// Behind the description of so many columns.
+    pub(crate) fn after_columns(self, columns: usize) -> Part
         ensures { result ≡ after_columns self columns }
     {
         match self {
@@ -222,8 +222,8 @@ impl Part {
         }
     }
 
-    // Behind the end of a statement.
-    fn after_end(self) -> Part
+    /// Behind the end of a statement.
+    pub(crate) fn after_end(self) -> Part
         ensures { result ≡ after_end self }
     {
         match self {

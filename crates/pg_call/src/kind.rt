@@ -1,4 +1,5 @@
 ghost use Rattle.std.specs.Prelude.{◌≡◌};
+ghost use Rattle.pg_call.specs.Items.{shows_counts, shows_rows};
 ghost use Rattle.pg_call.specs.Requests.{change_of, is_close, is_flush, sees_rows};
 
 /// A way to run a query: what of its reply is shown, and when.
@@ -94,6 +95,20 @@ impl Kind {
             | Kind::CopyOut
             | Kind::CopyIn => false,
         }
+    }
+
+    /// Whether each row is shown as it comes.
+    pub fn shows_rows(self) -> bool
+        ensures { result ≡ shows_rows self }
+    {
+        matches!(self, Kind::Run(How::Fetch | How::FetchMany))
+    }
+
+    /// Whether each count is.
+    pub fn shows_counts(self) -> bool
+        ensures { result ≡ shows_counts self }
+    {
+        matches!(self, Kind::Run(How::ExecuteMany | How::FetchMany))
     }
 
     /// What it makes of the transactions that are open.

@@ -1,16 +1,18 @@
-ghost use Rattle.std.specs.Prelude.{◌≡◌, [], true, false, filter, IfOk, IfErr, OnOk, OnErr};
+ghost use Rattle.std.specs.Prelude.{◌≡◌, ◌≢◌, [], IsSome, None, true, false, filter, IfOk, IfErr, IfSome, OnOk, OnErr};
 ghost use Rattle.pg_wire.specs.Backend.{BackendMessage};
 ghost use Rattle.pg_call.specs.declared.kind.How.TheVariants as hows;
 ghost use Rattle.pg_call.specs.declared.kind.Kind.TheVariants as kinds;
-ghost use Rattle.pg_call.specs.Items.{added, finished, item_by, keeps_row, shown_if, yields};
+ghost use Rattle.pg_call.specs.Items.{added, finished, item_by, keeps_row, shown_if, shows_rows, yields};
 ghost use Rattle.pg_call.specs.Replies.{IsFault, IsVerdict, MayNotCome, list_of};
 ghost use Rattle.pg_call.specs.Hearing.{Hears, HearsMessage, HearsNews, Opens, Shows, fed_part, opens_at, gone_on, handed_on};
 
 use crate::judging::{judge_row, pass_columns, pass_row, row_passed};
 use crate::{CallAnswer, CallItem, How, Kind, News, Part, Request, Rest, Tally, Verdict, judge};
+use pg_columns::PgColumns;
 use pg_rows::{Heading, PgRow};
 use pg_wire::{
-    CopyResponseData, DataRow, Error, Frame, Oids, PgDatabaseError, TransactionStatus, cut_data_row,
+    CopyResponseData, DataRow, Error, Frame, Oids, PgDatabaseError, TransactionStatus,
+    cut_data_row, decode_command_complete, decode_ready_for_query, decode_row_description,
 };
 use std::alloc::{AllocError, Global};
 
@@ -196,6 +198,89 @@ impl Reply {
         }
     }
 
+    // The end of a statement whose count is not shown at once.
+    fn passes_end(&mut self, body: &[u8]) -> bool
+        ensures yes { result ≡ true → Hears self.old self.new 67 body.now Heard.More }
+        ensures no { result ≡ false → self.new ≡ self.old }
+    {
+        if self.kind.shows_counts() {
+            return false;
+        }
+        if !self.part.awaits(b'C') {
+            return false;
+        }
+        let Ok(complete) = decode_command_complete(body) else {
+            return false;
+        };
+        self.tally.total = self.tally.total.saturating_add(complete.rows_affected());
+        self.part = self.part.after_end();
+        true
+    }
+
+    // Columns that somebody sees.
+    fn keeps_columns(&mut self, alloc: Global, body: &[u8]) -> bool
+        requires { IsSome self.old.heading.columns }
+        ensures yes { result ≡ true → Hears self.old self.new 84 body.now Heard.More }
+        ensures no { result ≡ false → self.new ≡ self.old }
+    {
+        if !self.part.awaits(b'T') {
+            return false;
+        }
+        let Ok(description) = decode_row_description(alloc, body) else {
+            return false;
+        };
+        let Ok(columns) = PgColumns::described(alloc, &description) else {
+            return false;
+        };
+        self.part = self.part.after_columns(description.len());
+        self.heading.columns = Some(columns);
+        true
+    }
+
+    // Columns that nobody sees.
+    fn passes_columns(&mut self, alloc: Global, body: &[u8]) -> bool
+        requires { self.old.heading.columns ≡ None }
+        ensures yes { result ≡ true → Hears self.old self.new 84 body.now Heard.More }
+        ensures no { result ≡ false → self.new ≡ self.old }
+    {
+        if self.part.strays(b'T') {
+            return false;
+        }
+        let Ok(part) = pass_columns(alloc, self.part, body) else {
+            return false;
+        };
+        self.part = part;
+        true
+    }
+
+    /// The same of columns, and of the end of a statement whose count is not shown at once.
+    pub(crate) fn passes(&mut self, alloc: Global, tag: u8, body: &[u8]) -> bool
+        ensures yes { result ≡ true → Hears self.old self.new tag body.now Heard.More }
+        ensures no { result ≡ false → self.new ≡ self.old }
+        ensures row { result ≡ true → tag ≢ 68 }
+        ensures copy { result ≡ true → tag ≢ 71 }
+    {
+        match tag {
+            b'C' => self.passes_end(body),
+            b'T' if self.heading.columns.is_some() => self.keeps_columns(alloc, body),
+            b'T' => self.passes_columns(alloc, body),
+            _ => false,
+        }
+    }
+
+    /// The status that its end tells, where it may end.
+    pub(crate) fn closing(&self, body: &[u8]) -> Option<TransactionStatus>
+        ensures { IfSome result (λ status. Hears self.now self.now 90 body.now (Heard.Closed status)) }
+    {
+        if !self.part.awaits(b'Z') {
+            return None;
+        }
+        let Ok(status) = decode_ready_for_query(body) else {
+            return None;
+        };
+        Some(status)
+    }
+
     // One more row for the answer, where there is memory for it.
     fn keep(&mut self, values: DataRow) -> Result<(), AllocError>
         requires { self.old.kind ≡ kinds.Run hows.FetchAll }
@@ -226,6 +311,26 @@ impl Reply {
             }
             Err(_) => false,
         }
+    }
+
+    /// The same of a row that is shown at once, and handed out: none of it stays.
+    pub(crate) fn shows_row(&mut self, alloc: Global, frame: Frame) -> Option<PgRow>
+        requires { shows_rows self.old.kind ≡ true }
+        ensures shown { IfSome result (λ row. Hears self.old self.new 68 frame.body (Heard.Yields (CallItem.Row row))) }
+        ensures none { result ≡ None → self.new ≡ self.old }
+        ensures rest { self.new.rest ≡ self.old.rest }
+    {
+        let Some(next) = self.part.after_claimed(frame.body()) else {
+            return None;
+        };
+        let Ok(values) = cut_data_row(alloc, frame) else {
+            return None;
+        };
+        let Ok(heading) = self.heading.share() else {
+            return None;
+        };
+        self.part = next;
+        Some(PgRow::new(values, heading))
     }
 
     /// What a row makes of the reply, which is cut from its frame.

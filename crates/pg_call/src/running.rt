@@ -1,12 +1,13 @@
-ghost use Rattle.std.specs.Prelude.{◌≡◌, ◌≢◌, ◌<◌, true, false, IfOk, IfErr, OnErr};
+ghost use Rattle.std.specs.Prelude.{◌≡◌, ◌≢◌, ◌<◌, None, true, false, IfOk, IfErr, IfSome, OnErr};
 ghost use Rattle.pg_wire.specs.Decoding.{IsRefused};
-ghost use Rattle.pg_call.specs.Calls.{owes_own, IsAwaiting, PassesRowOf, StaysIn, TakesMessage, RefusesMessage};
-ghost use Rattle.pg_call.specs.Hearing.{Drains, Closes, RefusesCopy, Follows, IsOpen, IsReplied, fed_whole, asked_in, awaits, collects, keeps_now, looks_up, marked, sent_answer, waits, without_asked};
+ghost use Rattle.pg_call.specs.Calls.{owes_own, EndsBy, IsAwaiting, PassesOf, PassesRowOf, ShowsRowOf, StaysIn, TakesMessage, RefusesMessage};
+ghost use Rattle.pg_call.specs.Hearing.{Drains, Closes, ClosesBy, RefusesCopy, Follows, IsOpen, IsReplied, fed_whole, asked_in, awaits, collects, just, keeps_now, looks_up, marked, sent_answer, shows_now, waits, without_asked};
 
 use crate::{
     Beat, Call, CallAnswer, CallItem, Heard, How, Kind, Ledger, Part, Reply, Request, Rest, Taken,
     Waiting,
 };
+use pg_rows::PgRow;
 use pg_wire::{
     Blob, Error, Frame, ProtocolFault, TransactionStatus, decode_error_response,
     decode_ready_for_query,
@@ -269,9 +270,8 @@ impl Running {
         }
     }
 
-    /// Takes one message that is no asynchronous one. An `Err` leaves it where it is: it is the server's fault, or want of
-    /// memory.
-    pub fn take(&mut self, alloc: Global, tag: u8, body: &[u8]) -> Result<Taken, Error>
+    // Takes one message of any kind.
+    fn take_any(&mut self, alloc: Global, tag: u8, body: &[u8]) -> Result<Taken, Error>
         requires { IsAwaiting self.old.ledger self.old.call }
         ensures ok { IfOk result (TakesMessage tag body.now self.old self.new) }
         ensures copy { IfOk result (λ taken. taken.fails_copy ≡ true → tag ≡ 71) }
@@ -291,6 +291,26 @@ impl Running {
                 Ok(heard) => Ok(self.follow(tag, heard)),
                 Err(e) => Err(e),
             },
+        }
+    }
+
+    /// Takes one message that is no asynchronous one. An `Err` leaves it where it is: it is the server's fault, or want of
+    /// memory.
+    pub fn take(&mut self, alloc: Global, tag: u8, body: &[u8]) -> Result<Taken, Error>
+        requires { IsAwaiting self.old.ledger self.old.call }
+        ensures ok { IfOk result (TakesMessage tag body.now self.old self.new) }
+        ensures copy { IfOk result (λ taken. taken.fails_copy ≡ true → tag ≡ 71) }
+        ensures goes { IfOk result (λ taken. taken.beat ≢ Beat.Waits) }
+        ensures stays { IfOk result (λ taken. StaysIn self.old.call taken.fails_copy self.new.call) }
+        ensures err { IfErr result (RefusesMessage tag body.now self.old) }
+        ensures ledger { OnErr result (self.new.ledger ≡ self.old.ledger) }
+    {
+        if tag != b'Z' {
+            return self.take_any(alloc, tag, body);
+        }
+        match self.ends(body) {
+            Some(answer) => Ok(plain(Beat::Ends(answer))),
+            None => self.take_any(alloc, tag, body),
         }
     }
 
@@ -353,6 +373,76 @@ impl Running {
                 _ => false,
             },
             Call::Idle | Call::Asked(_) | Call::Waiting(_) | Call::Closing => false,
+        }
+    }
+
+    /// The same of columns, and of the end of a statement whose count is not shown at once.
+    pub fn passes(&mut self, alloc: Global, tag: u8, body: &[u8]) -> bool
+        ensures yes { result ≡ true → PassesOf tag body.now self.old self.new }
+        ensures no { result ≡ false → self.new ≡ self.old }
+    {
+        match &mut self.call {
+            Call::Own(reply) => reply.passes(alloc, tag, body),
+            Call::Idle | Call::Asked(_) | Call::Waiting(_) | Call::Closing => false,
+        }
+    }
+
+    // The status that the end of the own reply tells, where it may end.
+    fn closing(&self, body: &[u8]) -> Option<TransactionStatus>
+        ensures { IfSome result (λ status. ClosesBy status body.now self.now.call) }
+    {
+        match &self.call {
+            Call::Own(reply) => reply.closing(body),
+            Call::Idle | Call::Asked(_) | Call::Waiting(_) | Call::Closing => None,
+        }
+    }
+
+    // The own reply has come to its end, and the call answers this.
+    fn finish(&mut self, status: TransactionStatus) -> Result<CallAnswer, Error>
+        requires { IsReplied self.old.call }
+        ensures { Closes status self.old self.new (just (Beat.Ends result)) }
+    {
+        match mem::replace(&mut self.call, Call::Idle) {
+            Call::Own(reply) => {
+                self.ledger = Ledger::new();
+                reply.finish(status)
+            }
+            _ => unreachable!(),
+        }
+    }
+
+    // Takes the end of the own reply, where it may come: what the call answers. Else nothing has changed.
+    fn ends(&mut self, body: &[u8]) -> Option<Result<CallAnswer, Error>>
+        ensures ends { IfSome result (λ answer. EndsBy body.now answer self.old self.new) }
+        ensures none { result ≡ None → self.new ≡ self.old }
+    {
+        match self.closing(body) {
+            Some(status) => Some(self.finish(status)),
+            None => None,
+        }
+    }
+
+    /// Whether each row of the own reply is shown as it comes.
+    pub fn shows_rows(&self) -> bool
+        ensures { result ≡ shows_now self.now.call }
+    {
+        match &self.call {
+            Call::Own(reply) => reply.kind.shows_rows(),
+            Call::Idle | Call::Asked(_) | Call::Waiting(_) | Call::Closing => false,
+        }
+    }
+
+    /// The same of a row that is shown at once, which is handed out.
+    pub fn shows_row(&mut self, alloc: Global, frame: Frame) -> Option<PgRow>
+        ensures shown { IfSome result (λ row. ShowsRowOf frame.body row self.old self.new) }
+        ensures none { result ≡ None → self.new ≡ self.old }
+    {
+        if self.looks_up() {
+            return None;
+        }
+        match &mut self.call {
+            Call::Own(reply) if reply.kind.shows_rows() => reply.shows_row(alloc, frame),
+            _ => None,
         }
     }
 
