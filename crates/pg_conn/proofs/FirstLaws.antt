@@ -16,8 +16,11 @@ use Rattle.pg_request.specs.Queries.{ArgumentsSeen, QueryText}
 use Rattle.pg_rule.specs.Caches.{entry_at}
 use Rattle.pg_rule.specs.declared.cache.Entry.{Entry}
 use Rattle.pg_rule.specs.declared.rule.Rule.{Rule}
+use Rattle.pg_rows.specs.Rows.{RowSeen}
+use Rattle.pg_call.specs.declared.answer.CallItem.TheVariants.{Row}
 use Rattle.pg_call.specs.declared.answer.Turn.{Turn}
 use Rattle.pg_call.specs.declared.answer.Turn.TheVariants as turns
+use Rattle.pg_call.specs.declared.calling.Beat.{Beat}
 use Rattle.pg_call.specs.declared.calling.Beat.TheVariants as beats
 use Rattle.pg_call.specs.declared.calling.Call.{Call}
 use Rattle.pg_call.specs.declared.calling.Call.TheVariants as calls
@@ -33,7 +36,7 @@ use Rattle.pg_call.specs.declared.statement.Goal.{Goal}
 use Rattle.pg_call.specs.declared.statement.Goal.TheVariants as goals
 use Rattle.pg_call.specs.declared.statement.Bound.{Bound}
 use Rattle.pg_call.specs.declared.statement.Prepared.{Prepared}
-use Rattle.pg_call.specs.Hearing.{asked_in, without_asked}
+use Rattle.pg_call.specs.Hearing.{IsReplied, asked_in, without_asked}
 use Rattle.pg_call.specs.Requests.{CanBeSaid, IsRefusal, behind_goal, bound_by, bound_for, declared_for, filled_bound, filled_for, numbered_by, raw, request_behind, with_columns}
 use Rattle.pg_learning.specs.declared.learnt.Learnt.{Learnt}
 use Rattle.pg_learning.specs.Learning.{FailsSeeking}
@@ -43,7 +46,7 @@ use Rattle.pg_stream.specs.Links.{LinkSeen}
 use Rattle.pg_conn.specs.Connections.{ConnOf, ConnSeen, IsUnresolved, cleaned, ends_copy, handed, idle, resolved, resolved_by, seen_by, unfed}
 use Rattle.pg_conn.specs.Looking.{AsksFirst, AsksNamed, AsksNext, FailsFirst, IsFound, IsUnlooked, LooksAny, LooksFor, LooksIn, LooksBehind, LooksNamed, LooksUp, MayLook, MayLookFor, MissesName, RefusesFirst, UnlooksFirst, asks_by, asks_names, asks_query, has_names, holes_for, if_kept, if_named, is_kept, lookup_for, named_by, named_in, unlooked, vain_lookup, wanted_in, telling, described_with}
 use Rattle.pg_conn.specs.Statements.{asked_by, behind_description, by_leaving, leaving, prepare_by, query_by, run_or_describe, tell_or_describe}
-use Rattle.pg_conn.specs.Turns.{IsAsked, Polled, PollsOn, PollsThrough, Refused, Refuses, RefusesNamed, broken_by, flushes}
+use Rattle.pg_conn.specs.Turns.{EndsFlush, IsAsked, IsSayable, Polled, PollsOn, PollsThrough, Refused, Refuses, RefusesNamed, ShowsAtOnce, broken_by, flushes}
 use Rattle.pg_conn.proofs.RefusalLaws.{refusal_breaks_none}
 use Rattle.pg_conn.proofs.StateLaws.{first_keeps, named_asked, unasked_lookup}
 use Rattle.pg_conn.proofs.TurnLaws.{refused, refused_now, seen_cleaned, unlooks}
@@ -521,6 +524,60 @@ fails_seen {A} seen a b e (asks, inr (inr u)) =
 
 pub first_of : {A : Type 0} (seen : A → LinkSeen) (a b : ConnOf A) (c : ConnSeen) (answer : Poll Turn) → AsksFirst a b → PollsOn (seen_by seen b) c answer → PollsThrough (seen_by seen a) c answer
 first_of seen a b c answer h p = (seen_by seen b, inl (first_seen seen a b h), p)
+
+-- ---- a row that is shown before anything else is looked at
+
+own_resolved : (a : ConnSeen) → IsReplied a.call → resolved a ≡ a
+own_resolved a own = by a.call own
+  where
+    by : (call : Call) → IsReplied call → resolved_by call a ≡ a
+    by (calls.Own reply) own = refl
+    by _ own = absurd own
+
+own_asks_none : (rule : Rule) (call : Call) → IsReplied call → asks_by rule call ≡ false
+own_asks_none rule (calls.Own reply) own = refl
+own_asks_none rule _ own = absurd own
+
+own_unasked : (call : Call) → IsReplied call → IsAsked call → ⊥
+own_unasked (calls.Own reply) own asked = asked
+own_unasked _ own asked = absurd own
+
+own_sayable : (call : Call) → IsReplied call → IsSayable call
+own_sayable (calls.Own reply) own = tt
+own_sayable _ own = absurd own
+
+own_flushes : (call : Call) → IsReplied call → flushes call ≡ false
+own_flushes (calls.Own reply) own = refl
+own_flushes _ own = absurd own
+
+no_flush : (a b : ConnSeen) (beat : Beat) → flushes a.call ≡ false → EndsFlush a b beat
+no_flush a b beat none e = absurd (true_false (rw none at e))
+  where
+    true_false : false ≡ true → ⊥
+    true_false e = absurd cc
+
+shown_polled : (a b : ConnSeen) (row : RowSeen) → a.broken ≡ None → ShowsAtOnce a b row → Polled a b (beats.Yields (Row row))
+shown_polled a b row whole (takes, own, own') = record {
+  stopped = b;
+  turns = takes;
+  whole = takes.3.broken ∙ whole;
+  behind_is = refl;
+  says = inl (own_sayable a.call own);
+  flush = no_flush a b (beats.Yields (Row row)) (own_flushes a.call own);
+  asked = own_unasked b.call own';
+}
+
+shown_on : (a b : ConnSeen) (row : RowSeen) → a.broken ≡ None → ShowsAtOnce a b row → PollsOn a b (Ready (turns.Item (Row row)))
+shown_on a b row whole shows = record {
+  later = [];
+  last = a;
+  hands = refl;
+  polled = subst (λ (x : ConnSeen). Polled x b (beats.Yields (Row row))) (sym (own_resolved a shows.1)) (shown_polled a b row whole shows);
+  none = λ next e. absurd cc;
+}
+
+pub shown_through : (a b : ConnSeen) (row : RowSeen) → a.broken ≡ None → ShowsAtOnce a b row → PollsThrough a b (Ready (turns.Item (Row row)))
+shown_through a b row whole shows = (a, inl (asks_none a (own_asks_none a.rule a.call shows.1)), shown_on a b row whole shows)
 
 pub first_whole_of : {A : Type 0} (seen : A → LinkSeen) (a b : ConnOf A) → AsksFirst a b → a.broken ≡ None → b.broken ≡ None
 first_whole_of seen a b h whole = first_keeps (λ (c : ConnSeen). c.broken ≡ None) (λ c w. resolved_broken c ∙ w) (λ b told next learnt u w. w) (seen_by seen a) (seen_by seen b) (first_seen seen a b h) whole

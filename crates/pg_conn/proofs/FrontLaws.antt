@@ -1,5 +1,5 @@
 -- What a message of the server makes of a call, and what is left to send.
-use Rattle.std.proofs.Common.{take_at, take, drop, ◌≡◌, ◌≢◌, ℕ, ◌+◌, ◌-◌, ◌<◌, ◌≤◌, inl, inr, Bool, true, false, ◌&&◌, ◌==◌, List, [], ◌∷◌, ◌++◌, length, refl, sym, ap, ◌∙◌, subst, append-nil, arith, Ok, Err, Result, IfOk, IfErr, OnErr, Some}
+use Rattle.std.proofs.Common.{take_at, take, drop, ◌≡◌, ◌≢◌, ℕ, ◌+◌, ◌-◌, ◌<◌, ◌≤◌, inl, inr, Bool, true, false, ◌&&◌, ◌==◌, List, [], ◌∷◌, ◌++◌, length, refl, sym, ap, ◌∙◌, subst, append-nil, arith, ne_eqb, Ok, Err, Result, IfOk, IfErr, OnErr, Some}
 use Rattle.pg_wire.proofs.Tests.{both_true}
 use Rattle.pg_call.specs.declared.kind.Kind.{Kind}
 use Rattle.pg_call.specs.declared.kind.Kind.TheVariants as kinds
@@ -24,7 +24,9 @@ use Rattle.pg_stream.specs.Streams.{fuel_of, StreamOf, StreamSeen, stream_by, Mo
 use Rattle.pg_stream.proofs.StreamLemmas.{NoneWaited-none, Moves-none, Moves-then, AllMoved-then, queues_by, took_frame, front_frame, IsFront-from_heard}
 use Rattle.pg_call.specs.declared.request.Request.{Request}
 use Rattle.pg_call.specs.declared.request.Request.TheVariants as requests
+use Rattle.pg_rows.specs.Rows.{RowSeen}
 use Rattle.pg_call.specs.declared.answer.CallItem.{CallItem}
+use Rattle.pg_call.specs.declared.answer.CallItem.TheVariants.{Row}
 use Rattle.pg_call.specs.declared.ledger.Ledger.{Ledger}
 use Rattle.pg_call.specs.declared.waiting.Waiting.{Waiting}
 use Rattle.pg_call.specs.declared.calling.Call.{Call}
@@ -37,13 +39,13 @@ use Rattle.pg_call.specs.Requests.{Group, spelled, kind_of, rest_of, is_flush, i
 use Rattle.pg_call.specs.Hearing.{framed, fails_of, awaits, is_look, looks_up, sent_answer, IsReplied}
 use Rattle.pg_call.specs.declared.after.Rest.{Rest}
 use Rattle.pg_call.specs.Items.{yields}
-use Rattle.pg_call.specs.Calls.{CallIs, IsAwaiting, CallEnds, CallTakes, Leaves, EndsByReady, StaysIn, TakesMessage, RefusesMessage}
+use Rattle.pg_call.specs.Calls.{CallIs, IsAwaiting, CallEnds, CallTakes, Leaves, EndsByReady, PassesOf, PassesRowOf, StaysIn, TakesMessage, RefusesMessage}
 use Rattle.pg_call.proofs.CallLaws.{own_errs}
 use Rattle.pg_call.proofs.FitLaws.{shown_fits}
 use Rattle.pg_call.proofs.LeaveLaws.{leaves_call, call_well, closing_fine, flush_fine}
 use Rattle.pg_conn.specs.Connections.{ConnOf, ConnSeen, Standing, standing, seen_by, idle, with_spare, queued_call, awaiting, closing, frames_in}
 use Rattle.pg_conn.specs.Statements.{moved}
-use Rattle.pg_conn.specs.Turns.{TakesHeard, HearsBy, kept_for, HearsFront, running_of, IsMissed, FailsBy, Tells, BeatCause, TakesBeat, IsAsked, cleanup_of, only_sends, Readies, Accepts, queued_copy_fail, level_of, behind, LearnsFrom, PassesFront, TakesIn}
+use Rattle.pg_conn.specs.Turns.{TakesHeard, HearsBy, kept_for, HearsFront, running_of, IsMissed, FailsBy, Tells, BeatCause, TakesBeat, IsAsked, cleanup_of, only_sends, Readies, Accepts, queued_copy_fail, level_of, behind, LearnsFrom, PassesFront, ShowsAtOnce, ShowsFront, TakesIn, TakesPlainly}
 use Rattle.pg_startup.proofs.GreetLaws.{heard_none, heard_one}
 use Rattle.pg_conn.proofs.OwedLaws.{is_Z, no_groups, none_asked}
 use Rattle.pg_conn.proofs.TurnLaws.{TakesBeat-then, grew-none, Keeps, keeps, keeps_idle, same_level, stays, starved, refused, asks_reply, asks_nothing, kept}
@@ -449,19 +451,58 @@ ahead_in {A} seen v r h b front told beat f sent room le roomy now hears takes =
     TakesBeat-then (seen_by seen v) (seen_by seen r) (seen_by seen b) beat (with_room seen v r room le)
     (heard_in seen r h b front told beat (subst (λ (x : ConnOf A). IsHeardFront x.stream.held front) (sym room) f) roomy (ap (λ (x : ConnOf A). x.stream.unsent) room ∙ sent) now hears takes)
 
+-- one that isn't learnt from
+taken_plainly : {A : Type 0} (h b : ConnOf A) (front : Front) (told : Result Taken Error) (beat : Beat) → told ≡ Ok (record { beat = beat; fails_copy = false }) → (front.tag == 68 && looks_up h.call) ≡ false → Accepts front false h b → TakesHeard front told h b beat
+taken_plainly h b front told beat is plain accepts = rw is (h, Ok tt, (refl, inr (plain, refl, refl)), (accepts, refl))
+
 -- one that shows nothing, and isn't learnt from
 pub passed_in : {A : Type 0} (h b : ConnOf A) (front : Front) (told : Result Taken Error) → told ≡ Ok (record { beat = beats.More; fails_copy = false }) → (front.tag == 68 && looks_up h.call) ≡ false → Accepts front false h b → TakesHeard front told h b beats.More
-passed_in h b front told more plain accepts = rw more (h, Ok tt, (refl, inr (plain, refl, refl)), (accepts, refl))
+passed_in h b front told more plain accepts = taken_plainly h b front told beats.More more plain accepts
 
 no_copy : (tag : ℕ) → tag ≡ 68 → tag ≡ 71 → ⊥
 no_copy tag row copy = absurd (omega (arith, row, copy))
 
--- a row that shows nothing at once, and from which nothing is learnt
-pub row_in : {A : Type 0} (seen : A → LinkSeen) (a h b : ConnOf A) (front : Front) → IsHeardFront a.stream.held front → a.stream.unsent ≡ [] → PassesFront front a h → Accepts front false h b → TakesBeat (seen_by seen a) (seen_by seen b) beats.More
-row_in {A} seen a h b front f sent (tag, now, body, rest, of, (takes, stay, own, plain)) accepts =
+pub plainly_row : (tag : ℕ) (body : List ℕ) (a b : Running) → tag ≡ 68 → PassesRowOf body a b → TakesPlainly tag body a b
+plainly_row tag body a b is (takes, stay, own, plain) = subst (λ (t : ℕ). TakesPlainly t body a b) (sym is) (takes, stay, own, plain, λ e. no_copy 68 refl e)
+
+not_row : (tag : ℕ) (b : Bool) → tag ≢ 68 → (tag == 68 && b) ≡ false
+not_row tag b no_row = ap (λ (x : Bool). x && b) (ne_eqb tag 68 no_row)
+
+pub plainly_other : (tag : ℕ) (body : List ℕ) (a b : Running) → PassesOf tag body a b → TakesPlainly tag body a b
+plainly_other tag body a b (no_row, copy, takes, stay, own) = (takes, stay, own, not_row tag (looks_up b.call) no_row, copy)
+
+-- a message that shows nothing at once, and from which nothing is learnt
+pub plainly_in : {A : Type 0} (seen : A → LinkSeen) (a h b : ConnOf A) (front : Front) → IsHeardFront a.stream.held front → a.stream.unsent ≡ [] → PassesFront front a h → Accepts front false h b → TakesBeat (seen_by seen a) (seen_by seen b) beats.More
+plainly_in {A} seen a h b front f sent (now, body, rest, of, (takes, stay, own, plain, copy)) accepts =
     let told : Result Taken Error = Ok (record { beat = beats.More; fails_copy = false }) in
-    let hears : HearsFront front a h told = (body, rest, of, (subst (λ (t : ℕ). TakesMessage t body (running_of a) (running_of h) (record { beat = beats.More; fails_copy = false })) (sym tag) takes, (λ e. absurd cc), (λ e. absurd cc), stay)) in
-    heard_in seen a h b front told beats.More f (λ e. absurd (no_copy front.tag tag e)) sent now hears (passed_in h b front told refl (rw (plain, tag) refl) accepts)
+    let hears : HearsFront front a h told = (body, rest, of, (takes, (λ e. absurd cc), (λ e. absurd cc), stay)) in
+    heard_in seen a h b front told beats.More f (λ e. absurd (copy e)) sent now hears (passed_in h b front told refl plain accepts)
+
+-- a row that is shown at once
+shown_in : {A : Type 0} (seen : A → LinkSeen) (a h b : ConnOf A) (front : Front) (row : RowSeen) → IsHeardFront a.stream.held front → a.stream.unsent ≡ [] → ShowsFront front row a h → Accepts front false h b → TakesBeat (seen_by seen a) (seen_by seen b) (beats.Yields (Row row))
+shown_in {A} seen a h b front row f sent (tag, now, body, rest, of, (takes, stay, own, plain)) accepts =
+    let told : Result Taken Error = Ok (record { beat = beats.Yields (Row row); fails_copy = false }) in
+    let hears : HearsFront front a h told = (body, rest, of, (subst (λ (t : ℕ). TakesMessage t body (running_of a) (running_of h) (record { beat = beats.Yields (Row row); fails_copy = false })) (sym tag) takes, (λ e. absurd cc), (λ e. absurd cc), stay)) in
+    heard_in seen a h b front told (beats.Yields (Row row)) f (λ e. absurd (no_copy front.tag tag e)) sent now hears (taken_plainly h b front told (beats.Yields (Row row)) refl (rw (plain, tag) refl) accepts)
+
+stays_replied : (before : Call) (call : Call) → StaysIn before false call → IsReplied call → IsReplied before
+stays_replied (calls.Own old) call stay own = tt
+stays_replied (calls.Waiting w) (calls.Own new) stay own = absurd stay
+stays_replied (calls.Asked asked) (calls.Own new) stay own = absurd stay
+stays_replied calls.Idle (calls.Own new) stay own = absurd stay
+stays_replied calls.Closing (calls.Own new) stay own = absurd stay
+stays_replied (calls.Waiting w) _ stay own = absurd own
+stays_replied (calls.Asked asked) _ stay own = absurd own
+stays_replied calls.Idle _ stay own = absurd own
+stays_replied calls.Closing _ stay own = absurd own
+
+-- all that a poll does is to show it
+pub shown_at_once : {A : Type 0} (seen : A → LinkSeen) (a h b : ConnOf A) (front : Front) (row : RowSeen) → IsHeardFront a.stream.held front → a.stream.unsent ≡ [] → ShowsFront front row a h → Accepts front false h b → ShowsAtOnce (seen_by seen a) (seen_by seen b) row
+shown_at_once {A} seen a h b front row f sent shows accepts = (
+  shown_in seen a h b front row f sent shows accepts,
+  stays_replied a.call h.call shows.5.1 shows.5.2,
+  subst (λ (k : Call). IsReplied k) (sym (ap (λ (x : ConnOf A). x.call) accepts.2)) shows.5.2,
+)
 
 -- what was heard of it takes nothing of what the link may still give
 pub same_fuel : {A : Type 0} (seen : A → LinkSeen) (r h : ConnOf A) → h ≡ record r { ledger = h.ledger; call = h.call } → fuel_of (stream_by seen h.stream) ≡ fuel_of (stream_by seen r.stream)

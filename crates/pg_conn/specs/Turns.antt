@@ -21,7 +21,9 @@ use Rattle.pg_call.specs.declared.ledger.Ledger.{Ledger}
 use Rattle.pg_call.specs.declared.request.Request.{Request}
 use Rattle.pg_call.specs.declared.request.Request.TheVariants as requests
 use Rattle.pg_call.specs.declared.answer.CallAnswer.TheVariants as answers
+use Rattle.pg_rows.specs.Rows.{RowSeen}
 use Rattle.pg_call.specs.declared.answer.CallItem.{CallItem}
+use Rattle.pg_call.specs.declared.answer.CallItem.TheVariants.{Row}
 use Rattle.pg_call.specs.declared.answer.Turn.{Turn}
 use Rattle.pg_call.specs.declared.answer.Turn.TheVariants as turns
 use Rattle.pg_call.specs.declared.calling.Call.{Call}
@@ -30,10 +32,10 @@ use Rattle.pg_call.specs.declared.calling.Beat.{Beat}
 use Rattle.pg_call.specs.declared.calling.Beat.TheVariants as beats
 use Rattle.pg_call.specs.Requests.{Group, spelled, kind_of, is_flush, CanBeSaid, IsRefusal}
 use Rattle.pg_call.specs.Drains.{is_error}
-use Rattle.pg_call.specs.Hearing.{IsOpen, fails_of, looks_up, sent_answer}
+use Rattle.pg_call.specs.Hearing.{IsOpen, IsReplied, fails_of, looks_up, sent_answer}
 use Rattle.pg_call.specs.declared.calling.Taken.{Taken}
 use Rattle.pg_call.specs.declared.running.Running.{Running}
-use Rattle.pg_call.specs.Calls.{CallIs, IsAwaiting, Leaves, CallEnds, IsFrontFault, PassesRowOf, TakesMessage, RefusesMessage, StaysIn}
+use Rattle.pg_call.specs.Calls.{CallIs, IsAwaiting, Leaves, CallEnds, IsFrontFault, ShowsRowOf, TakesMessage, RefusesMessage, StaysIn}
 use Rattle.pg_conn.specs.Looking.{AsksFirst, AsksNext, Learns, LookFails, TakesFront, named_by}
 use Rattle.pg_conn.specs.Connections.{ConnOf, ConnSeen, idle, left, standing, started_call, begun, begun_with, resolved, settled, cleaned, ended, ends_copy, unfed}
 use Rattle.pg_conn.specs.Statements.{asked_by, begun_as}
@@ -246,9 +248,21 @@ running_of c = record { ledger = c.ledger; call = c.call }
 abbrev pub HearsFront : {A : Type 0} → Front → ConnOf A → ConnOf A → Result Taken Error → Type 0
 HearsFront front a b result = (body : List ℕ) × (rest : List ℕ) × IsFrontOf a.stream.held front (framed front.tag body) rest × HearsBy front.tag body (running_of a) (running_of b) result
 
--- the call has taken a row at the front that shows nothing at once, and from which nothing is learnt
+-- a message of the own reply is taken that shows nothing at once, opens no copy, and from which nothing is learnt
+abbrev pub TakesPlainly : ℕ → List ℕ → Running → Running → Type 0
+TakesPlainly tag body a b = TakesMessage tag body a b (record { beat = beats.More; fails_copy = false }) × StaysIn a.call false b.call × IsReplied b.call × ((tag == 68 && looks_up b.call) ≡ false) × (tag ≢ 71)
+
+-- and it stands at the front
 abbrev pub PassesFront : {A : Type 0} → Front → ConnOf A → ConnOf A → Type 0
-PassesFront front a b = (front.tag ≡ 68) × (b ≡ record a { ledger = b.ledger; call = b.call }) × (body : List ℕ) × (rest : List ℕ) × IsFrontOf a.stream.held front (framed front.tag body) rest × PassesRowOf body (running_of a) (running_of b)
+PassesFront front a b = (b ≡ record a { ledger = b.ledger; call = b.call }) × (body : List ℕ) × (rest : List ℕ) × IsFrontOf a.stream.held front (framed front.tag body) rest × TakesPlainly front.tag body (running_of a) (running_of b)
+
+-- the same of a row that is shown at once
+abbrev pub ShowsFront : {A : Type 0} → Front → RowSeen → ConnOf A → ConnOf A → Type 0
+ShowsFront front row a b = (front.tag ≡ 68) × (b ≡ record a { ledger = b.ledger; call = b.call }) × (body : List ℕ) × (rest : List ℕ) × IsFrontOf a.stream.held front (framed front.tag body) rest × ShowsRowOf body row (running_of a) (running_of b)
+
+-- and all that a poll does is to show it
+abbrev pub ShowsAtOnce : ConnSeen → ConnSeen → RowSeen → Type 0
+ShowsAtOnce a b row = TakesBeat a b (beats.Yields (Row row)) × IsReplied a.call × IsReplied b.call
 
 -- the row of a lookup at the front is taken
 abbrev pub LearnsFront : {A : Type 0} → Front → ConnOf A → ConnOf A → Result (Unit {0}) Error → Type 0

@@ -10,11 +10,12 @@ ghost use Rattle.pg_conn.specs.States.{IsCalling, PollFits};
 ghost use Rattle.std.specs.declared.result.Result.{Result as ResultOf};
 ghost use Rattle.pg_wire.specs.declared.error.Error.{Error as ErrorOf};
 ghost use Rattle.pg_conn.specs.Connections.{ConnOf};
-ghost use Rattle.pg_conn.specs.Turns.{LearnsFront, LearnsFrom, PassesFront, TakesHeard, TakesIn, level_of, kept_for, TakesBeat, Falls, GoesOn, HearsFront, Prepares, Readies, Refuses, Accepts, IsAsked, IsSayable, Refused, IsAhead, only_sends, flushes, is_flushed, EndsFlush, queued_copy_fail, Polled, PollsOn, PollsThrough, PollsWithin, PollsCall, PollsMore, beat_of, broken_by, hands_on, HandsOnNone};
+ghost use Rattle.pg_conn.specs.Turns.{LearnsFront, LearnsFrom, PassesFront, ShowsAtOnce, ShowsFront, TakesHeard, TakesIn, level_of, kept_for, TakesBeat, Falls, GoesOn, HearsFront, Prepares, Readies, Refuses, Accepts, IsAsked, IsSayable, Refused, IsAhead, only_sends, flushes, is_flushed, EndsFlush, queued_copy_fail, Polled, PollsOn, PollsThrough, PollsWithin, PollsCall, PollsMore, beat_of, broken_by, hands_on, HandsOnNone};
 
 use crate::connection::COPY_FAIL;
 use crate::{PgConnection, Request, Turn};
-use pg_call::{Beat, Call, CallAnswer, Kind, Taken};
+use pg_call::{Beat, Call, CallAnswer, CallItem, Kind, Taken};
+use pg_rows::PgRow;
 use pg_stream::{Front, Link};
 use pg_wire::{Blob, Error, Poll, ProtocolFault, ServerFault, decode_data_row};
 
@@ -292,14 +293,16 @@ impl<L: Link> PgConnection<L> {
         }
     }
 
-    // Takes the row at the front, where it shows nothing at once and nothing is learnt from it, as far as the call goes: whether it did.
-    fn takes_row(&mut self, front: Front) -> bool
+    // Takes the message at the front, where it shows nothing at once and nothing is learnt from it, as far as the call goes: whether it did.
+    fn takes_plainly(&mut self, front: Front) -> bool
         requires { IsHeardFront self.old.stream.held front }
         ensures yes { result ≡ true → PassesFront front self.old self.new }
         ensures no { result ≡ false → self.new ≡ self.old }
     {
         if front.tag != b'D' {
-            return false;
+            return self
+                .running
+                .passes(self.alloc, front.tag, self.stream.body(front));
         }
         if !self.running.collects() {
             return self.running.passes_row(self.stream.body(front));
@@ -307,6 +310,50 @@ impl<L: Link> PgConnection<L> {
         match self.stream.share(front) {
             Ok(frame) => self.running.keeps_row(self.alloc, frame),
             Err(_) => false,
+        }
+    }
+
+    // The row that stands at the front of what is held, where the call shows its rows as they come.
+    fn row_at_front(&self) -> Option<Front>
+        ensures tag { IfSome result (λ front. front.tag ≡ 68) }
+        ensures front { IfSome result (λ front. (self.now.stream.unsent ≡ []) × IsHeardFront self.now.stream.held front) }
+    {
+        if !self.running.shows_rows() {
+            return None;
+        }
+        match self.stream.heard_front() {
+            Some(front) if front.tag == b'D' => Some(front),
+            _ => None,
+        }
+    }
+
+    // Takes it, where nothing is learnt from it, as far as the call goes, and hands it out.
+    fn shows_row(&mut self, front: Front) -> Option<PgRow>
+        requires tag { front.tag ≡ 68 }
+        requires front { IsHeardFront self.old.stream.held front }
+        ensures shown { IfSome result (λ row. ShowsFront front row self.old self.new) }
+        ensures none { result ≡ None → self.new ≡ self.old }
+    {
+        match self.stream.share(front) {
+            Ok(frame) => self.running.shows_row(self.alloc, frame),
+            Err(_) => None,
+        }
+    }
+
+    // The same, and counts it as heard.
+    fn show_at_once(&mut self) -> Option<PgRow>
+        ensures shown { IfSome result (λ row. ShowsAtOnce (seen_by L.seen self.old) (seen_by L.seen self.new) row) }
+        ensures none { result ≡ None → self.new ≡ self.old }
+    {
+        let Some(front) = self.row_at_front() else {
+            return None;
+        };
+        match self.shows_row(front) {
+            Some(row) => {
+                self.accept(front, false);
+                Some(row)
+            }
+            None => None,
         }
     }
 
@@ -415,7 +462,7 @@ impl<L: Link> PgConnection<L> {
                 Poll::Pending => return Beat::Waits,
                 Poll::Ready(Err(e)) => return self.stop(Err(e)),
                 Poll::Ready(Ok(front)) => {
-                    if self.takes_row(front) {
+                    if self.takes_plainly(front) {
                         self.accept(front, false);
                         continue;
                     }
@@ -566,6 +613,17 @@ impl<L: Link> PgConnection<L> {
         self.poll_exchanges()
     }
 
+    // The same, where a row that stands at the front and is shown at once is answered before anything else is looked at.
+    fn poll_once(&mut self) -> Poll<Turn>
+        requires { self.old.broken ≡ None }
+        ensures { PollsThrough (seen_by L.seen self.old) (seen_by L.seen self.new) result }
+    {
+        match self.show_at_once() {
+            Some(row) => Poll::Ready(Turn::Item(CallItem::Row(row))),
+            None => self.poll_through(),
+        }
+    }
+
     // Where an exchange ends in a poll, and hands on the next one, that one goes on in it too.
     fn poll_exchanges(&mut self) -> Poll<Turn>
         requires { self.old.broken ≡ None }
@@ -597,7 +655,7 @@ impl<L: Link> PgConnection<L> {
             Some(fault) => self.tell_fault(fault),
             None => {
                 self.allow(256);
-                self.poll_through()
+                self.poll_once()
             }
         }
     }
@@ -615,7 +673,7 @@ impl<L: Link> PgConnection<L> {
             Some(fault) => self.tell_fault(fault),
             None => {
                 self.allow(*left);
-                let turn = self.poll_through();
+                let turn = self.poll_once();
                 *left = self.stream.left();
                 turn
             }
@@ -629,7 +687,7 @@ impl<L: Link> PgConnection<L> {
     {
         match self.broken {
             Some(fault) => self.tell_fault(fault),
-            None => self.poll_through(),
+            None => self.poll_once(),
         }
     }
 
