@@ -6,7 +6,7 @@ use pg_wire::{Blob, Error, Text};
 use std::alloc::AllocError;
 
 /// A script that brings a database from one version to the next, or back.
-#[derive(Debug, Drop)]
+#[derive(Debug)]
 pub struct Migration {
     /// Its place among the migrations; the table of migrations has one row for each.
     pub version: i64,
@@ -19,11 +19,34 @@ pub struct Migration {
     pub no_tx: bool,
 }
 
+// By hand, so that whoever lets one go makes one call, and doesn't go through its parts.
+impl Drop for Migration {
+    fn drop(self) {
+        let Migration {
+            version: _,
+            description: _,
+            sql: _,
+            checksum: _,
+            no_tx: _,
+        } = self;
+    }
+}
+
 /// A row of the table of migrations.
-#[derive(Debug, Drop)]
+#[derive(Debug)]
 pub struct AppliedMigration {
     pub version: i64,
     pub checksum: Blob,
+}
+
+// By hand, as that of a migration.
+impl Drop for AppliedMigration {
+    fn drop(self) {
+        let AppliedMigration {
+            version: _,
+            checksum: _,
+        } = self;
+    }
 }
 
 /// Why a call of a migration did not give what was asked.
