@@ -1,5 +1,5 @@
 -- What is read of the answers.
-use Rattle.std.proofs.Common.{◌≡◌, inl, inr, Result, Ok, Err}
+use Rattle.std.proofs.Common.{inl, inr, Result, Ok, Err}
 use Rattle.futures.specs.declared.task.Poll.TheVariants.{Ready}
 use Rattle.pg_wire.specs.declared.error.Error.{Error}
 use Rattle.pg_stream.specs.Links.{LinkSeen}

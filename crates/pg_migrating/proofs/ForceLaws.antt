@@ -1,6 +1,6 @@
 -- How a database is dropped though there are sessions on it.
-use Rattle.std.proofs.Common.{◌≡◌, ◌⊎◌, ℕ, ◌≤◌, inl, inr, List, [], ◌∷◌, Option, Some, None, option_map, Result, Ok, Err, refl, sym, ap, ◌∙◌, subst}
-use Rattle.std.specs.Prelude.{IfOk, IfErr, IsSome}
+use Rattle.std.proofs.Common.{◌≡◌, ℕ, ◌≤◌, inl, inr, List, [], ◌∷◌, Option, Some, None, option_map, Result, Ok, Err, refl, sym, ap, ◌∙◌, subst}
+use Rattle.std.specs.Prelude.{IfOk, IfErr}
 use Rattle.futures.specs.declared.task.Poll.{Poll}
 use Rattle.futures.specs.declared.task.Poll.TheVariants.{Ready, Pending}
 use Rattle.pg_wire.specs.declared.error.Error.{Error}
@@ -14,20 +14,19 @@ use Rattle.pg_call.specs.declared.answer.CallAnswer.TheVariants as answers
 use Rattle.pg_call.specs.declared.answer.Turn.{Turn}
 use Rattle.pg_call.specs.declared.answer.Turn.TheVariants as turns
 use Rattle.pg_call.specs.declared.request.Request.{Request}
-use Rattle.pg_call.specs.Answers.{TurnFits}
 use Rattle.pg_conn.specs.Connections.{ConnOf, seen_by, started_call}
 use Rattle.pg_conn.specs.States.{IsCalling}
 use Rattle.pg_conn.specs.Turns.{PollsWithin}
 use Rattle.pg_migrate.specs.Orders.{Script}
 use Rattle.pg_migrate.specs.Texts.{terminate_text}
-use Rattle.pg_migrating.specs.Calls.{Called, Waits}
+use Rattle.pg_migrating.specs.Calls.{Called}
 use Rattle.pg_migrating.specs.Requests.{IsRequestOf}
 use Rattle.pg_migrating.proofs.AskingLaws.{calls_raw}
 use Rattle.pg_migrating.specs.Databases.{EndsBy, is_done, never}
 use Rattle.pg_migrating.specs.Errands.{AsksOf}
-use Rattle.pg_migrating.specs.Forcing.{AsksForce, AsksTerminate, AsksToForce, FailsForce, FailsVersion, GoesForce, HidesNumber, HidesVersion, IsNotTerminated, IsNumber, StandsBy, StandsForce, StaysForce, TellsForce, Terminated, Terminates, Terminating, version_in}
+use Rattle.pg_migrating.specs.Forcing.{AsksForce, AsksTerminate, AsksToForce, GoesForce, HidesNumber, HidesVersion, IsNotTerminated, IsNumber, StandsBy, StandsForce, TellsForce, Terminated, Terminates, Terminating, version_in}
 use Rattle.pg_migrating.specs.Openings.{FailsToOpen}
-use Rattle.pg_migrating.specs.Sessions.{Comes, ConnRuns, Goes, GoesBy, GoesOn, IsNewSession, KeepsConn, Opening, PollsSession, SessionSeen, Stands, Tells}
+use Rattle.pg_migrating.specs.Sessions.{Comes, ConnRuns, Goes, GoesOn, IsNewSession, KeepsConn, Opening, PollsSession, SessionSeen, Stands, Tells}
 use Rattle.pg_migrating.proofs.SessionLaws.{call_fits, conn_runs, errand_calls, new_goes, new_stands}
 use Rattle.pg_migrating.specs.declared.errand.Errand.{Errand}
 use Rattle.pg_migrating.specs.declared.errand.Task.TheVariants as tasks

@@ -1,5 +1,5 @@
 -- How a connection is opened.
-use Rattle.std.proofs.Common.{◌≡◌, ◌+◌, ◌<◌, List, [], ◌∷◌, ◌++◌, take, set, ℕ, length, Ok, Err, inl, inr, subst, refl, sym, ap, ◌∙◌, false}
+use Rattle.std.proofs.Common.{◌≡◌, [], ◌∷◌, Ok, Err, inl, inr, subst, refl, sym, ap, ◌∙◌, false}
 use Rattle.pg_wire.specs.declared.error.Error.{Error}
 use Rattle.pg_stream.specs.Links.{LinkSeen}
 use Rattle.pg_call.specs.declared.request.Request.{Request}
