@@ -233,13 +233,7 @@ impl Running {
         requires { IsReplied self.old.call }
         ensures { Closes status self.old self.new result }
     {
-        match mem::replace(&mut self.call, Call::Idle) {
-            Call::Own(reply) => {
-                self.ledger = Ledger::new();
-                plain(Beat::Ends(reply.finish(status)))
-            }
-            _ => unreachable!(),
-        }
+        plain(Beat::Ends(self.finish(status)))
     }
 
     // Another reply comes than the one that is awaited: a copy from the client is ended at once.
