@@ -2,10 +2,12 @@
 use Rattle.std.proofs.Common.{◌≡◌, ℕ, true, false, List, [], ◌∷◌, ◌++◌, ◌∙◌, Some, Result, Ok, ap, refl, subst, sym}
 use Rattle.pg_wire.specs.declared.error.Error.{Error}
 use Rattle.pg_options.specs.Options.{ConnectOptions}
+use Rattle.pg_conn.specs.Dials.{DialSeen}
 use Rattle.pg_pool.specs.declared.seat.Receipt.{Receipt}
 use Rattle.pg_pool.specs.Seats.{SeatSeen}
-use Rattle.pg_listen.specs.Handed.{PoolSeen, new_seats, told_seats}
+use Rattle.pg_listen.specs.Handed.{FillingOf, HeldOf, PoolSeen, new_seats, told_seats}
 use Rattle.pg_reconnect.specs.Hearing.{fresh_hearing}
+use Rattle.pg_reconnect.specs.Sources.{PoolSourceOf, pool_source}
 use Rattle.pg_listeners.specs.Listeners.{BeginsAlone, IsFirst, ListenerOf}
 
 one_head : {T : Type 0} (x y : T) → x ∷ [] ≡ y ∷ [] → x ≡ y
@@ -20,7 +22,7 @@ the_first name (x ∷ []) s e = absurd cc
 the_first name (x ∷ y ∷ xs) s e = absurd cc
 
 -- it begins over such a pool, and ignores a close of it
-pub begins_alone : {D A : Type 0} (name : ℕ) (options : Result ConnectOptions Error) (read : ConnectOptions) (dial : D) (pool : PoolSeen) (seat : SeatSeen) (l : ListenerOf PoolSeen SeatSeen D A) → options ≡ Ok read → pool ≡ record { name = name; options = read } → IsFirst name seat
-    → (l.pool ≡ pool) × (l.seat ≡ seat) × (l.dial ≡ dial) → l.hearing ≡ fresh_hearing pool.name true → BeginsAlone name options dial (Some l) false
-begins_alone {D} {A} name options read dial pool seat l is made first (p, s, d) h =
-    (read, l, is, refl, (p ∙ made, subst (λ (x : SeatSeen). IsFirst name x) (sym s) first, d, h ∙ ap (λ (x : PoolSeen). fresh_hearing {A = A} x.name true) made), refl)
+pub begins_alone : {D A : Type 0} (dial_of : D → DialSeen) (most name : ℕ) (options : Result ConnectOptions Error) (read : ConnectOptions) (dial : D) (pool : PoolSeen) (seat : SeatSeen) (l : ListenerOf (PoolSourceOf PoolSeen SeatSeen D) (HeldOf A) (FillingOf A) A) → options ≡ Ok read → pool ≡ record { name = name; options = read } → IsFirst name seat
+    → l.source ≡ pool_source (λ p. p) (λ s. s) dial_of most pool seat dial → l.hearing ≡ fresh_hearing pool.name true → BeginsAlone name options dial (Some l) false
+begins_alone {D} {A} dial_of most name options read dial pool seat l is made first over h =
+    (read, l, is, refl, (ap (λ (x : PoolSourceOf PoolSeen SeatSeen D). x.pool) over ∙ made, subst (λ (x : PoolSourceOf PoolSeen SeatSeen D). IsFirst name x.seat) (sym over) first, ap (λ (x : PoolSourceOf PoolSeen SeatSeen D). x.dial) over, h ∙ ap (λ (x : PoolSeen). fresh_hearing {C = HeldOf A} {S = FillingOf A} {A = A} x.name true) made), refl)

@@ -14,7 +14,9 @@ use Rattle.pg_pool.specs.Seats.{SeatSeen}
 use Rattle.pg_learning.specs.declared.learnt.Learnt.{Learnt}
 use Rattle.pg_describe.specs.Describing.{FitsNulls, HearsTurn, TellsTurn}
 use Rattle.pg_describe.specs.declared.description.Describe.{Describe}
+use Rattle.pg_listen.specs.Handed.{FillingOf}
 use Rattle.pg_reconnect.specs.Failing.{BesideSeen}
+use Rattle.pg_reconnect.specs.Sources.{SourceSeen}
 use Rattle.pg_reconnect.specs.Hearing.{HearingOf, learnt_of}
 use Rattle.pg_reconnect.specs.Leaving.{NotesClosed}
 use Rattle.pg_reconnect.specs.Querying.{NotesTurn, Queries, QueriesOn}
@@ -22,29 +24,32 @@ use Rattle.pg_reconnect.specs.Waiting.{NotesBy}
 use Rattle.pg_reconnect.proofs.QueryingLaws.{query_fits}
 use Rattle.pg_listeners.specs.Describing.{GoesOn, PollsPrepare, PreparesIn, QueriesFrom, StaysDescribing}
 use Rattle.pg_listeners.specs.Listeners.{ListenerOf}
+use Rattle.pg_conn.specs.Connections.{ConnOf}
 
 pub prepares_none_cleared : kinds.Prepare ≡ kinds.Clear → ⊥
 prepares_none_cleared e = absurd cc
 
 -- ---- the query on nulls
 
-pub nulls_fit : {A : Type 0} (request : Option Request) (h : HearingOf A) (answer : Poll Turn) → QueriesOn (kinds.Run hows.FetchAll) request h answer → FitsNulls answer
-nulls_fit request h Pending q = tt
-nulls_fit request h (Ready turn) q = query_fits (kinds.Run hows.FetchAll) request h turn q
+module _ {C S A : Type 0} (conn : C → ConnOf A) where
+  pub nulls_fit : (request : Option Request) (h : HearingOf C S A) (answer : Poll Turn) → QueriesOn conn (kinds.Run hows.FetchAll) request h answer → FitsNulls answer
+  nulls_fit request h Pending q = tt
+  nulls_fit request h (Ready turn) q = query_fits conn (kinds.Run hows.FetchAll) request h turn q
 
-pub nulls_stay : {A : Type 0} (p : PgStatement) (request : Option Request) (h : HearingOf A) (turn : Poll Turn) (answer : Poll (Result Describe Error)) (told : Option PgStatement) → QueriesOn (kinds.Run hows.FetchAll) request h turn → HearsTurn p turn answer told → StaysDescribing told request h answer
-nulls_stay p request h turn answer told q (Pending, is, (waits, kept)) =
-    let on = subst (λ (t : Poll Turn). QueriesOn (kinds.Run hows.FetchAll) request h t) is q in
-    subst (λ (x : Poll (Result Describe Error)). StaysDescribing told request h x) (sym waits) (subst (λ (t : Option PgStatement). StaysDescribing {X = Result Describe Error} t request h Pending) (sym kept) on)
-nulls_stay p request h turn answer told q (Ready (Err e), is, (ends, none)) = subst (λ (x : Poll (Result Describe Error)). StaysDescribing told request h x) (sym ends) tt
-nulls_stay p request h turn answer told q (Ready (Ok rows), is, (none, (d, ends, tells))) = subst (λ (x : Poll (Result Describe Error)). StaysDescribing told request h x) (sym ends) tt
+  pub nulls_stay : (p : PgStatement) (request : Option Request) (h : HearingOf C S A) (turn : Poll Turn) (answer : Poll (Result Describe Error)) (told : Option PgStatement) → QueriesOn conn (kinds.Run hows.FetchAll) request h turn → HearsTurn p turn answer told → StaysDescribing conn told request h answer
+  nulls_stay p request h turn answer told q (Pending, is, (waits, kept)) =
+      let on = subst (λ (t : Poll Turn). QueriesOn conn (kinds.Run hows.FetchAll) request h t) is q in
+      subst (λ (x : Poll (Result Describe Error)). StaysDescribing conn told request h x) (sym waits) (subst (λ (t : Option PgStatement). StaysDescribing {X = Result Describe Error} conn t request h Pending) (sym kept) on)
+  nulls_stay p request h turn answer told q (Ready (Err e), is, (ends, none)) = subst (λ (x : Poll (Result Describe Error)). StaysDescribing conn told request h x) (sym ends) tt
+  nulls_stay p request h turn answer told q (Ready (Ok rows), is, (none, (d, ends, tells))) = subst (λ (x : Poll (Result Describe Error)). StaysDescribing conn told request h x) (sym ends) tt
 
--- nothing is asked where there is no column
-pub tells_at_once : {P S D A : Type 0} (seen : A → LinkSeen) (beside : ListenerOf P S D A → ListenerOf P S D A → BesideSeen) (left now : ℕ) (p : PgStatement) (rest : Option Request) (a : ListenerOf P S D A) (told : Option PgStatement) (d : Describe) → rest ≡ None → told ≡ None → p.columns ≡ []
-    → d.statement ≡ p → d.nullable.items ≡ [] → GoesOn seen beside left now p rest a a (Ready (Ok d)) told
-tells_at_once seen beside left now p rest a told d none nobody empty tells flags = inl (refl, none, inl (empty, nobody, (d, refl, tells, flags)))
+module _ {C S A : Type 0} (seen : A → LinkSeen) (conn : C → ConnOf A) (with_conn : C → ConnOf A → C) (filling : S → FillingOf A) where
+  -- nothing is asked where there is no column
+  pub tells_at_once : {B : Type 0} (of : B → SourceSeen) (left now : ℕ) (p : PgStatement) (rest : Option Request) (a : ListenerOf B C S A) (told : Option PgStatement) (d : Describe) → rest ≡ None → told ≡ None → p.columns ≡ []
+      → d.statement ≡ p → d.nullable.items ≡ [] → GoesOn seen conn with_conn filling of left now p rest a a (Ready (Ok d)) told
+  tells_at_once of left now p rest a told d none nobody empty tells flags = inl (refl, none, inl (empty, nobody, (d, refl, tells, flags)))
 
--- ---- a pool that was closed
+  -- ---- a pool that was closed
 
 -- where a statement is told, the error is the turn's, or want of memory
 pub notes_told : (A : Type 0) (most : ℕ) (s : SeatSeen) (learnt : Learnt) (turn : Turn) (answer : Result PgStatement Error) → TellsTurn learnt turn answer → NotesTurn A most s (Ready turn) → NotesBy A most s (Ready answer)
@@ -64,20 +69,21 @@ notes_heard A most s p turn answer told (Ready (Ok rows), is, (none, (Err _, end
 
 -- ---- the preparation
 
-pub prepares_told : {A : Type 0} (seen : A → LinkSeen) (o : BesideSeen) (now : ℕ) (request rest : Option Request) (a b : HearingOf A) (turn : Turn) (answer : Result PgStatement Error) → TellsTurn (learnt_of b) turn answer → Queries seen o 256 now request rest a b (Ready turn)
-    → PreparesIn seen o request rest a b (Ready answer)
-prepares_told seen o now request rest a b turn answer (told, is, e) q = (Ready told, e, (now, subst (λ (t : Turn). Queries seen o 256 now request rest a b (Ready t)) is q))
+module _ {C S A : Type 0} (seen : A → LinkSeen) (conn : C → ConnOf A) (with_conn : C → ConnOf A → C) (filling : S → FillingOf A) where
+  pub prepares_told : (o : BesideSeen) (now : ℕ) (request rest : Option Request) (a b : HearingOf C S A) (turn : Turn) (answer : Result PgStatement Error) → TellsTurn (learnt_of conn b) turn answer → Queries seen conn with_conn filling o 256 now request rest a b (Ready turn)
+      → PreparesIn seen conn with_conn filling o request rest a b (Ready answer)
+  prepares_told o now request rest a b turn answer (told, is, e) q = (Ready told, e, (now, subst (λ (t : Turn). Queries seen conn with_conn filling o 256 now request rest a b (Ready t)) is q))
 
-pub prepare_waits : {P S D A : Type 0} (seen : A → LinkSeen) (beside : ListenerOf P S D A → ListenerOf P S D A → BesideSeen) (left now : ℕ) (request rest : Option Request) (a b : ListenerOf P S D A) (told : Option PgStatement) → told ≡ None → now ≤ left → QueriesFrom seen beside left now request rest a b Pending
-    → PollsPrepare seen beside left now request rest a b Pending told
-prepare_waits seen beside left now request rest a b told none fewer q = record { mid = b; fewer = now; asked = rest; turn = Pending; first = Pending; less = fewer; queries = q; tells = refl; goes = (refl, refl, refl, none) }
+  pub prepare_waits : {B : Type 0} (of : B → SourceSeen) (left now : ℕ) (request rest : Option Request) (a b : ListenerOf B C S A) (told : Option PgStatement) → told ≡ None → now ≤ left → QueriesFrom seen conn with_conn filling of left now request rest a b Pending
+      → PollsPrepare seen conn with_conn filling of left now request rest a b Pending told
+  prepare_waits of left now request rest a b told none fewer q = record { mid = b; fewer = now; asked = rest; turn = Pending; first = Pending; less = fewer; queries = q; tells = refl; goes = (refl, refl, refl, none) }
 
-pub prepare_fails : {P S D A : Type 0} (seen : A → LinkSeen) (beside : ListenerOf P S D A → ListenerOf P S D A → BesideSeen) (left now : ℕ) (request rest : Option Request) (a b : ListenerOf P S D A) (told : Option PgStatement) (turn : Turn) (e : Error) → told ≡ None → now ≤ left → TellsTurn (learnt_of b.hearing) turn (Err e)
-    → QueriesFrom seen beside left now request rest a b (Ready turn) → PollsPrepare seen beside left now request rest a b (Ready (Err e)) told
-prepare_fails seen beside left now request rest a b told turn e none fewer (answered, is, tells) q =
-    record { mid = b; fewer = now; asked = rest; turn = Ready answered; first = Ready (Err e); less = fewer; queries = subst (λ (t : Turn). QueriesFrom seen beside left now request rest a b (Ready t)) is q; tells = tells; goes = (refl, refl, refl, none) }
+  pub prepare_fails : {B : Type 0} (of : B → SourceSeen) (left now : ℕ) (request rest : Option Request) (a b : ListenerOf B C S A) (told : Option PgStatement) (turn : Turn) (e : Error) → told ≡ None → now ≤ left → TellsTurn (learnt_of conn b.hearing) turn (Err e)
+      → QueriesFrom seen conn with_conn filling of left now request rest a b (Ready turn) → PollsPrepare seen conn with_conn filling of left now request rest a b (Ready (Err e)) told
+  prepare_fails of left now request rest a b told turn e none fewer (answered, is, tells) q =
+      record { mid = b; fewer = now; asked = rest; turn = Ready answered; first = Ready (Err e); less = fewer; queries = subst (λ (t : Turn). QueriesFrom seen conn with_conn filling of left now request rest a b (Ready t)) is q; tells = tells; goes = (refl, refl, refl, none) }
 
-pub prepare_goes : {P S D A : Type 0} (seen : A → LinkSeen) (beside : ListenerOf P S D A → ListenerOf P S D A → BesideSeen) (left fewer now : ℕ) (request asked rest : Option Request) (a mid b : ListenerOf P S D A) (answer : Poll (Result Describe Error)) (told : Option PgStatement) (turn : Turn) (p : PgStatement) → fewer ≤ left
-    → TellsTurn (learnt_of mid.hearing) turn (Ok p) → QueriesFrom seen beside left fewer request asked a mid (Ready turn) → GoesOn seen beside fewer now p rest mid b answer told → PollsPrepare seen beside left now request rest a b answer told
-prepare_goes seen beside left fewer now request asked rest a mid b answer told turn p less (answered, is, tells) q goes =
-    record { mid = mid; fewer = fewer; asked = asked; turn = Ready answered; first = Ready (Ok p); less = less; queries = subst (λ (t : Turn). QueriesFrom seen beside left fewer request asked a mid (Ready t)) is q; tells = tells; goes = goes }
+  pub prepare_goes : {B : Type 0} (of : B → SourceSeen) (left fewer now : ℕ) (request asked rest : Option Request) (a mid b : ListenerOf B C S A) (answer : Poll (Result Describe Error)) (told : Option PgStatement) (turn : Turn) (p : PgStatement) → fewer ≤ left
+      → TellsTurn (learnt_of conn mid.hearing) turn (Ok p) → QueriesFrom seen conn with_conn filling of left fewer request asked a mid (Ready turn) → GoesOn seen conn with_conn filling of fewer now p rest mid b answer told → PollsPrepare seen conn with_conn filling of left now request rest a b answer told
+  prepare_goes of left fewer now request asked rest a mid b answer told turn p less (answered, is, tells) q goes =
+      record { mid = mid; fewer = fewer; asked = asked; turn = Ready answered; first = Ready (Ok p); less = less; queries = subst (λ (t : Turn). QueriesFrom seen conn with_conn filling of left fewer request asked a mid (Ready t)) is q; tells = tells; goes = goes }

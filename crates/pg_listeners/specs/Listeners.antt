@@ -1,4 +1,4 @@
--- A listener with what holds its pool and its participant.
+-- A listener with where its connections come from.
 use Rattle.std.specs.Prelude.{◌≡◌, ◌≢◌, ◌⊎◌, ◌||◌, ℕ, Bool, true, false, List, [], ◌∷◌, Option, Some, None, is_some, IsSome, Result, Ok, Err}
 use Rattle.futures.specs.declared.task.Poll.{Poll}
 use Rattle.futures.specs.declared.task.Poll.TheVariants.{Ready, Pending}
@@ -11,30 +11,25 @@ use Rattle.pg_call.specs.declared.answer.Turn.{Turn}
 use Rattle.pg_call.specs.declared.request.Request.{Request}
 use Rattle.pg_listener.specs.Changes.{changed}
 use Rattle.pg_listener.specs.declared.changing.ChannelChange.{ChannelChange}
-use Rattle.pg_conn.specs.Dials.{DialSeen}
 use Rattle.pg_pool.specs.Seats.{SeatSeen}
-use Rattle.pg_listen.specs.Handed.{PoolSeen}
+use Rattle.pg_listen.specs.Handed.{FillingOf, HeldOf, PoolSeen}
 use Rattle.pg_listen.specs.declared.handed.Released.{Released}
-use Rattle.pg_reconnect.specs.Failing.{BesideSeen, CausedBy, Fails}
+use Rattle.pg_reconnect.specs.Failing.{BesideSeen, CausedBy, Fails, beside_of}
+use Rattle.pg_reconnect.specs.Sources.{PoolSourceOf, SourceSeen}
 use Rattle.pg_reconnect.specs.Hearing.{HearingOf, HearsBy, channels_at_ok, fresh_hearing, is_changing, stored_first}
 use Rattle.pg_reconnect.specs.Leaving.{NotesClosed, OnReleased}
 use Rattle.pg_reconnect.specs.Querying.{Queries}
 use Rattle.pg_reconnect.specs.Waiting.{WaitsBy}
+use Rattle.pg_conn.specs.Connections.{ConnOf}
 
-pub record ListenerOf (P S D A : Type 0) : Type 0 where
-  pub pool : P
-  pub seat : S
-  pub dial : D
-  pub hearing : HearingOf A
+-- where its connections come from, and what it hears
+pub record ListenerOf (B C S A : Type 0) : Type 0 where
+  pub source : B
+  pub hearing : HearingOf C S A
 
 -- what lies beside it in a poll from one of its states to the other
-abbrev pub beside_of : {P S D A : Type 0} → (P → PoolSeen) → (S → SeatSeen) → (D → DialSeen) → ℕ → ListenerOf P S D A → ListenerOf P S D A → BesideSeen
-beside_of pool seat dial most a b = record { most = most; options = (pool a.pool).options; seat = seat b.seat; before = (dial a.dial).faults; behind = (dial b.dial).faults }
-
--- it has heard on the connections of its pool alone, which is its participant's too
-pub record IsOfPool (name seat pool : ℕ) : Type 0 where
-  pub mine : name ≡ pool
-  pub theirs : seat ≡ pool
+abbrev pub beside_by : {B C S A : Type 0} → (B → SourceSeen) → ListenerOf B C S A → ListenerOf B C S A → BesideSeen
+beside_by now a b = beside_of (now a.source) (now b.source)
 
 -- the notification that a stream's poll gave
 abbrev pub told_by : Poll (Option (Result Notification Error)) → List Notification
@@ -59,21 +54,21 @@ is_answered (Ready x) = true
 -- ---- changes of the channels
 
 -- a change that its first poll begins, or one that has begun, goes on
-abbrev pub goes_on : {A : Type 0} → Option ChannelChange → HearingOf A → Bool
+abbrev pub goes_on : {C S A : Type 0} → Option ChannelChange → HearingOf C S A → Bool
 goes_on change h = is_some change || is_changing h
 
 -- the channels that a change stores before its statement is asked, and those that its Ok makes
-abbrev pub stored_by : {A : Type 0} → Option ChannelChange → HearingOf A → List (List ℕ)
+abbrev pub stored_by : {C S A : Type 0} → Option ChannelChange → HearingOf C S A → List (List ℕ)
 stored_by (Some change) h = stored_first change h.listening.channels
 stored_by None h = h.listening.channels
 
-abbrev pub wanted_by : {A : Type 0} → Option ChannelChange → HearingOf A → List (List ℕ)
+abbrev pub wanted_by : {C S A : Type 0} → Option ChannelChange → HearingOf C S A → List (List ℕ)
 wanted_by (Some change) h = changed change h.listening.channels
 wanted_by None h = channels_at_ok h
 
 -- An Ok makes these. An Err leaves those that were stored before its statement was asked; where memory was wanting for that, all are as they were. Where it
 -- waits, it is to make the same.
-abbrev pub MakesChange : {A : Type 0} → Option ChannelChange → HearingOf A → HearingOf A → Poll (Result (Unit {0}) Error) → Type 0
+abbrev pub MakesChange : {C S A : Type 0} → Option ChannelChange → HearingOf C S A → HearingOf C S A → Poll (Result (Unit {0}) Error) → Type 0
 MakesChange change a b (Ready (Ok u)) = b.listening.channels ≡ wanted_by change a
 MakesChange change a b (Ready (Err e)) = (b.listening.channels ≡ stored_by change a) ⊎ ((b.listening.channels ≡ a.listening.channels) × (e ≡ errors.OutOfMemory))
 MakesChange change a b Pending = (b.listening.channels ≡ stored_by change a) × (channels_at_ok b ≡ wanted_by change a) × (is_changing b ≡ true)
@@ -81,27 +76,27 @@ MakesChange change a b Pending = (b.listening.channels ≡ stored_by change a) �
 -- ---- why a poll answers
 
 -- why it waits or fails, within the calls of one poll
-abbrev pub Caused : {A X : Type 0} → (A → LinkSeen) → BesideSeen → HearingOf A → HearingOf A → Poll (Result X Error) → Type 0
-Caused seen o a b answer = (now : ℕ) × CausedBy seen o 256 now a b answer
+abbrev pub Caused : {C S A X : Type 0} → (A → LinkSeen) → (C → ConnOf A) → (C → ConnOf A → C) → (S → FillingOf A) → BesideSeen → HearingOf C S A → HearingOf C S A → Poll (Result X Error) → Type 0
+Caused seen conn with_conn filling o a b answer = (now : ℕ) × CausedBy seen conn with_conn filling o 256 now a b answer
 
 -- the same behind the begin of a change, which asks nothing of a link
-abbrev pub CausedBehind : {A X : Type 0} → (A → LinkSeen) → BesideSeen → ℕ → ℕ → HearingOf A → HearingOf A → Poll (Result X Error) → Type 0
-CausedBehind {A} seen o left now a b answer = (begun : HearingOf A) × HearsBy seen a begun [] × CausedBy seen o left now begun b answer
+abbrev pub CausedBehind : {C S A X : Type 0} → (A → LinkSeen) → (C → ConnOf A) → (C → ConnOf A → C) → (S → FillingOf A) → BesideSeen → ℕ → ℕ → HearingOf C S A → HearingOf C S A → Poll (Result X Error) → Type 0
+CausedBehind {C} {S} {A} seen conn with_conn filling o left now a b answer = (begun : HearingOf C S A) × HearsBy seen conn a begun [] × CausedBy seen conn with_conn filling o left now begun b answer
 
-abbrev pub CausedBegun : {A X : Type 0} → (A → LinkSeen) → BesideSeen → HearingOf A → HearingOf A → Poll (Result X Error) → Type 0
-CausedBegun seen o a b answer = (now : ℕ) × CausedBehind seen o 256 now a b answer
+abbrev pub CausedBegun : {C S A X : Type 0} → (A → LinkSeen) → (C → ConnOf A) → (C → ConnOf A → C) → (S → FillingOf A) → BesideSeen → HearingOf C S A → HearingOf C S A → Poll (Result X Error) → Type 0
+CausedBegun seen conn with_conn filling o a b answer = (now : ℕ) × CausedBehind seen conn with_conn filling o 256 now a b answer
 
 -- or all of its calls were made, and connections were lost in them
-abbrev pub WaitsOrSpent : {A : Type 0} → (A → LinkSeen) → HearingOf A → HearingOf A → Type 0
-WaitsOrSpent seen a b = (now : ℕ) × (WaitsBy seen 256 now a b ⊎ (now ≡ 0))
+abbrev pub WaitsOrSpent : {C S A : Type 0} → (A → LinkSeen) → (C → ConnOf A) → (S → FillingOf A) → HearingOf C S A → HearingOf C S A → Type 0
+WaitsOrSpent seen conn filling a b = (now : ℕ) × (WaitsBy seen conn filling 256 now a b ⊎ (now ≡ 0))
 
 -- and why it fails
-abbrev pub FailsWithin : {A : Type 0} → (A → LinkSeen) → BesideSeen → HearingOf A → HearingOf A → Error → Type 0
-FailsWithin seen o a b e = (now : ℕ) × Fails seen o 256 now a b e
+abbrev pub FailsWithin : {C S A : Type 0} → (A → LinkSeen) → (C → ConnOf A) → (C → ConnOf A → C) → (S → FillingOf A) → BesideSeen → HearingOf C S A → HearingOf C S A → Error → Type 0
+FailsWithin seen conn with_conn filling o a b e = (now : ℕ) × Fails seen conn with_conn filling o 256 now a b e
 
 -- one poll of what it asks for its user
-abbrev pub QueriesIn : {A : Type 0} → (A → LinkSeen) → BesideSeen → Option Request → Option Request → HearingOf A → HearingOf A → Poll Turn → Type 0
-QueriesIn seen o request rest a b answer = (now : ℕ) × Queries seen o 256 now request rest a b answer
+abbrev pub QueriesIn : {C S A : Type 0} → (A → LinkSeen) → (C → ConnOf A) → (C → ConnOf A → C) → (S → FillingOf A) → BesideSeen → Option Request → Option Request → HearingOf C S A → HearingOf C S A → Poll Turn → Type 0
+QueriesIn seen conn with_conn filling o request rest a b answer = (now : ℕ) × Queries seen conn with_conn filling o 256 now request rest a b answer
 
 -- this holds of the error that a stream gives
 abbrev pub OnTold : {X : Type 0} → (Error → Type 0) → Poll (Option (Result X Error)) → Type 0
@@ -111,58 +106,58 @@ OnTold P answer = Unit {0}
 -- ---- the calls that begin and end it
 
 -- a connection is held
-abbrev pub holds : {P S D A : Type 0} → Option (ListenerOf P S D A) → Bool
+abbrev pub holds : {B C S A : Type 0} → Option (ListenerOf B C S A) → Bool
 holds None = false
 holds (Some l) = is_some l.hearing.listening.conn
 
 -- it hears no more than it had, and its channels stay
-abbrev pub IsHeardOn : {P S D A : Type 0} → (A → LinkSeen) → ListenerOf P S D A → ListenerOf P S D A → Type 0
-IsHeardOn seen a b = HearsBy seen a.hearing b.hearing [] × (b.hearing.listening.channels ≡ a.hearing.listening.channels)
+abbrev pub IsHeardOn : {B C S A : Type 0} → (A → LinkSeen) → (C → ConnOf A) → ListenerOf B C S A → ListenerOf B C S A → Type 0
+IsHeardOn seen conn a b = HearsBy seen conn a.hearing b.hearing [] × (b.hearing.listening.channels ≡ a.hearing.listening.channels)
 
 -- the listener is handed on where it has a connection, and else stays; why it waits or fails
-abbrev pub Connects : {P S D A : Type 0} → (A → LinkSeen) → (ListenerOf P S D A → ListenerOf P S D A → BesideSeen) → Option (ListenerOf P S D A) → Option (ListenerOf P S D A) → Poll (Result (ListenerOf P S D A) Error) → Type 0
-Connects seen beside None after answer = ⊥
-Connects seen beside (Some a) None (Ready (Ok b)) = IsHeardOn seen a b × IsSome b.hearing.listening.conn
-Connects {P} {S} {D} {A} seen beside (Some a) (Some b) (Ready (Err e)) = IsHeardOn seen a b × FailsWithin seen (beside a b) a.hearing b.hearing e × NotesClosed A (beside a b).most (beside a b).seat e
-Connects seen beside (Some a) (Some b) Pending = IsHeardOn seen a b × ((now : ℕ) × WaitsBy seen 256 now a.hearing b.hearing)
-Connects seen beside (Some a) after answer = ⊥
+abbrev pub Connects : {B C S A : Type 0} → (A → LinkSeen) → (C → ConnOf A) → (C → ConnOf A → C) → (S → FillingOf A) → (B → SourceSeen) → Option (ListenerOf B C S A) → Option (ListenerOf B C S A) → Poll (Result (ListenerOf B C S A) Error) → Type 0
+Connects seen conn with_conn filling now None after answer = ⊥
+Connects seen conn with_conn filling now (Some a) None (Ready (Ok b)) = IsHeardOn seen conn a b × IsSome b.hearing.listening.conn
+Connects {B} {C} {S} {A} seen conn with_conn filling now (Some a) (Some b) (Ready (Err e)) = IsHeardOn seen conn a b × FailsWithin seen conn with_conn filling (beside_by now a b) a.hearing b.hearing e × NotesClosed A (now a.source).most (now b.source).seat e
+Connects seen conn with_conn filling now (Some a) (Some b) Pending = IsHeardOn seen conn a b × ((left : ℕ) × WaitsBy seen conn filling 256 left a.hearing b.hearing)
+Connects seen conn with_conn filling now (Some a) after answer = ⊥
 
 -- the first participant of a pool of this name, which has called nothing yet
 abbrev pub IsFirst : ℕ → SeatSeen → Type 0
 IsFirst name s = (s.number ≡ 0) × (s.name ≡ name) × (s.receipts ≡ []) × (s.ids ≡ [])
 
 -- it stands over a new pool of these options, which it alone has, and ignores a close of it
-abbrev pub StandsAlone : {D A : Type 0} → ℕ → ConnectOptions → D → ListenerOf PoolSeen SeatSeen D A → Type 0
-StandsAlone name options dial l = (l.pool ≡ record { name = name; options = options }) × IsFirst name l.seat × (l.dial ≡ dial) × (l.hearing ≡ fresh_hearing name true)
+abbrev pub StandsAlone : {D A : Type 0} → ℕ → ConnectOptions → D → ListenerOf (PoolSourceOf PoolSeen SeatSeen D) (HeldOf A) (FillingOf A) A → Type 0
+StandsAlone name options dial l = (l.source.pool ≡ record { name = name; options = options }) × IsFirst name l.source.seat × (l.source.dial ≡ dial) × (l.hearing ≡ fresh_hearing name true)
 
 -- such a one is to connect, where the options could be read
-abbrev pub BeginsAlone : {D A : Type 0} → ℕ → Result ConnectOptions Error → D → Option (ListenerOf PoolSeen SeatSeen D A) → Bool → Type 0
-BeginsAlone {D} {A} name options dial listener is_over = (read : ConnectOptions) × (l : ListenerOf PoolSeen SeatSeen D A) × (options ≡ Ok read) × (listener ≡ Some l) × StandsAlone name read dial l × (is_over ≡ false)
+abbrev pub BeginsAlone : {D A : Type 0} → ℕ → Result ConnectOptions Error → D → Option (ListenerOf (PoolSourceOf PoolSeen SeatSeen D) (HeldOf A) (FillingOf A) A) → Bool → Type 0
+BeginsAlone {D} {A} name options dial listener is_over = (read : ConnectOptions) × (l : ListenerOf (PoolSourceOf PoolSeen SeatSeen D) (HeldOf A) (FillingOf A) A) × (options ≡ Ok read) × (listener ≡ Some l) × StandsAlone name read dial l × (is_over ≡ false)
 
 -- it is handed on
 abbrev pub HandsOn : {W : Type 0} → Option W → Option W → Poll (Result W Error) → Type 0
 HandsOn None after answer = ⊥
 HandsOn (Some a) after answer = (answer ≡ Ready (Ok a)) × (after ≡ None)
 
-abbrev pub goes_on_in : {P S D A : Type 0} → Option ChannelChange → Option (ListenerOf P S D A) → Bool
+abbrev pub goes_on_in : {B C S A : Type 0} → Option ChannelChange → Option (ListenerOf B C S A) → Bool
 goes_on_in change None = false
 goes_on_in change (Some l) = goes_on change l.hearing
 
 -- it waits behind the begin of its statement, or fails behind it
-abbrev pub WaitsBegun : {A : Type 0} → (A → LinkSeen) → HearingOf A → HearingOf A → Type 0
-WaitsBegun {A} seen a b = (now : ℕ) × (begun : HearingOf A) × HearsBy seen a begun [] × WaitsBy seen 256 now begun b
+abbrev pub WaitsBegun : {C S A : Type 0} → (A → LinkSeen) → (C → ConnOf A) → (S → FillingOf A) → HearingOf C S A → HearingOf C S A → Type 0
+WaitsBegun {C} {S} {A} seen conn filling a b = (now : ℕ) × (begun : HearingOf C S A) × HearsBy seen conn a begun [] × WaitsBy seen conn filling 256 now begun b
 
-abbrev pub FailsBegun : {A : Type 0} → (A → LinkSeen) → BesideSeen → HearingOf A → HearingOf A → Error → Type 0
-FailsBegun {A} seen o a b e = (now : ℕ) × (begun : HearingOf A) × HearsBy seen a begun [] × Fails seen o 256 now begun b e
+abbrev pub FailsBegun : {C S A : Type 0} → (A → LinkSeen) → (C → ConnOf A) → (C → ConnOf A → C) → (S → FillingOf A) → BesideSeen → HearingOf C S A → HearingOf C S A → Error → Type 0
+FailsBegun {C} {S} {A} seen conn with_conn filling o a b e = (now : ℕ) × (begun : HearingOf C S A) × HearsBy seen conn a begun [] × Fails seen conn with_conn filling o 256 now begun b e
 
 -- It is there until it was released. Then something is answered exactly where a connection was held, which is the one that was released.
-abbrev pub Releases : {P S D A : Type 0} → (A → LinkSeen) → (ListenerOf P S D A → ListenerOf P S D A → BesideSeen) → ℕ → Option (ListenerOf P S D A) → Option (ListenerOf P S D A) → Poll (Result (Option (Released A)) Error) → Type 0
-Releases {P} {S} {D} {A} seen beside most (Some a) None (Ready (Ok x)) = (last : ListenerOf P S D A) × HearsBy seen a.hearing last.hearing [] × (is_some x ≡ is_some last.hearing.listening.conn) × OnReleased most last.hearing.listening.conn x
-Releases seen beside most (Some a) (Some b) (Ready (Err e)) = HearsBy seen a.hearing b.hearing [] × FailsBegun seen (beside a b) a.hearing b.hearing e
-Releases seen beside most (Some a) (Some b) Pending = HearsBy seen a.hearing b.hearing [] × (is_changing b.hearing ≡ true) × WaitsBegun seen a.hearing b.hearing
-Releases seen beside most before after answer = ⊥
+abbrev pub Releases : {B C S A : Type 0} → (A → LinkSeen) → (C → ConnOf A) → (C → ConnOf A → C) → (C → HeldOf A) → (S → FillingOf A) → (B → SourceSeen) → Option (ListenerOf B C S A) → Option (ListenerOf B C S A) → Poll (Result (Option (Released A)) Error) → Type 0
+Releases {B} {C} {S} {A} seen conn with_conn handed filling now (Some a) None (Ready (Ok x)) = (last : ListenerOf B C S A) × HearsBy seen conn a.hearing last.hearing [] × (is_some x ≡ is_some last.hearing.listening.conn) × OnReleased handed conn with_conn (now last.source).most last.hearing.listening.conn x
+Releases seen conn with_conn handed filling now (Some a) (Some b) (Ready (Err e)) = HearsBy seen conn a.hearing b.hearing [] × FailsBegun seen conn with_conn filling (beside_by now a b) a.hearing b.hearing e
+Releases seen conn with_conn handed filling now (Some a) (Some b) Pending = HearsBy seen conn a.hearing b.hearing [] × (is_changing b.hearing ≡ true) × WaitsBegun seen conn filling a.hearing b.hearing
+Releases seen conn with_conn handed filling now before after answer = ⊥
 
 -- what is answered where it lets its connection go at once
-abbrev pub LetsGo : {P S D A : Type 0} → ℕ → Option (ListenerOf P S D A) → Option (Released A) → Type 0
-LetsGo most None released = released ≡ None
-LetsGo most (Some l) released = OnReleased most l.hearing.listening.conn released
+abbrev pub LetsGo : {B C S A : Type 0} → (C → HeldOf A) → (C → ConnOf A) → (C → ConnOf A → C) → (B → SourceSeen) → Option (ListenerOf B C S A) → Option (Released A) → Type 0
+LetsGo handed conn with_conn now None released = released ≡ None
+LetsGo handed conn with_conn now (Some l) released = OnReleased handed conn with_conn (now l.source).most l.hearing.listening.conn released

@@ -4,10 +4,11 @@ ghost use Rattle.pg_options.specs.FromUrl.{options_of_text};
 ghost use Rattle.pg_wire.specs.declared.error.Error.TheVariants.{OutOfMemory};
 ghost use Rattle.pg_listeners.specs.Listeners.{BeginsAlone, IsFirst};
 
-use crate::{Connect, PgListener};
+use crate::{Connect, Connecting, Listener};
 use pg_conn::Dial;
 use pg_listen::{PgPool, PgPoolOptions, PoolLedger, PoolSeat};
 use pg_options::{PgConnectOptions, PgSettings};
+use pg_reconnect::PoolSource;
 use pg_stream::Link;
 use pg_wire::Error;
 use std::alloc::Global;
@@ -60,7 +61,11 @@ where
         Err(e) => return Err((e, dial)),
     };
     match pool_of_one(alloc, name, options, blank) {
-        Ok((pool, seat)) => Ok(Connect::over(PgListener::over(alloc, pool, seat, dial, true))),
+        Ok((pool, seat)) => Ok(Connecting::over(Listener::over(
+            alloc,
+            PoolSource::new(pool, seat, dial),
+            true,
+        ))),
         Err(e) => Err((e, dial)),
     }
 }

@@ -2,12 +2,11 @@
 ghost use Rattle.std.specs.Prelude.{◌≡◌, true, false, [], None, Some};
 ghost use Rattle.pg_reconnect.specs.Hearing.{HearsBy};
 ghost use Rattle.pg_reconnect.specs.Waiting.{NotesBy};
-ghost use Rattle.pg_listeners.specs.Listeners.{CausedBegun, MakesChange, beside_of, goes_on, is_answered};
+ghost use Rattle.pg_listeners.specs.Listeners.{CausedBegun, MakesChange, beside_by, goes_on, is_answered};
 
 use crate::answering::is_answered;
-use crate::{ChannelChange, PgListener, PoolHolder, SeatHolder};
-use pg_conn::Dial;
-use pg_listen::{PoolLedger, PoolSeat};
+use crate::{ChannelChange, Listener, PgListener};
+use pg_reconnect::ConnectionSource;
 use pg_wire::{Error, Poll, Sequence, Text};
 use std::sync::Wait;
 
@@ -44,13 +43,8 @@ impl<W, C> Changing<'_, W, C> {
     }
 }
 
-impl<G: PoolLedger, P: PoolHolder<G, D::L>, S: SeatHolder<Seat = PoolSeat<G>>, D: Dial> PgListener<
-    G,
-    P,
-    S,
-    D,
-> {
-    fn change(&mut self, change: ChannelChange) -> ChangeChannels<'_, G, P, S, D>
+impl<B: ConnectionSource> Listener<B> {
+    fn change(&mut self, change: ChannelChange) -> Changing<'_, Self, ChannelChange>
         ensures same { result.listener.ghost_name ≡ self.entry.ghost_name }
         ensures listener { result.listener.now ≡ self.old }
         ensures change { result.change ≡ Some change }
@@ -64,7 +58,7 @@ impl<G: PoolLedger, P: PoolHolder<G, D::L>, S: SeatHolder<Seat = PoolSeat<G>>, D
     }
 
     /// Listens to a channel, which is stored once its statement has succeeded.
-    pub fn listen(&mut self, channel: Text) -> ChangeChannels<'_, G, P, S, D>
+    pub fn listen(&mut self, channel: Text) -> Changing<'_, Self, ChannelChange>
         ensures same { result.listener.ghost_name ≡ self.entry.ghost_name }
         ensures listener { result.listener.now ≡ self.old }
         ensures change { result.change ≡ Some (ChannelChange.Listen channel) }
@@ -74,7 +68,7 @@ impl<G: PoolLedger, P: PoolHolder<G, D::L>, S: SeatHolder<Seat = PoolSeat<G>>, D
     }
 
     /// Listens to several channels, which are stored before their statement is asked.
-    pub fn listen_all(&mut self, channels: Sequence<Text>) -> ChangeChannels<'_, G, P, S, D>
+    pub fn listen_all(&mut self, channels: Sequence<Text>) -> Changing<'_, Self, ChannelChange>
         ensures same { result.listener.ghost_name ≡ self.entry.ghost_name }
         ensures listener { result.listener.now ≡ self.old }
         ensures change { result.change ≡ Some (ChannelChange.ListenAll channels) }
@@ -84,7 +78,7 @@ impl<G: PoolLedger, P: PoolHolder<G, D::L>, S: SeatHolder<Seat = PoolSeat<G>>, D
     }
 
     /// Listens to a channel no longer. It asks nothing where no connection is held.
-    pub fn unlisten(&mut self, channel: Text) -> ChangeChannels<'_, G, P, S, D>
+    pub fn unlisten(&mut self, channel: Text) -> Changing<'_, Self, ChannelChange>
         ensures same { result.listener.ghost_name ≡ self.entry.ghost_name }
         ensures listener { result.listener.now ≡ self.old }
         ensures change { result.change ≡ Some (ChannelChange.Unlisten channel) }
@@ -94,7 +88,7 @@ impl<G: PoolLedger, P: PoolHolder<G, D::L>, S: SeatHolder<Seat = PoolSeat<G>>, D
     }
 
     /// Listens to no channel any longer. It asks nothing where no connection is held.
-    pub fn unlisten_all(&mut self) -> ChangeChannels<'_, G, P, S, D>
+    pub fn unlisten_all(&mut self) -> Changing<'_, Self, ChannelChange>
         ensures same { result.listener.ghost_name ≡ self.entry.ghost_name }
         ensures listener { result.listener.now ≡ self.old }
         ensures change { result.change ≡ Some ChannelChange.UnlistenAll }
@@ -104,14 +98,9 @@ impl<G: PoolLedger, P: PoolHolder<G, D::L>, S: SeatHolder<Seat = PoolSeat<G>>, D
     }
 }
 
-impl<
-    G: PoolLedger,
-    P: PoolHolder<G, D::L>,
-    S: SeatHolder<Seat = PoolSeat<G>>,
-    D: Dial,
-> ChangeChannels<'_, G, P, S, D>
+impl<B: ConnectionSource> Changing<'_, Listener<B>, ChannelChange>
 where
-    D::L: Drop,
+    B::L: Drop,
 {
     /// Moves the call on, by at most 256 calls of the link.
     pub fn poll<R: Wait>(&mut self, rt: &R) -> Poll<Result<(), Error>>
@@ -119,11 +108,11 @@ where
         requires goes { goes_on self.old.change self.old.listener.now.hearing ≡ true }
         ensures over { self.new.is_over ≡ is_answered result }
         ensures same { self.new.listener.ghost_name ≡ self.old.listener.ghost_name }
-        ensures hears { HearsBy D.L.seen self.old.listener.now.hearing self.new.listener.now.hearing [] }
+        ensures hears { HearsBy B.L.seen B.Held.conn self.old.listener.now.hearing self.new.listener.now.hearing [] }
         ensures changes { MakesChange self.old.change self.old.listener.now.hearing self.new.listener.now.hearing result }
         ensures begun { self.new.change ≡ None }
-        ensures causes { CausedBegun D.L.seen (beside_of P.pool S.seat D.seen G.most self.old.listener.now self.new.listener.now) self.old.listener.now.hearing self.new.listener.now.hearing result }
-        ensures closed { NotesBy D.L G.most (S.seat self.new.listener.now.seat) result }
+        ensures causes { CausedBegun B.L.seen B.Held.conn B.Held.with_conn B.filling (beside_by B.now self.old.listener.now self.new.listener.now) self.old.listener.now.hearing self.new.listener.now.hearing result }
+        ensures closed { NotesBy B.L (B.now self.old.listener.now.source).most (B.now self.new.listener.now.source).seat result }
     {
         let mut left = 256;
         let answer = self.listener.poll_asking(rt, &mut self.change, &mut left);

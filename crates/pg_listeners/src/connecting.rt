@@ -1,11 +1,13 @@
 //! How a listener begins.
 ghost use Rattle.std.specs.Prelude.{◌≡◌, true, false, None, Some, IsSome, is_some};
 ghost use Rattle.pg_reconnect.specs.Hearing.{fresh_hearing};
-ghost use Rattle.pg_listeners.specs.Listeners.{Connects, HandsOn, LetsGo, beside_of, holds, is_answered};
+ghost use Rattle.pg_reconnect.specs.Sources.{pool_source};
+ghost use Rattle.pg_listeners.specs.Listeners.{Connects, HandsOn, LetsGo, holds, is_answered};
 
-use crate::{PgListener, PoolHolder, SeatHolder};
+use crate::{Listener, PgListener, PoolHolder, SeatHolder};
 use pg_conn::Dial;
 use pg_listen::{PoolLedger, PoolSeat, Released};
+use pg_reconnect::{ConnectionSource, PoolSource};
 use pg_wire::{Error, Poll};
 use std::alloc::Global;
 use std::sync::Wait;
@@ -27,10 +29,10 @@ pub fn connect_with<
     D: Dial,
 >(alloc: Global, pool: P, seat: S, dial: D) -> Connect<G, P, S, D>
     requires { (S.seat seat).name ≡ (P.pool pool).name }
-    ensures listener { result.listener ≡ Some (record { pool = pool; seat = seat; dial = dial; hearing = fresh_hearing (P.pool pool).name false }) }
+    ensures listener { result.listener ≡ Some (record { source = pool_source P.pool S.seat D.seen G.most pool seat dial; hearing = fresh_hearing (P.pool pool).name false }) }
     ensures over { result.is_over ≡ false }
 {
-    Connect::over(PgListener::over(alloc, pool, seat, dial, false))
+    Connecting::over(Listener::over(alloc, PoolSource::new(pool, seat, dial), false))
 }
 
 impl<W> Connecting<W> {
@@ -64,21 +66,14 @@ impl<W> Connecting<W> {
     }
 }
 
-impl<G: PoolLedger, P: PoolHolder<G, D::L>, S: SeatHolder<Seat = PoolSeat<G>>, D: Dial> Connect<
-    G,
-    P,
-    S,
-    D,
-> {
+impl<B: ConnectionSource> Connecting<Listener<B>> {
     /// Gives it up: lets a connection go as it stands, or gives the leave to make one back. There is no answer exactly where no connection is held.
-    pub fn into_released<R: Wait>(self, rt: &R) -> Option<Released<D::L>>
+    pub fn into_released<R: Wait>(self, rt: &R) -> Option<Released<B::L>>
     where
-        P: Drop,
-        S: Drop,
-        D: Drop,
-        D::L: Drop,
+        B: Drop,
+        B::L: Drop,
         ensures some { is_some result ≡ holds self.listener }
-        ensures releases { LetsGo G.most self.listener result }
+        ensures releases { LetsGo B.handed B.Held.conn B.Held.with_conn B.now self.listener result }
     {
         let Connecting {
             listener,
@@ -91,21 +86,16 @@ impl<G: PoolLedger, P: PoolHolder<G, D::L>, S: SeatHolder<Seat = PoolSeat<G>>, D
     }
 }
 
-impl<G: PoolLedger, P: PoolHolder<G, D::L>, S: SeatHolder<Seat = PoolSeat<G>>, D: Dial> Connect<
-    G,
-    P,
-    S,
-    D,
->
+impl<B: ConnectionSource> Connecting<Listener<B>>
 where
-    D::L: Drop,
+    B::L: Drop,
 {
     /// Moves the call on, by at most 256 calls of the link.
-    pub fn poll<R: Wait>(&mut self, rt: &R) -> Poll<Result<PgListener<G, P, S, D>, Error>>
+    pub fn poll<R: Wait>(&mut self, rt: &R) -> Poll<Result<Listener<B>, Error>>
         requires over { self.old.is_over ≡ false }
         requires listener { IsSome self.old.listener }
         ensures over { self.new.is_over ≡ is_answered result }
-        ensures connects { Connects D.L.seen (beside_of P.pool S.seat D.seen G.most) self.old.listener self.new.listener result }
+        ensures connects { Connects B.L.seen B.Held.conn B.Held.with_conn B.filling B.now self.old.listener self.new.listener result }
     {
         let Some(listener) = &mut self.listener else {
             unreachable!()

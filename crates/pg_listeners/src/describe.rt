@@ -7,16 +7,16 @@ ghost use Rattle.pg_reconnect.specs.Hearing.{HearsBy};
 ghost use Rattle.pg_reconnect.specs.Querying.{IsQuerying};
 ghost use Rattle.pg_reconnect.specs.Waiting.{NotesBy};
 ghost use Rattle.pg_listeners.specs.Describing.{DescribesIn, GoesOn, IsDescribing, PollsDescribe, PollsNulls, PollsPrepare, StaysDescribing};
-ghost use Rattle.pg_listeners.specs.Listeners.{beside_of, is_answered};
+ghost use Rattle.pg_listeners.specs.Listeners.{is_answered};
 
 use crate::answering::is_answered;
-use crate::{PgListener, PoolHolder, SeatHolder};
+use crate::{Listener, PgListener};
 use pg_call::Request;
-use pg_conn::{Dial, PgStatement, Preparation, prepare_request};
+use pg_conn::{PgStatement, Preparation, prepare_request};
 use pg_describe::Describe;
 use pg_describe::telling::hear;
-use pg_listen::{PoolLedger, PoolSeat};
 use pg_nullable::nulls_query;
+use pg_reconnect::ConnectionSource;
 use pg_wire::{Error, Poll, Text};
 use std::sync::Wait;
 
@@ -62,16 +62,11 @@ impl<W, Q, T> DescribingBy<'_, W, Q, T> {
     }
 }
 
-impl<G: PoolLedger, P: PoolHolder<G, D::L>, S: SeatHolder<Seat = PoolSeat<G>>, D: Dial> PgListener<
-    G,
-    P,
-    S,
-    D,
-> {
+impl<B: ConnectionSource> Listener<B> {
     /// Describes a statement in full: what `prepare_with` tells of it, and of each column whether it may be null, which the catalog is asked for. More than 21845
     /// columns are `TooMany` behind the preparation, which stands. It takes up a connection where none is held. An error of the link is answered, and no loss:
     /// that is told by the next call of `try_recv`. (PostgreSQL manual, "Message Flow", "Extended Query"; "System Catalogs", pg_attribute.)
-    pub fn describe(&mut self, sql: Text) -> Describing<'_, G, P, S, D>
+    pub fn describe(&mut self, sql: Text) -> DescribingBy<'_, Self, Request, PgStatement>
         ensures same { result.listener.ghost_name ≡ self.entry.ghost_name }
         ensures listener { result.listener.now ≡ self.old }
         ensures request { result.request ≡ Some (to_prepare (untyped sql)) }
@@ -89,15 +84,9 @@ impl<G: PoolLedger, P: PoolHolder<G, D::L>, S: SeatHolder<Seat = PoolSeat<G>>, D
     }
 }
 
-impl<G: PoolLedger, P: PoolHolder<G, D::L>, S: SeatHolder<Seat = PoolSeat<G>>, D: Dial> Describing<
-    '_,
-    G,
-    P,
-    S,
-    D,
->
+impl<B: ConnectionSource> DescribingBy<'_, Listener<B>, Request, PgStatement>
 where
-    D::L: Drop,
+    B::L: Drop,
 {
     // One poll of the query on nulls, of a statement that is prepared.
     fn poll_nulls<R: Wait>(
@@ -107,14 +96,14 @@ where
         left: &mut u16,
     ) -> Poll<Result<Describe, Error>>
         requires left { left.old ≤ 256 }
-        requires querying { IsQuerying (kinds.Run hows.FetchAll) self.old.request self.old.listener.now.hearing }
+        requires querying { IsQuerying B.Held.conn (kinds.Run hows.FetchAll) self.old.request self.old.listener.now.hearing }
         ensures same { self.new.listener.ghost_name ≡ self.old.listener.ghost_name }
-        ensures hears { HearsBy D.L.seen self.old.listener.now.hearing self.new.listener.now.hearing [] }
+        ensures hears { HearsBy B.L.seen B.Held.conn self.old.listener.now.hearing self.new.listener.now.hearing [] }
         ensures channels { self.new.listener.now.hearing.listening.channels ≡ self.old.listener.now.hearing.listening.channels }
         ensures left { left.new ≤ left.old }
-        ensures nulls { PollsNulls D.L.seen (beside_of P.pool S.seat D.seen G.most) left.old left.new statement self.old.request self.new.request self.old.listener.now self.new.listener.now result self.new.told }
-        ensures stays { StaysDescribing self.new.told self.new.request self.new.listener.now.hearing result }
-        ensures closed { NotesBy D.L G.most (S.seat self.new.listener.now.seat) result }
+        ensures nulls { PollsNulls B.L.seen B.Held.conn B.Held.with_conn B.filling B.now left.old left.new statement self.old.request self.new.request self.old.listener.now self.new.listener.now result self.new.told }
+        ensures stays { StaysDescribing B.Held.conn self.new.told self.new.request self.new.listener.now.hearing result }
+        ensures closed { NotesBy B.L (B.now self.old.listener.now.source).most (B.now self.new.listener.now.source).seat result }
     {
         let answer = self.listener.poll_query(rt, &mut self.request, left);
         let (answer, told) = hear(self.listener.allocator(), statement, answer);
@@ -133,12 +122,12 @@ where
         requires told { self.old.told ≡ None }
         requires asked { self.old.request ≡ None }
         ensures same { self.new.listener.ghost_name ≡ self.old.listener.ghost_name }
-        ensures hears { HearsBy D.L.seen self.old.listener.now.hearing self.new.listener.now.hearing [] }
+        ensures hears { HearsBy B.L.seen B.Held.conn self.old.listener.now.hearing self.new.listener.now.hearing [] }
         ensures channels { self.new.listener.now.hearing.listening.channels ≡ self.old.listener.now.hearing.listening.channels }
         ensures left { left.new ≤ left.old }
-        ensures goes { GoesOn D.L.seen (beside_of P.pool S.seat D.seen G.most) left.old left.new statement self.new.request self.old.listener.now self.new.listener.now result self.new.told }
-        ensures stays { StaysDescribing self.new.told self.new.request self.new.listener.now.hearing result }
-        ensures closed { NotesBy D.L G.most (S.seat self.new.listener.now.seat) result }
+        ensures goes { GoesOn B.L.seen B.Held.conn B.Held.with_conn B.filling B.now left.old left.new statement self.new.request self.old.listener.now self.new.listener.now result self.new.told }
+        ensures stays { StaysDescribing B.Held.conn self.new.told self.new.request self.new.listener.now.hearing result }
+        ensures closed { NotesBy B.L (B.now self.old.listener.now.source).most (B.now self.new.listener.now.source).seat result }
     {
         let alloc = self.listener.allocator();
         match nulls_query(alloc, statement.columns()) {
@@ -155,14 +144,14 @@ where
     fn poll_prepare<R: Wait>(&mut self, rt: &R, left: &mut u16) -> Poll<Result<Describe, Error>>
         requires left { left.old ≤ 256 }
         requires told { self.old.told ≡ None }
-        requires querying { IsQuerying kinds.Prepare self.old.request self.old.listener.now.hearing }
+        requires querying { IsQuerying B.Held.conn kinds.Prepare self.old.request self.old.listener.now.hearing }
         ensures same { self.new.listener.ghost_name ≡ self.old.listener.ghost_name }
-        ensures hears { HearsBy D.L.seen self.old.listener.now.hearing self.new.listener.now.hearing [] }
+        ensures hears { HearsBy B.L.seen B.Held.conn self.old.listener.now.hearing self.new.listener.now.hearing [] }
         ensures channels { self.new.listener.now.hearing.listening.channels ≡ self.old.listener.now.hearing.listening.channels }
         ensures left { left.new ≤ left.old }
-        ensures prepares { PollsPrepare D.L.seen (beside_of P.pool S.seat D.seen G.most) left.old left.new self.old.request self.new.request self.old.listener.now self.new.listener.now result self.new.told }
-        ensures stays { StaysDescribing self.new.told self.new.request self.new.listener.now.hearing result }
-        ensures closed { NotesBy D.L G.most (S.seat self.new.listener.now.seat) result }
+        ensures prepares { PollsPrepare B.L.seen B.Held.conn B.Held.with_conn B.filling B.now left.old left.new self.old.request self.new.request self.old.listener.now self.new.listener.now result self.new.told }
+        ensures stays { StaysDescribing B.Held.conn self.new.told self.new.request self.new.listener.now.hearing result }
+        ensures closed { NotesBy B.L (B.now self.old.listener.now.source).most (B.now self.new.listener.now.source).seat result }
     {
         match self.listener.poll_query(rt, &mut self.request, left) {
             Poll::Pending => Poll::Pending,
@@ -176,13 +165,13 @@ where
     // One poll, but for what is noted of its end.
     fn poll_on<R: Wait>(&mut self, rt: &R, left: &mut u16) -> Poll<Result<Describe, Error>>
         requires left { left.old ≤ 256 }
-        requires calling { IsDescribing self.old.told self.old.request self.old.listener.now.hearing }
+        requires calling { IsDescribing B.Held.conn self.old.told self.old.request self.old.listener.now.hearing }
         ensures same { self.new.listener.ghost_name ≡ self.old.listener.ghost_name }
-        ensures hears { HearsBy D.L.seen self.old.listener.now.hearing self.new.listener.now.hearing [] }
+        ensures hears { HearsBy B.L.seen B.Held.conn self.old.listener.now.hearing self.new.listener.now.hearing [] }
         ensures channels { self.new.listener.now.hearing.listening.channels ≡ self.old.listener.now.hearing.listening.channels }
-        ensures describes { PollsDescribe D.L.seen (beside_of P.pool S.seat D.seen G.most) left.old left.new self.old.told self.old.request self.new.request self.old.listener.now self.new.listener.now result self.new.told }
-        ensures calling { StaysDescribing self.new.told self.new.request self.new.listener.now.hearing result }
-        ensures closed { NotesBy D.L G.most (S.seat self.new.listener.now.seat) result }
+        ensures describes { PollsDescribe B.L.seen B.Held.conn B.Held.with_conn B.filling B.now left.old left.new self.old.told self.old.request self.new.request self.old.listener.now self.new.listener.now result self.new.told }
+        ensures calling { StaysDescribing B.Held.conn self.new.told self.new.request self.new.listener.now.hearing result }
+        ensures closed { NotesBy B.L (B.now self.old.listener.now.source).most (B.now self.new.listener.now.source).seat result }
     {
         match self.told.take() {
             Some(statement) => self.poll_nulls(rt, statement, left),
@@ -193,14 +182,14 @@ where
     /// Moves the call on, by at most 256 calls of the link. A row of the catalog without a truth value is `ColumnDecode` with the place 0.
     pub fn poll<R: Wait>(&mut self, rt: &R) -> Poll<Result<Describe, Error>>
         requires over { self.old.is_over ≡ false }
-        requires calling { IsDescribing self.old.told self.old.request self.old.listener.now.hearing }
+        requires calling { IsDescribing B.Held.conn self.old.told self.old.request self.old.listener.now.hearing }
         ensures over { self.new.is_over ≡ is_answered result }
         ensures same { self.new.listener.ghost_name ≡ self.old.listener.ghost_name }
-        ensures hears { HearsBy D.L.seen self.old.listener.now.hearing self.new.listener.now.hearing [] }
+        ensures hears { HearsBy B.L.seen B.Held.conn self.old.listener.now.hearing self.new.listener.now.hearing [] }
         ensures channels { self.new.listener.now.hearing.listening.channels ≡ self.old.listener.now.hearing.listening.channels }
-        ensures describes { DescribesIn D.L.seen (beside_of P.pool S.seat D.seen G.most) self.old.told self.old.request self.new.request self.old.listener.now self.new.listener.now result self.new.told }
-        ensures calling { StaysDescribing self.new.told self.new.request self.new.listener.now.hearing result }
-        ensures closed { NotesBy D.L G.most (S.seat self.new.listener.now.seat) result }
+        ensures describes { DescribesIn B.L.seen B.Held.conn B.Held.with_conn B.filling B.now self.old.told self.old.request self.new.request self.old.listener.now self.new.listener.now result self.new.told }
+        ensures calling { StaysDescribing B.Held.conn self.new.told self.new.request self.new.listener.now.hearing result }
+        ensures closed { NotesBy B.L (B.now self.old.listener.now.source).most (B.now self.new.listener.now.source).seat result }
     {
         let mut left = 256;
         let answer = self.poll_on(rt, &mut left);

@@ -6,13 +6,13 @@ ghost use Rattle.pg_call.specs.declared.kind.Kind.TheVariants as kinds;
 ghost use Rattle.pg_conn.specs.States.{ends_call, turn_of};
 ghost use Rattle.pg_reconnect.specs.Hearing.{HearsBy};
 ghost use Rattle.pg_reconnect.specs.Querying.{IsQuerying, NotesTurn, QueriesOn};
-ghost use Rattle.pg_listeners.specs.Listeners.{QueriesIn, beside_of};
+ghost use Rattle.pg_listeners.specs.Listeners.{QueriesIn, beside_by};
 
 use crate::answering::ends_call;
-use crate::{PgListener, PoolHolder, SeatHolder};
+use crate::{Listener, PgListener};
 use pg_call::Request;
-use pg_conn::{Dial, PgRow, Query};
-use pg_listen::{PoolLedger, PoolSeat};
+use pg_conn::{PgRow, Query};
+use pg_reconnect::ConnectionSource;
 use pg_wire::{Error, Poll};
 use std::sync::Wait;
 
@@ -49,15 +49,10 @@ impl<W, Q> FetchingOptional<'_, W, Q> {
     }
 }
 
-impl<G: PoolLedger, P: PoolHolder<G, D::L>, S: SeatHolder<Seat = PoolSeat<G>>, D: Dial> PgListener<
-    G,
-    P,
-    S,
-    D,
-> {
+impl<B: ConnectionSource> Listener<B> {
     /// Runs a query, and gives its first row, if there is one. It takes up a connection where none is held. An error of the link is
     /// answered, and no loss: that is told by the next call of `try_recv`.
-    pub fn fetch_optional(&mut self, query: Query) -> FetchOptional<'_, G, P, S, D>
+    pub fn fetch_optional(&mut self, query: Query) -> FetchingOptional<'_, Self, Request>
         ensures same { result.listener.ghost_name ≡ self.entry.ghost_name }
         ensures listener { result.listener.now ≡ self.old }
         ensures request { result.request ≡ Some (Request.FetchOptional query) }
@@ -71,26 +66,21 @@ impl<G: PoolLedger, P: PoolHolder<G, D::L>, S: SeatHolder<Seat = PoolSeat<G>>, D
     }
 }
 
-impl<
-    G: PoolLedger,
-    P: PoolHolder<G, D::L>,
-    S: SeatHolder<Seat = PoolSeat<G>>,
-    D: Dial,
-> FetchOptional<'_, G, P, S, D>
+impl<B: ConnectionSource> FetchingOptional<'_, Listener<B>, Request>
 where
-    D::L: Drop,
+    B::L: Drop,
 {
     /// Moves the call on, by at most 256 calls of the link.
     pub fn poll<R: Wait>(&mut self, rt: &R) -> Poll<Result<Option<PgRow>, Error>>
         requires over { self.old.is_over ≡ false }
-        requires querying { IsQuerying (kinds.Run hows.FetchOptional) self.old.request self.old.listener.now.hearing }
+        requires querying { IsQuerying B.Held.conn (kinds.Run hows.FetchOptional) self.old.request self.old.listener.now.hearing }
         ensures over { self.new.is_over ≡ ends_call (turn_of optional_turn result) }
         ensures same { self.new.listener.ghost_name ≡ self.old.listener.ghost_name }
-        ensures hears { HearsBy D.L.seen self.old.listener.now.hearing self.new.listener.now.hearing [] }
+        ensures hears { HearsBy B.L.seen B.Held.conn self.old.listener.now.hearing self.new.listener.now.hearing [] }
         ensures channels { self.new.listener.now.hearing.listening.channels ≡ self.old.listener.now.hearing.listening.channels }
-        ensures queries { QueriesIn D.L.seen (beside_of P.pool S.seat D.seen G.most self.old.listener.now self.new.listener.now) self.old.request self.new.request self.old.listener.now.hearing self.new.listener.now.hearing (turn_of optional_turn result) }
-        ensures querying { QueriesOn (kinds.Run hows.FetchOptional) self.new.request self.new.listener.now.hearing (turn_of optional_turn result) }
-        ensures closed { NotesTurn D.L G.most (S.seat self.new.listener.now.seat) (turn_of optional_turn result) }
+        ensures queries { QueriesIn B.L.seen B.Held.conn B.Held.with_conn B.filling (beside_by B.now self.old.listener.now self.new.listener.now) self.old.request self.new.request self.old.listener.now.hearing self.new.listener.now.hearing (turn_of optional_turn result) }
+        ensures querying { QueriesOn B.Held.conn (kinds.Run hows.FetchOptional) self.new.request self.new.listener.now.hearing (turn_of optional_turn result) }
+        ensures closed { NotesTurn B.L (B.now self.old.listener.now.source).most (B.now self.new.listener.now.source).seat (turn_of optional_turn result) }
     {
         let mut left = 256;
         match self.listener.poll_query(rt, &mut self.request, &mut left) {

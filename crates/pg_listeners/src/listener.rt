@@ -1,4 +1,4 @@
-//! A listener with what holds its pool and its participant, and with its dial.
+//! A listener with where its connections come from.
 ghost use Rattle.std.specs.Prelude.{◌≡◌, ◌⊎◌, ◌≤◌, ◌++◌, true, false, [], None, Err, IsSome, OnErr, OnOk, is_some, option_to_list};
 ghost use Rattle.pg_call.specs.Answers.{TurnFits};
 ghost use Rattle.pg_call.specs.declared.kind.Kind.TheVariants as kinds;
@@ -7,20 +7,21 @@ ghost use Rattle.pg_describe.specs.Describing.{TellsTurn};
 ghost use Rattle.pg_listening.specs.Buffers.{buffered};
 ghost use Rattle.pg_reconnect.specs.Hearing.{Changes, GivesOldest, HearsBy, OnReady, TellsLoss, buffers_of, channels_at_ok, fresh_hearing, gave_by, is_changing, learnt_of};
 ghost use Rattle.pg_reconnect.specs.Failing.{CausedBy, Fails, OnFailed};
+ghost use Rattle.pg_reconnect.specs.Sources.{IsDialled};
 ghost use Rattle.pg_reconnect.specs.Leaving.{OnReleased};
 ghost use Rattle.pg_call.specs.declared.kind.Kind.{Kind};
 ghost use Rattle.pg_reconnect.specs.Querying.{IsQuerying, NotesTurn, Queries};
 ghost use Rattle.pg_reconnect.specs.Waiting.{AsksClosed, NotesBy, OnNone, OnPending, ReadiesBy, WaitsBy};
-ghost use Rattle.pg_listeners.specs.Listeners.{CausedBehind, MakesChange, beside_of, goes_on, stored_by, wanted_by};
+ghost use Rattle.pg_listeners.specs.Listeners.{CausedBehind, MakesChange, beside_by, goes_on, stored_by, wanted_by};
 
-use crate::{ChannelChange, PgNotification, PoolHolder, SeatHolder};
+use crate::{ChannelChange, PgNotification};
 use pg_call::{Request, Turn};
-use pg_conn::{Dial, PgStatement};
-use pg_listen::{PoolLedger, PoolSeat, Released};
-use pg_reconnect::Hearing;
+use pg_conn::PgStatement;
+use pg_listen::Released;
+use pg_reconnect::{ConnectionSource, Hearing, PoolSource};
 use pg_wire::{Error, Notification, Poll, Text};
 use std::alloc::Global;
-use std::marker::{Model, PhantomData};
+use std::marker::Model;
 use std::sync::Wait;
 
 // What was told, as notifications of a listener.
@@ -48,51 +49,37 @@ fn told_one(answer: Poll<Result<Notification, Error>>) -> Poll<Result<PgNotifica
     }
 }
 
-/// It hears what other sessions tell the channels that it listens to, over one connection of its pool after another. It must be spent, by
-/// `into_released`. (PostgreSQL manual, "SQL Commands", LISTEN, NOTIFY.)
-pub struct PgListener<
-    G: PoolLedger,
-    P: PoolHolder<G, D::L>,
-    S: SeatHolder<Seat = PoolSeat<G>>,
-    D: Dial,
-> {
-    pool: P,
-    seat: S,
-    dial: D,
-    hearing: Hearing<D::L>,
-    ledger: PhantomData<G>,
+/// It hears what other sessions tell the channels that it listens to, over one connection after another. It must be spent, by `into_released`. (PostgreSQL
+/// manual, "SQL Commands", LISTEN, NOTIFY.)
+pub struct Listener<B: ConnectionSource> {
+    source: B,
+    hearing: Hearing<B>,
 }
 
-impl<G: PoolLedger, P: PoolHolder<G, D::L>, S: SeatHolder<Seat = PoolSeat<G>>, D: Dial> Model
-    for PgListener<G, P, S, D> {
-    ghost use Rattle.pg_listeners.specs.Listeners.{IsOfPool, ListenerOf};
+/// A listener over the connections of a pool, with what holds that pool and its participant, and with its dial.
+pub type PgListener<G, P, S, D> = Listener<PoolSource<G, P, S, D>>;
 
-    ghost Value = { ListenerOf P S D D.L };
+impl<B: ConnectionSource> Model for Listener<B> {
+    ghost use Rattle.std.specs.Prelude.{◌≡◌};
+    ghost use Rattle.pg_listeners.specs.Listeners.{ListenerOf};
 
-    ghost view = { λ l. record { pool = l.pool; seat = l.seat; dial = l.dial; hearing = l.hearing } };
+    ghost Value = { ListenerOf B B.Held B.Startup B.L };
 
-    ghost invariant = { λ l. IsOfPool l.hearing.name (S.seat l.seat).name (P.pool l.pool).name };
+    ghost view = { λ l. record { source = l.source; hearing = l.hearing } };
+
+    ghost invariant = { λ l. l.hearing.name ≡ (B.now l.source).name };
 }
 
-impl<G: PoolLedger, P: PoolHolder<G, D::L>, S: SeatHolder<Seat = PoolSeat<G>>, D: Dial> PgListener<
-    G,
-    P,
-    S,
-    D,
-> {
-    /// A listener over this pool, which has no connection yet.
-    pub(crate) fn over(alloc: Global, pool: P, seat: S, dial: D, ignores_close: bool) -> Self
-        requires { (S.seat seat).name ≡ (P.pool pool).name }
-        ensures hearing { result.hearing ≡ fresh_hearing (P.pool pool).name ignores_close }
-        ensures holders { (result.pool ≡ pool) × (result.seat ≡ seat) × (result.dial ≡ dial) }
+impl<B: ConnectionSource> Listener<B> {
+    /// A listener over these connections, which has none yet.
+    pub(crate) fn over(alloc: Global, source: B, ignores_close: bool) -> Self
+        ensures hearing { result.hearing ≡ fresh_hearing (B.now source).name ignores_close }
+        ensures source { result.source ≡ source }
     {
-        let name = pool.pool_ref().name();
-        PgListener {
-            pool,
-            seat,
-            dial,
+        let name = source.name();
+        Listener {
+            source,
             hearing: Hearing::new(alloc, name, ignores_close),
-            ledger: PhantomData,
         }
     }
 
@@ -104,7 +91,7 @@ impl<G: PoolLedger, P: PoolHolder<G, D::L>, S: SeatHolder<Seat = PoolSeat<G>>, D
     // The statement that a turn tells, with what its connection has learnt.
     pub(crate) fn statement_told(&self, turn: Turn) -> Result<PgStatement, Error>
         requires { TurnFits kinds.Prepare turn }
-        ensures { TellsTurn (learnt_of self.now.hearing) turn result }
+        ensures { TellsTurn (learnt_of B.Held.conn self.now.hearing) turn result }
     {
         match turn.into_statement() {
             Ok(prepared) => self.hearing.statement(prepared),
@@ -134,14 +121,14 @@ impl<G: PoolLedger, P: PoolHolder<G, D::L>, S: SeatHolder<Seat = PoolSeat<G>>, D
     }
 
     /// The links of lost connections and of failed reconnects, in order.
-    pub fn lost(&self) -> &[D::L]
+    pub fn lost(&self) -> &[B::L]
         ensures { result.now ≡ self.now.hearing.lost }
     {
         self.hearing.lost()
     }
 
     /// Takes them.
-    pub fn take_lost(&mut self) -> Vec<D::L>
+    pub fn take_lost(&mut self) -> Vec<B::L>
         ensures lost { result.items ≡ self.old.hearing.lost }
         ensures rest { self.new ≡ record self.old { hearing = record self.old.hearing { lost = [] } } }
     {
@@ -150,10 +137,10 @@ impl<G: PoolLedger, P: PoolHolder<G, D::L>, S: SeatHolder<Seat = PoolSeat<G>>, D
 
     /// Takes the oldest notification that is buffered. It asks nothing of the link.
     pub fn next_buffered(&mut self) -> Option<PgNotification>
-        ensures hears { HearsBy D.L.seen self.old.hearing self.new.hearing (option_to_list result) }
+        ensures hears { HearsBy B.L.seen B.Held.conn self.old.hearing self.new.hearing (option_to_list result) }
         ensures rest { self.new ≡ record self.old { hearing = self.new.hearing } }
         ensures channels { self.new.hearing.listening.channels ≡ self.old.hearing.listening.channels }
-        ensures oldest { option_to_list result ++ buffered (buffers_of D.L.seen self.new.hearing) ≡ buffered (buffers_of D.L.seen self.old.hearing) }
+        ensures oldest { option_to_list result ++ buffered (buffers_of B.L.seen B.Held.conn self.new.hearing) ≡ buffered (buffers_of B.L.seen B.Held.conn self.old.hearing) }
     {
         match self.hearing.next_buffered() {
             Some(told) => Some(PgNotification::over(told)),
@@ -171,7 +158,7 @@ impl<G: PoolLedger, P: PoolHolder<G, D::L>, S: SeatHolder<Seat = PoolSeat<G>>, D
     // A change of the channels that has not begun begins.
     fn begin_asked(&mut self, change: &mut Option<ChannelChange>) -> Result<(), Error>
         requires changing { goes_on change.old self.old.hearing ≡ true }
-        ensures hears { HearsBy D.L.seen self.old.hearing self.new.hearing [] }
+        ensures hears { HearsBy B.L.seen B.Held.conn self.old.hearing self.new.hearing [] }
         ensures channels { OnOk result (self.new.hearing.listening.channels ≡ stored_by change.old self.old.hearing) }
         ensures next { OnOk result (channels_at_ok self.new.hearing ≡ wanted_by change.old self.old.hearing) }
         ensures changing { OnOk result (is_changing self.new.hearing ≡ true) }
@@ -186,50 +173,34 @@ impl<G: PoolLedger, P: PoolHolder<G, D::L>, S: SeatHolder<Seat = PoolSeat<G>>, D
     }
 
     /// Lets its connection go as it stands, or gives the leave to make one back. There is no answer exactly where no connection is held.
-    pub fn into_released<R: Wait>(self, rt: &R) -> Option<Released<D::L>>
+    pub fn into_released<R: Wait>(self, rt: &R) -> Option<Released<B::L>>
     where
-        P: Drop,
-        S: Drop,
-        D: Drop,
-        D::L: Drop,
+        B: Drop,
+        B::L: Drop,
         ensures some { is_some result ≡ is_some self.hearing.listening.conn }
-        ensures releases { OnReleased G.most self.hearing.listening.conn result }
+        ensures releases { OnReleased B.handed B.Held.conn B.Held.with_conn (B.now self.source).most self.hearing.listening.conn result }
     {
-        let PgListener {
-            pool,
-            seat,
-            dial,
-            hearing,
-            ledger: _,
-        } = self;
-        drop(dial);
-        let mut seat = seat;
-        hearing.into_released(rt, pool.pool_ref(), seat.seat_mut())
+        let Listener { source, hearing } = self;
+        let mut source = source;
+        hearing.into_released(rt, &mut source)
     }
 }
 
-impl<G: PoolLedger, P: PoolHolder<G, D::L>, S: SeatHolder<Seat = PoolSeat<G>>, D: Dial> PgListener<
-    G,
-    P,
-    S,
-    D,
->
+impl<B: ConnectionSource> Listener<B>
 where
-    D::L: Drop,
+    B::L: Drop,
 {
     // Moves a change of the channels on.
     pub(crate) fn poll_change<R: Wait>(&mut self, rt: &R, left: &mut u16) -> Poll<Result<(), Error>>
         requires left { left.old ≤ 256 }
         requires changing { is_changing self.old.hearing ≡ true }
-        ensures hears { HearsBy D.L.seen self.old.hearing self.new.hearing [] }
+        ensures hears { HearsBy B.L.seen B.Held.conn self.old.hearing self.new.hearing [] }
         ensures changes { Changes self.old.hearing.listening.channels (channels_at_ok self.old.hearing) self.new.hearing result }
+        ensures source { IsDialled (B.now self.old.source) (B.now self.new.source) }
         ensures left { left.new ≤ left.old }
-        ensures causes { CausedBy D.L.seen (beside_of P.pool S.seat D.seen G.most self.old self.new) left.old left.new self.old.hearing self.new.hearing result }
+        ensures causes { CausedBy B.L.seen B.Held.conn B.Held.with_conn B.filling (beside_by B.now self.old self.new) left.old left.new self.old.hearing self.new.hearing result }
     {
-        let pool = self.pool.pool_ref();
-        let seat = self.seat.seat_mut();
-        self.hearing
-            .poll_change(rt, pool, seat, &mut self.dial, left)
+        self.hearing.poll_change(rt, &mut self.source, left)
     }
 
     // Begins a change of the channels in its first poll, and moves it on.
@@ -241,12 +212,12 @@ where
     ) -> Poll<Result<(), Error>>
         requires left { left.old ≤ 256 }
         requires changing { goes_on change.old self.old.hearing ≡ true }
-        ensures hears { HearsBy D.L.seen self.old.hearing self.new.hearing [] }
+        ensures hears { HearsBy B.L.seen B.Held.conn self.old.hearing self.new.hearing [] }
         ensures changes { MakesChange change.old self.old.hearing self.new.hearing result }
         ensures begun { change.new ≡ None }
         ensures left { left.new ≤ left.old }
-        ensures causes { CausedBehind D.L.seen (beside_of P.pool S.seat D.seen G.most self.old self.new) left.old left.new self.old.hearing self.new.hearing result }
-        ensures closed { NotesBy D.L G.most (S.seat self.new.seat) result }
+        ensures causes { CausedBehind B.L.seen B.Held.conn B.Held.with_conn B.filling (beside_by B.now self.old self.new) left.old left.new self.old.hearing self.new.hearing result }
+        ensures closed { NotesBy B.L (B.now self.old.source).most (B.now self.new.source).seat result }
     {
         match self.begin_asked(change) {
             Ok(()) => {}
@@ -263,19 +234,16 @@ where
         left: &mut u16,
     ) -> Poll<Turn>
         requires left { left.old ≤ 256 }
-        requires querying { (kind : Kind) × IsQuerying kind request.old self.old.hearing }
-        ensures hears { HearsBy D.L.seen self.old.hearing self.new.hearing [] }
+        requires querying { (kind : Kind) × IsQuerying B.Held.conn kind request.old self.old.hearing }
+        ensures hears { HearsBy B.L.seen B.Held.conn self.old.hearing self.new.hearing [] }
         ensures channels { self.new.hearing.listening.channels ≡ self.old.hearing.listening.channels }
+        ensures source { IsDialled (B.now self.old.source) (B.now self.new.source) }
         ensures left { left.new ≤ left.old }
-        ensures queries { Queries D.L.seen (beside_of P.pool S.seat D.seen G.most self.old self.new) left.old left.new request.old request.new self.old.hearing self.new.hearing result }
-        ensures closed { NotesTurn D.L G.most (S.seat self.new.seat) result }
+        ensures queries { Queries B.L.seen B.Held.conn B.Held.with_conn B.filling (beside_by B.now self.old self.new) left.old left.new request.old request.new self.old.hearing self.new.hearing result }
+        ensures closed { NotesTurn B.L (B.now self.old.source).most (B.now self.new.source).seat result }
     {
-        let pool = self.pool.pool_ref();
-        let seat = self.seat.seat_mut();
         let asked = request.take();
-        let (answer, rest) = self
-            .hearing
-            .poll_query(rt, pool, seat, &mut self.dial, asked, left);
+        let (answer, rest) = self.hearing.poll_query(rt, &mut self.source, asked, left);
         *request = rest;
         answer
     }
@@ -287,17 +255,14 @@ where
         left: &mut u16,
     ) -> Poll<Result<(), Error>>
         requires left { left.old ≤ 256 }
-        ensures hears { HearsBy D.L.seen self.old.hearing self.new.hearing [] }
+        ensures hears { HearsBy B.L.seen B.Held.conn self.old.hearing self.new.hearing [] }
         ensures channels { self.new.hearing.listening.channels ≡ self.old.hearing.listening.channels }
         ensures left { left.new ≤ left.old }
         ensures held { OnReady result (IsSome self.new.hearing.listening.conn) }
-        ensures causes { CausedBy D.L.seen (beside_of P.pool S.seat D.seen G.most self.old self.new) left.old left.new self.old.hearing self.new.hearing result }
-        ensures closed { NotesBy D.L G.most (S.seat self.new.seat) result }
+        ensures causes { CausedBy B.L.seen B.Held.conn B.Held.with_conn B.filling (beside_by B.now self.old self.new) left.old left.new self.old.hearing self.new.hearing result }
+        ensures closed { NotesBy B.L (B.now self.old.source).most (B.now self.new.source).seat result }
     {
-        let pool = self.pool.pool_ref();
-        let seat = self.seat.seat_mut();
-        self.hearing
-            .poll_connect(rt, pool, seat, &mut self.dial, left)
+        self.hearing.poll_connect(rt, &mut self.source, left)
     }
 
     // Gives a notification, or tells a loss.
@@ -307,22 +272,17 @@ where
         left: &mut u16,
     ) -> Poll<Result<Option<PgNotification>, Error>>
         requires left { left.old ≤ 256 }
-        ensures hears { HearsBy D.L.seen self.old.hearing self.new.hearing (gave_by result) }
+        ensures hears { HearsBy B.L.seen B.Held.conn self.old.hearing self.new.hearing (gave_by result) }
         ensures channels { self.new.hearing.listening.channels ≡ self.old.hearing.listening.channels }
         ensures left { left.new ≤ left.old }
-        ensures loss { TellsLoss D.L.seen self.old.hearing self.new.hearing result }
-        ensures oldest { self.old.hearing.is_lost ≡ false → GivesOldest (buffered (buffers_of D.L.seen self.old.hearing)) result }
-        ensures again { OnNone result (self.old.hearing.is_eager ≡ true → ReadiesBy D.L.seen self.old.hearing self.new.hearing) }
-        ensures causes { CausedBy D.L.seen (beside_of P.pool S.seat D.seen G.most self.old self.new) left.old left.new self.old.hearing self.new.hearing result }
-        ensures closed { NotesBy D.L G.most (S.seat self.new.seat) result }
-        ensures asks { self.old.hearing.is_lost ≡ false → buffered (buffers_of D.L.seen self.old.hearing) ≡ [] → self.old.hearing.ignores_close ≡ false → AsksClosed D.L G.most (S.seat self.old.seat) result }
+        ensures loss { TellsLoss B.L.seen B.Held.conn self.old.hearing self.new.hearing result }
+        ensures oldest { self.old.hearing.is_lost ≡ false → GivesOldest (buffered (buffers_of B.L.seen B.Held.conn self.old.hearing)) result }
+        ensures again { OnNone result (self.old.hearing.is_eager ≡ true → ReadiesBy B.L.seen B.Held.conn B.Held.with_conn self.old.hearing self.new.hearing) }
+        ensures causes { CausedBy B.L.seen B.Held.conn B.Held.with_conn B.filling (beside_by B.now self.old self.new) left.old left.new self.old.hearing self.new.hearing result }
+        ensures closed { NotesBy B.L (B.now self.old.source).most (B.now self.new.source).seat result }
+        ensures asks { self.old.hearing.is_lost ≡ false → buffered (buffers_of B.L.seen B.Held.conn self.old.hearing) ≡ [] → self.old.hearing.ignores_close ≡ false → AsksClosed B.L (B.now self.old.source).most (B.now self.old.source).seat result }
     {
-        let pool = self.pool.pool_ref();
-        let seat = self.seat.seat_mut();
-        told(
-            self.hearing
-                .poll_try_recv(rt, pool, seat, &mut self.dial, left),
-        )
+        told(self.hearing.poll_try_recv(rt, &mut self.source, left))
     }
 
     // Gives a notification, over lost connections.
@@ -332,15 +292,13 @@ where
         left: &mut u16,
     ) -> Poll<Result<PgNotification, Error>>
         requires left { left.old ≤ 256 }
-        ensures hears { HearsBy D.L.seen self.old.hearing self.new.hearing (given result) }
+        ensures hears { HearsBy B.L.seen B.Held.conn self.old.hearing self.new.hearing (given result) }
         ensures channels { self.new.hearing.listening.channels ≡ self.old.hearing.listening.channels }
         ensures left { left.new ≤ left.old }
-        ensures pending { OnPending result (WaitsBy D.L.seen left.old left.new self.old.hearing self.new.hearing ⊎ (left.new ≡ 0)) }
-        ensures fails { OnFailed (Fails D.L.seen (beside_of P.pool S.seat D.seen G.most self.old self.new) left.old left.new self.old.hearing self.new.hearing) result }
-        ensures closed { NotesBy D.L G.most (S.seat self.new.seat) result }
+        ensures pending { OnPending result (WaitsBy B.L.seen B.Held.conn B.filling left.old left.new self.old.hearing self.new.hearing ⊎ (left.new ≡ 0)) }
+        ensures fails { OnFailed (Fails B.L.seen B.Held.conn B.Held.with_conn B.filling (beside_by B.now self.old self.new) left.old left.new self.old.hearing self.new.hearing) result }
+        ensures closed { NotesBy B.L (B.now self.old.source).most (B.now self.new.source).seat result }
     {
-        let pool = self.pool.pool_ref();
-        let seat = self.seat.seat_mut();
-        told_one(self.hearing.poll_recv(rt, pool, seat, &mut self.dial, left))
+        told_one(self.hearing.poll_recv(rt, &mut self.source, left))
     }
 }

@@ -6,13 +6,13 @@ ghost use Rattle.pg_reconnect.specs.Hearing.{HearsBy};
 ghost use Rattle.pg_reconnect.specs.Querying.{IsQuerying};
 ghost use Rattle.pg_reconnect.specs.Waiting.{NotesBy};
 ghost use Rattle.pg_listeners.specs.Describing.{PreparesIn, StaysQuerying};
-ghost use Rattle.pg_listeners.specs.Listeners.{beside_of, is_answered};
+ghost use Rattle.pg_listeners.specs.Listeners.{beside_by, is_answered};
 
 use crate::answering::is_answered;
-use crate::{PgListener, PoolHolder, SeatHolder};
+use crate::{Listener, PgListener};
 use pg_call::Request;
-use pg_conn::{Dial, PgStatement, Preparation, prepare_request};
-use pg_listen::{PoolLedger, PoolSeat};
+use pg_conn::{PgStatement, Preparation, prepare_request};
+use pg_reconnect::ConnectionSource;
 use pg_wire::{Error, Poll};
 use std::sync::Wait;
 
@@ -49,16 +49,11 @@ impl<W, Q> Preparing<'_, W, Q> {
     }
 }
 
-impl<G: PoolLedger, P: PoolHolder<G, D::L>, S: SeatHolder<Seat = PoolSeat<G>>, D: Dial> PgListener<
-    G,
-    P,
-    S,
-    D,
-> {
+impl<B: ConnectionSource> Listener<B> {
     /// Prepares a statement, of which the caller says the types of the first parameters; the server finds each that the caller doesn't say. It takes up a
     /// connection where none is held. An error of the link is answered, and no loss: that is told by the next call of `try_recv`.
     /// (PostgreSQL manual, "Message Flow", "Extended Query".)
-    pub fn prepare_with(&mut self, preparation: Preparation) -> PrepareWith<'_, G, P, S, D>
+    pub fn prepare_with(&mut self, preparation: Preparation) -> Preparing<'_, Self, Request>
         ensures same { result.listener.ghost_name ≡ self.entry.ghost_name }
         ensures listener { result.listener.now ≡ self.old }
         ensures request { result.request ≡ Some (to_prepare preparation) }
@@ -73,27 +68,21 @@ impl<G: PoolLedger, P: PoolHolder<G, D::L>, S: SeatHolder<Seat = PoolSeat<G>>, D
     }
 }
 
-impl<G: PoolLedger, P: PoolHolder<G, D::L>, S: SeatHolder<Seat = PoolSeat<G>>, D: Dial> PrepareWith<
-    '_,
-    G,
-    P,
-    S,
-    D,
->
+impl<B: ConnectionSource> Preparing<'_, Listener<B>, Request>
 where
-    D::L: Drop,
+    B::L: Drop,
 {
     /// Moves the call on, by at most 256 calls of the link.
     pub fn poll<R: Wait>(&mut self, rt: &R) -> Poll<Result<PgStatement, Error>>
         requires over { self.old.is_over ≡ false }
-        requires querying { IsQuerying kinds.Prepare self.old.request self.old.listener.now.hearing }
+        requires querying { IsQuerying B.Held.conn kinds.Prepare self.old.request self.old.listener.now.hearing }
         ensures over { self.new.is_over ≡ is_answered result }
         ensures same { self.new.listener.ghost_name ≡ self.old.listener.ghost_name }
-        ensures hears { HearsBy D.L.seen self.old.listener.now.hearing self.new.listener.now.hearing [] }
+        ensures hears { HearsBy B.L.seen B.Held.conn self.old.listener.now.hearing self.new.listener.now.hearing [] }
         ensures channels { self.new.listener.now.hearing.listening.channels ≡ self.old.listener.now.hearing.listening.channels }
-        ensures prepares { PreparesIn D.L.seen (beside_of P.pool S.seat D.seen G.most self.old.listener.now self.new.listener.now) self.old.request self.new.request self.old.listener.now.hearing self.new.listener.now.hearing result }
-        ensures querying { StaysQuerying kinds.Prepare self.new.request self.new.listener.now.hearing result }
-        ensures closed { NotesBy D.L G.most (S.seat self.new.listener.now.seat) result }
+        ensures prepares { PreparesIn B.L.seen B.Held.conn B.Held.with_conn B.filling (beside_by B.now self.old.listener.now self.new.listener.now) self.old.request self.new.request self.old.listener.now.hearing self.new.listener.now.hearing result }
+        ensures querying { StaysQuerying B.Held.conn kinds.Prepare self.new.request self.new.listener.now.hearing result }
+        ensures closed { NotesBy B.L (B.now self.old.listener.now.source).most (B.now self.new.listener.now.source).seat result }
     {
         let mut left = 256;
         match self.listener.poll_query(rt, &mut self.request, &mut left) {

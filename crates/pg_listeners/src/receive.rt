@@ -5,12 +5,11 @@ ghost use Rattle.pg_listening.specs.Buffers.{buffered};
 ghost use Rattle.pg_reconnect.specs.Failing.{OnFailed};
 ghost use Rattle.pg_reconnect.specs.Hearing.{GivesOldest, HearsBy, TellsLoss, buffers_of, gave_by};
 ghost use Rattle.pg_reconnect.specs.Waiting.{AsksClosed, NotesBy, OnNone, OnPending, ReadiesBy};
-ghost use Rattle.pg_listeners.specs.Listeners.{Caused, FailsWithin, WaitsOrSpent, beside_of, is_answered};
+ghost use Rattle.pg_listeners.specs.Listeners.{Caused, FailsWithin, WaitsOrSpent, beside_by, is_answered};
 
 use crate::answering::is_answered;
-use crate::{PgListener, PgNotification, PoolHolder, SeatHolder};
-use pg_conn::Dial;
-use pg_listen::{PoolLedger, PoolSeat};
+use crate::{Listener, PgListener, PgNotification};
+use pg_reconnect::ConnectionSource;
 use pg_wire::{Error, Poll};
 use std::sync::Wait;
 
@@ -72,14 +71,9 @@ impl<W> Receiving<'_, W> {
     }
 }
 
-impl<G: PoolLedger, P: PoolHolder<G, D::L>, S: SeatHolder<Seat = PoolSeat<G>>, D: Dial> PgListener<
-    G,
-    P,
-    S,
-    D,
-> {
+impl<B: ConnectionSource> Listener<B> {
     /// Waits for a notification, or for a loss of the connection, which is told once.
-    pub fn try_recv(&mut self) -> TryRecv<'_, G, P, S, D>
+    pub fn try_recv(&mut self) -> TryReceiving<'_, Self>
         ensures same { result.listener.ghost_name ≡ self.entry.ghost_name }
         ensures listener { result.listener.now ≡ record self.old { hearing = record self.old.hearing { is_lost = false } } }
         ensures over { result.is_over ≡ false }
@@ -92,7 +86,7 @@ impl<G: PoolLedger, P: PoolHolder<G, D::L>, S: SeatHolder<Seat = PoolSeat<G>>, D
     }
 
     /// Waits for a notification, over lost connections.
-    pub fn recv(&mut self) -> Recv<'_, G, P, S, D>
+    pub fn recv(&mut self) -> Receiving<'_, Self>
         ensures same { result.listener.ghost_name ≡ self.entry.ghost_name }
         ensures listener { result.listener.now ≡ record self.old { hearing = record self.old.hearing { is_lost = false } } }
         ensures over { result.is_over ≡ false }
@@ -105,29 +99,23 @@ impl<G: PoolLedger, P: PoolHolder<G, D::L>, S: SeatHolder<Seat = PoolSeat<G>>, D
     }
 }
 
-impl<G: PoolLedger, P: PoolHolder<G, D::L>, S: SeatHolder<Seat = PoolSeat<G>>, D: Dial> TryRecv<
-    '_,
-    G,
-    P,
-    S,
-    D,
->
+impl<B: ConnectionSource> TryReceiving<'_, Listener<B>>
 where
-    D::L: Drop,
+    B::L: Drop,
 {
     /// Moves the call on, by at most 256 calls of links. `None` tells that the connection was lost in this call.
     pub fn poll<R: Wait>(&mut self, rt: &R) -> Poll<Result<Option<PgNotification>, Error>>
         requires over { self.old.is_over ≡ false }
         ensures over { self.new.is_over ≡ is_answered result }
         ensures same { self.new.listener.ghost_name ≡ self.old.listener.ghost_name }
-        ensures hears { HearsBy D.L.seen self.old.listener.now.hearing self.new.listener.now.hearing (gave_by result) }
+        ensures hears { HearsBy B.L.seen B.Held.conn self.old.listener.now.hearing self.new.listener.now.hearing (gave_by result) }
         ensures channels { self.new.listener.now.hearing.listening.channels ≡ self.old.listener.now.hearing.listening.channels }
-        ensures loss { TellsLoss D.L.seen self.old.listener.now.hearing self.new.listener.now.hearing result }
-        ensures oldest { self.old.listener.now.hearing.is_lost ≡ false → GivesOldest (buffered (buffers_of D.L.seen self.old.listener.now.hearing)) result }
-        ensures again { OnNone result (self.old.listener.now.hearing.is_eager ≡ true → ReadiesBy D.L.seen self.old.listener.now.hearing self.new.listener.now.hearing) }
-        ensures causes { Caused D.L.seen (beside_of P.pool S.seat D.seen G.most self.old.listener.now self.new.listener.now) self.old.listener.now.hearing self.new.listener.now.hearing result }
-        ensures closed { NotesBy D.L G.most (S.seat self.new.listener.now.seat) result }
-        ensures asks { self.old.listener.now.hearing.is_lost ≡ false → buffered (buffers_of D.L.seen self.old.listener.now.hearing) ≡ [] → self.old.listener.now.hearing.ignores_close ≡ false → AsksClosed D.L G.most (S.seat self.old.listener.now.seat) result }
+        ensures loss { TellsLoss B.L.seen B.Held.conn self.old.listener.now.hearing self.new.listener.now.hearing result }
+        ensures oldest { self.old.listener.now.hearing.is_lost ≡ false → GivesOldest (buffered (buffers_of B.L.seen B.Held.conn self.old.listener.now.hearing)) result }
+        ensures again { OnNone result (self.old.listener.now.hearing.is_eager ≡ true → ReadiesBy B.L.seen B.Held.conn B.Held.with_conn self.old.listener.now.hearing self.new.listener.now.hearing) }
+        ensures causes { Caused B.L.seen B.Held.conn B.Held.with_conn B.filling (beside_by B.now self.old.listener.now self.new.listener.now) self.old.listener.now.hearing self.new.listener.now.hearing result }
+        ensures closed { NotesBy B.L (B.now self.old.listener.now.source).most (B.now self.new.listener.now.source).seat result }
+        ensures asks { self.old.listener.now.hearing.is_lost ≡ false → buffered (buffers_of B.L.seen B.Held.conn self.old.listener.now.hearing) ≡ [] → self.old.listener.now.hearing.ignores_close ≡ false → AsksClosed B.L (B.now self.old.listener.now.source).most (B.now self.old.listener.now.source).seat result }
     {
         let mut left = 256;
         let answer = self.listener.poll_try_recv(rt, &mut left);
@@ -136,26 +124,20 @@ where
     }
 }
 
-impl<G: PoolLedger, P: PoolHolder<G, D::L>, S: SeatHolder<Seat = PoolSeat<G>>, D: Dial> Recv<
-    '_,
-    G,
-    P,
-    S,
-    D,
->
+impl<B: ConnectionSource> Receiving<'_, Listener<B>>
 where
-    D::L: Drop,
+    B::L: Drop,
 {
     /// Moves the call on, by at most 256 calls of links.
     pub fn poll<R: Wait>(&mut self, rt: &R) -> Poll<Result<PgNotification, Error>>
         requires over { self.old.is_over ≡ false }
         ensures over { self.new.is_over ≡ is_answered result }
         ensures same { self.new.listener.ghost_name ≡ self.old.listener.ghost_name }
-        ensures hears { HearsBy D.L.seen self.old.listener.now.hearing self.new.listener.now.hearing (given result) }
+        ensures hears { HearsBy B.L.seen B.Held.conn self.old.listener.now.hearing self.new.listener.now.hearing (given result) }
         ensures channels { self.new.listener.now.hearing.listening.channels ≡ self.old.listener.now.hearing.listening.channels }
-        ensures pending { OnPending result (WaitsOrSpent D.L.seen self.old.listener.now.hearing self.new.listener.now.hearing) }
-        ensures fails { OnFailed (FailsWithin D.L.seen (beside_of P.pool S.seat D.seen G.most self.old.listener.now self.new.listener.now) self.old.listener.now.hearing self.new.listener.now.hearing) result }
-        ensures closed { NotesBy D.L G.most (S.seat self.new.listener.now.seat) result }
+        ensures pending { OnPending result (WaitsOrSpent B.L.seen B.Held.conn B.filling self.old.listener.now.hearing self.new.listener.now.hearing) }
+        ensures fails { OnFailed (FailsWithin B.L.seen B.Held.conn B.Held.with_conn B.filling (beside_by B.now self.old.listener.now self.new.listener.now) self.old.listener.now.hearing self.new.listener.now.hearing) result }
+        ensures closed { NotesBy B.L (B.now self.old.listener.now.source).most (B.now self.new.listener.now.source).seat result }
     {
         let mut left = 256;
         let answer = self.listener.poll_recv(rt, &mut left);

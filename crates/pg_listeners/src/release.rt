@@ -1,10 +1,10 @@
 //! How a listener ends.
 ghost use Rattle.std.specs.Prelude.{◌≡◌, true, false, None, Some, IsSome, is_some};
-ghost use Rattle.pg_listeners.specs.Listeners.{LetsGo, Releases, beside_of, goes_on_in, holds, is_answered};
+ghost use Rattle.pg_listeners.specs.Listeners.{LetsGo, Releases, goes_on_in, holds, is_answered};
 
-use crate::{ChannelChange, PgListener, PoolHolder, SeatHolder};
-use pg_conn::Dial;
-use pg_listen::{PoolLedger, PoolSeat, Released};
+use crate::{ChannelChange, Listener, PgListener};
+use pg_listen::Released;
+use pg_reconnect::ConnectionSource;
 use pg_wire::{Error, Poll};
 use std::sync::Wait;
 
@@ -40,14 +40,9 @@ impl<W> Releasing<W> {
     }
 }
 
-impl<G: PoolLedger, P: PoolHolder<G, D::L>, S: SeatHolder<Seat = PoolSeat<G>>, D: Dial> PgListener<
-    G,
-    P,
-    S,
-    D,
-> {
+impl<B: ConnectionSource> Listener<B> {
     /// Listens to no channel any longer, and gives the connection back to its pool. Where none is held nothing is sent.
-    pub fn release(self) -> Release<G, P, S, D>
+    pub fn release(self) -> Releasing<Self>
         ensures { result ≡ record { listener = Some self; change = Some ChannelChange.UnlistenAll; is_over = false } }
     {
         Releasing {
@@ -58,21 +53,16 @@ impl<G: PoolLedger, P: PoolHolder<G, D::L>, S: SeatHolder<Seat = PoolSeat<G>>, D
     }
 }
 
-impl<
-    G: PoolLedger,
-    P: PoolHolder<G, D::L> + Drop,
-    S: SeatHolder<Seat = PoolSeat<G>> + Drop,
-    D: Dial + Drop,
-> Release<G, P, S, D>
+impl<B: ConnectionSource + Drop> Releasing<Listener<B>>
 where
-    D::L: Drop,
+    B::L: Drop,
 {
-    fn let_go<R: Wait>(&mut self, rt: &R) -> Option<Released<D::L>>
+    fn let_go<R: Wait>(&mut self, rt: &R) -> Option<Released<B::L>>
         requires { IsSome self.old.listener }
         ensures gone { self.new.listener ≡ None }
         ensures rest { (self.new.change ≡ self.old.change) × (self.new.is_over ≡ self.old.is_over) }
         ensures some { is_some result ≡ holds self.old.listener }
-        ensures released { LetsGo G.most self.old.listener result }
+        ensures released { LetsGo B.handed B.Held.conn B.Held.with_conn B.now self.old.listener result }
     {
         match self.listener.take() {
             Some(listener) => listener.into_released(rt),
@@ -81,11 +71,11 @@ where
     }
 
     /// Moves the call on, by at most 256 calls of the link. It answers what became of the connection, or `None` where none was held.
-    pub fn poll<R: Wait>(&mut self, rt: &R) -> Poll<Result<Option<Released<D::L>>, Error>>
+    pub fn poll<R: Wait>(&mut self, rt: &R) -> Poll<Result<Option<Released<B::L>>, Error>>
         requires over { self.old.is_over ≡ false }
         requires goes { goes_on_in self.old.change self.old.listener ≡ true }
         ensures over { self.new.is_over ≡ is_answered result }
-        ensures releases { Releases D.L.seen (beside_of P.pool S.seat D.seen G.most) G.most self.old.listener self.new.listener result }
+        ensures releases { Releases B.L.seen B.Held.conn B.Held.with_conn B.handed B.filling B.now self.old.listener self.new.listener result }
         ensures begun { self.new.change ≡ None }
     {
         let Some(listener) = &mut self.listener else {

@@ -7,7 +7,6 @@ use Rattle.pg_wire.specs.declared.message.notification_response.Notification.{No
 use Rattle.pg_stream.specs.Links.{LinkSeen}
 use Rattle.pg_stream.specs.Streams.{StreamSeen, stream_by}
 use Rattle.pg_conn.specs.Connections.{ConnOf}
-use Rattle.pg_listen.specs.Handed.{HeldOf}
 use Rattle.pg_listening.specs.Buffers.{BuffersSeen, Hears, kept_on, news_begun}
 use Rattle.pg_listener.specs.Changes.{changed, listens}
 use Rattle.pg_listener.specs.declared.changing.ChannelChange.{ChannelChange}
@@ -23,41 +22,44 @@ lose_saved a m b s h p k e n =
     let none : s.notifications.kept ≡ [] = subst (λ (x : Option StreamSeen). kept_on x ≡ []) p k in
     Hears-then [] (s.link ∷ []) a m b [] [] h (hears_at (s.link ∷ []) m b m.earlier m.earlier (Some s) None [] refl p e n (hears_lost s m.earlier none))
 
-pub hears_lose : {A : Type 0} (seen : A → LinkSeen) (a b : HeardOf A) (m : BuffersSeen) (held : Option (HeldOf A)) (d : HeldOf A) (link : A) → Hears [] a.buffers m [] → m.stream ≡ stream_in (λ h. h.conn) seen held → held ≡ Some d → kept_on m.stream ≡ []
-    → link ≡ d.conn.stream.link → b.lost ≡ a.lost ++ link ∷ [] → b.name ≡ a.name → b.is_eager ≡ a.is_eager → b.ignores_close ≡ a.ignores_close → b.buffers.earlier ≡ m.earlier → b.buffers.stream ≡ None → HearsOver seen a b []
-hears_lose {A} seen a b m held d link h p i k l lost n e g early none =
-    let stream : m.stream ≡ Some (stream_by seen d.conn.stream) = p ∙ ap (λ (o : Option (HeldOf A)). stream_in (λ h. h.conn) seen o) i in
-    let hears = lose_saved a.buffers m b.buffers (stream_by seen d.conn.stream) h stream k early none in
-    hears_losing seen a b link lost n e g (subst (λ (x : A). Hears (seen x ∷ []) a.buffers b.buffers []) (sym l) hears)
+module _ {C A : Type 0} (seen : A → LinkSeen) (conn : C → ConnOf A) where
+  pub hears_lose : (a b : HeardOf A) (m : BuffersSeen) (held : Option C) (d : C) (link : A) → Hears [] a.buffers m [] → m.stream ≡ stream_in conn seen held → held ≡ Some d → kept_on m.stream ≡ []
+      → link ≡ (conn d).stream.link → b.lost ≡ a.lost ++ link ∷ [] → b.name ≡ a.name → b.is_eager ≡ a.is_eager → b.ignores_close ≡ a.ignores_close → b.buffers.earlier ≡ m.earlier → b.buffers.stream ≡ None → HearsOver seen a b []
+  hears_lose a b m held d link h p i k l lost n e g early none =
+      let stream : m.stream ≡ Some (stream_by seen (conn d).stream) = p ∙ ap (λ (o : Option C). stream_in conn seen o) i in
+      let hears = lose_saved a.buffers m b.buffers (stream_by seen (conn d).stream) h stream k early none in
+      hears_losing seen a b link lost n e g (subst (λ (x : A). Hears (seen x ∷ []) a.buffers b.buffers []) (sym l) hears)
 
--- its link is that which it had before it was saved
-pub loses_held : {A : Type 0} (o m : Option (HeldOf A)) (d : HeldOf A) (before behind : List A) (link : A) → IsSome o → OnlyKept (λ h. h.conn) o m → m ≡ Some d → link ≡ d.conn.stream.link → behind ≡ before ++ link ∷ [] → LosesHeld o before behind
-loses_held None m d before behind link s k i l b = absurd cc
-loses_held {A} (Some c) m d before behind link s k i l b =
-    let kept : OnlyKept (λ h. h.conn) (Some c) (Some d) = subst (λ (x : Option (HeldOf A)). OnlyKept (λ h. h.conn) (Some c) x) i k in
-    let same : link ≡ c.conn.stream.link = l ∙ ap (λ (x : ConnOf A). x.stream.link) kept in
-    ([], b ∙ ap (λ (x : A). before ++ x ∷ []) same)
+module _ {C A : Type 0} (conn : C → ConnOf A) where
+  -- its link is that which it had before it was saved
+  pub loses_held : (o m : Option C) (d : C) (before behind : List A) (link : A) → IsSome o → OnlyKept conn o m → m ≡ Some d → link ≡ (conn d).stream.link → behind ≡ before ++ link ∷ [] → LosesHeld conn o before behind
+  loses_held None m d before behind link s k i l b = absurd cc
+  loses_held (Some c) m d before behind link s k i l b =
+      let kept : OnlyKept conn (Some c) (Some d) = subst (λ (x : Option C). OnlyKept conn (Some c) x) i k in
+      let same : link ≡ (conn c).stream.link = l ∙ ap (λ (x : ConnOf A). x.stream.link) kept in
+      ([], b ∙ ap (λ (x : A). before ++ x ∷ []) same)
 
--- a connection is taken up
-pub hears_hold : {A : Type 0} (seen : A → LinkSeen) (a b : HeardOf A) (s : StreamSeen) → a.buffers.stream ≡ None → b.buffers.stream ≡ Some s → s.notifications ≡ news_begun → b.buffers.earlier ≡ a.buffers.earlier → b.lost ≡ a.lost → b.name ≡ a.name
-    → b.is_eager ≡ a.is_eager → b.ignores_close ≡ a.ignores_close → HearsOver seen a b []
-hears_hold seen a b s none some begun early l n e g =
-    hears_without seen a b [] l n e g (hears_at [] a.buffers b.buffers a.buffers.earlier a.buffers.earlier None (Some s) [] refl none early some (hears_begun s a.buffers.earlier begun))
+module _ {A : Type 0} (seen : A → LinkSeen) where
+  -- a connection is taken up
+  pub hears_hold : (a b : HeardOf A) (s : StreamSeen) → a.buffers.stream ≡ None → b.buffers.stream ≡ Some s → s.notifications ≡ news_begun → b.buffers.earlier ≡ a.buffers.earlier → b.lost ≡ a.lost → b.name ≡ a.name
+      → b.is_eager ≡ a.is_eager → b.ignores_close ≡ a.ignores_close → HearsOver seen a b []
+  hears_hold a b s none some begun early l n e g =
+      hears_without seen a b [] l n e g (hears_at [] a.buffers b.buffers a.buffers.earlier a.buffers.earlier None (Some s) [] refl none early some (hears_begun s a.buffers.earlier begun))
 
--- a start-up has failed
-pub hears_fail : {A : Type 0} (seen : A → LinkSeen) (a b : HeardOf A) (link : A) → a.buffers.stream ≡ None → b.buffers ≡ a.buffers → b.lost ≡ a.lost ++ link ∷ [] → b.name ≡ a.name → b.is_eager ≡ a.is_eager → b.ignores_close ≡ a.ignores_close → HearsOver seen a b []
-hears_fail seen a b link none same lost n e g =
-    let early : b.buffers.earlier ≡ a.buffers.earlier = ap (λ (x : BuffersSeen). x.earlier) same in
-    let still : b.buffers.stream ≡ None = ap (λ (x : BuffersSeen). x.stream) same ∙ none in
-    hears_losing seen a b link lost n e g (hears_at (seen link ∷ []) a.buffers b.buffers a.buffers.earlier a.buffers.earlier None None [] refl none early still (hears_failed (seen link) a.buffers.earlier))
+  -- a start-up has failed
+  pub hears_fail : (a b : HeardOf A) (link : A) → a.buffers.stream ≡ None → b.buffers ≡ a.buffers → b.lost ≡ a.lost ++ link ∷ [] → b.name ≡ a.name → b.is_eager ≡ a.is_eager → b.ignores_close ≡ a.ignores_close → HearsOver seen a b []
+  hears_fail a b link none same lost n e g =
+      let early : b.buffers.earlier ≡ a.buffers.earlier = ap (λ (x : BuffersSeen). x.earlier) same in
+      let still : b.buffers.stream ≡ None = ap (λ (x : BuffersSeen). x.stream) same ∙ none in
+      hears_losing seen a b link lost n e g (hears_at (seen link ∷ []) a.buffers b.buffers a.buffers.earlier a.buffers.earlier None None [] refl none early still (hears_failed (seen link) a.buffers.earlier))
 
-pub hears_kept : {A : Type 0} (seen : A → LinkSeen) (a b : HeardOf A) (link : Option A) → a.buffers.stream ≡ None → b.buffers ≡ a.buffers → b.lost ≡ a.lost ++ option_to_list link → b.name ≡ a.name → b.is_eager ≡ a.is_eager → b.ignores_close ≡ a.ignores_close → HearsOver seen a b []
-hears_kept seen a b (Some link) none same lost n e g = hears_fail seen a b link none same lost n e g
-hears_kept seen a b None none same lost n e g = hears_without seen a b [] (lost ∙ append-nil a.lost) n e g (subst (λ (x : BuffersSeen). Hears [] a.buffers x []) (sym same) (hears_none a.buffers))
+  pub hears_kept : (a b : HeardOf A) (link : Option A) → a.buffers.stream ≡ None → b.buffers ≡ a.buffers → b.lost ≡ a.lost ++ option_to_list link → b.name ≡ a.name → b.is_eager ≡ a.is_eager → b.ignores_close ≡ a.ignores_close → HearsOver seen a b []
+  hears_kept a b (Some link) none same lost n e g = hears_fail a b link none same lost n e g
+  hears_kept a b None none same lost n e g = hears_without seen a b [] (lost ∙ append-nil a.lost) n e g (subst (λ (x : BuffersSeen). Hears [] a.buffers x []) (sym same) (hears_none a.buffers))
 
--- what is heard in a call behind what is heard in another
-pub hears_behind : {A : Type 0} (seen : A → LinkSeen) (a b c : HeardOf A) (g : List Notification) → HearsOver seen a b [] → HearsOver seen b c g → HearsOver seen a c g
-hears_behind seen a b c g p q = hears_then seen a b c [] g p q
+  -- what is heard in a call behind what is heard in another
+  pub hears_behind : (a b c : HeardOf A) (g : List Notification) → HearsOver seen a b [] → HearsOver seen b c g → HearsOver seen a c g
+  hears_behind a b c g p q = hears_then seen a b c [] g p q
 
 -- a change that listens to fewer channels is what its Ok makes
 pub stored_changed : (change : ChannelChange) (channels : List (List ℕ)) → listens change ≡ false → unwrap_or (stored_behind change channels) channels ≡ changed change channels

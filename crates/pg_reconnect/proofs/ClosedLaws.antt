@@ -154,20 +154,20 @@ kept_first : {A : Type 0} (link : A) (tls : TlsPlan) (message : List ℕ) (phase
 kept_first {A} link Plain message phase (g, says, is) = ap kept_link is ∙ ap (λ (x : GreetingOf A). Some x.stream.link) says.0
 kept_first link (Ask required wish) message phase is = ap kept_link is
 
-pub begun_fills : {A : Type 0} (seen : A → LinkSeen) (name : ℕ) (o : ConnectOptions) (nonce : List ℕ) (made : LinkPlan) (link : A) (f : FillingOf A) → Begins o nonce made link f.connecting.startup → TicketIs name f.ticket → IsUncalled (seen link) → Fills seen name f × IsFresh seen (Some f)
+pub begun_fills : {A : Type 0} (seen : A → LinkSeen) (name : ℕ) (o : ConnectOptions) (nonce : List ℕ) (made : LinkPlan) (link : A) (f : FillingOf A) → Begins o nonce made link f.connecting.startup → TicketIs name f.ticket → IsUncalled (seen link) → Fills seen (λ h. h) name f × IsFresh seen (λ h. h) (Some f)
 begun_fills seen name o nonce made link f (nul, (plan, is, begins)) leave uncalled = (
   record { goes = begins.3; leave = leave; first = seen link; starting = (begins_under_way seen link (client_of o nonce) plan (startup_of o) f.connecting.startup begins).0 },
   (link, kept_first link plan (startup_of o) f.connecting.startup.phase begins.4, uncalled),
 )
 
 pub established : {A : Type 0} (seen : A → LinkSeen) (name : ℕ) (o : ConnectOptions) (nonce : List ℕ) (made : LinkPlan) (link : A) (ticket : TicketSeen) (result : Result (FillingOf A) (Error × TicketSeen × A)) → ticket.name ≡ name → IsUncalled (seen link)
-    → IfOk result (λ f. Begins o nonce made link f.connecting.startup × (f.ticket ≡ Some ticket)) → IfOk result (λ f. Fills seen name f × IsFresh seen (Some f))
+    → IfOk result (λ f. Begins o nonce made link f.connecting.startup × (f.ticket ≡ Some ticket)) → IfOk result (λ f. Fills seen (λ h. h) name f × IsFresh seen (λ h. h) (Some f))
 established seen name o nonce made link ticket (Ok f) n u p = begun_fills seen name o nonce made link f p.0 (subst (λ (t : Option TicketSeen). TicketIs name t) (sym p.1) n) u
 established seen name o nonce made link ticket (Err e) n u p = tt
 
 -- ---- a poll of a start-up
 
-pub fills_waits : {A : Type 0} (seen : A → LinkSeen) (name left now : ℕ) (f g : FillingOf A) → Fills seen name f → UsesLeave {A = A} f.ticket g.ticket Pending → g.connecting.startup.is_finished ≡ false → PollsConnect seen left now f.connecting g.connecting Pending → Fills seen name g
+pub fills_waits : {A : Type 0} (seen : A → LinkSeen) (name left now : ℕ) (f g : FillingOf A) → Fills seen (λ h. h) name f → UsesLeave {A = A} f.ticket g.ticket Pending → g.connecting.startup.is_finished ≡ false → PollsConnect seen left now f.connecting g.connecting Pending → Fills seen (λ h. h) name g
 fills_waits seen name left now f g i leave goes polls = record {
   goes = goes;
   leave = subst (λ (t : Option TicketSeen). TicketIs name t) (sym leave) i.leave;
@@ -175,13 +175,13 @@ fills_waits seen name left now f g i leave goes polls = record {
   starting = starting_on seen left now f.connecting g.connecting i.first i.starting polls;
 }
 
-pub fills_ended : {A : Type 0} (seen : A → LinkSeen) (name left now : ℕ) (f g : FillingOf A) (answer : Result (HeldOf A) Error) (link : Option A) (startup : Option (FillingOf A)) → Fills seen name f → startup ≡ None → UsesLeave f.ticket g.ticket (Ready answer)
-    → PollsConnect seen left now f.connecting g.connecting (connection_of (Ready answer)) → FillsOn seen name startup (Ready (ended answer link))
+pub fills_ended : {A : Type 0} (seen : A → LinkSeen) (name left now : ℕ) (f g : FillingOf A) (answer : Result (HeldOf A) Error) (link : Option A) (startup : Option (FillingOf A)) → Fills seen (λ h. h) name f → startup ≡ None → UsesLeave f.ticket g.ticket (Ready answer)
+    → PollsConnect seen left now f.connecting g.connecting (connection_of (Ready answer)) → FillsOn seen (λ h. h) (λ h. h) name startup (Ready (ended answer link))
 fills_ended seen name left now f g (Ok held) link startup i none leave polls = (none, subst (λ (t : Option TicketSeen). TicketIs name t) leave.0 i.leave)
 fills_ended seen name left now f g (Err e) link startup i none leave polls = (none, connect_open seen left now f.connecting g.connecting i.first e i.starting polls)
 
 -- what has failed is told with the link that it had
 pub ends_start_up : {A : Type 0} (seen : A → LinkSeen) (left now : ℕ) (startup behind : Option (FillingOf A)) (f g : FillingOf A) (answer : Result (HeldOf A) Error) (link : Option A) → startup ≡ Some f → PollsConnect seen left now f.connecting g.connecting (connection_of (Ready answer))
-    → link ≡ kept_link g.connecting.startup.phase → PollsStartUp seen left now startup behind (Ready (ended answer link))
+    → link ≡ kept_link g.connecting.startup.phase → PollsStartUp seen (λ h. h) left now startup behind (Ready (ended answer link))
 ends_start_up seen left now startup behind f g (Ok held) link is polls kept = tt
 ends_start_up seen left now startup behind f g (Err e) link is polls kept = record { last = f; ended = g; is = is; polls = polls; link_is = kept }

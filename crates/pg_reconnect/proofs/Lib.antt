@@ -8,5 +8,6 @@ pub mod HeldLaws
 pub mod PollLaws
 pub mod QueryingLaws
 pub mod ReleasingLaws
+pub mod SourceLaws
 pub mod TellingLaws
 pub mod WaitingLaws

@@ -19,7 +19,7 @@ use Rattle.pg_conn.specs.States.{IsCalling, PollFits}
 use Rattle.pg_conn.specs.Statements.{begun_as}
 use Rattle.pg_conn.specs.Turns.{PollsWithin}
 use Rattle.pg_conn.proofs.StateLaws.{poll_fits_within}
-use Rattle.pg_listen.specs.Handed.{HeldOf}
+use Rattle.pg_listen.specs.Handed.{FillingOf}
 use Rattle.pg_listening.specs.Listening.{CallsOn, FitsOn, OnHeld, Starts, TurnsOpen}
 use Rattle.pg_pool.specs.Seats.{SeatSeen}
 use Rattle.pg_reconnect.specs.Failing.{BesideSeen, Fails}
@@ -34,93 +34,102 @@ use Rattle.pg_reconnect.proofs.HearingLaws.{hears_nothing, hears_then}
 started_kind : {A : Type 0} (r : Request) (c : ConnOf A) → IsCalling (main_kind (begun_as (left c).rule r)) (started_call r c)
 started_kind r c = ((left c).ledger, begun_as (left c).rule r, [], [], [], refl, (refl, refl, refl, refl, refl), omega arith)
 
-started_held : {A : Type 0} (r : Request) (c : HeldOf A) (h : Option (HeldOf A)) (kind : Kind) → main_kind (begun_as (left c.conn).rule r) ≡ kind → h ≡ Some (record c { conn = started_call r c.conn }) → CallsOn (λ held. held.conn) kind h
-started_held {A} r c h kind k is = subst (λ (x : Option (HeldOf A)). CallsOn (λ held. held.conn) kind x) (sym is) (subst (λ (x : Kind). IsCalling x (started_call r c.conn)) k (started_kind r c.conn))
+module _ {C A : Type 0} (conn : C → ConnOf A) (with_conn : C → ConnOf A → C) (written : (c : C) (w : ConnOf A) → conn (with_conn c w) ≡ w) where
+  started_held : (r : Request) (c : C) (h : Option C) (kind : Kind) → main_kind (begun_as (left (conn c)).rule r) ≡ kind → h ≡ Some (with_conn c (started_call r (conn c))) → CallsOn conn kind h
+  started_held r c h kind k is = subst (λ (x : Option C). CallsOn conn kind x) (sym is)
+      (subst (λ (x : ConnOf A). IsCalling kind x) (sym (written c (started_call r (conn c)))) (subst (λ (x : Kind). IsCalling x (started_call r (conn c))) k (started_kind r (conn c))))
 
--- some kind it is of
-pub starts_some : {A : Type 0} (r : Request) (o h : Option (HeldOf A)) → Starts (λ held. held.conn) (λ held conn. record held { conn = conn }) r o h → (kind : Kind) × CallsOn (λ held. held.conn) kind h
-starts_some r None h s = absurd s
-starts_some r (Some c) h s = (main_kind (begun_as (left c.conn).rule r), started_held r c h (main_kind (begun_as (left c.conn).rule r)) refl s)
+  -- some kind it is of
+  pub starts_some : (r : Request) (o h : Option C) → Starts conn with_conn r o h → (kind : Kind) × CallsOn conn kind h
+  starts_some r None h s = absurd s
+  starts_some r (Some c) h s = (main_kind (begun_as (left (conn c)).rule r), started_held r c h (main_kind (begun_as (left (conn c)).rule r)) refl s)
 
 -- only one that clears statements may become of another kind
 begun_kind : (rule : Rule) (r : Request) (kind : Kind) → (kind ≡ kinds.Clear → ⊥) → main_kind r ≡ kind → main_kind (begun_as rule r) ≡ kind
 begun_kind rule (requests.Clear statements) kind other k = absurd (other (sym k))
 begun_kind rule _ kind other k = k
 
-starts_kind : {A : Type 0} (r : Request) (o h : Option (HeldOf A)) (kind : Kind) → (kind ≡ kinds.Clear → ⊥) → main_kind r ≡ kind → Starts (λ held. held.conn) (λ held conn. record held { conn = conn }) r o h → CallsOn (λ held. held.conn) kind h
-starts_kind r None h kind other k s = absurd s
-starts_kind r (Some c) h kind other k s = started_held r c h kind (begun_kind (left c.conn).rule r kind other k) s
+module _ {C A : Type 0} (conn : C → ConnOf A) (with_conn : C → ConnOf A → C) (written : (c : C) (w : ConnOf A) → conn (with_conn c w) ≡ w) where
+  starts_kind : (r : Request) (o h : Option C) (kind : Kind) → (kind ≡ kinds.Clear → ⊥) → main_kind r ≡ kind → Starts conn with_conn r o h → CallsOn conn kind h
+  starts_kind r None h kind other k s = absurd s
+  starts_kind r (Some c) h kind other k s = started_held conn with_conn written r c h kind (begun_kind (left (conn c)).rule r kind other k) s
 
--- ---- it is polled
+  -- ---- it is polled
 
-fits_on : {A : Type 0} (seen : A → LinkSeen) (left : ℕ) (kind : Kind) (o n : Option (HeldOf A)) (answer : Poll Turn) → CallsOn (λ held. held.conn) kind o → OnHeld (λ c d. PollsWithin left c d answer) (λ held. held.conn) seen o n → FitsOn (λ held. held.conn) kind n answer
-fits_on seen left kind None n answer i p = absurd i
-fits_on seen left kind (Some c) None answer i p = absurd p
-fits_on seen left kind (Some c) (Some d) answer i p = poll_fits_within seen left c.conn d.conn kind answer p i
+module _ {C A : Type 0} (seen : A → LinkSeen) (conn : C → ConnOf A) where
+  fits_on : (left : ℕ) (kind : Kind) (o n : Option C) (answer : Poll Turn) → CallsOn conn kind o → OnHeld (λ c d. PollsWithin left c d answer) conn seen o n → FitsOn conn kind n answer
+  fits_on left kind None n answer i p = absurd i
+  fits_on left kind (Some c) None answer i p = absurd p
+  fits_on left kind (Some c) (Some d) answer i p = poll_fits_within seen left (conn c) (conn d) kind answer p i
 
-pub asked_now : {A : Type 0} (seen : A → LinkSeen) (o : BesideSeen) (left mid now : ℕ) (request : Request) (a ready b : HearingOf A) (answer : Poll Turn) → HearsBy seen a ready [] → mid ≤ left → ReadiesBy seen a ready → AsksNow seen mid request ready b answer → TurnsOpen answer
-    → Queries seen o left now (Some request) None a b answer
-asked_now seen o left mid now request a ready b answer h less r (asked, hears, starts, polls) apart = inl (
-  record {
-    asked = asked;
-    rest = mid;
-    fewer = less;
-    leads = hears_then seen (heard_of seen a) (heard_of seen ready) (heard_of seen asked) [] [] h hears;
-    asks = (ready, r, starts);
-    polls = polls;
-    apart = apart;
-  },
-  refl,
-)
+module _ {C S A : Type 0} (seen : A → LinkSeen) (conn : C → ConnOf A) (with_conn : C → ConnOf A → C) (filling : S → FillingOf A) where
+  pub asked_now : (o : BesideSeen) (left mid now : ℕ) (request : Request) (a ready b : HearingOf C S A) (answer : Poll Turn) → HearsBy seen conn a ready [] → mid ≤ left → ReadiesBy seen conn with_conn a ready → AsksNow seen conn with_conn mid request ready b answer → TurnsOpen answer
+      → Queries seen conn with_conn filling o left now (Some request) None a b answer
+  asked_now o left mid now request a ready b answer h less r (asked, hears, starts, polls) apart = inl (
+    record {
+      asked = asked;
+      rest = mid;
+      fewer = less;
+      leads = hears_then seen (heard_of seen conn a) (heard_of seen conn ready) (heard_of seen conn asked) [] [] h hears;
+      asks = (ready, r, starts);
+      polls = polls;
+      apart = apart;
+    },
+    refl,
+  )
 
-pub polled_on : {A : Type 0} (seen : A → LinkSeen) (o : BesideSeen) (left now : ℕ) (a b : HearingOf A) (answer : Poll Turn) → OnConn (λ c d. PollsWithin left c d answer) seen a b → TurnsOpen answer → Queries seen o left now None None a b answer
-polled_on seen o left now a b answer polls apart = inl (
-  record {
-    asked = a;
-    rest = left;
-    fewer = omega arith;
-    leads = hears_nothing seen (heard_of seen a) (heard_of seen a) refl;
-    asks = refl;
-    polls = polls;
-    apart = apart;
-  },
-  refl,
-)
+  pub polled_on : (o : BesideSeen) (left now : ℕ) (a b : HearingOf C S A) (answer : Poll Turn) → OnConn seen conn (λ c d. PollsWithin left c d answer) a b → TurnsOpen answer → Queries seen conn with_conn filling o left now None None a b answer
+  polled_on o left now a b answer polls apart = inl (
+    record {
+      asked = a;
+      rest = left;
+      fewer = omega arith;
+      leads = hears_nothing seen (heard_of seen conn a) (heard_of seen conn a) refl;
+      asks = refl;
+      polls = polls;
+      apart = apart;
+    },
+    refl,
+  )
 
--- ---- it goes on
+  -- ---- it goes on
 
-asked_calls : {A : Type 0} (seen : A → LinkSeen) (kind : Kind) (request : Option Request) (a asked : HearingOf A) → (kind ≡ kinds.Clear → ⊥) → IsQuerying kind request a → IsAskedOn seen request a asked → CallsOn (λ held. held.conn) kind asked.listening.conn
-asked_calls {A} seen kind None a asked other i is = subst (λ (x : HearingOf A). CallsOn (λ held. held.conn) kind x.listening.conn) (sym is) i
-asked_calls seen kind (Some r) a asked other i is = starts_kind r _ _ kind other i is.2
+module _ {C S A : Type 0} (seen : A → LinkSeen) (conn : C → ConnOf A) (with_conn : C → ConnOf A → C) (written : (c : C) (w : ConnOf A) → conn (with_conn c w) ≡ w) where
+  asked_calls : (kind : Kind) (request : Option Request) (a asked : HearingOf C S A) → (kind ≡ kinds.Clear → ⊥) → IsQuerying conn kind request a → IsAskedOn seen conn with_conn request a asked → CallsOn conn kind asked.listening.conn
+  asked_calls kind None a asked other i is = subst (λ (x : HearingOf C S A). CallsOn conn kind x.listening.conn) (sym is) i
+  asked_calls kind (Some r) a asked other i is = starts_kind conn with_conn written r _ _ kind other i is.2
 
-goes_on : {A : Type 0} (kind : Kind) (b : HearingOf A) (answer : Poll Turn) → FitsOn (λ held. held.conn) kind b.listening.conn answer → QueriesOn kind None b answer
-goes_on {A} kind b answer f = by b.listening.conn refl answer f
-  where
-    by : (o : Option (HeldOf A)) → b.listening.conn ≡ o → (answer : Poll Turn) → FitsOn (λ held. held.conn) kind o answer → QueriesOn kind None b answer
-    by o is (Ready (turns.Err e)) f = tt
-    by o is (Ready (turns.Ok told)) f = (refl, subst (λ (x : Option (HeldOf A)). FitsOn (λ held. held.conn) kind x (Ready (turns.Ok told))) (sym is) f)
-    by o is (Ready (turns.Item told)) f = (refl, subst (λ (x : Option (HeldOf A)). FitsOn (λ held. held.conn) kind x (Ready (turns.Item told))) (sym is) f)
-    by o is (Ready (turns.Opened told)) f = (refl, subst (λ (x : Option (HeldOf A)). FitsOn (λ held. held.conn) kind x (Ready (turns.Opened told))) (sym is) f)
-    by None is Pending f = absurd f
-    by (Some c) is Pending f = subst (λ (x : Option (HeldOf A)). CallsOn (λ held. held.conn) kind x) (sym is) f
+module _ {C S A : Type 0} (conn : C → ConnOf A) where
+  goes_on : (kind : Kind) (b : HearingOf C S A) (answer : Poll Turn) → FitsOn conn kind b.listening.conn answer → QueriesOn conn kind None b answer
+  goes_on kind b answer f = by b.listening.conn refl answer f
+    where
+      by : (o : Option C) → b.listening.conn ≡ o → (answer : Poll Turn) → FitsOn conn kind o answer → QueriesOn conn kind None b answer
+      by o is (Ready (turns.Err e)) f = tt
+      by o is (Ready (turns.Ok told)) f = (refl, subst (λ (x : Option C). FitsOn conn kind x (Ready (turns.Ok told))) (sym is) f)
+      by o is (Ready (turns.Item told)) f = (refl, subst (λ (x : Option C). FitsOn conn kind x (Ready (turns.Item told))) (sym is) f)
+      by o is (Ready (turns.Opened told)) f = (refl, subst (λ (x : Option C). FitsOn conn kind x (Ready (turns.Opened told))) (sym is) f)
+      by None is Pending f = absurd f
+      by (Some c) is Pending f = subst (λ (x : Option C). CallsOn conn kind x) (sym is) f
 
-unasked_on : {A : Type 0} (seen : A → LinkSeen) (o : BesideSeen) (left now : ℕ) (kind : Kind) (request : Option Request) (a b : HearingOf A) (answer : Poll Turn) → IsSome request → IsQuerying kind request a → Unasked seen o left now a b answer → QueriesOn kind (rest_of answer request) b answer
-unasked_on seen o left now kind None a b answer some i u = absurd cc
-unasked_on seen o left now kind (Some r) a b Pending some i u = i
-unasked_on seen o left now kind (Some r) a b (Ready (turns.Err e)) some i u = tt
-unasked_on seen o left now kind (Some r) a b (Ready (turns.Ok x)) some i u = absurd u
-unasked_on seen o left now kind (Some r) a b (Ready (turns.Item x)) some i u = absurd u
-unasked_on seen o left now kind (Some r) a b (Ready (turns.Opened x)) some i u = absurd u
+module _ {C S A : Type 0} (seen : A → LinkSeen) (conn : C → ConnOf A) (with_conn : C → ConnOf A → C) (filling : S → FillingOf A) where
+  unasked_on : (o : BesideSeen) (left now : ℕ) (kind : Kind) (request : Option Request) (a b : HearingOf C S A) (answer : Poll Turn) → IsSome request → IsQuerying conn kind request a → Unasked seen conn with_conn filling o left now a b answer → QueriesOn conn kind (rest_of answer request) b answer
+  unasked_on o left now kind None a b answer some i u = absurd cc
+  unasked_on o left now kind (Some r) a b Pending some i u = i
+  unasked_on o left now kind (Some r) a b (Ready (turns.Err e)) some i u = tt
+  unasked_on o left now kind (Some r) a b (Ready (turns.Ok x)) some i u = absurd u
+  unasked_on o left now kind (Some r) a b (Ready (turns.Item x)) some i u = absurd u
+  unasked_on o left now kind (Some r) a b (Ready (turns.Opened x)) some i u = absurd u
 
--- a call of any kind but one that clears statements is of its kind on
-pub queries_on : {A : Type 0} (seen : A → LinkSeen) (o : BesideSeen) (left now : ℕ) (kind : Kind) (request rest : Option Request) (a b : HearingOf A) (answer : Poll Turn) → (kind ≡ kinds.Clear → ⊥) → IsQuerying kind request a → Queries seen o left now request rest a b answer
-    → QueriesOn kind rest b answer
-queries_on seen o left now kind request rest a b answer other i (inl (asked, none)) =
-    let calls = asked_calls seen kind request a asked.asked other i asked.asks in
-    subst (λ (x : Option Request). QueriesOn kind x b answer) (sym none) (goes_on kind b answer (fits_on seen asked.rest kind _ _ answer calls asked.polls))
-queries_on seen o left now kind request rest a b answer other i (inr (some, unasked, is)) = subst (λ (x : Option Request). QueriesOn kind x b answer) (sym is) (unasked_on seen o left now kind request a b answer some i unasked)
+module _ {C S A : Type 0} (seen : A → LinkSeen) (conn : C → ConnOf A) (with_conn : C → ConnOf A → C) (filling : S → FillingOf A) (written : (c : C) (w : ConnOf A) → conn (with_conn c w) ≡ w) where
+  -- a call of any kind but one that clears statements is of its kind on
+  pub queries_on : (o : BesideSeen) (left now : ℕ) (kind : Kind) (request rest : Option Request) (a b : HearingOf C S A) (answer : Poll Turn) → (kind ≡ kinds.Clear → ⊥) → IsQuerying conn kind request a → Queries seen conn with_conn filling o left now request rest a b answer
+      → QueriesOn conn kind rest b answer
+  queries_on o left now kind request rest a b answer other i (inl (asked, none)) =
+      let calls = asked_calls seen conn with_conn written kind request a asked.asked other i asked.asks in
+      subst (λ (x : Option Request). QueriesOn conn kind x b answer) (sym none) (goes_on conn kind b answer (fits_on seen conn asked.rest kind _ _ answer calls asked.polls))
+  queries_on o left now kind request rest a b answer other i (inr (some, unasked, is)) = subst (λ (x : Option Request). QueriesOn conn kind x b answer) (sym is) (unasked_on seen conn with_conn filling o left now kind request a b answer some i unasked)
 
--- ---- a pool that was closed
+  -- ---- a pool that was closed
 
 pub notes_apart : (A : Type 0) (most : ℕ) (t : SeatSeen) (answer : Poll Turn) → TurnsOpen answer → NotesTurn A most t answer
 notes_apart A most t (Ready (turns.Err e)) apart = notes_open A most t e apart
@@ -129,28 +138,31 @@ notes_apart A most t (Ready (turns.Item x)) apart = tt
 notes_apart A most t (Ready (turns.Opened x)) apart = tt
 notes_apart A most t Pending apart = tt
 
-notes_unasked : {A : Type 0} (seen : A → LinkSeen) (o : BesideSeen) (left now : ℕ) (a b : HearingOf A) (answer : Poll Turn) → Unasked seen o left now a b answer → NotesTurn A o.most o.seat answer
-notes_unasked seen o left now a b Pending u = tt
-notes_unasked seen o left now a b (Ready (turns.Err e)) u = notes_caused {X = Unit {0}} seen o left now a b (Ready (Err e)) u
-notes_unasked seen o left now a b (Ready (turns.Ok x)) u = tt
-notes_unasked seen o left now a b (Ready (turns.Item x)) u = tt
-notes_unasked seen o left now a b (Ready (turns.Opened x)) u = tt
+module _ {C S A : Type 0} (seen : A → LinkSeen) (conn : C → ConnOf A) (with_conn : C → ConnOf A → C) (filling : S → FillingOf A) where
+  notes_unasked : (o : BesideSeen) (left now : ℕ) (a b : HearingOf C S A) (answer : Poll Turn) → Unasked seen conn with_conn filling o left now a b answer → NotesTurn A o.most o.seat answer
+  notes_unasked o left now a b Pending u = tt
+  notes_unasked o left now a b (Ready (turns.Err e)) u = notes_caused seen conn with_conn filling {X = Unit {0}} o left now a b (Ready (Err e)) u
+  notes_unasked o left now a b (Ready (turns.Ok x)) u = tt
+  notes_unasked o left now a b (Ready (turns.Item x)) u = tt
+  notes_unasked o left now a b (Ready (turns.Opened x)) u = tt
 
-pub notes_queried : {A : Type 0} (seen : A → LinkSeen) (o : BesideSeen) (left now : ℕ) (request rest : Option Request) (a b : HearingOf A) (answer : Poll Turn) → Queries seen o left now request rest a b answer → NotesTurn A o.most o.seat answer
-notes_queried {A} seen o left now request rest a b answer (inl (asked, none)) = notes_apart A o.most o.seat answer asked.apart
-notes_queried seen o left now request rest a b answer (inr (some, unasked, is)) = notes_unasked seen o left now a b answer unasked
+  pub notes_queried : (o : BesideSeen) (left now : ℕ) (request rest : Option Request) (a b : HearingOf C S A) (answer : Poll Turn) → Queries seen conn with_conn filling o left now request rest a b answer → NotesTurn A o.most o.seat answer
+  notes_queried o left now request rest a b answer (inl (asked, none)) = notes_apart A o.most o.seat answer asked.apart
+  notes_queried o left now request rest a b answer (inr (some, unasked, is)) = notes_unasked o left now a b answer unasked
 
--- ---- its answer
+  -- ---- its answer
 
-held_fits : {A : Type 0} (kind : Kind) (turn : Turn) (o : Option (HeldOf A)) → FitsOn (λ held. held.conn) kind o (Ready turn) → TurnFits kind turn
-held_fits kind turn None f = absurd f
-held_fits kind turn (Some c) f = f.0
+module _ {C A : Type 0} (conn : C → ConnOf A) where
+  held_fits : (kind : Kind) (turn : Turn) (o : Option C) → FitsOn conn kind o (Ready turn) → TurnFits kind turn
+  held_fits kind turn None f = absurd f
+  held_fits kind turn (Some c) f = f.0
 
-pub query_fits : {A : Type 0} (kind : Kind) (rest : Option Request) (b : HearingOf A) (turn : Turn) → QueriesOn kind rest b (Ready turn) → TurnFits kind turn
-query_fits kind rest b (turns.Err e) q = tt
-query_fits kind rest b (turns.Ok x) q = held_fits kind (turns.Ok x) b.listening.conn q.1
-query_fits kind rest b (turns.Item x) q = held_fits kind (turns.Item x) b.listening.conn q.1
-query_fits kind rest b (turns.Opened x) q = held_fits kind (turns.Opened x) b.listening.conn q.1
+module _ {C S A : Type 0} (conn : C → ConnOf A) where
+  pub query_fits : (kind : Kind) (rest : Option Request) (b : HearingOf C S A) (turn : Turn) → QueriesOn conn kind rest b (Ready turn) → TurnFits kind turn
+  query_fits kind rest b (turns.Err e) q = tt
+  query_fits kind rest b (turns.Ok x) q = held_fits conn kind (turns.Ok x) b.listening.conn q.1
+  query_fits kind rest b (turns.Item x) q = held_fits conn kind (turns.Item x) b.listening.conn q.1
+  query_fits kind rest b (turns.Opened x) q = held_fits conn kind (turns.Opened x) b.listening.conn q.1
 
 pub runs_none_cleared : (how : How) → kinds.Run how ≡ kinds.Clear → ⊥
 runs_none_cleared how e = absurd cc

@@ -8,6 +8,7 @@ use Rattle.pg_stream.specs.Links.{LinkSeen}
 use Rattle.pg_request.specs.Queries.{plain_text}
 use Rattle.pg_call.specs.declared.request.Request.TheVariants as requests
 use Rattle.pg_learning.specs.declared.learnt.Learnt.{Learnt}
+use Rattle.pg_conn.specs.Connections.{ConnOf}
 use Rattle.pg_listen.specs.Handed.{FillingOf, HeldOf}
 use Rattle.pg_listener.specs.declared.changing.ChannelChange.{ChannelChange}
 use Rattle.pg_listener.specs.declared.changing.ChannelChange.TheVariants as changes
@@ -19,11 +20,11 @@ use Rattle.pg_reconnect.specs.Leaving.{HeldIs, StartsIn}
 -- What it holds and keeps, a change of its channels that is to be asked, a start-up on the way to its connection, the links that it lost, whether its
 -- connection listens to all of its channels, whether the statement that is asked is the one that does, and whether a loss is yet to be told. Whether a
 -- loss is told behind a reconnect, and whether it listens on in a pool that was closed.
-pub record HearingOf (A : Type 0) : Type 0 where
+pub record HearingOf (C S A : Type 0) : Type 0 where
   pub name : ℕ
-  pub listening : ListeningOf (HeldOf A)
+  pub listening : ListeningOf C
   pub asked : Option ChannelChange
-  pub startup : Option (FillingOf A)
+  pub startup : Option S
   pub lost : List A
   pub is_ready : Bool
   pub is_again : Bool
@@ -31,14 +32,15 @@ pub record HearingOf (A : Type 0) : Type 0 where
   pub is_eager : Bool
   pub ignores_close : Bool
 
-pub record IsHearing {A : Type 0} (seen : A → LinkSeen) (h : HearingOf A) : Type 0 where
-  pub held : HeldIs h.name h.listening.conn
-  pub startup : StartsIn seen h.name h.startup
-  pub ready : h.is_ready ≡ true → IsSome h.listening.conn
-  pub again : h.is_again ≡ true → h.listening.behind ≡ None
+module _ {C S A : Type 0} (seen : A → LinkSeen) (handed : C → HeldOf A) (filling : S → FillingOf A) where
+  pub record IsHearing (h : HearingOf C S A) : Type 0 where
+    pub held : HeldIs handed h.name h.listening.conn
+    pub startup : StartsIn seen filling h.name h.startup
+    pub ready : h.is_ready ≡ true → IsSome h.listening.conn
+    pub again : h.is_again ≡ true → h.listening.behind ≡ None
 
 -- one that has heard nothing yet, of a pool of this name
-abbrev pub fresh_hearing : {A : Type 0} → ℕ → Bool → HearingOf A
+abbrev pub fresh_hearing : {C S A : Type 0} → ℕ → Bool → HearingOf C S A
 fresh_hearing name ignores_close = record {
   name = name;
   listening = record { conn = None; earlier = []; channels = []; behind = None; is_asking = false };
@@ -62,15 +64,18 @@ pub record HeardOf (A : Type 0) : Type 0 where
   pub is_eager : Bool
   pub ignores_close : Bool
 
-abbrev pub buffers_of : {A : Type 0} → (A → LinkSeen) → HearingOf A → BuffersSeen
-buffers_of seen h = buffers_by (λ held. held.conn) seen h.listening
+module _ {C S A : Type 0} (seen : A → LinkSeen) (conn : C → ConnOf A) where
+  abbrev pub buffers_of : HearingOf C S A → BuffersSeen
+  buffers_of h = buffers_by conn seen h.listening
 
--- what the connection that is held has learnt
-abbrev pub learnt_of : {A : Type 0} → HearingOf A → Learnt
-learnt_of h = learnt_in (λ held. held.conn) h.listening.conn
+module _ {C S A : Type 0} (conn : C → ConnOf A) where
+  -- what the connection that is held has learnt
+  abbrev pub learnt_of : HearingOf C S A → Learnt
+  learnt_of h = learnt_in conn h.listening.conn
 
-abbrev pub heard_of : {A : Type 0} → (A → LinkSeen) → HearingOf A → HeardOf A
-heard_of seen h = record { name = h.name; buffers = buffers_of seen h; lost = h.lost; is_eager = h.is_eager; ignores_close = h.ignores_close }
+module _ {C S A : Type 0} (seen : A → LinkSeen) (conn : C → ConnOf A) where
+  abbrev pub heard_of : HearingOf C S A → HeardOf A
+  heard_of h = record { name = h.name; buffers = buffers_of seen conn h; lost = h.lost; is_eager = h.is_eager; ignores_close = h.ignores_close }
 
 -- These links were lost meanwhile, and this was given.
 pub record HearsOver {A : Type 0} (seen : A → LinkSeen) (a b : HeardOf A) (gave : List Notification) : Type 0 where
@@ -80,9 +85,10 @@ pub record HearsOver {A : Type 0} (seen : A → LinkSeen) (a b : HeardOf A) (gav
   pub name : b.name ≡ a.name
   pub settings : (b.is_eager ≡ a.is_eager) × (b.ignores_close ≡ a.ignores_close)
 
--- what was heard between two of its states
-abbrev pub HearsBy : {A : Type 0} → (A → LinkSeen) → HearingOf A → HearingOf A → List Notification → Type 0
-HearsBy seen a b gave = HearsOver seen (heard_of seen a) (heard_of seen b) gave
+module _ {C S A : Type 0} (seen : A → LinkSeen) (conn : C → ConnOf A) where
+  -- what was heard between two of its states
+  abbrev pub HearsBy : HearingOf C S A → HearingOf C S A → List Notification → Type 0
+  HearsBy a b gave = HearsOver seen (heard_of seen conn a) (heard_of seen conn b) gave
 
 -- the notification that a poll gave
 abbrev pub gave_by : Poll (Result (Option Notification) Error) → List Notification
@@ -96,45 +102,49 @@ GivesOldest (oldest ∷ later) answer = answer ≡ Ready (Ok (Some oldest))
 
 -- ---- losses
 
--- its bytes have ended, or it has failed: in this, where its connection was held before
-abbrev pub FailedSince : {A : Type 0} → (A → LinkSeen) → Option (HeldOf A) → A → Type 0
-FailedSince seen None link = (0 < (seen link).ends) ⊎ (0 < (seen link).faults)
-FailedSince seen (Some held) link = FailsBy (seen held.conn.stream.link) (seen link)
+module _ {C A : Type 0} (seen : A → LinkSeen) (conn : C → ConnOf A) where
+  -- its bytes have ended, or it has failed: in this, where its connection was held before
+  abbrev pub FailedSince : Option C → A → Type 0
+  FailedSince None link = (0 < (seen link).ends) ⊎ (0 < (seen link).faults)
+  FailedSince (Some held) link = FailsBy (seen (conn held).stream.link) (seen link)
 
--- a link was lost meanwhile that has failed
-pub record LosesOne {A : Type 0} (seen : A → LinkSeen) (held : Option (HeldOf A)) (before behind : List A) : Type 0 where
-  pub link : A
-  pub more : List A
-  pub lost : behind ≡ before ++ link ∷ more
-  pub failed : FailedSince seen held link
+  -- a link was lost meanwhile that has failed
+  pub record LosesOne (held : Option C) (before behind : List A) : Type 0 where
+    pub link : A
+    pub more : List A
+    pub lost : behind ≡ before ++ link ∷ more
+    pub failed : FailedSince held link
 
--- a loss that was told no sooner: one in this poll, or in an earlier one of its call
-abbrev pub IsUntold : {A : Type 0} → (A → LinkSeen) → HearingOf A → HearingOf A → Type 0
-IsUntold seen a b = (a.is_lost ≡ true) ⊎ LosesOne seen a.listening.conn a.lost b.lost
+module _ {C S A : Type 0} (seen : A → LinkSeen) (conn : C → ConnOf A) where
+  -- a loss that was told no sooner: one in this poll, or in an earlier one of its call
+  abbrev pub IsUntold : HearingOf C S A → HearingOf C S A → Type 0
+  IsUntold a b = (a.is_lost ≡ true) ⊎ LosesOne seen conn a.listening.conn a.lost b.lost
 
--- None tells a loss, once
-abbrev pub TellsLoss : {A : Type 0} → (A → LinkSeen) → HearingOf A → HearingOf A → Poll (Result (Option Notification) Error) → Type 0
-TellsLoss seen a b (Ready (Ok None)) = (b.is_lost ≡ false) × IsUntold seen a b
-TellsLoss seen a b answer = b.is_lost ≡ true → IsUntold seen a b
+  -- None tells a loss, once
+  abbrev pub TellsLoss : HearingOf C S A → HearingOf C S A → Poll (Result (Option Notification) Error) → Type 0
+  TellsLoss a b (Ready (Ok None)) = (b.is_lost ≡ false) × IsUntold a b
+  TellsLoss a b answer = b.is_lost ≡ true → IsUntold a b
 
 -- the same of the second half of such a poll, which loses none
 abbrev pub LossBehind : Poll (Result (Option Notification) Error) → Bool → Bool → Type 0
 LossBehind (Ready (Ok None)) before behind = behind ≡ false
 LossBehind answer before behind = behind ≡ before
 
--- the link of the connection that is held is lost first
-abbrev pub LosesHeld : {A : Type 0} → Option (HeldOf A) → List A → List A → Type 0
-LosesHeld None before behind = ⊥
-LosesHeld {A} (Some held) before behind = (more : List A) × (behind ≡ before ++ held.conn.stream.link ∷ more)
+module _ {C A : Type 0} (conn : C → ConnOf A) where
+  -- the link of the connection that is held is lost first
+  abbrev pub LosesHeld : Option C → List A → List A → Type 0
+  LosesHeld None before behind = ⊥
+  LosesHeld (Some held) before behind = (more : List A) × (behind ≡ before ++ (conn held).stream.link ∷ more)
 
--- and that is told
-abbrev pub TellsHeld : {A : Type 0} → Option (HeldOf A) → List A → List A → Bool → Bool → Poll (Result (Option Notification) Error) → Type 0
-TellsHeld held before behind was is (Ready (Ok None)) = (is ≡ false) × LosesHeld held before behind
-TellsHeld held before behind was is answer = is ≡ true → (was ≡ true) ⊎ LosesHeld held before behind
+  -- and that is told
+  abbrev pub TellsHeld : Option C → List A → List A → Bool → Bool → Poll (Result (Option Notification) Error) → Type 0
+  TellsHeld held before behind was is (Ready (Ok None)) = (is ≡ false) × LosesHeld held before behind
+  TellsHeld held before behind was is answer = is ≡ true → (was ≡ true) ⊎ LosesHeld held before behind
 
--- The statement that listens to all of the channels runs already, or it was begun.
-abbrev pub AsksAgain : {A : Type 0} → HearingOf A → HearingOf A → Type 0
-AsksAgain a b = ((a.is_again ≡ true) × (a.listening.is_asking ≡ true) × (b ≡ a)) ⊎ Starts (λ held. held.conn) (λ held conn. record held { conn = conn }) (requests.Execute (plain_text (listen_each_text a.listening.channels))) a.listening.conn b.listening.conn
+module _ {C S A : Type 0} (conn : C → ConnOf A) (with_conn : C → ConnOf A → C) where
+  -- The statement that listens to all of the channels runs already, or it was begun.
+  abbrev pub AsksAgain : HearingOf C S A → HearingOf C S A → Type 0
+  AsksAgain a b = ((a.is_again ≡ true) × (a.listening.is_asking ≡ true) × (b ≡ a)) ⊎ Starts conn with_conn (requests.Execute (plain_text (listen_each_text a.listening.channels))) a.listening.conn b.listening.conn
 
 -- this holds at an Ok
 abbrev pub OnReady : {X : Type 0} → Poll (Result X Error) → Type 0 → Type 0
@@ -157,15 +167,15 @@ abbrev pub channels_behind_all : Option ChannelChange → Option (List (List ℕ
 channels_behind_all (Some change) behind channels = unwrap_or (stored_behind change channels) channels
 channels_behind_all None behind channels = unwrap_or behind channels
 
-abbrev pub channels_at_ok : {A : Type 0} → HearingOf A → List (List ℕ)
+abbrev pub channels_at_ok : {C S A : Type 0} → HearingOf C S A → List (List ℕ)
 channels_at_ok h = channels_behind_all h.asked h.listening.behind h.listening.channels
 
 -- a change is yet to be asked, or its statement runs
-abbrev pub is_changing : {A : Type 0} → HearingOf A → Bool
+abbrev pub is_changing : {C S A : Type 0} → HearingOf C S A → Bool
 is_changing h = is_some h.asked || (h.listening.is_asking && not h.is_again)
 
 -- an Ok makes these, and any other answer nothing; where it waits, it is to make the same
-abbrev pub Changes : {A : Type 0} → List (List ℕ) → List (List ℕ) → HearingOf A → Poll (Result (Unit {0}) Error) → Type 0
+abbrev pub Changes : {C S A : Type 0} → List (List ℕ) → List (List ℕ) → HearingOf C S A → Poll (Result (Unit {0}) Error) → Type 0
 Changes before wanted b (Ready (Ok u)) = b.listening.channels ≡ wanted
 Changes before wanted b (Ready (Err e)) = b.listening.channels ≡ before
 Changes before wanted b Pending = (b.listening.channels ≡ before) × (channels_at_ok b ≡ wanted) × (is_changing b ≡ true)

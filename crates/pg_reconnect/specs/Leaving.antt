@@ -10,7 +10,7 @@ use Rattle.pg_stream.specs.Notifications.{none_kept}
 use Rattle.pg_startup.specs.Establishing.{IsStarting, establish_by, kept_link}
 use Rattle.pg_conn.specs.Cleanliness.{is_clean}
 use Rattle.pg_conn.specs.Connecting.{PollsConnect}
-use Rattle.pg_conn.specs.Connections.{left}
+use Rattle.pg_conn.specs.Connections.{ConnOf, left}
 use Rattle.pg_conn.specs.Dials.{IsUncalled}
 use Rattle.pg_conn.specs.News.{with_kept}
 use Rattle.pg_pool.specs.Seats.{SeatSeen}
@@ -20,73 +20,79 @@ use Rattle.pg_listen.specs.Handed.{FillingOf, HeldOf, TicketSeen}
 use Rattle.pg_listen.specs.Pools.{CoreOf, Section, released_as}
 use Rattle.pg_listen.specs.declared.handed.Released.{Released}
 use Rattle.pg_listening.specs.Listening.{IsOpenPool}
-use Rattle.pg_reconnect.specs.declared.dialling.Found.{Found}
-use Rattle.pg_reconnect.specs.declared.dialling.Found.TheVariants as found
+use Rattle.pg_reconnect.specs.declared.source.Found.{Found}
+use Rattle.pg_reconnect.specs.declared.source.Found.TheVariants as found
 
 -- it was out, and is noted as gone; or the participant doesn't hold it, and nothing is noted
 abbrev pub Drops : {A : Type 0} → SeatSeen → SeatSeen → CoreOf A → CoreOf A → ℕ → Type 0
 Drops s t a b id = ((is_held s a id ≡ true) × IsAdded s t a b (Dropped id) (without id s.ids) a.kept) ⊎ ((is_held s a id ≡ false) × IsLeft s t a b)
 
 -- the connection that was held was released, which keeps no notifications any longer, and runs no call
-abbrev pub OnReleased : {A : Type 0} → ℕ → Option (HeldOf A) → Option (Released A) → Type 0
-OnReleased most None None = Unit {0}
-OnReleased most (Some held) (Some released) = Section most (λ a b. (s : SeatSeen) × (t : SeatSeen) × Releases is_clean s t a b (record held { conn = with_kept none_kept (left held.conn) }) (released_as released))
-OnReleased most held released = ⊥
+abbrev pub OnReleased : {C A : Type 0} → (C → HeldOf A) → (C → ConnOf A) → (C → ConnOf A → C) → ℕ → Option C → Option (Released A) → Type 0
+OnReleased handed conn with_conn most None None = Unit {0}
+OnReleased handed conn with_conn most (Some c) (Some released) = Section most (λ a b. (s : SeatSeen) × (t : SeatSeen) × Releases is_clean s t a b (handed (with_conn c (with_kept none_kept (left (conn c))))) (released_as released))
+OnReleased handed conn with_conn most c released = ⊥
+
+-- a connection, if there is one, was given back
+abbrev pub GivesBack : {A : Type 0} → ℕ → SeatSeen → SeatSeen → Option (HeldOf A) → Option (Released A) → Type 0
+GivesBack most s t None None = Unit {0}
+GivesBack most s t (Some held) (Some released) = Section most (λ a b. Releases is_clean s t a b held (released_as released))
+GivesBack most s t held released = ⊥
 
 -- it is of this pool
-abbrev pub HeldIs : {A : Type 0} → ℕ → Option (HeldOf A) → Type 0
-HeldIs name None = Unit {0}
-HeldIs name (Some held) = held.name ≡ name
+abbrev pub HeldIs : {C A : Type 0} → (C → HeldOf A) → ℕ → Option C → Type 0
+HeldIs handed name None = Unit {0}
+HeldIs handed name (Some c) = (handed c).name ≡ name
 
 abbrev pub TicketIs : ℕ → Option TicketSeen → Type 0
 TicketIs name None = Unit {0}
 TicketIs name (Some ticket) = ticket.name ≡ name
 
 -- a start-up goes on over a link, and its leave is of this pool
-pub record Fills {A : Type 0} (seen : A → LinkSeen) (name : ℕ) (f : FillingOf A) : Type 0 where
-  pub goes : f.connecting.startup.is_finished ≡ false
-  pub leave : TicketIs name f.ticket
+pub record Fills {S A : Type 0} (seen : A → LinkSeen) (filling : S → FillingOf A) (name : ℕ) (s : S) : Type 0 where
+  pub goes : (filling s).connecting.startup.is_finished ≡ false
+  pub leave : TicketIs name (filling s).ticket
   pub first : LinkSeen
-  pub starting : IsStarting first (establish_by seen f.connecting.startup)
+  pub starting : IsStarting first (establish_by seen (filling s).connecting.startup)
 
-abbrev pub StartsIn : {A : Type 0} → (A → LinkSeen) → ℕ → Option (FillingOf A) → Type 0
-StartsIn seen name None = Unit {0}
-StartsIn seen name (Some f) = Fills seen name f
+abbrev pub StartsIn : {S A : Type 0} → (A → LinkSeen) → (S → FillingOf A) → ℕ → Option S → Type 0
+StartsIn seen filling name None = Unit {0}
+StartsIn seen filling name (Some s) = Fills seen filling name s
 
 -- a start-up, if there is one, is over a link that was not called yet
-abbrev pub IsFresh : {A : Type 0} → (A → LinkSeen) → Option (FillingOf A) → Type 0
-IsFresh seen None = Unit {0}
-IsFresh {A} seen (Some f) = (link : A) × (kept_link f.connecting.startup.phase ≡ Some link) × IsUncalled (seen link)
+abbrev pub IsFresh : {S A : Type 0} → (A → LinkSeen) → (S → FillingOf A) → Option S → Type 0
+IsFresh seen filling None = Unit {0}
+IsFresh {S} {A} seen filling (Some s) = (link : A) × (kept_link (filling s).connecting.startup.phase ≡ Some link) × IsUncalled (seen link)
 
 -- what is found is of this pool
-abbrev pub IsFound : {A : Type 0} → (A → LinkSeen) → ℕ → Found A → Type 0
-IsFound seen name (found.Held held) = held.name ≡ name
-IsFound seen name (found.Starting state) = Fills seen name state × IsFresh seen (Some state)
+abbrev pub IsFound : {C S A : Type 0} → (A → LinkSeen) → (C → HeldOf A) → (S → FillingOf A) → ℕ → Found C S → Type 0
+IsFound seen handed filling name (found.Held c) = (handed c).name ≡ name
+IsFound seen handed filling name (found.Starting s) = Fills seen filling name s × IsFresh seen filling (Some s)
 
 -- a start-up is there as long as it waits, and its connection is of this pool
-abbrev pub FillsOn : {A : Type 0} → (A → LinkSeen) → ℕ → Option (FillingOf A) → Poll (Result (HeldOf A) (Error × Option A)) → Type 0
-FillsOn seen name startup Pending = (f : FillingOf _) × (startup ≡ Some f) × Fills seen name f
-FillsOn seen name startup (Ready (Err e)) = (startup ≡ None) × IsOpenPool e.0
-FillsOn seen name startup (Ready (Ok held)) = (startup ≡ None) × (held.name ≡ name)
+abbrev pub FillsOn : {C S A : Type 0} → (A → LinkSeen) → (C → HeldOf A) → (S → FillingOf A) → ℕ → Option S → Poll (Result C (Error × Option A)) → Type 0
+FillsOn {C} {S} seen handed filling name startup Pending = (s : S) × (startup ≡ Some s) × Fills seen filling name s
+FillsOn seen handed filling name startup (Ready (Err e)) = (startup ≡ None) × IsOpenPool e.0
+FillsOn seen handed filling name startup (Ready (Ok c)) = (startup ≡ None) × ((handed c).name ≡ name)
 
 -- it was polled within so many calls of its link, of which these are left, and waits
-abbrev pub PollsOn : {A : Type 0} → (A → LinkSeen) → ℕ → ℕ → Option (FillingOf A) → Option (FillingOf A) → Type 0
-PollsOn seen left now (Some f) (Some g) = PollsConnect seen left now f.connecting g.connecting Pending
-PollsOn seen left now before behind = ⊥
+abbrev pub PollsOn : {S A : Type 0} → (A → LinkSeen) → (S → FillingOf A) → ℕ → ℕ → Option S → Option S → Type 0
+PollsOn seen filling left now (Some s) (Some t) = PollsConnect seen left now (filling s).connecting (filling t).connecting Pending
+PollsOn seen filling left now before behind = ⊥
 
 -- it was polled so, and has failed; the link that it had is this
-pub record EndsStartUp {A : Type 0} (seen : A → LinkSeen) (left now : ℕ) (startup : Option (FillingOf A)) (e : Error) (link : Option A) : Type 0 where
-  pub last : FillingOf A
-  pub ended : FillingOf A
+pub record EndsStartUp {S A : Type 0} (seen : A → LinkSeen) (filling : S → FillingOf A) (left now : ℕ) (startup : Option S) (e : Error) (link : Option A) : Type 0 where
+  pub last : S
+  pub ended : S
   pub is : startup ≡ Some last
-  pub polls : PollsConnect seen left now last.connecting ended.connecting (Ready (Err e))
-  pub link_is : link ≡ kept_link ended.connecting.startup.phase
+  pub polls : PollsConnect seen left now (filling last).connecting (filling ended).connecting (Ready (Err e))
+  pub link_is : link ≡ kept_link (filling ended).connecting.startup.phase
 
 -- what a poll of a start-up answers
-abbrev pub PollsStartUp : {A : Type 0} → (A → LinkSeen) → ℕ → ℕ → Option (FillingOf A) → Option (FillingOf A) → Poll (Result (HeldOf A) (Error × Option A)) → Type 0
-PollsStartUp seen left now before behind Pending = PollsOn seen left now before behind
-PollsStartUp seen left now before behind (Ready (Err e)) = EndsStartUp seen left now before e.0 e.1
-PollsStartUp seen left now before behind (Ready (Ok held)) = Unit {0}
+abbrev pub PollsStartUp : {C S A : Type 0} → (A → LinkSeen) → (S → FillingOf A) → ℕ → ℕ → Option S → Option S → Poll (Result C (Error × Option A)) → Type 0
+PollsStartUp seen filling left now before behind Pending = PollsOn seen filling left now before behind
+PollsStartUp seen filling left now before behind (Ready (Err e)) = EndsStartUp seen filling left now before e.0 e.1
+PollsStartUp seen filling left now before behind (Ready (Ok held)) = Unit {0}
 
 -- the answer of a start-up that is over, and the link of one that has failed
 abbrev pub ended : {A : Type 0} → Result (HeldOf A) Error → Option A → Result (HeldOf A) (Error × Option A)

@@ -2,4 +2,5 @@ pub mod Failing
 pub mod Hearing
 pub mod Leaving
 pub mod Querying
+pub mod Sources
 pub mod Waiting

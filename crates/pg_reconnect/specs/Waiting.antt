@@ -4,7 +4,7 @@ use Rattle.futures.specs.declared.task.Poll.{Poll}
 use Rattle.futures.specs.declared.task.Poll.TheVariants.{Ready, Pending}
 use Rattle.pg_wire.specs.declared.error.Error.{Error}
 use Rattle.pg_stream.specs.Links.{LinkSeen}
-use Rattle.pg_conn.specs.Connections.{ConnSeen}
+use Rattle.pg_conn.specs.Connections.{ConnOf, ConnSeen}
 use Rattle.pg_conn.specs.News.{PollsNews}
 use Rattle.pg_pool.specs.Seats.{SeatSeen}
 use Rattle.pg_listen.specs.Handed.{FillingOf}
@@ -13,31 +13,35 @@ use Rattle.pg_listening.specs.Listening.{OnHeld, PollsStatement}
 use Rattle.pg_reconnect.specs.Hearing.{AsksAgain, HearingOf, HearsBy}
 use Rattle.pg_reconnect.specs.Leaving.{IsFresh, NotesClosed, PollsOn, RefusesClosed}
 
--- a start-up stays as it is; or it is over, or one began meanwhile
-abbrev pub StartsFrom : {A : Type 0} → (A → LinkSeen) → Option (FillingOf A) → Option (FillingOf A) → Type 0
-StartsFrom seen before behind = (behind ≡ before) ⊎ IsFresh seen behind
+module _ {S A : Type 0} (seen : A → LinkSeen) (filling : S → FillingOf A) where
+  -- a start-up stays as it is; or it is over, or one began meanwhile
+  abbrev pub StartsFrom : Option S → Option S → Type 0
+  StartsFrom before behind = (behind ≡ before) ⊎ IsFresh seen filling behind
 
 -- ---- why a poll waits
 
--- this was done with the connection that is held
-abbrev pub OnConn : {A : Type 0} → (ConnSeen → ConnSeen → Type 0) → (A → LinkSeen) → HearingOf A → HearingOf A → Type 0
-OnConn P seen a b = OnHeld P (λ held. held.conn) seen a.listening.conn b.listening.conn
+module _ {C S A : Type 0} (seen : A → LinkSeen) (conn : C → ConnOf A) where
+  -- this was done with the connection that is held
+  abbrev pub OnConn : (ConnSeen → ConnSeen → Type 0) → HearingOf C S A → HearingOf C S A → Type 0
+  OnConn P a b = OnHeld P conn seen a.listening.conn b.listening.conn
 
--- a start-up that was there before, or one over a link that was not called yet, was polled, and waits
-abbrev pub StartUpWaits : {A : Type 0} → (A → LinkSeen) → ℕ → ℕ → Option (FillingOf A) → Option (FillingOf A) → Type 0
-StartUpWaits {A} seen left now before behind = (startup : Option (FillingOf A)) × StartsFrom seen before startup × PollsOn seen left now startup behind
+module _ {S A : Type 0} (seen : A → LinkSeen) (filling : S → FillingOf A) where
+  -- a start-up that was there before, or one over a link that was not called yet, was polled, and waits
+  abbrev pub StartUpWaits : ℕ → ℕ → Option S → Option S → Type 0
+  StartUpWaits left now before behind = (startup : Option S) × StartsFrom seen filling before startup × PollsOn seen filling left now startup behind
 
--- A notification was waited for, or a statement's end, or a start-up's; this start-up was there before, if any.
-abbrev pub LastWaits : {A : Type 0} → (A → LinkSeen) → ℕ → ℕ → Option (FillingOf A) → HearingOf A → HearingOf A → Type 0
-LastWaits seen left now startup a b = OnConn (λ c d. PollsNews left now c d Pending) seen a b ⊎ OnConn (λ c d. PollsStatement left c d Pending) seen a b ⊎ StartUpWaits seen left now startup b.startup
+module _ {C S A : Type 0} (seen : A → LinkSeen) (conn : C → ConnOf A) (filling : S → FillingOf A) where
+  -- A notification was waited for, or a statement's end, or a start-up's; this start-up was there before, if any.
+  abbrev pub LastWaits : ℕ → ℕ → Option S → HearingOf C S A → HearingOf C S A → Type 0
+  LastWaits left now startup a b = OnConn seen conn (λ c d. PollsNews left now c d Pending) a b ⊎ OnConn seen conn (λ c d. PollsStatement left c d Pending) a b ⊎ StartUpWaits seen filling left now startup b.startup
 
--- Why a poll waits within so many calls of links, of which these are left: nothing was given, and what it did last waits, with the calls that were left to it.
-pub record WaitsBy {A : Type 0} (seen : A → LinkSeen) (left now : ℕ) (a b : HearingOf A) : Type 0 where
-  pub last : HearingOf A
-  pub rest : ℕ
-  pub fewer : rest ≤ left
-  pub leads : HearsBy seen a last []
-  pub waits : LastWaits seen rest now a.startup last b
+  -- Why a poll waits within so many calls of links, of which these are left: nothing was given, and what it did last waits, with the calls that were left to it.
+  pub record WaitsBy (left now : ℕ) (a b : HearingOf C S A) : Type 0 where
+    pub last : HearingOf C S A
+    pub rest : ℕ
+    pub fewer : rest ≤ left
+    pub leads : HearsBy seen conn a last []
+    pub waits : LastWaits rest now a.startup last b
 
 -- this holds where it waits
 abbrev pub OnPending : {X : Type 0} → Poll X → Type 0 → Type 0
@@ -46,22 +50,24 @@ OnPending (Ready x) P = Unit {0}
 
 -- ---- it listens again
 
--- a statement on the connection that is held was polled within so many calls of its link, and has ended well
-abbrev pub EndsWell : {A : Type 0} → (A → LinkSeen) → ℕ → HearingOf A → HearingOf A → Type 0
-EndsWell seen left a b = OnConn (λ c d. PollsStatement left c d (Ready (Ok tt))) seen a b
+module _ {C S A : Type 0} (seen : A → LinkSeen) (conn : C → ConnOf A) where
+  -- a statement on the connection that is held was polled within so many calls of its link, and has ended well
+  abbrev pub EndsWell : ℕ → HearingOf C S A → HearingOf C S A → Type 0
+  EndsWell left a b = OnConn seen conn (λ c d. PollsStatement left c d (Ready (Ok tt))) a b
 
--- The statement that listens to all of the channels was asked, in this poll or before it, and has ended well.
-pub record ListensAgain {A : Type 0} (seen : A → LinkSeen) (channels : List (List ℕ)) (b : HearingOf A) : Type 0 where
-  pub before : HearingOf A
-  pub asked : HearingOf A
-  pub left : ℕ
-  pub channels_are : before.listening.channels ≡ channels
-  pub asks : AsksAgain before asked
-  pub ends : EndsWell seen left asked b
+module _ {C S A : Type 0} (seen : A → LinkSeen) (conn : C → ConnOf A) (with_conn : C → ConnOf A → C) where
+  -- The statement that listens to all of the channels was asked, in this poll or before it, and has ended well.
+  pub record ListensAgain (channels : List (List ℕ)) (b : HearingOf C S A) : Type 0 where
+    pub before : HearingOf C S A
+    pub asked : HearingOf C S A
+    pub left : ℕ
+    pub channels_are : before.listening.channels ≡ channels
+    pub asks : AsksAgain conn with_conn before asked
+    pub ends : EndsWell seen conn left asked b
 
--- a poll made the connection listen to all of the channels, or an earlier one had
-abbrev pub ReadiesBy : {A : Type 0} → (A → LinkSeen) → HearingOf A → HearingOf A → Type 0
-ReadiesBy seen a b = (a.is_ready ≡ true) ⊎ ListensAgain seen a.listening.channels b
+  -- a poll made the connection listen to all of the channels, or an earlier one had
+  abbrev pub ReadiesBy : HearingOf C S A → HearingOf C S A → Type 0
+  ReadiesBy a b = (a.is_ready ≡ true) ⊎ ListensAgain a.listening.channels b
 
 -- this holds where None tells a loss
 abbrev pub OnNone : {X : Type 0} → Poll (Result (Option X) Error) → Type 0 → Type 0

@@ -2,14 +2,12 @@
 ghost use Rattle.std.specs.Prelude.{◌≡◌, ◌≤◌, true, false, [], None, Some, Err, IsSome, OnErr, OnOk, unwrap_or};
 ghost use Rattle.pg_listener.specs.Changes.{changed, listens};
 ghost use Rattle.pg_listening.specs.Listening.{stored_behind};
-ghost use Rattle.pg_reconnect.specs.Failing.{CausedBy, CausedOn};
+ghost use Rattle.pg_reconnect.specs.Failing.{CausedBy, CausedOn, beside_of};
+ghost use Rattle.pg_reconnect.specs.Sources.{IsDialled};
 ghost use Rattle.pg_reconnect.specs.Hearing.{Changes, HearsBy, channels_at_ok, is_changing, is_stored_first, stored_first};
 
-use crate::Hearing;
-use pg_conn::Dial;
-use pg_listen::{PgPool, PoolLedger, PoolSeat};
+use crate::{ConnectionSource, Hearing};
 use pg_listening::ChannelChange;
-use pg_stream::Link;
 use pg_wire::{Error, Poll};
 use std::sync::Wait;
 
@@ -23,7 +21,7 @@ fn is_stored_first(change: &ChannelChange) -> bool
     }
 }
 
-impl<L: Link> Hearing<L> {
+impl<B: ConnectionSource> Hearing<B> {
     fn ask(&mut self, change: ChannelChange)
         ensures { self.new ≡ record self.old { asked = Some change } }
     {
@@ -42,7 +40,7 @@ impl<L: Link> Hearing<L> {
     /// behind the Ok of its statement. An `Err` is want of memory, and then nothing has changed.
     #[tactic(auto, using(crate::proofs::HearingLaws::hears_nothing, crate::proofs::HearingLaws::hears_without, crate::proofs::BufferingLaws::hears_behind, crate::proofs::BufferingLaws::at_once))]
     pub fn begin_change(&mut self, change: ChannelChange) -> Result<(), Error>
-        ensures hears { HearsBy L.seen self.old self.new [] }
+        ensures hears { HearsBy B.L.seen B.Held.conn self.old self.new [] }
         ensures channels { OnOk result (self.new.listening.channels ≡ stored_first change self.old.listening.channels) }
         ensures next { OnOk result (channels_at_ok self.new ≡ changed change self.old.listening.channels) }
         ensures changing { OnOk result (is_changing self.new ≡ true) }
@@ -65,17 +63,20 @@ impl<L: Link> Hearing<L> {
     }
 }
 
-impl<L: Link + Drop> Hearing<L> {
+impl<B: ConnectionSource> Hearing<B>
+where
+    B::L: Drop,
+{
     // Asks a change on the connection that is held.
     #[tactic(auto, using(crate::proofs::HearingLaws::hears_nothing, crate::proofs::HearingLaws::hears_without, crate::proofs::BufferingLaws::hears_behind, crate::proofs::BufferingLaws::at_once))]
     fn poll_asked_held(&mut self, change: &ChannelChange, left: &mut u16) -> Poll<Result<(), Error>>
         requires left { left.old ≤ 256 }
         requires held { IsSome self.old.listening.conn }
-        ensures hears { HearsBy L.seen self.old self.new [] }
+        ensures hears { HearsBy B.L.seen B.Held.conn self.old self.new [] }
         ensures changes { Changes self.old.listening.channels (unwrap_or (stored_behind change.now self.old.listening.channels) self.old.listening.channels) self.new result }
         ensures left { left.new ≤ left.old }
         ensures loss { self.new.is_lost ≡ self.old.is_lost }
-        ensures causes { CausedOn L.seen left.old left.new self.old self.new result }
+        ensures causes { CausedOn B.L.seen B.Held.conn B.Held.with_conn B.filling left.old left.new self.old self.new result }
     {
         self.asked = None;
         self.is_again = false;
@@ -90,11 +91,11 @@ impl<L: Link + Drop> Hearing<L> {
     fn poll_fewer(&mut self, change: &ChannelChange, left: &mut u16) -> Poll<Result<(), Error>>
         requires left { left.old ≤ 256 }
         requires fewer { listens change.now ≡ false }
-        ensures hears { HearsBy L.seen self.old self.new [] }
+        ensures hears { HearsBy B.L.seen B.Held.conn self.old self.new [] }
         ensures changes { Changes self.old.listening.channels (unwrap_or (stored_behind change.now self.old.listening.channels) self.old.listening.channels) self.new result }
         ensures left { left.new ≤ left.old }
         ensures loss { self.new.is_lost ≡ self.old.is_lost }
-        ensures causes { CausedOn L.seen left.old left.new self.old self.new result }
+        ensures causes { CausedOn B.L.seen B.Held.conn B.Held.with_conn B.filling left.old left.new self.old self.new result }
     {
         if self.listening.is_held() {
             return self.poll_asked_held(change, left);
@@ -106,30 +107,27 @@ impl<L: Link + Drop> Hearing<L> {
     }
 
     // Asks a change. One that listens to more channels takes up a connection where none is held.
-    #[tactic(auto, using(crate::proofs::HearingLaws::hears_nothing, crate::proofs::HearingLaws::hears_without, crate::proofs::BufferingLaws::hears_behind, crate::proofs::BufferingLaws::at_once))]
-    fn poll_asked<G: PoolLedger, D: Dial<L = L>, R: Wait>(
+    #[tactic(auto, using(crate::proofs::HearingLaws::hears_nothing, crate::proofs::HearingLaws::hears_without, crate::proofs::BufferingLaws::hears_behind, crate::proofs::BufferingLaws::at_once, crate::proofs::SourceLaws::dialled, crate::proofs::SourceLaws::seated_then, crate::proofs::SourceLaws::dialled_then))]
+    fn poll_asked<R: Wait>(
         &mut self,
         rt: &R,
-        pool: &PgPool<G, L>,
-        seat: &mut PoolSeat<G>,
-        dial: &mut D,
+        source: &mut B,
         change: ChannelChange,
         left: &mut u16,
     ) -> Poll<Result<(), Error>>
-        requires mine { self.old.name ≡ pool.now.name }
-        requires theirs { seat.old.name ≡ pool.now.name }
+        requires mine { self.old.name ≡ (B.now source.old).name }
         requires left { left.old ≤ 256 }
-        ensures hears { HearsBy L.seen self.old self.new [] }
+        ensures hears { HearsBy B.L.seen B.Held.conn self.old self.new [] }
         ensures changes { Changes self.old.listening.channels (unwrap_or (stored_behind change self.old.listening.channels) self.old.listening.channels) self.new result }
-        ensures seat { seat.new.name ≡ seat.old.name }
+        ensures source { IsDialled (B.now source.old) (B.now source.new) }
         ensures left { left.new ≤ left.old }
         ensures loss { self.new.is_lost ≡ self.old.is_lost }
-        ensures causes { CausedBy L.seen (record { most = G.most; options = pool.now.options; seat = seat.new; before = (D.seen dial.old).faults; behind = (D.seen dial.new).faults }) left.old left.new self.old self.new result }
+        ensures causes { CausedBy B.L.seen B.Held.conn B.Held.with_conn B.filling (beside_of (B.now source.old) (B.now source.new)) left.old left.new self.old self.new result }
     {
         if !change.listens() {
             return self.poll_fewer(&change, left);
         }
-        match self.poll_connected(rt, pool, seat, dial, left) {
+        match self.poll_connected(rt, source, left) {
             Poll::Pending => {
                 self.asked = Some(change);
                 Poll::Pending
@@ -140,28 +138,25 @@ impl<L: Link + Drop> Hearing<L> {
     }
 
     /// Moves a change on. One that listens to more channels takes up a connection where none is held; one that listens to fewer asks nothing then.
-    #[tactic(auto, using(crate::proofs::HearingLaws::hears_nothing, crate::proofs::HearingLaws::hears_without, crate::proofs::BufferingLaws::hears_behind, crate::proofs::BufferingLaws::at_once))]
-    pub fn poll_change<G: PoolLedger, D: Dial<L = L>, R: Wait>(
+    #[tactic(auto, using(crate::proofs::HearingLaws::hears_nothing, crate::proofs::HearingLaws::hears_without, crate::proofs::BufferingLaws::hears_behind, crate::proofs::BufferingLaws::at_once, crate::proofs::SourceLaws::dialled, crate::proofs::SourceLaws::seated_then, crate::proofs::SourceLaws::dialled_then))]
+    pub fn poll_change<R: Wait>(
         &mut self,
         rt: &R,
-        pool: &PgPool<G, L>,
-        seat: &mut PoolSeat<G>,
-        dial: &mut D,
+        source: &mut B,
         left: &mut u16,
     ) -> Poll<Result<(), Error>>
-        requires mine { self.old.name ≡ pool.now.name }
-        requires theirs { seat.old.name ≡ pool.now.name }
+        requires mine { self.old.name ≡ (B.now source.old).name }
         requires left { left.old ≤ 256 }
         requires changing { is_changing self.old ≡ true }
-        ensures hears { HearsBy L.seen self.old self.new [] }
+        ensures hears { HearsBy B.L.seen B.Held.conn self.old self.new [] }
         ensures changes { Changes self.old.listening.channels (channels_at_ok self.old) self.new result }
-        ensures seat { seat.new.name ≡ seat.old.name }
+        ensures source { IsDialled (B.now source.old) (B.now source.new) }
         ensures left { left.new ≤ left.old }
         ensures loss { self.new.is_lost ≡ self.old.is_lost }
-        ensures causes { CausedBy L.seen (record { most = G.most; options = pool.now.options; seat = seat.new; before = (D.seen dial.old).faults; behind = (D.seen dial.new).faults }) left.old left.new self.old self.new result }
+        ensures causes { CausedBy B.L.seen B.Held.conn B.Held.with_conn B.filling (beside_of (B.now source.old) (B.now source.new)) left.old left.new self.old self.new result }
     {
         match self.asked.take() {
-            Some(change) => self.poll_asked(rt, pool, seat, dial, change, left),
+            Some(change) => self.poll_asked(rt, source, change, left),
             None => self.listening.poll_change(left),
         }
     }

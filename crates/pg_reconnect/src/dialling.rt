@@ -6,18 +6,13 @@ ghost use Rattle.pg_listening.specs.Listening.{IsOpenPool};
 ghost use Rattle.pg_reconnect.specs.Failing.{FailsDial, FillsNone, FindsNone};
 ghost use Rattle.pg_reconnect.specs.Leaving.{Fills, IsFound, IsFresh};
 
+use crate::Found;
 use pg_conn::{Dial, draw_nonce};
 use pg_listen::{Acquired, EstablishPooled, PgPool, PoolConnection, PoolLedger, PoolSeat, Ticket};
 use pg_stream::Link;
 use pg_wire::Error;
 use std::alloc::Global;
 use std::sync::Wait;
-
-/// What a pool has for a listener.
-pub(crate) enum Found<L> {
-    Held(PoolConnection<L>),
-    Starting(EstablishPooled<L>),
-}
 
 // Begins a start-up, or hands back the leave and the link.
 #[tactic(auto, using(crate::proofs::DialLaws::dial_apart, crate::proofs::DialLaws::words_fail))]
@@ -30,7 +25,7 @@ fn establish<L: Link, D: Dial<L = L>, G: PoolLedger>(
 ) -> Result<EstablishPooled<L>, (Error, Ticket, L)>
     requires mine { ticket.name ≡ pool.now.name }
     requires uncalled { IsUncalled (L.seen link) }
-    ensures ok { IfOk result (λ state. Fills L.seen pool.now.name state × IsFresh L.seen (Some state)) }
+    ensures ok { IfOk result (λ state. Fills L.seen (λ f. f) pool.now.name state × IsFresh L.seen (λ f. f) (Some state)) }
     ensures faults { IfOk result (λ state. (D.seen dial.new).faults ≡ (D.seen dial.old).faults) }
     ensures err { IfErr result (λ e. (e.1 ≡ ticket) × (e.2 ≡ link) × IsOpenPool e.0) }
     ensures refuses { IfErr result (λ e. FailsDial (D.seen dial.old).faults (D.seen dial.new).faults e.0 ⊎ RefusesStart pool.now.options (L.seen link).plan e.0) }
@@ -58,7 +53,7 @@ fn fill<G: PoolLedger, L: Link, D: Dial<L = L>, R: Wait>(
 ) -> Result<EstablishPooled<L>, (Error, Option<L>)>
     requires theirs { seat.old.name ≡ pool.now.name }
     requires mine { ticket.name ≡ pool.now.name }
-    ensures found { IfOk result (λ state. Fills L.seen pool.now.name state × IsFresh L.seen (Some state)) }
+    ensures found { IfOk result (λ state. Fills L.seen (λ f. f) pool.now.name state × IsFresh L.seen (λ f. f) (Some state)) }
     ensures faults { IfOk result (λ state. (D.seen dial.new).faults ≡ (D.seen dial.old).faults) }
     ensures open { IfErr result (λ e. IsOpenPool e.0) }
     ensures none { IfErr result (λ e. FillsNone L.seen pool.now.options (D.seen dial.old).faults (D.seen dial.new).faults e.0 e.1) }
@@ -86,9 +81,9 @@ pub(crate) fn find<G: PoolLedger, L: Link, D: Dial<L = L>, R: Wait>(
     pool: &PgPool<G, L>,
     seat: &mut PoolSeat<G>,
     dial: &mut D,
-) -> Result<Found<L>, (Error, Option<L>)>
+) -> Result<Found<PoolConnection<L>, EstablishPooled<L>>, (Error, Option<L>)>
     requires { seat.old.name ≡ pool.now.name }
-    ensures found { IfOk result (IsFound L.seen pool.now.name) }
+    ensures found { IfOk result (IsFound L.seen (λ h. h) (λ f. f) pool.now.name) }
     ensures faults { IfOk result (λ found. (D.seen dial.new).faults ≡ (D.seen dial.old).faults) }
     ensures none { IfErr result (λ e. FindsNone L.seen (record { most = G.most; options = pool.now.options; seat = seat.new; before = (D.seen dial.old).faults; behind = (D.seen dial.new).faults }) e.0 e.1) }
     ensures seat { seat.new.name ≡ seat.old.name }

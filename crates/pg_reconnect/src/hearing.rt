@@ -3,24 +3,23 @@ ghost use Rattle.pg_conn.specs.States.{TellsStatement};
 ghost use Rattle.pg_listening.specs.Buffers.{buffered};
 ghost use Rattle.pg_reconnect.specs.Hearing.{HearsBy, buffers_of, fresh_hearing, learnt_of};
 
+use crate::ConnectionSource;
 use pg_call::Prepared;
 use pg_conn::PgStatement;
-use pg_listen::{EstablishPooled, PoolConnection};
 use pg_listening::{ChannelChange, Listening};
-use pg_stream::Link;
 use pg_wire::{Error, Notification, Text};
 use std::alloc::Global;
 use std::marker::Model;
 use std::mem;
 
-/// A listener but for its pool and its dial, which each poll is lent.
-pub struct Hearing<L: Link> {
+/// A listener but for where its connections come from, which each poll is lent.
+pub struct Hearing<B: ConnectionSource> {
     pub(crate) alloc: Global,
     pub(crate) name: u64,
-    pub(crate) listening: Listening<PoolConnection<L>>,
+    pub(crate) listening: Listening<B::Held>,
     pub(crate) asked: Option<ChannelChange>,
-    pub(crate) startup: Option<EstablishPooled<L>>,
-    pub(crate) lost: Vec<L>,
+    pub(crate) startup: Option<B::Startup>,
+    pub(crate) lost: Vec<B::L>,
     pub(crate) is_ready: bool,
     pub(crate) is_again: bool,
     pub(crate) is_lost: bool,
@@ -28,17 +27,17 @@ pub struct Hearing<L: Link> {
     pub(crate) ignores_close: bool,
 }
 
-impl<L: Link> Model for Hearing<L> {
+impl<B: ConnectionSource> Model for Hearing<B> {
     ghost use Rattle.pg_reconnect.specs.Hearing.{HearingOf, IsHearing};
 
-    ghost Value = { HearingOf L };
+    ghost Value = { HearingOf B.Held B.Startup B.L };
 
     ghost view = { λ h. record { name = h.name; listening = h.listening; asked = h.asked; startup = h.startup; lost = h.lost.items; is_ready = h.is_ready; is_again = h.is_again; is_lost = h.is_lost; is_eager = h.is_eager; ignores_close = h.ignores_close } };
 
-    ghost invariant = { λ h. IsHearing L.seen (record { name = h.name; listening = h.listening; asked = h.asked; startup = h.startup; lost = h.lost.items; is_ready = h.is_ready; is_again = h.is_again; is_lost = h.is_lost; is_eager = h.is_eager; ignores_close = h.ignores_close }) };
+    ghost invariant = { λ h. IsHearing B.L.seen B.handed B.filling (record { name = h.name; listening = h.listening; asked = h.asked; startup = h.startup; lost = h.lost.items; is_ready = h.is_ready; is_again = h.is_again; is_lost = h.is_lost; is_eager = h.is_eager; ignores_close = h.ignores_close }) };
 }
 
-impl<L: Link> Hearing<L> {
+impl<B: ConnectionSource> Hearing<B> {
     /// It holds no connection of the pool of this name, and listens to no channel yet. A loss is told behind a reconnect, unless the caller says
     /// otherwise.
     pub fn new(alloc: Global, name: u64, ignores_close: bool) -> Self
@@ -73,7 +72,7 @@ impl<L: Link> Hearing<L> {
 
     /// What is told of a statement that was prepared on the connection that is held, by what that one has learnt. Only want of memory refuses it.
     pub fn statement(&self, prepared: Prepared) -> Result<PgStatement, Error>
-        ensures { TellsStatement (learnt_of self.now) prepared result }
+        ensures { TellsStatement (learnt_of B.Held.conn self.now) prepared result }
     {
         self.listening.statement(prepared)
     }
@@ -93,14 +92,14 @@ impl<L: Link> Hearing<L> {
     }
 
     /// The links of lost connections and of failed reconnects, in order.
-    pub fn lost(&self) -> &[L]
+    pub fn lost(&self) -> &[B::L]
         ensures { result.now ≡ self.now.lost }
     {
         self.lost.as_slice()
     }
 
     /// Takes them.
-    pub fn take_lost(&mut self) -> Vec<L>
+    pub fn take_lost(&mut self) -> Vec<B::L>
         ensures lost { result.items ≡ self.old.lost }
         ensures rest { self.new ≡ record self.old { lost = [] } }
     {
@@ -110,11 +109,11 @@ impl<L: Link> Hearing<L> {
     /// Takes the oldest notification that is buffered. It asks nothing of the link.
     #[tactic(auto, using(crate::proofs::HearingLaws::hears_nothing, crate::proofs::HearingLaws::hears_without, crate::proofs::BufferingLaws::hears_behind, crate::proofs::BufferingLaws::at_once))]
     pub fn next_buffered(&mut self) -> Option<Notification>
-        ensures hears { HearsBy L.seen self.old self.new (option_to_list result) }
+        ensures hears { HearsBy B.L.seen B.Held.conn self.old self.new (option_to_list result) }
         ensures channels { self.new.listening.channels ≡ self.old.listening.channels }
-        ensures oldest { option_to_list result ++ buffered (buffers_of L.seen self.new) ≡ buffered (buffers_of L.seen self.old) }
+        ensures oldest { option_to_list result ++ buffered (buffers_of B.L.seen B.Held.conn self.new) ≡ buffered (buffers_of B.L.seen B.Held.conn self.old) }
         ensures same { result ≡ None → self.new ≡ self.old }
-        ensures empty { result ≡ None → buffered (buffers_of L.seen self.old) ≡ [] }
+        ensures empty { result ≡ None → buffered (buffers_of B.L.seen B.Held.conn self.old) ≡ [] }
         ensures loss { self.new.is_lost ≡ self.old.is_lost }
         ensures startup { self.new.startup ≡ self.old.startup }
     {

@@ -1,26 +1,23 @@
 //! How a listener lets its connection go.
 ghost use Rattle.std.specs.Prelude.{◌≡◌, is_some};
+ghost use Rattle.pg_reconnect.specs.Sources.{IsSeated};
 ghost use Rattle.pg_reconnect.specs.Leaving.{OnReleased};
 
-use crate::Hearing;
-use crate::starting::give_up;
-use pg_listen::{PgPool, PoolLedger, PoolSeat, Released};
-use pg_stream::Link;
+use crate::handing::{give_up, release};
+use crate::{ConnectionSource, Hearing};
+use pg_listen::Released;
 use std::sync::Wait;
 
-impl<L: Link + Drop> Hearing<L> {
+impl<B: ConnectionSource> Hearing<B>
+where
+    B::L: Drop,
+{
     /// Lets its connection go as it stands, or gives the leave to make one back. There is no answer exactly where no connection is held.
-    pub fn into_released<G: PoolLedger, R: Wait>(
-        self,
-        rt: &R,
-        pool: &PgPool<G, L>,
-        seat: &mut PoolSeat<G>,
-    ) -> Option<Released<L>>
-        requires mine { self.name ≡ pool.now.name }
-        requires theirs { seat.old.name ≡ pool.now.name }
+    pub fn into_released<R: Wait>(self, rt: &R, source: &mut B) -> Option<Released<B::L>>
+        requires mine { self.name ≡ (B.now source.old).name }
         ensures some { is_some result ≡ is_some self.listening.conn }
-        ensures releases { OnReleased G.most self.listening.conn result }
-        ensures seat { seat.new.name ≡ seat.old.name }
+        ensures releases { OnReleased B.handed B.Held.conn B.Held.with_conn (B.now source.old).most self.listening.conn result }
+        ensures source { IsSeated (B.now source.old) (B.now source.new) }
     {
         let Hearing {
             alloc: _,
@@ -37,9 +34,9 @@ impl<L: Link + Drop> Hearing<L> {
         } = self;
         drop(asked);
         drop(lost);
-        drop(give_up(rt, startup, pool, seat));
+        drop(give_up(rt, source, startup));
         match listening.into_conn() {
-            Some(held) => Some(held.release(rt, pool, seat)),
+            Some(held) => Some(release(rt, source, held)),
             None => None,
         }
     }

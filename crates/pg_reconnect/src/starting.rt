@@ -62,13 +62,13 @@ pub(crate) fn poll_startup<G: PoolLedger, L: Link + Drop, R: Wait>(
     left: &mut u16,
 ) -> Poll<Result<PoolConnection<L>, (Error, Option<L>)>>
     requires starts { IsSome startup.old }
-    requires mine { StartsIn L.seen pool.now.name startup.old }
+    requires mine { StartsIn L.seen (λ f. f) pool.now.name startup.old }
     requires theirs { seat.old.name ≡ pool.now.name }
     requires left { left.old ≤ 256 }
-    ensures fills { FillsOn L.seen pool.now.name startup.new result }
+    ensures fills { FillsOn L.seen (λ h. h) (λ f. f) pool.now.name startup.new result }
     ensures seat { seat.new.name ≡ seat.old.name }
     ensures left { left.new ≤ left.old }
-    ensures polls { PollsStartUp L.seen left.old left.new startup.old startup.new result }
+    ensures polls { PollsStartUp L.seen (λ f. f) left.old left.new startup.old startup.new result }
 {
     let Some(state) = startup else { unreachable!() };
     match state.poll_within(left) {

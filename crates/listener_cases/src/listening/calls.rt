@@ -4,17 +4,15 @@ ghost use Rattle.std.specs.Prelude.{◌≡◌};
 use crate::listening::polling::{change, fetch_many, fetch_optional, recv, try_recv};
 use crate::listening::statements::{describe, described, prepare, prepared, shown};
 use crate::listening::telling::{buffered, changed, counted, found, handed_out, received, tried};
-use pg_conn::{MemoryDial, Preparation, Query};
+use pg_conn::{Preparation, Query};
 use pg_listen::{PgPool, PoolLedger, PoolSeat};
-use pg_listeners::{ChannelChange, PgListener, PoolHolder, SeatHolder};
+use pg_listeners::{ChannelChange, ConnectionSource, Listener};
 use pg_stream::MemoryLink;
 use pg_wire::{Error, Poll, Sequence, Text};
 use std::alloc::{AllocError, Global};
 use std::sync::Wait;
 
 pub(crate) type Pool<G> = PgPool<G, MemoryLink>;
-
-pub(crate) type Listener<'p, G> = PgListener<G, &'p Pool<G>, &'p mut PoolSeat<G>, MemoryDial>;
 
 /// A call is polled so often at most.
 pub(crate) const POLLS: u32 = 8;
@@ -63,17 +61,15 @@ fn preparation(alloc: Global) -> Result<Preparation, AllocError> {
 }
 
 /// A call of a row.
-pub(crate) fn make<G, P, S, R>(
+pub(crate) fn make<B, R>(
     rt: &R,
     alloc: Global,
     out: &mut String,
-    listener: &mut PgListener<G, P, S, MemoryDial>,
+    listener: &mut Listener<B>,
     call: &str,
 ) -> Result<(), Error>
 where
-    G: PoolLedger,
-    P: PoolHolder<G, MemoryLink>,
-    S: SeatHolder<Seat = PoolSeat<G>>,
+    B: ConnectionSource<L = MemoryLink>,
     R: Wait,
 {
     match call {
@@ -109,15 +105,19 @@ fn close<G: PoolLedger, R: Wait>(
 }
 
 /// The calls of a row, but the last one where that ends the listener.
-pub(crate) fn make_all<G: PoolLedger, R: Wait>(
+pub(crate) fn make_all<G, B, R>(
     rt: &R,
     alloc: Global,
     out: &mut String,
     pool: &Pool<G>,
     other: &mut PoolSeat<G>,
-    listener: &mut Listener<'_, G>,
+    listener: &mut Listener<B>,
     calls: &str,
 ) -> Result<(), Error>
+where
+    G: PoolLedger,
+    B: ConnectionSource<L = MemoryLink>,
+    R: Wait,
     requires { other.old.name ≡ pool.now.name }
 {
     for call in calls.split(' ') {

@@ -4,8 +4,8 @@ ghost use Rattle.std.specs.Prelude.{◌≡◌};
 use crate::listening::opening::alone;
 use crate::listening::polling::{change, connect, let_go, try_recv};
 use pg_conn::{Dial, SocketDial};
-use pg_listen::{PoolLedger, PoolSeat};
-use pg_listeners::{ChannelChange, PgListener, PgNotification, PoolHolder, SeatHolder};
+use pg_listen::PoolLedger;
+use pg_listeners::{ChannelChange, ConnectionSource, Listener, PgNotification};
 use pg_wire::{Error, Poll, Text};
 use rand::rngs::SysRng;
 use std::alloc::Global;
@@ -42,13 +42,10 @@ fn tell(rt: &impl Print, answer: &Poll<Result<Option<PgNotification>, Error>>) -
     Ok(false)
 }
 
-fn hear<G, P, S, D, R>(rt: &R, listener: &mut PgListener<G, P, S, D>) -> io::Result<()>
+fn hear<B, R>(rt: &R, listener: &mut Listener<B>) -> io::Result<()>
 where
-    G: PoolLedger,
-    P: PoolHolder<G, D::L>,
-    S: SeatHolder<Seat = PoolSeat<G>>,
-    D: Dial,
-    D::L: Drop,
+    B: ConnectionSource,
+    B::L: Drop,
     R: Wait + Print,
 {
     for _ in 0..CALLS {
@@ -64,17 +61,10 @@ where
 }
 
 // Listens to this channel, and tells what it hears.
-fn hear_on<G, P, S, D, R>(
-    rt: &R,
-    listener: &mut PgListener<G, P, S, D>,
-    channel: Text,
-) -> Result<io::Result<()>, Error>
+fn hear_on<B, R>(rt: &R, listener: &mut Listener<B>, channel: Text) -> Result<io::Result<()>, Error>
 where
-    G: PoolLedger,
-    P: PoolHolder<G, D::L>,
-    S: SeatHolder<Seat = PoolSeat<G>>,
-    D: Dial,
-    D::L: Drop,
+    B: ConnectionSource,
+    B::L: Drop,
     R: Wait + Print,
 {
     match change(rt, listener, ChannelChange::Listen(channel), POLLS) {

@@ -3,11 +3,11 @@ ghost use Rattle.std.specs.Prelude.{◌≡◌, true, false, IsSome};
 ghost use Rattle.pg_listeners.specs.Listeners.{goes_on, goes_on_in};
 
 use either::Either;
-use pg_conn::{Dial, PgRow, Query};
-use pg_listen::{PoolLedger, PoolSeat, Released};
+use pg_conn::{PgRow, Query};
+use pg_listen::Released;
 use pg_listeners::{
-    ChangeChannels, ChannelChange, Connect, NotificationStream, PgListener, PgNotification,
-    PoolHolder, Release, SeatHolder,
+    Changing, ChannelChange, Connecting, ConnectionSource, Listener, NotificationStream,
+    PgNotification, Releasing,
 };
 use pg_wire::{Error, Poll};
 use std::sync::Wait;
@@ -23,17 +23,14 @@ pub(crate) fn let_go<L: Drop>(released: Option<Released<L>>) {
 }
 
 /// The listener of a start-up, or why it has no connection.
-pub(crate) fn connect<G, P, S, D, R>(
+pub(crate) fn connect<B, R>(
     rt: &R,
-    state: Connect<G, P, S, D>,
+    state: Connecting<Listener<B>>,
     polls: u32,
-) -> Result<PgListener<G, P, S, D>, Error>
+) -> Result<Listener<B>, Error>
 where
-    G: PoolLedger,
-    P: PoolHolder<G, D::L> + Drop,
-    S: SeatHolder<Seat = PoolSeat<G>> + Drop,
-    D: Dial + Drop,
-    D::L: Drop,
+    B: ConnectionSource + Drop,
+    B::L: Drop,
     R: Wait,
     requires over { state.is_over ≡ false }
     requires listener { IsSome state.listener }
@@ -52,15 +49,12 @@ where
     Err(Error::StartupPending)
 }
 
-fn begin<G, P, S, D>(
-    listener: &mut PgListener<G, P, S, D>,
+fn begin<B>(
+    listener: &mut Listener<B>,
     change: ChannelChange,
-) -> ChangeChannels<'_, G, P, S, D>
+) -> Changing<'_, Listener<B>, ChannelChange>
 where
-    G: PoolLedger,
-    P: PoolHolder<G, D::L>,
-    S: SeatHolder<Seat = PoolSeat<G>>,
-    D: Dial,
+    B: ConnectionSource,
     ensures over { result.is_over ≡ false }
     ensures goes { goes_on result.change result.listener.now.hearing ≡ true }
 {
@@ -72,18 +66,15 @@ where
     }
 }
 
-pub(crate) fn change<G, P, S, D, R>(
+pub(crate) fn change<B, R>(
     rt: &R,
-    listener: &mut PgListener<G, P, S, D>,
+    listener: &mut Listener<B>,
     change: ChannelChange,
     polls: u32,
 ) -> Poll<Result<(), Error>>
 where
-    G: PoolLedger,
-    P: PoolHolder<G, D::L>,
-    S: SeatHolder<Seat = PoolSeat<G>>,
-    D: Dial,
-    D::L: Drop,
+    B: ConnectionSource,
+    B::L: Drop,
     R: Wait,
 {
     let mut state = begin(listener, change);
@@ -96,17 +87,14 @@ where
     Poll::Pending
 }
 
-pub(crate) fn try_recv<G, P, S, D, R>(
+pub(crate) fn try_recv<B, R>(
     rt: &R,
-    listener: &mut PgListener<G, P, S, D>,
+    listener: &mut Listener<B>,
     polls: u32,
 ) -> Poll<Result<Option<PgNotification>, Error>>
 where
-    G: PoolLedger,
-    P: PoolHolder<G, D::L>,
-    S: SeatHolder<Seat = PoolSeat<G>>,
-    D: Dial,
-    D::L: Drop,
+    B: ConnectionSource,
+    B::L: Drop,
     R: Wait,
 {
     let mut state = listener.try_recv();
@@ -119,17 +107,14 @@ where
     Poll::Pending
 }
 
-pub(crate) fn recv<G, P, S, D, R>(
+pub(crate) fn recv<B, R>(
     rt: &R,
-    listener: &mut PgListener<G, P, S, D>,
+    listener: &mut Listener<B>,
     polls: u32,
 ) -> Poll<Result<PgNotification, Error>>
 where
-    G: PoolLedger,
-    P: PoolHolder<G, D::L>,
-    S: SeatHolder<Seat = PoolSeat<G>>,
-    D: Dial,
-    D::L: Drop,
+    B: ConnectionSource,
+    B::L: Drop,
     R: Wait,
 {
     let mut state = listener.recv();
@@ -143,18 +128,15 @@ where
 }
 
 /// The first row of a query.
-pub(crate) fn fetch_optional<G, P, S, D, R>(
+pub(crate) fn fetch_optional<B, R>(
     rt: &R,
-    listener: &mut PgListener<G, P, S, D>,
+    listener: &mut Listener<B>,
     query: Query,
     polls: u32,
 ) -> Poll<Result<Option<PgRow>, Error>>
 where
-    G: PoolLedger,
-    P: PoolHolder<G, D::L>,
-    S: SeatHolder<Seat = PoolSeat<G>>,
-    D: Dial,
-    D::L: Drop,
+    B: ConnectionSource,
+    B::L: Drop,
     R: Wait,
 {
     let mut state = listener.fetch_optional(query);
@@ -168,18 +150,15 @@ where
 }
 
 /// How many rows a query gives.
-pub(crate) fn fetch_many<G, P, S, D, R>(
+pub(crate) fn fetch_many<B, R>(
     rt: &R,
-    listener: &mut PgListener<G, P, S, D>,
+    listener: &mut Listener<B>,
     query: Query,
     polls: u32,
 ) -> Poll<Result<u64, Error>>
 where
-    G: PoolLedger,
-    P: PoolHolder<G, D::L>,
-    S: SeatHolder<Seat = PoolSeat<G>>,
-    D: Dial,
-    D::L: Drop,
+    B: ConnectionSource,
+    B::L: Drop,
     R: Wait,
 {
     let mut rows: u64 = 0;
@@ -200,17 +179,14 @@ where
 }
 
 /// The next notification of a stream.
-pub(crate) fn next<G, P, S, D, R>(
+pub(crate) fn next<B, R>(
     rt: &R,
-    stream: &mut NotificationStream<G, P, S, D>,
+    stream: &mut NotificationStream<B>,
     polls: u32,
 ) -> Poll<Option<Result<PgNotification, Error>>>
 where
-    G: PoolLedger,
-    P: PoolHolder<G, D::L>,
-    S: SeatHolder<Seat = PoolSeat<G>>,
-    D: Dial,
-    D::L: Drop,
+    B: ConnectionSource,
+    B::L: Drop,
     R: Wait,
 {
     for _ in 0..polls {
@@ -222,17 +198,14 @@ where
     Poll::Pending
 }
 
-fn poll_release<G, P, S, D, R>(
+fn poll_release<B, R>(
     rt: &R,
-    state: &mut Release<G, P, S, D>,
+    state: &mut Releasing<Listener<B>>,
     polls: u32,
-) -> Poll<Result<Option<Released<D::L>>, Error>>
+) -> Poll<Result<Option<Released<B::L>>, Error>>
 where
-    G: PoolLedger,
-    P: PoolHolder<G, D::L> + Drop,
-    S: SeatHolder<Seat = PoolSeat<G>> + Drop,
-    D: Dial + Drop,
-    D::L: Drop,
+    B: ConnectionSource + Drop,
+    B::L: Drop,
     R: Wait,
     requires over { state.old.is_over ≡ false }
     requires goes { goes_on_in state.old.change state.old.listener ≡ true }
@@ -247,17 +220,14 @@ where
 }
 
 /// Ends a listener by its `release`, or else lets it go.
-pub(crate) fn release<G, P, S, D, R>(
+pub(crate) fn release<B, R>(
     rt: &R,
-    listener: PgListener<G, P, S, D>,
+    listener: Listener<B>,
     polls: u32,
-) -> Poll<Result<Option<Released<D::L>>, Error>>
+) -> Poll<Result<Option<Released<B::L>>, Error>>
 where
-    G: PoolLedger,
-    P: PoolHolder<G, D::L> + Drop,
-    S: SeatHolder<Seat = PoolSeat<G>> + Drop,
-    D: Dial + Drop,
-    D::L: Drop,
+    B: ConnectionSource + Drop,
+    B::L: Drop,
     R: Wait,
 {
     let mut state = listener.release();

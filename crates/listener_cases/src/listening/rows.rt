@@ -1,13 +1,12 @@
 //! A row, over a pool of one connection.
 ghost use Rattle.std.specs.Prelude.{◌≡◌};
 
-use crate::listening::calls::{Listener, POLLS, Pool, make, make_all};
+use crate::listening::calls::{POLLS, Pool, make, make_all};
 use crate::listening::opening::{alone, dial, participant, pool};
 use crate::listening::polling::{connect, next, release};
 use crate::listening::telling::{failed, history, lost, push, released, streamed};
-use pg_conn::MemoryDial;
 use pg_listen::{PoolLedger, PoolSeat};
-use pg_listeners::{NotificationStream, PgListener, PoolHolder, SeatHolder, connect_with};
+use pg_listeners::{ConnectionSource, Listener, NotificationStream, connect_with};
 use pg_stream::MemoryLink;
 use pg_wire::{Error, Poll};
 use std::alloc::Global;
@@ -27,9 +26,11 @@ struct Row<'a> {
     links: &'a str,
 }
 
-type Stream<'p, G> = NotificationStream<G, &'p Pool<G>, &'p mut PoolSeat<G>, MemoryDial>;
-
-fn ask_stream<G: PoolLedger, R: Wait>(rt: &R, out: &mut String, stream: &mut Stream<'_, G>) {
+fn ask_stream<B, R>(rt: &R, out: &mut String, stream: &mut NotificationStream<B>)
+where
+    B: ConnectionSource<L = MemoryLink>,
+    R: Wait,
+{
     for _ in 0..NEXT {
         streamed(out, next(rt, stream, POLLS));
     }
@@ -37,14 +38,22 @@ fn ask_stream<G: PoolLedger, R: Wait>(rt: &R, out: &mut String, stream: &mut Str
 }
 
 // Ends a listener by its stream.
-fn end_by_stream<G: PoolLedger, R: Wait>(rt: &R, out: &mut String, listener: Listener<'_, G>) {
+fn end_by_stream<B, R>(rt: &R, out: &mut String, listener: Listener<B>)
+where
+    B: ConnectionSource<L = MemoryLink> + Drop,
+    R: Wait,
+{
     let mut stream = listener.into_stream();
     ask_stream(rt, out, &mut stream);
     released(out, stream.into_released(rt));
 }
 
 // Ends a listener by its `release`.
-fn end_by_release<G: PoolLedger, R: Wait>(rt: &R, out: &mut String, listener: Listener<'_, G>) {
+fn end_by_release<B, R>(rt: &R, out: &mut String, listener: Listener<B>)
+where
+    B: ConnectionSource<L = MemoryLink> + Drop,
+    R: Wait,
+{
     match release(rt, listener, POLLS) {
         Poll::Pending => push(out, " pending"),
         Poll::Ready(Ok(what)) => released(out, what),
@@ -55,7 +64,11 @@ fn end_by_release<G: PoolLedger, R: Wait>(rt: &R, out: &mut String, listener: Li
     }
 }
 
-fn end<G: PoolLedger, R: Wait>(rt: &R, out: &mut String, listener: Listener<'_, G>, calls: &str) {
+fn end<B, R>(rt: &R, out: &mut String, listener: Listener<B>, calls: &str)
+where
+    B: ConnectionSource<L = MemoryLink> + Drop,
+    R: Wait,
+{
     if calls.ends_with("stream") {
         return end_by_stream(rt, out, listener);
     }
@@ -67,15 +80,19 @@ fn end<G: PoolLedger, R: Wait>(rt: &R, out: &mut String, listener: Listener<'_, 
     }
 }
 
-fn play<G: PoolLedger, R: Wait>(
+fn play<G, B, R>(
     rt: &R,
     alloc: Global,
     out: &mut String,
     pool: &Pool<G>,
     other: &mut PoolSeat<G>,
-    begun: Result<Listener<'_, G>, Error>,
+    begun: Result<Listener<B>, Error>,
     calls: &str,
 ) -> Result<(), Error>
+where
+    G: PoolLedger,
+    B: ConnectionSource<L = MemoryLink> + Drop,
+    R: Wait,
     requires { other.old.name ≡ pool.now.name }
 {
     match begun {
@@ -116,17 +133,15 @@ fn played<G: PoolLedger, R: Wait>(
     Ok(out)
 }
 
-fn make_each<G, P, S, R>(
+fn make_each<B, R>(
     rt: &R,
     alloc: Global,
     out: &mut String,
-    listener: &mut PgListener<G, P, S, MemoryDial>,
+    listener: &mut Listener<B>,
     calls: &str,
 ) -> Result<(), Error>
 where
-    G: PoolLedger,
-    P: PoolHolder<G, MemoryLink>,
-    S: SeatHolder<Seat = PoolSeat<G>>,
+    B: ConnectionSource<L = MemoryLink>,
     R: Wait,
 {
     for call in calls.split(' ') {

@@ -3,24 +3,20 @@ ghost use Rattle.std.specs.Prelude.{◌≡◌};
 
 use crate::listening::calls::POLLS;
 use crate::listening::telling::{failed, push};
-use pg_conn::{ColumnOrigin, Dial, PgColumn, PgRow, PgStatement, Preparation};
-use pg_listen::{PoolLedger, PoolSeat};
-use pg_listeners::{Describe, PgListener, PoolHolder, SeatHolder};
+use pg_conn::{ColumnOrigin, PgColumn, PgRow, PgStatement, Preparation};
+use pg_listeners::{ConnectionSource, Describe, Listener};
 use pg_wire::{Error, Poll, Text};
 use std::sync::Wait;
 
 /// Prepares a statement.
-pub(crate) fn prepare<G, P, S, D, R>(
+pub(crate) fn prepare<B, R>(
     rt: &R,
-    listener: &mut PgListener<G, P, S, D>,
+    listener: &mut Listener<B>,
     preparation: Preparation,
 ) -> Poll<Result<PgStatement, Error>>
 where
-    G: PoolLedger,
-    P: PoolHolder<G, D::L>,
-    S: SeatHolder<Seat = PoolSeat<G>>,
-    D: Dial,
-    D::L: Drop,
+    B: ConnectionSource,
+    B::L: Drop,
     R: Wait,
 {
     let mut state = listener.prepare_with(preparation);
@@ -34,17 +30,14 @@ where
 }
 
 /// Describes a statement in full.
-pub(crate) fn describe<G, P, S, D, R>(
+pub(crate) fn describe<B, R>(
     rt: &R,
-    listener: &mut PgListener<G, P, S, D>,
+    listener: &mut Listener<B>,
     sql: Text,
 ) -> Poll<Result<Describe, Error>>
 where
-    G: PoolLedger,
-    P: PoolHolder<G, D::L>,
-    S: SeatHolder<Seat = PoolSeat<G>>,
-    D: Dial,
-    D::L: Drop,
+    B: ConnectionSource,
+    B::L: Drop,
     R: Wait,
 {
     let mut state = listener.describe(sql);

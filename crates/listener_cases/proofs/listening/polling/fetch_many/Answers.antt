@@ -10,10 +10,10 @@ loop-preserved g c =
       | in-Pending w ↦ record { over = w.in-Pending.ensures.over; querying = w.in-Pending.ensures.querying }
       | in-Ready-Some-Ok-Right w ↦ record {
         over = rw (w.in-Ready-Some-Ok-Right.field-0-is, w.in-Ready-Some-Ok-Right.field-0-0-is, w.in-Ready-Some-Ok-Right.field-0-0-0-is) at w.in-Ready-Some-Ok-Right.ensures.over;
-        querying = still_querying (kinds.Run hows.FetchMany) _ c.poll_next.new.self.request c.poll_next.new.self.listener.now.hearing (rw (w.in-Ready-Some-Ok-Right.field-0-is, w.in-Ready-Some-Ok-Right.field-0-0-is, w.in-Ready-Some-Ok-Right.field-0-0-0-is) at w.in-Ready-Some-Ok-Right.ensures.querying);
+        querying = still_querying g.B.Held.PgExecutor.conn (kinds.Run hows.FetchMany) _ c.poll_next.new.self.request c.poll_next.new.self.listener.now.hearing (rw (w.in-Ready-Some-Ok-Right.field-0-is, w.in-Ready-Some-Ok-Right.field-0-0-is, w.in-Ready-Some-Ok-Right.field-0-0-0-is) at w.in-Ready-Some-Ok-Right.ensures.querying);
       }
       | in-Ready-Some-Ok-Left w ↦ record {
         over = rw (w.in-Ready-Some-Ok-Left.field-0-is, w.in-Ready-Some-Ok-Left.field-0-0-is, w.in-Ready-Some-Ok-Left.field-0-0-0-is) at w.in-Ready-Some-Ok-Left.ensures.over;
-        querying = still_querying (kinds.Run hows.FetchMany) _ c.poll_next.new.self.request c.poll_next.new.self.listener.now.hearing (rw (w.in-Ready-Some-Ok-Left.field-0-is, w.in-Ready-Some-Ok-Left.field-0-0-is, w.in-Ready-Some-Ok-Left.field-0-0-0-is) at w.in-Ready-Some-Ok-Left.ensures.querying);
+        querying = still_querying g.B.Held.PgExecutor.conn (kinds.Run hows.FetchMany) _ c.poll_next.new.self.request c.poll_next.new.self.listener.now.hearing (rw (w.in-Ready-Some-Ok-Left.field-0-is, w.in-Ready-Some-Ok-Left.field-0-0-is, w.in-Ready-Some-Ok-Left.field-0-0-0-is) at w.in-Ready-Some-Ok-Left.ensures.querying);
       }
     ]

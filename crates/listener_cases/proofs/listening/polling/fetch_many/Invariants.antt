@@ -7,5 +7,5 @@ use Rattle.listener_cases.proofs.listening.polling.fetch_many.Given as goal
 abbrev pub invariant-loop : goal.invariant-loop
 invariant-loop g l = record {
   over : l.state.is_over ≡ false;
-  querying : IsQuerying (kinds.Run hows.FetchMany) l.state.request l.state.listener.now.hearing;
+  querying : IsQuerying g.B.Held.PgExecutor.conn (kinds.Run hows.FetchMany) l.state.request l.state.listener.now.hearing;
 }

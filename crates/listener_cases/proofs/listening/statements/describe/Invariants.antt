@@ -5,5 +5,5 @@ use Rattle.listener_cases.proofs.listening.statements.describe.Given as goal
 abbrev pub invariant-loop : goal.invariant-loop
 invariant-loop g l = record {
   over : l.state.is_over ≡ false;
-  calling : IsDescribing l.state.told l.state.request l.state.listener.now.hearing;
+  calling : IsDescribing g.B.Held.PgExecutor.conn l.state.told l.state.request l.state.listener.now.hearing;
 }

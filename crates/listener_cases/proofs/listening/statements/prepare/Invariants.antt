@@ -6,5 +6,5 @@ use Rattle.listener_cases.proofs.listening.statements.prepare.Given as goal
 abbrev pub invariant-loop : goal.invariant-loop
 invariant-loop g l = record {
   over : l.state.is_over ≡ false;
-  querying : IsQuerying kinds.Prepare l.state.request l.state.listener.now.hearing;
+  querying : IsQuerying g.B.Held.PgExecutor.conn kinds.Prepare l.state.request l.state.listener.now.hearing;
 }

@@ -10,7 +10,7 @@ returns-then-not-is_stored_first g c =
     let later : is_stored_first c.args.change ≡ false = search rules in
     let told = asked_later c.args.change c.args.self.now.listening.channels later in
     record {
-      hears = hears_nothing g.L.Link.seen _ _ (ap (λ h. heard_of g.L.Link.seen h) is);
+      hears = hears_nothing g.B.L.Link.seen _ _ (ap (λ h. heard_of g.B.L.Link.seen g.B.Held.PgExecutor.conn h) is);
       channels = ap (λ h. h.listening.channels) is ∙ sym told.0;
       next = ap (λ h. channels_at_ok h) is ∙ told.1;
       changing = ap (λ h. is_changing h) is;
@@ -25,7 +25,7 @@ returns-in-Ok g c =
     let told = stored_now c.args.change c.args.self.now.listening.channels first in
     let channels = ap (λ h. h.listening.channels) stored in
     record {
-      hears = hears_nothing g.L.Link.seen _ _ (ap (λ h. heard_of g.L.Link.seen h) is ∙ ap (λ h. heard_of g.L.Link.seen h) stored);
+      hears = hears_nothing g.B.L.Link.seen _ _ (ap (λ h. heard_of g.B.L.Link.seen g.B.Held.PgExecutor.conn h) is ∙ ap (λ h. heard_of g.B.L.Link.seen g.B.Held.PgExecutor.conn h) stored);
       channels = ap (λ h. h.listening.channels) is ∙ channels ∙ told.0;
       next = ap (λ h. channels_at_ok h) is ∙ told.1 c.make_unasked.new.self.listening.channels ∙ channels;
       changing = ap (λ h. is_changing h) is;
@@ -35,4 +35,4 @@ returns-in-Ok g c =
 pub returns-in-Err : goal.returns-in-Err
 returns-in-Err g c =
     let told = c.in-Err.ensures.err in
-    record { hears = hears_nothing g.L.Link.seen _ _ (ap (λ h. heard_of g.L.Link.seen h) told.0); channels = tt; next = tt; changing = tt; err = told }
+    record { hears = hears_nothing g.B.L.Link.seen _ _ (ap (λ h. heard_of g.B.L.Link.seen g.B.Held.PgExecutor.conn h) told.0); channels = tt; next = tt; changing = tt; err = told }

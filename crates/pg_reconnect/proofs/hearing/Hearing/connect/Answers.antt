@@ -6,12 +6,12 @@ use Rattle.pg_reconnect.proofs.hearing.Hearing.connect.Goals as goal
 
 pub returns-in-Err-clause-hears : goal.returns-in-Err-clause-hears
 returns-in-Err-clause-hears g c =
-    let seen = g.L.Link.seen in
-    let none = ap (λ h. stream_in (λ held. held.conn) seen h.listening.conn) c.self.view_is ∙ ap (λ o. stream_in (λ held. held.conn) seen o) c.requires.none in
+    let seen = g.B.L.Link.seen in
+    let none = ap (λ h. stream_in g.B.Held.PgExecutor.conn seen h.listening.conn) c.self.view_is ∙ ap (λ o. stream_in g.B.Held.PgExecutor.conn seen o) c.requires.none in
     let lost : c.keep_lost.new.lost.items ≡ c.self.inside.lost.items ++ option_to_list c.in-Err.link = search rules in
-    rw (← c.self.view_is) (hears_kept seen _ _ _ none refl lost refl refl refl)
+    rw (← c.self.view_is) (hears_kept g.B.L.Link.seen _ _ _ none refl lost refl refl refl)
 
 pub returns-in-Err-clause-fails : goal.returns-in-Err-clause-fails
 returns-in-Err-clause-fails g c =
     let lost : c.keep_lost.new.lost.items ≡ c.self.inside.lost.items ++ option_to_list c.in-Err.link = search rules in
-    rw (← c.self.view_is) (not_found g.L.Link.seen _ _ _ c.in-Err.e c.in-Err.link lost c.in-Err.ensures.none)
+    rw (← c.self.view_is) (not_found g.B.L.Link.seen g.B.Held.PgExecutor.conn _ _ _ c.in-Err.e c.in-Err.link lost c.in-Err.ensures.none)

@@ -5,16 +5,16 @@ use Rattle.pg_reconnect.proofs.HearingLaws.{hears_without}
 use Rattle.pg_reconnect.proofs.hearing.Hearing.lose.Goals as goal
 
 pub returns-in_err-save-clause-hears : goal.returns-in_err-save-clause-hears
-returns-in_err-save-clause-hears g c = rw (← c.self.view_is) (hears_without g.L.Link.seen _ _ [] refl refl refl refl c.save.ensures.hears)
+returns-in_err-save-clause-hears g c = rw (← c.self.view_is) (hears_without g.B.L.Link.seen _ _ [] refl refl refl refl c.save.ensures.hears)
 
 pub returns-in_err-save-clause-channels : goal.returns-in_err-save-clause-channels
 returns-in_err-save-clause-channels g c = rw (← c.self.view_is) c.save.ensures.channels
 
 pub returns-in-Err : goal.returns-in-Err
 returns-in-Err g c = record {
-  hears = rw (← c.self.view_is) (hears_without g.L.Link.seen _ _ [] c.reserve.ensures.items refl refl refl c.save.ensures.hears);
+  hears = rw (← c.self.view_is) (hears_without g.B.L.Link.seen _ _ [] c.reserve.ensures.items refl refl refl c.save.ensures.hears);
   channels = rw (← c.self.view_is) c.save.ensures.channels;
-  seat = refl;
+  source = refl;
   loss = rw (← c.self.view_is) refl;
   link = tt;
   lost = rw (← c.self.view_is) c.reserve.ensures.items;
@@ -25,7 +25,7 @@ returns-in-Err g c = record {
 
 pub returns : goal.returns
 returns g c =
-    let seen = g.L.Link.seen in
+    let seen = g.B.L.Link.seen in
     let saved = c.save.new.self in
     let held = c.in-Some.held in
     let rest = c.let_go.ensures.rest in
@@ -33,11 +33,11 @@ returns g c =
     let link = c.close.ensures.link in
     let lost : c.push_reserved.new.self.items ≡ c.self.inside.lost.items ++ c.close.result ∷ [] = c.push_reserved.ensures.items ∙ ap (λ l. l ++ c.close.result ∷ []) c.reserve.ensures.items in
     record {
-      hears = rw (← c.self.view_is) (hears_lose seen _ _ (buffers_by (λ h. h.conn) seen saved) saved.conn held c.close.result c.save.ensures.hears refl holds c.in_ok-save.ensures.saved link lost refl refl refl (ap (λ l. l.earlier) rest) (ap (λ l. stream_in (λ h. h.conn) seen l.conn) rest));
+      hears = rw (← c.self.view_is) (hears_lose g.B.L.Link.seen g.B.Held.PgExecutor.conn _ _ (buffers_by g.B.Held.PgExecutor.conn seen saved) saved.conn held c.close.result c.save.ensures.hears refl holds c.in_ok-save.ensures.saved link lost refl refl refl (ap (λ l. l.earlier) rest) (ap (λ l. stream_in g.B.Held.PgExecutor.conn seen l.conn) rest));
       channels = rw (← c.self.view_is) (ap (λ l. l.channels) rest ∙ c.save.ensures.channels);
-      seat = c.close.ensures.seat;
+      source = c.close.ensures.source;
       loss = rw (← c.self.view_is) refl;
-      link = rw (← c.self.view_is) (loses_held {A = g.row.L.Denot} c.self.inside.listening.conn saved.conn held c.self.inside.lost.items c.push_reserved.new.self.items c.close.result (rw (← c.self.view_is) at c.requires.held) c.save.ensures.same holds link lost);
+      link = rw (← c.self.view_is) (loses_held g.B.Held.PgExecutor.conn c.self.inside.listening.conn saved.conn held c.self.inside.lost.items c.push_reserved.new.self.items c.close.result (rw (← c.self.view_is) at c.requires.held) c.save.ensures.same holds link lost);
       lost = tt;
       startup = rw (← c.self.view_is) refl;
       ready = refl;

@@ -7,9 +7,9 @@ use Rattle.pg_reconnect.proofs.hearing.Hearing.poll_begun.Goals as goal
 
 pub returns-then-is_held : goal.returns-then-is_held
 returns-then-is_held g c = record {
-  hears = hears_nothing g.L.Link.seen _ _ refl;
+  hears = hears_nothing g.B.L.Link.seen _ _ refl;
   channels = refl;
-  seat = refl;
+  source = refl;
   loss = refl;
   left = le_refl _;
   lost = refl;
@@ -25,7 +25,7 @@ returns g c =
     record {
       hears = told.hears;
       channels = told.channels;
-      seat = told.seat;
+      source = told.source;
       loss = told.loss;
       left = told.left;
       lost = told.lost;

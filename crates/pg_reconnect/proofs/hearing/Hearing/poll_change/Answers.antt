@@ -11,17 +11,17 @@ returns-in-Some g c =
     record {
       hears = rw (← c.self.view_is) told.hears;
       changes = rw (← c.self.view_is, is) told.changes;
-      seat = told.seat;
+      source = told.source;
       left = told.left;
       loss = rw (← c.self.view_is) told.loss;
-      causes = rw (← c.self.view_is) (caused_by g.L.Link.seen _ _ _ _ _ _ _ _ c.poll_asked.result refl (hears_nothing g.L.Link.seen _ _ refl) (inl refl) (le_refl _) told.causes);
+      causes = rw (← c.self.view_is) (caused_by g.B.L.Link.seen g.B.Held.PgExecutor.conn g.B.Held.PgExecutor.with_conn g.B.ConnectionSource.filling _ _ _ _ _ _ _ _ c.poll_asked.result refl (hears_nothing g.B.L.Link.seen _ _ refl) (inl refl) (le_refl _) told.causes);
     }
 
 pub returns-in-None-clause-hears : goal.returns-in-None-clause-hears
-returns-in-None-clause-hears g c = rw (← c.self.view_is) (hears_without g.L.Link.seen _ _ [] refl refl refl refl c.poll_change.ensures.hears)
+returns-in-None-clause-hears g c = rw (← c.self.view_is) (hears_without g.B.L.Link.seen _ _ [] refl refl refl refl c.poll_change.ensures.hears)
 
-pub returns-in-None-clause-seat : goal.returns-in-None-clause-seat
-returns-in-None-clause-seat g c = refl
+pub returns-in-None-clause-source : goal.returns-in-None-clause-source
+returns-in-None-clause-source g c = refl
 
 pub returns-in-None-clause-left : goal.returns-in-None-clause-left
 returns-in-None-clause-left g c = c.poll_change.ensures.left
@@ -30,4 +30,4 @@ pub returns-in-None-clause-loss : goal.returns-in-None-clause-loss
 returns-in-None-clause-loss g c = rw (← c.self.view_is) refl
 
 pub returns-in-None-clause-causes : goal.returns-in-None-clause-causes
-returns-in-None-clause-causes g c = rw (← c.self.view_is) (caused_beside g.L.Link.seen _ _ _ _ _ c.poll_change.result refl (caused_statement g.L.Link.seen _ _ _ _ c.poll_change.result c.poll_change.ensures.apart c.poll_change.ensures.polls))
+returns-in-None-clause-causes g c = rw (← c.self.view_is) (caused_beside g.B.L.Link.seen g.B.Held.PgExecutor.conn g.B.Held.PgExecutor.with_conn g.B.ConnectionSource.filling _ _ _ _ _ c.poll_change.result refl (caused_statement g.B.L.Link.seen g.B.Held.PgExecutor.conn g.B.Held.PgExecutor.with_conn g.B.ConnectionSource.filling _ _ _ _ c.poll_change.result c.poll_change.ensures.apart c.poll_change.ensures.polls))

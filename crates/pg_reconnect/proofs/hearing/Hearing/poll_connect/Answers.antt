@@ -6,17 +6,16 @@ use Rattle.pg_reconnect.proofs.hearing.Hearing.poll_connect.Goals as goal
 pub returns-in-Pending : goal.returns-in-Pending
 returns-in-Pending g c =
     let told = c.in-Pending.ensures in
-    record { hears = told.hears; channels = told.channels; seat = told.seat; loss = told.loss; left = told.left; held = tt; startup = tt; causes = told.causes }
+    record { hears = told.hears; channels = told.channels; source = told.source; loss = told.loss; left = told.left; held = tt; startup = tt; causes = told.causes }
 
 pub returns-in-Ready-Err : goal.returns-in-Ready-Err
 returns-in-Ready-Err g c =
     let told = c.in-Ready-Err.ensures in
     let causes = rw c.in-Ready-Err.field-0-is at told.causes in
-    record { hears = told.hears; channels = told.channels; seat = told.seat; loss = told.loss; left = told.left; held = tt; startup = tt; causes = causes }
+    record { hears = told.hears; channels = told.channels; source = told.source; loss = told.loss; left = told.left; held = tt; startup = tt; causes = causes }
 
 pub returns-in-Ready-Ok : goal.returns-in-Ready-Ok
 returns-in-Ready-Ok g c =
-    let seen = g.L.Link.seen in
     let a = c.args.self.now in
     let view = c.self.view_is in
     let told = c.in-Ready-Ok.ensures in
@@ -24,12 +23,12 @@ returns-in-Ready-Ok g c =
     let startup = rw c.in-Ready-Ok.field-0-is at told.startup in
     let causes = rw c.in-Ready-Ok.field-0-is at told.causes in
     record {
-      hears = subst (λ (h : HearingOf _). HearsBy seen a h []) (sym view) told.hears;
+      hears = subst (λ (h : HearingOf _ _ _). HearsBy g.B.L.Link.seen g.B.Held.PgExecutor.conn a h []) (sym view) told.hears;
       channels = ap (λ h. h.listening.channels) view ∙ told.channels;
-      seat = told.seat;
+      source = told.source;
       loss = ap (λ h. h.is_lost) view ∙ told.loss;
       left = told.left;
-      held = subst (λ (h : HearingOf _). IsSome h.listening.conn) (sym view) held;
-      startup = subst (λ (h : HearingOf _). StartsFrom seen a.startup h.startup) (sym view) startup;
+      held = subst (λ (h : HearingOf _ _ _). IsSome h.listening.conn) (sym view) held;
+      startup = subst (λ (h : HearingOf _ _ _). StartsFrom g.B.L.Link.seen g.B.ConnectionSource.filling a.startup h.startup) (sym view) startup;
       causes = causes;
     }

@@ -15,7 +15,7 @@ pub returns-in-Ok : goal.returns-in-Ok
 returns-in-Ok g c =
     let is = c.in-Ok.ensures.ok in
     record {
-      hears = hears_nothing g.L.Link.seen _ _ (ap (λ h. heard_of g.L.Link.seen h) is);
+      hears = hears_nothing g.B.L.Link.seen _ _ (ap (λ h. heard_of g.B.L.Link.seen g.B.Held.PgExecutor.conn h) is);
       changes = ap (λ h. h.listening.channels) is ∙ sym (stored_changed c.args.change.now c.args.self.now.listening.channels c.requires.fewer);
       left = le_refl _;
       loss = ap (λ h. h.is_lost) is;
@@ -26,9 +26,9 @@ pub returns-in-Err : goal.returns-in-Err
 returns-in-Err g c =
     let told = c.in-Err.ensures.err in
     record {
-      hears = hears_nothing g.L.Link.seen _ _ (ap (λ h. heard_of g.L.Link.seen h) told.0);
+      hears = hears_nothing g.B.L.Link.seen _ _ (ap (λ h. heard_of g.B.L.Link.seen g.B.Held.PgExecutor.conn h) told.0);
       changes = ap (λ h. h.listening.channels) told.0;
       left = le_refl _;
       loss = ap (λ h. h.is_lost) told.0;
-      causes = memory_fails g.L.Link.seen _ _ _ _ c.in-Err.e (wanting c.in-Err.e _ refl told);
+      causes = memory_fails g.B.L.Link.seen g.B.Held.PgExecutor.conn g.B.Held.PgExecutor.with_conn g.B.ConnectionSource.filling _ _ _ _ c.in-Err.e (wanting c.in-Err.e _ refl told);
     }

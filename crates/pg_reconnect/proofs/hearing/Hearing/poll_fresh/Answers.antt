@@ -12,9 +12,9 @@ returns-in-Some g c =
     record {
       hears = told.hears;
       channels = told.channels;
-      seat = refl;
+      source = refl;
       left = le_refl _;
-      loss = untold_same g.L.Link.seen c.args.self.now c.next_buffered.new.self told.loss;
+      loss = untold_same g.B.L.Link.seen g.B.Held.PgExecutor.conn c.args.self.now c.next_buffered.new.self told.loss;
       oldest = gives_first _ _ c.in-Some.notification told.oldest;
       startup = inl told.startup;
       again = tt;
@@ -24,7 +24,6 @@ returns-in-Some g c =
 
 pub returns-in-None : goal.returns-in-None
 returns-in-None g c =
-    let seen = g.L.Link.seen in
     let a = c.args.self.now in
     let m = c.next_buffered.new.self in
     let b = c.poll_unbuffered.new.self in
@@ -32,14 +31,14 @@ returns-in-None g c =
     let told = c.poll_unbuffered.ensures in
     let answer = c.poll_unbuffered.result in
     record {
-      hears = hears_same seen _ _ _ _ same told.hears;
+      hears = hears_same g.B.L.Link.seen g.B.Held.PgExecutor.conn _ _ _ _ same told.hears;
       channels = told.channels ∙ ap (λ h. h.listening.channels) same;
-      seat = told.seat;
+      source = told.source;
       left = told.left;
-      loss = tells_same seen a m b answer same told.loss;
+      loss = tells_same g.B.L.Link.seen g.B.Held.PgExecutor.conn a m b answer same told.loss;
       oldest = gives_none _ answer (c.in-None.ensures.empty refl);
-      startup = subst (λ (h : HearingOf _). OnReady answer (StartsFrom seen h.startup b.startup)) same told.startup;
-      again = subst (λ (h : HearingOf _). OnNone answer (h.is_eager ≡ true → ListensAgain seen h.listening.channels b)) same told.again;
-      causes = caused_same seen _ _ _ a m b answer same told.causes;
+      startup = subst (λ (h : HearingOf _ _ _). OnReady answer (StartsFrom g.B.L.Link.seen g.B.ConnectionSource.filling h.startup b.startup)) same told.startup;
+      again = subst (λ (h : HearingOf _ _ _). OnNone answer (h.is_eager ≡ true → ListensAgain g.B.L.Link.seen g.B.Held.PgExecutor.conn g.B.Held.PgExecutor.with_conn h.listening.channels b)) same told.again;
+      causes = caused_same g.B.L.Link.seen g.B.Held.PgExecutor.conn g.B.Held.PgExecutor.with_conn g.B.ConnectionSource.filling _ _ _ a m b answer same told.causes;
       asks = λ _ e. told.asks (ap (λ h. h.ignores_close) same ∙ e);
     }

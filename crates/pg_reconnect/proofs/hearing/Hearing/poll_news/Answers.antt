@@ -14,17 +14,16 @@ use Rattle.pg_reconnect.proofs.hearing.Hearing.poll_news.Goals as goal
 pub returns-in-Pending : goal.returns-in-Pending
 returns-in-Pending g c =
     let told = c.in-Pending.ensures in
-    record { hears = told.hears; channels = told.channels; seat = refl; left = told.left; loss = untold_same g.L.Link.seen c.args.self.now c.wait.new.self told.loss; startup = tt; again = tt; causes = told.causes }
+    record { hears = told.hears; channels = told.channels; source = refl; left = told.left; loss = untold_same g.B.L.Link.seen g.B.Held.PgExecutor.conn c.args.self.now c.wait.new.self told.loss; startup = tt; again = tt; causes = told.causes }
 
 pub returns-in-Ready-Ok : goal.returns-in-Ready-Ok
 returns-in-Ready-Ok g c =
     let told = c.in-Ready-Ok.ensures in
     let hears = rw c.in-Ready-Ok.field-0-is at told.hears in
-    record { hears = hears; channels = told.channels; seat = refl; left = told.left; loss = untold_same g.L.Link.seen c.args.self.now c.wait.new.self told.loss; startup = inl told.startup; again = tt; causes = refl }
+    record { hears = hears; channels = told.channels; source = refl; left = told.left; loss = untold_same g.B.L.Link.seen g.B.Held.PgExecutor.conn c.args.self.now c.wait.new.self told.loss; startup = inl told.startup; again = tt; causes = refl }
 
 pub returns-in-Ready-Err-Io : goal.returns-in-Ready-Err-Io
 returns-in-Ready-Err-Io g c =
-    let seen = g.L.Link.seen in
     let a = c.args.self.now in
     let m = c.wait.new.self in
     let b = c.poll_lost.new.self in
@@ -32,16 +31,16 @@ returns-in-Ready-Err-Io g c =
     let told = c.poll_lost.ensures in
     let fails = rw (c.in-Ready-Err-Io.field-0-is, c.in-Ready-Err-Io.field-0-0-is) at first.fails in
     let none : given (Ready c.in-Ready-Err-Io.field-0) ≡ [] = ap (λ answer. given (Ready answer)) c.in-Ready-Err-Io.field-0-is in
-    let hears = subst (λ (gave : List Notification). HearsBy seen a m gave) none first.hears in
+    let hears = subst (λ (gave : List Notification). HearsBy g.B.L.Link.seen g.B.Held.PgExecutor.conn a m gave) none first.hears in
     record {
-      hears = hears_behind seen _ _ _ _ hears told.hears;
+      hears = hears_behind g.B.L.Link.seen _ _ _ _ hears told.hears;
       channels = told.channels ∙ first.channels;
-      seat = told.seat;
+      source = told.source;
       left = le_trans told.left first.left;
-      loss = tells_failed seen a m b End c.poll_lost.result c.requires.held first.lost first.loss told.loss fails;
-      startup = starts_behind seen _ _ _ c.poll_lost.result (inl first.startup) told.startup;
-      again = again_from seen a m b c.poll_lost.result hears.settings.0 first.channels told.again;
-      causes = caused_by seen _ _ _ _ _ a m b c.poll_lost.result refl hears (inl first.startup) first.left told.causes;
+      loss = tells_failed g.B.L.Link.seen g.B.Held.PgExecutor.conn a m b End c.poll_lost.result c.requires.held first.lost first.loss told.loss fails;
+      startup = starts_behind g.B.L.Link.seen g.B.ConnectionSource.filling _ _ _ c.poll_lost.result (inl first.startup) told.startup;
+      again = again_from g.B.L.Link.seen g.B.Held.PgExecutor.conn g.B.Held.PgExecutor.with_conn a m b c.poll_lost.result hears.settings.0 first.channels told.again;
+      causes = caused_by g.B.L.Link.seen g.B.Held.PgExecutor.conn g.B.Held.PgExecutor.with_conn g.B.ConnectionSource.filling _ _ _ _ _ a m b c.poll_lost.result refl hears (inl first.startup) first.left told.causes;
     }
 
 pub returns-in-Ready-Err : goal.returns-in-Ready-Err
@@ -49,4 +48,4 @@ returns-in-Ready-Err g c =
     let told = c.in-Ready-Err.ensures in
     let hears = rw c.in-Ready-Err.field-0-is at told.hears in
     let causes = rw c.in-Ready-Err.field-0-is at told.causes in
-    record { hears = hears; channels = told.channels; seat = refl; left = told.left; loss = untold_same g.L.Link.seen c.args.self.now c.wait.new.self told.loss; startup = tt; again = tt; causes = inl causes }
+    record { hears = hears; channels = told.channels; source = refl; left = told.left; loss = untold_same g.B.L.Link.seen g.B.Held.PgExecutor.conn c.args.self.now c.wait.new.self told.loss; startup = tt; again = tt; causes = inl causes }

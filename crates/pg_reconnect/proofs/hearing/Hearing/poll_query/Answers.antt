@@ -5,7 +5,7 @@ use Rattle.pg_reconnect.proofs.QueryingLaws.{notes_apart, notes_queried, polled_
 use Rattle.pg_reconnect.proofs.hearing.Hearing.poll_query.Goals as goal
 
 pub poll_running-requires-clause-calling : goal.poll_running-requires-clause-calling
-poll_running-requires-clause-calling g c = (c.requires.querying.0, subst (λ (r : Option Request). IsQuerying c.requires.querying.0 r c.args.self.now) c.in-None.is c.requires.querying.1)
+poll_running-requires-clause-calling g c = (c.requires.querying.0, subst (λ (r : Option Request). IsQuerying g.B.Held.PgExecutor.conn c.requires.querying.0 r c.args.self.now) c.in-None.is c.requires.querying.1)
 
 pub returns-in-Some : goal.returns-in-Some
 returns-in-Some g c =
@@ -13,11 +13,11 @@ returns-in-Some g c =
     record {
       hears = told.hears;
       channels = told.channels;
-      seat = told.seat;
+      source = told.source;
       loss = told.loss;
       left = told.left;
       queries = rw c.in-Some.is told.queries;
-      closed = notes_queried g.L.Link.seen _ _ _ _ _ _ _ c.poll_unasked.result.0 told.queries;
+      closed = notes_queried g.B.L.Link.seen g.B.Held.PgExecutor.conn g.B.Held.PgExecutor.with_conn g.B.ConnectionSource.filling _ _ _ _ _ _ _ c.poll_unasked.result.0 told.queries;
     }
 
 pub returns-in-None : goal.returns-in-None
@@ -26,9 +26,9 @@ returns-in-None g c =
     record {
       hears = told.hears;
       channels = told.channels;
-      seat = refl;
+      source = refl;
       loss = told.loss;
       left = told.left;
-      queries = rw c.in-None.is (polled_on g.L.Link.seen _ _ _ c.args.self.now c.poll_running.new.self c.poll_running.result told.polls told.apart);
+      queries = rw c.in-None.is (polled_on g.B.L.Link.seen g.B.Held.PgExecutor.conn g.B.Held.PgExecutor.with_conn g.B.ConnectionSource.filling _ _ _ c.args.self.now c.poll_running.new.self c.poll_running.result told.polls told.apart);
       closed = notes_apart _ _ _ c.poll_running.result told.apart;
     }

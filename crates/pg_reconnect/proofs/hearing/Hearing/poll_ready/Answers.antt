@@ -8,9 +8,9 @@ use Rattle.pg_reconnect.proofs.hearing.Hearing.poll_ready.Goals as goal
 
 pub returns-then-self : goal.returns-then-self
 returns-then-self g c = record {
-  hears = hears_nothing g.L.Link.seen _ _ refl;
+  hears = hears_nothing g.B.L.Link.seen _ _ refl;
   channels = refl;
-  seat = refl;
+  source = refl;
   loss = refl;
   left = le_refl _;
   lost = refl;
@@ -26,70 +26,67 @@ returns-in-Err g c =
     record {
       hears = told.hears;
       channels = told.channels;
-      seat = refl;
+      source = refl;
       loss = told.loss;
       left = le_refl _;
       lost = tt;
       held = tt;
       startup = tt;
       ready = tt;
-      causes = memory_fails g.L.Link.seen _ _ _ _ c.in-Err.e told.memory;
+      causes = memory_fails g.B.L.Link.seen g.B.Held.PgExecutor.conn g.B.Held.PgExecutor.with_conn g.B.ConnectionSource.filling _ _ _ _ c.in-Err.e told.memory;
     }
 
 pub returns-in-Pending : goal.returns-in-Pending
 returns-in-Pending g c =
-    let seen = g.L.Link.seen in
     let first = c.ask_again.ensures in
     let told = c.in-Pending.ensures in
     record {
-      hears = hears_behind seen _ _ _ _ first.hears told.hears;
+      hears = hears_behind g.B.L.Link.seen _ _ _ _ first.hears told.hears;
       channels = told.channels ∙ first.channels;
-      seat = refl;
+      source = refl;
       loss = told.loss ∙ first.loss;
       left = told.left;
       lost = tt;
       held = tt;
       startup = tt;
       ready = tt;
-      causes = waits_then seen _ _ _ _ _ _ _ first.hears (inl first.startup) (le_refl _) refl refl (again_waits seen c.args.left.now c.poll_again.new.left c.ask_again.new.self c.poll_again.new.self told.polls);
+      causes = waits_then g.B.L.Link.seen g.B.Held.PgExecutor.conn g.B.ConnectionSource.filling _ _ _ _ _ _ _ first.hears (inl first.startup) (le_refl _) refl refl (again_waits g.B.L.Link.seen g.B.Held.PgExecutor.conn g.B.ConnectionSource.filling c.args.left.now c.poll_again.new.left c.ask_again.new.self c.poll_again.new.self told.polls);
     }
 
 pub returns-in-Ready-Ok : goal.returns-in-Ready-Ok
 returns-in-Ready-Ok g c =
-    let seen = g.L.Link.seen in
     let first = c.ask_again.ensures in
     let told = c.in-Ready-Ok.ensures in
     let polls = rw c.in-Ready-Ok.field-0-is at told.polls in
     record {
-      hears = hears_behind seen _ _ _ _ first.hears told.hears;
+      hears = hears_behind g.B.L.Link.seen _ _ _ _ first.hears told.hears;
       channels = told.channels ∙ first.channels;
-      seat = refl;
+      source = refl;
       loss = told.loss ∙ first.loss;
       left = told.left;
       lost = told.lost ∙ first.lost;
       held = told.held;
       startup = told.startup ∙ first.startup;
-      ready = again_readies seen _ _ c.ask_again.new.self _ c.in-Ok.ensures.starts polls;
+      ready = again_readies g.B.L.Link.seen g.B.Held.PgExecutor.conn g.B.Held.PgExecutor.with_conn _ _ c.ask_again.new.self _ c.in-Ok.ensures.starts polls;
       causes = tt;
     }
 
 pub returns-in-Ready-Err : goal.returns-in-Ready-Err
 returns-in-Ready-Err g c =
-    let seen = g.L.Link.seen in
     let first = c.ask_again.ensures in
     let told = c.in-Ready-Err.ensures in
     let last = c.fail.ensures in
     let apart = rw c.in-Ready-Err.field-0-is at told.apart in
     let polls = rw c.in-Ready-Err.field-0-is at told.polls in
     record {
-      hears = hears_behind seen _ _ _ _ first.hears (hears_behind seen _ _ _ _ told.hears last.hears);
+      hears = hears_behind g.B.L.Link.seen _ _ _ _ first.hears (hears_behind g.B.L.Link.seen _ _ _ _ told.hears last.hears);
       channels = last.channels ∙ told.channels ∙ first.channels;
-      seat = last.seat;
+      source = last.source;
       loss = last.loss ∙ told.loss ∙ first.loss;
       left = told.left;
       lost = tt;
       held = tt;
       startup = tt;
       ready = tt;
-      causes = listen_fails seen _ _ _ c.ask_again.new.self c.poll_again.new.self _ c.in-Ready-Err.e c.fail.result c.in-Ok.ensures.starts apart polls last.fails;
+      causes = listen_fails g.B.L.Link.seen g.B.Held.PgExecutor.conn g.B.Held.PgExecutor.with_conn g.B.ConnectionSource.filling _ _ _ c.ask_again.new.self c.poll_again.new.self _ c.in-Ready-Err.e c.fail.result c.in-Ok.ensures.starts apart polls last.fails;
     }

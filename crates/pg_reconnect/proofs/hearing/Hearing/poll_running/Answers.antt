@@ -6,7 +6,7 @@ pub returns : goal.returns
 returns g c =
     let told = c.poll_call.ensures in
     record {
-      hears = rw (← c.self.view_is) (hears_without g.L.Link.seen _ _ [] refl refl refl refl told.hears);
+      hears = rw (← c.self.view_is) (hears_without g.B.L.Link.seen _ _ [] refl refl refl refl told.hears);
       channels = rw (← c.self.view_is) told.channels;
       loss = rw (← c.self.view_is) refl;
       left = told.left;

@@ -2,4 +2,4 @@ use Rattle.pg_reconnect.proofs.FailingLaws.{refused_by}
 use Rattle.pg_reconnect.proofs.hearing.Hearing.refuse_closed.Goals as goal
 
 pub returns-clause-refuses : goal.returns-clause-refuses
-returns-clause-refuses g c = refused_by _ _ c.args.seat.now _ c.refuse_closed.result c.refuse_closed.ensures.closed
+returns-clause-refuses g c = refused_by _ _ _ _ c.refuse_closed.result c.refuse_closed.ensures.closed

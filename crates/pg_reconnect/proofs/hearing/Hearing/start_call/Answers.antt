@@ -7,7 +7,7 @@ returns g c =
     let told = c.start.ensures in
     record {
       starts = rw (← c.self.view_is) told.starts;
-      hears = rw (← c.self.view_is) (hears_without g.L.Link.seen _ _ [] refl refl refl refl told.hears);
+      hears = rw (← c.self.view_is) (hears_without g.B.L.Link.seen _ _ [] refl refl refl refl told.hears);
       channels = rw (← c.self.view_is) told.channels;
       loss = rw (← c.self.view_is) refl;
     }

@@ -11,22 +11,22 @@ returns g c =
     let told = c.poll_within.ensures in
     let lost = c.reserve.ensures.items in
     record {
-      hears = rw (← c.self.view_is) (hears_without g.L.Link.seen _ _ _ lost refl refl refl told.hears);
+      hears = rw (← c.self.view_is) (hears_without g.B.L.Link.seen _ _ _ lost refl refl refl told.hears);
       channels = rw (← c.self.view_is) told.channels;
       left = told.left;
       fails = rw (← c.self.view_is) told.fails;
-      held = stays_some {A = g.row.L.Denot} c.self.inside.listening.conn c.poll_within.new.self.conn told.holder (rw (← c.self.view_is) at c.requires.held);
+      held = stays_some g.B.Held.PgExecutor.conn g.B.Held.PgExecutor.with_conn c.self.inside.listening.conn c.poll_within.new.self.conn told.holder (rw (← c.self.view_is) at c.requires.held);
       lost = rw (← c.self.view_is) lost;
       loss = rw (← c.self.view_is) refl;
       startup = rw (← c.self.view_is) refl;
-      causes = rw (← c.self.view_is) (caused_news g.L.Link.seen _ _ _ _ c.poll_within.result told.oldest told.polls);
+      causes = rw (← c.self.view_is) (caused_news g.B.L.Link.seen g.B.Held.PgExecutor.conn g.B.Held.PgExecutor.with_conn g.B.ConnectionSource.filling _ _ _ _ c.poll_within.result told.oldest told.polls);
     }
 
 pub returns-in-Err : goal.returns-in-Err
 returns-in-Err g c =
     let lost = c.reserve.ensures.items in
     record {
-      hears = rw (← c.self.view_is) (hears_without g.L.Link.seen _ _ [] lost refl refl refl (hears_none _));
+      hears = rw (← c.self.view_is) (hears_without g.B.L.Link.seen _ _ [] lost refl refl refl (hears_none _));
       channels = rw (← c.self.view_is) refl;
       left = le_refl _;
       fails = tt;
@@ -34,5 +34,5 @@ returns-in-Err g c =
       lost = rw (← c.self.view_is) lost;
       loss = rw (← c.self.view_is) refl;
       startup = rw (← c.self.view_is) refl;
-      causes = rw (← c.self.view_is) (memory_fails g.L.Link.seen _ _ _ _ _ refl);
+      causes = rw (← c.self.view_is) (memory_fails g.B.L.Link.seen g.B.Held.PgExecutor.conn g.B.Held.PgExecutor.with_conn g.B.ConnectionSource.filling _ _ _ _ _ refl);
     }

@@ -1,0 +1,18 @@
+use Rattle.std.proofs.Common.{Option, subst}
+use Rattle.pg_call.specs.declared.request.Request.{Request}
+use Rattle.pg_reconnect.specs.Failing.{beside_of}
+use Rattle.pg_reconnect.specs.Querying.{Queries}
+use Rattle.pg_listeners.proofs.listener.Listener.poll_query.Goals as goal
+
+pub returns : goal.returns
+returns g c =
+    let told = c.poll_query-answer.ensures in
+    let asked = c.take-asked.ensures.value in
+    record {
+      hears = rw (← c.self.view_is) told.hears;
+      channels = rw (← c.self.view_is) told.channels;
+      source = rw (← c.self.view_is) told.source;
+      left = told.left;
+      queries = rw (← c.self.view_is) (rw asked at told.queries);
+      closed = rw (← c.self.view_is) told.closed;
+    }
