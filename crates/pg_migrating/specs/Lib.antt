@@ -1,5 +1,6 @@
 pub mod Calls
 pub mod Requests
+pub mod Demands
 pub mod Asking
 pub mod Answers
 pub mod Courses

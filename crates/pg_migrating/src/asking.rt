@@ -8,13 +8,14 @@ ghost use Rattle.pg_conn.specs.Connections.{ConnOf};
 ghost use Rattle.pg_conn.specs.States.{PollFits};
 ghost use Rattle.pg_migrating.specs.Asking.{CallsFor, CallsQuietly, EndsAs, IsEnd, StandsAt, StaysQuiet, Tells, TellsEnd, asked_by, is_asked, left_of, refusal};
 
+use crate::demand::Demand;
 use crate::holding;
-use pg_call::{Request, Turn};
+use pg_call::Turn;
 use pg_guards::PgExecutor;
 use pg_wire::{Error, Poll};
 
 /// What a call asks, or why there is no request for that.
-pub type Question = Result<Request, Error>;
+pub type Question = Result<Demand, Error>;
 
 /// A call on what is held, which does nothing before its first poll. Its question is a parameter, since what doesn't look at it is cheaper to prove so.
 pub(crate) struct Asking<C: PgExecutor, Q> {
@@ -79,8 +80,8 @@ impl<C: PgExecutor> Asking<C, Question> {
     {
         match self.question.take() {
             None => Ok(()),
-            Some(Ok(request)) => {
-                holding::start(&mut self.conn, request);
+            Some(Ok(demand)) => {
+                holding::start(&mut self.conn, demand.into_request());
                 Ok(())
             }
             Some(Err(e)) => {

@@ -6,10 +6,10 @@ ghost use Rattle.pg_migrating.specs.Courses.{ends_work, first_step, is_open_at, 
 ghost use Rattle.pg_migrating.specs.Requests.{IsRequestOf};
 
 use crate::binding::{none, time, version_of, with_int8};
+use crate::demand::Demand;
 use crate::requests::{insert_row, named, script};
 use crate::texts::Wording;
-use pg_call::{How, Request};
-use pg_conn::commit_request;
+use pg_call::How;
 use pg_migrate::Migration;
 use pg_wire::Error;
 use std::alloc::Global;
@@ -116,7 +116,7 @@ impl Work<'_> {
     }
 
     // What adds the migration's row, or takes it away.
-    fn row(&self, alloc: Global) -> Result<Request, Error>
+    fn row(&self, alloc: Global) -> Result<Demand, Error>
         ensures { IsRequestOf hows.Execute 0 (row_at self.now) result }
     {
         match self.way {
@@ -135,14 +135,14 @@ impl Work<'_> {
         step: Step,
         depth: u64,
         nanos: u64,
-    ) -> Result<Request, Error>
+    ) -> Result<Demand, Error>
         ensures { IsRequestOf hows.Execute depth (statement_at self.now nanos step) result }
     {
         match step {
-            Step::Begin => Ok(Request::Begin(depth)),
+            Step::Begin => Ok(Demand::begin(depth)),
             Step::Script => script(alloc, self.migration.sql.as_str()),
             Step::Row => self.row(alloc),
-            Step::Commit => Ok(commit_request(depth)),
+            Step::Commit => Ok(Demand::commit(depth)),
             Step::Time => {
                 let time = time(alloc, self.migration, nanos);
                 named(alloc, How::Execute, Wording::UpdateTime, self.table, time)

@@ -8,16 +8,17 @@ ghost use Rattle.pg_migrating.specs.Requests.{IsRequestOf};
 ghost use Rattle.pg_migrating.specs.Errands.{how_of, statement_of};
 
 use crate::binding::{none, with_text};
+use crate::demand::Demand;
 use crate::errand::Task;
 use crate::requests::{named_script, owned_script, prepared};
 use crate::texts::Wording;
-use pg_call::{How, Request};
+use pg_call::How;
 use pg_migrate::{database_exists_text, put_terminate, version_text};
 use pg_wire::Error;
 use std::alloc::Global;
 
 /// The request of a task on this database.
-pub(crate) fn request(alloc: Global, task: Task, database: &str) -> Result<Request, Error>
+pub(crate) fn request(alloc: Global, task: Task, database: &str) -> Result<Demand, Error>
     ensures { IsRequestOf (how_of task) 0 (statement_of task database.now) result }
 {
     match task {
@@ -32,7 +33,7 @@ pub(crate) fn request(alloc: Global, task: Task, database: &str) -> Result<Reque
 }
 
 /// What ends all other sessions on a database, at a server of this version.
-pub(crate) fn terminate(alloc: Global, version: u32, database: &str) -> Result<Request, Error>
+pub(crate) fn terminate(alloc: Global, version: u32, database: &str) -> Result<Demand, Error>
     ensures { IsRequestOf hows.Execute 0 (Script (terminate_text version database.now)) result }
 {
     let mut sql = String::new(alloc);

@@ -4,8 +4,8 @@ ghost use Rattle.std.specs.Prelude.{◌≡◌, IfOk, IfErr};
 ghost use Rattle.pg_migrating.specs.Errands.{AsksAt, AsksOf, IsErrand, RefusesErrand};
 
 use crate::database_requests::request;
+use crate::demand::Demand;
 use crate::names::{database_of, maintenance};
-use pg_call::Request;
 use pg_options::{PgConnectOptions, PgSettings};
 use pg_wire::Error;
 use std::alloc::Global;
@@ -22,7 +22,7 @@ pub(crate) enum Task {
 /// Where a session is opened, and what is asked there.
 pub struct Errand {
     pub(crate) options: PgConnectOptions,
-    pub(crate) request: Request,
+    pub(crate) request: Demand,
 }
 
 // By hand, so that whoever lets one go makes one call.
@@ -37,7 +37,7 @@ impl Drop for Errand {
 
 impl Errand {
     /// What is asked.
-    pub(crate) fn into_request(self) -> Request
+    pub(crate) fn into_demand(self) -> Demand
         ensures { result ≡ self.request }
     {
         let Errand { options, request } = self;

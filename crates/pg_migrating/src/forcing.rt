@@ -15,13 +15,14 @@ ghost use Rattle.pg_migrating.specs.declared.forcing.Forcing as declared_forcing
 ghost use Rattle.pg_migrating.specs.declared.forcing.ForceStep.TheVariants as steps;
 
 use crate::database_requests::terminate;
+use crate::demand::Demand;
 use crate::errand::{Errand, Task, errand_at};
 use crate::names::database_of;
 use crate::opening::Sessions;
 use crate::reading::Reading;
 use crate::session::{SessionOf, poll, session_for};
 use crate::statement::Done;
-use pg_call::{Request, Turn};
+use pg_call::Turn;
 use pg_options::{PgConnectOptions, PgSettings};
 use pg_rows::PgRow;
 use pg_wire::{Error, Poll, Text};
@@ -114,7 +115,7 @@ fn version_in(alloc: Global, row: &PgRow) -> Result<u32, Error>
 }
 
 // What ends the other sessions, by the version in a row.
-fn terminate_by(alloc: Global, row: &PgRow, database: &str) -> Result<Request, Error>
+fn terminate_by(alloc: Global, row: &PgRow, database: &str) -> Result<Demand, Error>
     ensures ok { IfOk result (Terminating database.now (answers.OneRow (Some row.now))) }
     ensures err { IfErr result (HidesNumber row.now) }
 {
@@ -125,7 +126,7 @@ fn terminate_by(alloc: Global, row: &PgRow, database: &str) -> Result<Request, E
 }
 
 // The same by what the server has told.
-fn terminating(alloc: Global, turn: Turn, database: &str) -> Result<Request, Error>
+fn terminating(alloc: Global, turn: Turn, database: &str) -> Result<Demand, Error>
     requires { TurnFits (kinds.Run hows.FetchOne) turn }
     ensures { EndsBy (Terminating database.now) HidesVersion turn result }
 {
@@ -216,8 +217,8 @@ impl<'d, D: Sessions> ForceDropDatabase<'d, D> {
         match poll(self.alloc, &mut self.session, self.dial, left) {
             Poll::Pending => Some(Poll::Pending),
             Poll::Ready(turn) => match terminating(self.alloc, turn, self.database.as_str()) {
-                Ok(request) => {
-                    self.session.ask(request);
+                Ok(demand) => {
+                    self.session.ask(demand);
                     self.step = ForceStep::Terminate;
                     None
                 }

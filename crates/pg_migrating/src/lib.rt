@@ -10,6 +10,7 @@ mod course;
 mod database_requests;
 mod database_statement;
 mod databases;
+mod demand;
 mod dirty_version;
 pub mod drops;
 mod errand;
@@ -30,6 +31,7 @@ mod texts;
 
 pub use database_statement::{DatabaseCall, DatabaseStatement};
 pub use databases::MigrateDatabase;
+pub use demand::Demand;
 pub use dirty_version::{Dirty, DirtyVersion};
 pub use existence::{DatabaseExists, Exists};
 pub use forcing::ForceDropDatabase;

@@ -12,9 +12,10 @@ ghost use Rattle.pg_migrating.specs.Requests.{IsRequestOf};
 
 use crate::asking::{Asking, Question};
 use crate::binding::{none, with_int8};
+use crate::demand::Demand;
 use crate::reading::told;
 use crate::requests::prepared;
-use pg_call::{How, Request, Turn};
+use pg_call::{How, Turn};
 use pg_guards::PgExecutor;
 use pg_migrate::{MigrateError, current_database_text, generate_lock_id, lock_text, unlock_text};
 use pg_wire::{Error, Poll, Text};
@@ -38,7 +39,7 @@ pub struct MigrationLock<C: PgExecutor, Q = Question> {
 }
 
 // What asks for the lock of this key.
-fn request(alloc: Global, way: LockWay, id: i64) -> Result<Request, Error>
+fn request(alloc: Global, way: LockWay, id: i64) -> Result<Demand, Error>
     ensures { IsRequestOf hows.Execute 0 (lock_statement way id) result }
 {
     let key = with_int8(none(alloc), id);

@@ -4,8 +4,8 @@ ghost use Rattle.std.specs.Prelude.{◌≡◌, ◌≤◌, false};
 ghost use Rattle.pg_conn.specs.Dials.{HandsOut};
 ghost use Rattle.pg_migrating.specs.Sessions.{Connects, over_dial};
 
+use crate::demand::Demand;
 use crate::errand::Errand;
-use pg_call::Request;
 use pg_conn::{Dial, Establish, PgConnection, dial_and_establish};
 use pg_guards::PgExecutor;
 use pg_stream::Link;
@@ -21,7 +21,7 @@ pub struct Start<L> {
 #[derive(Drop)]
 pub(crate) enum Stage<L> {
     Asked(Result<Errand, Error>),
-    Begun(Request, Establish<L>),
+    Begun(Demand, Establish<L>),
 }
 
 // By hand, so that whoever lets one go makes one call.
@@ -80,21 +80,21 @@ pub trait Sessions: Dial {
 
 // Moves a start-up on, behind which this is asked.
 fn connect<L: Link + Drop>(
-    request: Request,
+    demand: Demand,
     mut start: Establish<L>,
     left: &mut u16,
 ) -> Connected<Start<L>, PgConnection<L>>
     requires goes { start.startup.is_finished ≡ false }
     requires left { left.old ≤ 256 }
     ensures left { left.new ≤ left.old }
-    ensures connects { Connects L.seen request start result }
+    ensures connects { Connects L.seen demand start result }
 {
     match start.poll_within(left) {
         Poll::Pending => Connected::Waits(Start {
-            stage: Stage::Begun(request, start),
+            stage: Stage::Begun(demand, start),
         }),
         Poll::Ready(Ok(mut conn)) => {
-            conn.start(request);
+            conn.start(demand.into_request());
             Connected::Opens(conn)
         }
         Poll::Ready(Err(e)) => Connected::Fails(e),
@@ -125,11 +125,11 @@ where
     ) -> Connected<Start<D::L>, PgConnection<D::L>> {
         match start.into_stage() {
             Stage::Asked(Ok(errand)) => match dial_and_establish(alloc, &errand.options, self) {
-                Ok(start) => connect(errand.into_request(), start, left),
+                Ok(start) => connect(errand.into_demand(), start, left),
                 Err(e) => Connected::Fails(e),
             },
             Stage::Asked(Err(e)) => Connected::Fails(e),
-            Stage::Begun(request, start) => connect(request, start, left),
+            Stage::Begun(demand, start) => connect(demand, start, left),
         }
     }
 }

@@ -9,29 +9,30 @@ ghost use Rattle.pg_migrating.specs.Requests.{Binds, IsRequestOf};
 ghost use Rattle.pg_migrating.specs.Texts.{text_of};
 
 use crate::binding;
+use crate::demand::Demand;
 use crate::texts::{Wording, text};
 use pg_arguments::PgArguments;
-use pg_call::{How, Request};
+use pg_call::How;
 use pg_migrate::Migration;
 use pg_request::Query;
 use pg_wire::{Error, Text};
 use std::alloc::Global;
 
 /// A text without arguments, which may hold several statements.
-pub(crate) fn script(alloc: Global, sql: &str) -> Result<Request, Error>
+pub(crate) fn script(alloc: Global, sql: &str) -> Result<Demand, Error>
     ensures { IsRequestOf hows.Execute 0 (Script sql.now) result }
 {
     match Query::raw(alloc, sql) {
-        Ok(query) => Ok(Request::Execute(query)),
+        Ok(query) => Ok(Demand::raw(How::Execute, query)),
         Err(e) => Err(e),
     }
 }
 
 /// The same of a text that is owned.
-pub(crate) fn owned_script(sql: String) -> Request
+pub(crate) fn owned_script(sql: String) -> Demand
     ensures { result ≡ raw hows.Execute (plain_text (string_bytes sql)) }
 {
-    Request::Execute(Query::from_text(Text::from_string(sql)))
+    Demand::raw(How::Execute, Query::from_text(Text::from_string(sql)))
 }
 
 /// A statement with these arguments, where there are such.
@@ -40,7 +41,7 @@ pub(crate) fn prepared(
     how: How,
     sql: &str,
     arguments: Result<PgArguments, Error>,
-) -> Result<Request, Error>
+) -> Result<Demand, Error>
     ensures { (bounds : List Bound) → Binds bounds arguments → IsRequestOf how 0 (Prepared sql.now bounds) result }
 {
     let arguments = match arguments {
@@ -48,13 +49,13 @@ pub(crate) fn prepared(
         Err(e) => return Err(e),
     };
     match Query::with(alloc, sql, &arguments) {
-        Ok(query) => Ok(Request::raw(how, query)),
+        Ok(query) => Ok(Demand::raw(how, query)),
         Err(e) => Err(e),
     }
 }
 
 /// A text over this name, without arguments.
-pub(crate) fn named_script(alloc: Global, wording: Wording, name: &str) -> Result<Request, Error>
+pub(crate) fn named_script(alloc: Global, wording: Wording, name: &str) -> Result<Demand, Error>
     ensures { IsRequestOf hows.Execute 0 (Script (text_of wording name.now)) result }
 {
     match text(alloc, wording, name) {
@@ -70,7 +71,7 @@ pub(crate) fn named(
     wording: Wording,
     name: &str,
     arguments: Result<PgArguments, Error>,
-) -> Result<Request, Error>
+) -> Result<Demand, Error>
     ensures { (bounds : List Bound) → Binds bounds arguments → IsRequestOf how 0 (Prepared (text_of wording name.now) bounds) result }
 {
     match text(alloc, wording, name) {
@@ -87,7 +88,7 @@ pub(crate) fn insert_row(
     alloc: Global,
     table: &str,
     migration: &Migration,
-) -> Result<Request, Error>
+) -> Result<Demand, Error>
     ensures { IsRequestOf hows.Execute 0 (row_of table.now migration.now) result }
 {
     let row = binding::row(alloc, migration);

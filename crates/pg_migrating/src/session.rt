@@ -7,10 +7,11 @@ ghost use Rattle.pg_conn.specs.Connections.{started_call};
 ghost use Rattle.pg_migrating.specs.Sessions.{ConnRuns, Goes, GoesOn, IsGoing, IsNewSession, OpensSession, PollsSession, StartGoes, Stands, Tells, is_over, without_conn};
 ghost use Rattle.pg_migrating.specs.declared.errand.Errand as declared_errand;
 
+use crate::demand::Demand;
 use crate::errand::Errand;
 use crate::holding;
 use crate::opening::{Connected, Sessions};
-use pg_call::{Request, Turn};
+use pg_call::Turn;
 use pg_guards::PgExecutor;
 use pg_wire::{Error, Poll};
 use std::alloc::Global;
@@ -59,12 +60,12 @@ impl<S, C: PgExecutor> Session<S, C> {
     }
 
     /// Begins another call on the connection, behind one that has ended.
-    pub(crate) fn ask(&mut self, request: Request)
-        ensures { self.new ≡ record self.old { conn = option_map (started_call request) self.old.conn } }
+    pub(crate) fn ask(&mut self, demand: Demand)
+        ensures { self.new ≡ record self.old { conn = option_map (started_call demand) self.old.conn } }
     {
         match &mut self.conn {
-            Some(conn) => holding::start(conn, request),
-            None => drop(request),
+            Some(conn) => holding::start(conn, demand.into_request()),
+            None => drop(demand),
         }
     }
 

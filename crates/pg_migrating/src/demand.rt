@@ -1,0 +1,81 @@
+//! What is asked of a connection.
+
+ghost use Rattle.std.specs.Prelude.{◌≡◌};
+ghost use Rattle.pg_call.specs.declared.request.Request.TheVariants as requests;
+ghost use Rattle.pg_call.specs.Requests.{raw};
+ghost use Rattle.pg_conn.specs.Connections.{commit_of};
+
+use pg_call::{How, Request};
+use pg_conn::commit_request;
+use pg_request::Query;
+use std::marker::Model;
+
+#[derive(Drop)]
+pub(crate) enum Wish {
+    Query(How, Query),
+    /// A transaction begins, or a savepoint, where so many are open.
+    Begin(u64),
+    Commit(u64),
+}
+
+/// A request, as far as migrations ask such. A `Request` has what any call may ask, and is laid out wherever one is named.
+pub struct Demand {
+    of: Wish,
+}
+
+// By hand, so that whoever lets one go makes one call.
+impl Drop for Demand {
+    fn drop(self) {
+        let Demand { of: _ } = self;
+    }
+}
+
+impl Model for Demand {
+    ghost use Rattle.pg_call.specs.declared.request.Request.{Request};
+    ghost use Rattle.pg_migrating.specs.Demands.{request_by};
+
+    ghost Value = { Request };
+
+    ghost view = { λ d. request_by d.of };
+}
+
+impl Demand {
+    /// A query, in this way.
+    pub(crate) fn raw(how: How, query: Query) -> Self
+        ensures { result ≡ raw how query }
+    {
+        Demand {
+            of: Wish::Query(how, query),
+        }
+    }
+
+    /// A transaction begins, where so many transactions and savepoints are open.
+    pub(crate) fn begin(depth: u64) -> Self
+        ensures { result ≡ requests.Begin depth }
+    {
+        Demand {
+            of: Wish::Begin(depth),
+        }
+    }
+
+    /// The last of them is committed.
+    pub(crate) fn commit(depth: u64) -> Self
+        ensures { result ≡ commit_of depth }
+    {
+        Demand {
+            of: Wish::Commit(depth),
+        }
+    }
+
+    /// The request that it is.
+    pub(crate) fn into_request(self) -> Request
+        ensures { result ≡ self }
+    {
+        let Demand { of } = self;
+        match of {
+            Wish::Query(how, query) => Request::raw(how, query),
+            Wish::Begin(depth) => Request::Begin(depth),
+            Wish::Commit(depth) => commit_request(depth),
+        }
+    }
+}
