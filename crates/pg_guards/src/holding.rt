@@ -1,9 +1,9 @@
 //! What a state does with the connection that is held: it lends the connection once for each.
-ghost use Rattle.std.specs.Prelude.{◌≡◌, false, None};
+ghost use Rattle.std.specs.Prelude.{◌≡◌, ◌≤◌, true, false, None};
 ghost use Rattle.pg_call.specs.Answers.{unit_turn};
-ghost use Rattle.pg_conn.specs.Connections.{begun_by, is_over, left_by, rolled_back, seen_by, started_next};
+ghost use Rattle.pg_conn.specs.Connections.{begun_by, is_over, left, left_by, rolled_back, runs, seen_by, started_call, started_next};
 ghost use Rattle.pg_conn.specs.States.{IsCalling, IsCallingPlainly, KeepsCallingPlainly, PollFits, PollFitsPlainly, ends_call, turn_of};
-ghost use Rattle.pg_conn.specs.Turns.{PollsCall, PollsMore};
+ghost use Rattle.pg_conn.specs.Turns.{PollsCall, PollsMore, PollsWithin};
 ghost use Rattle.pg_call.specs.declared.kind.Kind as declared_kind;
 
 use crate::PgExecutor;
@@ -77,8 +77,33 @@ pub fn poll_next<C: PgExecutor>(holder: &mut C, request: Request) -> Poll<Turn>
     poll_behind(holder.conn_mut(), request)
 }
 
-// Rolls back without waiting on the connection that is held.
-fn start_rollback<C: PgExecutor>(holder: &mut C)
+/// Begins a call, which does nothing before its first poll. One that still runs is given up.
+pub fn start<C: PgExecutor>(holder: &mut C, request: Request)
+    ensures { holder.new ≡ C.with_conn holder.old (started_call request (C.conn holder.old)) }
+{
+    holder.conn_mut().start(request);
+}
+
+/// One poll of the call that runs, within so many calls of the link, which it takes off.
+pub fn poll_within<C: PgExecutor>(holder: &mut C, left: &mut u16) -> Poll<Turn>
+    requires runs { runs (C.conn holder.old).call ≡ true }
+    requires left { left.old ≤ 256 }
+    ensures holder { holder.new ≡ C.with_conn holder.old (C.conn holder.new) }
+    ensures polls { PollsWithin left.old (seen_by C.L.seen (C.conn holder.old)) (seen_by C.L.seen (C.conn holder.new)) result }
+    ensures left { left.new ≤ left.old }
+{
+    holder.conn_mut().poll_call_within(left)
+}
+
+/// Gives up the call that runs.
+pub fn abandon<C: PgExecutor>(holder: &mut C)
+    ensures { holder.new ≡ C.with_conn holder.old (left (C.conn holder.old)) }
+{
+    holder.conn_mut().abandon();
+}
+
+/// Rolls back without waiting on the connection that is held.
+pub fn start_rollback<C: PgExecutor>(holder: &mut C)
     ensures { holder.new ≡ C.with_conn holder.old (rolled_back (C.conn holder.old)) }
 {
     holder.conn_mut().start_rollback();

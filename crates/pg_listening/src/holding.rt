@@ -6,14 +6,13 @@ ghost use Rattle.pg_call.specs.declared.kind.Kind.{Kind};
 ghost use Rattle.pg_call.specs.declared.kind.Kind.TheVariants as kinds;
 ghost use Rattle.pg_stream.specs.Notifications.{TakesOldest, none_kept};
 ghost use Rattle.pg_stream.specs.Streams.{stream_by};
-ghost use Rattle.pg_conn.specs.Connections.{left, seen_by, started_call};
+ghost use Rattle.pg_conn.specs.Connections.{left, seen_by};
 ghost use Rattle.pg_conn.specs.News.{PollsNews, ReadsNews, with_kept};
 ghost use Rattle.pg_conn.specs.States.{IsCalling, PollFits, turn_of};
 ghost use Rattle.pg_conn.specs.Turns.{PollsWithin};
 ghost use Rattle.pg_listening.specs.Buffers.{news_begun};
 ghost use Rattle.pg_listening.specs.Listening.{NoneClosed, Saves, TurnsOpen};
 
-use pg_call::Request;
 use pg_conn::{PgConnection, PgQueryResult, Turn};
 use pg_guards::PgExecutor;
 use pg_stream::Link;
@@ -101,13 +100,6 @@ pub(crate) fn poll_news<C: PgExecutor>(
     ensures polls { PollsNews left.old left.new (seen_by C.L.seen (C.conn holder.old)) (seen_by C.L.seen (C.conn holder.new)) result }
 {
     holder.conn_mut().poll_notification_within(left)
-}
-
-/// Begins a statement, which does nothing before its first poll. A call that still runs is given up.
-pub(crate) fn start_statement<C: PgExecutor>(holder: &mut C, request: Request)
-    ensures { holder.new ≡ C.with_conn holder.old (started_call request (C.conn holder.old)) }
-{
-    holder.conn_mut().start(request);
 }
 
 // One poll of a call.

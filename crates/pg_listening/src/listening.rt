@@ -15,12 +15,11 @@ ghost use Rattle.pg_listening.specs.Buffers.{Hears, kept_on, buffered, news_begu
 ghost use Rattle.pg_listening.specs.Listening.{CallsOn, FailsOn, NoneClosed, OnHeld, OnlyKept, PollsStatement, Starts, StaysHeld, TurnsOpen, behind_after, buffers_by, channels_behind, learnt_in, query_of, stored_behind, stream_in, waits};
 
 use crate::ChannelChange;
-use crate::holding::{
-    begin, end, poll_news, poll_running, poll_statement, save, start_statement, take_oldest,
-};
+use crate::holding::{begin, end, poll_news, poll_running, poll_statement, save, take_oldest};
 use pg_call::Prepared;
 use pg_conn::{PgStatement, Query, Request, Turn};
 use pg_guards::PgExecutor;
+use pg_guards::holding::start;
 use pg_learning::Learnt;
 use pg_listener::listen_each_text;
 use pg_wire::{Error, Notification, Poll, Sequence, Text};
@@ -193,7 +192,7 @@ impl<C: PgExecutor> Listening<C> {
         let Some(conn) = &mut self.conn else {
             unreachable!()
         };
-        start_statement(conn, Request::Execute(Query::from_text(statement)));
+        start(conn, Request::Execute(Query::from_text(statement)));
         self.behind = behind;
         self.is_asking = true;
     }
@@ -287,7 +286,7 @@ impl<C: PgExecutor> Listening<C> {
         let Some(conn) = &mut self.conn else {
             unreachable!()
         };
-        start_statement(conn, request);
+        start(conn, request);
         self.is_asking = false;
     }
 

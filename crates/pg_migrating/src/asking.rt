@@ -9,9 +9,8 @@ ghost use Rattle.pg_conn.specs.States.{PollFits};
 ghost use Rattle.pg_migrating.specs.Asking.{CallsFor, CallsQuietly, EndsAs, IsEnd, StandsAt, StaysQuiet, Tells, TellsEnd, asked_by, is_asked, left_of, refusal};
 
 use crate::demand::Demand;
-use crate::holding;
 use pg_call::Turn;
-use pg_guards::PgExecutor;
+use pg_guards::{PgExecutor, holding};
 use pg_wire::{Error, Poll};
 
 /// What a call asks, or why there is no request for that.
@@ -102,7 +101,7 @@ impl<C: PgExecutor> Asking<C, Question> {
         ensures fits { (kind : declared_kind.Kind) → CallsFor kind self.old.question (C.conn self.old.conn) → PollFits kind (C.conn self.new.conn) result }
     {
         match self.begin() {
-            Ok(()) => holding::poll(&mut self.conn, left),
+            Ok(()) => holding::poll_within(&mut self.conn, left),
             Err(e) => Poll::Ready(Turn::Err(e)),
         }
     }

@@ -84,11 +84,7 @@ pub(crate) fn named(
 }
 
 /// What adds the row of a migration.
-pub(crate) fn insert_row(
-    alloc: Global,
-    table: &str,
-    migration: &Migration,
-) -> Result<Demand, Error>
+pub(crate) fn insert_row(alloc: Global, table: &str, migration: &Migration) -> Result<Demand, Error>
     ensures { IsRequestOf hows.Execute 0 (row_of table.now migration.now) result }
 {
     let row = binding::row(alloc, migration);

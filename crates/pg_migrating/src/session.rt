@@ -9,10 +9,9 @@ ghost use Rattle.pg_migrating.specs.declared.errand.Errand as declared_errand;
 
 use crate::demand::Demand;
 use crate::errand::Errand;
-use crate::holding;
 use crate::opening::{Connected, Sessions};
 use pg_call::Turn;
-use pg_guards::PgExecutor;
+use pg_guards::{PgExecutor, holding};
 use pg_wire::{Error, Poll};
 use std::alloc::Global;
 use std::marker::Model;
@@ -77,7 +76,7 @@ impl<S, C: PgExecutor> Session<S, C> {
         ensures polls { PollsSession C.L.seen left.old self.old.conn self.old self.new result }
     {
         match &mut self.conn {
-            Some(conn) => holding::poll(conn, left),
+            Some(conn) => holding::poll_within(conn, left),
             None => unreachable!(),
         }
     }
