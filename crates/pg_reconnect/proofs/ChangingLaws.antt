@@ -8,7 +8,6 @@ use Rattle.pg_listener.specs.declared.changing.ChannelChange.{ChannelChange}
 use Rattle.pg_listener.specs.declared.changing.ChannelChange.TheVariants as changes
 use Rattle.pg_listening.specs.Listening.{behind_after, channels_behind, stored_behind, waits}
 use Rattle.pg_reconnect.specs.Hearing.{Changes, HearingOf, is_stored_first, stored_first}
-use Rattle.pg_stream.specs.Links.{LinkSeen}
 
 -- one that is stored behind its Ok
 pub asked_later : (change : ChannelChange) (channels : List (List ℕ)) → is_stored_first change ≡ false → (stored_first change channels ≡ channels) × (unwrap_or (stored_behind change channels) channels ≡ changed change channels)

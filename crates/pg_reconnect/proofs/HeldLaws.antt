@@ -1,5 +1,5 @@
 -- What stays of a listener where something is done with the connection that is held.
-use Rattle.std.proofs.Common.{◌≡◌, refl, Option, Some, None, IsSome}
+use Rattle.std.proofs.Common.{refl, Option, Some, None, IsSome}
 use Rattle.pg_listening.specs.Listening.{StaysHeld}
 use Rattle.pg_conn.specs.Connections.{ConnOf}
 

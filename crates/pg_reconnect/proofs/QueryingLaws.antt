@@ -1,8 +1,7 @@
 -- What a poll of what a listener asks for its user comes to.
-use Rattle.std.proofs.Common.{◌≡◌, inl, inr, ◌≤◌, ℕ, [], refl, sym, ap, subst, arith, Option, Some, None, IsSome, Err}
+use Rattle.std.proofs.Common.{◌≡◌, inl, inr, ◌≤◌, ℕ, [], refl, sym, subst, arith, Option, Some, None, IsSome, Err}
 use Rattle.futures.specs.declared.task.Poll.{Poll}
 use Rattle.futures.specs.declared.task.Poll.TheVariants.{Ready, Pending}
-use Rattle.pg_wire.specs.declared.error.Error.{Error}
 use Rattle.pg_stream.specs.Links.{LinkSeen}
 use Rattle.pg_call.specs.Answers.{TurnFits}
 use Rattle.pg_call.specs.Requests.{main_kind}
@@ -15,17 +14,17 @@ use Rattle.pg_call.specs.declared.request.Request.{Request}
 use Rattle.pg_call.specs.declared.request.Request.TheVariants as requests
 use Rattle.pg_rule.specs.declared.rule.Rule.{Rule}
 use Rattle.pg_conn.specs.Connections.{ConnOf, left, started_call}
-use Rattle.pg_conn.specs.States.{IsCalling, PollFits}
+use Rattle.pg_conn.specs.States.{IsCalling}
 use Rattle.pg_conn.specs.Statements.{begun_as}
 use Rattle.pg_conn.specs.Turns.{PollsWithin}
 use Rattle.pg_conn.proofs.StateLaws.{poll_fits_within}
 use Rattle.pg_listen.specs.Handed.{FillingOf}
 use Rattle.pg_listening.specs.Listening.{CallsOn, FitsOn, OnHeld, Starts, TurnsOpen}
 use Rattle.pg_pool.specs.Seats.{SeatSeen}
-use Rattle.pg_reconnect.specs.Failing.{BesideSeen, Fails}
+use Rattle.pg_reconnect.specs.Failing.{BesideSeen}
 use Rattle.pg_reconnect.specs.Hearing.{HearingOf, HearsBy, heard_of}
-use Rattle.pg_reconnect.specs.Querying.{Asked, AsksNow, IsAskedOn, IsQuerying, NotesTurn, Queries, QueriesOn, Unasked, rest_of}
-use Rattle.pg_reconnect.specs.Waiting.{OnConn, ReadiesBy, WaitsBy}
+use Rattle.pg_reconnect.specs.Querying.{AsksNow, IsAskedOn, IsQuerying, NotesTurn, Queries, QueriesOn, Unasked, rest_of}
+use Rattle.pg_reconnect.specs.Waiting.{OnConn, ReadiesBy}
 use Rattle.pg_reconnect.proofs.FailingLaws.{notes_caused, notes_open}
 use Rattle.pg_reconnect.proofs.HearingLaws.{hears_nothing, hears_then}
 

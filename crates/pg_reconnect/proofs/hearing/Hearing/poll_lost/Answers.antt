@@ -1,4 +1,4 @@
-use Rattle.std.proofs.Common.{◌≡◌, ◌++◌, ◌∙◌, true, Bool, [], ap, inl, refl, subst, sym}
+use Rattle.std.proofs.Common.{◌≡◌, ◌++◌, ◌∙◌, true, Bool, [], ap, inl, subst, sym}
 use Rattle.std.proofs.Math.Nat.{le_refl}
 use Rattle.pg_reconnect.specs.Hearing.{HearingOf, HearsBy, LossBehind}
 use Rattle.pg_reconnect.proofs.BufferingLaws.{hears_behind}

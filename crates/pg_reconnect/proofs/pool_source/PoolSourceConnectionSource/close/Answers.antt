@@ -1,4 +1,4 @@
-use Rattle.std.proofs.Common.{◌≡◌, ◌∙◌, ap, sym}
+use Rattle.std.proofs.Common.{◌∙◌, ap, sym}
 use Rattle.pg_reconnect.proofs.pool_source.PoolSourceConnectionSource.close.Goals as goal
 use Rattle.pg_reconnect.proofs.pool_source.PoolSourceConnectionSource.close.Goals.{in-Some, in-None}
 
