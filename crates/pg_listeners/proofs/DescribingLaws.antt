@@ -48,7 +48,6 @@ module _ {C S A : Type 0} (seen : A → LinkSeen) (conn : C → ConnOf A) (with_
   pub tells_at_once : {B : Type 0} (of : B → SourceSeen) (left now : ℕ) (p : PgStatement) (rest : Option Request) (a : ListenerOf B C S A) (told : Option PgStatement) (d : Describe) → rest ≡ None → told ≡ None → p.columns ≡ []
       → d.statement ≡ p → d.nullable.items ≡ [] → GoesOn seen conn with_conn filling of left now p rest a a (Ready (Ok d)) told
   tells_at_once of left now p rest a told d none nobody empty tells flags = inl (refl, none, inl (empty, nobody, (d, refl, tells, flags)))
-
   -- ---- a pool that was closed
 
 -- where a statement is told, the error is the turn's, or want of memory

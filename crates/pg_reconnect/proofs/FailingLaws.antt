@@ -211,8 +211,7 @@ module _ {C S A : Type 0} (seen : A → LinkSeen) (conn : C → ConnOf A) (with_
       by : (e : List Notification) → a.listening.earlier ≡ e → CausedOn seen conn with_conn filling left now a b answer
       by [] is = none answer (polls is)
       by (oldest ∷ later) is = subst (λ (x : Poll (Result Notification Error)). CausedOn seen conn with_conn filling left now a b x) (sym (first oldest later is)) tt
-
-  -- ---- a pool that was closed
+      -- ---- a pool that was closed
 
 pub acquires_none : (A : Type 0) (most : ℕ) (s t : SeatSeen) (e : Error) → Section {A = A} most (λ a b. Acquires is_clean s t a b (Err e)) → AcquiresNone A most t e
 acquires_none A most s t e p = (p.0, p.1, p.2, p.3, (s, p.4))

@@ -37,7 +37,6 @@ module _ {A : Type 0} (seen : A → LinkSeen) where
     name = q.name ∙ p.name;
     settings = (q.settings.0 ∙ p.settings.0, q.settings.1 ∙ p.settings.1);
   }
-
   -- ---- losses
 
 no_links : {A : Type 0} (before links : List A) → before ≡ before ++ links → links ≡ []

@@ -27,7 +27,6 @@ module _ {S A : Type 0} (seen : A → LinkSeen) (filling : S → FillingOf A) wh
 
   pub starts_same : {X : Type 0} (a m b : Option S) (answer : Poll (Result X Error)) → StartsFrom seen filling a m → OnReady answer (b ≡ m) → OnReady answer (StartsFrom seen filling a b)
   starts_same a m b answer first o = on_ready answer (b ≡ m) (StartsFrom seen filling a b) (λ e. starts_then seen filling a m b first (inl e)) o
-
   -- ---- it listens again
 
 module _ {C S A : Type 0} (seen : A → LinkSeen) (conn : C → ConnOf A) (with_conn : C → ConnOf A → C) where
@@ -62,8 +61,7 @@ module _ {C S A : Type 0} (seen : A → LinkSeen) (conn : C → ConnOf A) (with_
 
       by : (m.is_eager ≡ true → ReadiesBy seen conn with_conn m b) → a.is_eager ≡ true → ListensAgain seen conn with_conn a.listening.channels b
       by f e = again (f (eager ∙ e))
-
-  -- ---- what cannot be
+      -- ---- what cannot be
 
 pub both : {P : Type 0} (b : Bool) → b ≡ false → b ≡ true → P
 both b down up = absurd cc

@@ -52,7 +52,6 @@ module _ {C A : Type 0} (conn : C → ConnOf A) (with_conn : C → ConnOf A → 
   starts_kind : (r : Request) (o h : Option C) (kind : Kind) → (kind ≡ kinds.Clear → ⊥) → main_kind r ≡ kind → Starts conn with_conn r o h → CallsOn conn kind h
   starts_kind r None h kind other k s = absurd s
   starts_kind r (Some c) h kind other k s = started_held conn with_conn written r c h kind (begun_kind (left (conn c)).rule r kind other k) s
-
   -- ---- it is polled
 
 module _ {C A : Type 0} (seen : A → LinkSeen) (conn : C → ConnOf A) where
@@ -90,7 +89,6 @@ module _ {C S A : Type 0} (seen : A → LinkSeen) (conn : C → ConnOf A) (with_
     },
     refl,
   )
-
   -- ---- it goes on
 
 module _ {C S A : Type 0} (seen : A → LinkSeen) (conn : C → ConnOf A) (with_conn : C → ConnOf A → C) (written : (c : C) (w : ConnOf A) → conn (with_conn c w) ≡ w) where
@@ -127,7 +125,6 @@ module _ {C S A : Type 0} (seen : A → LinkSeen) (conn : C → ConnOf A) (with_
       let calls = asked_calls seen conn with_conn written kind request a asked.asked other i asked.asks in
       subst (λ (x : Option Request). QueriesOn conn kind x b answer) (sym none) (goes_on conn kind b answer (fits_on seen conn asked.rest kind _ _ answer calls asked.polls))
   queries_on o left now kind request rest a b answer other i (inr (some, unasked, is)) = subst (λ (x : Option Request). QueriesOn conn kind x b answer) (sym is) (unasked_on seen conn with_conn filling o left now kind request a b answer some i unasked)
-
   -- ---- a pool that was closed
 
 pub notes_apart : (A : Type 0) (most : ℕ) (t : SeatSeen) (answer : Poll Turn) → TurnsOpen answer → NotesTurn A most t answer
@@ -148,7 +145,6 @@ module _ {C S A : Type 0} (seen : A → LinkSeen) (conn : C → ConnOf A) (with_
   pub notes_queried : (o : BesideSeen) (left now : ℕ) (request rest : Option Request) (a b : HearingOf C S A) (answer : Poll Turn) → Queries seen conn with_conn filling o left now request rest a b answer → NotesTurn A o.most o.seat answer
   notes_queried o left now request rest a b answer (inl (asked, none)) = notes_apart A o.most o.seat answer asked.apart
   notes_queried o left now request rest a b answer (inr (some, unasked, is)) = notes_unasked o left now a b answer unasked
-
   -- ---- its answer
 
 module _ {C A : Type 0} (conn : C → ConnOf A) where

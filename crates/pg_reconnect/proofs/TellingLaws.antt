@@ -62,7 +62,6 @@ module _ {C S A : Type 0} (seen : A → LinkSeen) (conn : C → ConnOf A) where
 
   pub hears_same : (a m : HearingOf C S A) (b : HeardOf A) (g : List Notification) → m ≡ a → HearsOver seen (heard_of seen conn m) b g → HearsOver seen (heard_of seen conn a) b g
   hears_same a m b g e h = subst (λ (x : HearingOf C S A). HearsOver seen (heard_of seen conn x) b g) e h
-
   -- ---- what is buffered is given first
 
 pub gives_first : (buffers rest : List Notification) (news : Notification) → news ∷ rest ≡ buffers → GivesOldest buffers (Ready (Ok (Some news)))

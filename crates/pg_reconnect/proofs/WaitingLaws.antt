@@ -21,7 +21,6 @@ module _ {S A : Type 0} (seen : A → LinkSeen) (filling : S → FillingOf A) wh
 
   waits_from : (left now : ℕ) (a b c d : Option S) → StartsFrom seen filling a b → d ≡ c → StartUpWaits seen filling left now b c → StartUpWaits seen filling left now a d
   waits_from left now a b c d s e (startup, from, polls) = (startup, starts_then a b startup s from, subst (λ (x : Option S). PollsOn seen filling left now startup x) (sym e) polls)
-
   -- ---- what waits last
 
 module _ {C S A : Type 0} (seen : A → LinkSeen) (conn : C → ConnOf A) (filling : S → FillingOf A) where

@@ -19,11 +19,7 @@ fn spent<T>(rest: Option<T>)
 }
 
 /// The link of a connection that its pool is to keep no longer.
-pub(crate) fn close<B: ConnectionSource, R: Wait>(
-    rt: &R,
-    source: &mut B,
-    held: B::Held,
-) -> B::L
+pub(crate) fn close<B: ConnectionSource, R: Wait>(rt: &R, source: &mut B, held: B::Held) -> B::L
     requires { (B.handed held).name ≡ (B.now source.old).name }
     ensures link { result ≡ (B.Held.conn held).stream.link }
     ensures source { IsSeated (B.now source.old) (B.now source.new) }

@@ -84,11 +84,7 @@ pub trait ConnectionSource {
         ensures source { IsSeated (now self.old) (now self.new) };
 
     /// Hands a connection back, which the pool is to keep no longer: its link.
-    fn close<R: Wait>(
-        &mut self,
-        rt: &R,
-        held: &mut Option<Self::Held>,
-    ) -> Option<Self::L>
+    fn close<R: Wait>(&mut self, rt: &R, held: &mut Option<Self::Held>) -> Option<Self::L>
         requires { HeldIs handed (now self.old).name held.old }
         ensures gone { held.new ≡ None }
         ensures link { result ≡ option_map (λ h. (Self.Held.conn h).stream.link) held.old }
