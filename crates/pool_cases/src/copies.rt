@@ -3,7 +3,7 @@ ghost use Rattle.std.specs.Prelude.{◌≡◌};
 
 use crate::copying::{End, How, copied_in, copied_out};
 use crate::opening::{connect, fill};
-use crate::rows::{audited, close, next, pool};
+use crate::rows::{audited_two, close, pair, pool};
 use crate::visiting::{Pool, Use, give_back, released};
 use pg_conn::MemoryDial;
 use pg_copying::{PgPoolCopyExt, PoolCopy};
@@ -166,10 +166,10 @@ fn crowd<G: PoolLedger, R: Wait>(
     }
 }
 
-fn tell(out: &mut String, told: Told) -> Result<(), Error> {
+// What there is no memory for is missing in what is printed.
+fn tell(out: &mut String, told: Told) {
     let (end, word) = told;
-    write!(out, "{end:?} {word}, ")?;
-    Ok(())
+    let _ = write!(out, "{end:?} {word}, ");
 }
 
 // Copies over the first connection, up to one that is given up.
@@ -180,20 +180,20 @@ fn play_first<G: PoolLedger, R: Wait>(
     first: &mut PoolSeat<G>,
     second: &mut PoolSeat<G>,
     out: &mut String,
-) -> Result<(), Error>
+)
     requires named { pool.now.name ≡ 7 }
     requires first { first.old.name ≡ pool.now.name }
     requires second { second.old.name ≡ pool.now.name }
     ensures first { first.new.name ≡ first.old.name }
     ensures second { second.new.name ≡ second.old.name }
 {
-    tell(out, copy_in(rt, alloc, pool, first, How::Whole))?;
-    tell(out, copy_in(rt, alloc, pool, first, How::Whole))?;
-    tell(out, copy_out(rt, alloc, pool, first, How::Whole))?;
-    tell(out, crowd(rt, alloc, pool, first, second))?;
-    tell(out, copy_in(rt, alloc, pool, second, How::Unpolled))?;
-    tell(out, copy_out(rt, alloc, pool, second, How::Unpolled))?;
-    tell(out, copy_out(rt, alloc, pool, second, How::Open))
+    tell(out, copy_in(rt, alloc, pool, first, How::Whole));
+    tell(out, copy_in(rt, alloc, pool, first, How::Whole));
+    tell(out, copy_out(rt, alloc, pool, first, How::Whole));
+    tell(out, crowd(rt, alloc, pool, first, second));
+    tell(out, copy_in(rt, alloc, pool, second, How::Unpolled));
+    tell(out, copy_out(rt, alloc, pool, second, How::Unpolled));
+    tell(out, copy_out(rt, alloc, pool, second, How::Open));
 }
 
 // A copy from the client that is given up while it is open, and copies over a pool that is closed.
@@ -204,20 +204,38 @@ fn play_last<G: PoolLedger, R: Wait>(
     first: &mut PoolSeat<G>,
     second: &mut PoolSeat<G>,
     out: &mut String,
-) -> Result<(), Error>
+)
     requires named { pool.now.name ≡ 7 }
     requires first { first.old.name ≡ pool.now.name }
     requires second { second.old.name ≡ pool.now.name }
     ensures first { first.new.name ≡ first.old.name }
     ensures second { second.new.name ≡ second.old.name }
 {
-    tell(out, copy_in(rt, alloc, pool, second, How::Open))?;
-    tell(out, copy_in(rt, alloc, pool, second, How::Open))?;
+    tell(out, copy_in(rt, alloc, pool, second, How::Open));
+    tell(out, copy_in(rt, alloc, pool, second, How::Open));
     let closed = close(rt, alloc, pool, second);
-    tell(out, copy_in(rt, alloc, pool, first, How::Whole))?;
-    tell(out, copy_out(rt, alloc, pool, second, How::Whole))?;
-    out.push_str(closed)?;
-    Ok(())
+    tell(out, copy_in(rt, alloc, pool, first, How::Whole));
+    tell(out, copy_out(rt, alloc, pool, second, How::Whole));
+    let _ = out.push_str(closed);
+}
+
+// The copies of two participants.
+fn play<G: PoolLedger, R: Wait>(
+    rt: &R,
+    alloc: Global,
+    pool: &Pool<G>,
+    seats: Vec<PoolSeat<G>>,
+) -> Result<String, Error>
+    requires named { pool.now.name ≡ 7 }
+    requires parts { G.parts ≡ 2 }
+{
+    let Some((mut first, mut second)) = pair(seats) else {
+        return Err(Error::StartupPending);
+    };
+    let mut told = String::new(alloc);
+    play_first(rt, alloc, pool, &mut first, &mut second, &mut told);
+    play_last(rt, alloc, pool, &mut first, &mut second, &mut told);
+    audited_two(rt, alloc, pool, told, first, second)
 }
 
 // A pool of maximum 1, and two participants.
@@ -230,16 +248,10 @@ fn row_of_copies<G: PoolLedger, R: Wait>(
     requires ledger { blank.name ≡ G.name }
     requires parts { (blank.parts ≡ G.parts) × (blank.parts ≡ 2) }
 {
-    let (pool, mut seats) = pool::<G>(alloc, 1, 2, blank)?;
-    let (Some(mut second), Some(mut first)) = (next(&mut seats), next(&mut seats)) else {
-        return Err(Error::StartupPending);
-    };
-    let mut told = String::new(alloc);
-    play_first(rt, alloc, &pool, &mut first, &mut second, &mut told)?;
-    play_last(rt, alloc, &pool, &mut first, &mut second, &mut told)?;
-    let seats = vec![in alloc; first, second]?;
-    told.push_str(audited(rt, alloc, &pool, seats)?.as_str())?;
-    Ok(told)
+    match pool::<G>(alloc, 1, 2, blank) {
+        Ok((pool, seats)) => play(rt, alloc, &pool, seats),
+        Err(error) => Err(error),
+    }
 }
 
 /// The row of copies over a pool.

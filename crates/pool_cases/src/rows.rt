@@ -52,25 +52,77 @@ pub(crate) fn next<G: Ledger>(seats: &mut Vec<PoolSeat<G>>) -> Option<PoolSeat<G
     }
 }
 
-/// The receipts of the participants, and what an audit of the pool answers.
-pub(crate) fn audited<G: PoolLedger, R: Wait>(
+/// The first two participants, if they are of the pool of this name.
+pub(crate) fn pair<G: Ledger>(seats: Vec<PoolSeat<G>>) -> Option<(PoolSeat<G>, PoolSeat<G>)>
+    ensures { IfSome result (λ pair. (pair.0.name ≡ 7) × (pair.1.name ≡ 7)) }
+{
+    let mut seats = seats;
+    let second = next(&mut seats)?;
+    let first = next(&mut seats)?;
+    Some((first, second))
+}
+
+// What there is no memory for is missing in what is printed.
+fn push_receipts<G: Ledger>(told: &mut String, seats: &[PoolSeat<G>]) {
+    for seat in seats {
+        for receipt in seat.receipts() {
+            let _ = write!(told, "\n{receipt:?}");
+        }
+    }
+}
+
+// What was told, the receipts of the participants, and what an audit of the pool answers.
+fn audited<G: PoolLedger, R: Wait>(
     rt: &R,
-    alloc: Global,
     pool: &Pool<G>,
+    told: String,
     seats: Vec<PoolSeat<G>>,
 ) -> Result<String, Error>
     requires all { vec_len seats ≡ G.parts }
     requires some { 0 < vec_len seats }
 {
-    let mut told = String::new(alloc);
-    for seat in seats.as_slice() {
-        for receipt in seat.receipts() {
-            write!(told, "\n{receipt:?}")?;
+    let mut told = told;
+    push_receipts(&mut told, seats.as_slice());
+    match pool.audit(rt, seats) {
+        Ok(entries) => {
+            let _ = write!(told, "\n{entries} entries");
+            Ok(told)
         }
+        Err(error) => Err(error),
     }
-    let entries = pool.audit(rt, seats)?;
-    write!(told, "\n{entries} entries")?;
-    Ok(told)
+}
+
+// The same of one participant.
+fn audited_one<G: PoolLedger, R: Wait>(
+    rt: &R,
+    alloc: Global,
+    pool: &Pool<G>,
+    told: String,
+    seat: PoolSeat<G>,
+) -> Result<String, Error>
+    requires { G.parts ≡ 1 }
+{
+    match vec![in alloc; seat] {
+        Ok(seats) => audited(rt, pool, told, seats),
+        Err(error) => Err(Error::from(error)),
+    }
+}
+
+/// What was told, the receipts of two participants, and what an audit of the pool answers.
+pub(crate) fn audited_two<G: PoolLedger, R: Wait>(
+    rt: &R,
+    alloc: Global,
+    pool: &Pool<G>,
+    told: String,
+    first: PoolSeat<G>,
+    second: PoolSeat<G>,
+) -> Result<String, Error>
+    requires { G.parts ≡ 2 }
+{
+    match vec![in alloc; first, second] {
+        Ok(seats) => audited(rt, pool, told, seats),
+        Err(error) => Err(Error::from(error)),
+    }
 }
 
 // The first participant has the one connection while the second asks for it.
@@ -121,25 +173,42 @@ pub(crate) fn close<G: PoolLedger, R: Wait>(
     }
 }
 
+// The calls of two participants.
+fn play_one<G: PoolLedger, R: Wait>(
+    rt: &R,
+    alloc: Global,
+    pool: &Pool<G>,
+    seats: Vec<PoolSeat<G>>,
+) -> Result<String, Error>
+    requires named { pool.now.name ≡ 7 }
+    requires parts { G.parts ≡ 2 }
+{
+    let Some((mut first, mut second)) = pair(seats) else {
+        return Err(Error::StartupPending);
+    };
+    let (kept, late) = crowd(rt, alloc, pool, &mut first, &mut second);
+    let marked = visit(rt, alloc, pool, &mut second, Use::Mark);
+    let begun = visit(rt, alloc, pool, &mut second, Use::BeginAndDrop);
+    let closed = close(rt, alloc, pool, &mut second);
+    let refused = visit(rt, alloc, pool, &mut first, Use::Nothing);
+    let mut told = String::new(alloc);
+    let _ = write!(
+        told,
+        "{late}, {kept}, {marked}, {begun}, {closed}, {refused}"
+    );
+    audited_two(rt, alloc, pool, told, first, second)
+}
+
 // A pool of maximum 1, and two participants.
 fn row_of_one<G: PoolLedger, R: Wait>(rt: &R, alloc: Global, blank: Blank) -> Result<String, Error>
     requires most { G.most ≡ 1 }
     requires ledger { blank.name ≡ G.name }
     requires parts { (blank.parts ≡ G.parts) × (blank.parts ≡ 2) }
 {
-    let (pool, mut seats) = pool::<G>(alloc, 1, 2, blank)?;
-    let (Some(mut second), Some(mut first)) = (next(&mut seats), next(&mut seats)) else {
-        return Err(Error::StartupPending);
-    };
-    let (kept, late) = crowd(rt, alloc, &pool, &mut first, &mut second);
-    let marked = visit(rt, alloc, &pool, &mut second, Use::Mark);
-    let begun = visit(rt, alloc, &pool, &mut second, Use::BeginAndDrop);
-    let closed = close(rt, alloc, &pool, &mut second);
-    let refused = visit(rt, alloc, &pool, &mut first, Use::Nothing);
-    let mut told = format!(in alloc; "{late}, {kept}, {marked}, {begun}, {closed}, {refused}")?;
-    let seats = vec![in alloc; first, second]?;
-    told.push_str(audited(rt, alloc, &pool, seats)?.as_str())?;
-    Ok(told)
+    match pool::<G>(alloc, 1, 2, blank) {
+        Ok((pool, seats)) => play_one(rt, alloc, &pool, seats),
+        Err(error) => Err(error),
+    }
 }
 
 /// The row of a pool of maximum 1.
@@ -214,17 +283,22 @@ fn hand_on<G: PoolLedger, R: Wait>(
     (acquired(rt, alloc, pool, third), late, kept)
 }
 
+// What was told, the receipts of three participants, and what an audit of the pool answers.
 fn audited_three<G: PoolLedger, R: Wait>(
     rt: &R,
     alloc: Global,
     pool: &Pool<G>,
+    told: String,
     first: PoolSeat<G>,
     second: PoolSeat<G>,
     third: PoolSeat<G>,
 ) -> Result<String, Error>
     requires { G.parts ≡ 3 }
 {
-    audited(rt, alloc, pool, vec![in alloc; first, second, third]?)
+    match vec![in alloc; first, second, third] {
+        Ok(seats) => audited(rt, pool, told, seats),
+        Err(error) => Err(Error::from(error)),
+    }
 }
 
 // Another pool of the same name is given what the first one handed out.
@@ -246,8 +320,56 @@ fn estrange<H: PoolLedger, R: Wait>(
         Some(held) => give_back(rt, other, &mut stranger, held, Use::Nothing),
         None => "none",
     };
-    let told = audited(rt, alloc, other, vec![in alloc; stranger]?)?;
-    Ok(format!(in alloc; "{first}, {second}{told}")?)
+    let mut told = String::new(alloc);
+    let _ = write!(told, "{first}, {second}");
+    audited_one(rt, alloc, other, told, stranger)
+}
+
+// The lines of the first, and those of the second behind them.
+fn joined(first: Result<String, Error>, second: Result<String, Error>) -> Result<String, Error> {
+    let mut told = match first {
+        Ok(told) => told,
+        Err(error) => return Err(error),
+    };
+    match second {
+        Ok(lines) => {
+            let _ = write!(told, "\n{lines}");
+            Ok(told)
+        }
+        Err(error) => Err(error),
+    }
+}
+
+// The calls of three participants, and of the one of another pool of the same name.
+fn play_two<G: PoolLedger, H: PoolLedger, R: Wait>(
+    rt: &R,
+    alloc: Global,
+    pool: &Pool<G>,
+    seats: Vec<PoolSeat<G>>,
+    other: &Pool<H>,
+    stranger: PoolSeat<H>,
+) -> Result<String, Error>
+    requires named { (pool.now.name ≡ 7) × (other.now.name ≡ 7) }
+    requires theirs { stranger.name ≡ 7 }
+    requires parts { (G.parts ≡ 3) × (H.parts ≡ 1) }
+{
+    let mut seats = seats;
+    let Some(mut third) = next(&mut seats) else {
+        return Err(Error::StartupPending);
+    };
+    let Some((mut first, mut second)) = pair(seats) else {
+        return Err(Error::StartupPending);
+    };
+    let Some((one, held)) = both(rt, alloc, pool, &mut first, &mut second) else {
+        return Err(Error::StartupPending);
+    };
+    let (also, late, kept) = hand_on(rt, alloc, pool, &mut first, &mut third, one);
+    let closed = close(rt, alloc, pool, &mut first);
+    let refused = visit(rt, alloc, pool, &mut first, Use::Nothing);
+    let mut told = String::new(alloc);
+    let _ = write!(told, "{late}, {kept}, {closed}, {refused}");
+    let told = audited_three(rt, alloc, pool, told, first, second, third);
+    joined(told, estrange(rt, alloc, other, stranger, held, also))
 }
 
 // A pool of maximum 2 with three participants, and another of the same name.
@@ -262,28 +384,17 @@ fn row_of_two<G: PoolLedger, H: PoolLedger, R: Wait>(
     requires parts { (blank.parts ≡ G.parts) × (blank.parts ≡ 3) }
     requires others { (another.parts ≡ H.parts) × (another.parts ≡ 1) }
 {
-    let (other, mut strangers) = pool::<H>(alloc, 2, 1, another)?;
-    let (pool, mut seats) = pool::<G>(alloc, 2, 3, blank)?;
+    let (other, mut strangers) = match pool::<H>(alloc, 2, 1, another) {
+        Ok(made) => made,
+        Err(error) => return Err(error),
+    };
     let Some(stranger) = next(&mut strangers) else {
         return Err(Error::StartupPending);
     };
-    let (Some(mut third), Some(mut second), Some(mut first)) = (
-        next(&mut seats),
-        next(&mut seats),
-        next(&mut seats),
-    ) else {
-        return Err(Error::StartupPending);
-    };
-    let Some((one, held)) = both(rt, alloc, &pool, &mut first, &mut second) else {
-        return Err(Error::StartupPending);
-    };
-    let (also, late, kept) = hand_on(rt, alloc, &pool, &mut first, &mut third, one);
-    let closed = close(rt, alloc, &pool, &mut first);
-    let refused = visit(rt, alloc, &pool, &mut first, Use::Nothing);
-    let told = audited_three(rt, alloc, &pool, first, second, third);
-    let strange = estrange(rt, alloc, &other, stranger, held, also);
-    let (told, strange) = (told?, strange?);
-    Ok(format!(in alloc; "{late}, {kept}, {closed}, {refused}{told}\n{strange}")?)
+    match pool::<G>(alloc, 2, 3, blank) {
+        Ok((pool, seats)) => play_two(rt, alloc, &pool, seats, &other, stranger),
+        Err(error) => Err(error),
+    }
 }
 
 /// The row of a pool of maximum 2, and of another of the same name.
@@ -326,6 +437,30 @@ fn looked<G: PoolLedger, R: Wait>(rt: &R, pool: &Pool<G>, seat: &mut PoolSeat<G>
     }
 }
 
+// The calls of one participant.
+fn play_leave<G: PoolLedger, R: Wait>(
+    rt: &R,
+    alloc: Global,
+    pool: &Pool<G>,
+    seats: Vec<PoolSeat<G>>,
+) -> Result<String, Error>
+    requires named { pool.now.name ≡ 7 }
+    requires parts { G.parts ≡ 1 }
+{
+    let mut seats = seats;
+    let Some(mut seat) = next(&mut seats) else {
+        return Err(Error::StartupPending);
+    };
+    let open = looked(rt, pool, &mut seat);
+    let given = give_leave_back(rt, pool, &mut seat);
+    let kept = visit(rt, alloc, pool, &mut seat, Use::Nothing);
+    let closed = close(rt, alloc, pool, &mut seat);
+    let shut = looked(rt, pool, &mut seat);
+    let mut told = String::new(alloc);
+    let _ = write!(told, "{open}, {given}, {kept}, {closed}, {shut}");
+    audited_one(rt, alloc, pool, told, seat)
+}
+
 // A pool of maximum 1 with one participant.
 fn row_of_leave<G: PoolLedger, R: Wait>(
     rt: &R,
@@ -336,17 +471,10 @@ fn row_of_leave<G: PoolLedger, R: Wait>(
     requires ledger { blank.name ≡ G.name }
     requires parts { (blank.parts ≡ G.parts) × (blank.parts ≡ 1) }
 {
-    let (pool, mut seats) = pool::<G>(alloc, 1, 1, blank)?;
-    let Some(mut seat) = next(&mut seats) else {
-        return Err(Error::StartupPending);
-    };
-    let open = looked(rt, &pool, &mut seat);
-    let given = give_leave_back(rt, &pool, &mut seat);
-    let kept = visit(rt, alloc, &pool, &mut seat, Use::Nothing);
-    let closed = close(rt, alloc, &pool, &mut seat);
-    let shut = looked(rt, &pool, &mut seat);
-    let told = audited(rt, alloc, &pool, vec![in alloc; seat]?)?;
-    Ok(format!(in alloc; "{open}, {given}, {kept}, {closed}, {shut}{told}")?)
+    match pool::<G>(alloc, 1, 1, blank) {
+        Ok((pool, seats)) => play_leave(rt, alloc, &pool, seats),
+        Err(error) => Err(error),
+    }
 }
 
 /// The row of leave to make a connection, and of the looks that leave a pool as it is.

@@ -1,7 +1,7 @@
 //! Two threads that share a pool of maximum 1.
 ghost use Rattle.std.specs.Prelude.{◌≡◌};
 
-use crate::rows::{next, pool};
+use crate::rows::{pair, pool};
 use crate::visiting::{Pool, Use, visit};
 use pg_listen::{PoolLedger, PoolSeat};
 use pg_wire::Error;
@@ -66,6 +66,40 @@ fn calls_of_both<G: PoolLedger + Send + Sync, R: Threads + Wait + Sync>(
     one.saturating_add(other)
 }
 
+// Whether the participants have receipts for so many calls, each at its place.
+fn audited<G: PoolLedger, R: Wait>(
+    rt: &R,
+    alloc: Global,
+    pool: &Pool<G>,
+    calls: u64,
+    first: PoolSeat<G>,
+    second: PoolSeat<G>,
+) -> Result<String, Error>
+    requires { G.parts ≡ 2 }
+{
+    let seats = vec![in alloc; first, second]?;
+    let in_order = has_each_place(alloc, seats.as_slice())?;
+    let are_all = pool.audit(rt, seats)? == calls;
+    Ok(format!(in alloc; "an entry for each call: {are_all}, each at its place: {in_order}")?)
+}
+
+// The calls of two threads, and what they come to.
+fn play<G: PoolLedger + Send + Sync, R: Threads + Wait + Sync>(
+    rt: &R,
+    alloc: Global,
+    pool: &Pool<G>,
+    seats: Vec<PoolSeat<G>>,
+) -> Result<String, Error>
+    requires named { pool.now.name ≡ 7 }
+    requires parts { G.parts ≡ 2 }
+{
+    let Some((mut first, mut second)) = pair(seats) else {
+        return Err(Error::StartupPending);
+    };
+    let calls = calls_of_both(rt, alloc, pool, &mut first, &mut second);
+    audited(rt, alloc, pool, calls, first, second)
+}
+
 // A pool of maximum 1, and two participants.
 fn row_of_threads<G: PoolLedger + Send + Sync, R: Threads + Wait + Sync>(
     rt: &R,
@@ -76,15 +110,10 @@ fn row_of_threads<G: PoolLedger + Send + Sync, R: Threads + Wait + Sync>(
     requires ledger { blank.name ≡ G.name }
     requires parts { (blank.parts ≡ G.parts) × (blank.parts ≡ 2) }
 {
-    let (pool, mut seats) = pool::<G>(alloc, 1, 2, blank)?;
-    let (Some(mut second), Some(mut first)) = (next(&mut seats), next(&mut seats)) else {
-        return Err(Error::StartupPending);
-    };
-    let calls = calls_of_both(rt, alloc, &pool, &mut first, &mut second);
-    let seats = vec![in alloc; first, second]?;
-    let in_order = has_each_place(alloc, seats.as_slice())?;
-    let are_all = pool.audit(rt, seats)? == calls;
-    Ok(format!(in alloc; "an entry for each call: {are_all}, each at its place: {in_order}")?)
+    match pool::<G>(alloc, 1, 2, blank) {
+        Ok((pool, seats)) => play(rt, alloc, &pool, seats),
+        Err(error) => Err(error),
+    }
 }
 
 /// The row of two threads that share a pool of maximum 1.
