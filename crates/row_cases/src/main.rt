@@ -7,22 +7,24 @@
 mod resolving;
 mod row;
 mod stream;
+mod telling;
 mod texts;
 mod values;
 mod wire;
 
+use crate::telling::push;
 use pg_wire::Text;
 use std::{env, fs, io};
 
 // What came of a row of this file. What stays kept from one row to the next is the resolver's alone.
-fn answer(rt: &HostRuntime, file: &str, kept: &mut Vec<Text>, row: &str) -> io::Result<String> {
+fn answer(told: &mut String, rt: &HostRuntime, file: &str, kept: &mut Vec<Text>, row: &str) {
     match file {
-        "wire" => Ok(wire::answer(rt.alloc(), row)?),
-        "stream" => stream::answer(rt, row),
-        "values" => Ok(values::answer(rt.alloc(), row)?),
-        "texts" => Ok(texts::answer(rt.alloc(), row)?),
-        "resolving" => Ok(resolving::answer(rt.alloc(), kept, row)),
-        _ => Ok(String::from_str(rt.alloc(), "no such file")?),
+        "wire" => wire::answer(told, rt.alloc(), row),
+        "stream" => stream::answer(told, rt, row),
+        "values" => values::answer(told, rt.alloc(), row),
+        "texts" => texts::answer(told, rt.alloc(), row),
+        "resolving" => resolving::answer(told, rt.alloc(), kept, row),
+        _ => push(told, "no such file"),
     }
 }
 
@@ -30,8 +32,9 @@ fn play(rt: &HostRuntime, file: &str) -> io::Result<()> {
     let rows = fs::read_to_string(rt, file)?;
     let mut kept = Vec::new(rt.alloc());
     for row in rows.lines() {
-        let answer = answer(rt, file, &mut kept, row)?;
-        println!(rt; "{row} -> {answer}")?;
+        let mut told = String::new(rt.alloc());
+        answer(&mut told, rt, file, &mut kept, row);
+        println!(rt; "{row} -> {told}")?;
     }
     Ok(())
 }

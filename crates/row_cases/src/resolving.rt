@@ -17,9 +17,9 @@ mod telling;
 mod types;
 mod words;
 
-use crate::resolving::telling::{push, push_error};
 use crate::row::{meant, text, two};
-use pg_wire::{Error, Text};
+use crate::telling::push;
+use pg_wire::Text;
 use std::alloc::Global;
 
 #[derive(Clone, Copy)]
@@ -51,35 +51,21 @@ static VERBS: [(&str, Verb); 11] = [
     ("plan", Verb::Plan),
 ];
 
-fn play(
-    told: &mut String,
-    alloc: Global,
-    rows: &mut Vec<Text>,
-    verb: Verb,
-    rest: &str,
-) -> Result<(), Error> {
+fn play(told: &mut String, alloc: Global, rows: &mut Vec<Text>, verb: Verb, rest: &str) {
     match verb {
         Verb::Row => {
             let _ = rows.push(text(alloc, rest));
             push(told, "kept");
-            Ok(())
         }
         Verb::Forget => {
             rows.clear();
             push(told, "forgotten");
-            Ok(())
         }
-        Verb::Take => {
-            types::take(told, alloc, rows, rest);
-            Ok(())
-        }
+        Verb::Take => types::take(told, alloc, rows, rest),
         Verb::Serve => types::serve(told, alloc, rows, rest),
         Verb::Text => types::lookup(told, alloc, rest),
         Verb::Columns => columns::lookup(told, alloc, rest),
-        Verb::Names => {
-            columns::names(told, alloc, rest);
-            Ok(())
-        }
+        Verb::Names => columns::names(told, alloc, rest),
         Verb::TypeRow => lookups::read_type(told, alloc, rest),
         Verb::ColumnRow => lookups::read_columns(told, alloc, rest),
         Verb::Nullable => described::nullable(told, alloc, rest),
@@ -88,16 +74,10 @@ fn play(
 }
 
 /// What came of a row, with those that are kept.
-pub fn answer(alloc: Global, kept: &mut Vec<Text>, row: &str) -> String {
-    let mut told = String::new(alloc);
+pub fn answer(told: &mut String, alloc: Global, kept: &mut Vec<Text>, row: &str) {
     let (word, rest) = two(row, ' ');
     match meant(&VERBS, word) {
-        None => push(&mut told, "no such case"),
-        Some(verb) => {
-            if let Err(error) = play(&mut told, alloc, kept, verb, rest) {
-                push_error(&mut told, error);
-            }
-        }
+        Some(verb) => play(told, alloc, kept, verb, rest),
+        None => push(told, "no such case"),
     }
-    told
 }

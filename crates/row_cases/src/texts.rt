@@ -19,85 +19,119 @@ mod told;
 mod urls;
 mod words;
 
-use crate::row::two;
+use crate::row::{meant, two};
+use crate::telling::push;
 use crate::texts::rows::plain;
-use pg_report::put_error;
-use pg_wire::Error;
-use std::alloc::{AllocError, Global};
+use std::alloc::Global;
 
-fn migration_answer(alloc: Global, word: &str, rest: &str) -> Result<String, AllocError> {
-    match word {
-        "lock-id" => migrations::lock_id(alloc, rest),
-        "migration" => migrations::migration_text(alloc, rest),
-        "timed" => migrations::timed(alloc, rest),
-        _ => String::from_str(alloc, "no such row"),
-    }
+#[derive(Clone, Copy)]
+enum Tried {
+    Url,
+    Built,
+    Settings,
+    Calls,
+    Socket,
+    Tls,
+    Mode,
+    Escaped,
+    Hmac,
+    Hkdf8,
+    Hi,
+    ClientFirst,
+    Proof,
+    ServerFinal,
+    NonceOf,
+    DrawnNonce,
+    Md5,
+    Key,
+    Lock,
+    Channel,
+    Channels,
+    Script,
+    ScriptBytes,
+    Live,
+    Report,
+    RefusedStart,
+    Error,
+    LockId,
+    Migration,
+    Timed,
 }
 
-fn report_answer(alloc: Global, word: &str, rest: &str) -> Result<String, Error> {
-    match word {
-        "script" => Ok(scripts::script(alloc, rest)?),
-        "script-bytes" => scripts::script_of_bytes(alloc, rest),
-        "live" => Ok(scripts::live(alloc, rest)?),
-        "report" => reports::reported(alloc),
-        "refused-start" => Ok(reports::refused_start(alloc)?),
-        "error" => failures::failed(alloc, rest),
-        _ => Ok(migration_answer(alloc, word, rest)?),
-    }
-}
+static TRIED: [(&str, Tried); 30] = [
+    ("url", Tried::Url),
+    ("built", Tried::Built),
+    ("settings", Tried::Settings),
+    ("calls", Tried::Calls),
+    ("socket", Tried::Socket),
+    ("tls", Tried::Tls),
+    ("mode", Tried::Mode),
+    ("escaped", Tried::Escaped),
+    ("hmac", Tried::Hmac),
+    ("hkdf8", Tried::Hkdf8),
+    ("hi", Tried::Hi),
+    ("client-first", Tried::ClientFirst),
+    ("proof", Tried::Proof),
+    ("server-final", Tried::ServerFinal),
+    ("nonce-of", Tried::NonceOf),
+    ("drawn-nonce", Tried::DrawnNonce),
+    ("md5", Tried::Md5),
+    ("key", Tried::Key),
+    ("lock", Tried::Lock),
+    ("channel", Tried::Channel),
+    ("channels", Tried::Channels),
+    ("script", Tried::Script),
+    ("script-bytes", Tried::ScriptBytes),
+    ("live", Tried::Live),
+    ("report", Tried::Report),
+    ("refused-start", Tried::RefusedStart),
+    ("error", Tried::Error),
+    ("lock-id", Tried::LockId),
+    ("migration", Tried::Migration),
+    ("timed", Tried::Timed),
+];
 
-fn lock_answer(alloc: Global, word: &str, rest: &str) -> Result<String, Error> {
-    match word {
-        "key" => locks::key_of_text(alloc, rest),
-        "lock" => Ok(locks::lock_texts(alloc, rest)?),
-        "channel" => listening::channel(alloc, rest),
-        "channels" => listening::channels(alloc, rest),
-        _ => report_answer(alloc, word, rest),
-    }
-}
-
-fn password_answer(alloc: Global, word: &str, rest: &str) -> Result<String, Error> {
-    match word {
-        "hmac" => proving::keyed_hash(alloc, rest),
-        "hkdf8" => proving::derived_key(alloc, rest),
-        "hi" => proving::salted(alloc, rest),
-        "client-first" => proving::client_first(alloc, rest),
-        "proof" => proving::proof(alloc, rest),
-        "server-final" => proving::server_final(alloc, rest),
-        "nonce-of" => Ok(proving::nonce(alloc, rest)?),
-        "drawn-nonce" => Ok(drawing::drawn_nonce(alloc)?),
-        "md5" => proving::md5_text(alloc, rest),
-        _ => lock_answer(alloc, word, rest),
-    }
-}
-
-fn answer_of(alloc: Global, row: &str) -> Result<String, Error> {
-    let (word, rest) = two(row, ' ');
-    match word {
-        "url" => urls::set_by_url(alloc, rest),
-        "built" => urls::built(alloc, rest),
-        "settings" => settings::settled(alloc, rest),
-        "calls" => calls::called(alloc, rest),
-        "socket" => calls::socket_file(alloc, rest),
-        "tls" => calls::tls_plan(alloc, rest),
-        "mode" => words::mode(alloc, rest),
-        "escaped" => words::escaped(alloc, rest),
-        _ => password_answer(alloc, word, rest),
-    }
-}
-
-fn put_answer(out: &mut String, answer: &Result<String, Error>) -> Result<(), AllocError> {
-    match answer {
-        Ok(text) => out.push_str(text.as_str()),
-        Err(error) => put_error(out, error),
+fn tell(told: &mut String, alloc: Global, tried: Tried, rest: &str) {
+    match tried {
+        Tried::Url => urls::set_by_url(told, alloc, rest),
+        Tried::Built => urls::built(told, alloc, rest),
+        Tried::Settings => settings::settled(told, alloc, rest),
+        Tried::Calls => calls::called(told, alloc, rest),
+        Tried::Socket => calls::socket_file(told, alloc, rest),
+        Tried::Tls => calls::tls_plan(told, alloc, rest),
+        Tried::Mode => words::mode(told, rest),
+        Tried::Escaped => words::escaped(told, alloc, rest),
+        Tried::Hmac => proving::keyed_hash(told, alloc, rest),
+        Tried::Hkdf8 => proving::derived_key(told, alloc, rest),
+        Tried::Hi => proving::salted(told, alloc, rest),
+        Tried::ClientFirst => proving::client_first(told, alloc, rest),
+        Tried::Proof => proving::proof(told, alloc, rest),
+        Tried::ServerFinal => proving::server_final(told, alloc, rest),
+        Tried::NonceOf => proving::nonce(told, rest),
+        Tried::DrawnNonce => drawing::drawn_nonce(told),
+        Tried::Md5 => proving::md5_text(told, alloc, rest),
+        Tried::Key => locks::key_of_text(told, alloc, rest),
+        Tried::Lock => locks::lock_texts(told, rest),
+        Tried::Channel => listening::channel(told, alloc, rest),
+        Tried::Channels => listening::channels(told, alloc, rest),
+        Tried::Script => scripts::script(told, alloc, rest.as_bytes()),
+        Tried::ScriptBytes => scripts::script_of_bytes(told, alloc, rest),
+        Tried::Live => scripts::live(told, alloc, rest),
+        Tried::Report => reports::reported(told, alloc),
+        Tried::RefusedStart => reports::refused_start(told, alloc),
+        Tried::Error => failures::failed(told, alloc, rest),
+        Tried::LockId => migrations::lock_id(told, rest),
+        Tried::Migration => migrations::migration_text(told, rest),
+        Tried::Timed => migrations::timed(told, alloc, rest),
     }
 }
 
 /// What came of a row.
-pub fn answer(alloc: Global, row: &str) -> Result<String, AllocError> {
-    let text = plain(alloc, row)?;
-    let answer = answer_of(alloc, text.as_str());
-    let mut out = String::new(alloc);
-    put_answer(&mut out, &answer)?;
-    Ok(out)
+pub fn answer(told: &mut String, alloc: Global, row: &str) {
+    let text = plain(alloc, row);
+    let (word, rest) = two(text.as_str(), ' ');
+    match meant(&TRIED, word) {
+        Some(tried) => tell(told, alloc, tried, rest),
+        None => push(told, "no such row"),
+    }
 }

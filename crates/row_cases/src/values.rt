@@ -14,42 +14,29 @@ mod putting;
 mod reading;
 mod rows;
 
-use crate::row::two;
-use crate::values::kinds::{Tried, play, tried_by};
-use crate::values::rows::{play_columns, play_row};
+use crate::row::{bytes, meant, two};
+use crate::values::kinds::{TRIED, Tried, play};
+use crate::values::rows::play_columns;
 use pg_values::PgValueFormat;
-use std::alloc::{AllocError, Global};
-
-fn play_value(
-    alloc: Global,
-    tried: Tried,
-    kind: &str,
-    bytes: Option<&[u8]>,
-) -> Result<String, AllocError> {
-    match tried {
-        Tried::TextRow => play_row(alloc, PgValueFormat::Text, kind, bytes),
-        Tried::BinaryRow => play_row(alloc, PgValueFormat::Binary, kind, bytes),
-        tried => play(alloc, tried, kind, bytes),
-    }
-}
+use std::alloc::Global;
 
 /// What came of a row.
-pub fn answer(alloc: Global, row: &str) -> Result<String, AllocError> {
+pub fn answer(told: &mut String, alloc: Global, row: &str) {
     let (verb, rest) = two(row, ' ');
-    let (kind, bytes) = two(rest, ' ');
-    match tried_by(verb) {
-        Tried::Types => given::types_alone(alloc),
-        Tried::Digests => digests::digests(alloc),
-        Tried::Columns => columns::find(alloc, kind),
-        Tried::Row => play_columns(alloc, false, kind),
-        Tried::ShortRow => play_columns(alloc, true, kind),
-        Tried::AnyKind => generic::play_kind(alloc, kind),
-        Tried::AnyText => generic::play(alloc, PgValueFormat::Text, kind, bytes),
-        Tried::AnyBinary => generic::play(alloc, PgValueFormat::Binary, kind, bytes),
-        tried if bytes == "null" => play_value(alloc, tried, kind, None),
-        tried => match hex::decode(alloc, bytes) {
-            Ok(bytes) => play_value(alloc, tried, kind, Some(&bytes)),
-            Err(_) => String::from_str(alloc, "no bytes"),
-        },
+    let (kind, digits) = two(rest, ' ');
+    match meant(&TRIED, verb).unwrap_or(Tried::Read) {
+        Tried::Types => given::types_alone(told, alloc),
+        Tried::Digests => digests::digests(told, alloc),
+        Tried::Columns => columns::find(told, alloc, kind),
+        Tried::Row => play_columns(told, alloc, false, kind),
+        Tried::ShortRow => play_columns(told, alloc, true, kind),
+        Tried::AnyKind => generic::play_kind(told, alloc, kind),
+        Tried::AnyText => generic::play(told, alloc, PgValueFormat::Text, kind, digits),
+        Tried::AnyBinary => generic::play(told, alloc, PgValueFormat::Binary, kind, digits),
+        tried if digits == "null" => play(told, alloc, tried, kind, None),
+        tried => {
+            let bytes = bytes(alloc, digits);
+            play(told, alloc, tried, kind, Some(&bytes));
+        }
     }
 }

@@ -6,26 +6,25 @@
 mod reading;
 mod writing;
 
-use crate::row::two;
-use crate::wire::reading::{got_by, tell_got};
-use crate::wire::writing::{sent_by, tell_sent};
-use std::alloc::{AllocError, Global};
+use crate::row::{bytes, meant, two};
+use crate::telling::push;
+use crate::wire::reading::{GOT, tell_got};
+use crate::wire::writing::{SENT, tell_sent};
+use std::alloc::Global;
 
-fn tell_read(alloc: Global, word: &str, body: &[u8]) -> Result<String, AllocError> {
-    match got_by(word) {
-        Some(message) => tell_got(alloc, message, body),
-        None => String::from_str(alloc, "no such message"),
+fn tell_read(told: &mut String, alloc: Global, word: &str, digits: &str) {
+    let body = bytes(alloc, digits);
+    match meant(&GOT, word) {
+        Some(message) => tell_got(told, alloc, message, &body),
+        None => push(told, "no such message"),
     }
 }
 
 /// What came of a row.
-pub fn answer(alloc: Global, row: &str) -> Result<String, AllocError> {
-    let (word, bytes) = two(row, ' ');
-    if let Some(message) = sent_by(word) {
-        return tell_sent(alloc, message);
-    }
-    match hex::decode(alloc, bytes) {
-        Ok(body) => tell_read(alloc, word, &body),
-        Err(_) => String::from_str(alloc, "no bytes"),
+pub fn answer(told: &mut String, alloc: Global, row: &str) {
+    let (word, digits) = two(row, ' ');
+    match meant(&SENT, word) {
+        Some(message) => tell_sent(told, alloc, message),
+        None => tell_read(told, alloc, word, digits),
     }
 }

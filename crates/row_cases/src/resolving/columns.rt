@@ -1,9 +1,10 @@
 //! Columns that are asked for.
 
 use crate::resolving::rows::column_row;
-use crate::resolving::telling::{push, push_asked, push_end};
+use crate::resolving::telling::{push_asked, push_end};
 use crate::resolving::words::{attribute, number};
 use crate::row::two;
+use crate::telling::push;
 use pg_resolve::{ColumnResolver, TableCache};
 use pg_wire::{Error, Oid, Text};
 use std::alloc::Global;
@@ -29,13 +30,10 @@ fn ask(
 }
 
 /// The text of a lookup of columns, and whether it is the last.
-pub fn lookup(told: &mut String, alloc: Global, words: &str) -> Result<(), Error> {
+pub fn lookup(told: &mut String, alloc: Global, words: &str) {
     let mut resolver = ColumnResolver::new(alloc);
-    let asked = ask(alloc, &mut resolver, words);
+    push_asked(told, ask(alloc, &mut resolver, words));
     drop(resolver);
-    let (first, is_last) = asked?;
-    push_asked(told, first, is_last);
-    Ok(())
 }
 
 fn take_rows(alloc: Global, cache: &mut TableCache, rows: &str) -> Result<(), Error> {

@@ -1,8 +1,9 @@
 //! What is asked of the columns of a statement.
 
-use crate::resolving::telling::{push, push_number};
+use crate::resolving::telling::push_error;
+use crate::telling::{push, push_number};
 use pg_resolve::nullable_query;
-use pg_wire::{Error, Text};
+use pg_wire::Text;
 use std::alloc::Global;
 
 // A long text is told by its length.
@@ -15,13 +16,13 @@ fn push_query(told: &mut String, text: &Text) {
 }
 
 /// The query that asks of so many columns whether they may be null.
-pub fn nullable(told: &mut String, alloc: Global, columns: &str) -> Result<(), Error> {
+pub fn nullable(told: &mut String, alloc: Global, columns: &str) {
     let columns = columns.parse::<usize>().unwrap_or(0);
     if columns == 0 {
-        push(told, "no columns");
-        return Ok(());
+        return push(told, "no columns");
     }
-    let query = nullable_query(alloc, columns)?;
-    push_query(told, &query);
-    Ok(())
+    match nullable_query(alloc, columns) {
+        Ok(query) => push_query(told, &query),
+        Err(error) => push_error(told, error),
+    }
 }

@@ -1,6 +1,6 @@
 //! What a type is made of, in words.
 
-use crate::resolving::telling::push;
+use crate::telling::push;
 use pg_arguments::{PgTypeInfo, PgTypeKind};
 use pg_wire::Text;
 

@@ -1,24 +1,24 @@
 //! Rows of lookups, as a server sends them.
 
-use crate::resolving::telling::{push, push_number, push_oid, push_quoted};
+use crate::resolving::telling::{push_error, push_oid};
+use crate::row::{counted, put_value};
+use crate::telling::{push, push_number, push_quoted};
 use pg_lookup::{column_row, type_row};
 use pg_resolve::{ColumnResolverRow, TypeResolverRow};
 use pg_wire::{DataRow, Error, Oid, Text, decode_data_row};
 use std::alloc::Global;
 use std::fmt::Write;
 
-fn put(bytes: &mut Vec<u8>, more: &[u8]) {
-    let _ = bytes.extend_from_slice(more);
-}
-
-// A value behind its length; a minus stands for a null.
-fn put_value(values: &mut Vec<u8>, word: &str) {
-    if word == "-" {
-        return put(values, &u32::MAX.to_be_bytes());
-    }
-    let length = u32::try_from(word.len()).unwrap_or(u32::MAX);
-    put(values, &length.to_be_bytes());
-    put(values, word.as_bytes());
+// A minus stands for a null.
+fn put_word(values: &mut Vec<u8>, word: &str) {
+    put_value(
+        values,
+        if word == "-" {
+            None
+        } else {
+            Some(word.as_bytes())
+        },
+    );
 }
 
 // The body of a row's message, of values that have a bar between them.
@@ -27,12 +27,9 @@ fn body_of(alloc: Global, words: &str) -> Vec<u8> {
     let mut values = Vec::new(alloc);
     for word in words.split('|') {
         count = count.wrapping_add(1);
-        put_value(&mut values, word);
+        put_word(&mut values, word);
     }
-    let mut body = Vec::new(alloc);
-    put(&mut body, &count.to_be_bytes());
-    put(&mut body, &values);
-    body
+    counted(alloc, count, &values)
 }
 
 fn row_of(alloc: Global, words: &str) -> Result<DataRow, Error> {
@@ -81,15 +78,19 @@ fn push_type_row(told: &mut String, row: &TypeResolverRow) {
     push_attributes(told, row.record_attributes.as_slice());
 }
 
-/// What a row of a type lookup with these values tells.
-pub fn read_type(told: &mut String, alloc: Global, words: &str) -> Result<(), Error> {
+fn type_row_of(alloc: Global, words: &str) -> Result<TypeResolverRow, Error> {
     let values = row_of(alloc, words)?;
     let row = type_row(alloc, &values);
     drop(values);
-    let row = row?;
-    push_type_row(told, &row);
-    drop(row);
-    Ok(())
+    row
+}
+
+/// What a row of a type lookup with these values tells.
+pub fn read_type(told: &mut String, alloc: Global, words: &str) {
+    match type_row_of(alloc, words) {
+        Ok(row) => push_type_row(told, &row),
+        Err(error) => push_error(told, error),
+    }
 }
 
 fn push_column_row(told: &mut String, row: &ColumnResolverRow) {
@@ -102,13 +103,17 @@ fn push_column_row(told: &mut String, row: &ColumnResolverRow) {
     }
 }
 
-/// What a row of a column lookup with these values tells.
-pub fn read_columns(told: &mut String, alloc: Global, words: &str) -> Result<(), Error> {
+fn column_row_of(alloc: Global, words: &str) -> Result<ColumnResolverRow, Error> {
     let values = row_of(alloc, words)?;
     let row = column_row(alloc, &values);
     drop(values);
-    let row = row?;
-    push_column_row(told, &row);
-    drop(row);
-    Ok(())
+    row
+}
+
+/// What a row of a column lookup with these values tells.
+pub fn read_columns(told: &mut String, alloc: Global, words: &str) {
+    match column_row_of(alloc, words) {
+        Ok(row) => push_column_row(told, &row),
+        Err(error) => push_error(told, error),
+    }
 }

@@ -1,9 +1,10 @@
 //! What a query's plan tells of its outputs.
 
-use crate::resolving::telling::push;
+use crate::resolving::telling::push_error;
 use crate::resolving::words::{list, next, text_or_none};
+use crate::telling::push;
 use pg_resolve::{Plan, plan_walk};
-use pg_wire::{Error, Sequence, Text};
+use pg_wire::{Sequence, Text};
 use std::alloc::Global;
 
 fn output(alloc: Global, words: &str) -> Option<Sequence<Text>> {
@@ -57,16 +58,17 @@ fn push_marks(told: &mut String, marks: &[Option<bool>]) {
 
 /// Marks the outputs in front of the first semicolon by the plan behind it: its nodes, each behind those below it, as a join type, a parent
 /// relation, how many nodes it takes of those in front of it, and its outputs. A minus stands for a field that it lacks.
-pub fn walk(told: &mut String, alloc: Global, rest: &str) -> Result<(), Error> {
+pub fn walk(told: &mut String, alloc: Global, rest: &str) {
     let (outputs, lines) = rest.split_once(" ; ").unwrap_or((rest, ""));
     let Some(plan) = plan(alloc, lines) else {
-        push(told, "no plan");
-        return Ok(());
+        return push(told, "no plan");
     };
     let outputs: Vec<Text> = list(alloc, outputs, '|');
     let marks = plan_walk(alloc, &plan, &outputs);
     drop(plan);
     drop(outputs);
-    push_marks(told, &marks?);
-    Ok(())
+    match marks {
+        Ok(marks) => push_marks(told, &marks),
+        Err(error) => push_error(told, error),
+    }
 }

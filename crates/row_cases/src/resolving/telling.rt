@@ -1,21 +1,7 @@
-//! What is written of an answer. What there is no memory for is missing in what is printed.
+//! What is written of an answer of the resolver.
 
+use crate::telling::{push, push_number, push_quoted};
 use pg_wire::{CallerFault, Error, Oid, ProtocolFault, Text};
-use std::fmt::Write;
-
-/// Writes a text.
-pub fn push(told: &mut String, text: &str) {
-    let _ = told.push_str(text);
-}
-
-/// Writes a text between quotes.
-pub fn push_quoted(told: &mut String, text: &str) {
-    let _ = write!(told, "{text:?}");
-}
-
-pub fn push_number(told: &mut String, number: u64) {
-    let _ = write!(told, "{number}");
-}
 
 /// A number, or a minus where there is none.
 pub fn push_oid(told: &mut String, oid: Option<Oid>) {
@@ -23,17 +9,6 @@ pub fn push_oid(told: &mut String, oid: Option<Oid>) {
         Some(oid) => push_number(told, u64::from(oid.0)),
         None => push(told, "-"),
     }
-}
-
-/// A text between quotes and whether it is the last, of what is asked in parts.
-pub fn push_asked(told: &mut String, first: Option<Text>, is_last: bool) {
-    let text = match &first {
-        Some(text) => text.as_str(),
-        None => "",
-    };
-    push_quoted(told, text);
-    push(told, if is_last { " true" } else { " false" });
-    drop(first);
 }
 
 fn push_types(told: &mut String, oids: &[Oid]) {
@@ -59,6 +34,18 @@ pub fn push_error(told: &mut String, error: Error) {
         _ => push(told, "another error"),
     }
     drop(error);
+}
+
+/// A text between quotes and whether it is the last, of what is asked in parts.
+pub fn push_asked(told: &mut String, asked: Result<(Option<Text>, bool), Error>) {
+    match asked {
+        Ok((Some(text), is_last)) => {
+            push_quoted(told, text.as_str());
+            push(told, if is_last { " true" } else { " false" });
+        }
+        Ok((None, is_last)) => push(told, if is_last { "\"\" true" } else { "\"\" false" }),
+        Err(error) => push_error(told, error),
+    }
 }
 
 /// How it ended.

@@ -2,9 +2,10 @@
 
 use crate::resolving::kinds::push_kind;
 use crate::resolving::rows::{oid, type_row};
-use crate::resolving::telling::{push, push_asked, push_end, push_number, push_oid};
+use crate::resolving::telling::{push_asked, push_end, push_error, push_oid};
 use crate::resolving::words::number;
 use crate::row::{text, two};
+use crate::telling::{push, push_number};
 use pg_arguments::PgTypeInfo;
 use pg_resolve::{Resolver, TypeCache, Wanted};
 use pg_wire::{Error, Oid, Text};
@@ -106,7 +107,9 @@ fn answer_lookups(
     resolver: &mut Resolver,
     cache: &mut TypeCache,
     rows: &[Text],
+    wanted: Oid,
 ) -> Result<u8, Error> {
+    resolver.push_type(alloc, None, Wanted::Oid(wanted))?;
     for made in 0..100u8 {
         match resolver.query(alloc)? {
             Some(text) => answer_lookup(alloc, resolver, cache, rows, text.as_str())?,
@@ -117,18 +120,22 @@ fn answer_lookups(
 }
 
 /// What a type is, where each lookup is answered by the rows that it asks.
-pub fn serve(told: &mut String, alloc: Global, rows: &[Text], wanted: &str) -> Result<(), Error> {
+pub fn serve(told: &mut String, alloc: Global, rows: &[Text], wanted: &str) {
     let wanted = Oid(number(wanted));
     let mut cache = TypeCache::new(alloc);
     let mut resolver = Resolver::new(alloc);
-    resolver.push_type(alloc, None, Wanted::Oid(wanted))?;
-    let made = answer_lookups(alloc, &mut resolver, &mut cache, rows)?;
-    push_number(told, u64::from(made));
-    push(told, " lookups, ");
-    push_end(told, resolver.ended(alloc));
-    push(told, ", ");
-    push_type(told, alloc, &cache, wanted);
-    Ok(())
+    match answer_lookups(alloc, &mut resolver, &mut cache, rows, wanted) {
+        Ok(made) => {
+            push_number(told, u64::from(made));
+            push(told, " lookups, ");
+            push_end(told, resolver.ended(alloc));
+            push(told, ", ");
+            push_type(told, alloc, &cache, wanted);
+        }
+        Err(error) => push_error(told, error),
+    }
+    drop(resolver);
+    drop(cache);
 }
 
 // `oid:7`, `name:mood` or `element:mood`.
@@ -155,11 +162,8 @@ fn ask(alloc: Global, resolver: &mut Resolver, words: &str) -> Result<(Option<Te
 }
 
 /// The text of a lookup, and whether it is the last.
-pub fn lookup(told: &mut String, alloc: Global, words: &str) -> Result<(), Error> {
+pub fn lookup(told: &mut String, alloc: Global, words: &str) {
     let mut resolver = Resolver::new(alloc);
-    let asked = ask(alloc, &mut resolver, words);
+    push_asked(told, ask(alloc, &mut resolver, words));
     drop(resolver);
-    let (first, is_last) = asked?;
-    push_asked(told, first, is_last);
-    Ok(())
 }

@@ -1,25 +1,26 @@
 // Links in memory.
 
+use crate::row::blob;
 use pg_stream::{
     Link, LinkRead, LinkUpgrade, LinkWrite, MemoryLink, ReadEvent, TlsWish, WriteEvent,
 };
-use pg_wire::{Blob, Sequence};
-use std::alloc::{AllocError, Global};
+use pg_wire::Sequence;
+use std::alloc::Global;
 
-pub fn piece(alloc: Global, bytes: &[u8]) -> Result<ReadEvent, AllocError> {
-    Ok(ReadEvent::Piece(Blob::from_slice(alloc, bytes)?))
+pub fn push_piece(alloc: Global, reads: &mut Sequence<ReadEvent>, bytes: &[u8]) {
+    let _ = reads.push(ReadEvent::Piece(blob(alloc, bytes)));
 }
 
-fn pieces_and_waits(alloc: Global) -> Result<Sequence<ReadEvent>, AllocError> {
+fn pieces_and_waits(alloc: Global) -> Sequence<ReadEvent> {
     let mut reads = Sequence::new(alloc);
-    reads.push(piece(alloc, b"abc")?)?;
-    reads.push(piece(alloc, b"")?)?;
-    reads.push(ReadEvent::Wait)?;
-    reads.push(piece(alloc, b"")?)?;
-    reads.push(piece(alloc, b"d")?)?;
-    reads.push(ReadEvent::End)?;
-    reads.push(ReadEvent::Fail)?;
-    Ok(reads)
+    push_piece(alloc, &mut reads, b"abc");
+    push_piece(alloc, &mut reads, b"");
+    let _ = reads.push(ReadEvent::Wait);
+    push_piece(alloc, &mut reads, b"");
+    push_piece(alloc, &mut reads, b"d");
+    let _ = reads.push(ReadEvent::End);
+    let _ = reads.push(ReadEvent::Fail);
+    reads
 }
 
 // Whether a read of one byte gives this one.
@@ -46,20 +47,20 @@ fn gives(link: &mut MemoryLink) -> bool {
 }
 
 /// A link gives its pieces and waits, and then waits for ever.
-pub fn gives_pieces_and_waits(alloc: Global) -> Result<bool, AllocError> {
-    let events = pieces_and_waits(alloc)?;
+pub fn gives_pieces_and_waits(alloc: Global) -> bool {
+    let events = pieces_and_waits(alloc);
     let mut link = MemoryLink::new(alloc, events, Sequence::new(alloc), true, false);
-    Ok(gives(&mut link))
+    gives(&mut link)
 }
 
-fn some_taken(alloc: Global) -> Result<Sequence<WriteEvent>, AllocError> {
+fn some_taken(alloc: Global) -> Sequence<WriteEvent> {
     let mut writes = Sequence::new(alloc);
-    writes.push(WriteEvent::Take { most: 2, times: 1 })?;
-    writes.push(WriteEvent::Take { most: 0, times: 1 })?;
-    writes.push(WriteEvent::Take { most: 9, times: 1 })?;
-    writes.push(WriteEvent::Wait)?;
-    writes.push(WriteEvent::Fail)?;
-    Ok(writes)
+    let _ = writes.push(WriteEvent::Take { most: 2, times: 1 });
+    let _ = writes.push(WriteEvent::Take { most: 0, times: 1 });
+    let _ = writes.push(WriteEvent::Take { most: 9, times: 1 });
+    let _ = writes.push(WriteEvent::Wait);
+    let _ = writes.push(WriteEvent::Fail);
+    writes
 }
 
 fn takes(link: &mut MemoryLink) -> bool {
@@ -72,10 +73,10 @@ fn takes(link: &mut MemoryLink) -> bool {
 }
 
 /// A link takes as many bytes as its events say, and then all.
-pub fn takes_as_the_events_say(alloc: Global) -> Result<bool, AllocError> {
-    let events = some_taken(alloc)?;
+pub fn takes_as_the_events_say(alloc: Global) -> bool {
+    let events = some_taken(alloc);
     let mut link = MemoryLink::new(alloc, Sequence::new(alloc), events, false, true);
-    Ok(takes(&mut link) && link.taken() == b"abcdefgh".as_slice())
+    takes(&mut link) && link.taken() == b"abcdefgh".as_slice()
 }
 
 /// A link that can be upgraded is so at once.

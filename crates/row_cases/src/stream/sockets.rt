@@ -77,36 +77,40 @@ fn tcp_pair(rt: &HostRuntime) -> io::Result<(TcpStream, TcpStream)> {
     Ok((near, far))
 }
 
+fn tcp_links(rt: &HostRuntime) -> io::Result<(TcpLink, TcpLink)> {
+    let (near, far) = tcp_pair(rt)?;
+    Ok((TcpLink::new(near)?, TcpLink::new(far)?))
+}
+
+fn unix_links(rt: &HostRuntime) -> io::Result<(UnixLink, UnixLink)> {
+    let (near, far) = UnixStream::pair(rt)?;
+    Ok((UnixLink::new(near)?, UnixLink::new(far)?))
+}
+
 /// Two links over TCP, which are not local.
 pub fn tcp_links_talk(rt: &HostRuntime) -> io::Result<bool> {
-    let (near, far) = tcp_pair(rt)?;
-    let (near, far) = (TcpLink::new(near)?, TcpLink::new(far)?);
+    let (near, far) = tcp_links(rt)?;
     let is_local = near.is_local();
     Ok(talk(near, far) && !is_local)
 }
 
 /// Two links over a local socket.
 pub fn unix_links_talk(rt: &HostRuntime) -> io::Result<bool> {
-    let (near, far) = UnixStream::pair(rt)?;
-    let (near, far) = (UnixLink::new(near)?, UnixLink::new(far)?);
+    let (near, far) = unix_links(rt)?;
     let is_local = near.is_local();
     Ok(talk(near, far) && is_local)
 }
 
 /// Two links over a local socket, each seen as a link of either kind.
 pub fn either_unix_links_talk(rt: &HostRuntime) -> io::Result<bool> {
-    let (near, far) = UnixStream::pair(rt)?;
-    let near = SocketLink::Unix(UnixLink::new(near)?);
-    let far = SocketLink::Unix(UnixLink::new(far)?);
-    Ok(talk(near, far))
+    let (near, far) = unix_links(rt)?;
+    Ok(talk(SocketLink::Unix(near), SocketLink::Unix(far)))
 }
 
 /// Two links over TCP, each seen as a link of either kind.
 pub fn either_tcp_links_talk(rt: &HostRuntime) -> io::Result<bool> {
-    let (near, far) = tcp_pair(rt)?;
-    let near = SocketLink::Tcp(TcpLink::new(near)?);
-    let far = SocketLink::Tcp(TcpLink::new(far)?);
-    Ok(talk(near, far))
+    let (near, far) = tcp_links(rt)?;
+    Ok(talk(SocketLink::Tcp(near), SocketLink::Tcp(far)))
 }
 
 /// A read that finds nothing sleeps, and doesn't spin.

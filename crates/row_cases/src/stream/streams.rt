@@ -1,12 +1,13 @@
 // Sources, sinks and streams.
 
-use crate::stream::links::piece;
+use crate::row::blob;
+use crate::stream::links::push_piece;
 use pg_stream::{
     Gathered, Link, MemoryLink, MemorySink, MemorySource, PgStream, ReadEvent, Sink, SinkWrite,
     Source, StdSink, StdSource, read_all, send,
 };
 use pg_wire::{Blob, DataRow, Error, Poll, Sequence, cut_data_row};
-use std::alloc::{AllocError, Global};
+use std::alloc::Global;
 
 // Whether a source is read with this answer, and gives just these bytes.
 fn is_gathered<S: Source>(alloc: Global, source: &mut S, answer: Gathered, bytes: &[u8]) -> bool {
@@ -19,26 +20,25 @@ pub fn is_read<S: Source>(alloc: Global, source: &mut S, bytes: &[u8]) -> bool {
     is_gathered(alloc, source, Gathered::Whole, bytes)
 }
 
-fn second(alloc: Global) -> Result<Sequence<u64>, AllocError> {
+fn second(alloc: Global) -> Sequence<u64> {
     let mut calls = Sequence::new(alloc);
-    calls.push(2)?;
-    Ok(calls)
+    let _ = calls.push(2);
+    calls
 }
 
 /// A source in memory fails at its second call, and goes on where it was.
-pub fn source_fails_at_a_call(alloc: Global) -> Result<bool, AllocError> {
-    let failing = second(alloc)?;
-    let mut source = MemorySource::new(Blob::from_slice(alloc, b"abcde")?, 3, failing);
+pub fn source_fails_at_a_call(alloc: Global) -> bool {
+    let mut source = MemorySource::new(blob(alloc, b"abcde"), 3, second(alloc));
     let failed = is_gathered(alloc, &mut source, Gathered::Failed, b"abc");
-    Ok(failed && is_read(alloc, &mut source, b"de"))
+    failed && is_read(alloc, &mut source, b"de")
 }
 
 /// A sink in memory fails at its second call, which takes nothing.
-pub fn sink_fails_at_a_call(alloc: Global) -> Result<bool, AllocError> {
-    let mut sink = MemorySink::new(alloc, second(alloc)?);
+pub fn sink_fails_at_a_call(alloc: Global) -> bool {
+    let mut sink = MemorySink::new(alloc, second(alloc));
     let sent = send(&mut sink, b"ab") && send(&mut sink, b"") && !send(&mut sink, b"cd");
     let goes_on = sink.write(b"ef") == SinkWrite::Moved(2);
-    Ok(sent && goes_on && sink.taken() == b"abef".as_slice())
+    sent && goes_on && sink.taken() == b"abef".as_slice()
 }
 
 /// A reader as a source.
@@ -63,18 +63,27 @@ pub fn std_writer_without_room() -> bool {
     !send(&mut small, b"hijk")
 }
 
-fn parameters(alloc: Global) -> Result<Sequence<ReadEvent>, AllocError> {
+fn parameters(alloc: Global) -> Sequence<ReadEvent> {
     let mut reads = Sequence::new(alloc);
-    reads.push(piece(alloc, b"S\x00\x00\x00\x11TimeZone\x00UTC\x00")?)?;
-    reads.push(piece(alloc, b"S\x00\x00\x00\x18server_version\x0016.3\x00")?)?;
-    reads.push(piece(alloc, b"S\x00\x00\x00\x11TimeZone\x00GMT\x00")?)?;
-    reads.push(piece(alloc, b"Z\x00\x00\x00\x05I")?)?;
-    Ok(reads)
+    push_piece(alloc, &mut reads, b"S\x00\x00\x00\x11TimeZone\x00UTC\x00");
+    push_piece(
+        alloc,
+        &mut reads,
+        b"S\x00\x00\x00\x18server_version\x0016.3\x00",
+    );
+    push_piece(alloc, &mut reads, b"S\x00\x00\x00\x11TimeZone\x00GMT\x00");
+    push_piece(alloc, &mut reads, b"Z\x00\x00\x00\x05I");
+    reads
 }
 
 // Whether a poll is ready and well.
 fn is_ready<T: Drop>(poll: Poll<Result<T, Error>>) -> bool {
     matches!(&poll, Poll::Ready(Ok(_)))
+}
+
+fn stream_of(alloc: Global, reads: Sequence<ReadEvent>) -> PgStream<MemoryLink> {
+    let link = MemoryLink::new(alloc, reads, Sequence::new(alloc), false, false);
+    PgStream::new(alloc, link)
 }
 
 fn keeps_parameters(alloc: Global, stream: &mut PgStream<MemoryLink>) -> bool {
@@ -85,11 +94,13 @@ fn keeps_parameters(alloc: Global, stream: &mut PgStream<MemoryLink>) -> bool {
 }
 
 /// A stream keeps the last value of each parameter, and the version as a number.
-pub fn keeps_the_last_parameters(alloc: Global) -> Result<bool, AllocError> {
-    let reads = parameters(alloc)?;
-    let link = MemoryLink::new(alloc, reads, Sequence::new(alloc), false, false);
-    let mut stream = PgStream::new(alloc, link);
-    Ok(keeps_parameters(alloc, &mut stream))
+pub fn keeps_the_last_parameters(alloc: Global) -> bool {
+    let mut stream = stream_of(alloc, parameters(alloc));
+    keeps_parameters(alloc, &mut stream)
+}
+
+fn is_well(done: Result<(), Error>) -> bool {
+    done.is_ok()
 }
 
 fn sends_the_rest(stream: &mut PgStream<MemoryLink>) -> bool {
@@ -103,36 +114,34 @@ fn sends_the_rest(stream: &mut PgStream<MemoryLink>) -> bool {
 }
 
 fn keeps_room(stream: &mut PgStream<MemoryLink>, frames: &Blob) -> bool {
-    stream.reserve_cleanup(8).is_ok()
-        && stream.queue(frames).is_ok()
-        && stream.shrink_buffers().is_ok()
+    is_well(stream.reserve_cleanup(8))
+        && is_well(stream.queue(frames))
+        && is_well(stream.shrink_buffers())
         && sends_the_rest(stream)
 }
 
 /// A stream keeps the room that was asked for, also where its buffers shrink.
-pub fn keeps_room_for_cleanup(alloc: Global) -> Result<bool, AllocError> {
-    let frames = Blob::from_slice(alloc, b"abc")?;
-    let link = MemoryLink::new(
-        alloc,
-        Sequence::new(alloc),
-        Sequence::new(alloc),
-        false,
-        false,
-    );
-    let mut stream = PgStream::new(alloc, link);
-    Ok(keeps_room(&mut stream, &frames))
+pub fn keeps_room_for_cleanup(alloc: Global) -> bool {
+    let frames = blob(alloc, b"abc");
+    let mut stream = stream_of(alloc, Sequence::new(alloc));
+    keeps_room(&mut stream, &frames)
 }
 
-// The next row, which shares what was received.
-fn next_row(alloc: Global, stream: &mut PgStream<MemoryLink>) -> Result<Option<DataRow>, Error> {
+// Keeps the next row, which shares what was received.
+fn keep_row(
+    alloc: Global,
+    stream: &mut PgStream<MemoryLink>,
+    rows: &mut Vec<DataRow>,
+) -> Result<(), Error> {
     match stream.poll_ahead(alloc) {
         Poll::Ready(Ok(front)) => {
             let frame = stream.share(front)?;
             stream.pass(front);
-            Ok(Some(cut_data_row(alloc, frame)?))
+            rows.push(cut_data_row(alloc, frame)?)?;
+            Ok(())
         }
         Poll::Ready(Err(e)) => Err(e),
-        Poll::Pending => Ok(None),
+        Poll::Pending => Ok(()),
     }
 }
 
@@ -140,30 +149,31 @@ fn is_row(row: &DataRow, value: &[u8]) -> bool {
     row.len() == 1 && row.get(0) == Some(value)
 }
 
-fn shares(alloc: Global, stream: &mut PgStream<MemoryLink>) -> Result<bool, Error> {
-    let (Some(first), Some(second)) = (next_row(alloc, stream)?, next_row(alloc, stream)?) else {
-        return Ok(false);
-    };
-    let Some(third) = next_row(alloc, stream)? else {
-        return Ok(false);
+fn are_shared(rows: &[DataRow]) -> bool {
+    let [first, second, third] = rows else {
+        return false;
     };
     let is_shared = !first.storage().is_unique();
-    Ok(is_shared && is_row(&first, b"1") && is_row(&second, b"22") && is_row(&third, b"333"))
+    is_shared && is_row(first, b"1") && is_row(second, b"22") && is_row(third, b"333")
 }
 
-fn rows(alloc: Global) -> Result<Sequence<ReadEvent>, AllocError> {
+fn rows(alloc: Global) -> Sequence<ReadEvent> {
     let mut reads = Sequence::new(alloc);
-    reads.push(piece(
+    push_piece(
         alloc,
+        &mut reads,
         b"D\x00\x00\x00\x0b\x00\x01\x00\x00\x00\x011D\x00\x00\x00\x0c\x00\x01\x00\x00\x00\x0222D\x00\x00",
-    )?)?;
-    reads.push(piece(alloc, b"\x00\x0d\x00\x01\x00\x00\x00\x03333")?)?;
-    Ok(reads)
+    );
+    push_piece(alloc, &mut reads, b"\x00\x0d\x00\x01\x00\x00\x00\x03333");
+    reads
 }
 
 /// Rows that came in one piece share its storage, and stay the same whatever is read later.
-pub fn rows_share_a_piece(alloc: Global) -> Result<bool, AllocError> {
-    let link = MemoryLink::new(alloc, rows(alloc)?, Sequence::new(alloc), false, false);
-    let mut stream = PgStream::new(alloc, link);
-    Ok(matches!(shares(alloc, &mut stream), Ok(true)))
+pub fn rows_share_a_piece(alloc: Global) -> bool {
+    let mut stream = stream_of(alloc, rows(alloc));
+    let mut kept = Vec::new(alloc);
+    for _ in 0..3 {
+        drop(keep_row(alloc, &mut stream, &mut kept));
+    }
+    are_shared(&kept)
 }

@@ -1,10 +1,10 @@
 ghost use Rattle.std.specs.Prelude.{◌≡◌, ℕ};
 ghost use Rattle.rand_core.specs.Steps.{stream_of, steps_u32};
 
+use crate::telling::push;
 use pg_auth::make_nonce;
 use rand_core::utils::NextWord;
 use rand_core::{Rng, utils};
-use std::alloc::{AllocError, Global};
 use std::marker::Model;
 
 // A generator that gives 0 and then always 11.
@@ -44,6 +44,7 @@ impl Rng for ZeroThenElevens {
 }
 
 // A nonce that is drawn from the generator.
-pub(crate) fn drawn_nonce(alloc: Global) -> Result<String, AllocError> {
-    String::from_str(alloc, make_nonce(&mut ZeroThenElevens(0)).as_str())
+pub(crate) fn drawn_nonce(told: &mut String) {
+    let nonce = make_nonce(&mut ZeroThenElevens(0));
+    push(told, nonce.as_str());
 }

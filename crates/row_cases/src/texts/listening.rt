@@ -1,21 +1,23 @@
+use crate::row::text;
+use crate::telling::push;
+use crate::texts::told::push_text;
 use pg_listener::{listen_each_text, listen_text, unlisten_all_text, unlisten_text};
-use pg_wire::{Error, Text};
 use std::alloc::Global;
 
 // The statements of one channel.
-pub(crate) fn channel(alloc: Global, name: &str) -> Result<String, Error> {
-    let listen = listen_text(alloc, name)?;
-    let unlisten = unlisten_text(alloc, name)?;
-    Ok(format!(in alloc; "{} | {}", listen.as_str(), unlisten.as_str())?)
+pub(crate) fn channel(told: &mut String, alloc: Global, name: &str) {
+    push_text(told, listen_text(alloc, name));
+    push(told, " | ");
+    push_text(told, unlisten_text(alloc, name));
 }
 
 // The statements of several channels; the row is their names.
-pub(crate) fn channels(alloc: Global, row: &str) -> Result<String, Error> {
+pub(crate) fn channels(told: &mut String, alloc: Global, row: &str) {
     let mut names = Vec::new(alloc);
     for name in row.split(' ') {
-        names.push(Text::from_str(alloc, name)?)?;
+        let _ = names.push(text(alloc, name));
     }
-    let listen = listen_each_text(alloc, names.as_slice())?;
-    let unlisten = unlisten_all_text(alloc)?;
-    Ok(format!(in alloc; "{} | {}", listen.as_str(), unlisten.as_str())?)
+    push_text(told, listen_each_text(alloc, names.as_slice()));
+    push(told, " | ");
+    push_text(told, unlisten_all_text(alloc));
 }

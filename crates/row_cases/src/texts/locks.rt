@@ -1,12 +1,27 @@
+use crate::telling::{push, push_quoted};
+use crate::texts::told::push_error;
 use pg_locks::{PgAdvisoryLock, PgAdvisoryLockKey, key_line};
-use pg_wire::Error;
-use std::alloc::{AllocError, Global};
+use std::alloc::Global;
+use std::fmt::Write;
+
+fn push_key(told: &mut String, alloc: Global, text: &str) {
+    match PgAdvisoryLock::new(alloc, text) {
+        Ok(lock) => {
+            let key = lock.key();
+            let _ = write!(told, "{key:?}");
+        }
+        Err(error) => push_error(told, error),
+    }
+}
 
 // The key of a text's lock, and the line that tells it.
-pub(crate) fn key_of_text(alloc: Global, text: &str) -> Result<String, Error> {
-    let lock = PgAdvisoryLock::new(alloc, text)?;
-    let line = key_line(alloc, text)?;
-    Ok(format!(in alloc; "{:?} {line:?}", lock.key())?)
+pub(crate) fn key_of_text(told: &mut String, alloc: Global, text: &str) {
+    push_key(told, alloc, text);
+    push(told, " ");
+    match key_line(alloc, text) {
+        Ok(line) => push_quoted(told, line.as_str()),
+        Err(error) => push_error(told, error),
+    }
 }
 
 // A number, or two with a comma between them.
@@ -20,11 +35,15 @@ fn key(row: &str) -> PgAdvisoryLockKey {
 }
 
 // The texts of a key; the row is the key.
-pub(crate) fn lock_texts(alloc: Global, row: &str) -> Result<String, AllocError> {
+pub(crate) fn lock_texts(told: &mut String, row: &str) {
     let lock = PgAdvisoryLock::with_key(key(row));
     let key = lock.key();
+    push(told, key.lock_statement());
+    push(told, " | ");
+    push(told, key.try_lock_statement());
+    push(told, " | ");
+    push(told, key.unlock_statement());
+    push(told, " | ");
     let query = key.unlock_query();
-    let (wait, try_lock) = (key.lock_statement(), key.try_lock_statement());
-    let unlock = key.unlock_statement();
-    format!(in alloc; "{wait} | {try_lock} | {unlock} | {}", query.as_str())
+    push(told, query.as_str());
 }

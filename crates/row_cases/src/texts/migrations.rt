@@ -1,4 +1,5 @@
-use crate::row::two;
+use crate::row::{meant, two};
+use crate::telling::{push, push_number};
 use pg_migrate::{
     Clock, MemoryClock, as_int8, current_database_text, database_exists_text, elapsed,
     generate_lock_id, lock_text, put_create_database, put_create_schema, put_create_table,
@@ -8,65 +9,96 @@ use pg_migrate::{
 use pg_wire::Sequence;
 use std::alloc::{AllocError, Global};
 use std::collections::VecDeque;
+use std::fmt::Write;
 
-pub(crate) fn lock_id(alloc: Global, database: &str) -> Result<String, AllocError> {
-    format!(in alloc; "{}", generate_lock_id(database))
+pub(crate) fn lock_id(told: &mut String, database: &str) {
+    let id = generate_lock_id(database);
+    let _ = write!(told, "{id}");
 }
 
-fn put_fixed(out: &mut String, word: &str) -> Result<(), AllocError> {
-    match word {
-        "current-database" => out.push_str(current_database_text()),
-        "lock" => out.push_str(lock_text()),
-        "unlock" => out.push_str(unlock_text()),
-        "database-exists" => out.push_str(database_exists_text()),
-        "version" => out.push_str(version_text()),
-        _ => out.push_str("no such text"),
-    }
+#[derive(Clone, Copy)]
+enum Statement {
+    CreateSchema,
+    CreateTable,
+    DirtyVersion,
+    List,
+    InsertRow,
+    UpdateTime,
+    DeleteRow,
+    CreateDatabase,
+    DropDatabase,
+    Terminate,
+    TerminateBefore92,
+    CurrentDatabase,
+    Lock,
+    Unlock,
+    DatabaseExists,
+    Version,
 }
 
-fn put_of_database(out: &mut String, word: &str, database: &str) -> Result<(), AllocError> {
-    match word {
-        "create-database" => put_create_database(out, database),
-        "drop-database" => put_drop_database(out, database),
-        "terminate" => put_terminate(out, 90200, database),
-        "terminate-9.1" => put_terminate(out, 90199, database),
-        _ => put_fixed(out, word),
-    }
-}
+static STATEMENTS: [(&str, Statement); 16] = [
+    ("create-schema", Statement::CreateSchema),
+    ("create-table", Statement::CreateTable),
+    ("dirty-version", Statement::DirtyVersion),
+    ("list", Statement::List),
+    ("insert-row", Statement::InsertRow),
+    ("update-time", Statement::UpdateTime),
+    ("delete-row", Statement::DeleteRow),
+    ("create-database", Statement::CreateDatabase),
+    ("drop-database", Statement::DropDatabase),
+    ("terminate", Statement::Terminate),
+    ("terminate-9.1", Statement::TerminateBefore92),
+    ("current-database", Statement::CurrentDatabase),
+    ("lock", Statement::Lock),
+    ("unlock", Statement::Unlock),
+    ("database-exists", Statement::DatabaseExists),
+    ("version", Statement::Version),
+];
 
-fn put_named(out: &mut String, word: &str, name: &str) -> Result<(), AllocError> {
-    match word {
-        "create-schema" => put_create_schema(out, name),
-        "create-table" => put_create_table(out, name),
-        "dirty-version" => put_dirty_version(out, name),
-        "list" => put_list(out, name),
-        "insert-row" => put_insert_row(out, name),
-        "update-time" => put_update_time(out, name),
-        "delete-row" => put_delete_row(out, name),
-        _ => put_of_database(out, word, name),
+fn put(out: &mut String, statement: Statement, name: &str) -> Result<(), AllocError> {
+    match statement {
+        Statement::CreateSchema => put_create_schema(out, name),
+        Statement::CreateTable => put_create_table(out, name),
+        Statement::DirtyVersion => put_dirty_version(out, name),
+        Statement::List => put_list(out, name),
+        Statement::InsertRow => put_insert_row(out, name),
+        Statement::UpdateTime => put_update_time(out, name),
+        Statement::DeleteRow => put_delete_row(out, name),
+        Statement::CreateDatabase => put_create_database(out, name),
+        Statement::DropDatabase => put_drop_database(out, name),
+        Statement::Terminate => put_terminate(out, 90200, name),
+        Statement::TerminateBefore92 => put_terminate(out, 90199, name),
+        Statement::CurrentDatabase => out.push_str(current_database_text()),
+        Statement::Lock => out.push_str(lock_text()),
+        Statement::Unlock => out.push_str(unlock_text()),
+        Statement::DatabaseExists => out.push_str(database_exists_text()),
+        Statement::Version => out.push_str(version_text()),
     }
 }
 
 // The text of this word, for a table, a schema or a database of this name.
-pub(crate) fn migration_text(alloc: Global, rest: &str) -> Result<String, AllocError> {
+pub(crate) fn migration_text(told: &mut String, rest: &str) {
     let (word, name) = two(rest, ' ');
-    let mut out = String::new(alloc);
-    put_named(&mut out, word, name)?;
-    Ok(out)
+    let Some(statement) = meant(&STATEMENTS, word) else {
+        return push(told, "no such text");
+    };
+    let _ = put(told, statement, name);
 }
 
-fn clock(alloc: Global, first: &str, second: &str) -> Result<MemoryClock, AllocError> {
+fn clock(alloc: Global, first: &str, second: &str) -> MemoryClock {
     let mut times = VecDeque::new(alloc);
-    times.push_back(first.parse().unwrap_or(0))?;
-    times.push_back(second.parse().unwrap_or(0))?;
-    Ok(MemoryClock::new(times, Sequence::new(alloc)))
+    let _ = times.push_back(first.parse().unwrap_or(0));
+    let _ = times.push_back(second.parse().unwrap_or(0));
+    MemoryClock::new(times, Sequence::new(alloc))
 }
 
 // The nanoseconds between two readings, and their int8.
-pub(crate) fn timed(alloc: Global, rest: &str) -> Result<String, AllocError> {
+pub(crate) fn timed(told: &mut String, alloc: Global, rest: &str) {
     let (first, second) = two(rest, ' ');
-    let mut clock = clock(alloc, first, second)?;
+    let mut clock = clock(alloc, first, second);
     let start = clock.now();
     let nanos = elapsed(start, clock.now());
-    format!(in alloc; "{nanos} {}", as_int8(nanos))
+    push_number(told, nanos);
+    let number = as_int8(nanos);
+    let _ = write!(told, " {number}");
 }

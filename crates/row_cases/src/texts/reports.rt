@@ -1,3 +1,6 @@
+use crate::row::blob;
+use crate::telling::push;
+use crate::texts::told::push_error;
 use pg_columns::PgColumns;
 use pg_report::{Answer, End, Item, Outcome, Started, report};
 use pg_request::CacheStep;
@@ -5,7 +8,7 @@ use pg_wire::{
     Blob, Error, IoCause, Oid, Oids, ProtocolFault, Sequence, ServerFault, decode_data_row,
     decode_row_description,
 };
-use std::alloc::{AllocError, Global};
+use std::alloc::Global;
 
 fn outcome(items: Sequence<Item>, cache: CacheStep, end: End) -> Outcome {
     Outcome {
@@ -39,31 +42,51 @@ fn described(parameters: Vec<Oid>, fields: PgColumns) -> End {
     })
 }
 
+fn two_described(alloc: Global, fields: PgColumns) -> End {
+    let mut parameters = Vec::new(alloc);
+    let _ = parameters.push(Oid(23));
+    let _ = parameters.push(Oid(25));
+    described(parameters, fields)
+}
+
 // A row of a null, of no bytes and of two bytes.
 const THREE_VALUES: [u8; 16] = *b"\x00\x03\xff\xff\xff\xff\x00\x00\x00\x00\x00\x00\x00\x02\x07\xfa";
 
-fn row(alloc: Global, body: &[u8]) -> Result<Item, Error> {
-    Ok(Item::Row(decode_data_row(alloc, body)?))
+fn push_row(alloc: Global, items: &mut Sequence<Item>, body: &[u8]) {
+    match decode_data_row(alloc, body) {
+        Ok(row) => {
+            let _ = items.push(Item::Row(row));
+        }
+        Err(error) => drop(error),
+    }
 }
 
-fn items(alloc: Global) -> Result<Sequence<Item>, Error> {
-    let three = row(alloc, &THREE_VALUES)?;
-    let none = row(alloc, b"\x00\x00")?;
-    let piece = Blob::from_slice(alloc, b"Q")?;
-    let items = [
-        three,
-        none,
-        Item::Count(12),
-        Item::Piece(piece),
-        Item::Piece(Blob::new(alloc)),
-    ];
-    Ok(Sequence::from_vec(Vec::from_array(alloc, items)?))
+fn items(alloc: Global) -> Sequence<Item> {
+    let mut items = Sequence::new(alloc);
+    push_row(alloc, &mut items, &THREE_VALUES);
+    push_row(alloc, &mut items, b"\x00\x00");
+    let _ = items.push(Item::Count(12));
+    let _ = items.push(Item::Piece(blob(alloc, b"Q")));
+    let _ = items.push(Item::Piece(Blob::new(alloc)));
+    items
 }
 
-fn all_played(alloc: Global, items: Sequence<Item>, two: End) -> Result<String, AllocError> {
+fn push_report(
+    told: &mut String,
+    alloc: Global,
+    start: &Result<Started, Error>,
+    outcomes: &[Outcome],
+    sent: &[u8],
+) {
+    if let Ok(lines) = report(alloc, start, outcomes, sent) {
+        push(told, lines.as_str());
+    }
+}
+
+fn push_played(told: &mut String, alloc: Global, two: End) {
     let same = CacheStep::Same;
     let outcomes = [
-        outcome(items, same, End::Ok(Answer::Total(1))),
+        outcome(items(alloc), same, End::Ok(Answer::Total(1))),
         bare(alloc, CacheStep::Hit, End::Ok(Answer::Unit)),
         bare(alloc, CacheStep::Put, two),
         bare(
@@ -77,19 +100,22 @@ fn all_played(alloc: Global, items: Sequence<Item>, two: End) -> Result<String, 
         bare(alloc, same, End::Err(Error::Io(IoCause::End))),
     ];
     let start = Ok(Started { sent: 90, read: 15 });
-    report(alloc, &start, &outcomes, b"Q\x00\xff")
+    push_report(told, alloc, &start, &outcomes, b"Q\x00\xff");
+    drop(start);
+    drop(outcomes);
 }
 
 // A report of all that can be played.
-pub(crate) fn reported(alloc: Global) -> Result<String, Error> {
-    let items = items(alloc)?;
-    let parameters = Vec::from_array(alloc, [Oid(23), Oid(25)])?;
-    let two = described(parameters, two_columns(alloc)?);
-    Ok(all_played(alloc, items, two)?)
+pub(crate) fn reported(told: &mut String, alloc: Global) {
+    match two_columns(alloc) {
+        Ok(fields) => push_played(told, alloc, two_described(alloc, fields)),
+        Err(error) => push_error(told, error),
+    }
 }
 
-pub(crate) fn refused_start(alloc: Global) -> Result<String, AllocError> {
+pub(crate) fn refused_start(told: &mut String, alloc: Global) {
     let fault = ServerFault::Unlawful { tag: b'R' };
     let start = Err(Error::Protocol(ProtocolFault::Server(fault)));
-    report(alloc, &start, &[], b"")
+    push_report(told, alloc, &start, &[], b"");
+    drop(start);
 }

@@ -1,18 +1,18 @@
 use crate::row::bytes;
+use crate::telling::push_shown;
 use pg_script::{read_live, read_script};
-use pg_wire::Error;
-use std::alloc::{AllocError, Global};
+use std::alloc::Global;
 
-pub(crate) fn script(alloc: Global, text: &str) -> Result<String, AllocError> {
-    format!(in alloc; "{:?}", read_script(alloc, text.as_bytes()))
+pub(crate) fn script(told: &mut String, alloc: Global, text: &[u8]) {
+    push_shown(told, read_script(alloc, text));
 }
 
 // A script of bytes that are no text.
-pub(crate) fn script_of_bytes(alloc: Global, digits: &str) -> Result<String, Error> {
-    let bytes = bytes(alloc, digits)?;
-    Ok(format!(in alloc; "{:?}", read_script(alloc, &bytes))?)
+pub(crate) fn script_of_bytes(told: &mut String, alloc: Global, digits: &str) {
+    let bytes = bytes(alloc, digits);
+    script(told, alloc, &bytes);
 }
 
-pub(crate) fn live(alloc: Global, text: &str) -> Result<String, AllocError> {
-    format!(in alloc; "{:?}", read_live(alloc, text.as_bytes()))
+pub(crate) fn live(told: &mut String, alloc: Global, text: &str) {
+    push_shown(told, read_live(alloc, text.as_bytes()));
 }

@@ -1,5 +1,5 @@
 use crate::row::{text, two};
-use crate::texts::told::told;
+use crate::texts::told::push_options;
 use pg_options::{PgConnectOptions, PgSettings};
 use pg_wire::{Error, Text};
 use std::alloc::Global;
@@ -36,13 +36,15 @@ fn settings_of(alloc: Global, row: &str) -> PgSettings {
 
 fn options_of(alloc: Global, row: &str) -> Result<PgConnectOptions, Error> {
     let settings = settings_of(alloc, row);
-    match row.split_once("url ") {
+    let options = match row.split_once("url ") {
         Some((_, url)) => PgConnectOptions::from_str(alloc, &settings, url),
         None => PgConnectOptions::new_without_pgpass(alloc, &settings),
-    }
+    };
+    drop(settings);
+    options
 }
 
 // What settings make, perhaps with a URL over them.
-pub(crate) fn settled(alloc: Global, row: &str) -> Result<String, Error> {
-    told(alloc, options_of(alloc, row))
+pub(crate) fn settled(told: &mut String, alloc: Global, row: &str) {
+    push_options(told, options_of(alloc, row));
 }

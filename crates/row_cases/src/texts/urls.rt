@@ -1,28 +1,32 @@
-use crate::texts::told::told;
+use crate::telling::push;
+use crate::texts::told::{push_error, push_options};
 use pg_options::{PgConnectOptions, PgSettings};
 use pg_wire::Error;
 use std::alloc::Global;
 
 fn read(alloc: Global, url: &str) -> Result<PgConnectOptions, Error> {
-    PgConnectOptions::from_str(alloc, &PgSettings::empty(), url)
+    let settings = PgSettings::empty();
+    let options = PgConnectOptions::from_str(alloc, &settings, url);
+    drop(settings);
+    options
 }
 
 // What a URL sets.
-pub(crate) fn set_by_url(alloc: Global, url: &str) -> Result<String, Error> {
-    told(alloc, read(alloc, url))
+pub(crate) fn set_by_url(told: &mut String, alloc: Global, url: &str) {
+    push_options(told, read(alloc, url));
 }
 
-fn url_of(alloc: Global, options: &PgConnectOptions) -> Result<String, Error> {
+fn push_url(told: &mut String, alloc: Global, options: &PgConnectOptions) {
     match options.to_url_lossy(alloc) {
-        Ok(url) => Ok(String::from_str(alloc, url.as_str())?),
-        Err(error) => Err(error),
+        Ok(url) => push(told, url.as_str()),
+        Err(error) => push_error(told, error),
     }
 }
 
 // The URL that is built of what a URL sets.
-pub(crate) fn built(alloc: Global, url: &str) -> Result<String, Error> {
+pub(crate) fn built(told: &mut String, alloc: Global, url: &str) {
     match read(alloc, url) {
-        Ok(options) => url_of(alloc, &options),
-        Err(error) => Err(error),
+        Ok(options) => push_url(told, alloc, &options),
+        Err(error) => push_error(told, error),
     }
 }

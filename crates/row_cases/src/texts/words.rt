@@ -1,24 +1,20 @@
+use crate::telling::push;
+use crate::texts::told::push_error;
 use pg_options::{PgOptionsWriteEscaped, PgSslMode};
-use pg_wire::Error;
-use std::alloc::{AllocError, Global};
+use std::alloc::Global;
 
-pub(crate) fn mode(alloc: Global, name: &str) -> Result<String, Error> {
+pub(crate) fn mode(told: &mut String, name: &str) {
     match name.parse::<PgSslMode>() {
-        Ok(mode) => Ok(String::from_str(alloc, mode.name())?),
-        Err(error) => Err(error),
+        Ok(mode) => push(told, mode.name()),
+        Err(error) => push_error(told, error),
     }
 }
 
 // A text and then a backslash, both written escaped.
-fn write_escaped(out: &mut PgOptionsWriteEscaped, text: &str) -> Result<(), AllocError> {
-    out.write_str(text)?;
-    out.write_char('\\')
-}
-
-pub(crate) fn escaped(alloc: Global, text: &str) -> Result<String, Error> {
+pub(crate) fn escaped(told: &mut String, alloc: Global, text: &str) {
     let mut out = PgOptionsWriteEscaped::new(String::new(alloc));
-    match write_escaped(&mut out, text) {
-        Ok(()) => Ok(out.into_string()),
-        Err(error) => Err(Error::from(error)),
-    }
+    let _ = out.write_str(text);
+    let _ = out.write_char('\\');
+    let text = out.into_string();
+    push(told, text.as_str());
 }

@@ -3,9 +3,11 @@
 
 ghost use Rattle.std.specs.Prelude.{◌≤◌};
 
+use crate::telling::push;
 use pg_values::{read_array, read_composite};
 use pg_wire::{Error, Text};
-use std::alloc::{AllocError, Global};
+use std::alloc::Global;
+use std::fmt::Write;
 
 const ALPHABET: &[u8; 12] = b"{},\"\\NUL()a ";
 
@@ -111,12 +113,14 @@ fn digest_of(alloc: Global, form: Form) -> Digest {
     digest
 }
 
+fn push_digest(told: &mut String, digest: Digest) {
+    let (hash, taken) = (digest.hash, digest.taken);
+    let _ = write!(told, "{hash} {taken}");
+}
+
 /// The digest and the number of the texts that were read, of arrays and of records.
-pub fn digests(alloc: Global) -> Result<String, AllocError> {
-    let arrays = digest_of(alloc, Form::Array);
-    let records = digest_of(alloc, Form::Record);
-    format!(in alloc;
-        "{} {}, {} {}",
-        arrays.hash, arrays.taken, records.hash, records.taken
-    )
+pub fn digests(told: &mut String, alloc: Global) {
+    push_digest(told, digest_of(alloc, Form::Array));
+    push(told, ", ");
+    push_digest(told, digest_of(alloc, Form::Record));
 }

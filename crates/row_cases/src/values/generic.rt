@@ -1,75 +1,66 @@
 // Types and rows in their generic forms.
 
-use crate::row::bytes;
-use crate::values::rows::{append_value, row_of};
+use crate::row::{bytes, counted, put, put_value};
+use crate::telling::push_shown;
+use crate::values::rows::row_of;
 use pg_any::{AnyRow, any_kind, any_row};
 use pg_values::{PgTypeInfo, PgValueFormat};
-use pg_wire::{Blob, Error, Oid};
+use pg_wire::{Error, Oid};
 use std::alloc::{AllocError, Global};
+use std::fmt::Write;
 
 // Columns `c` of types with these OIDs.
-fn described(alloc: Global, oids: &str) -> Result<Blob, Error> {
-    let mut fields = Blob::new(alloc);
+fn described(alloc: Global, oids: &str) -> Vec<u8> {
+    let mut fields = Vec::new(alloc);
     let mut count: u16 = 0;
     for oid in oids.split(',') {
         let oid: u32 = oid.parse().unwrap_or(0);
-        fields.append(b"c\0\0\0\0\0\0\0")?;
-        fields.append(&oid.to_be_bytes())?;
-        fields.append(b"\xff\xff\xff\xff\xff\xff\0\0")?;
+        put(&mut fields, b"c\0\0\0\0\0\0\0");
+        put(&mut fields, &oid.to_be_bytes());
+        put(&mut fields, b"\xff\xff\xff\xff\xff\xff\0\0");
         count = count.saturating_add(1);
     }
-    let mut body = Blob::from_slice(alloc, &count.to_be_bytes())?;
-    body.append(fields.as_bytes())?;
-    Ok(body)
+    counted(alloc, count, &fields)
 }
 
-fn append_word(alloc: Global, out: &mut Blob, word: &str) -> Result<(), Error> {
+fn put_word(alloc: Global, values: &mut Vec<u8>, word: &str) {
     if word == "null" {
-        return append_value(out, None);
+        return put_value(values, None);
     }
-    append_value(out, Some(&bytes(alloc, word)?))
+    let value = bytes(alloc, word);
+    put_value(values, Some(&value));
 }
 
 // A row of these values.
-fn valued(alloc: Global, words: &str) -> Result<Blob, Error> {
-    let mut values = Blob::new(alloc);
+fn valued(alloc: Global, words: &str) -> Vec<u8> {
+    let mut values = Vec::new(alloc);
     let mut count: u16 = 0;
     for word in words.split(',') {
-        append_word(alloc, &mut values, word)?;
+        put_word(alloc, &mut values, word);
         count = count.saturating_add(1);
     }
-    let mut body = Blob::from_slice(alloc, &count.to_be_bytes())?;
-    body.append(values.as_bytes())?;
-    Ok(body)
+    counted(alloc, count, &values)
 }
 
 fn generic(alloc: Global, format: PgValueFormat, oids: &str, words: &str) -> Result<AnyRow, Error> {
-    let columns = described(alloc, oids)?;
-    let values = valued(alloc, words)?;
-    let row = row_of(alloc, columns.as_bytes(), format, values.as_bytes())?;
+    let columns = described(alloc, oids);
+    let values = valued(alloc, words);
+    let row = row_of(alloc, &columns, format, &values)?;
     any_row(alloc, &row)
 }
 
-fn tell(alloc: Global, row: &AnyRow) -> Result<String, AllocError> {
-    let mut told = String::new(alloc);
+fn tell(told: &mut String, row: &AnyRow) {
     for (column, value) in row.columns.as_slice().iter().zip(row.values.as_slice()) {
         let (ordinal, name) = (column.ordinal, column.name.as_str());
-        let part = format!(in alloc; "[{ordinal} {name} {:?} {value:?}]", column.kind)?;
-        told.push_str(part.as_str())?;
+        let _ = write!(told, "[{ordinal} {name} {:?} {value:?}]", column.kind);
     }
-    Ok(told)
 }
 
 /// A row of values in a format, under columns of types with these OIDs.
-pub fn play(
-    alloc: Global,
-    format: PgValueFormat,
-    oids: &str,
-    words: &str,
-) -> Result<String, AllocError> {
+pub fn play(told: &mut String, alloc: Global, format: PgValueFormat, oids: &str, words: &str) {
     match generic(alloc, format, oids, words) {
-        Ok(row) => tell(alloc, &row),
-        Err(error) => format!(in alloc; "{error:?}"),
+        Ok(row) => tell(told, &row),
+        Err(error) => push_shown(told, error),
     }
 }
 
@@ -81,7 +72,8 @@ fn type_of(alloc: Global, word: &str) -> Result<PgTypeInfo, AllocError> {
 }
 
 /// The kind of a type, by its OID, or by its name where it is declared by that.
-pub fn play_kind(alloc: Global, word: &str) -> Result<String, AllocError> {
-    let of = type_of(alloc, word)?;
-    format!(in alloc; "{:?}", any_kind(&of))
+pub fn play_kind(told: &mut String, alloc: Global, word: &str) {
+    if let Ok(of) = type_of(alloc, word) {
+        push_shown(told, any_kind(&of));
+    }
 }

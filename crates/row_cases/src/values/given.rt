@@ -1,9 +1,10 @@
 // Arguments of types that are known only at run time.
 
+use crate::telling::{push, push_shown};
 use crate::values::putting::tell;
 use pg_values::{PgArguments, PgTypeInfo};
 use pg_wire::{Error, Oid};
-use std::alloc::{AllocError, Global};
+use std::alloc::Global;
 
 // A null, a value by its bytes, and the OID of a type with this name.
 fn add_by_type(alloc: Global, arguments: &mut PgArguments) -> Result<(), Error> {
@@ -13,14 +14,16 @@ fn add_by_type(alloc: Global, arguments: &mut PgArguments) -> Result<(), Error> 
 }
 
 /// The arguments before and after the OID is known.
-pub fn types_alone(alloc: Global) -> Result<String, AllocError> {
+pub fn types_alone(told: &mut String, alloc: Global) {
     let mut arguments = PgArguments::new(alloc);
-    let empty = arguments.is_empty();
-    let added = add_by_type(alloc, &mut arguments);
-    let before = tell(alloc, &arguments)?;
+    push_shown(told, arguments.is_empty());
+    push(told, " ");
+    push_shown(told, add_by_type(alloc, &mut arguments));
+    push(told, " ");
+    tell(told, alloc, &arguments);
     if !arguments.holes().is_empty() {
         arguments.patch(0, Oid(16401));
     }
-    let after = tell(alloc, &arguments)?;
-    format!(in alloc; "{empty} {added:?} {before}, {after}")
+    push(told, ", ");
+    tell(told, alloc, &arguments);
 }

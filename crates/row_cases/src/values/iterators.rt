@@ -3,12 +3,12 @@
 ghost use Rattle.std.specs.Prelude.{◌≡◌, drop};
 ghost use Rattle.row_cases.specs.Replays.{answer_at, replays_first};
 
+use crate::telling::push_shown;
 use crate::values::kinds::Tried;
 use crate::values::putting::put;
 use crate::values::reading::value_of;
 use pg_values::PgBindIterExt;
-use pg_wire::Error;
-use std::alloc::{AllocError, Global};
+use std::alloc::Global;
 
 // An iterator that gives these answers, and then None.
 #[derive(Clone, Copy)]
@@ -40,23 +40,17 @@ impl PgBindIterExt for Replay<'_> {
 }
 
 /// An iterator that gives the row's elements and nulls as its answers.
-pub fn play_items(alloc: Global, tried: Tried, bytes: Option<&[u8]>) -> Result<String, AllocError> {
-    let answers: Result<Vec<Option<i32>>, Error> = value_of(alloc, bytes);
-    match answers {
-        Ok(answers) => put(alloc, tried, Replay(&answers).bind_iter()),
-        Err(error) => format!(in alloc; "{error:?}"),
+pub fn play_items(told: &mut String, alloc: Global, tried: Tried, bytes: Option<&[u8]>) {
+    match value_of::<Vec<Option<i32>>>(alloc, bytes) {
+        Ok(answers) => put(told, alloc, tried, Replay(&answers).bind_iter()),
+        Err(error) => push_shown(told, error),
     }
 }
 
 /// The iterator over the items of a vector.
-pub fn play_vector(
-    alloc: Global,
-    tried: Tried,
-    bytes: Option<&[u8]>,
-) -> Result<String, AllocError> {
-    let items: Result<Vec<i32>, Error> = value_of(alloc, bytes);
-    match items {
-        Ok(items) => put(alloc, tried, items.into_iter().bind_iter()),
-        Err(error) => format!(in alloc; "{error:?}"),
+pub fn play_vector(told: &mut String, alloc: Global, tried: Tried, bytes: Option<&[u8]>) {
+    match value_of::<Vec<i32>>(alloc, bytes) {
+        Ok(items) => put(told, alloc, tried, items.into_iter().bind_iter()),
+        Err(error) => push_shown(told, error),
     }
 }

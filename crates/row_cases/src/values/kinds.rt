@@ -1,16 +1,18 @@
 // What a row tries, and on a value of which type.
 
 use crate::row::meant;
+use crate::telling::{push, push_shown};
 use crate::values::iterators::{play_items, play_vector};
 use crate::values::mood::Mood;
 use crate::values::putting::put;
-use crate::values::reading::{keep, read, read_array_text, read_record_text, value_of};
-use pg_values::{Decode, Encode, Typed};
+use crate::values::reading::{keep, read, read_items, value_of};
+use crate::values::rows::{ARRAYS, read_array_row, read_row};
+use pg_values::{Decode, Encode, PgValueFormat, Typed};
 use pg_wire::{Blob, Oid, Text};
-use std::alloc::{AllocError, Global};
+use std::alloc::Global;
 use std::fmt::Debug;
 
-#[derive(Clone, Copy, PartialEq)]
+#[derive(Clone, Copy)]
 pub enum Tried {
     /// A value read from the binary and from the text format.
     Read,
@@ -43,7 +45,7 @@ pub enum Tried {
     AnyBinary,
 }
 
-#[derive(Clone, Copy, PartialEq)]
+#[derive(Clone, Copy)]
 enum Kind {
     Bool,
     Char,
@@ -63,10 +65,9 @@ enum Kind {
     MoodArray,
     Items,
     Vector,
-    Unknown,
 }
 
-static TRIED: [(&str, Tried); 17] = [
+pub static TRIED: [(&str, Tried); 17] = [
     ("anykind", Tried::AnyKind),
     ("anytext", Tried::AnyText),
     ("anybinary", Tried::AnyBinary),
@@ -86,14 +87,18 @@ static TRIED: [(&str, Tried); 17] = [
     ("digests", Tried::Digests),
 ];
 
-static KINDS: [(&str, Kind); 18] = [
+static KINDS: [(&str, Kind); 22] = [
     ("bool", Kind::Bool),
     ("char", Kind::Char),
+    ("\"char\"", Kind::Char),
     ("int2", Kind::Int2),
     ("int4", Kind::Int4),
     ("int8", Kind::Int8),
     ("oid", Kind::Oid),
     ("text", Kind::Text),
+    ("varchar", Kind::Text),
+    ("bpchar", Kind::Text),
+    ("name", Kind::Text),
     ("bytea", Kind::Bytea),
     ("int4?", Kind::OptionalInt4),
     ("int8?", Kind::OptionalInt8),
@@ -107,78 +112,72 @@ static KINDS: [(&str, Kind); 18] = [
     ("vector", Kind::Vector),
 ];
 
-pub fn tried_by(word: &str) -> Tried {
-    meant(&TRIED, word).unwrap_or(Tried::Read)
-}
-
 fn play_as<T: Decode + Encode + Typed + Debug>(
+    told: &mut String,
     alloc: Global,
     tried: Tried,
     bytes: Option<&[u8]>,
-) -> Result<String, AllocError> {
+) {
     match tried {
-        Tried::Read => read::<T>(alloc, bytes),
-        Tried::Keep => keep::<T>(alloc, bytes),
+        Tried::Read => read::<T>(told, alloc, bytes),
+        Tried::Keep => keep::<T>(told, alloc, bytes),
+        Tried::TextRow => read_row::<T>(told, alloc, PgValueFormat::Text, bytes),
+        Tried::BinaryRow => read_row::<T>(told, alloc, PgValueFormat::Binary, bytes),
         tried => match value_of::<T>(alloc, bytes) {
-            Ok(value) => put(alloc, tried, value),
-            Err(error) => format!(in alloc; "{error:?}"),
+            Ok(value) => put(told, alloc, tried, value),
+            Err(error) => push_shown(told, error),
         },
     }
 }
 
-fn play_array(
-    alloc: Global,
-    tried: Tried,
-    kind: Kind,
-    bytes: Option<&[u8]>,
-) -> Result<String, AllocError> {
+fn play_kind(told: &mut String, alloc: Global, tried: Tried, kind: Kind, bytes: Option<&[u8]>) {
     match kind {
-        Kind::Int4Array => play_as::<Vec<i32>>(alloc, tried, bytes),
-        Kind::OptionalInt4Array => play_as::<Option<Vec<i32>>>(alloc, tried, bytes),
-        Kind::ArrayOfOptionals => play_as::<Vec<Option<i32>>>(alloc, tried, bytes),
-        Kind::OptionalBoolArray => play_as::<Option<Vec<bool>>>(alloc, tried, bytes),
-        Kind::MoodArray => play_as::<Vec<Mood>>(alloc, tried, bytes),
-        Kind::Items => play_items(alloc, tried, bytes),
-        Kind::Vector => play_vector(alloc, tried, bytes),
-        _ => String::from_str(alloc, "no type"),
+        Kind::Bool => play_as::<bool>(told, alloc, tried, bytes),
+        Kind::Char => play_as::<i8>(told, alloc, tried, bytes),
+        Kind::Int2 => play_as::<i16>(told, alloc, tried, bytes),
+        Kind::Int4 => play_as::<i32>(told, alloc, tried, bytes),
+        Kind::Int8 => play_as::<i64>(told, alloc, tried, bytes),
+        Kind::Oid => play_as::<Oid>(told, alloc, tried, bytes),
+        Kind::Text => play_as::<Text>(told, alloc, tried, bytes),
+        Kind::Bytea => play_as::<Blob>(told, alloc, tried, bytes),
+        Kind::OptionalInt4 => play_as::<Option<i32>>(told, alloc, tried, bytes),
+        Kind::OptionalInt8 => play_as::<Option<i64>>(told, alloc, tried, bytes),
+        Kind::Int4Array => play_as::<Vec<i32>>(told, alloc, tried, bytes),
+        Kind::OptionalInt4Array => play_as::<Option<Vec<i32>>>(told, alloc, tried, bytes),
+        Kind::ArrayOfOptionals => play_as::<Vec<Option<i32>>>(told, alloc, tried, bytes),
+        Kind::OptionalBoolArray => play_as::<Option<Vec<bool>>>(told, alloc, tried, bytes),
+        Kind::Mood => play_as::<Mood>(told, alloc, tried, bytes),
+        Kind::MoodArray => play_as::<Vec<Mood>>(told, alloc, tried, bytes),
+        Kind::Items => play_items(told, alloc, tried, bytes),
+        Kind::Vector => play_vector(told, alloc, tried, bytes),
     }
 }
 
-fn play_single(
-    alloc: Global,
-    tried: Tried,
-    kind: Kind,
-    bytes: Option<&[u8]>,
-) -> Result<String, AllocError> {
-    match kind {
-        Kind::Bool => play_as::<bool>(alloc, tried, bytes),
-        Kind::Char => play_as::<i8>(alloc, tried, bytes),
-        Kind::Int2 => play_as::<i16>(alloc, tried, bytes),
-        Kind::Int4 => play_as::<i32>(alloc, tried, bytes),
-        Kind::Int8 => play_as::<i64>(alloc, tried, bytes),
-        Kind::Oid => play_as::<Oid>(alloc, tried, bytes),
-        Kind::Text => play_as::<Text>(alloc, tried, bytes),
-        Kind::Bytea => play_as::<Blob>(alloc, tried, bytes),
-        Kind::OptionalInt4 => play_as::<Option<i32>>(alloc, tried, bytes),
-        Kind::OptionalInt8 => play_as::<Option<i64>>(alloc, tried, bytes),
-        Kind::Mood => play_as::<Mood>(alloc, tried, bytes),
-        kind => play_array(alloc, tried, kind, bytes),
+fn play_word(told: &mut String, alloc: Global, tried: Tried, word: &str, bytes: Option<&[u8]>) {
+    match meant(&KINDS, word) {
+        Some(kind) => play_kind(told, alloc, tried, kind, bytes),
+        None => push(told, "no type"),
+    }
+}
+
+// An array of a row may have nulls.
+fn play_row(told: &mut String, alloc: Global, tried: Tried, word: &str, bytes: Option<&[u8]>) {
+    let format = match tried {
+        Tried::BinaryRow => PgValueFormat::Binary,
+        _ => PgValueFormat::Text,
+    };
+    match meant(&ARRAYS, word) {
+        Some(element) => read_array_row(told, alloc, format, element, bytes),
+        None => play_word(told, alloc, tried, word, bytes),
     }
 }
 
 /// What comes of a row.
-pub fn play(
-    alloc: Global,
-    tried: Tried,
-    kind: &str,
-    bytes: Option<&[u8]>,
-) -> Result<String, AllocError> {
+pub fn play(told: &mut String, alloc: Global, tried: Tried, word: &str, bytes: Option<&[u8]>) {
     match tried {
-        Tried::Array => read_array_text(alloc, bytes.unwrap_or(b"")),
-        Tried::Record => read_record_text(alloc, bytes.unwrap_or(b"")),
-        tried => {
-            let kind = meant(&KINDS, kind).unwrap_or(Kind::Unknown);
-            play_single(alloc, tried, kind, bytes)
-        }
+        Tried::Array => read_items(told, alloc, true, bytes.unwrap_or(b"")),
+        Tried::Record => read_items(told, alloc, false, bytes.unwrap_or(b"")),
+        Tried::TextRow | Tried::BinaryRow => play_row(told, alloc, tried, word, bytes),
+        tried => play_word(told, alloc, tried, word, bytes),
     }
 }

@@ -1,89 +1,92 @@
 // Values that are added to arguments.
 
+use crate::telling::{push, push_bytes, push_number, push_shown};
 use crate::values::kinds::Tried;
 use pg_values::{Encode, PgArgumentBuffer, PgArguments, Typed};
-use pg_wire::{Error, Oid};
-use std::alloc::{AllocError, Global};
+use pg_wire::Oid;
+use std::alloc::Global;
+use std::fmt::Write;
 
 // The type of the last argument, by its OID and its name.
-fn last_type(alloc: Global, arguments: &PgArguments) -> Result<String, AllocError> {
+fn push_last_type(told: &mut String, arguments: &PgArguments) {
     match arguments.types() {
-        [.., of] => format!(in alloc; "{:?} {}", of.oid(), of.name()),
-        [] => String::from_str(alloc, "none"),
+        [.., of] => {
+            let oid = of.oid();
+            let _ = write!(told, "{oid:?} ");
+            push(told, of.name());
+        }
+        [] => push(told, "none"),
     }
 }
 
 /// The number of the arguments, the type of the last, the bytes, and how many OIDs are open.
-pub fn tell(alloc: Global, arguments: &PgArguments) -> Result<String, AllocError> {
-    let of = last_type(alloc, arguments)?;
-    let bytes = hex::encode(alloc, arguments.encoded())?;
-    let holes = arguments.holes().len();
-    format!(in alloc; "{} {of} {bytes} {holes}", arguments.len())
+pub fn tell(told: &mut String, alloc: Global, arguments: &PgArguments) {
+    push_number(told, arguments.len() as u64);
+    push(told, " ");
+    push_last_type(told, arguments);
+    push(told, " ");
+    push_bytes(told, alloc, arguments.encoded());
+    push(told, " ");
+    push_number(told, arguments.holes().len() as u64);
 }
 
-fn tell_added(
-    alloc: Global,
-    added: &Result<(), Error>,
-    arguments: &PgArguments,
-) -> Result<String, AllocError> {
-    let told = tell(alloc, arguments)?;
-    format!(in alloc; "{added:?} {told}")
+fn add_first(told: &mut String, arguments: &mut PgArguments) {
+    match arguments.add(true) {
+        Ok(()) => push(told, "true "),
+        Err(error) => {
+            drop(error);
+            push(told, "false ");
+        }
+    }
 }
 
-fn add_alone<T: Encode + Typed>(alloc: Global, value: T) -> Result<String, AllocError> {
+fn add<T: Encode + Typed>(told: &mut String, alloc: Global, is_second: bool, value: T) {
     let mut arguments = PgArguments::new(alloc);
-    let added = arguments.add(value);
-    tell_added(alloc, &added, &arguments)
-}
-
-fn add_second<T: Encode + Typed>(alloc: Global, value: T) -> Result<String, AllocError> {
-    let mut arguments = PgArguments::new(alloc);
-    let first = arguments.add(true).is_ok();
-    let added = arguments.add(value);
-    let told = tell_added(alloc, &added, &arguments)?;
-    format!(in alloc; "{first} {told}")
+    if is_second {
+        add_first(told, &mut arguments);
+    }
+    push_shown(told, arguments.add(value));
+    push(told, " ");
+    tell(told, alloc, &arguments);
 }
 
 // The bytes of a buffer, and the first type whose OID is open.
-fn tell_buffer(alloc: Global, buffer: &PgArgumentBuffer) -> Result<String, AllocError> {
-    let bytes = hex::encode(alloc, buffer.as_bytes())?;
-    match buffer.holes() {
-        [hole, rest @ ..] => {
-            format!(in alloc;
-                "{}:{bytes} {} {} {}",
-                buffer.len(),
-                hole.place,
-                hole.of.name(),
-                rest.len()
-            )
-        }
-        [] => format!(in alloc; "{}:{bytes}", buffer.len()),
+fn tell_buffer(told: &mut String, alloc: Global, buffer: &PgArgumentBuffer) {
+    push_number(told, buffer.len() as u64);
+    push(told, ":");
+    push_bytes(told, alloc, buffer.as_bytes());
+    if let [hole, rest @ ..] = buffer.holes() {
+        push(told, " ");
+        push_number(told, hole.place as u64);
+        push(told, " ");
+        push(told, hole.of.name());
+        push(told, " ");
+        push_number(told, rest.len() as u64);
     }
 }
 
 // A buffer before and after the OID of its first open type is known.
-fn tell_patched(alloc: Global, buffer: &mut PgArgumentBuffer) -> Result<String, AllocError> {
-    let before = tell_buffer(alloc, buffer)?;
-    if buffer.holes().is_empty() {
-        return Ok(before);
+fn tell_patched(told: &mut String, alloc: Global, buffer: &mut PgArgumentBuffer) {
+    tell_buffer(told, alloc, buffer);
+    if !buffer.holes().is_empty() {
+        buffer.patch(0, Oid(16401));
+        push(told, ", ");
+        tell_buffer(told, alloc, buffer);
     }
-    buffer.patch(0, Oid(16401));
-    let after = tell_buffer(alloc, buffer)?;
-    format!(in alloc; "{before}, {after}")
 }
 
-fn add_to_buffer<T: Encode>(alloc: Global, value: T) -> Result<String, AllocError> {
+fn add_to_buffer<T: Encode>(told: &mut String, alloc: Global, value: T) {
     let mut buffer = PgArgumentBuffer::new(alloc);
-    let added = buffer.add(value);
-    let told = tell_patched(alloc, &mut buffer)?;
-    format!(in alloc; "{added:?} {told}")
+    push_shown(told, buffer.add(value));
+    push(told, " ");
+    tell_patched(told, alloc, &mut buffer);
 }
 
 /// A value as an argument.
-pub fn put<T: Encode + Typed>(alloc: Global, tried: Tried, value: T) -> Result<String, AllocError> {
+pub fn put<T: Encode + Typed>(told: &mut String, alloc: Global, tried: Tried, value: T) {
     match tried {
-        Tried::Buffer => add_to_buffer(alloc, value),
-        Tried::Second => add_second(alloc, value),
-        _ => add_alone(alloc, value),
+        Tried::Buffer => add_to_buffer(told, alloc, value),
+        Tried::Second => add(told, alloc, true, value),
+        _ => add(told, alloc, false, value),
     }
 }

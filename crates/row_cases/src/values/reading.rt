@@ -1,11 +1,12 @@
 // Values that are read.
 
+use crate::telling::{push, push_shown};
 use pg_values::{
     Decode, Encode, PgArgumentBuffer, PgTypeInfo, PgValueFormat, PgValueRef, read_array,
     read_composite,
 };
-use pg_wire::{Error, Oid, Text};
-use std::alloc::{AllocError, Global};
+use pg_wire::{Error, Oid};
+use std::alloc::Global;
 use std::fmt::Debug;
 
 // A value of type `int4[]`: the types of this row's values don't look at theirs.
@@ -29,10 +30,10 @@ pub fn value_of<T: Decode>(alloc: Global, bytes: Option<&[u8]>) -> Result<T, Err
 }
 
 /// What some bytes are in the binary format, and in the text format.
-pub fn read<T: Decode + Debug>(alloc: Global, bytes: Option<&[u8]>) -> Result<String, AllocError> {
-    let binary = read_as::<T>(alloc, PgValueFormat::Binary, bytes);
-    let text = read_as::<T>(alloc, PgValueFormat::Text, bytes);
-    format!(in alloc; "{binary:?} {text:?}")
+pub fn read<T: Decode + Debug>(told: &mut String, alloc: Global, bytes: Option<&[u8]>) {
+    push_shown(told, read_as::<T>(alloc, PgValueFormat::Binary, bytes));
+    push(told, " ");
+    push_shown(told, read_as::<T>(alloc, PgValueFormat::Text, bytes));
 }
 
 // The value behind a length; the length -1 is that of a null.
@@ -52,27 +53,17 @@ fn read_again<T: Encode + Decode>(alloc: Global, bytes: Option<&[u8]>) -> Result
 }
 
 /// The value of a row as it is read again from its binary encoding.
-pub fn keep<T: Encode + Decode + Debug>(
-    alloc: Global,
-    bytes: Option<&[u8]>,
-) -> Result<String, AllocError> {
-    let again = read_again::<T>(alloc, bytes);
-    format!(in alloc; "{again:?}")
+pub fn keep<T: Encode + Decode + Debug>(told: &mut String, alloc: Global, bytes: Option<&[u8]>) {
+    push_shown(told, read_again::<T>(alloc, bytes));
 }
 
-fn tell_items(
-    alloc: Global,
-    items: &Result<Vec<Option<Text>>, Error>,
-) -> Result<String, AllocError> {
-    format!(in alloc; "{items:?}")
-}
-
-pub fn read_array_text(alloc: Global, bytes: &[u8]) -> Result<String, AllocError> {
-    let items = read_array(alloc, str::from_utf8(bytes).unwrap_or(""));
-    tell_items(alloc, &items)
-}
-
-pub fn read_record_text(alloc: Global, bytes: &[u8]) -> Result<String, AllocError> {
-    let items = read_composite(alloc, str::from_utf8(bytes).unwrap_or(""));
-    tell_items(alloc, &items)
+/// The items of an array's text, or the fields of a record's.
+pub fn read_items(told: &mut String, alloc: Global, is_array: bool, bytes: &[u8]) {
+    let text = str::from_utf8(bytes).unwrap_or("");
+    let items = if is_array {
+        read_array(alloc, text)
+    } else {
+        read_composite(alloc, text)
+    };
+    push_shown(told, items);
 }

@@ -1,11 +1,13 @@
 //! Values of rows, by the place and by the name of their columns.
 
-use pg_columns::PgColumns;
+use crate::row::{counted, put_value};
+use crate::telling::{push, push_number, push_shown};
+use pg_columns::{PgColumn, PgColumns};
 use pg_rows::{Heading, PgRow};
 use pg_values::{Decode, PgValueFormat};
 use pg_wire::{Blob, Error, Oid, Text, decode_data_row, decode_row_description};
-use std::alloc::{AllocError, Global};
-use std::fmt::Debug;
+use std::alloc::Global;
+use std::fmt::{Debug, Write};
 
 // The columns a, b and a, of type text, the first and the last of table 16384.
 const COLUMNS: &[u8] =
@@ -27,24 +29,11 @@ pub fn row_of(
     Ok(PgRow::new(decode_data_row(alloc, body)?, heading))
 }
 
-/// Adds a value behind its length.
-pub fn append_value(out: &mut Blob, value: Option<&[u8]>) -> Result<(), Error> {
-    match value {
-        Some(value) => {
-            let len = u32::try_from(value.len()).unwrap_or(u32::MAX);
-            out.append(&len.to_be_bytes())?;
-            out.append(value)?;
-        }
-        None => out.append(b"\xff\xff\xff\xff")?,
-    }
-    Ok(())
-}
-
 // A row of one value.
 fn single(alloc: Global, format: PgValueFormat, value: Option<&[u8]>) -> Result<PgRow, Error> {
-    let mut body = Blob::from_slice(alloc, b"\0\x01")?;
-    append_value(&mut body, value)?;
-    row_of(alloc, COLUMNS, format, body.as_bytes())
+    let mut values = Vec::new(alloc);
+    put_value(&mut values, value);
+    row_of(alloc, COLUMNS, format, &counted(alloc, 1, &values))
 }
 
 // The value of a row that has it alone.
@@ -56,52 +45,58 @@ fn value<T: Decode>(
     single(alloc, format, value)?.try_get(alloc, 0)
 }
 
-fn told<T: Decode + Debug>(
+/// A value as the only one of a row in this format.
+pub fn read_row<T: Decode + Debug>(
+    told: &mut String,
     alloc: Global,
     format: PgValueFormat,
     bytes: Option<&[u8]>,
-) -> Result<String, AllocError> {
-    let value = value::<T>(alloc, format, bytes);
-    format!(in alloc; "{value:?}")
+) {
+    push_shown(told, value::<T>(alloc, format, bytes));
 }
 
-fn play_array(
-    alloc: Global,
-    format: PgValueFormat,
-    kind: &str,
-    bytes: Option<&[u8]>,
-) -> Result<String, AllocError> {
-    match kind {
-        "bool[]" => told::<Vec<Option<bool>>>(alloc, format, bytes),
-        "int2[]" => told::<Vec<Option<i16>>>(alloc, format, bytes),
-        "int4[]" => told::<Vec<Option<i32>>>(alloc, format, bytes),
-        "int8[]" => told::<Vec<Option<i64>>>(alloc, format, bytes),
-        "oid[]" => told::<Vec<Option<Oid>>>(alloc, format, bytes),
-        "text[]" | "varchar[]" | "name[]" => told::<Vec<Option<Text>>>(alloc, format, bytes),
-        "bytea[]" => told::<Vec<Option<Blob>>>(alloc, format, bytes),
-        "\"char\"[]" => told::<Vec<Option<i8>>>(alloc, format, bytes),
-        _ => String::from_str(alloc, "no type"),
-    }
+#[derive(Clone, Copy)]
+pub enum Element {
+    Bool,
+    Int2,
+    Int4,
+    Int8,
+    Oid,
+    Text,
+    Bytea,
+    Char,
 }
 
-/// A value of this type, as the only one of a row in this format.
-pub fn play_row(
+pub static ARRAYS: [(&str, Element); 10] = [
+    ("bool[]", Element::Bool),
+    ("int2[]", Element::Int2),
+    ("int4[]", Element::Int4),
+    ("int8[]", Element::Int8),
+    ("oid[]", Element::Oid),
+    ("text[]", Element::Text),
+    ("varchar[]", Element::Text),
+    ("name[]", Element::Text),
+    ("bytea[]", Element::Bytea),
+    ("\"char\"[]", Element::Char),
+];
+
+/// An array of these elements, as the only value of a row in this format.
+pub fn read_array_row(
+    told: &mut String,
     alloc: Global,
     format: PgValueFormat,
-    kind: &str,
+    element: Element,
     bytes: Option<&[u8]>,
-) -> Result<String, AllocError> {
-    match kind {
-        "bool" => told::<bool>(alloc, format, bytes),
-        "int2" => told::<i16>(alloc, format, bytes),
-        "int4" => told::<i32>(alloc, format, bytes),
-        "int8" => told::<i64>(alloc, format, bytes),
-        "oid" => told::<Oid>(alloc, format, bytes),
-        "text" | "varchar" | "bpchar" | "name" => told::<Text>(alloc, format, bytes),
-        "bytea" => told::<Blob>(alloc, format, bytes),
-        "\"char\"" => told::<i8>(alloc, format, bytes),
-        "int4?" => told::<Option<i32>>(alloc, format, bytes),
-        _ => play_array(alloc, format, kind, bytes),
+) {
+    match element {
+        Element::Bool => read_row::<Vec<Option<bool>>>(told, alloc, format, bytes),
+        Element::Int2 => read_row::<Vec<Option<i16>>>(told, alloc, format, bytes),
+        Element::Int4 => read_row::<Vec<Option<i32>>>(told, alloc, format, bytes),
+        Element::Int8 => read_row::<Vec<Option<i64>>>(told, alloc, format, bytes),
+        Element::Oid => read_row::<Vec<Option<Oid>>>(told, alloc, format, bytes),
+        Element::Text => read_row::<Vec<Option<Text>>>(told, alloc, format, bytes),
+        Element::Bytea => read_row::<Vec<Option<Blob>>>(told, alloc, format, bytes),
+        Element::Char => read_row::<Vec<Option<i8>>>(told, alloc, format, bytes),
     }
 }
 
@@ -115,37 +110,42 @@ fn texts(alloc: Global, is_short: bool) -> Result<PgRow, Error> {
     row_of(alloc, COLUMNS, PgValueFormat::Text, body)
 }
 
-fn tell_column(alloc: Global, row: &PgRow, place: usize) -> Result<String, AllocError> {
-    let raw = row.try_get_raw(place).map(|v| v.value);
-    match row.columns().get(place) {
-        Some(column) => format!(in alloc;
-            "{} {} {} {:?} {:?} {:?} {raw:?}",
-            column.ordinal(),
-            column.name(),
-            column.type_info().name(),
-            column.relation_id(),
-            column.relation_attribute_no(),
-            column.origin()
-        ),
-        None => format!(in alloc; "{raw:?}"),
+fn push_column(told: &mut String, column: &PgColumn) {
+    push_number(told, column.ordinal() as u64);
+    push(told, " ");
+    push(told, column.name());
+    push(told, " ");
+    push(told, column.type_info().name());
+    let (table, place) = (column.relation_id(), column.relation_attribute_no());
+    let _ = write!(told, " {table:?} {place:?} {:?} ", column.origin());
+}
+
+fn tell_column(told: &mut String, row: &PgRow, place: usize) {
+    if let Some(column) = row.columns().get(place) {
+        push_column(told, column);
+    }
+    push_shown(told, row.try_get_raw(place).map(|v| v.value));
+}
+
+fn tell_named(told: &mut String, alloc: Global, row: &PgRow, name: &str) {
+    push_shown(told, row.try_get_by_name::<Text>(alloc, name));
+    push(told, " ");
+    push_shown(told, row.try_get_by_name::<bool>(alloc, name));
+    push(told, " ");
+    push_shown(told, row.try_get_raw_by_name(alloc, name).map(|v| v.value));
+}
+
+fn tell_by(told: &mut String, alloc: Global, row: &PgRow, column: &str) {
+    match column.parse::<usize>() {
+        Ok(place) => tell_column(told, row, place),
+        Err(_) => tell_named(told, alloc, row, column),
     }
 }
 
-fn tell_named(alloc: Global, row: &PgRow, name: &str) -> Result<String, AllocError> {
-    let value = row.try_get_by_name::<Text>(alloc, name);
-    let number = row.try_get_by_name::<bool>(alloc, name);
-    let raw = row.try_get_raw_by_name(alloc, name).map(|v| v.value);
-    format!(in alloc; "{value:?} {number:?} {raw:?}")
-}
-
 /// The column at a place, or of a name, of a row of three texts, or of two.
-pub fn play_columns(alloc: Global, is_short: bool, column: &str) -> Result<String, AllocError> {
-    let row = match texts(alloc, is_short) {
-        Ok(row) => row,
-        Err(error) => return format!(in alloc; "{error:?}"),
-    };
-    match column.parse::<usize>() {
-        Ok(place) => tell_column(alloc, &row, place),
-        Err(_) => tell_named(alloc, &row, column),
+pub fn play_columns(told: &mut String, alloc: Global, is_short: bool, column: &str) {
+    match texts(alloc, is_short) {
+        Ok(row) => tell_by(told, alloc, &row, column),
+        Err(error) => push_shown(told, error),
     }
 }

@@ -1,6 +1,6 @@
 // Messages that a server writes.
 
-use crate::row::meant;
+use crate::telling::{push, push_shown};
 use pg_wire::{
     Error, decode_authentication, decode_backend_key_data, decode_bind_complete,
     decode_close_complete, decode_command_complete, decode_copy_data, decode_copy_done,
@@ -9,8 +9,8 @@ use pg_wire::{
     decode_parameter_description, decode_parameter_status, decode_parse_complete,
     decode_portal_suspended, decode_ready_for_query, decode_row_description,
 };
-use std::alloc::{AllocError, Global};
-use std::fmt::Debug;
+use std::alloc::Global;
+use std::fmt::Write;
 
 #[derive(Clone, Copy)]
 pub enum Got {
@@ -37,7 +37,7 @@ pub enum Got {
     Suspended,
 }
 
-static GOT: [(&str, Got); 21] = [
+pub static GOT: [(&str, Got); 21] = [
     ("authentication", Got::Authentication),
     ("key-data", Got::KeyData),
     ("setting", Got::Setting),
@@ -61,65 +61,59 @@ static GOT: [(&str, Got); 21] = [
     ("suspended", Got::Suspended),
 ];
 
-pub fn got_by(word: &str) -> Option<Got> {
-    meant(&GOT, word)
-}
-
-// What was read, as its type shows it.
-fn tell<T: Debug + Drop>(alloc: Global, read: Result<T, Error>) -> Result<String, AllocError> {
-    format!(in alloc; "{read:?}")
-}
-
-fn tell_error(alloc: Global, body: &[u8]) -> Result<String, AllocError> {
+fn tell_error(told: &mut String, alloc: Global, body: &[u8]) {
     match decode_error_response(alloc, body) {
         Ok(error) => {
-            format!(in alloc;
-                "{:?} {} {}",
-                error.severity(),
-                error.code(),
-                error.message()
-            )
+            let severity = error.severity();
+            let _ = write!(told, "{severity:?} ");
+            push(told, error.code());
+            push(told, " ");
+            push(told, error.message());
         }
-        Err(error) => format!(in alloc; "{error:?}"),
+        Err(error) => push_shown(told, error),
     }
 }
 
-fn tell_notice(alloc: Global, body: &[u8]) -> Result<String, AllocError> {
+fn tell_notice(told: &mut String, alloc: Global, body: &[u8]) {
     match decode_notice_response(alloc, body) {
-        Ok(notice) => format!(in alloc; "{:?}", notice.severity()),
-        Err(error) => format!(in alloc; "{error:?}"),
+        Ok(notice) => {
+            let severity = notice.severity();
+            let _ = write!(told, "{severity:?}");
+        }
+        Err(error) => push_shown(told, error),
     }
 }
 
-fn tell_empty(alloc: Global, message: Got, body: &[u8]) -> Result<String, AllocError> {
+// A message without a body of its own.
+fn read_empty(message: Got, body: &[u8]) -> Result<(), Error> {
     match message {
-        Got::CopyDone => tell(alloc, decode_copy_done(body)),
-        Got::EmptyQuery => tell(alloc, decode_empty_query(body)),
-        Got::ParseComplete => tell(alloc, decode_parse_complete(body)),
-        Got::BindComplete => tell(alloc, decode_bind_complete(body)),
-        Got::CloseComplete => tell(alloc, decode_close_complete(body)),
-        Got::NoData => tell(alloc, decode_no_data(body)),
-        _ => tell(alloc, decode_portal_suspended(body)),
+        Got::CopyDone => decode_copy_done(body),
+        Got::EmptyQuery => decode_empty_query(body),
+        Got::ParseComplete => decode_parse_complete(body),
+        Got::BindComplete => decode_bind_complete(body),
+        Got::CloseComplete => decode_close_complete(body),
+        Got::NoData => decode_no_data(body),
+        _ => decode_portal_suspended(body),
     }
 }
 
-/// What a body is as the body of this message.
-pub fn tell_got(alloc: Global, message: Got, body: &[u8]) -> Result<String, AllocError> {
+/// What a body is as the body of this message, as its type shows it.
+pub fn tell_got(told: &mut String, alloc: Global, message: Got, body: &[u8]) {
     match message {
-        Got::Authentication => tell(alloc, decode_authentication(alloc, body)),
-        Got::KeyData => tell(alloc, decode_backend_key_data(body)),
-        Got::Setting => tell(alloc, decode_parameter_status(alloc, body)),
-        Got::Ready => tell(alloc, decode_ready_for_query(body)),
-        Got::Columns => tell(alloc, decode_row_description(alloc, body)),
-        Got::Types => tell(alloc, decode_parameter_description(alloc, body)),
-        Got::Row => tell(alloc, decode_data_row(alloc, body)),
-        Got::Complete => tell(alloc, decode_command_complete(body)),
-        Got::Error => tell_error(alloc, body),
-        Got::Notice => tell_notice(alloc, body),
-        Got::Notification => tell(alloc, decode_notification_response(alloc, body)),
-        Got::CopyIn => tell(alloc, decode_copy_in_response(alloc, body)),
-        Got::CopyOut => tell(alloc, decode_copy_out_response(alloc, body)),
-        Got::CopyData => tell(alloc, decode_copy_data(alloc, body)),
-        message => tell_empty(alloc, message, body),
+        Got::Authentication => push_shown(told, decode_authentication(alloc, body)),
+        Got::KeyData => push_shown(told, decode_backend_key_data(body)),
+        Got::Setting => push_shown(told, decode_parameter_status(alloc, body)),
+        Got::Ready => push_shown(told, decode_ready_for_query(body)),
+        Got::Columns => push_shown(told, decode_row_description(alloc, body)),
+        Got::Types => push_shown(told, decode_parameter_description(alloc, body)),
+        Got::Row => push_shown(told, decode_data_row(alloc, body)),
+        Got::Complete => push_shown(told, decode_command_complete(body)),
+        Got::Error => tell_error(told, alloc, body),
+        Got::Notice => tell_notice(told, alloc, body),
+        Got::Notification => push_shown(told, decode_notification_response(alloc, body)),
+        Got::CopyIn => push_shown(told, decode_copy_in_response(alloc, body)),
+        Got::CopyOut => push_shown(told, decode_copy_out_response(alloc, body)),
+        Got::CopyData => push_shown(told, decode_copy_data(alloc, body)),
+        message => push_shown(told, read_empty(message, body)),
     }
 }

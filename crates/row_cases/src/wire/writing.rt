@@ -1,6 +1,7 @@
 // Messages that a client writes, each with one content.
 
-use crate::row::meant;
+use crate::row::text;
+use crate::telling::{push_bytes, push_shown};
 use pg_wire::{
     Blob, Error, Oid, PortalId, SslRequest, StatementId, Text, encode_bind, encode_close_portal,
     encode_close_statement, encode_copy_bytes, encode_copy_done, encode_copy_fail,
@@ -8,7 +9,7 @@ use pg_wire::{
     encode_password, encode_query, encode_sasl_initial, encode_sasl_response, encode_startup,
     encode_sync, encode_terminate,
 };
-use std::alloc::{AllocError, Global};
+use std::alloc::Global;
 
 #[derive(Clone, Copy)]
 pub enum Sent {
@@ -35,7 +36,7 @@ pub enum Sent {
     CopyFail,
 }
 
-static SENT: [(&str, Sent); 21] = [
+pub static SENT: [(&str, Sent); 21] = [
     ("startup", Sent::Startup),
     ("startup-with-database", Sent::StartupWithDatabase),
     ("ssl-request", Sent::SslRequest),
@@ -59,20 +60,16 @@ static SENT: [(&str, Sent); 21] = [
     ("copy-fail", Sent::CopyFail),
 ];
 
-pub fn sent_by(word: &str) -> Option<Sent> {
-    meant(&SENT, word)
-}
-
-fn pair(alloc: Global, name: &str, value: &str) -> Result<(Text, Text), Error> {
-    Ok((Text::from_str(alloc, name)?, Text::from_str(alloc, value)?))
+fn pair(alloc: Global, name: &str, value: &str) -> (Text, Text) {
+    (text(alloc, name), text(alloc, value))
 }
 
 fn startup(alloc: Global, out: &mut Blob) -> Result<(), Error> {
     let params = [
-        pair(alloc, "DateStyle", "ISO, MDY")?,
-        pair(alloc, "client_encoding", "UTF8")?,
-        pair(alloc, "TimeZone", "UTC")?,
-        pair(alloc, "extra_float_digits", "2")?,
+        pair(alloc, "DateStyle", "ISO, MDY"),
+        pair(alloc, "client_encoding", "UTF8"),
+        pair(alloc, "TimeZone", "UTC"),
+        pair(alloc, "extra_float_digits", "2"),
     ];
     encode_startup(out, "u", None, &params)
 }
@@ -116,10 +113,10 @@ fn write(alloc: Global, message: Sent, out: &mut Blob) -> Result<(), Error> {
 }
 
 /// The frame of a message, in hexadecimal.
-pub fn tell_sent(alloc: Global, message: Sent) -> Result<String, AllocError> {
+pub fn tell_sent(told: &mut String, alloc: Global, message: Sent) {
     let mut out = Blob::new(alloc);
     match write(alloc, message, &mut out) {
-        Ok(()) => hex::encode(alloc, out.as_bytes()),
-        Err(error) => format!(in alloc; "{error:?}"),
+        Ok(()) => push_bytes(told, alloc, out.as_bytes()),
+        Err(error) => push_shown(told, error),
     }
 }
