@@ -84,11 +84,11 @@ fn is_so(rt: &HostRuntime, tried: Tried) -> io::Result<bool> {
 
 // What a system refuses is not so.
 fn push_case(told: &mut String, rt: &HostRuntime, word: &str) {
-    let is_so = match meant(&TRIED, word) {
+    let held = match meant(&TRIED, word) {
         Some(tried) => is_so(rt, tried).unwrap_or(false),
         None => false,
     };
-    push(told, if is_so { "true" } else { "false" });
+    push(told, if held { "true" } else { "false" });
 }
 
 /// What came of a row.

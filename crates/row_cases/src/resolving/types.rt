@@ -4,7 +4,7 @@ use crate::resolving::kinds::push_kind;
 use crate::resolving::rows::{oid, type_row};
 use crate::resolving::telling::{push_asked, push_end, push_error, push_oid};
 use crate::resolving::words::number;
-use crate::row::{text, two};
+use crate::row::text;
 use crate::telling::{push, push_number};
 use pg_arguments::PgTypeInfo;
 use pg_resolve::{Resolver, TypeCache, Wanted};

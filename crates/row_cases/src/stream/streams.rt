@@ -150,11 +150,13 @@ fn is_row(row: &DataRow, value: &[u8]) -> bool {
 }
 
 fn are_shared(rows: &[DataRow]) -> bool {
-    let [first, second, third] = rows else {
-        return false;
-    };
-    let is_shared = !first.storage().is_unique();
-    is_shared && is_row(first, b"1") && is_row(second, b"22") && is_row(third, b"333")
+    match rows {
+        [first, second, third] => {
+            let is_shared = !first.storage().is_unique();
+            is_shared && is_row(first, b"1") && is_row(second, b"22") && is_row(third, b"333")
+        }
+        _ => false,
+    }
 }
 
 fn rows(alloc: Global) -> Sequence<ReadEvent> {

@@ -102,7 +102,6 @@ fn push_played(told: &mut String, alloc: Global, two: End) {
     let start = Ok(Started { sent: 90, read: 15 });
     push_report(told, alloc, &start, &outcomes, b"Q\x00\xff");
     drop(start);
-    drop(outcomes);
 }
 
 // A report of all that can be played.

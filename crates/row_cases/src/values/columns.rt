@@ -36,8 +36,8 @@ fn column(alloc: Global, ordinal: usize, name: &str) -> Result<PgColumn, AllocEr
 }
 
 fn add(alloc: Global, columns: &mut Vec<PgColumn>, name: &str) {
-    if let Ok(column) = column(alloc, columns.len(), name) {
-        let _ = columns.push(column);
+    if let Ok(made) = column(alloc, columns.len(), name) {
+        let _ = columns.push(made);
     }
 }
 

@@ -2,10 +2,10 @@
 
 use crate::telling::{push, push_shown};
 use pg_wire::{
-    Error, decode_authentication, decode_backend_key_data, decode_bind_complete,
-    decode_close_complete, decode_command_complete, decode_copy_data, decode_copy_done,
-    decode_copy_in_response, decode_copy_out_response, decode_data_row, decode_empty_query,
-    decode_error_response, decode_no_data, decode_notice_response, decode_notification_response,
+    decode_authentication, decode_backend_key_data, decode_bind_complete, decode_close_complete,
+    decode_command_complete, decode_copy_data, decode_copy_done, decode_copy_in_response,
+    decode_copy_out_response, decode_data_row, decode_empty_query, decode_error_response,
+    decode_no_data, decode_notice_response, decode_notification_response,
     decode_parameter_description, decode_parameter_status, decode_parse_complete,
     decode_portal_suspended, decode_ready_for_query, decode_row_description,
 };
@@ -85,15 +85,15 @@ fn tell_notice(told: &mut String, alloc: Global, body: &[u8]) {
 }
 
 // A message without a body of its own.
-fn read_empty(message: Got, body: &[u8]) -> Result<(), Error> {
+fn tell_empty(told: &mut String, message: Got, body: &[u8]) {
     match message {
-        Got::CopyDone => decode_copy_done(body),
-        Got::EmptyQuery => decode_empty_query(body),
-        Got::ParseComplete => decode_parse_complete(body),
-        Got::BindComplete => decode_bind_complete(body),
-        Got::CloseComplete => decode_close_complete(body),
-        Got::NoData => decode_no_data(body),
-        _ => decode_portal_suspended(body),
+        Got::CopyDone => push_shown(told, decode_copy_done(body)),
+        Got::EmptyQuery => push_shown(told, decode_empty_query(body)),
+        Got::ParseComplete => push_shown(told, decode_parse_complete(body)),
+        Got::BindComplete => push_shown(told, decode_bind_complete(body)),
+        Got::CloseComplete => push_shown(told, decode_close_complete(body)),
+        Got::NoData => push_shown(told, decode_no_data(body)),
+        _ => push_shown(told, decode_portal_suspended(body)),
     }
 }
 
@@ -114,6 +114,6 @@ pub fn tell_got(told: &mut String, alloc: Global, message: Got, body: &[u8]) {
         Got::CopyIn => push_shown(told, decode_copy_in_response(alloc, body)),
         Got::CopyOut => push_shown(told, decode_copy_out_response(alloc, body)),
         Got::CopyData => push_shown(told, decode_copy_data(alloc, body)),
-        message => push_shown(told, read_empty(message, body)),
+        message => tell_empty(told, message, body),
     }
 }
