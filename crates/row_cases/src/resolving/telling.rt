@@ -36,14 +36,22 @@ pub fn push_error(told: &mut String, error: Error) {
     drop(error);
 }
 
+fn push_first(told: &mut String, first: &Option<Text>, is_last: bool) {
+    let text = match first {
+        Some(text) => text.as_str(),
+        None => "",
+    };
+    push_quoted(told, text);
+    push(told, if is_last { " true" } else { " false" });
+}
+
 /// A text between quotes and whether it is the last, of what is asked in parts.
 pub fn push_asked(told: &mut String, asked: Result<(Option<Text>, bool), Error>) {
     match asked {
-        Ok((Some(text), is_last)) => {
-            push_quoted(told, text.as_str());
-            push(told, if is_last { " true" } else { " false" });
+        Ok(asked) => {
+            push_first(told, &asked.0, asked.1);
+            drop(asked);
         }
-        Ok((None, is_last)) => push(told, if is_last { "\"\" true" } else { "\"\" false" }),
         Err(error) => push_error(told, error),
     }
 }
