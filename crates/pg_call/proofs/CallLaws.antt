@@ -26,7 +26,6 @@ use Rattle.pg_call.specs.declared.kind.Kind.TheVariants as kinds
 use Rattle.pg_call.specs.declared.tally.Tally.{Tally}
 use Rattle.pg_call.specs.declared.after.Rest.{Rest}
 use Rattle.pg_call.specs.declared.after.Rest.TheVariants as rests
-use Rattle.pg_call.specs.declared.answer.CallAnswer.TheVariants as answers
 use Rattle.pg_exchanges.specs.Answering.{described}
 use Rattle.pg_call.specs.declared.request.Request.{Request}
 use Rattle.pg_call.specs.declared.request.Request.TheVariants as requests
@@ -148,6 +147,7 @@ drain_takes f a b w beats.More fails k some d start r said hs items i =
 drain_takes f a b w beats.Waits fails k some d start r said hs items i = absurd d
 drain_takes f a b w (beats.Yields item) fails k some d start r said hs items i = absurd d
 drain_takes f a b w (beats.Opens opened) fails k some d start r said hs items i = absurd d
+drain_takes f a b w (beats.HandsOn next) fails k some d start r said hs items i = absurd d
 drain_takes f a b w (beats.Ends answer) fails k some d start r said hs items i =
     let tag : f.tag ≡ 69 = sym (ap (λ (g : Frame). g.tag) d.1.1) in
     rw (d.4, d.2, d.3, append-nil said) (
@@ -306,11 +306,23 @@ finished_last kinds.Ping t status = tt
 finished_last kinds.Flush t status = tt
 finished_last kinds.Close t status = tt
 
-ends_fine : (start : Ledger) (r : Request) (said : List FrontendMessage) (hs : List Frame) (items : List CallItem) (ledger : Ledger) (answer : Result CallAnswer Error) → IsLast answer → EndsFine start r said hs items ledger answer → CallEnds start r said hs items ledger answer
+ends_fine : (start : Ledger) (r : Request) (said : List FrontendMessage) (hs : List Frame) (items : List CallItem) (ledger : Ledger) (answer : Result CallAnswer Error) → IsLast answer → EndsFine start r said hs items ledger (beats.Ends answer) → CallEnds start r said hs items ledger answer
 ends_fine start r said hs items ledger (Ok a) k f = f
 ends_fine start r said hs items ledger (Err errors.RowNotFound) k f = f
 ends_fine start r said hs items ledger (Err (errors.BeginFailed status)) k f = f
 ends_fine start r said hs items ledger (Err _) k f = absurd k
+
+-- what the end of a reply comes to, and what is said of the call then
+abbrev IsLastBeat : Beat → Type 0
+IsLastBeat (beats.Ends answer) = IsLast answer
+IsLastBeat (beats.HandsOn next) = Unit {0}
+IsLastBeat _ = ⊥
+
+told_last : (start : Ledger) (r : Request) (said : List FrontendMessage) (hs : List Frame) (items : List CallItem) (ledger : Ledger) (beat : Beat) → IsLastBeat beat → EndsFine start r said hs items ledger beat → (kind_of r ≡ kinds.Close → ⊥)
+    → CallTakes start r said hs items ledger calls.Idle beat
+told_last start r said hs items ledger (beats.Ends answer) l f n = (refl, ends_fine start r said hs items ledger answer l f, on_ok answer (kind_of r ≡ kinds.Close → ⊥) n)
+told_last start r said hs items ledger (beats.HandsOn next) l f n = (refl, f, n)
+told_last start r said hs items ledger _ l f n = absurd l
 
 pub plain_messages : (r : Request) → length (groups_of r) ≡ 1 → said_in (groups_of r) ≡ messages_of r
 plain_messages (requests.Execute query) n = refl
@@ -360,9 +372,13 @@ closed_fine start r said hs items reply i status can =
 own_not_close : (r : Request) → length (groups_of r) ≡ 1 → kind_of r ≡ kinds.Close → ⊥
 own_not_close r n k = let z = ap (λ (g : List Group). length g) (no_groups_close r k).0 in absurd (omega (arith, n, z))
 
-handed_last : (rest : Rest) (parameters : List ℕ) (columns : Option (List PgColumn)) (answer : Result CallAnswer Error) → IsLast answer → IsLast (handed_on rest parameters columns answer)
+handed_last : (rest : Rest) (parameters : List ℕ) (columns : Option (List PgColumn)) (answer : Result CallAnswer Error) → IsLast answer → IsLastBeat (handed_on rest parameters columns answer)
 handed_last rests.Nothing parameters columns answer l = l
 handed_last _ parameters columns answer l = tt
+
+handed_goes : (rest : Rest) (parameters : List ℕ) (columns : Option (List PgColumn)) (answer : Result CallAnswer Error) → handed_on rest parameters columns answer ≢ beats.Waits
+handed_goes rests.Nothing parameters columns answer e = cc
+handed_goes _ parameters columns answer e = cc
 
 -- what closes a description has described these columns
 described_at : (h : Heading) (own : List BackendMessage) (part : Part) (status : TransactionStatus) → h.columns ≡ Some [] → part_after parts.Parsing own ≡ Some part → may_close part ≡ true → (heading_after h own).columns ≡ Some (columns_of (described (own ++ ReadyForQuery status ∷ [])))
@@ -380,24 +396,23 @@ answers_same : (r : Request) (own : List BackendMessage) (reply : Reply) (status
     → answer_by r (own ++ ReadyForQuery status ∷ []) status ≡ handed_on reply.rest reply.parameters reply.heading.columns (finished reply.kind reply.tally status)
 answers_same (requests.Describe x) own reply status k h t p c e =
     let r : Request = requests.Describe x in
-    ap (λ (w : Option (List PgColumn)). Ok (answers.Next (requests.Describe (told (parameters_after [] (own ++ ReadyForQuery status ∷ [])) w x)))) (sym (ap (λ (y : Heading). y.columns) h ∙ described_at (heading_of r) own reply.part status refl p c))
-    ∙ ap (λ (w : List ℕ). Ok (answers.Next (requests.Describe (told w reply.heading.columns x)))) (parameters-push [] own (ReadyForQuery status) ∙ sym t)
+    ap (λ (w : Option (List PgColumn)). beats.HandsOn (requests.Describe (told (parameters_after [] (own ++ ReadyForQuery status ∷ [])) w x))) (sym (ap (λ (y : Heading). y.columns) h ∙ described_at (heading_of r) own reply.part status refl p c))
+    ∙ ap (λ (w : List ℕ). beats.HandsOn (requests.Describe (told w reply.heading.columns x))) (parameters-push [] own (ReadyForQuery status) ∙ sym t)
     ∙ ap (λ (o : Rest). handed_on o reply.parameters reply.heading.columns (finished reply.kind reply.tally status)) (sym k)
 answers_same (requests.Look lookup) own reply status k h t p c e = ap (λ (o : Rest). handed_on o reply.parameters reply.heading.columns (finished reply.kind reply.tally status)) (sym k)
 answers_same (requests.Fill filling) own reply status k h t p c e = ap (λ (o : Rest). handed_on o reply.parameters reply.heading.columns (finished reply.kind reply.tally status)) (sym k)
 answers_same (requests.Evict eviction) own reply status k h t p c e = ap (λ (o : Rest). handed_on o reply.parameters reply.heading.columns (finished reply.kind reply.tally status)) (sym k)
 answers_same (requests.Prepare prepared) own reply status k h t p c e = ap (λ (o : Rest). handed_on o reply.parameters reply.heading.columns (finished reply.kind reply.tally status)) (sym k)
-answers_same _ own reply status k h t p c e = e ∙ ap (λ (o : Rest). handed_on o reply.parameters reply.heading.columns (finished reply.kind reply.tally status)) (sym k)
+answers_same _ own reply status k h t p c e = ap (λ (w : Result CallAnswer Error). beats.Ends w) e ∙ ap (λ (o : Rest). handed_on o reply.parameters reply.heading.columns (finished reply.kind reply.tally status)) (sym k)
 
 own_closes : (start : Ledger) (r : Request) (said : List FrontendMessage) (hs : List Frame) (items : List CallItem) (reply : Reply) (status : TransactionStatus) → may_close reply.part ≡ true → CanBeSaid r → IsReplying start r said hs items reply
-    → CallTakes start r (said ++ []) (hs ++ backend_frame (ReadyForQuery status) ∷ []) items owes_none calls.Idle (beats.Ends (handed_on reply.rest reply.parameters reply.heading.columns (finished reply.kind reply.tally status)))
+    → CallTakes start r (said ++ []) (hs ++ backend_frame (ReadyForQuery status) ∷ []) items owes_none calls.Idle (handed_on reply.rest reply.parameters reply.heading.columns (finished reply.kind reply.tally status))
 unfolding closed_fine
 own_closes start r said hs items reply status closes can i =
-    let answer = handed_on reply.rest reply.parameters reply.heading.columns (finished reply.kind reply.tally status) in
     let plain : answer_to (kind_of r) (items_of (heading_of r) (i.own ++ ReadyForQuery status ∷ [])) status ≡ finished reply.kind reply.tally status =
     ap (λ (t : List CallItem). answer_to (kind_of r) t status) (items_same (heading_of r) i.own (ReadyForQuery status) (λ h. refl)) ∙ ap (λ (k : Kind). answer_to k (items_of (heading_of r) i.own) status) (sym i.kind_is) ∙ ap (λ (t : Tally). finished reply.kind t status) (sym i.tally_is) in
     let same = answers_same r i.own reply status i.rest_is i.heading_is i.parameters_are i.so_far closes plain in
-    (refl, ends_fine start r (said ++ []) _ items owes_none _ (handed_last reply.rest reply.parameters reply.heading.columns _ (finished_last reply.kind reply.tally status)) (rw (append-nil said) (closed_fine start r said hs items reply i status can, same)), on_ok answer (kind_of r ≡ kinds.Close → ⊥) (λ k. own_not_close r i.one k))
+    told_last start r (said ++ []) _ items owes_none _ (handed_last reply.rest reply.parameters reply.heading.columns _ (finished_last reply.kind reply.tally status)) (rw (append-nil said) (closed_fine start r said hs items reply i status can, same)) (λ k. own_not_close r i.one k)
 
 -- ---- another reply than the one that is awaited
 
@@ -651,6 +666,7 @@ drained_stays f a b w beats.More fails k d = rw (d.1, k) tt
 drained_stays f a b w beats.Waits fails k d = absurd d
 drained_stays f a b w (beats.Yields item) fails k d = absurd d
 drained_stays f a b w (beats.Opens opened) fails k d = absurd d
+drained_stays f a b w (beats.HandsOn next) fails k d = absurd d
 drained_stays f a b w (beats.Ends answer) fails k d = rw d.3 tt
 
 pub drains_stay : (tag : ℕ) (body : List ℕ) (a b : Running) (w : Waiting) (result : Result Taken Error) → a.call ≡ calls.Waiting w → IfOk result (Drains tag body w.is_copy_failed (as_call a.ledger (calls.Waiting w)) b)
@@ -680,12 +696,13 @@ own_passes_other tag body a reply reply' k h row copy =
     (row, copy, own_oks tag body a b reply reply' heards.More (just beats.More) k h (refl, refl), own_stays tag a b reply reply' heards.More (just beats.More) k (refl, refl), tt)
 
 -- the end of the own reply
-pub own_ends : (body : List ℕ) (a b : Running) (status : TransactionStatus) (answer : Result CallAnswer Error) (call : Call) → a.call ≡ call → ClosesBy status body call → Closes status a b (just (beats.Ends answer)) → EndsBy body answer a b
-own_ends body a b status answer (calls.Own reply) k h closes =
+pub own_ends : (body : List ℕ) (a b : Running) (status : TransactionStatus) (beat : Beat) (call : Call) → a.call ≡ call → ClosesBy status body call → Closes status a b (just beat) → EndsBy body beat a b
+own_ends body a b status beat (calls.Own reply) k h closes =
     let same : as_call a.ledger (calls.Own reply) ≡ a = ap (λ (c : Call). as_call a.ledger c) (sym k) in
-    let follows : Closes status (as_call a.ledger (calls.Own reply)) b (just (beats.Ends answer)) = subst (λ (x : Running). Closes status x b (just (beats.Ends answer))) (sym same) closes in
-    (own_oks 90 body a b reply reply (heards.Closed status) (just (beats.Ends answer)) k h follows, own_stays 90 a b reply reply (heards.Closed status) (just (beats.Ends answer)) k follows)
-own_ends body a b status answer _ k h closes = absurd h
+    let follows : Closes status (as_call a.ledger (calls.Own reply)) b (just beat) = subst (λ (x : Running). Closes status x b (just beat)) (sym same) closes in
+    let goes = λ (w : beat ≡ beats.Waits). handed_goes reply.rest reply.parameters reply.heading.columns _ (sym (ap (λ (t : Taken). t.beat) follows.1) ∙ w) in
+    (own_oks 90 body a b reply reply (heards.Closed status) (just beat) k h follows, own_stays 90 a b reply reply (heards.Closed status) (just beat) k follows, goes)
+own_ends body a b status beat _ k h closes = absurd h
 
 pub closes_replied : (status : TransactionStatus) (body : List ℕ) (call : Call) → ClosesBy status body call → IsReplied call
 closes_replied status body (calls.Own reply) h = tt

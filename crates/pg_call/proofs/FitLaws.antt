@@ -19,6 +19,7 @@ use Rattle.pg_call.specs.declared.tally.Tally.{Tally}
 use Rattle.pg_call.specs.declared.ledger.Ledger.{Ledger}
 use Rattle.pg_call.specs.declared.calling.Call.{Call}
 use Rattle.pg_call.specs.declared.calling.Call.TheVariants as calls
+use Rattle.pg_call.specs.declared.calling.Beat.TheVariants as beats
 use Rattle.pg_call.specs.declared.statement.Goal.{Goal}
 use Rattle.pg_call.specs.declared.statement.Goal.TheVariants as goals
 use Rattle.pg_call.specs.declared.after.After.{After}
@@ -65,6 +66,9 @@ one_fits None answer e = absurd cc
 one_fits (Some row) answer e =
     let same : answers.OneRow (Some row) ≡ answer = cc in
     subst (AnswerFits (kinds.Run hows.FetchOne)) same tt
+
+the_end : (a b : Result CallAnswer Error) → beats.Ends a ≡ beats.Ends b → a ≡ b
+the_end a b e = cc
 
 pub the_ok : (a b : CallAnswer) → ◌≡◌ {A = Result CallAnswer Error} (Ok a) (Ok b) → a ≡ b
 the_ok a b e = cc
@@ -128,50 +132,25 @@ own_fits requests.Ping t status answer n e = finished_fits kinds.Ping t status a
 own_fits requests.Flush t status answer n e = finished_fits kinds.Flush t status answer n (λ k. cc) e
 own_fits requests.Close t status answer n e = finished_fits kinds.Close t status answer n (λ k. cc) e
 
-pub answers_fit : (r : Request) (reply : List BackendMessage) (status : TransactionStatus) (answer : CallAnswer) → answer_by r reply status ≡ Ok answer → AnswerFits (kind_of r) answer
+pub answers_fit : (r : Request) (reply : List BackendMessage) (status : TransactionStatus) (answer : CallAnswer) → answer_by r reply status ≡ beats.Ends (Ok answer) → AnswerFits (kind_of r) answer
 answers_fit r reply status answer e = by r (next_of r reply) refl e
   where
-    handed : (r : Request) (reply : List BackendMessage) (next : Request) → next_of r reply ≡ Some next → AnswerFits (kind_of r) (answers.Next next)
-    handed (requests.Describe extended) reply next k = tt
-    handed (requests.Look lookup) reply next k = tt
-    handed (requests.Fill filling) reply next k = tt
-    handed (requests.Evict eviction) reply next k = tt
-    handed _ reply next k = absurd cc
-
-    by : (r : Request) (o : Option Request) → next_of r reply ≡ o → answer_or_next o (own_answer r (answer_to (kind_of r) (own_items r reply) status)) ≡ Ok answer → AnswerFits (kind_of r) answer
-    by r None k e = own_fits r (tally_of (kind_of r) (own_items r reply)) status answer (no_description r reply k) e
-    by r (Some next) k e = subst (AnswerFits (kind_of r)) (the_ok _ _ e) (handed r reply next k)
+    by : (r : Request) (o : Option Request) → next_of r reply ≡ o → answer_or_next o (own_answer r (answer_to (kind_of r) (own_items r reply) status)) ≡ beats.Ends (Ok answer) → AnswerFits (kind_of r) answer
+    by r None k e = own_fits r (tally_of (kind_of r) (own_items r reply)) status answer (no_description r reply k) (the_end _ _ e)
+    by r (Some next) k e = absurd cc
 
 -- ---- the exchanges of a call
 
-abbrev IsDescribe : Kind → Type 0
-IsDescribe kind = kind ≡ kinds.Describe
-
 -- only a description hands on what is asked next
-next_fits : (kind : Kind) (next : Request) → AnswerFits kind (answers.Next next) → IsDescribe kind
-next_fits kinds.Describe next f = refl
-next_fits (kinds.Run hows.Execute) next f = absurd f
-next_fits (kinds.Run hows.ExecuteMany) next f = absurd f
-next_fits (kinds.Run hows.Fetch) next f = absurd f
-next_fits (kinds.Run hows.FetchMany) next f = absurd f
-next_fits (kinds.Run hows.FetchAll) next f = absurd f
-next_fits (kinds.Run hows.FetchOptional) next f = absurd f
-next_fits (kinds.Run hows.FetchOne) next f = absurd f
-next_fits kinds.Prepare next f = absurd f
-next_fits kinds.Clear next f = absurd f
-next_fits kinds.Begin next f = absurd f
-next_fits kinds.Commit next f = absurd f
-next_fits kinds.Rollback next f = absurd f
-next_fits kinds.CopyOut next f = absurd f
-next_fits kinds.CopyIn next f = absurd f
-next_fits kinds.Ping next f = absurd f
-next_fits kinds.Flush next f = absurd f
-next_fits kinds.Close next f = absurd f
+pub hands_on_described : (r : Request) (reply : List BackendMessage) (status : TransactionStatus) (next : Request) → answer_by r reply status ≡ beats.HandsOn next → kind_of r ≡ kinds.Describe
+hands_on_described (requests.Describe x) reply status next e = refl
+hands_on_described (requests.Look lookup) reply status next e = refl
+hands_on_described (requests.Fill filling) reply status next e = refl
+hands_on_described (requests.Evict eviction) reply status next e = refl
+hands_on_described (requests.Run bound) reply status next e = absurd cc
+hands_on_described _ reply status next e = absurd cc
 
-pub hands_on_described : (r : Request) (reply : List BackendMessage) (status : TransactionStatus) (next : Request) → answer_by r reply status ≡ Ok (answers.Next next) → kind_of r ≡ kinds.Describe
-hands_on_described r reply status next e = next_fits (kind_of r) next (answers_fit r reply status (answers.Next next) e)
-
-the_next : (x y : Request) → answers.Next x ≡ answers.Next y → x ≡ y
+the_next : (x y : Request) → beats.HandsOn x ≡ beats.HandsOn y → x ≡ y
 the_next x y e = cc
 
 behind_kind : (after : After) → main_kind (request_behind after) ≡ after_kind after
@@ -180,57 +159,29 @@ behind_kind (afters.Fill filling) = refl
 behind_kind (afters.Prepare prepared) = refl
 
 -- what is handed on is of the call's kind, and is what was to be asked next
-pub next_is : (r : Request) (reply : List BackendMessage) (status : TransactionStatus) (next : Request) → answer_by r reply status ≡ Ok (answers.Next next) → (main_kind next ≡ main_kind r) × (next_of r reply ≡ Some next)
-next_is r reply status next e = by r (hands_on_described r reply status next e) e
-  where
-    by : (r : Request) → IsDescribe (kind_of r) → answer_by r reply status ≡ Ok (answers.Next next) → (main_kind next ≡ main_kind r) × (next_of r reply ≡ Some next)
-    by (requests.Describe x) k e =
-        let is = the_next _ next (the_ok _ _ e) in
-        (ap (λ (n : Request). main_kind n) (sym is), ap (λ (n : Request). Some n) is)
-    by (requests.Look lookup) k e =
-        let is = the_next _ next (the_ok _ _ e) in
-        (ap (λ (n : Request). main_kind n) (sym is), ap (λ (n : Request). Some n) is)
-    by (requests.Fill filling) k e =
-        let is = the_next _ next (the_ok _ _ e) in
-        (ap (λ (n : Request). main_kind n) (sym is), ap (λ (n : Request). Some n) is)
-    by (requests.Evict eviction) k e =
-        let is = the_next _ next (the_ok _ _ e) in
-        (ap (λ (n : Request). main_kind n) (sym is) ∙ behind_kind eviction.after, ap (λ (n : Request). Some n) is)
-    by (requests.Run bound) k e = absurd cc
-    by _ k e = absurd cc
+pub next_is : (r : Request) (reply : List BackendMessage) (status : TransactionStatus) (next : Request) → answer_by r reply status ≡ beats.HandsOn next → (main_kind next ≡ main_kind r) × (next_of r reply ≡ Some next)
+next_is (requests.Describe x) reply status next e =
+    let is = the_next _ next e in
+    (ap (λ (n : Request). main_kind n) (sym is), ap (λ (n : Request). Some n) is)
+next_is (requests.Look lookup) reply status next e =
+    let is = the_next _ next e in
+    (ap (λ (n : Request). main_kind n) (sym is), ap (λ (n : Request). Some n) is)
+next_is (requests.Fill filling) reply status next e =
+    let is = the_next _ next e in
+    (ap (λ (n : Request). main_kind n) (sym is), ap (λ (n : Request). Some n) is)
+next_is (requests.Evict eviction) reply status next e =
+    let is = the_next _ next e in
+    (ap (λ (n : Request). main_kind n) (sym is) ∙ behind_kind eviction.after, ap (λ (n : Request). Some n) is)
+next_is (requests.Run bound) reply status next e = absurd cc
+next_is _ reply status next e = absurd cc
 
--- what an exchange shows is of the call's kind, and so is what it answers, where that is no further exchange
+-- what an exchange shows is of the call's kind, and so is what it answers
 pub shows_main : (r : Request) (item : CallItem) → yields (kind_of r) item ≡ true → yields (main_kind r) item ≡ true
 shows_main (requests.Describe x) item e = absurd cc
 shows_main (requests.Look lookup) item e = absurd cc
 shows_main (requests.Fill filling) item e = absurd cc
 shows_main (requests.Evict eviction) item e = absurd cc
 shows_main _ item e = e
-
-pub answers_main : (r : Request) (reply : List BackendMessage) (status : TransactionStatus) (answer : CallAnswer) → answer_by r reply status ≡ Ok answer → ((next : Request) → answer ≡ answers.Next next → ⊥) → AnswerFits (main_kind r) answer
-answers_main (requests.Describe x) reply status answer e n = absurd (n _ (sym (the_ok _ _ e)))
-answers_main (requests.Look lookup) reply status answer e n = absurd (n _ (sym (the_ok _ _ e)))
-answers_main (requests.Fill filling) reply status answer e n = absurd (n _ (sym (the_ok _ _ e)))
-answers_main (requests.Evict eviction) reply status answer e n = absurd (n _ (sym (the_ok _ _ e)))
-answers_main (requests.Prepare prepared) reply status answer e n = answers_fit (requests.Prepare prepared) reply status answer e
-answers_main (requests.Clear statements) reply status answer e n = answers_fit (requests.Clear statements) reply status answer e
-answers_main (requests.Run bound) reply status answer e n = answers_fit (requests.Run bound) reply status answer e
-answers_main (requests.Execute query) reply status answer e n = answers_fit (requests.Execute query) reply status answer e
-answers_main (requests.ExecuteMany query) reply status answer e n = answers_fit (requests.ExecuteMany query) reply status answer e
-answers_main (requests.Fetch query) reply status answer e n = answers_fit (requests.Fetch query) reply status answer e
-answers_main (requests.FetchMany query) reply status answer e n = answers_fit (requests.FetchMany query) reply status answer e
-answers_main (requests.FetchAll query) reply status answer e n = answers_fit (requests.FetchAll query) reply status answer e
-answers_main (requests.FetchOptional query) reply status answer e n = answers_fit (requests.FetchOptional query) reply status answer e
-answers_main (requests.FetchOne query) reply status answer e n = answers_fit (requests.FetchOne query) reply status answer e
-answers_main (requests.Begin depth) reply status answer e n = answers_fit (requests.Begin depth) reply status answer e
-answers_main (requests.BeginWith query) reply status answer e n = answers_fit (requests.BeginWith query) reply status answer e
-answers_main (requests.CopyOut query) reply status answer e n = answers_fit (requests.CopyOut query) reply status answer e
-answers_main (requests.CopyIn feed) reply status answer e n = answers_fit (requests.CopyIn feed) reply status answer e
-answers_main (requests.Commit left) reply status answer e n = answers_fit (requests.Commit left) reply status answer e
-answers_main (requests.Rollback left) reply status answer e n = answers_fit (requests.Rollback left) reply status answer e
-answers_main requests.Ping reply status answer e n = answers_fit requests.Ping reply status answer e
-answers_main requests.Flush reply status answer e n = answers_fit requests.Flush reply status answer e
-answers_main requests.Close reply status answer e n = answers_fit requests.Close reply status answer e
 
 goal_describes_none : (goal : Goal) → goal_kind goal ≡ kinds.Describe → ⊥
 goal_describes_none (goals.Run how) e = cc
@@ -257,3 +208,12 @@ main_alone (requests.Look lookup) n = absurd (n refl)
 main_alone (requests.Fill filling) n = absurd (n refl)
 main_alone (requests.Evict eviction) n = absurd (n refl)
 main_alone _ n = refl
+
+-- a description answers nothing: it hands on
+describes_none : (answer : CallAnswer) → AnswerFits kinds.Describe answer → ⊥
+describes_none answer f = f
+
+pub answers_main : (r : Request) (reply : List BackendMessage) (status : TransactionStatus) (answer : CallAnswer) → answer_by r reply status ≡ beats.Ends (Ok answer) → AnswerFits (main_kind r) answer
+answers_main r reply status answer e =
+    let fits = answers_fit r reply status answer e in
+    subst (λ (k : Kind). AnswerFits k answer) (sym (main_alone r (λ d. describes_none answer (subst (λ (k : Kind). AnswerFits k answer) d fits)))) fits

@@ -16,6 +16,7 @@ use Rattle.pg_call.specs.declared.ledger.Ledger.{Ledger}
 use Rattle.pg_call.specs.declared.waiting.Waiting.{Waiting}
 use Rattle.pg_call.specs.declared.calling.Call.{Call}
 use Rattle.pg_call.specs.declared.calling.Call.TheVariants as calls
+use Rattle.pg_call.specs.declared.calling.Beat.TheVariants as beats
 use Rattle.pg_call.specs.Requests.{Group, said_in, kind_of, groups_of, messages_of, farewell, is_flush, is_close, heading_of, CanBeSaid, rest_of}
 use Rattle.pg_call.specs.declared.tally.Tally.{Tally}
 use Rattle.pg_call.specs.Items.{items_of, shown, empty_tally, tally_of, keeps_all, keeps_first}
@@ -155,7 +156,7 @@ no_groups_flush (requests.Commit left) e = absurd cc
 no_groups_flush (requests.Rollback left) e = absurd cc
 
 -- what it answers: the statement that it tells of, where there is one
-sent_by : (r : Request) → is_flush (kind_of r) ≡ true → answer_by r [] statuses.Idle ≡ Ok (sent_rest (rest_of r))
+sent_by : (r : Request) → is_flush (kind_of r) ≡ true → answer_by r [] statuses.Idle ≡ beats.Ends (Ok (sent_rest (rest_of r)))
 sent_by requests.Flush e = refl
 sent_by (requests.Prepare prepared) e = refl
 sent_by _ e = absurd cc
@@ -188,14 +189,14 @@ pub flush_fine : (start : Ledger) (r : Request) (said : List FrontendMessage) (h
 unfolding fine_drained
 flush_fine start r said hs items ledger w f z i =
     let g = no_groups_flush r (rw i.0 at f) in
-    (fine_drained start r said said hs items ledger w.is_copy_failed i.2 g.0 z (sym (append-nil said) ∙ ap (λ (t : List FrontendMessage). said ++ t) (sym g.1)) i.3, sent_by r (rw i.0 at f) ∙ ap (λ (t : Rest). Ok (sent_rest t)) (sym i.5))
+    (fine_drained start r said said hs items ledger w.is_copy_failed i.2 g.0 z (sym (append-nil said) ∙ ap (λ (t : List FrontendMessage). said ++ t) (sym g.1)) i.3, sent_by r (rw i.0 at f) ∙ ap (λ (t : Rest). beats.Ends (Ok (sent_rest t))) (sym i.5))
 
 pub closing_fine : (start : Ledger) (r : Request) (said : List FrontendMessage) (hs : List Frame) (items : List CallItem) (ledger : Ledger) → CallIs start r said hs items ledger calls.Closing → CallEnds start r said hs items ledger (Ok answers.Unit)
 unfolding fine_drained
 closing_fine start r said hs items ledger i =
     let g = no_groups_close r i.0 in
     let c = i.2 in
-    (fine_drained start r said c.drained hs items ledger c.failed i.1 g.0 c.owes (c.said_is ∙ ap (λ (t : List FrontendMessage). c.drained ++ t) (sym g.1)) c.draining, subst (λ (x : Request). answer_by x [] statuses.Idle ≡ Ok answers.Unit) (close_alone r i.0) refl)
+    (fine_drained start r said c.drained hs items ledger c.failed i.1 g.0 c.owes (c.said_is ∙ ap (λ (t : List FrontendMessage). c.drained ++ t) (sym g.1)) c.draining, subst (λ (x : Request). answer_by x [] statuses.Idle ≡ beats.Ends (Ok answers.Unit)) (close_alone r i.0) refl)
 
 -- ---- its own reply begins
 

@@ -24,7 +24,6 @@ AnswerFits (kinds.Run hows.FetchOne) (answers.OneRow (Some row)) = Unit {0}
 AnswerFits (kinds.Run hows.ExecuteMany) answers.Unit = Unit {0}
 AnswerFits (kinds.Run hows.Fetch) answers.Unit = Unit {0}
 AnswerFits (kinds.Run hows.FetchMany) answers.Unit = Unit {0}
-AnswerFits kinds.Describe (answers.Next request) = Unit {0}
 AnswerFits kinds.Prepare (answers.Statement prepared) = Unit {0}
 AnswerFits kinds.Clear answers.Unit = Unit {0}
 AnswerFits kinds.Begin answers.Unit = Unit {0}

@@ -160,16 +160,17 @@ abbrev pub own_answer : Request → Result CallAnswer Error → Result CallAnswe
 own_answer (requests.Prepare prepared) answer = Ok (answers.Statement prepared)
 own_answer _ answer = answer
 
-abbrev pub answer_or_next : Option Request → Result CallAnswer Error → Result CallAnswer Error
-answer_or_next None answer = answer
-answer_or_next (Some next) answer = Ok (answers.Next next)
+abbrev pub answer_or_next : Option Request → Result CallAnswer Error → Beat
+answer_or_next None answer = beats.Ends answer
+answer_or_next (Some next) answer = beats.HandsOn next
 
-abbrev pub answer_by : Request → List BackendMessage → TransactionStatus → Result CallAnswer Error
+-- what the end of its reply comes to
+abbrev pub answer_by : Request → List BackendMessage → TransactionStatus → Beat
 answer_by r reply status = answer_or_next (next_of r reply) (own_answer r (answer_to (kind_of r) (own_items r reply) status))
 
--- it ends with the answer to its reply
-abbrev pub EndsFine : Ledger → Request → List FrontendMessage → List Frame → List CallItem → Ledger → Result CallAnswer Error → Type 0
-EndsFine start r said hs items ledger answer = (f : IsFine start r said hs items ledger) × (answer_by r f.reply f.status ≡ answer)
+-- it ends with the answer to its reply, or hands on what is asked next
+abbrev pub EndsFine : Ledger → Request → List FrontendMessage → List Frame → List CallItem → Ledger → Beat → Type 0
+EndsFine start r said hs items ledger beat = (f : IsFine start r said hs items ledger) × (answer_by r f.reply f.status ≡ beat)
 
 -- the last message is a copy, which some server begins there in its response to the call's group, and which nobody has asked for
 pub record EndsAstray (start : Ledger) (r : Request) (hs : List Frame) (tag : ℕ) : Type 0 where
@@ -188,9 +189,9 @@ pub record EndsAstray (start : Ledger) (r : Request) (hs : List Frame) (tag : �
 
 -- what a call answers at its end
 abbrev pub CallEnds : Ledger → Request → List FrontendMessage → List Frame → List CallItem → Ledger → Result CallAnswer Error → Type 0
-CallEnds start r said hs items ledger (Ok answer) = EndsFine start r said hs items ledger (Ok answer)
-CallEnds start r said hs items ledger (Err errors.RowNotFound) = EndsFine start r said hs items ledger (Err errors.RowNotFound)
-CallEnds start r said hs items ledger (Err (errors.BeginFailed status)) = EndsFine start r said hs items ledger (Err (errors.BeginFailed status))
+CallEnds start r said hs items ledger (Ok answer) = EndsFine start r said hs items ledger (beats.Ends (Ok answer))
+CallEnds start r said hs items ledger (Err errors.RowNotFound) = EndsFine start r said hs items ledger (beats.Ends (Err errors.RowNotFound))
+CallEnds start r said hs items ledger (Err (errors.BeginFailed status)) = EndsFine start r said hs items ledger (beats.Ends (Err (errors.BeginFailed status)))
 CallEnds start r said hs items ledger (Err (errors.Database error)) = Leaves start r said hs items ledger false
     × ((front : List Frame) × (hs ≡ front ++ backend_frame (ErrorResponse error) ∷ []) × HasBackendFrame (ErrorResponse error) × (count_by is_error front ≡ 0))
 CallEnds start r said hs items ledger (Err (errors.Protocol (protocol.Reply tag))) = ((l : Leaves start r said hs items ledger (tag == 71)) × (l.own ≡ groups_of r) × (length l.own ≡ 1)) × (count_by is_error hs ≡ 0) × EndsAstray start r hs tag
@@ -219,6 +220,7 @@ CallTakes start r said hs items ledger call beats.Waits = ⊥
 CallTakes start r said hs items ledger call (beats.Yields item) = CallIs start r said hs (items ++ item ∷ []) ledger call
 CallTakes start r said hs items ledger call (beats.Opens opened) = CallIs start r said hs items ledger call × (kind_of r ≡ kinds.CopyIn) × IsOpen call
 CallTakes start r said hs items ledger call (beats.Ends answer) = (call ≡ calls.Idle) × CallEnds start r said hs items ledger answer × OnOk answer (kind_of r ≡ kinds.Close → ⊥)
+CallTakes start r said hs items ledger call (beats.HandsOn next) = (call ≡ calls.Idle) × EndsFine start r said hs items ledger (beats.HandsOn next) × (kind_of r ≡ kinds.Close → ⊥)
 
 -- The message ends the call, or leaves it where it stands: behind the replies of earlier calls, or in its own, for which no CopyFail
 -- is due then.
@@ -241,9 +243,9 @@ PassesRowOf body a b = TakesMessage 68 body a b (just beats.More) × StaysIn a.c
 abbrev pub PassesOf : ℕ → List ℕ → Running → Running → Type 0
 PassesOf tag body a b = (tag ≢ 68) × (tag ≢ 71) × TakesMessage tag body a b (just beats.More) × StaysIn a.call false b.call × IsReplied b.call
 
--- the own reply has come to its end by this message, and the call answers this
-abbrev pub EndsBy : List ℕ → Result CallAnswer Error → Running → Running → Type 0
-EndsBy body answer a b = TakesMessage 90 body a b (just (beats.Ends answer)) × StaysIn a.call false b.call
+-- the own reply has come to its end by this message, which comes to this
+abbrev pub EndsBy : List ℕ → Beat → Running → Running → Type 0
+EndsBy body beat a b = TakesMessage 90 body a b (just beat) × StaysIn a.call false b.call × (beat ≢ beats.Waits)
 
 -- the same of a row that is shown at once
 abbrev pub ShowsRowOf : List ℕ → RowSeen → Running → Running → Type 0

@@ -175,14 +175,14 @@ abbrev pub looks_up : Call → Bool
 looks_up (calls.Own reply) = is_look reply.rest
 looks_up _ = false
 
--- what comes of it at its end, where that is not its answer
-abbrev pub handed_on : Rest → List ℕ → Option (List PgColumn) → Result CallAnswer Error → Result CallAnswer Error
-handed_on rests.Nothing parameters columns answer = answer
-handed_on (rests.Describe extended) parameters columns answer = Ok (answers.Next (requests.Describe (told parameters columns extended)))
-handed_on (rests.After after) parameters columns answer = Ok (answers.Next (request_behind after))
-handed_on (rests.Look extended) parameters columns answer = Ok (answers.Next (requests.Describe extended))
-handed_on (rests.Fill bound) parameters columns answer = Ok (answers.Next (requests.Run (looked_behind bound)))
-handed_on (rests.Tell prepared) parameters columns answer = Ok (answers.Statement prepared)
+-- what its end comes to: its answer, or what is asked next
+abbrev pub handed_on : Rest → List ℕ → Option (List PgColumn) → Result CallAnswer Error → Beat
+handed_on rests.Nothing parameters columns answer = beats.Ends answer
+handed_on (rests.Describe extended) parameters columns answer = beats.HandsOn (requests.Describe (told parameters columns extended))
+handed_on (rests.After after) parameters columns answer = beats.HandsOn (request_behind after)
+handed_on (rests.Look extended) parameters columns answer = beats.HandsOn (requests.Describe extended)
+handed_on (rests.Fill bound) parameters columns answer = beats.HandsOn (requests.Run (looked_behind bound))
+handed_on (rests.Tell prepared) parameters columns answer = beats.Ends (Ok (answers.Statement prepared))
 
 -- the answer where nothing is left but to send: a statement is told, where it is asked for
 abbrev pub sent_rest : Rest → CallAnswer
@@ -194,9 +194,9 @@ sent_answer (calls.Asked request) = sent_rest (rest_of request)
 sent_answer (calls.Waiting waiting) = sent_rest waiting.rest
 sent_answer _ = answers.Unit
 
-abbrev pub finished_by : TransactionStatus → Call → Result CallAnswer Error
+abbrev pub finished_by : TransactionStatus → Call → Beat
 finished_by status (calls.Own reply) = handed_on reply.rest reply.parameters reply.heading.columns (finished reply.kind reply.tally status)
-finished_by status _ = Err errors.OutOfMemory
+finished_by status _ = beats.Ends (Err errors.OutOfMemory)
 
 -- its end tells this status, and may come
 abbrev pub ClosesBy : TransactionStatus → List ℕ → Call → Type 0
@@ -204,7 +204,7 @@ ClosesBy status body (calls.Own reply) = Hears reply reply 90 body (heards.Close
 ClosesBy status body _ = ⊥
 
 abbrev pub Closes : TransactionStatus → Running → Running → Taken → Type 0
-Closes status a b taken = (b ≡ idle_with (record { owed = 0; is_copy_failed = false })) × (taken ≡ just (beats.Ends (finished_by status a.call)))
+Closes status a b taken = (b ≡ idle_with (record { owed = 0; is_copy_failed = false })) × (taken ≡ just (finished_by status a.call))
 
 abbrev pub RefusesCopy : ℕ → Running → Running → Taken → Type 0
 RefusesCopy tag a b taken = (b ≡ idle_with (record { owed = a.ledger.owed; is_copy_failed = tag == 71 }))

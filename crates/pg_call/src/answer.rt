@@ -2,7 +2,7 @@ ghost use Rattle.std.specs.Prelude.{◌≡◌};
 ghost use Rattle.pg_call.specs.declared.kind.How.TheVariants as hows;
 ghost use Rattle.pg_call.specs.Answers.{TurnFits, TurnIsPlain, total_turn, unit_turn, rows_turn, optional_turn, one_turn, piece_turn, statement_turn, row_turn, count_turn, either_turn};
 
-use crate::{Kind, PgQueryResult, Prepared, Request};
+use crate::{Kind, PgQueryResult, Prepared};
 use either::Either;
 use pg_rows::PgRow;
 use pg_wire::{Blob, CopyResponseData, Error, Sequence};
@@ -26,8 +26,6 @@ pub enum CallAnswer {
     OneRow(Option<PgRow>),
     /// A statement, as it was described.
     Statement(Prepared),
-    /// This is asked next, of the same connection: the call isn't over yet.
-    Next(Request),
 }
 
 /// What a poll of a call comes to.

@@ -34,6 +34,8 @@ pub enum Beat {
     /// The server awaits the data of a copy from the client.
     Opens(CopyResponseData),
     Ends(Result<CallAnswer, Error>),
+    /// The exchange has ended, and this is asked next, of the same connection: the call isn't over yet.
+    HandsOn(Request),
 }
 
 /// What a message made of the call, and whether a CopyFail is due for it.

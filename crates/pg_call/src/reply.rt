@@ -7,7 +7,9 @@ ghost use Rattle.pg_call.specs.Replies.{IsFault, IsVerdict, MayNotCome, list_of}
 ghost use Rattle.pg_call.specs.Hearing.{Hears, HearsMessage, HearsNews, Opens, Shows, fed_part, opens_at, gone_on, handed_on};
 
 use crate::judging::{judge_row, pass_columns, pass_row, row_passed};
-use crate::{CallAnswer, CallItem, How, Kind, News, Part, Request, Rest, Tally, Verdict, judge};
+use crate::{
+    Beat, CallAnswer, CallItem, How, Kind, News, Part, Request, Rest, Tally, Verdict, judge,
+};
 use pg_columns::PgColumns;
 use pg_rows::{Heading, PgRow};
 use pg_wire::{
@@ -342,8 +344,8 @@ impl Reply {
         self.hear(verdict)
     }
 
-    /// What the call answers at the end of its reply, which told this status; or what is asked next.
-    pub fn finish(self, status: TransactionStatus) -> Result<CallAnswer, Error>
+    /// What the end of its reply comes to, which told this status: what the call answers, or what is asked next.
+    pub fn finish(self, status: TransactionStatus) -> Beat
         ensures { result ≡ handed_on self.rest self.parameters self.heading.columns (finished self.kind self.tally status) }
     {
         let Reply {
@@ -355,15 +357,15 @@ impl Reply {
             parameters,
         } = self;
         match rest {
-            Rest::Nothing => tally.finish(kind, status),
+            Rest::Nothing => Beat::Ends(tally.finish(kind, status)),
             Rest::Describe(extended) => {
                 let next = extended.told(parameters, heading.columns);
-                Ok(CallAnswer::Next(Request::Describe(next)))
+                Beat::HandsOn(Request::Describe(next))
             }
-            Rest::After(after) => Ok(CallAnswer::Next(after.request())),
-            Rest::Look(extended) => Ok(CallAnswer::Next(Request::Describe(extended))),
-            Rest::Fill(bound) => Ok(CallAnswer::Next(Request::Run(bound.looked_behind()))),
-            Rest::Tell(prepared) => Ok(CallAnswer::Statement(prepared)),
+            Rest::After(after) => Beat::HandsOn(after.request()),
+            Rest::Look(extended) => Beat::HandsOn(Request::Describe(extended)),
+            Rest::Fill(bound) => Beat::HandsOn(Request::Run(bound.looked_behind())),
+            Rest::Tell(prepared) => Beat::Ends(Ok(CallAnswer::Statement(prepared))),
         }
     }
 }

@@ -233,7 +233,7 @@ impl Running {
         requires { IsReplied self.old.call }
         ensures { Closes status self.old self.new result }
     {
-        plain(Beat::Ends(self.finish(status)))
+        plain(self.finish(status))
     }
 
     // Another reply comes than the one that is awaited: a copy from the client is ended at once.
@@ -303,7 +303,7 @@ impl Running {
             return self.take_any(alloc, tag, body);
         }
         match self.ends(body) {
-            Some(answer) => Ok(plain(Beat::Ends(answer))),
+            Some(beat) => Ok(plain(beat)),
             None => self.take_any(alloc, tag, body),
         }
     }
@@ -391,10 +391,10 @@ impl Running {
         }
     }
 
-    // The own reply has come to its end, and the call answers this.
-    fn finish(&mut self, status: TransactionStatus) -> Result<CallAnswer, Error>
+    // The own reply has come to its end, which comes to this.
+    fn finish(&mut self, status: TransactionStatus) -> Beat
         requires { IsReplied self.old.call }
-        ensures { Closes status self.old self.new (just (Beat.Ends result)) }
+        ensures { Closes status self.old self.new (just result) }
     {
         match mem::replace(&mut self.call, Call::Idle) {
             Call::Own(reply) => {
@@ -405,9 +405,9 @@ impl Running {
         }
     }
 
-    // Takes the end of the own reply, where it may come: what the call answers. Else nothing has changed.
-    fn ends(&mut self, body: &[u8]) -> Option<Result<CallAnswer, Error>>
-        ensures ends { IfSome result (λ answer. EndsBy body.now answer self.old self.new) }
+    // Takes the end of the own reply, where it may come: what it comes to. Else nothing has changed.
+    fn ends(&mut self, body: &[u8]) -> Option<Beat>
+        ensures ends { IfSome result (λ beat. EndsBy body.now beat self.old self.new) }
         ensures none { result ≡ None → self.new ≡ self.old }
     {
         match self.closing(body) {

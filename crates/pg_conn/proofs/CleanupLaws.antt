@@ -210,6 +210,7 @@ room_settled c h = omega (arith, h, level_none c.groups)
 
 pub room_behind : (beat : Beat) (c : ConnSeen) → HasRoom c → HasRoom (behind beat c)
 room_behind (beats.Ends (Ok answer)) c h = room_settled c h
+room_behind (beats.HandsOn next) c h = room_settled c h
 room_behind (beats.Ends (Err e)) c h = let d : ConnSeen = record c { broken = broken_by (beats.Ends (Err e)) } in room_cleaned 0 (unfed (ends_copy e) d) (room_unfed 0 (ends_copy e) d h)
 room_behind beats.More c h = h
 room_behind beats.Waits c h = h
@@ -218,6 +219,7 @@ room_behind (beats.Opens opened) c h = h
 
 pub all_behind : (beat : Beat) (c : ConnSeen) → HasAllRoom c → HasAllRoom (behind beat c)
 all_behind (beats.Ends (Ok answer)) c h = all_settled c h
+all_behind (beats.HandsOn next) c h = all_settled c h
 all_behind (beats.Ends (Err e)) c h = let d : ConnSeen = record c { broken = broken_by (beats.Ends (Err e)) } in all_cleaned (unfed (ends_copy e) d) (all_unfed (ends_copy e) d h)
 all_behind beats.More c h = h
 all_behind beats.Waits c h = h

@@ -392,7 +392,6 @@ unlooks_first a b told learnt e whole named can types tables cause is =
         last = first;
         hands = refl;
         polled = unlooks (record (resolved a) { learnt = learnt }) b told e (resolved_broken a ∙ whole) may cause is;
-        none = λ next e. absurd cc;
       },
     )
 
@@ -456,7 +455,6 @@ refuses_named a b told e whole n h is = (
     last = a;
     hands = refl;
     polled = (polls_refused a b told e whole (named_flushes (resolved a).call told n) (named_asked (resolved a).call told n) h is).0;
-    none = λ next e. absurd cc;
   },
 )
 
@@ -573,7 +571,6 @@ shown_on a b row whole shows = record {
   last = a;
   hands = refl;
   polled = subst (λ (x : ConnSeen). Polled x b (beats.Yields (Row row))) (sym (own_resolved a shows.1)) (shown_polled a b row whole shows);
-  none = λ next e. absurd cc;
 }
 
 pub shown_through : (a b : ConnSeen) (row : RowSeen) → a.broken ≡ None → ShowsAtOnce a b row → PollsThrough a b (Ready (turns.Item (Row row)))

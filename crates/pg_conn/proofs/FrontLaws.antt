@@ -143,6 +143,7 @@ told a b start r said hs f items (beats.Yields item) fails copy sent h = h
 told a b start r said hs f items (beats.Opens opened) fails copy sent h = h
 told a b start r said hs f items (beats.Ends (Ok answer)) fails copy sent h = (h.0, h.1, sent (plain_end fails f (ready_last hs f h.1.0.ends) copy))
 told a b start r said hs f items (beats.Ends (Err e)) fails copy sent h = (h.0, inl h.1)
+told a b start r said hs f items (beats.HandsOn next) fails copy sent h = (h.0, h.1, sent (plain_end fails f (ready_last hs f h.1.0.ends) copy))
 
 taken_cause : (a b : ConnSeen) (beat : Beat) → (beat ≢ beats.Waits) → AllMoved a.stream b.stream → BeatCause a b beat
 taken_cause a b beats.More n h = h
@@ -150,6 +151,7 @@ taken_cause a b beats.Waits n h = absurd (n refl)
 taken_cause a b (beats.Yields item) n h = h.2
 taken_cause a b (beats.Opens opened) n h = h.2
 taken_cause a b (beats.Ends (Ok answer)) n h = h
+taken_cause a b (beats.HandsOn next) n h = h
 taken_cause a b (beats.Ends (Err e)) n h = h.2
 
 fails_fit : (fails : Bool) (n : ℕ) → (fails ≡ true → 57 ≤ n) → n ≤ (n - length (spelled (fails_of fails))) + length (spelled (fails_of fails))
@@ -375,6 +377,9 @@ fails_at a c start r own hs f names x y e is (inr (same, refused)) m = rw (refus
     refused_by : (e : Error) → ◌≡◌ {A = Result (Unit {0}) Error} (Err e) (Err errors.OutOfMemory) → e ≡ errors.OutOfMemory
     refused_by e is = cc
 
+idle_looks_none : looks_up calls.Idle ≡ true → ⊥
+idle_looks_none e = cc
+
 still_runs : (start : Ledger) (r : Request) (said : List FrontendMessage) (hs : List Frame) (items : List CallItem) (ledger : Ledger) (call : Call) (beat : Beat) → looks_up call ≡ true → CallTakes start r said hs items ledger call beat
     → CallIs start r said hs items ledger call × ((names : List Declared) × (looks_for r ≡ Some names))
 still_runs start r said hs items ledger call beats.More looks h = (h, looks_by start r said hs items ledger call h looks)
@@ -394,10 +399,8 @@ still_runs start r said hs items ledger call (beats.Yields item) looks h =
     shows_none : (kind : Kind) (item : CallItem) → kind ≡ kinds.Describe → yields kind item ≡ true → ⊥
     shows_none kind item k e = none item (subst (λ (d : Kind). yields d item ≡ true) k e)
 still_runs start r said hs items ledger call (beats.Opens opened) looks h = (h.0, looks_by start r said hs items ledger call h.0 looks)
-still_runs start r said hs items ledger call (beats.Ends answer) looks h = absurd (over (subst (λ (x : Call). looks_up x ≡ true) h.0 looks))
-  where
-    over : looks_up calls.Idle ≡ true → ⊥
-    over e = cc
+still_runs start r said hs items ledger call (beats.Ends answer) looks h = absurd (idle_looks_none (subst (λ (x : Call). looks_up x ≡ true) h.0 looks))
+still_runs start r said hs items ledger call (beats.HandsOn next) looks h = absurd (idle_looks_none (subst (λ (x : Call). looks_up x ≡ true) h.0 looks))
 
 accepts_idle : {A : Type 0} (a c b : ConnOf A) (front : Front) (fails : Bool) → Accepts front fails a c → b ≡ idle c → Accepts front fails (idle a) b
 accepts_idle {A} a c b front fails (t, passes, is, grew) stops =

@@ -25,7 +25,7 @@ use Rattle.pg_call.specs.Requests.{copy_fail, spelled}
 use Rattle.pg_conn.proofs.StateLaws.{begins_keep, hands_keep, resolved_calls, handed_calls, looked_calls}
 use Rattle.pg_conn.specs.Connections.{ConnSeen, with_depth, copies, ends_copy, owned, unfed, with_copy_fail, handed, idle, started_call, begun_with, left, cleaned, settled, ended, resolved, resolved_by, restated, rolled, rolled_back, counted_anew, queued_group, with_group, has_room_for, rollback, may_open, runs}
 use Rattle.pg_conn.specs.Looking.{LooksUp}
-use Rattle.pg_conn.specs.Turns.{ends_request, TakesBeat, Polled, PollsThrough, PollsBy, PollsWithin, hands_on, beat_of, behind, broken_by}
+use Rattle.pg_conn.specs.Turns.{ends_request, TakesBeat, Polled, PollsThrough, PollsBy, PollsWithin, beat_of, behind, broken_by}
 use Rattle.pg_conn.specs.States.{IsCalling}
 use Rattle.pg_conn.specs.Ledgers.{Owes, OwesSome}
 use Rattle.pg_conn.proofs.OwedLaws.{call_counts, counts-append, readies-append, readies_heard, spelled-append, told_counts}
@@ -182,6 +182,7 @@ owes_rolled_back a =
 
 owes_behind : (beat : Beat) (c : ConnSeen) → OwesSome c (behind beat c)
 owes_behind (beats.Ends (Ok answer)) c = ([], [], owes_same c (settled c) refl refl)
+owes_behind (beats.HandsOn next) c = ([], [], owes_same c (settled c) refl refl)
 owes_behind (beats.Ends (Err e)) c =
     let d : ConnSeen = record c { broken = broken_by (beats.Ends (Err e)) } in
     let f = unfed (ends_copy e) d in
@@ -201,10 +202,10 @@ owes_resolved kind a b beat i p =
     let first : OwesSome a (resolved a) = ([], [], owes_same a (resolved a) (resolved_stream a) (resolved_ledger a)) in
     OwesSome-then a (resolved a) b first (owes_polled kind (resolved a) b beat (resolved_calls kind a i) p)
 
-owes_handed : (kind : Kind) (begun a b : ConnSeen) (next : Request) → Polled (resolved a) b (beat_of (hands_on next)) → IsCalling kind a × OwesSome begun a → IsCalling kind (handed next b) × OwesSome begun (handed next b)
+owes_handed : (kind : Kind) (begun a b : ConnSeen) (next : Request) → Polled (resolved a) b (beats.HandsOn next) → IsCalling kind a × OwesSome begun a → IsCalling kind (handed next b) × OwesSome begun (handed next b)
 owes_handed kind begun a b next p i = (
   handed_calls a b kind next p i.0,
-  OwesSome-then begun a (handed next b) i.1 (owes_by a b (handed next b) (owes_resolved kind a b (beat_of (hands_on next)) i.0 p) refl refl),
+  OwesSome-then begun a (handed next b) i.1 (owes_by a b (handed next b) (owes_resolved kind a b (beats.HandsOn next) i.0 p) refl refl),
 )
 
 owes_stands : (begun c : ConnSeen) → OwesSome begun c → OwesSome begun (resolved c)

@@ -20,7 +20,6 @@ use Rattle.pg_stream.specs.Streams.{AheadOnce, AllMoved, HeardCause, Moves, Pass
 use Rattle.pg_stream.proofs.Known.{NoneFalls-then}
 use Rattle.pg_stream.proofs.NotificationLaws.{NotifiesAll-append}
 use Rattle.pg_stream.proofs.StreamLemmas.{AllMoved-then, AllMoved-none, GrewBy-spent, GrewBy-then, Moves-none, PendingCause-after, Rose-after, Takes-then, took_frame}
-use Rattle.pg_call.specs.declared.answer.CallAnswer.{CallAnswer}
 use Rattle.pg_call.specs.declared.answer.CallAnswer.TheVariants as answers
 use Rattle.pg_call.specs.declared.answer.Turn.{Turn}
 use Rattle.pg_call.specs.declared.calling.Beat.{Beat}
@@ -39,7 +38,7 @@ use Rattle.pg_wire.specs.Frontend.{FrontendMessage}
 use Rattle.pg_call.specs.Requests.{Group, copy_fail, spelled}
 use Rattle.pg_conn.specs.Connections.{ConnOf, ConnSeen, begun_by, begun_with, cleaned, ended, has_room_for, Standing, idle, left, may_open, queued_group, resolved, resolved_by, restated, rollback, runs, seen_by, settled, started_call, with_group, with_copy_fail, copies, ends_copy, has_fed, owned, unfed}
 use Rattle.pg_conn.specs.States.{turn_of}
-use Rattle.pg_conn.specs.Turns.{BeginsBy, EndsBy, FailsBy, FrontFails, HandsOver, Polled, PollsBy, PollsCall, PollsMore, PollsThrough, PollsWithin, beat_of, behind, broken_by, hands_on}
+use Rattle.pg_conn.specs.Turns.{BeginsBy, EndsBy, FailsBy, FrontFails, HandsOver, Polled, PollsBy, PollsCall, PollsMore, PollsThrough, PollsWithin, beat_of, behind, broken_by}
 use Rattle.pg_conn.specs.News.{AwaitsNews, AwaitsOn, AwaitsOnce, BreaksBy, DrainCause, Drains, FindsNews, GivesKept, NewsCause, NewsFails, NewsFault, NewsStep, PollsNews, ReadsNews, UnaskedCause, UnaskedFault, flushing, given, with_kept, without_news}
 use Rattle.pg_conn.proofs.CleanupLaws.{stays_unfed}
 use Rattle.pg_conn.proofs.RefusalLaws.{broken_started}
@@ -287,10 +286,10 @@ flush_is : (l : ℕ) (c : ConnSeen) → CallIs (flush l c).ledger requests.Flush
 flush_is l c = (refl, refl, refl, refl, refl)
 
 -- it hands on nothing
-fine_unit : (start ledger : Ledger) (said : List FrontendMessage) (hs : List Frame) (items : List CallItem) (next : Request) → EndsFine start requests.Flush said hs items ledger (Ok (answers.Next next)) → ⊥
+fine_unit : (start ledger : Ledger) (said : List FrontendMessage) (hs : List Frame) (items : List CallItem) (next : Request) → EndsFine start requests.Flush said hs items ledger (beats.HandsOn next) → ⊥
 fine_unit start ledger said hs items next f = absurd (differs next f.1)
   where
-    differs : (next : Request) → ◌≡◌ {A = Result CallAnswer Error} (Ok answers.Unit) (Ok (answers.Next next)) → ⊥
+    differs : (next : Request) → beats.Ends (Ok answers.Unit) ≡ beats.HandsOn next → ⊥
     differs next e = cc
 
 flush_alone : (l : ℕ) (c b : ConnSeen) (answer : Poll Turn) → PollsThrough (flushing l c) b answer → Polled (flush l c) b (beat_of answer)
@@ -324,11 +323,11 @@ ends_fault : (s c : ConnSeen) (start : Ledger) (said : List FrontendMessage) (fs
 ends_fault s c start said fs hs (errors.Database error) t h f = (fs, f.1.0, t, h ∙ f.1.1, f.1.2)
 ends_fault s c start said fs hs errors.RowNotFound t h f = absurd (differs f.1)
   where
-    differs : ◌≡◌ {A = Result CallAnswer Error} (Ok answers.Unit) (Err errors.RowNotFound) → ⊥
+    differs : beats.Ends (Ok answers.Unit) ≡ beats.Ends (Err errors.RowNotFound) → ⊥
     differs e = cc
 ends_fault s c start said fs hs (errors.BeginFailed status) t h f = absurd (differs f.1)
   where
-    differs : ◌≡◌ {A = Result CallAnswer Error} (Ok answers.Unit) (Err (errors.BeginFailed status)) → ⊥
+    differs : beats.Ends (Ok answers.Unit) ≡ beats.Ends (Err (errors.BeginFailed status)) → ⊥
     differs e = cc
 ends_fault s c start said fs hs (errors.Protocol (protocol.Reply tag)) t h f = absurd (none f.0.0.own f.0.1 f.0.2)
   where
@@ -504,6 +503,7 @@ reads_left c k = reads_quiet c.stream (left c).stream (queued_quiet c (left c) (
 
 reads_behind : (beat : Beat) (c : ConnSeen) → c.stream.notifications.keeping ≡ true → ReadsNews c.stream (behind beat c).stream []
 reads_behind (beats.Ends (Ok answer)) c k = reads_quiet c.stream c.stream refl k
+reads_behind (beats.HandsOn next) c k = reads_quiet c.stream c.stream refl k
 reads_behind (beats.Ends (Err e)) c k =
     let broken : ConnSeen = record c { broken = broken_by (beats.Ends (Err e)) } in
     let d = cleaned (unfed (ends_copy e) broken) in
@@ -528,7 +528,7 @@ reads_polled a b beat p k =
 reads_through : (a begun b : ConnSeen) (answer : Poll Turn) → PollsThrough begun b answer → ReadsNews a.stream begun.stream [] → ReadsNews a.stream b.stream []
 reads_through a begun b answer (now, asks, p) begins =
     let first = begins_keep (λ (c : ConnSeen). ReadsNews a.stream c.stream []) (λ c h. subst (λ (s : StreamSeen). ReadsNews a.stream s []) (sym (resolved_stream c)) h) (λ b told next learnt u h. h) begun now b answer asks begins in
-    let on = λ (x m : ConnSeen) (next : Request) (q : Polled (resolved x) m (beat_of (hands_on next))) (h : ReadsNews a.stream x.stream []). ReadsNews-then a.stream x.stream m.stream [] [] h (reads_polled x m (beat_of (hands_on next)) q h.keeping) in
+    let on = λ (x m : ConnSeen) (next : Request) (q : Polled (resolved x) m (beats.HandsOn next)) (h : ReadsNews a.stream x.stream []). ReadsNews-then a.stream x.stream m.stream [] [] h (reads_polled x m (beats.HandsOn next) q h.keeping) in
     let last = hands_keep (λ (c : ConnSeen). ReadsNews a.stream c.stream []) on (λ b told next learnt u h. h) p.later now p.last p.hands first in
     ReadsNews-then a.stream p.last.stream b.stream [] [] last (reads_polled p.last b (beat_of answer) p.polled last.keeping)
 

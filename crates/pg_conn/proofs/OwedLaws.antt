@@ -223,6 +223,7 @@ told_counts a b start r said hs items beats.Waits t = call_counts start r said h
 told_counts a b start r said hs items (beats.Yields item) t = call_counts start r said hs (items ++ item ∷ []) b.ledger b.call t
 told_counts a b start r said hs items (beats.Opens opened) t = call_counts start r said hs items b.ledger b.call t.0
 told_counts a b start r said hs items (beats.Ends (Ok answer)) t = ends_count start r said hs items b.ledger (Ok answer) t.1
+told_counts a b start r said hs items (beats.HandsOn next) t = fine_counts start r said hs items b.ledger t.1.0
 told_counts a b start r said hs items (beats.Ends (Err e)) t = elim t.1 [
   | inl ends ↦ ends_count start r said hs items b.ledger (Err e) ends
   | inr f ↦ left_counts start r said hs items b.ledger false f.0

@@ -16,7 +16,7 @@ use Rattle.pg_call.proofs.RefusalLaws.{refusal_is}
 use Rattle.pg_conn.specs.Connections.{ConnSeen, idle, started_call, begun, left, cleaned, copies, ends_copy, owned, unfed, with_copy_fail, settled, ended, resolved, restated, runs, may_open, has_room_for, with_group, rollback}
 use Rattle.pg_conn.specs.Looking.{AsksNamed, named_by}
 use Rattle.pg_conn.specs.Statements.{moved, unmoved, step_of}
-use Rattle.pg_conn.specs.Turns.{BeginsBy, Refused, Polled, PollsThrough, HandsOver, PollsBy, PollsCall, hands_on, beat_of, broken_by, first_exchange, RefusesAtOnce, FlushesAtOnce, behind}
+use Rattle.pg_conn.specs.Turns.{BeginsBy, Refused, Polled, PollsThrough, HandsOver, PollsBy, PollsCall, beat_of, broken_by, first_exchange, RefusesAtOnce, FlushesAtOnce, behind}
 use Rattle.pg_conn.proofs.StateLaws.{named_asked}
 
 -- a refusal is no fault of the server
@@ -132,9 +132,11 @@ flushes_at_once a b answer whole owed sent p =
     first c (inl is) = is
     first c (inr (is, refuses)) = is
 
-    other : (next : Request) → hands_on next ≡ Ready (turns.Ok answers.Unit) → ⊥
-    other next e = cc
+    hands_none : (m : ConnSeen) (next : Request) → Polled (resolved (begun (started_call requests.Flush a))) m (beats.HandsOn next) → ⊥
+    hands_none m next polled =
+        let done : beats.HandsOn next ≡ beats.Ends (Ok answers.Unit) = (polled.flush (rw (owed, sent) refl)).0 in
+        cc
 
     by : (later : List Request) (last : ConnSeen) → HandsOver (begun (started_call requests.Flush a)) later last → Polled (resolved last) b (beat_of answer) → FlushesAtOnce a b answer
     by [] last h polled = flushes_once a b answer owed sent (subst (λ (c : ConnSeen). Polled (resolved c) b (beat_of answer)) h polled)
-    by (next ∷ later) last h polled = absurd (other h.1.0 (flushes_once a h.1.1 (hands_on h.1.0) owed sent h.1.2).0)
+    by (next ∷ later) last h polled = absurd (hands_none h.1.1 h.1.0 h.1.2)

@@ -47,7 +47,7 @@ use Rattle.pg_conn.proofs.StatementLaws.{asked_main}
 use Rattle.pg_conn.proofs.TurnLaws.{behind_call, unlooks}
 use Rattle.pg_call.specs.declared.calling.Call.{Call}
 use Rattle.pg_call.specs.declared.calling.Call.TheVariants as calls
-use Rattle.pg_conn.specs.Turns.{BeginsBy, HasRoom, TakesBeat, Polled, PollsOn, PollsThrough, HandsOver, PollsBy, PollsWithin, PollsCall, PollsMore, HandsOnNone, hands_on, beat_of, HasRoomBeside, HasAllRoom, kept_for, behind, broken_by, HandsNext}
+use Rattle.pg_conn.specs.Turns.{BeginsBy, HasRoom, TakesBeat, Polled, PollsOn, PollsThrough, HandsOver, PollsBy, PollsWithin, PollsCall, PollsMore, beat_of, HasRoomBeside, HasAllRoom, kept_for, behind, broken_by, HandsNext}
 use Rattle.pg_conn.specs.States.{IsCalling, PollFits, turn_of, closing_turn, KeepsConn, PollsClose, IsCallingPlainly, KeepsCalling, KeepsCallingPlainly, KeepsClosing, PollFitsPlainly, ends_call}
 
 -- a call that was started
@@ -98,7 +98,7 @@ Runs r c = (start : Ledger) × (said : List FrontendMessage) × (hs : List Frame
 abbrev Answered : {A : Type 0} → Request → ConnOf A → Poll Turn → Type 0
 Answered r c Pending = Runs r c
 Answered r c (Ready (turns.Item item)) = (yields (kind_of r) item ≡ true) × Runs r c
-Answered r c (Ready (turns.Ok answer)) = (reply : List BackendMessage) × (status : TransactionStatus) × (answer_by r reply status ≡ Ok answer)
+Answered r c (Ready (turns.Ok answer)) = (reply : List BackendMessage) × (status : TransactionStatus) × (answer_by r reply status ≡ beats.Ends (Ok answer))
 Answered r c (Ready (turns.Err e)) = Unit {0}
 Answered r c (Ready (turns.Opened opened)) = (kind_of r ≡ kinds.CopyIn) × IsOpen c.call × Runs r c
 
@@ -148,15 +148,15 @@ opens_main kind r k e =
     let main : kinds.CopyIn ≡ kind = sym e ∙ sym (main_alone r (λ d. opens_no_description e d)) ∙ k in
     subst OpensFor main tt
 
-fits_main : (kind : Kind) (r : Request) (b : ConnSeen) (answer : Poll Turn) → main_kind r ≡ kind → HandsOnNone answer → Answered r b answer → PollFits kind b answer
-fits_main kind r b Pending k n f = runs_call kind r b k f
-fits_main kind r b (Ready (turns.Item item)) k n f = (subst (λ (x : Kind). yields x item ≡ true) k (shows_main r item f.0), runs_call kind r b k f.1)
-fits_main kind r b (Ready (turns.Ok answer)) k n f = (subst (λ (x : Kind). AnswerFits x answer) k (answers_main r f.0 f.1 answer f.2 (λ next e. n next (ap (λ (x : CallAnswer). Ready (turns.Ok x)) e))), tt)
-fits_main kind r b (Ready (turns.Err e)) k n f = (tt, tt)
-fits_main kind r b (Ready (turns.Opened opened)) k n f = (opens_main kind r k f.0, (runs_call kind r b k f.2, f.1))
+fits_main : (kind : Kind) (r : Request) (b : ConnSeen) (answer : Poll Turn) → main_kind r ≡ kind → Answered r b answer → PollFits kind b answer
+fits_main kind r b Pending k f = runs_call kind r b k f
+fits_main kind r b (Ready (turns.Item item)) k f = (subst (λ (x : Kind). yields x item ≡ true) k (shows_main r item f.0), runs_call kind r b k f.1)
+fits_main kind r b (Ready (turns.Ok answer)) k f = (subst (λ (x : Kind). AnswerFits x answer) k (answers_main r f.0 f.1 answer f.2), tt)
+fits_main kind r b (Ready (turns.Err e)) k f = (tt, tt)
+fits_main kind r b (Ready (turns.Opened opened)) k f = (opens_main kind r k f.0, (runs_call kind r b k f.2, f.1))
 
 -- the next exchange runs, and is of the call's kind
-handed_runs : (r next : Request) (m : ConnSeen) (reply : List BackendMessage) (status : TransactionStatus) → answer_by r reply status ≡ Ok (answers.Next next) → HasRoom m → Runs next (handed next m) × (main_kind next ≡ main_kind r)
+handed_runs : (r next : Request) (m : ConnSeen) (reply : List BackendMessage) (status : TransactionStatus) → answer_by r reply status ≡ beats.HandsOn next → HasRoom m → Runs next (handed next m) × (main_kind next ≡ main_kind r)
 handed_runs r next m reply status e h =
     let is = next_is r reply status next e in
     ((m.ledger, [], [], [], (refl, refl, refl, refl, refl), omega (arith, h)), is.0)
@@ -164,12 +164,18 @@ handed_runs r next m reply status e h =
 keeps_polled : (begun b : ConnSeen) (beat : Beat) → HasRoom begun → Polled begun b beat → HasRoom b
 keeps_polled begun b beat h p = subst (λ (c : ConnSeen). HasRoom c) (sym p.behind_is) (room_behind beat p.stopped (p.turns.3.room 0 (omega arith) h))
 
+handed_beat : (a b : ConnSeen) (r next : Request) → TakesBeat a b (beats.HandsOn next) → Runs r a → (reply : List BackendMessage) × (status : TransactionStatus) × (answer_by r reply status ≡ beats.HandsOn next)
+handed_beat a b r next t i =
+    let told = t.3.tells i.0 r i.1 i.2 i.3 i.4 in
+    let fine = told.3.1 in
+    (fine.0.reply, fine.0.status, fine.1)
+
 -- the call that an exchange hands on is of the same kind
-pub handed_calls : (begun m : ConnSeen) (kind : Kind) (next : Request) → Polled (resolved begun) m (beat_of (hands_on next)) → IsCalling kind begun → IsCalling kind (handed next m)
+pub handed_calls : (begun m : ConnSeen) (kind : Kind) (next : Request) → Polled (resolved begun) m (beats.HandsOn next) → IsCalling kind begun → IsCalling kind (handed next m)
 handed_calls begun m kind next p calling =
     let i = resolved_calls kind begun calling in
-    let first = answered_by (resolved begun) m i.1 (hands_on next) p (i.0, i.2, i.3, i.4, i.6, i.7) in
-    let further = handed_runs i.1 next m first.0 first.1 first.2 (keeps_polled (resolved begun) m (beat_of (hands_on next)) i.7 p) in
+    let first = handed_beat (resolved begun) p.stopped i.1 next p.turns (i.0, i.2, i.3, i.4, i.6, i.7) in
+    let further = handed_runs i.1 next m first.0 first.1 first.2 (keeps_polled (resolved begun) m (beats.HandsOn next) i.7 p) in
     runs_call kind next (handed next m) (further.1 ∙ i.5) further.0
 
 -- what is looked up for a call is of its kind
@@ -217,7 +223,7 @@ looked_calls kind b told next learnt u (start, r, said, hs, items, k, is, room) 
     (start, next, said, hs, items, looks_main told next b.learnt learnt u ∙ ap (λ (q : Request). main_kind q) is.0 ∙ k, (refl, is.1, is.2, is.3, is.4), room)
 
 -- what each exchange keeps that hands on the next one, and what is looked up before that
-pub hands_keep : (P : ConnSeen → Type 0) → ((a b : ConnSeen) (told : Request) → Polled (resolved a) b (beat_of (hands_on told)) → P a → P (handed told b))
+pub hands_keep : (P : ConnSeen → Type 0) → ((a b : ConnSeen) (told : Request) → Polled (resolved a) b (beats.HandsOn told) → P a → P (handed told b))
     → ((b : ConnSeen) (told next : Request) (learnt : Learnt) → LooksUp told b.learnt next learnt → P (handed told b) → P (handed next (record b { learnt = learnt })))
     → (later : List Request) (begun last : ConnSeen) → HandsOver begun later last → P begun → P last
 hands_keep P on asks [] begun last h i = subst P (sym h) i
@@ -278,7 +284,7 @@ hands_more (one ∷ later) begun now c next h p = (h.0, h.1, hands_more later h.
 pub unasked_lookup : (told : Request) (a b : Learnt) → MayLook told → b.types ≡ a.types → b.tables ≡ a.tables → LooksUp told a (vain_lookup told) b
 unasked_lookup told a b may types tables = inr (may, refl, types, tables)
 
-pub fails_looking : (begun now between m b : ConnSeen) (later : List Request) (told : Request) (e : Error) → HandsOver begun later now → Polled (resolved now) between (beat_of (hands_on told)) → between.broken ≡ None → MayLook told → IsUnlooked told between m e → b ≡ unlooked m
+pub fails_looking : (begun now between m b : ConnSeen) (later : List Request) (told : Request) (e : Error) → HandsOver begun later now → Polled (resolved now) between (beats.HandsOn told) → between.broken ≡ None → MayLook told → IsUnlooked told between m e → b ≡ unlooked m
     → PollsOn begun b (Ready (turns.Err e))
 fails_looking begun now between m b later told e hands polled whole may (same, types, tables, cause) is =
     let next = vain_lookup told in
@@ -288,7 +294,6 @@ fails_looking begun now between m b later told e hands polled whole may (same, t
       last = c;
       hands = hands_more later begun now c next hands (told, between, polled, (m.learnt, unasked_lookup told between.learnt m.learnt may types tables, refl));
       polled = unlooks (record between { learnt = m.learnt }) b told e whole may cause (is ∙ ap (λ (d : ConnSeen). unlooked d) same);
-      none = λ next e. absurd cc;
     }
 
 -- the call of the exchange that came last is of the same kind
@@ -301,7 +306,7 @@ first_calls kind begun first b answer h i = begins_keep (λ (c : ConnSeen). IsCa
 fits_through : (begun b : ConnSeen) (kind : Kind) (answer : Poll Turn) → PollsOn begun b answer → IsCalling kind begun → PollFits kind b answer
 fits_through begun b kind answer p i =
     let k = resolved_calls kind p.last (last_calls kind p.later begun p.last p.hands i) in
-    fits_main kind k.1 b answer k.5 p.none (answered_by (resolved p.last) b k.1 answer p.polled (k.0, k.2, k.3, k.4, k.6, k.7))
+    fits_main kind k.1 b answer k.5 (answered_by (resolved p.last) b k.1 answer p.polled (k.0, k.2, k.3, k.4, k.6, k.7))
 
 fits_by : (o : Option ServerFault) (begun a b : ConnSeen) (kind : Kind) (answer : Poll Turn) → PollsBy o begun a b answer → IsCalling kind begun → PollFits kind b answer
 fits_by None begun a b kind answer p i = fits_through p.0 b kind answer p.2 (first_calls kind begun p.0 b answer p.1 i)
@@ -379,7 +384,6 @@ answer_stands (kinds.Run hows.FetchOne) (answers.OneRow (Some row)) n = tt
 answer_stands (kinds.Run hows.ExecuteMany) answers.Unit n = tt
 answer_stands (kinds.Run hows.Fetch) answers.Unit n = tt
 answer_stands (kinds.Run hows.FetchMany) answers.Unit n = tt
-answer_stands kinds.Describe (answers.Next request) n = tt
 answer_stands kinds.Prepare (answers.Statement prepared) n = tt
 answer_stands kinds.Clear answers.Unit n = tt
 answer_stands kinds.Begin answers.Unit n = tt
@@ -496,6 +500,7 @@ left_unfed over c = by (copies c.change c.groups && (not over && leb (length (sp
 
 left_behind : (beat : Beat) (c : ConnSeen) → (behind beat c).stream.left ≡ c.stream.left
 left_behind (beats.Ends (Ok answer)) c = refl
+left_behind (beats.HandsOn next) c = refl
 left_behind (beats.Ends (Err e)) c =
     let d : ConnSeen = record c { broken = broken_by (beats.Ends (Err e)) } in
     left_cleaned (unfed (ends_copy e) d) ∙ left_unfed (ends_copy e) d
@@ -511,13 +516,13 @@ left_polled a b beat p = omega (arith, ap (λ (c : ConnSeen). c.stream.left) p.b
 pub left_through : (begun b : ConnSeen) (answer : Poll Turn) → PollsThrough begun b answer → b.stream.left ≤ begun.stream.left
 left_through begun b answer (now, asks, p) =
     let first = begins_keep (λ (c : ConnSeen). c.stream.left ≤ begun.stream.left) (λ c l. omega (arith, l, left_resolved c)) (λ b told next learnt u l. l) begun now b answer asks (omega arith) in
-    let last = hands_keep (λ (c : ConnSeen). c.stream.left ≤ begun.stream.left) (λ a m next q l. omega (arith, l, left_polled (resolved a) m (beat_of (hands_on next)) q, left_resolved a)) (λ b told next learnt u l. l) p.later now p.last p.hands first in
+    let last = hands_keep (λ (c : ConnSeen). c.stream.left ≤ begun.stream.left) (λ a m next q l. omega (arith, l, left_polled (resolved a) m (beats.HandsOn next) q, left_resolved a)) (λ b told next learnt u l. l) p.later now p.last p.hands first in
     omega (arith, last, left_polled (resolved p.last) b (beat_of answer) p.polled, left_resolved p.last)
 
 -- ---- the room for cleanup
 
-room_handed : (a b : ConnSeen) (next : Request) → Polled (resolved a) b (beat_of (hands_on next)) → HasRoom a → HasRoom (handed next b)
-room_handed a b next p h = omega (arith, keeps_polled (resolved a) b (beat_of (hands_on next)) (room_resolved a h) p)
+room_handed : (a b : ConnSeen) (next : Request) → Polled (resolved a) b (beats.HandsOn next) → HasRoom a → HasRoom (handed next b)
+room_handed a b next p h = omega (arith, keeps_polled (resolved a) b (beats.HandsOn next) (room_resolved a h) p)
 
 pub keeps_room : (left : ℕ) (a b : ConnSeen) (answer : Poll Turn) → HasRoom a → PollsWithin left a b answer → HasRoom b
 keeps_room left a b answer h p = by a.broken p
@@ -537,8 +542,8 @@ keeps_all_polled begun b beat h p =
     let kept : HasAllRoom p.stopped = subst (λ (n : ℕ). HasRoomBeside n p.stopped) (same_kept begun p.stopped p.turns.3.started.2 p.turns.3.started.3) (p.turns.3.room (kept_for begun) (omega arith) h) in
     subst (λ (c : ConnSeen). HasAllRoom c) (sym p.behind_is) (all_behind beat p.stopped kept)
 
-all_handed : (a b : ConnSeen) (next : Request) → Polled (resolved a) b (beat_of (hands_on next)) → HasAllRoom a → HasAllRoom (handed next b)
-all_handed a b next p h = omega (arith, keeps_all_polled (resolved a) b (beat_of (hands_on next)) (all_resolved a h) p)
+all_handed : (a b : ConnSeen) (next : Request) → Polled (resolved a) b (beats.HandsOn next) → HasAllRoom a → HasAllRoom (handed next b)
+all_handed a b next p h = omega (arith, keeps_all_polled (resolved a) b (beats.HandsOn next) (all_resolved a h) p)
 
 pub keeps_all_room : (left : ℕ) (a b : ConnSeen) (answer : Poll Turn) → HasAllRoom a → PollsWithin left a b answer → HasAllRoom b
 keeps_all_room left a b answer h p = by a.broken p
@@ -571,7 +576,6 @@ plain_answer kinds.Clear (answers.Total total) p f = absurd f
 plain_answer kinds.Clear (answers.Rows rows) p f = absurd f
 plain_answer kinds.Clear (answers.OneRow row) p f = absurd f
 plain_answer kinds.Clear (answers.Statement prepared) p f = absurd f
-plain_answer kinds.Clear (answers.Next request) p f = absurd f
 plain_answer kinds.Begin (answers.Statement prepared) p f = absurd f
 plain_answer kinds.Commit (answers.Statement prepared) p f = absurd f
 plain_answer kinds.Rollback (answers.Statement prepared) p f = absurd f
@@ -580,24 +584,19 @@ plain_answer kinds.Close (answers.Statement prepared) p f = absurd f
 plain_answer kinds.Begin (answers.Total total) p f = absurd f
 plain_answer kinds.Begin (answers.Rows rows) p f = absurd f
 plain_answer kinds.Begin (answers.OneRow row) p f = absurd f
-plain_answer kinds.Begin (answers.Next request) p f = absurd f
 plain_answer kinds.Commit (answers.Total total) p f = absurd f
 plain_answer kinds.Commit (answers.Rows rows) p f = absurd f
 plain_answer kinds.Commit (answers.OneRow row) p f = absurd f
-plain_answer kinds.Commit (answers.Next request) p f = absurd f
 plain_answer kinds.Rollback (answers.Total total) p f = absurd f
 plain_answer kinds.Rollback (answers.Rows rows) p f = absurd f
 plain_answer kinds.Rollback (answers.OneRow row) p f = absurd f
-plain_answer kinds.Rollback (answers.Next request) p f = absurd f
 plain_answer kinds.Ping (answers.Total total) p f = absurd f
 plain_answer kinds.Ping (answers.Rows rows) p f = absurd f
 plain_answer kinds.Ping (answers.OneRow row) p f = absurd f
-plain_answer kinds.Ping (answers.Next request) p f = absurd f
 plain_answer kinds.Flush answer p f = f
 plain_answer kinds.Close (answers.Total total) p f = absurd f
 plain_answer kinds.Close (answers.Rows rows) p f = absurd f
 plain_answer kinds.Close (answers.OneRow row) p f = absurd f
-plain_answer kinds.Close (answers.Next request) p f = absurd f
 
 plain_item : (kind : Kind) (item : CallItem) → TurnIsPlain kind → yields kind item ≡ true → yields kinds.Flush item ≡ true
 plain_item (kinds.Run how) item p f = absurd p

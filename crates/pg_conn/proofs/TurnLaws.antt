@@ -1,5 +1,5 @@
 -- How the beats of a call follow one another.
-use Rattle.std.proofs.Common.{ap₂, ◌≡◌, ◌⊎◌, ℕ, Option, ◌+◌, ◌-◌, ◌<◌, ◌≤◌, cond, inl, inr, Bool, true, false, ◌&&◌, ◌==◌, nat_eq, leb, not, List, [], ◌∷◌, ◌++◌, length, map, refl, sym, ap, ◌∙◌, subst, append_assoc, append-nil, length-append, arith, Ok, Err, None, Some, min, ◌^◌}
+use Rattle.std.proofs.Common.{ap₂, ◌≡◌, ◌≢◌, ◌⊎◌, ℕ, Option, ◌+◌, ◌-◌, ◌<◌, ◌≤◌, cond, inl, inr, Bool, true, false, ◌&&◌, ◌==◌, nat_eq, leb, not, List, [], ◌∷◌, ◌++◌, length, map, refl, sym, ap, ◌∙◌, subst, append_assoc, append-nil, length-append, arith, Ok, Err, None, Some, min, ◌^◌}
 use Rattle.pg_wire.proofs.Tests.{both_true}
 use Rattle.pg_call.specs.declared.kind.Change.{Change}
 use Rattle.pg_call.specs.declared.kind.Kind.{Kind}
@@ -9,13 +9,10 @@ use Rattle.pg_call.specs.declared.statement.Goal.{Goal}
 use Rattle.pg_call.specs.declared.statement.Goal.TheVariants as goals
 use Rattle.pg_call.specs.declared.after.After.{After}
 use Rattle.pg_call.specs.declared.after.After.TheVariants as afters
-use Rattle.futures.specs.declared.task.Poll.{Poll}
-use Rattle.pg_call.specs.declared.answer.Turn.{Turn}
 use Rattle.pg_call.specs.declared.answer.Turn.TheVariants as turns
 use Rattle.pg_wire.specs.declared.error.ServerFault.{ServerFault}
 use Rattle.std.specs.List.{count_by}
 use Rattle.std.proofs.lemmas.Bool.{eqb-true}
-use Rattle.futures.specs.declared.task.Poll.TheVariants.{Ready}
 use Rattle.pg_wire.specs.declared.error.Error.{Error}
 use Rattle.pg_wire.specs.declared.error.Error.TheVariants as errors
 use Rattle.pg_wire.specs.declared.error.ProtocolFault.TheVariants as protocol
@@ -47,10 +44,8 @@ use Rattle.pg_call.specs.declared.calling.Call.{Call}
 use Rattle.pg_call.specs.declared.calling.Call.TheVariants as calls
 use Rattle.pg_call.specs.declared.calling.Beat.{Beat}
 use Rattle.pg_call.specs.declared.calling.Beat.TheVariants as beats
-use Rattle.pg_call.specs.Requests.{Group, spelled, copy_fail, feeding, kind_of, after_kind, goal_kind, main_kind, messages_of, name_of, rest_of, running_bound, is_flush, is_close, CanBeSaid, IsRefusal}
-use Rattle.pg_call.specs.Hearing.{fresh_reply, awaits, waits, waiting_for, sent_answer, sent_rest}
-use Rattle.pg_call.specs.declared.after.Rest.{Rest}
-use Rattle.pg_call.specs.declared.after.Rest.TheVariants as rests
+use Rattle.pg_call.specs.Requests.{Group, spelled, copy_fail, feeding, kind_of, after_kind, goal_kind, main_kind, messages_of, name_of, running_bound, is_flush, is_close, CanBeSaid, IsRefusal}
+use Rattle.pg_call.specs.Hearing.{fresh_reply, awaits, waits, waiting_for, sent_answer}
 use Rattle.pg_call.specs.Calls.{owes_own, CallIs, CallEnds}
 use Rattle.pg_call.proofs.RefusalLaws.{refusal_is, memory_refuses}
 use Rattle.pg_call.proofs.LeaveLaws.{leaves_call, call_well, flush_fine, draining_none, replying_from, closing_from}
@@ -59,7 +54,7 @@ use Rattle.pg_conn.specs.Connections.{ConnOf, ConnSeen, Standing, handed, standi
 use Rattle.pg_conn.specs.Statements.{asked_by, moved, unmoved, step_of}
 use Rattle.pg_conn.proofs.StatementLaws.{asked_main}
 use Rattle.pg_exchanges.specs.Answering.{closing as closing_group}
-use Rattle.pg_conn.specs.Turns.{kept_for, ends_request, FailsBy, EndsBy, Tells, SendCause, BeatCause, Turns, TakesBeat, IsAsked, cleanup_of, IsSayable, GoesOn, Prepares, Refuses, Refused, Polled, beat_of, broken_by, only_sends, flushes, only_flushes, is_flushed, EndsFlush, IsAhead, wants_level, Readies, level_of, HasRoomBeside, behind}
+use Rattle.pg_conn.specs.Turns.{kept_for, ends_request, FailsBy, EndsBy, Tells, SendCause, BeatCause, Turns, TakesBeat, IsAsked, cleanup_of, IsSayable, Prepares, Refuses, Refused, Polled, broken_by, only_sends, flushes, only_flushes, is_flushed, EndsFlush, IsAhead, wants_level, Readies, level_of, HasRoomBeside, behind, Falls, EndsPoll}
 use Rattle.pg_conn.proofs.OwedLaws.{InTurn-then, closes_said, counts-append, feed_asks, none_asked, one_asked, run_asks, spelled-append}
 
 pub grew-none : (a : ℕ) → GrewBy 0 a a
@@ -99,6 +94,7 @@ tells_from a b c start r said hs items beats.Waits m t = t
 tells_from a b c start r said hs items (beats.Yields item) m t = t
 tells_from a b c start r said hs items (beats.Opens opened) m t = t
 tells_from a b c start r said hs items (beats.Ends (Ok answer)) m t = t
+tells_from a b c start r said hs items (beats.HandsOn next) m t = t
 tells_from a b c start r said hs items (beats.Ends (Err e)) m t = (
   t.0,
   elim t.1 [
@@ -117,6 +113,7 @@ cause_after a b c beats.Waits h k l t = (PendingCause-after a.stream b.stream c.
 cause_after a b c (beats.Yields item) h k l t = NoneWaited-then a.stream b.stream c.stream h.2 t
 cause_after a b c (beats.Opens opened) h k l t = NoneWaited-then a.stream b.stream c.stream h.2 t
 cause_after a b c (beats.Ends (Ok answer)) h k l t = AllMoved-then a.stream b.stream c.stream h k t l
+cause_after a b c (beats.HandsOn next) h k l t = AllMoved-then a.stream b.stream c.stream h k t l
 cause_after a b c (beats.Ends (Err e)) h k l t = NoneWaited-then a.stream b.stream c.stream h.2 t
 
 pub Turns-then : (a b c : ConnSeen) (beat : Beat) (q q' : List ℕ) (fs fs' hs hs' : List Frame) → Turns a b beats.More q fs hs → Turns b c beat q' fs' hs' → Turns a c beat (q ++ q') (fs ++ fs') (hs ++ hs')
@@ -398,22 +395,6 @@ flushed a f =
 pub flush_done : (a : ConnSeen) → EndsFlush a (idle a) (beats.Ends (Ok (sent_answer a.call)))
 flush_done a f = (refl, refl)
 
--- and nothing comes behind it
-sent_goes_none : (rest : Rest) → GoesOn (beats.Ends (Ok (sent_rest rest))) → ⊥
-sent_goes_none (rests.Tell prepared) g = g
-sent_goes_none rests.Nothing g = g
-sent_goes_none (rests.Describe extended) g = g
-sent_goes_none (rests.After after) g = g
-sent_goes_none (rests.Look extended) g = g
-sent_goes_none (rests.Fill bound) g = g
-
-pub answers_last : (call : Call) → GoesOn (beats.Ends (Ok (sent_answer call))) → ⊥
-answers_last (calls.Asked request) g = sent_goes_none (rest_of request) g
-answers_last (calls.Waiting w) g = sent_goes_none w.rest g
-answers_last calls.Idle g = g
-answers_last (calls.Own reply) g = g
-answers_last calls.Closing g = g
-
 pub flush_sayable : (a : ConnSeen) → is_flushed a ≡ true → IsSayable a.call
 flush_sayable a f = by a.call (both_true (flushes a.call) (a.ledger.owed == 0) (both_true (flushes a.call && a.ledger.owed == 0) (nat_eq (length a.stream.unsent) 0) f).0).0
   where
@@ -455,6 +436,7 @@ seen_unfed {A} seen over c = by (copies c.change c.groups && (not over && leb (l
 
 pub seen_behind : {A : Type 0} (seen : A → LinkSeen) (beat : Beat) (c : ConnOf A) → seen_by seen (behind beat c) ≡ behind beat (seen_by seen c)
 seen_behind seen (beats.Ends (Ok answer)) c = refl
+seen_behind seen (beats.HandsOn next) c = refl
 seen_behind seen (beats.Ends (Err e)) c =
     let d = record c { broken = broken_by (beats.Ends (Err e)) } in
     seen_cleaned seen (unfed (ends_copy e) d) ∙ ap (λ (x : ConnSeen). cleaned x) (seen_unfed seen (ends_copy e) d)
@@ -488,6 +470,7 @@ unfed_call {A} over c = by (copies c.change c.groups && (not over && leb (length
 
 pub behind_call : {A : Type 0} (beat : Beat) (c : ConnOf A) → (behind beat c).call ≡ c.call
 behind_call (beats.Ends (Ok answer)) c = refl
+behind_call (beats.HandsOn next) c = refl
 behind_call (beats.Ends (Err e)) c =
     let d = record c { broken = broken_by (beats.Ends (Err e)) } in
     cleaned_call (unfed (ends_copy e) d) ∙ unfed_call (ends_copy e) d
@@ -508,6 +491,21 @@ polled {A} seen a m b beat whole takes says flush asked is = record {
   flush = flush;
   asked = λ i. asked (subst IsAsked (ap (λ (x : ConnOf A). x.call) is ∙ behind_call beat m) i);
 }
+
+-- behind what hands on, the connection is whole, and less is held or may be read
+pub whole_behind : {A : Type 0} (seen : A → LinkSeen) (a m b : ConnOf A) (beat : Beat) (next : Request) → a.broken ≡ None → TakesBeat (seen_by seen a) (seen_by seen m) beat → b ≡ behind beat m → beat ≡ beats.HandsOn next → b.broken ≡ None
+whole_behind {A} seen a m b beat next whole takes is e = ap (λ (x : ConnOf A). x.broken) (is ∙ ap (λ (w : Beat). behind w m) e) ∙ takes.3.broken ∙ whole
+
+pub falls_behind : {A : Type 0} (seen : A → LinkSeen) (a m b : ConnOf A) (beat : Beat) → b ≡ behind beat m → Falls (seen_by seen a) (seen_by seen m) beat → Falls (seen_by seen a) (seen_by seen b) beat
+falls_behind {A} seen a m b beats.More is f = subst (λ (x : ConnOf A). Falls (seen_by seen a) (seen_by seen x) beats.More) (sym is) f
+falls_behind {A} seen a m b (beats.HandsOn next) is f = subst (λ (x : ConnOf A). Falls (seen_by seen a) (seen_by seen x) (beats.HandsOn next)) (sym is) f
+falls_behind seen a m b _ is f = λ goes. absurd goes
+
+-- what neither goes on nor hands on ends the poll
+pub ends_poll : (beat : Beat) → beat ≢ beats.More → ((next : Request) → beat ≡ beats.HandsOn next → ⊥) → EndsPoll beat
+ends_poll beats.More m n = m refl
+ends_poll (beats.HandsOn next) m n = n next refl
+ends_poll _ m n = tt
 
 -- an exchange that was not asked for want of memory has done nothing, and is over
 flush_main : (r : Request) → only_flushes (kind_of r) ≡ true → main_kind r ≡ kinds.Flush
@@ -535,12 +533,12 @@ refuses_flush rule r c n e f =
     let flushing = (both_true (flushes c.call) (c.ledger.owed == 0) (both_true (flushes c.call && c.ledger.owed == 0) (nat_eq (length c.stream.unsent) 0) f).0).0 in
     n (asks_flush r (sym (asked_main rule r) ∙ flush_main (asked_by rule r) (subst (λ (x : Call). flushes x ≡ true) e flushing)))
 
-pub unresolved : {A : Type 0} (seen : A → LinkSeen) (a b : ConnOf A) (answer : Poll Turn) (e : Error) → a.broken ≡ None → IsUnresolved a b → e ≡ errors.OutOfMemory → answer ≡ Ready (turns.Err e) → Polled (resolved (seen_by seen a)) (seen_by seen b) (beat_of answer)
-unresolved {A} seen a b answer e whole (r, asked, is, wants) memory answers =
+pub unresolved : {A : Type 0} (seen : A → LinkSeen) (a b : ConnOf A) (e : Error) → a.broken ≡ None → IsUnresolved a b → e ≡ errors.OutOfMemory → Polled (resolved (seen_by seen a)) (seen_by seen b) (beats.Ends (Err e))
+unresolved {A} seen a b e whole (r, asked, is, wants) memory =
     let begun : ConnSeen = resolved_by (calls.Asked r) (seen_by seen a) in
     let x : Request = asked_by a.rule r in
     let same : seen_by seen b ≡ cleaned (unfed false (record (idle begun) { broken = None })) = ap (λ (c : ConnOf A). seen_by seen c) is ∙ ap (λ (o : Option ServerFault). seen_by seen (unasked r (record a { broken = o }))) whole in
-    rw (answers, memory, asked) (record {
+    rw (memory, asked) (record {
       stopped = idle begun;
       turns = refused begun errors.OutOfMemory (memory_refuses x);
       whole = whole;

@@ -35,7 +35,7 @@ use Rattle.pg_call.specs.Drains.{is_error}
 use Rattle.pg_call.specs.Hearing.{IsOpen, IsReplied, fails_of, looks_up, sent_answer}
 use Rattle.pg_call.specs.declared.calling.Taken.{Taken}
 use Rattle.pg_call.specs.declared.running.Running.{Running}
-use Rattle.pg_call.specs.Calls.{CallIs, IsAwaiting, Leaves, CallEnds, IsFrontFault, ShowsRowOf, TakesMessage, RefusesMessage, StaysIn}
+use Rattle.pg_call.specs.Calls.{CallIs, IsAwaiting, Leaves, CallEnds, EndsFine, IsFrontFault, ShowsRowOf, TakesMessage, RefusesMessage, StaysIn}
 use Rattle.pg_conn.specs.Looking.{AsksFirst, AsksNext, Learns, LookFails, TakesFront, named_by}
 use Rattle.pg_conn.specs.Connections.{ConnOf, ConnSeen, idle, left, standing, started_call, begun, begun_with, resolved, settled, cleaned, ended, ends_copy, unfed}
 use Rattle.pg_conn.specs.Statements.{asked_by, begun_as}
@@ -121,6 +121,7 @@ Tells a b start r said hs items (beats.Yields item) = CallIs start r said hs (it
 Tells a b start r said hs items (beats.Opens opened) = CallIs start r said hs items b.ledger b.call × (kind_of r ≡ kinds.CopyIn) × IsOpen b.call
 Tells a b start r said hs items (beats.Ends (Ok answer)) = (b.call ≡ calls.Idle) × CallEnds start r said hs items b.ledger (Ok answer) × (b.stream.unsent ≡ [])
 Tells a b start r said hs items (beats.Ends (Err e)) = (b.call ≡ calls.Idle) × EndsBy a b start r said hs items e
+Tells a b start r said hs items (beats.HandsOn next) = (b.call ≡ calls.Idle) × EndsFine start r said hs items b.ledger (beats.HandsOn next) × (b.stream.unsent ≡ [])
 
 -- why a call waits that only sends: a write waited, or its calls are spent
 abbrev pub SendCause : ConnSeen → ConnSeen → Type 0
@@ -130,6 +131,7 @@ abbrev pub BeatCause : ConnSeen → ConnSeen → Beat → Type 0
 BeatCause a b beats.More = AllMoved a.stream b.stream
 BeatCause a b beats.Waits = PendingCause a.stream b.stream × (only_sends b.ledger b.call ≡ true → SendCause a b)
 BeatCause a b (beats.Ends (Ok answer)) = AllMoved a.stream b.stream
+BeatCause a b (beats.HandsOn next) = AllMoved a.stream b.stream
 BeatCause a b _ = NoneWaited a.stream b.stream
 
 -- the bytes are the spelling of messages that the call queued now, and this is what the beat says of all
@@ -184,7 +186,7 @@ TakesBeat a b beat = (q : List ℕ) × (fs : List Frame) × (hs : List Frame) ×
 -- the poll goes on behind it: in this exchange, or in the next one
 abbrev pub GoesOn : Beat → Type 0
 GoesOn beats.More = Unit {0}
-GoesOn (beats.Ends (Ok (answers.Next next))) = Unit {0}
+GoesOn (beats.HandsOn next) = Unit {0}
 GoesOn _ = ⊥
 
 -- so many bytes are held, or may still be read in this poll, that they run out
@@ -291,6 +293,12 @@ beat_of_turn (turns.Ok answer) = beats.Ends (Ok answer)
 beat_of_turn (turns.Err e) = beats.Ends (Err e)
 beat_of_turn (turns.Opened opened) = beats.Opens opened
 
+-- a beat that ends a poll, and is its answer
+abbrev pub EndsPoll : Beat → Type 0
+EndsPoll beats.More = ⊥
+EndsPoll (beats.HandsOn next) = ⊥
+EndsPoll _ = Unit {0}
+
 -- what a poll answers
 abbrev pub beat_of : Poll Turn → Beat
 beat_of Pending = beats.Waits
@@ -310,10 +318,11 @@ Refused a b _ = ⊥
 abbrev pub EndsFlush : ConnSeen → ConnSeen → Beat → Type 0
 EndsFlush a b beat = is_flushed a ≡ true → (beat ≡ beats.Ends (Ok (sent_answer a.call))) × (b ≡ idle a)
 
--- what the end of a call makes of the connection: an Ok counts what it opened or closed, and any other end breaks it where the server is at
+-- what the end of an exchange makes of the connection: an Ok, and what hands on the next one, counts what it opened or closed, and any other end breaks it where the server is at
 -- fault, and is cleaned up behind
 abbrev pub behind : {A : Type 0} → Beat → ConnOf A → ConnOf A
 behind (beats.Ends (Ok answer)) c = settled c
+behind (beats.HandsOn next) c = settled c
 behind (beats.Ends (Err e)) c = cleaned (unfed (ends_copy e) (record c { broken = broken_by (beats.Ends (Err e)) }))
 behind _ c = c
 
@@ -330,16 +339,9 @@ pub record Polled (begun b : ConnSeen) (beat : Beat) : Type 0 where
   -- and behind it no call is merely asked
   pub asked : IsAsked b.call → ⊥
 
--- the answer of an exchange that hands on the next one
-abbrev pub hands_on : Request → Poll Turn
-hands_on next = Ready (turns.Ok (answers.Next next))
-
-abbrev pub HandsOnNone : Poll Turn → Type 0
-HandsOnNone answer = (next : Request) → answer ≡ hands_on next → ⊥
-
 -- one exchange ended, and what it handed on is asked next, or before it what has to be looked up for it
 abbrev pub HandsNext : ConnSeen → Request → ConnSeen → Type 0
-HandsNext begun next c = (told : Request) × (between : ConnSeen) × Polled (resolved begun) between (beat_of (hands_on told)) × AsksNext told between next c
+HandsNext begun next c = (told : Request) × (between : ConnSeen) × Polled (resolved begun) between (beats.HandsOn told) × AsksNext told between next c
 
 -- Exchanges ended in a poll one after another, behind each of which one of these was asked; the last of them begins on this connection.
 abbrev pub HandsOver : ConnSeen → List Request → ConnSeen → Type 0
@@ -353,7 +355,6 @@ pub record PollsOn (begun b : ConnSeen) (answer : Poll Turn) : Type 0 where
   pub last : ConnSeen
   pub hands : HandsOver begun later last
   pub polled : Polled (resolved last) b (beat_of answer)
-  pub none : HandsOnNone answer
 
 -- this is refused before anything is looked up for it
 abbrev pub RefusesNamed : Option Request → ConnSeen → ConnSeen → Poll Turn → Type 0

@@ -10,7 +10,7 @@ ghost use Rattle.pg_conn.specs.States.{IsCalling, PollFits};
 ghost use Rattle.std.specs.declared.result.Result.{Result as ResultOf};
 ghost use Rattle.pg_wire.specs.declared.error.Error.{Error as ErrorOf};
 ghost use Rattle.pg_conn.specs.Connections.{ConnOf};
-ghost use Rattle.pg_conn.specs.Turns.{LearnsFront, LearnsFrom, PassesFront, ShowsAtOnce, ShowsFront, TakesHeard, TakesIn, level_of, kept_for, TakesBeat, Falls, GoesOn, HearsFront, Prepares, Readies, Refuses, Accepts, IsAsked, IsSayable, Refused, IsAhead, only_sends, flushes, is_flushed, EndsFlush, queued_copy_fail, Polled, PollsOn, PollsThrough, PollsWithin, PollsCall, PollsMore, beat_of, broken_by, hands_on, HandsOnNone};
+ghost use Rattle.pg_conn.specs.Turns.{LearnsFront, LearnsFrom, PassesFront, ShowsAtOnce, ShowsFront, TakesHeard, TakesIn, level_of, kept_for, TakesBeat, Falls, GoesOn, HearsFront, Prepares, Readies, Refuses, Accepts, IsAsked, IsSayable, EndsPoll, Refused, IsAhead, only_sends, flushes, is_flushed, EndsFlush, queued_copy_fail, Polled, PollsOn, PollsThrough, PollsWithin, PollsCall, PollsMore, beat_of, behind, broken_by};
 
 use crate::connection::COPY_FAIL;
 use crate::{PgConnection, Request, Turn};
@@ -43,21 +43,18 @@ fn ends_copy(error: &Error) -> bool
     }
 }
 
-// Whether the exchange hands on what is asked next. Most polls don't, and their answers needn't be moved to be told apart.
-fn may_hand_on(answer: &Poll<Turn>) -> bool
-    ensures { result ≡ false → HandsOnNone answer.now }
+// What a poll answers by its last beat.
+fn answer_of(beat: Beat) -> Poll<Turn>
+    requires { EndsPoll beat }
+    ensures { beat_of result ≡ beat }
 {
-    matches!(answer, Poll::Ready(Turn::Ok(CallAnswer::Next(_))))
-}
-
-// What is asked next, where the exchange hands it on, or else the answer of the poll.
-fn next_of(answer: Poll<Turn>) -> Result<Request, Poll<Turn>>
-    ensures next { IfOk result (λ next. answer ≡ hands_on next) }
-    ensures last { IfErr result (λ same. (same ≡ answer) × HandsOnNone answer) }
-{
-    match answer {
-        Poll::Ready(Turn::Ok(CallAnswer::Next(next))) => Ok(next),
-        answer => Err(answer),
+    match beat {
+        Beat::Waits => Poll::Pending,
+        Beat::Yields(item) => Poll::Ready(Turn::Item(item)),
+        Beat::Opens(data) => Poll::Ready(Turn::Opened(data)),
+        Beat::Ends(Ok(answer)) => Poll::Ready(Turn::Ok(answer)),
+        Beat::Ends(Err(e)) => Poll::Ready(Turn::Err(e)),
+        Beat::More | Beat::HandsOn(_) => unreachable!(),
     }
 }
 
@@ -228,6 +225,27 @@ impl<L> PgConnection<L> {
         self.count_heard();
         if fails_copy {
             self.fail_copy();
+        }
+    }
+
+    // The call has ended by an error.
+    fn fail(&mut self, error: &Error)
+        ensures { self.new ≡ behind (Beat.Ends (Err error.now)) self.old }
+    {
+        self.broken = fault_in(error);
+        self.unfeed(ends_copy(error));
+        self.clean();
+    }
+
+    // What the end of an exchange makes of the connection.
+    fn end_exchange(&mut self, beat: &Beat)
+        ensures { self.new ≡ behind beat.now self.old }
+    {
+        match beat {
+            Beat::Ends(Ok(_)) => self.settle(),
+            Beat::HandsOn(_) => self.settle(),
+            Beat::Ends(Err(e)) => self.fail(e),
+            Beat::More | Beat::Waits | Beat::Yields(_) | Beat::Opens(_) => {}
         }
     }
 }
@@ -557,39 +575,29 @@ impl<L: Link> PgConnection<L> {
 
 impl<L: Link> PgConnection<L> {
     // One poll of an exchange.
-    fn poll_exchange(&mut self) -> Poll<Turn>
+    fn poll_exchange(&mut self) -> Beat
         requires { self.old.broken ≡ None }
-        ensures polled { Polled (seen_by L.seen self.old) (seen_by L.seen self.new) (beat_of result) }
-        ensures whole { (next : declared_request.Request) → result ≡ hands_on next → self.new.broken ≡ None }
-        ensures falls { Falls (seen_by L.seen self.old) (seen_by L.seen self.new) (beat_of result) }
+        ensures polled { Polled (seen_by L.seen self.old) (seen_by L.seen self.new) result }
+        ensures ends { result ≢ Beat.More }
+        ensures whole { (next : declared_request.Request) → result ≡ Beat.HandsOn next → self.new.broken ≡ None }
+        ensures falls { Falls (seen_by L.seen self.old) (seen_by L.seen self.new) result }
     {
-        match self.beat() {
-            Beat::More | Beat::Waits => Poll::Pending,
-            Beat::Yields(item) => Poll::Ready(Turn::Item(item)),
-            Beat::Opens(data) => Poll::Ready(Turn::Opened(data)),
-            Beat::Ends(Ok(answer)) => {
-                self.settle();
-                Poll::Ready(Turn::Ok(answer))
-            }
-            Beat::Ends(Err(e)) => {
-                self.broken = fault_in(&e);
-                self.unfeed(ends_copy(&e));
-                self.clean();
-                Poll::Ready(Turn::Err(e))
-            }
-        }
+        let beat = self.beat();
+        self.end_exchange(&beat);
+        beat
     }
 
     // One poll, which begins with what the connection allows of link calls. What is asked stands as an exchange first.
-    fn poll_on(&mut self) -> Poll<Turn>
+    fn poll_on(&mut self) -> Beat
         requires { self.old.broken ≡ None }
-        ensures polled { Polled (resolved (seen_by L.seen self.old)) (seen_by L.seen self.new) (beat_of result) }
-        ensures whole { (next : declared_request.Request) → result ≡ hands_on next → self.new.broken ≡ None }
-        ensures falls { Falls (seen_by L.seen self.old) (seen_by L.seen self.new) (beat_of result) }
+        ensures polled { Polled (resolved (seen_by L.seen self.old)) (seen_by L.seen self.new) result }
+        ensures ends { result ≢ Beat.More }
+        ensures whole { (next : declared_request.Request) → result ≡ Beat.HandsOn next → self.new.broken ≡ None }
+        ensures falls { Falls (seen_by L.seen self.old) (seen_by L.seen self.new) result }
     {
         match self.resolve() {
             Ok(()) => self.poll_exchange(),
-            Err(e) => Poll::Ready(Turn::Err(e)),
+            Err(e) => Beat::Ends(Err(e)),
         }
     }
 
@@ -630,17 +638,13 @@ impl<L: Link> PgConnection<L> {
         ensures { PollsOn (seen_by L.seen self.old) (seen_by L.seen self.new) result }
     {
         loop {
-            let answer = self.poll_on();
-            if !may_hand_on(&answer) {
-                return answer;
-            }
-            match next_of(answer) {
-                Ok(told) => {
+            match self.poll_on() {
+                Beat::HandsOn(told) => {
                     if let Err(e) = self.hand_on(told) {
                         return Poll::Ready(Turn::Err(e));
                     }
                 }
-                Err(answer) => return answer,
+                beat => return answer_of(beat),
             }
         }
     }

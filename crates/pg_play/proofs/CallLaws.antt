@@ -42,7 +42,7 @@ use Rattle.pg_call.specs.declared.calling.Beat.{Beat}
 use Rattle.pg_call.specs.declared.calling.Beat.TheVariants as beats
 use Rattle.pg_call.specs.declared.ledger.Ledger.{Ledger}
 use Rattle.pg_call.specs.Requests.{name_of, running_bound, spelled, CanBeSaid, IsRefusal, messages_of}
-use Rattle.pg_call.specs.Calls.{CallIs, Leaves, answer_by}
+use Rattle.pg_call.specs.Calls.{CallIs, Leaves, answer_by, EndsFine}
 use Rattle.pg_call.proofs.LeaveLaws.{leaves_call, call_well}
 use Rattle.pg_conn.proofs.CleanupLaws.{stays_unfed}
 use Rattle.pg_conn.specs.Connections.{ConnSeen, idle, begins_copy, begun_with, is_fed, unfed, runs, ended, settled, cleaned, left, may_open, queued_group, rollback, depth_behind, with_depth, Standing, standing, restated, resolved, resolved_by}
@@ -58,7 +58,7 @@ use Rattle.pg_play.specs.Shown.{item_of, items_with, has_rows, answer_of}
 use Rattle.pg_startup.specs.Flows.{Flows}
 use Rattle.pg_startup.proofs.FlowLaws.{Flows-then, Flows-none, flows_begun}
 use Rattle.pg_play.proofs.WaitLaws.{still_grown, waits_none, waits_on}
-use Rattle.pg_play.specs.Calls.{Bounds, bounds, again, change_for, Waited, Went, InPlay, IsPlayingOn, EndsStarved, IsDropped, broken_after, HasWaitedFew, IsFresh, IsHeldBack, EndsAtOnce, EndsOn, HasEnded, IsLast, EndsCall, Ended, StopsBy}
+use Rattle.pg_play.specs.Calls.{Bounds, bounds, again, change_for, Waited, Went, InPlay, IsPlayingOn, EndsStarved, IsDropped, broken_after, HasWaitedFew, IsFresh, IsHeldBack, EndsAtOnce, EndsOn, HasEnded, IsLast, EndsCall, Ended, StopsBy, AnswersBy, IsAnswered}
 use Rattle.pg_conn.specs.Looking.{Learns, named_by, named_in}
 use Rattle.pg_conn.proofs.OwedLaws.{run_asks, spelled-append, counts-append}
 use Rattle.pg_conn.proofs.TurnLaws.{Learns-then, tells_from, kept}
@@ -180,6 +180,7 @@ cause_of b c beats.More h e = absurd cc
 cause_of b c (beats.Yields item) h e = absurd cc
 cause_of b c (beats.Opens opened) h e = absurd cc
 cause_of b c (beats.Ends answer) h e = absurd cc
+cause_of b c (beats.HandsOn next) h e = absurd cc
 
 none_waited : (b c : ConnSeen) (beat : Beat) → BeatCause b c beat → beat ≢ beats.Waits → NoneWaited b.stream c.stream
 none_waited b c beats.More h n = h.2
@@ -187,6 +188,7 @@ none_waited b c beats.Waits h n = absurd (n refl)
 none_waited b c (beats.Yields item) h n = h
 none_waited b c (beats.Opens opened) h n = h
 none_waited b c (beats.Ends (Ok answer)) h n = h.2
+none_waited b c (beats.HandsOn next) h n = h.2
 none_waited b c (beats.Ends (Err e)) h n = h
 
 -- a beat waits or not
@@ -196,6 +198,7 @@ waits_or_not b c beats.Waits h = inr h.0
 waits_or_not b c (beats.Yields item) h = inl h
 waits_or_not b c (beats.Opens opened) h = inl h
 waits_or_not b c (beats.Ends (Ok answer)) h = inl h.2
+waits_or_not b c (beats.HandsOn next) h = inl h.2
 waits_or_not b c (beats.Ends (Err e)) h = inl h
 
 starved_now : (n : ℕ) (first : StreamSeen) (a b c : ConnSeen) → a.stream.link.write_waits ≤ b.stream.link.write_waits → Waited n first b.stream → BeatCause (begun_with 256 b) c beats.Waits → IsWaited c → EndsStarved first a c
@@ -266,6 +269,7 @@ refuses_beat left first a b c r waits items beat said fs gs q i says m u = elim 
     by (beats.Ends (Ok answer)) h = absurd h
     by (beats.Yields item) h = absurd h
     by (beats.Opens opened) h = absurd h
+    by (beats.HandsOn next) h = absurd h
     by beats.More h = absurd h
     by beats.Waits h = absurd h
 
@@ -473,26 +477,33 @@ ends_few limits a c waits end l w = (waits, w, (λ d. l, omega (arith, l)))
 unleft : (a m : ConnSeen) → m.broken ≡ None → record m { broken = None; stream = record m.stream { left = a.stream.left } } ≡ record m { stream = record m.stream { left = a.stream.left } }
 unleft a m e = ap (λ (o : Option ServerFault). record m { broken = o; stream = record m.stream { left = a.stream.left } }) (sym e)
 
--- what hands on nothing ends the call
-ends_last : (r : Request) (reply : List BackendMessage) (status : TransactionStatus) (answer : CallAnswer) → answer_by r reply status ≡ Ok answer → ((next : Request) → answer ≡ answers.Next next → ⊥) → IsLast r
-ends_last (requests.Describe x) reply status answer e n d = n _ (sym (the_ok _ _ e))
-ends_last (requests.Evict eviction) reply status answer e n d = n _ (sym (the_ok _ _ e))
-ends_last (requests.Look lookup) reply status answer e n d = n _ (sym (the_ok _ _ e))
-ends_last (requests.Fill filling) reply status answer e n d = n _ (sym (the_ok _ _ e))
-ends_last (requests.Run bound) reply status answer e n d = cc
-ends_last _ reply status answer e n d = cc
+-- what answers ends the call
+ends_last : (r : Request) (reply : List BackendMessage) (status : TransactionStatus) (answer : CallAnswer) → answer_by r reply status ≡ beats.Ends (Ok answer) → IsLast r
+ends_last (requests.Describe x) reply status answer e d = cc
+ends_last (requests.Evict eviction) reply status answer e d = cc
+ends_last (requests.Look lookup) reply status answer e d = cc
+ends_last (requests.Fill filling) reply status answer e d = cc
+ends_last (requests.Run bound) reply status answer e d = cc
+ends_last _ reply status answer e d = cc
+
+-- what it answers
+pub by_end : (beat : Beat) (told : Result CallAnswer Error) → beat ≡ beats.Ends told → AnswersBy beat told
+by_end beat told e = subst (λ (w : Beat). AnswersBy w told) (sym e) refl
+
+pub answered : (start : Ledger) (r : Request) (said : List FrontendMessage) (hs : List Frame) (items : List CallItem) (ledger : Ledger) (beat : Beat) (answer : CallAnswer) → AnswersBy beat (Ok answer) → EndsFine start r said hs items ledger beat → IsAnswered start r said hs items ledger answer
+answered start r said hs items ledger beat answer by e = (e.0, subst (λ (w : Beat). AnswersBy w (Ok answer)) (sym e.1) by)
 
 pub goes_ok : (limits : Bounds) (o : Option ServerFault) (first : StreamSeen) (a c : ConnSeen) (r : Request) (waits : ℕ) (old new : List Item) (answer : CallAnswer) (told : Answer) → waits < limits.polls → a.broken ≡ o → new ≡ items_with old answer → told ≡ answer_of answer
-    → ((next : Request) → answer ≡ answers.Next next → ⊥) → PlayBeat o limits.most first a c r waits old (beats.Ends (Ok answer)) → StopsBy limits first a c r new (ends.Ok told)
-goes_ok limits None first a c r waits old new answer told l e n t none h =
+    → PlayBeat o limits.most first a c r waits old (beats.Ends (Ok answer)) → StopsBy limits first a c r new (ends.Ok told)
+goes_ok limits None first a c r waits old new answer told l e n t h =
     let m = h.3 in
     let fine = h.5.2.tells.1 in
     let after = h.5.2 in
     let ended = ended_whole limits first a m r new (ends.Ok told) h.5.0 h.5.1 e after.went after.broken (ends_few limits first m.stream waits (ends.Ok told) l (after.over.waited (λ d. absurd cc))) after.room (few_calls first m r waits (length h.0) limits l (below_items old h.0 limits.most h.1 h.2) after.over.calls)
     (record { refused = λ u. absurd (after.unsaid u); flushed = λ f. let x = after.unflushed f in (ap (λ (z : Answer). ends.Ok z) (t ∙ ap answer_of x.0), (n ∙ ap (λ (z : CallAnswer). items_with old z) x.0 ∙ h.1 ∙ ap (map item_of) x.1.0, x.1.1, unleft a m after.broken ∙ x.1.2)) })
-    (h.0, answer, n ∙ ap (λ (x : List Item). items_with x answer) h.1, below_items old h.0 limits.most h.1 h.2, t, after.tells.1, after.tells.2) (ends_last r fine.0.reply fine.0.status answer fine.1 none) in
+    (h.0, answer, n ∙ ap (λ (x : List Item). items_with x answer) h.1, below_items old h.0 limits.most h.1 h.2, t, answered a.ledger r h.5.0 (heard h.5.1) h.0 m.ledger (beats.Ends (Ok answer)) answer refl fine, after.tells.2) (ends_last r fine.0.reply fine.0.status answer fine.1) in
     (m, ended, inl (after.tells.0, h.4))
-goes_ok limits (Some fault) first a c r waits old new answer told l e n t none h = let x = h.1 in absurd cc
+goes_ok limits (Some fault) first a c r waits old new answer told l e n t h = let x = h.1 in absurd cc
 
 units_none : (answer : CallAnswer) → ◌≡◌ {A = Result CallAnswer Error} (Ok answers.Unit) (Ok answer) → has_rows answer ≡ true → ⊥
 units_none answers.Unit e h = cc
@@ -500,7 +511,6 @@ units_none (answers.Total n) e h = cc
 units_none (answers.Rows rows) e h = cc
 units_none (answers.OneRow row) e h = cc
 units_none (answers.Statement prepared) e h = cc
-units_none (answers.Next next) e h = cc
 
 begins_none : (status : TransactionStatus) (answer : CallAnswer) → begun_by_status status ≡ Ok answer → has_rows answer ≡ true → ⊥
 begins_none statuses.Transaction (answers.Rows rows) e h = absurd cc
@@ -508,7 +518,6 @@ begins_none statuses.Transaction (answers.OneRow row) e h = absurd cc
 begins_none statuses.Transaction answers.Unit e h = cc
 begins_none statuses.Transaction (answers.Total n) e h = cc
 begins_none statuses.Transaction (answers.Statement prepared) e h = cc
-begins_none statuses.Transaction (answers.Next next) e h = cc
 begins_none statuses.Idle answer e h = cc
 begins_none statuses.Error answer e h = cc
 
@@ -516,7 +525,7 @@ totals_none : (total : PgQueryResult) (answer : CallAnswer) → answers.Total to
 totals_none total answer k h = let x = ap has_rows k ∙ h in cc
 
 -- a call with rows opens and closes nothing
-rows_stay : (r : Request) (reply : List BackendMessage) (status : TransactionStatus) (answer : CallAnswer) → answer_by r reply status ≡ Ok answer → has_rows answer ≡ true → change_for r ≡ changes.Stays
+rows_stay : (r : Request) (reply : List BackendMessage) (status : TransactionStatus) (answer : CallAnswer) → AnswersBy (answer_by r reply status) (Ok answer) → has_rows answer ≡ true → change_for r ≡ changes.Stays
 rows_stay (requests.Begin depth) reply status answer e h = absurd (begins_none status answer e h)
 rows_stay (requests.BeginWith query) reply status answer e h = absurd (begins_none status answer e h)
 rows_stay (requests.Commit left) reply status answer e h = absurd (units_none answer e h)
@@ -525,7 +534,7 @@ rows_stay (requests.CopyIn feed) reply status answer e h = absurd (totals_none _
 rows_stay _ reply status answer e h = refl
 
 -- such a call has asked for a reply
-rows_asked : (r : Request) (reply : List BackendMessage) (status : TransactionStatus) (answer : CallAnswer) → answer_by r reply status ≡ Ok answer → has_rows answer ≡ true → count_by ends_request (messages_of r) ≡ 1
+rows_asked : (r : Request) (reply : List BackendMessage) (status : TransactionStatus) (answer : CallAnswer) → AnswersBy (answer_by r reply status) (Ok answer) → has_rows answer ≡ true → count_by ends_request (messages_of r) ≡ 1
 rows_asked (requests.Begin depth) reply status answer e h = refl
 rows_asked (requests.BeginWith query) reply status answer e h = refl
 rows_asked (requests.CopyOut query) reply status answer e h = refl
@@ -585,9 +594,9 @@ goes_unshown limits None first a c r waits old new answer f l e n t b h =
     let m = h.3 in
     let after = h.5.2 in
     let fine = after.tells.1 in
-    let stays = ap (λ (x : Standing). x.change) after.went.started.3 ∙ after.asked ∙ rows_stay r fine.0.reply fine.0.status answer fine.1 b in
+    let stays = ap (λ (x : Standing). x.change) after.went.started.3 ∙ after.asked ∙ rows_stay r fine.0.reply fine.0.status answer (by_end _ _ fine.1) b in
     let asked = ap (count_by ends_request) fine.0.said_is ∙ counts-append (drain_fails a.ledger.is_copy_failed (before_readys a.ledger.owed (heard h.5.1))) (messages_of r) in
-    let some : nat_eq m.groups 0 ≡ false = not_none m.groups (omega (arith, after.went.groups, asked, rows_asked r fine.0.reply fine.0.status answer fine.1 b)) in
+    let some : nat_eq m.groups 0 ≡ false = not_none m.groups (omega (arith, after.went.groups, asked, rows_asked r fine.0.reply fine.0.status answer (by_end _ _ fine.1) b)) in
     let ended = ended_whole limits first a m r new (ends.Err errors.OutOfMemory) h.5.0 h.5.1 e after.went after.broken (ends_few limits first m.stream waits (ends.Err errors.OutOfMemory) l (after.over.waited (λ d. absurd cc))) after.room (few_calls first m r waits (length h.0) limits l (below_items old h.0 limits.most h.1 h.2) after.over.calls)
     (not_at_once a m r new (ends.Err errors.OutOfMemory) h.5.1 after.unsaid (λ k. let x = sym (ap has_rows (after.unflushed k).0) ∙ b in absurd cc)) (inr (h.0, n, refl, fine.0)) tt in
     rw t (m, ended, inl (after.tells.0, h.4 ∙ settled_is_cleaned m stays some ∙ sym (ap (λ (x : ConnSeen). cleaned x) (plain_unfed false m stays))))

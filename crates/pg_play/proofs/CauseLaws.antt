@@ -40,6 +40,7 @@ use Rattle.pg_play.specs.Calls.{IsDroppedAs as HasDroppedAs, IsOpened, Waited, E
 use Rattle.pg_play.specs.Places.{Place, readies, refuses_copy}
 use Rattle.pg_play.specs.Causes.{IsFront, IsUnlawful, ShowsFault, IsAskedToCopy, HasNoRow, Causes, IsStarved, AnsweredPending, HasOpened, IsDropped, IsDroppedAs, IsParted, HasCause, BeginsNone}
 use Rattle.pg_play.specs.Plays.{StandsAt}
+use Rattle.pg_play.proofs.CallLaws.{by_end}
 use Rattle.pg_play.proofs.PartLaws.{no_error}
 use Rattle.pg_play.proofs.StepLaws.{Summary, QueuedOwn, begins_one}
 use Rattle.pg_play.proofs.PlaceLaws.{IsLookError, look_errors, next_place, ended_next}
@@ -151,7 +152,7 @@ row_cause : (start : StreamSeen) (at : Place) (a b : ConnSeen) (step : Step) (sa
     → CallEnds a.ledger (request_of at.rule.depth step.call) said (heard fs) items b.ledger (Err errors.RowNotFound) → HasNoRow at step s.own (heard fs) (next_place at b said s.own fs end)
 row_cause start at a b step said fs items items' copied end st s h =
     let f = h.0 in
-    let found = not_found at.rule.depth step.call f.reply f.status h.1 in
+    let found = not_found at.rule.depth step.call f.reply f.status (by_end _ _ h.1) in
     let carried = fine_carries start at a at.rule.depth step.call said (heard fs) items items' b.ledger copied st s f in
     record {
       wants = found.0;
@@ -167,7 +168,7 @@ begin_cause : (start : StreamSeen) (at : Place) (a b : ConnSeen) (step : Step) (
     → CallEnds a.ledger (request_of at.rule.depth step.call) said (heard fs) items b.ledger (Err (errors.BeginFailed status)) → BeginsNone at step s.own (heard fs) status
 begin_cause start at a b step said fs items items' copied end status st s h =
     let f = h.0 in
-    let found = begun_failed at.rule.depth step.call f.reply f.status status h.1 in
+    let found = begun_failed at.rule.depth step.call f.reply f.status status (by_end _ _ h.1) in
     let whole = fine_own a.ledger (request_of at.rule.depth step.call) said (heard fs) items items' b.ledger copied s f in
     elim f.last [
       | inl none ↦ absurd (begins_one at.rule.depth step.call found.0 none)

@@ -1,5 +1,5 @@
 -- The exchanges of a call.
-use Rattle.std.proofs.Common.{◌≡◌, ◌⊎◌, ℕ, zero, suc, nat_eq, Bool, true, false, cond, List, [], ◌∷◌, length, subst, refl, sym, ap, ◌∙◌, Option, Some, None, option_map, Ok, inl, inr}
+use Rattle.std.proofs.Common.{◌≡◌, ◌⊎◌, ℕ, zero, suc, nat_eq, Bool, true, false, cond, List, [], ◌∷◌, length, subst, refl, sym, ap, ◌∙◌, Option, Some, None, option_map, inl, inr}
 use Rattle.std.proofs.lemmas.Option.{same_Some}
 use Rattle.pg_columns.specs.Told.{columns_of}
 use Rattle.pg_columns.specs.declared.column.PgColumn.{PgColumn}
@@ -24,7 +24,7 @@ use Rattle.pg_call.specs.declared.after.After.{After}
 use Rattle.pg_call.specs.declared.after.After.TheVariants as afters
 use Rattle.pg_call.specs.declared.request.Request.{Request}
 use Rattle.pg_call.specs.declared.request.Request.TheVariants as requests
-use Rattle.pg_call.specs.declared.answer.CallAnswer.TheVariants as answers
+use Rattle.pg_call.specs.declared.calling.Beat.TheVariants as beats
 use Rattle.pg_call.specs.declared.statement.Goal.{Goal}
 use Rattle.pg_call.specs.declared.statement.Goal.TheVariants as goals
 use Rattle.pg_call.specs.Requests.{kind_of, groups_of, numbered_by, request_behind, behind_goal, bound_by, bound_for, filled_bound, filled_for, looked_behind}
@@ -328,21 +328,21 @@ hands_by (suc left) calls.Rollback k = absurd cc
 hands_by d _ k = absurd cc
 
 -- so what it hands on is what was to be asked next
-pub handed_so : (d : ℕ) (call : Call) (reply : List BackendMessage) (status : TransactionStatus) (next : Request) → answer_by (request_of d call) reply status ≡ Ok (answers.Next next) → handed_by call reply ≡ Some next
+pub handed_so : (d : ℕ) (call : Call) (reply : List BackendMessage) (status : TransactionStatus) (next : Request) → answer_by (request_of d call) reply status ≡ beats.HandsOn next → handed_by call reply ≡ Some next
 handed_so d call reply status next e = by call (hands_by d call (hands_on_described (request_of d call) reply status next e)) e
   where
-    by : (call : Call) → HandsBy call → answer_by (request_of d call) reply status ≡ Ok (answers.Next next) → handed_by call reply ≡ Some next
+    by : (call : Call) → HandsBy call → answer_by (request_of d call) reply status ≡ beats.HandsOn next → handed_by call reply ≡ Some next
     by call (inl (x, is)) e =
-        let k = subst (λ (c : Call). answer_by (request_of d c) reply status ≡ Ok (answers.Next next)) is e in
+        let k = subst (λ (c : Call). answer_by (request_of d c) reply status ≡ beats.HandsOn next) is e in
         ap (λ (c : Call). handed_by c reply) is ∙ (next_is (requests.Describe x) reply status next k).1
     by call (inr (inl (v, is))) e =
-        let k = subst (λ (c : Call). answer_by (request_of d c) reply status ≡ Ok (answers.Next next)) is e in
+        let k = subst (λ (c : Call). answer_by (request_of d c) reply status ≡ beats.HandsOn next) is e in
         ap (λ (c : Call). handed_by c reply) is ∙ (next_is (requests.Evict v) reply status next k).1
     by call (inr (inr (inl (l, is)))) e =
-        let k = subst (λ (c : Call). answer_by (request_of d c) reply status ≡ Ok (answers.Next next)) is e in
+        let k = subst (λ (c : Call). answer_by (request_of d c) reply status ≡ beats.HandsOn next) is e in
         ap (λ (c : Call). handed_by c reply) is ∙ (next_is (requests.Look l) reply status next k).1
     by call (inr (inr (inr (f, is)))) e =
-        let k = subst (λ (c : Call). answer_by (request_of d c) reply status ≡ Ok (answers.Next next)) is e in
+        let k = subst (λ (c : Call). answer_by (request_of d c) reply status ≡ beats.HandsOn next) is e in
         ap (λ (c : Call). handed_by c reply) is ∙ (next_is (requests.Fill f) reply status next k).1
 
 -- ---- what comes behind
@@ -587,7 +587,7 @@ pub record NextIs (rule : Rule) (d : ℕ) (call : Call) (reply : List BackendMes
   pub polled : acts_at_once part ≡ false
   pub one : length (groups_of (request_of d call)) ≡ 1
 
-pub what_is_next : (rule : Rule) (d : ℕ) (call : Call) (reply : List BackendMessage) (status : TransactionStatus) (told next : Request) (a b : Learnt) → answer_by (request_of d call) reply status ≡ Ok (answers.Next told) → LooksUp told a next b → NextIs rule d call reply told next
+pub what_is_next : (rule : Rule) (d : ℕ) (call : Call) (reply : List BackendMessage) (status : TransactionStatus) (told next : Request) (a b : Learnt) → answer_by (request_of d call) reply status ≡ beats.HandsOn told → LooksUp told a next b → NextIs rule d call reply told next
 what_is_next rule d call reply status told next a b e looks =
     let handed = handed_so d call reply status told e in
     let so = looks_so rule told next (looks_or told next a b looks) (hands_so rule call reply told handed) in

@@ -6,7 +6,7 @@ use Rattle.pg_columns.proofs.ToldLaws.{length_columns}
 use Rattle.pg_columns.specs.Told.{columns_of}
 use Rattle.pg_columns.specs.declared.column.PgColumn.{PgColumn}
 use Rattle.pg_call.specs.declared.after.Filling.{Filling}
-use Rattle.std.proofs.Common.{◌≡◌, Ok, ℕ, zero, suc, ◌<◌, nat_eq, Bool, true, false, cond, ◌&&◌, List, [], ◌∷◌, ◌++◌, length, map, subst, refl, sym, ap, ◌∙◌, arith, append_assoc, Option, Some, None, option_map, inl, inr, bytes_eq, ◌||◌, is_some, unwrap_or, option_to_list, ap₂, IsSome}
+use Rattle.std.proofs.Common.{◌≡◌, ℕ, zero, suc, ◌<◌, nat_eq, Bool, true, false, cond, ◌&&◌, List, [], ◌∷◌, ◌++◌, length, map, subst, refl, sym, ap, ◌∙◌, arith, append_assoc, Option, Some, None, option_map, inl, inr, bytes_eq, ◌||◌, is_some, unwrap_or, option_to_list, ap₂, IsSome}
 use Rattle.std.specs.List.{AllByRecursion}
 use Rattle.std.proofs.lemmas.Option.{same_Some}
 use Rattle.pg_wire.specs.Frame.{Frame}
@@ -41,7 +41,7 @@ use Rattle.pg_call.specs.declared.statement.Goal.TheVariants as goals
 use Rattle.pg_call.specs.declared.request.Request.{Request}
 use Rattle.pg_call.specs.declared.request.Request.TheVariants as requests
 use Rattle.pg_call.specs.declared.answer.CallItem.{CallItem}
-use Rattle.pg_call.specs.declared.answer.CallAnswer.TheVariants as answers
+use Rattle.pg_call.specs.declared.calling.Beat.TheVariants as beats
 use Rattle.pg_call.specs.Calls.{EndsFine}
 use Rattle.pg_call.proofs.FitLaws.{hands_on_described, next_is}
 use Rattle.pg_call.specs.Requests.{is_parsed_again, known as known_under, parsed_again, width_by, said_in, widths_of, Group, name_of, groups_of, behind_goal, numbered_by, request_behind, bound_by, bound_for, looked_behind}
@@ -183,7 +183,7 @@ known_columns at name fields k = subst (λ (n : ℕ). KnownAt ((name, n) ∷ [])
 
 -- what a description that hands on has told is known where the next exchange begins
 known_told : (rule : Rule) (start : StreamSeen) (at next : Place) (a c : ConnSeen) (x : Extended) (after : Request) (said : List FrontendMessage) (slice : List Frame) (items : List CallItem) → StandsAt start at a → StandsAt start next c → next.groups ≡ at.groups ++ groups_of (requests.Describe x) → heard next.frames ≡ heard at.frames ++ slice
-    → EndsFine a.ledger (requests.Describe x) said slice items c.ledger (Ok (answers.Next after)) → KnownAt (widths_of (asked_by rule after)) next
+    → EndsFine a.ledger (requests.Describe x) said slice items c.ledger (beats.HandsOn after) → KnownAt (widths_of (asked_by rule after)) next
 known_told rule start at next a c x after said slice items st st' groups frames e =
     let told : told_by x e.0.reply ≡ after = same_Some (told_by x e.0.reply) after (next_is (requests.Describe x) e.0.reply e.0.status after e.1).1 in
     let known = described_known start at next a c x said slice items st st' groups frames e.0 in
@@ -191,7 +191,7 @@ known_told rule start at next a c x after said slice items st st' groups frames 
 
 -- and what comes behind a close knows its statement
 known_closed : (rule : Rule) (start : StreamSeen) (at next : Place) (a c : ConnSeen) (v : Eviction) (after : Request) (said : List FrontendMessage) (slice : List Frame) (items : List CallItem) → StandsAt start next c → Keeps next → IsAfter next.rule v.after
-    → EndsFine a.ledger (requests.Evict v) said slice items c.ledger (Ok (answers.Next after)) → KnownAt (widths_of (asked_by rule after)) next
+    → EndsFine a.ledger (requests.Evict v) said slice items c.ledger (beats.HandsOn after) → KnownAt (widths_of (asked_by rule after)) next
 known_closed rule start at next a c v after said slice items st' k h e =
     let told : request_behind v.after ≡ after = same_Some (request_behind v.after) after (next_is (requests.Evict v) e.0.reply e.0.status after e.1).1 in
     subst (λ (r : Request). KnownAt (widths_of (asked_by rule r)) next) told (closed_known rule next v.after (after_known start next c v.after st' k h) (known_none start next c st'))
@@ -232,24 +232,24 @@ runs_known start at a bound None st (e, same, columns, positive, kept) =
 handed_known : (rule : Rule) (start : StreamSeen) (at next : Place) (a c : ConnSeen) (d : ℕ) (call : Call) (after : Request) (said : List FrontendMessage) (slice : List Frame) (items : List CallItem) → StandsAt start at a → StandsAt start next c → Keeps next → next.groups ≡ at.groups ++ groups_of (request_of d call) → heard next.frames ≡ heard at.frames ++ slice
     → ((v : Eviction) → call ≡ calls.Evict v → IsAfter next.rule v.after) → ((l : Lookup) → call ≡ calls.Look l → IsSought at.rule l.extended l.extended.described × ((t : Described) → l.extended.described ≡ Some t → nat_eq l.extended.statement 0 ≡ false → IsKeptAt next (entry_of l.extended t)))
     → ((f : Filling) → call ≡ calls.Fill f → RunsAt next f.bound f.bound.again)
-    → EndsFine a.ledger (request_of d call) said slice items c.ledger (Ok (answers.Next after)) → KnownAt (widths_of (asked_by rule after)) next
+    → EndsFine a.ledger (request_of d call) said slice items c.ledger (beats.HandsOn after) → KnownAt (widths_of (asked_by rule after)) next
 handed_known rule start at next a c d call after said slice items st st' k groups frames evicts looks fills e =
     by (hands_by d call (hands_on_described (request_of d call) e.0.reply e.0.status after e.1))
   where
     by : HandsBy call → KnownAt (widths_of (asked_by rule after)) next
     by (inl (x, is)) =
         known_told rule start at next a c x after said slice items st st' (groups ∙ ap (λ (y : Call). at.groups ++ groups_of (request_of d y)) is) frames
-        (subst (λ (y : Call). EndsFine a.ledger (request_of d y) said slice items c.ledger (Ok (answers.Next after))) is e)
+        (subst (λ (y : Call). EndsFine a.ledger (request_of d y) said slice items c.ledger (beats.HandsOn after)) is e)
     by (inr (inl (v, is))) =
         known_closed rule start at next a c v after said slice items st' k (evicts v is)
-        (subst (λ (y : Call). EndsFine a.ledger (request_of d y) said slice items c.ledger (Ok (answers.Next after))) is e)
+        (subst (λ (y : Call). EndsFine a.ledger (request_of d y) said slice items c.ledger (beats.HandsOn after)) is e)
     by (inr (inr (inl (l, is)))) =
-        let fine = subst (λ (y : Call). EndsFine a.ledger (request_of d y) said slice items c.ledger (Ok (answers.Next after))) is e in
+        let fine = subst (λ (y : Call). EndsFine a.ledger (request_of d y) said slice items c.ledger (beats.HandsOn after)) is e in
         let told : requests.Describe l.extended ≡ after = same_Some (requests.Describe l.extended) after (next_is (requests.Look l) fine.0.reply fine.0.status after fine.1).1 in
         let h = looks l is in
         subst (λ (r : Request). KnownAt (widths_of (asked_by rule r)) next) told (known_sought rule start next c at.rule l.extended l.extended.described refl st' h.0 h.1)
     by (inr (inr (inr (f, is)))) =
-        let fine = subst (λ (y : Call). EndsFine a.ledger (request_of d y) said slice items c.ledger (Ok (answers.Next after))) is e in
+        let fine = subst (λ (y : Call). EndsFine a.ledger (request_of d y) said slice items c.ledger (beats.HandsOn after)) is e in
         let told : requests.Run (looked_behind f.bound) ≡ after = same_Some (requests.Run (looked_behind f.bound)) after (next_is (requests.Fill f) fine.0.reply fine.0.status after fine.1).1 in
         subst (λ (r : Request). KnownAt (widths_of (asked_by rule r)) next) told (runs_known start next c f.bound f.bound.again st' (fills f is))
 
@@ -267,24 +267,24 @@ after_readied l arguments filling (afters.Prepare prepared) = refl
 ready_known : (learnt : Learnt) (arguments : ArgumentsSeen) (filling : Option (List ℕ)) (rule : Rule) (start : StreamSeen) (at next : Place) (a c : ConnSeen) (d : ℕ) (call : Call) (after : Request) (said : List FrontendMessage) (slice : List Frame) (items : List CallItem) → StandsAt start at a → StandsAt start next c → Keeps next → next.groups ≡ at.groups ++ groups_of (request_of d call) → heard next.frames ≡ heard at.frames ++ slice
     → ((v : Eviction) → call ≡ calls.Evict v → IsAfter next.rule v.after) → ((l : Lookup) → call ≡ calls.Look l → IsSought at.rule l.extended l.extended.described × ((t : Described) → l.extended.described ≡ Some t → nat_eq l.extended.statement 0 ≡ false → IsKeptAt next (entry_of l.extended t)))
     → ((f : Filling) → call ≡ calls.Fill f → RunsAt next f.bound f.bound.again)
-    → EndsFine a.ledger (request_of d call) said slice items c.ledger (Ok (answers.Next after)) → KnownAt (widths_of (asked_by rule (readied learnt arguments filling after))) next
+    → EndsFine a.ledger (request_of d call) said slice items c.ledger (beats.HandsOn after) → KnownAt (widths_of (asked_by rule (readied learnt arguments filling after))) next
 ready_known learnt arguments filling rule start at next a c d call after said slice items st st' k groups frames evicts looks fills e =
     by (hands_by d call (hands_on_described (request_of d call) e.0.reply e.0.status after e.1))
   where
     by : HandsBy call → KnownAt (widths_of (asked_by rule (readied learnt arguments filling after))) next
     by (inl (x, is)) =
-        let fine = subst (λ (y : Call). EndsFine a.ledger (request_of d y) said slice items c.ledger (Ok (answers.Next after))) is e in
+        let fine = subst (λ (y : Call). EndsFine a.ledger (request_of d y) said slice items c.ledger (beats.HandsOn after)) is e in
         let told : told_by x fine.0.reply ≡ after = same_Some (told_by x fine.0.reply) after (next_is (requests.Describe x) fine.0.reply fine.0.status after fine.1).1 in
         let known = described_known start at next a c x said slice items st st' (groups ∙ ap (λ (y : Call). at.groups ++ groups_of (request_of d y)) is) frames fine.0 in
         subst (λ (r : Request). KnownAt (widths_of (asked_by rule (readied learnt arguments filling r))) next) told
         (told_known rule (record x { arguments = arguments; filling = filling }) (described_with learnt (record { parameters = parameters_after [] fine.0.reply; columns = Some (columns_of (described fine.0.reply)) })) next
         (λ o. subst (λ (w : Option ℕ). KnownAt (known_under (name_of x.statement) w) next) (sym (learnt_width learnt (Some (columns_of (described fine.0.reply))))) (known_columns next (name_of x.statement) (described fine.0.reply) known)) (known_none start next c st'))
     by (inr (inl (v, is))) =
-        let fine = subst (λ (y : Call). EndsFine a.ledger (request_of d y) said slice items c.ledger (Ok (answers.Next after))) is e in
+        let fine = subst (λ (y : Call). EndsFine a.ledger (request_of d y) said slice items c.ledger (beats.HandsOn after)) is e in
         let told : request_behind v.after ≡ after = same_Some (request_behind v.after) after (next_is (requests.Evict v) fine.0.reply fine.0.status after fine.1).1 in
         subst (λ (r : Request). KnownAt (widths_of (asked_by rule r)) next) (sym (after_readied learnt arguments filling v.after) ∙ ap (readied learnt arguments filling) told) (closed_known rule next v.after (after_known start next c v.after st' k (evicts v is)) (known_none start next c st'))
     by (inr (inr (inl (l, is)))) =
-        let fine = subst (λ (y : Call). EndsFine a.ledger (request_of d y) said slice items c.ledger (Ok (answers.Next after))) is e in
+        let fine = subst (λ (y : Call). EndsFine a.ledger (request_of d y) said slice items c.ledger (beats.HandsOn after)) is e in
         let told : requests.Describe l.extended ≡ after = same_Some (requests.Describe l.extended) after (next_is (requests.Look l) fine.0.reply fine.0.status after fine.1).1 in
         let h = looks l is in
         subst (λ (r : Request). KnownAt (widths_of (asked_by rule (readied learnt arguments filling r))) next) told (sought_known l.extended h.0 h.1)
@@ -301,7 +301,7 @@ ready_known learnt arguments filling rule start at next a c d call after said sl
                 known_looked rule start next c y st' (record { was = was_ready learnt arguments filling x s.was; looked = s.looked })
                 (λ v is z. subst (λ (u : Described). IsKeptAt next (entry_of x u)) (same_Some (described_with learnt t) v (sym (ap (option_map (described_with learnt)) e) ∙ is)) (kept_learnt next x t learnt (h t e z)))
     by (inr (inr (inr (f, is)))) =
-        let fine = subst (λ (y : Call). EndsFine a.ledger (request_of d y) said slice items c.ledger (Ok (answers.Next after))) is e in
+        let fine = subst (λ (y : Call). EndsFine a.ledger (request_of d y) said slice items c.ledger (beats.HandsOn after)) is e in
         let told : requests.Run (looked_behind f.bound) ≡ after = same_Some (requests.Run (looked_behind f.bound)) after (next_is (requests.Fill f) fine.0.reply fine.0.status after fine.1).1 in
         subst (λ (r : Request). KnownAt (widths_of (asked_by rule (readied learnt arguments filling r))) next) told (runs_known start next c f.bound f.bound.again st' (fills f is))
 
@@ -309,7 +309,7 @@ ready_known learnt arguments filling rule start at next a c d call after said sl
 pub known_next : (rule : Rule) (start : StreamSeen) (at next : Place) (a c : ConnSeen) (d : ℕ) (call : Call) (told asked : Request) (said : List FrontendMessage) (slice : List Frame) (items : List CallItem) → StandsAt start at a → StandsAt start next c → Keeps next → next.groups ≡ at.groups ++ groups_of (request_of d call) → heard next.frames ≡ heard at.frames ++ slice
     → ((v : Eviction) → call ≡ calls.Evict v → IsAfter next.rule v.after) → ((l : Lookup) → call ≡ calls.Look l → IsSought at.rule l.extended l.extended.described × ((t : Described) → l.extended.described ≡ Some t → nat_eq l.extended.statement 0 ≡ false → IsKeptAt next (entry_of l.extended t)))
     → ((f : Filling) → call ≡ calls.Fill f → RunsAt next f.bound f.bound.again)
-    → EndsFine a.ledger (request_of d call) said slice items c.ledger (Ok (answers.Next told)) → LeadsTo told asked → KnownAt (widths_of (asked_by rule asked)) next
+    → EndsFine a.ledger (request_of d call) said slice items c.ledger (beats.HandsOn told) → LeadsTo told asked → KnownAt (widths_of (asked_by rule asked)) next
 known_next rule start at next a c d call told asked said slice items st st' k groups frames evicts looks fills e (inl same) =
     subst (λ (r : Request). KnownAt (widths_of (asked_by rule r)) next) (sym same) (handed_known rule start at next a c d call told said slice items st st' k groups frames evicts looks fills e)
 known_next rule start at next a c d call told asked said slice items st st' k groups frames evicts looks fills e (inr (inl l)) =

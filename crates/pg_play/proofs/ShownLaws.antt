@@ -28,6 +28,7 @@ use Rattle.pg_report.specs.declared.outcome.Answer.{Answer}
 use Rattle.pg_script.specs.declared.step.Call.{Call}
 use Rattle.pg_script.specs.declared.step.Call.TheVariants as calls
 use Rattle.pg_script.specs.declared.step.Parting.TheVariants as partings
+use Rattle.pg_play.specs.Calls.{AnswersBy}
 use Rattle.pg_play.specs.Shown.{request_of, item_in, items_in, is_row, is_count, is_result, is_piece, count_of, shown_as, shown_by, waits_how, waits_to_show, answered_how, answered_by, wants_how, wants_row, item_of, one_row, items_with, answer_of, begins, acts_at_once, is_release, IsUncopied, asked_of, parting_of}
 
 -- the items of a response, told
@@ -179,7 +180,7 @@ how_told hows.FetchOne xs status answer e =
     let o = one_by (first_row (rows_in xs)) answer e in
     ap (items_with (map item_of (shown (kinds.Run hows.FetchOne) xs))) o.2 ∙ ap one_row (sym o.1) ∙ row_told xs
 
-pub all_told : (d : ℕ) (call : Call) (reply : List BackendMessage) (status : TransactionStatus) (answer : CallAnswer) → answer_by (request_of d call) reply status ≡ Ok answer → AllShown (kind_of (request_of d call)) (shown_by call) (own_items (request_of d call) reply) answer
+pub all_told : (d : ℕ) (call : Call) (reply : List BackendMessage) (status : TransactionStatus) (answer : CallAnswer) → AnswersBy (answer_by (request_of d call) reply status) (Ok answer) → AllShown (kind_of (request_of d call)) (shown_by call) (own_items (request_of d call) reply) answer
 all_told d (calls.Execute query) reply status answer e = how_told hows.Execute (own_items (request_of d (calls.Execute query)) reply) status answer e
 all_told d (calls.ExecuteMany query) reply status answer e = how_told hows.ExecuteMany (own_items (request_of d (calls.ExecuteMany query)) reply) status answer e
 all_told d (calls.Fetch query) reply status answer e = how_told hows.Fetch (own_items (request_of d (calls.Fetch query)) reply) status answer e
@@ -218,7 +219,7 @@ how_answers hows.Execute xs status answer e = rw (← the_ok _ answer e) (ap (λ
 how_answers hows.FetchOne xs status answer e = let o = one_by (first_row (rows_in xs)) answer e in ap answer_of o.2
 how_answers _ xs status answer e = rw (← the_ok _ answer e) refl
 
-pub answer_told : (d : ℕ) (call : Call) (reply : List BackendMessage) (status : TransactionStatus) (answer : CallAnswer) → answer_by (request_of d call) reply status ≡ Ok answer → answer_of answer ≡ answered_by call (map item_of (own_items (request_of d call) reply))
+pub answer_told : (d : ℕ) (call : Call) (reply : List BackendMessage) (status : TransactionStatus) (answer : CallAnswer) → AnswersBy (answer_by (request_of d call) reply status) (Ok answer) → answer_of answer ≡ answered_by call (map item_of (own_items (request_of d call) reply))
 answer_told d (calls.Execute query) reply status answer e = how_answers hows.Execute (own_items (request_of d (calls.Execute query)) reply) status answer e
 answer_told d (calls.ExecuteMany query) reply status answer e = how_answers hows.ExecuteMany (own_items (request_of d (calls.ExecuteMany query)) reply) status answer e
 answer_told d (calls.Fetch query) reply status answer e = how_answers hows.Fetch (own_items (request_of d (calls.Fetch query)) reply) status answer e
@@ -257,7 +258,7 @@ how_has hows.FetchOne xs status answer items e w = λ z.
 how_has _ xs status answer items e w = absurd cc
 
 -- a call that must have a row has one
-pub has_row : (d : ℕ) (call : Call) (reply : List BackendMessage) (status : TransactionStatus) (answer : CallAnswer) (items : List Item) → answer_by (request_of d call) reply status ≡ Ok answer → wants_row call ≡ true → items_with items answer ≢ []
+pub has_row : (d : ℕ) (call : Call) (reply : List BackendMessage) (status : TransactionStatus) (answer : CallAnswer) (items : List Item) → AnswersBy (answer_by (request_of d call) reply status) (Ok answer) → wants_row call ≡ true → items_with items answer ≢ []
 has_row d (calls.Execute query) reply status answer items e w = how_has hows.Execute (own_items (request_of d (calls.Execute query)) reply) status answer items e w
 has_row d (calls.ExecuteMany query) reply status answer items e w = how_has hows.ExecuteMany (own_items (request_of d (calls.ExecuteMany query)) reply) status answer items e w
 has_row d (calls.Fetch query) reply status answer items e w = how_has hows.Fetch (own_items (request_of d (calls.Fetch query)) reply) status answer items e w
@@ -287,7 +288,7 @@ how_not_found hows.FetchOne xs status e = (refl, no_first (rows_in xs) e)
 how_not_found _ xs status e = absurd cc
 
 -- only a call that must have one fails for want of a row
-pub not_found : (d : ℕ) (call : Call) (reply : List BackendMessage) (status : TransactionStatus) → answer_by (request_of d call) reply status ≡ Err errors.RowNotFound → IsFound call (own_items (request_of d call) reply)
+pub not_found : (d : ℕ) (call : Call) (reply : List BackendMessage) (status : TransactionStatus) → AnswersBy (answer_by (request_of d call) reply status) (Err errors.RowNotFound) → IsFound call (own_items (request_of d call) reply)
 not_found d (calls.Execute query) reply status e = how_not_found hows.Execute (own_items (request_of d (calls.Execute query)) reply) status e
 not_found d (calls.ExecuteMany query) reply status e = how_not_found hows.ExecuteMany (own_items (request_of d (calls.ExecuteMany query)) reply) status e
 not_found d (calls.Fetch query) reply status e = how_not_found hows.Fetch (own_items (request_of d (calls.Fetch query)) reply) status e
@@ -325,7 +326,7 @@ how_comes hows.FetchOne xs status answer items w e = absurd cc
 how_comes _ xs status answer items w e = rw (← the_ok _ answer e) refl
 
 -- the answer of a call that shows its items as they come has none
-pub no_items_come : (d : ℕ) (call : Call) (reply : List BackendMessage) (status : TransactionStatus) (answer : CallAnswer) (items : List Item) → waits_to_show call ≡ false → answer_by (request_of d call) reply status ≡ Ok answer → items_with items answer ≡ items
+pub no_items_come : (d : ℕ) (call : Call) (reply : List BackendMessage) (status : TransactionStatus) (answer : CallAnswer) (items : List Item) → waits_to_show call ≡ false → AnswersBy (answer_by (request_of d call) reply status) (Ok answer) → items_with items answer ≡ items
 no_items_come d (calls.Execute query) reply status answer items w e = how_comes hows.Execute (own_items (request_of d (calls.Execute query)) reply) status answer items w e
 no_items_come d (calls.ExecuteMany query) reply status answer items w e = how_comes hows.ExecuteMany (own_items (request_of d (calls.ExecuteMany query)) reply) status answer items w e
 no_items_come d (calls.Fetch query) reply status answer items w e = how_comes hows.Fetch (own_items (request_of d (calls.Fetch query)) reply) status answer items w e
@@ -374,7 +375,7 @@ how_begins_none hows.FetchOne xs status other e = row_fails (first_row (rows_in 
 how_begins_none _ xs status other e = cc
 
 -- only a begin fails by the status behind it, which isn't that of an open transaction
-pub begun_failed : (d : ℕ) (call : Call) (reply : List BackendMessage) (status other : TransactionStatus) → answer_by (request_of d call) reply status ≡ Err (errors.BeginFailed other) → (begins call ≡ true) × (status ≡ other) × (other ≢ statuses.Transaction)
+pub begun_failed : (d : ℕ) (call : Call) (reply : List BackendMessage) (status other : TransactionStatus) → AnswersBy (answer_by (request_of d call) reply status) (Err (errors.BeginFailed other)) → (begins call ≡ true) × (status ≡ other) × (other ≢ statuses.Transaction)
 begun_failed d (calls.Execute query) reply status other e = absurd (how_begins_none hows.Execute (own_items (request_of d (calls.Execute query)) reply) status other e)
 begun_failed d (calls.ExecuteMany query) reply status other e = absurd (how_begins_none hows.ExecuteMany (own_items (request_of d (calls.ExecuteMany query)) reply) status other e)
 begun_failed d (calls.Fetch query) reply status other e = absurd (how_begins_none hows.Fetch (own_items (request_of d (calls.Fetch query)) reply) status other e)

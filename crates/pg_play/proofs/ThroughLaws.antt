@@ -12,8 +12,6 @@ use Rattle.pg_conn.specs.Statements.{asked_by, begun_as, held_by}
 use Rattle.futures.specs.declared.task.Poll.{Poll}
 use Rattle.futures.specs.declared.task.Poll.TheVariants.{Ready, Pending}
 use Rattle.pg_wire.specs.declared.error.Error.{Error}
-use Rattle.pg_wire.specs.declared.error.Error.TheVariants as errors
-use Rattle.pg_wire.specs.declared.error.ProtocolFault.TheVariants as protocol
 use Rattle.pg_wire.specs.declared.error.ServerFault.{ServerFault}
 use Rattle.pg_wire.specs.Frame.{Frame}
 use Rattle.pg_wire.specs.Parts.{heard}
@@ -52,7 +50,7 @@ use Rattle.pg_conn.proofs.FirstLaws.{IsHanded, handed_unnamed, polls_refused, na
 use Rattle.pg_conn.proofs.StateLaws.{named_asked}
 use Rattle.pg_conn.proofs.FeedingLaws.{copies_main}
 use Rattle.pg_conn.proofs.StatementLaws.{asked_main}
-use Rattle.pg_conn.specs.Turns.{BeginsBy, IsSayable, Polled, PollsOn, PollsThrough, Refused, RefusesNamed, HandsOver, hands_on, PollsBy, HandsOnNone, beat_of, BeatCause, SendCause, TakesBeat, is_flushed, first_exchange}
+use Rattle.pg_conn.specs.Turns.{BeginsBy, IsSayable, Polled, PollsOn, PollsThrough, Refused, RefusesNamed, HandsOver, PollsBy, beat_of, BeatCause, SendCause, TakesBeat, is_flushed, first_exchange}
 use Rattle.pg_report.specs.declared.outcome.Item.{Item}
 use Rattle.pg_report.specs.declared.outcome.Answer.TheVariants.{Unit as AnswersUnit}
 use Rattle.pg_report.specs.declared.outcome.End.{End}
@@ -66,7 +64,7 @@ use Rattle.pg_play.specs.Shown.{item_of, IsBegun, IsUncopied, IsWanted}
 use Rattle.pg_play.specs.Calls.{Bounds, bounds, Adds, change_fed, change_for, Finishes, again, InCopy, InPlay, IsCopying, Waited, IsPlayingOn, IsPlaying, Ended, EndsOn, broken_after, Counted, asking, HandedOn, HandsTo, handed_from, knowing, LooksFirst, OfLastIn, OfLastOn, OfLast, StartsAt, IsCallPlaying, StopsBy, Pauses, PollGives, PlaysOne, PlaysCall, outcome_of, all_groups, asked_from, first_conn}
 use Rattle.pg_play.proofs.ExchangeLaws.{LeadsTo, looks_or, told_by}
 use Rattle.pg_play.proofs.FirstLaws.{fresh_play, playing_one, plays_one, asked_changes, wanted_stays, not_fed, first_changes}
-use Rattle.pg_play.proofs.CallLaws.{AfterSome, PlayBeat, OverPoll, over_poll, after_beat, goes_waits, goes_yields, goes_ok, goes_unshown, goes_err, drops_waiting, drops_shown, goes_unkept}
+use Rattle.pg_play.proofs.CallLaws.{AfterSome, PlayBeat, OverPoll, over_poll, after_beat, goes_waits, goes_yields, goes_ok, goes_unshown, goes_err, drops_waiting, drops_shown, goes_unkept, answered}
 
 -- what holds of the exchange that came last
 on_last_in : (later : List Request) (polls : ℕ) (first : StreamSeen) (P Q : ConnSeen → Request → Type 0) (a : ConnSeen) (r : Request) → ((at : ConnSeen) (asked : Request) → P at asked → Q at asked) → OfLastIn later polls first P a r → OfLastIn later polls first Q a r
@@ -102,20 +100,20 @@ shown_none [] = refl
 shown_none (i ∷ is) = shown_none is
 
 -- it is a description, and showed nothing
-shows_none : (start : Ledger) (r : Request) (said : List FrontendMessage) (hs : List Frame) (items : List CallItem) (ledger : Ledger) (next : Request) → EndsFine start r said hs items ledger (Ok (answers.Next next)) → items ≡ []
+shows_none : (start : Ledger) (r : Request) (said : List FrontendMessage) (hs : List Frame) (items : List CallItem) (ledger : Ledger) (next : Request) → EndsFine start r said hs items ledger (beats.HandsOn next) → items ≡ []
 shows_none start r said hs items ledger next e =
     e.0.items_are ∙ ap (λ (k : Kind). shown k (own_items r e.0.reply)) (hands_on_described r e.0.reply e.0.status next e.1) ∙ shown_none (own_items r e.0.reply)
 
-not_flushed : (f : Bool) (next : Request) → (f ≡ true → answers.Next next ≡ answers.Unit) → f ≡ false
-not_flushed true next h = let x = h refl in absurd cc
-not_flushed false next h = refl
+not_flushed : (f : Bool) → (f ≡ true → ⊥) → f ≡ false
+not_flushed true h = absurd (h refl)
+not_flushed false h = refl
 
 -- and is no copy
 described_again : (r : Request) → kind_of r ≡ kinds.Describe → again r ≡ 0
 described_again (requests.CopyIn feed) k = absurd cc
 described_again _ k = refl
 
-hands_over : (polls : ℕ) (first : StreamSeen) (a m : ConnSeen) (r next : Request) (waits : ℕ) (items : List CallItem) → waits < polls → a.broken ≡ None → AfterSome first a m r waits items (beats.Ends (Ok (answers.Next next))) → HandedOn polls first a m r next × (items ≡ [])
+hands_over : (polls : ℕ) (first : StreamSeen) (a m : ConnSeen) (r next : Request) (waits : ℕ) (items : List CallItem) → waits < polls → a.broken ≡ None → AfterSome first a m r waits items (beats.HandsOn next) → HandedOn polls first a m r next × (items ≡ [])
 hands_over polls first a m r next waits items l e h =
     let after = h.2 in
     let none : items ≡ [] = shows_none a.ledger r h.0 (heard h.1) items m.ledger next after.tells.1 in (
@@ -127,10 +125,10 @@ hands_over polls first a m r next waits items l e h =
         asked = after.asked;
         room = after.room;
         over = after.tells.0;
-        ends = (subst (λ (x : List CallItem). EndsFine a.ledger r h.0 (heard h.1) x m.ledger (Ok (answers.Next next))) none after.tells.1, after.tells.2);
+        ends = (subst (λ (x : List CallItem). EndsFine a.ledger r h.0 (heard h.1) x m.ledger (beats.HandsOn next)) none after.tells.1, after.tells.2);
         can = after.tells.1.0.can;
         unsaid = λ u. after.unsaid u;
-        flush = not_flushed (is_flushed a) next (λ k. (after.unflushed k).0);
+        flush = not_flushed (is_flushed a) (λ k. after.unflushed k);
         waits = waits;
         waited = after.over.waited (λ w. absurd cc);
         few = l;
@@ -225,7 +223,7 @@ handed_ended limits first a m r next l h = record {
   room = h.room;
   calls = omega (arith, h.calls);
   at_once = λ o. record { refused = λ u. absurd (h.unsaid u); flushed = λ f. let x = sym h.flush ∙ f in absurd cc };
-  ends = subst (λ (o : Option ServerFault). EndsOn o limits first a m r h.said (heard h.fs) [] (ends.Ok AnswersUnit)) (sym h.whole.0) ([], answers.Next next, refl, l, refl, h.ends.0, h.ends.1);
+  ends = subst (λ (o : Option ServerFault). EndsOn o limits first a m r h.said (heard h.fs) [] (ends.Ok AnswersUnit)) (sym h.whole.0) ([], answers.Unit, refl, l, refl, answered a.ledger r h.said (heard h.fs) [] m.ledger (beats.HandsOn next) answers.Unit refl h.ends.0, h.ends.1);
 }
 
 -- ---- an exchange begins in the poll in which the one before it ended
@@ -241,6 +239,7 @@ cause_later a b c beats.Waits h k l t = (PendingCause-after a.stream b.stream c.
 cause_later a b c (beats.Yields item) h k l t = NoneWaited-then a.stream b.stream c.stream h.2 t
 cause_later a b c (beats.Opens opened) h k l t = NoneWaited-then a.stream b.stream c.stream h.2 t
 cause_later a b c (beats.Ends (Ok answer)) h k l t = AllMoved-then a.stream b.stream c.stream h k t l
+cause_later a b c (beats.HandsOn next) h k l t = AllMoved-then a.stream b.stream c.stream h k t l
 cause_later a b c (beats.Ends (Err e)) h k l t = NoneWaited-then a.stream b.stream c.stream h.2 t
 
 -- An exchange begins in the midst of a poll, which began with b, of a call that has waited so often. All calls of the link in it have moved.
@@ -270,7 +269,7 @@ later_beat first b at c r waits beat s p =
     after_beat at.stream.left at.stream first at at p.stopped r 0 waits [] beat [] [] (fresh_play at r s.whole s.asks s.change) p.turns p.whole (asks_plainly at p.stopped beat p.says (ap (λ (k : Call). named_by k) s.asks ∙ s.unnamed)) p.flush over
 
 -- the next one begins where it stopped
-begins_next : (polls : ℕ) (first : StreamSeen) (b at m : ConnSeen) (r next : Request) (waits : ℕ) → Begins first b at r waits → (h : HandsTo polls first at m r next) → TakesBeat at m (beats.Ends (Ok (answers.Next h.told))) → Begins first b (handed_from (knowing h.learnt m) next) (asked_from m next) waits
+begins_next : (polls : ℕ) (first : StreamSeen) (b at m : ConnSeen) (r next : Request) (waits : ℕ) → Begins first b at r waits → (h : HandsTo polls first at m r next) → TakesBeat at m (beats.HandsOn h.told) → Begins first b (handed_from (knowing h.learnt m) next) (asked_from m next) waits
 begins_next polls first b at m r next waits s h t = record {
   queued = s.queued ++ t.0;
   frames = s.frames ++ t.1;
@@ -286,19 +285,16 @@ begins_next polls first b at m r next waits s h t = record {
 
 -- ---- what a poll makes of an exchange
 
--- an exchange behind a poll, whose answer hands on nothing
+-- an exchange behind a poll
 abbrev Turned : ℕ → StreamSeen → ConnSeen → ℕ → List Item → Poll Turn → ConnSeen → Request → Type 0
-Turned most first c waits shown answer at asked = (beat : PlayBeat at.broken most first at c asked waits shown (beat_of answer)) × HandsOnNone answer
+Turned most first c waits shown answer at asked = PlayBeat at.broken most first at c asked waits shown (beat_of answer)
 
-fault_hands_none : (fault : ServerFault) (answer : Poll Turn) → beat_of answer ≡ beats.Ends (Err (errors.Protocol (protocol.Server fault))) → HandsOnNone answer
-fault_hands_none fault answer e next is = let x = sym (ap beat_of is) ∙ e in absurd cc
-
-turned_whole : (most : ℕ) (first : StreamSeen) (a c : ConnSeen) (r : Request) (waits : ℕ) (shown : List Item) (answer : Poll Turn) (o : Option ServerFault) → a.broken ≡ o → PlayBeat o most first a c r waits shown (beat_of answer) → HandsOnNone answer → Turned most first c waits shown answer a r
-turned_whole most first a c r waits shown answer o e h n = (subst (λ (x : Option ServerFault). PlayBeat x most first a c r waits shown (beat_of answer)) (sym e) h, n)
+turned_whole : (most : ℕ) (first : StreamSeen) (a c : ConnSeen) (r : Request) (waits : ℕ) (shown : List Item) (answer : Poll Turn) (o : Option ServerFault) → a.broken ≡ o → PlayBeat o most first a c r waits shown (beat_of answer) → Turned most first c waits shown answer a r
+turned_whole most first a c r waits shown answer o e h = subst (λ (x : Option ServerFault). PlayBeat x most first a c r waits shown (beat_of answer)) (sym e) h
 
 -- what is asked behind an exchange that handed on, and the connection on which it begins
 asks_on : (polls : ℕ) (first : StreamSeen) (a m between c : ConnSeen) (r told next : Request) → HandedOn polls first a m r told → between ≡ settled m → AsksNext told between next c
-    → (h : HandsTo polls first a m r next) × (c ≡ handed next (settled (knowing h.learnt m))) × (TakesBeat a m (beats.Ends (Ok (answers.Next told))) → TakesBeat a m (beats.Ends (Ok (answers.Next h.told))))
+    → (h : HandsTo polls first a m r next) × (c ≡ handed next (settled (knowing h.learnt m))) × (TakesBeat a m (beats.HandsOn told) → TakesBeat a m (beats.HandsOn h.told))
 asks_on polls first a m between c r told next h is (learnt, looks, stands) = (
   record { told = told; handed = h; learnt = learnt; looks = subst (λ (x : ConnSeen). LooksUp told x.learnt next learnt) is looks },
   stands ∙ ap (λ (x : ConnSeen). handed next (knowing learnt x)) is,
@@ -306,20 +302,20 @@ asks_on polls first a m between c r told next h is (learnt, looks, stands) = (
 )
 
 -- exchanges that begin in the midst of a poll, the last of which goes on behind it
-later_turns : (later : List Request) (polls most : ℕ) (first : StreamSeen) (b at last c : ConnSeen) (r : Request) (waits : ℕ) (shown : List Item) (answer : Poll Turn) → waits < polls → shown ≡ [] → length shown < most → Begins first b (resolved at) r waits → HandsOver at later last → Polled (resolved last) c (beat_of answer) → HandsOnNone answer
+later_turns : (later : List Request) (polls most : ℕ) (first : StreamSeen) (b at last c : ConnSeen) (r : Request) (waits : ℕ) (shown : List Item) (answer : Poll Turn) → waits < polls → shown ≡ [] → length shown < most → Begins first b (resolved at) r waits → HandsOver at later last → Polled (resolved last) c (beat_of answer)
     → OfLastIn later polls first (Turned most first c waits shown answer) (resolved at) r
-later_turns [] polls most first b at last c r waits shown answer l n few s h p none =
+later_turns [] polls most first b at last c r waits shown answer l n few s h p =
     let p' = subst (λ (x : ConnSeen). Polled (resolved x) c (beat_of answer)) h p in
-    turned_whole most first (resolved at) c r waits shown answer None s.whole ([], n, few, p'.stopped, p'.behind_is, later_beat first b (resolved at) c r waits (beat_of answer) s p', p'.asked) none
-later_turns (next ∷ later) polls most first b at last c r waits shown answer l n few s h p none =
+    turned_whole most first (resolved at) c r waits shown answer None s.whole ([], n, few, p'.stopped, p'.behind_is, later_beat first b (resolved at) c r waits (beat_of answer) s p', p'.asked)
+later_turns (next ∷ later) polls most first b at last c r waits shown answer l n few s h p =
     let told = h.1.0 in
     let between = h.1.1 in
     let one = h.1.2 in
     let asks = h.1.3 in
     let m = one.stopped in
-    let over = hands_over polls first (resolved at) m r told waits [] l s.whole (later_beat first b (resolved at) between r waits (beat_of (hands_on told)) s one) in
+    let over = hands_over polls first (resolved at) m r told waits [] l s.whole (later_beat first b (resolved at) between r waits (beats.HandsOn told) s one) in
     let on = asks_on polls first (resolved at) m between h.0 r told next over.0 one.behind_is asks in
-    (m, on.0, later_turns later polls most first b (handed next (settled (knowing on.0.learnt m))) last c (asked_from m next) waits shown answer l n few (begins_next polls first b (resolved at) m r next waits s on.0 (on.2 one.turns)) (subst (λ (x : ConnSeen). HandsOver x later last) on.1 h.2) p none)
+    (m, on.0, later_turns later polls most first b (handed next (settled (knowing on.0.learnt m))) last c (asked_from m next) waits shown answer l n few (begins_next polls first b (resolved at) m r next waits s on.0 (on.2 one.turns)) (subst (λ (x : ConnSeen). HandsOver x later last) on.1 h.2) p)
 
 -- a poll that may make so many calls of the link begins so, whether or not what is asked stands as an exchange
 begun_resolved : (c : ConnSeen) → resolved (begun_with 256 c) ≡ begun_with 256 (resolved c)
@@ -366,14 +362,14 @@ turns_on polls most first a b c r waits shown answer l e n i t = by t.later t.ha
     by : (later : List Request) → HandsOver (begun_with 256 b) later t.last → OfLastOn polls first (Turned most first c waits shown answer) a r
     by [] h =
         let p = polled_from c (beat_of answer) (subst (λ (x : ConnSeen). Polled (resolved x) c (beat_of answer)) h t.polled) in
-        ([], turned_whole most first a c r waits shown answer None e (i.0, i.3, i.4, p.stopped, p.behind_is, plainly c (beat_of answer) p, p.asked) t.none)
+        ([], turned_whole most first a c r waits shown answer None e (i.0, i.3, i.4, p.stopped, p.behind_is, plainly c (beat_of answer) p, p.asked))
     by (next ∷ later) h =
         let told = h.1.0 in
         let between = h.1.1 in
-        let one = polled_from between (beat_of (hands_on told)) h.1.2 in
+        let one = polled_from between (beats.HandsOn told) h.1.2 in
         let asks = h.1.3 in
         let m = one.stopped in
-        let over = hands_over polls first a m r told waits i.0 l e (plainly between (beat_of (hands_on told)) one) in
+        let over = hands_over polls first a m r told waits i.0 l e (plainly between (beats.HandsOn told) one) in
         let on = asks_on polls first a m between h.0 r told next over.0 one.behind_is asks in
         let few : from.stream.link.calls ≤ first.link.calls + 256 * waits = omega (arith, i.5.calls, ap (λ (x : List CallItem). length x) over.1, described_again r (handed_described polls first a m r told over.0)) in
         let begins : Begins first from (handed_from (knowing on.0.learnt m) next) (asked_from m next) waits = record {
@@ -389,7 +385,7 @@ turns_on polls most first a b c r waits shown answer l e n i t = by t.later t.ha
           unnamed = next_unnamed polls first a m r next on.0;
         } in
         let further = subst (λ (x : ConnSeen). HandsOver x later t.last) on.1 h.2 in
-        (next ∷ later, (m, on.0, later_turns later polls most first from (handed next (settled (knowing on.0.learnt m))) t.last c (asked_from m next) waits shown answer l (i.3 ∙ ap (map item_of) over.1) i.4 begins further t.polled t.none))
+        (next ∷ later, (m, on.0, later_turns later polls most first from (handed next (settled (knowing on.0.learnt m))) t.last c (asked_from m next) waits shown answer l (i.3 ∙ ap (map item_of) over.1) i.4 begins further t.polled))
 
 -- ---- the first poll of a call whose types are known by their names alone
 
@@ -472,7 +468,7 @@ refused_first : (polls most : ℕ) (first : StreamSeen) (a b c : ConnSeen) (r : 
 refused_first polls most first a b c r waits shown told e whole i n h is =
     let one = polls_refused (begun_with 256 b) c told e (sym (resolved_broken b) ∙ i.5.broken) (named_flushes (resolved (begun_with 256 b)).call told n) (named_asked (resolved (begun_with 256 b)).call told n) h is in
     let p = subst (λ (y : ConnSeen). (q : Polled y c (beats.Ends (Err e))) × Refused y q.stopped (beats.Ends (Err e))) (begun_resolved b) one in
-    (a, r, inl (refl, refl), ([], turned_whole most first a c r waits shown (Ready (turns.Err e)) None whole (i.0, i.3, i.4, p.0.stopped, p.0.behind_is, goes_on most first a b c r waits shown (beats.Ends (Err e)) i p.0 (inr p.1), p.0.asked) (λ next z. absurd cc)))
+    (a, r, inl (refl, refl), ([], turned_whole most first a c r waits shown (Ready (turns.Err e)) None whole (i.0, i.3, i.4, p.0.stopped, p.0.behind_is, goes_on most first a b c r waits shown (beats.Ends (Err e)) i p.0 (inr p.1), p.0.asked)))
 
 turns_through : (polls most : ℕ) (first : StreamSeen) (a b c : ConnSeen) (r : Request) (waits : ℕ) (shown : List Item) (answer : Poll Turn) → waits < polls → a.broken ≡ None → IsPlayingOn None most first a b r waits shown → PollsThrough (begun_with 256 b) c answer → OfLast polls first (Turned most first c waits shown answer) a r
 turns_through polls most first a b c r waits shown answer l e i (now, begins, t) = starts begins
@@ -499,7 +495,7 @@ turns_through polls most first a b c r waits shown answer l e i (now, begins, t)
 turns_broken : (polls most : ℕ) (first : StreamSeen) (a b c : ConnSeen) (r : Request) (waits : ℕ) (shown : List Item) (answer : Poll Turn) (fault : ServerFault) → a.broken ≡ Some fault → IsPlayingOn (Some fault) most first a b r waits shown → PollsBy b.broken (begun_with 256 b) b c answer → OfLastOn polls first (Turned most first c waits shown answer) a r
 turns_broken polls most first a b c r waits shown answer fault e i p =
     let broke = subst (λ (k : Option ServerFault). PollsBy k (begun_with 256 b) b c answer) i.0 p in
-    ([], turned_whole most first a c r waits shown answer (Some fault) e (broke.0 ∙ sym i.1, broke.1, i.2, i.3, i.4) (fault_hands_none fault answer broke.1))
+    ([], turned_whole most first a c r waits shown answer (Some fault) e (broke.0 ∙ sym i.1, broke.1, i.2, i.3, i.4))
 
 polls_whole : (most : ℕ) (first : StreamSeen) (a b c : ConnSeen) (r : Request) (waits : ℕ) (shown : List Item) (answer : Poll Turn) → IsPlayingOn None most first a b r waits shown → PollsBy b.broken (begun_with 256 b) b c answer → PollsThrough (begun_with 256 b) c answer
 polls_whole most first a b c r waits shown answer i p = subst (λ (k : Option ServerFault). PollsBy k (begun_with 256 b) b c answer) (sym (resolved_broken b) ∙ i.5.broken) p
@@ -561,17 +557,17 @@ call_turns limits a b c r waits shown answer l (from, asked, inr looks, (later, 
 pub poll_goes : (limits : Limits) (a b c : ConnSeen) (r : Request) (waits : ℕ) (shown : List Item) → waits < limits.polls → IsCallPlaying limits a b r waits shown → PollsBy b.broken (begun_with 256 b) b c Pending → PollGives limits a c r (waits + 1) shown None
 poll_goes limits a b c r waits shown l i p =
     on_last limits.polls a.stream (Turned limits.most a.stream c waits shown Pending) (λ at asked. IsPlaying limits.most a.stream at c asked (waits + 1) shown) a r
-    (λ at asked h. goes_waits at.broken limits.most a.stream at c asked waits shown h.0) (call_turns limits a b c r waits shown Pending l i p)
+    (λ at asked h. goes_waits at.broken limits.most a.stream at c asked waits shown h) (call_turns limits a b c r waits shown Pending l i p)
 
 pub poll_drops : (limits : Limits) (a b c : ConnSeen) (r : Request) (waits : ℕ) (shown : List Item) → waits + 1 ≡ limits.polls → IsCallPlaying limits a b r waits shown → PollsBy b.broken (begun_with 256 b) b c Pending → PollGives limits a c r (waits + 1) shown (Some (pauses.Ended ends.Dropped))
 poll_drops limits a b c r waits shown k i p =
     on_last limits.polls a.stream (Turned limits.most a.stream c waits shown Pending) (λ at asked. StopsBy (bounds limits) a.stream at c asked shown ends.Dropped) a r
-    (λ at asked h. drops_waiting limits at.broken a.stream at c asked waits shown k refl h.0) (call_turns limits a b c r waits shown Pending (omega (arith, k)) i p)
+    (λ at asked h. drops_waiting limits at.broken a.stream at c asked waits shown k refl h) (call_turns limits a b c r waits shown Pending (omega (arith, k)) i p)
 
 -- an exchange whose end is the call's
 ends_ok : (limits : Limits) (first : StreamSeen) (a c : ConnSeen) (r : Request) (old new : Tally) (answer : CallAnswer) (end : End) → old.waits < limits.polls → Finishes answer old new end → Turned limits.most first c old.waits old.items.items (Ready (turns.Ok answer)) a r → StopsBy (bounds limits) first a c r new.items.items end
-ends_ok limits first a c r old new answer (ends.Ok told) l f h = goes_ok (bounds limits) a.broken first a c r old.waits old.items.items new.items.items answer told l refl f.1 f.2 (λ next e. h.1 next (ap (λ (x : CallAnswer). Ready (turns.Ok x)) e)) h.0
-ends_ok limits first a c r old new answer (ends.Err e) l f h = goes_unshown (bounds limits) a.broken first a c r old.waits old.items.items new.items.items answer e l refl f.1 f.2 f.3 h.0
+ends_ok limits first a c r old new answer (ends.Ok told) l f h = goes_ok (bounds limits) a.broken first a c r old.waits old.items.items new.items.items answer told l refl f.1 f.2 h
+ends_ok limits first a c r old new answer (ends.Err e) l f h = goes_unshown (bounds limits) a.broken first a c r old.waits old.items.items new.items.items answer e l refl f.1 f.2 f.3 h
 ends_ok limits first a c r old new answer ends.Dropped l f h = absurd f
 
 pub poll_ok : (limits : Limits) (a b c : ConnSeen) (r : Request) (old new : Tally) (answer : CallAnswer) (end : End) → old.waits < limits.polls → Finishes answer old new end → IsCallPlaying limits a b r old.waits old.items.items → PollsBy b.broken (begun_with 256 b) b c (Ready (turns.Ok answer))
@@ -583,19 +579,19 @@ poll_ok limits a b c r old new answer end l f i p =
 pub poll_err : (limits : Limits) (a b c : ConnSeen) (r : Request) (waits : ℕ) (shown : List Item) (e : Error) → waits < limits.polls → IsCallPlaying limits a b r waits shown → PollsBy b.broken (begun_with 256 b) b c (Ready (turns.Err e)) → PollGives limits a c r waits shown (Some (pauses.Ended (ends.Err e)))
 poll_err limits a b c r waits shown e l i p =
     on_last limits.polls a.stream (Turned limits.most a.stream c waits shown (Ready (turns.Err e))) (λ at asked. StopsBy (bounds limits) a.stream at c asked shown (ends.Err e)) a r
-    (λ at asked h. goes_err (bounds limits) at.broken a.stream at c asked waits shown e l refl h.0) (call_turns limits a b c r waits shown (Ready (turns.Err e)) l i p)
+    (λ at asked h. goes_err (bounds limits) at.broken a.stream at c asked waits shown e l refl h) (call_turns limits a b c r waits shown (Ready (turns.Err e)) l i p)
 
 playing_at : (o : Option ServerFault) (most : ℕ) (first : StreamSeen) (a c : ConnSeen) (r : Request) (w w' : ℕ) (is is' : List Item) → w' ≡ w → is' ≡ is → IsPlayingOn o most first a c r w is → IsPlayingOn o most first a c r w' is'
 playing_at o most first a c r w w' is is' x y h = subst (λ (n : ℕ). IsPlayingOn o most first a c r n is') (sym x) (subst (λ (t : List Item). IsPlayingOn o most first a c r w t) (sym y) h)
 
 shows : (limits : Limits) (first : StreamSeen) (a c : ConnSeen) (r : Request) (old new : Tally) (item : CallItem) → Adds limits item old new None → Turned limits.most first c old.waits old.items.items (Ready (turns.Item item)) a r → IsPlaying limits.most first a c r new.waits new.items.items
 shows limits first a c r old new item g h =
-    playing_at a.broken limits.most first a c r old.waits new.waits (old.items.items ++ item_of item ∷ []) new.items.items g.0 g.1 (goes_yields a.broken limits.most first a c r old.waits old.items.items item (rw g.1 at g.2) h.0)
+    playing_at a.broken limits.most first a c r old.waits new.waits (old.items.items ++ item_of item ∷ []) new.items.items g.0 g.1 (goes_yields a.broken limits.most first a c r old.waits old.items.items item (rw g.1 at g.2) h)
 
 -- the item is the last one that may be shown, or there is no memory for it
 stops_at : (limits : Limits) (first : StreamSeen) (a c : ConnSeen) (r : Request) (old new : Tally) (item : CallItem) (end : End) → old.waits < limits.polls → Adds limits item old new (Some (pauses.Ended end)) → Turned limits.most first c old.waits old.items.items (Ready (turns.Item item)) a r → StopsBy (bounds limits) first a c r new.items.items end
-stops_at limits first a c r old new item ends.Dropped l g h = drops_shown limits a.broken first a c r old.waits old.items.items new.items.items item l g.1 g.2 refl h.0
-stops_at limits first a c r old new item (ends.Err e) l g h = goes_unkept (bounds limits) a.broken first a c r old.waits old.items.items new.items.items item e l g.1 g.2 refl h.0
+stops_at limits first a c r old new item ends.Dropped l g h = drops_shown limits a.broken first a c r old.waits old.items.items new.items.items item l g.1 g.2 refl h
+stops_at limits first a c r old new item (ends.Err e) l g h = goes_unkept (bounds limits) a.broken first a c r old.waits old.items.items new.items.items item e l g.1 g.2 refl h
 stops_at limits first a c r old new item (ends.Ok told) l g h = absurd g
 
 pub poll_item : (limits : Limits) (a b c : ConnSeen) (r : Request) (old new : Tally) (item : CallItem) (pause : Option Pause) → old.waits < limits.polls → Adds limits item old new pause → IsCallPlaying limits a b r old.waits old.items.items → PollsBy b.broken (begun_with 256 b) b c (Ready (turns.Item item))
@@ -642,7 +638,7 @@ opens (Some fault) most first a c r waits shown opened e h = let x = h.1 in absu
 pub poll_opened : (limits : Limits) (a b c : ConnSeen) (r : Request) (waits : ℕ) (shown : List Item) (opened : CopyResponseData) → waits < limits.polls → IsCallPlaying limits a b r waits shown → PollsBy b.broken (begun_with 256 b) b c (Ready (turns.Opened opened)) → PollGives limits a c r waits shown (Some pauses.Opened)
 poll_opened limits a b c r waits shown opened l i p =
     on_last limits.polls a.stream (Turned limits.most a.stream c waits shown (Ready (turns.Opened opened))) (λ at asked. IsCopying limits.most a.stream at c asked waits shown) a r
-    (λ at asked h. opens at.broken limits.most a.stream at c asked waits shown opened refl h.0) (call_turns limits a b c r waits shown (Ready (turns.Opened opened)) l i p)
+    (λ at asked h. opens at.broken limits.most a.stream at c asked waits shown opened refl h) (call_turns limits a b c r waits shown (Ready (turns.Opened opened)) l i p)
 
 unopened_in : (later : List Request) (polls most : ℕ) (first : StreamSeen) (a b : ConnSeen) (r : Request) (waits : ℕ) (shown : List Item) → (main_kind r ≡ kinds.CopyIn → ⊥) → OfLastIn later polls first (λ at asked. IsCopying most first at b asked waits shown) a r → ⊥
 unopened_in [] polls most first a b r waits shown n p = n (copies_main r p.1.5.kind)

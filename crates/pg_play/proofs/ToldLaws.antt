@@ -36,7 +36,7 @@ use Rattle.pg_script.specs.declared.step.Step.{Step}
 use Rattle.pg_learning.specs.declared.learnt.Learnt.{Learnt}
 use Rattle.pg_conn.specs.Looking.{Learns}
 use Rattle.pg_play.specs.Shown.{request_of, items_in, shown_by, answered_by, waits_to_show, item_of, items_with, answer_of}
-use Rattle.pg_play.specs.Calls.{Bounds, Went, EndsOn, Counted, asking, all_groups}
+use Rattle.pg_play.specs.Calls.{Bounds, Went, EndsOn, Counted, asking, all_groups, AnswersBy}
 use Rattle.pg_request.specs.declared.progress.CacheStep.TheVariants as cache
 use Rattle.pg_play.specs.Places.{Place, ended, main_frames, response_within, drained, unfed, is_fine, refuses_copy, Queues, queued_by, Queued}
 use Rattle.pg_play.specs.Told.{Carry, HasNoError, IsWell, WellAtOk, AnswersError, Told, Numbers}
@@ -208,7 +208,7 @@ fine_carries start at a d call said hs items items' ledger copied st s f = elim 
     nothing (m ∷ ms) e = absurd cc
 
 well_by : (start : StreamSeen) (at : Place) (a b : ConnSeen) (step : Step) (out : Outcome) (said : List FrontendMessage) (fs : List Frame) (items items' : List CallItem) (answer : CallAnswer) (told : Answer) (response : List BackendMessage) (copied : Bool) → StandsAt start at a
-    → (s : Summary a.ledger (request_of at.rule.depth step.call) said (heard fs) items' b.ledger copied) → (f : IsFine a.ledger (request_of at.rule.depth step.call) said (heard fs) items b.ledger) → answer_by (request_of at.rule.depth step.call) f.reply f.status ≡ Ok answer
+    → (s : Summary a.ledger (request_of at.rule.depth step.call) said (heard fs) items' b.ledger copied) → (f : IsFine a.ledger (request_of at.rule.depth step.call) said (heard fs) items b.ledger) → AnswersBy (answer_by (request_of at.rule.depth step.call) f.reply f.status) (Ok answer)
     → out.items ≡ items_with (map item_of items) answer → told ≡ answer_of answer → own_items (request_of at.rule.depth step.call) response ≡ own_items (request_of at.rule.depth step.call) f.reply → b.stream.unsent ≡ [] → IsWell step out told response (heard fs) (next_place at b said s.own fs out.end)
 well_by start at a b step out said fs items items' answer told response copied st s f e k t same sent =
     let xs = own_items (request_of at.rule.depth step.call) f.reply in

@@ -1,5 +1,5 @@
 -- Internal: what a play of one call says, in the words of the connection.
-use Rattle.std.specs.Prelude.{◌≡◌, ◌≢◌, ℕ, ℤ, min, ◌+◌, ◌-◌, ◌*◌, ◌^◌, ◌<◌, ◌≤◌, ◌⊎◌, true, false, count_by, List, [], ◌∷◌, ◌++◌, length, map, Option, Some, None, Ok, if◌then◌else◌}
+use Rattle.std.specs.Prelude.{◌≡◌, ◌≢◌, ℕ, ℤ, min, ◌+◌, ◌-◌, ◌*◌, ◌^◌, ◌<◌, ◌≤◌, ◌⊎◌, true, false, count_by, List, [], ◌∷◌, ◌++◌, length, map, Result, Option, Some, None, Ok, if◌then◌else◌}
 use Rattle.pg_script.specs.declared.step.Call.TheVariants as script_calls
 use Rattle.pg_wire.specs.declared.error.Error.{Error}
 use Rattle.pg_wire.specs.declared.error.Error.TheVariants as errors
@@ -23,7 +23,10 @@ use Rattle.pg_call.specs.declared.calling.Call.TheVariants as calls
 use Rattle.pg_call.specs.Requests.{Group, spelled, CanBeSaid, IsRefusal, change_of, keeping_of, kind_of}
 use Rattle.pg_call.specs.Drains.{is_error}
 use Rattle.pg_call.specs.Hearing.{IsOpen}
-use Rattle.pg_call.specs.Calls.{CallIs, CallEnds, EndsFine, IsFine, Leaves}
+use Rattle.pg_call.specs.declared.ledger.Ledger.{Ledger}
+use Rattle.pg_call.specs.declared.calling.Beat.{Beat}
+use Rattle.pg_call.specs.declared.calling.Beat.TheVariants as beats
+use Rattle.pg_call.specs.Calls.{CallIs, EndsFine, IsFine, Leaves, answer_by}
 use Rattle.pg_conn.specs.Connections.{ConnSeen, idle, begins_copy, ends_copy, unfed, ended as ended_conn, ConnOf, settled, cleaned, handed, resolved, runs, rolled_back, standing, started_call, with_messages}
 use Rattle.pg_call.specs.declared.kind.Change.{Change}
 use Rattle.pg_call.specs.declared.kind.Change.TheVariants as changes
@@ -221,10 +224,20 @@ EndsByError most a b r said hs shown e =
     ((items : List CallItem) × (shown ≡ map item_of items) × (length shown < most) × EndsBy a b a.ledger r said hs items e)
     ⊎ ((items : List CallItem) × (shown ≡ []) × (e ≡ errors.OutOfMemory) × IsFine a.ledger r said hs items b.ledger)
 
+-- what an exchange answers at its end; one that hands on the next one, nothing
+abbrev pub AnswersBy : Beat → Result CallAnswer Error → Type 0
+AnswersBy (beats.Ends told) answer = told ≡ answer
+AnswersBy (beats.HandsOn next) answer = Ok answers.Unit ≡ answer
+AnswersBy _ answer = ⊥
+
+-- all was asked, read and shown, and this is the answer to its reply
+abbrev pub IsAnswered : Ledger → Request → List FrontendMessage → List Frame → List CallItem → Ledger → CallAnswer → Type 0
+IsAnswered start r said hs items ledger answer = (f : IsFine start r said hs items ledger) × AnswersBy (answer_by r f.reply f.status) (Ok answer)
+
 -- what the end of an exchange says of all that it queued, heard and showed
 abbrev pub EndsOn : Option ServerFault → Bounds → StreamSeen → ConnSeen → ConnSeen → Request → List FrontendMessage → List Frame → List Item → End → Type 0
 EndsOn None limits first a b r said hs shown (ends.Ok told) =
-    (items : List CallItem) × (answer : CallAnswer) × (shown ≡ items_with (map item_of items) answer) × (length items < limits.most) × (told ≡ answer_of answer) × CallEnds a.ledger r said hs items b.ledger (Ok answer) × (b.stream.unsent ≡ [])
+    (items : List CallItem) × (answer : CallAnswer) × (shown ≡ items_with (map item_of items) answer) × (length items < limits.most) × (told ≡ answer_of answer) × IsAnswered a.ledger r said hs items b.ledger answer × (b.stream.unsent ≡ [])
 EndsOn None limits first a b r said hs shown (ends.Err e) = EndsByError limits.most a b r said hs shown e
 EndsOn None limits first a b r said hs shown ends.Dropped =
     (items : List CallItem) × (shown ≡ map item_of items) × (l : Leaves a.ledger r said hs items b.ledger false) × (count_by is_error hs ≡ 0) × IsDropped limits first a b l.own l.reply shown × (length shown ≤ limits.most)
@@ -308,7 +321,7 @@ pub record HandedOn (polls : ℕ) (first : StreamSeen) (a m : ConnSeen) (r next 
   pub asked : a.change ≡ change_for r
   pub room : HasAllRoom a → HasAllRoom m
   pub over : m.call ≡ calls.Idle
-  pub ends : EndsFine a.ledger r said (heard fs) [] m.ledger (Ok (answers.Next next)) × (m.stream.unsent ≡ [])
+  pub ends : EndsFine a.ledger r said (heard fs) [] m.ledger (beats.HandsOn next) × (m.stream.unsent ≡ [])
   -- its first poll did not end it
   pub can : CanBeSaid r
   pub unsaid : IsHeldBack r → ⊥

@@ -93,7 +93,7 @@ impl Tally {
         ensures { Finishes answer self.old self.new result }
     {
         match answer {
-            CallAnswer::Unit | CallAnswer::Next(_) => End::Ok(Answer::Unit),
+            CallAnswer::Unit => End::Ok(Answer::Unit),
             CallAnswer::Statement(prepared) => End::Ok(described(prepared)),
             CallAnswer::Total(total) => End::Ok(Answer::Total(total.rows_affected())),
             CallAnswer::Rows(rows) => self.show(alloc, rows_of(alloc, rows.into_vec())),

@@ -1,6 +1,6 @@
 use Rattle.std.proofs.Common.{inl, inr, sym, ◌∙◌, arith}
 use Rattle.pg_conn.specs.Connections.{seen_by}
-use Rattle.pg_conn.proofs.TurnLaws.{answers_last, flushed, flush_done, flush_sayable, refused, refused_now, TakesBeat-then}
+use Rattle.pg_conn.proofs.TurnLaws.{flushed, flush_done, flush_sayable, refused, refused_now, TakesBeat-then}
 use Rattle.pg_conn.proofs.connection.PgConnection.beat.Goals as goal
 
 pub returns-then-is_flushed : goal.returns-then-is_flushed
@@ -8,7 +8,7 @@ returns-then-is_flushed g c =
     let s = c.end_sent.ensures in
     let a = seen_by g.L.Link.seen c.args.self.now in
     let done = sym c.if-is_flushed.ensures in
-    rw (s.now, s.beat) (record { beat = flushed a done; says = inl (flush_sayable a done); flush = flush_done a; asked = λ i. i; ends = λ e. absurd cc; falls = λ x. absurd (answers_last c.args.self.now.call x) })
+    rw (s.now, s.beat) (record { beat = flushed a done; says = inl (flush_sayable a done); flush = flush_done a; asked = λ i. i; ends = λ e. absurd cc; falls = λ x. absurd x })
 
 pub returns-in-Ok : goal.returns-in-Ok
 returns-in-Ok g c = record {
