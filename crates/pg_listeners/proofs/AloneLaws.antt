@@ -1,5 +1,5 @@
 -- A listener on a pool of its own: the one participant of a pool of one, and what it begins with.
-use Rattle.std.proofs.Common.{◌≡◌, ℕ, true, false, List, [], ◌∷◌, ◌++◌, ◌∙◌, Some, Result, Ok, ap, refl, subst, sym}
+use Rattle.std.proofs.Common.{◌≡◌, ℕ, true, false, List, [], ◌∷◌, ◌++◌, ◌∙◌, Some, Result, Ok, ap, refl}
 use Rattle.pg_wire.specs.declared.error.Error.{Error}
 use Rattle.pg_options.specs.Options.{ConnectOptions}
 use Rattle.pg_conn.specs.Dials.{DialSeen}
@@ -23,6 +23,6 @@ the_first name (x ∷ y ∷ xs) s e = absurd cc
 
 -- it begins over such a pool, and ignores a close of it
 pub begins_alone : {D A : Type 0} (dial_of : D → DialSeen) (most name : ℕ) (options : Result ConnectOptions Error) (read : ConnectOptions) (dial : D) (pool : PoolSeen) (seat : SeatSeen) (l : ListenerOf (PoolSourceOf PoolSeen SeatSeen D) (HeldOf A) (FillingOf A) A) → options ≡ Ok read → pool ≡ record { name = name; options = read } → IsFirst name seat
-    → l.source ≡ pool_source (λ p. p) (λ s. s) dial_of most pool seat dial → l.hearing ≡ fresh_hearing pool.name true → BeginsAlone name options dial (Some l) false
+    → l.source ≡ pool_source (λ p. p) (λ s. s) dial_of most pool seat dial → l.hearing ≡ fresh_hearing pool.name true → BeginsAlone dial_of most name options dial (Some l) false
 begins_alone {D} {A} dial_of most name options read dial pool seat l is made first over h =
-    (read, l, is, refl, (ap (λ (x : PoolSourceOf PoolSeen SeatSeen D). x.pool) over ∙ made, subst (λ (x : PoolSourceOf PoolSeen SeatSeen D). IsFirst name x.seat) (sym over) first, ap (λ (x : PoolSourceOf PoolSeen SeatSeen D). x.dial) over, h ∙ ap (λ (x : PoolSeen). fresh_hearing {C = HeldOf A} {S = FillingOf A} {A = A} x.name true) made), refl)
+    (read, l, is, refl, (seat, first, over ∙ ap (λ (p : PoolSeen). pool_source (λ p. p) (λ s. s) dial_of most p seat dial) made, h ∙ ap (λ (x : PoolSeen). fresh_hearing {C = HeldOf A} {S = FillingOf A} {A = A} x.name true) made), refl)

@@ -15,12 +15,13 @@ use Rattle.pg_pool.specs.Seats.{SeatSeen}
 use Rattle.pg_listen.specs.Handed.{FillingOf, HeldOf, PoolSeen}
 use Rattle.pg_listen.specs.declared.handed.Released.{Released}
 use Rattle.pg_reconnect.specs.Failing.{BesideSeen, CausedBy, Fails, beside_of}
-use Rattle.pg_reconnect.specs.Sources.{PoolSourceOf, SourceSeen}
+use Rattle.pg_reconnect.specs.Sources.{PoolSourceOf, SourceSeen, pool_source}
 use Rattle.pg_reconnect.specs.Hearing.{HearingOf, HearsBy, channels_at_ok, fresh_hearing, is_changing, stored_first}
 use Rattle.pg_reconnect.specs.Leaving.{NotesClosed, OnReleased}
 use Rattle.pg_reconnect.specs.Querying.{Queries}
 use Rattle.pg_reconnect.specs.Waiting.{WaitsBy}
 use Rattle.pg_conn.specs.Connections.{ConnOf}
+use Rattle.pg_conn.specs.Dials.{DialSeen}
 
 -- where its connections come from, and what it hears
 pub record ListenerOf (B C S A : Type 0) : Type 0 where
@@ -126,13 +127,13 @@ Connects seen conn with_conn filling now (Some a) after answer = ⊥
 abbrev pub IsFirst : ℕ → SeatSeen → Type 0
 IsFirst name s = (s.number ≡ 0) × (s.name ≡ name) × (s.receipts ≡ []) × (s.ids ≡ [])
 
--- it stands over a new pool of these options, which it alone has, and ignores a close of it
-abbrev pub StandsAlone : {D A : Type 0} → ℕ → ConnectOptions → D → ListenerOf (PoolSourceOf PoolSeen SeatSeen D) (HeldOf A) (FillingOf A) A → Type 0
-StandsAlone name options dial l = (l.source.pool ≡ record { name = name; options = options }) × IsFirst name l.source.seat × (l.source.dial ≡ dial) × (l.hearing ≡ fresh_hearing name true)
+-- it stands over a new pool of these options, which it alone has with its first participant, and ignores a close of it
+abbrev pub StandsAlone : {D A : Type 0} → (D → DialSeen) → ℕ → ℕ → ConnectOptions → D → ListenerOf (PoolSourceOf PoolSeen SeatSeen D) (HeldOf A) (FillingOf A) A → Type 0
+StandsAlone seen most name options dial l = (seat : SeatSeen) × IsFirst name seat × (l.source ≡ pool_source (λ p. p) (λ s. s) seen most (record { name = name; options = options }) seat dial) × (l.hearing ≡ fresh_hearing name true)
 
 -- such a one is to connect, where the options could be read
-abbrev pub BeginsAlone : {D A : Type 0} → ℕ → Result ConnectOptions Error → D → Option (ListenerOf (PoolSourceOf PoolSeen SeatSeen D) (HeldOf A) (FillingOf A) A) → Bool → Type 0
-BeginsAlone {D} {A} name options dial listener is_over = (read : ConnectOptions) × (l : ListenerOf (PoolSourceOf PoolSeen SeatSeen D) (HeldOf A) (FillingOf A) A) × (options ≡ Ok read) × (listener ≡ Some l) × StandsAlone name read dial l × (is_over ≡ false)
+abbrev pub BeginsAlone : {D A : Type 0} → (D → DialSeen) → ℕ → ℕ → Result ConnectOptions Error → D → Option (ListenerOf (PoolSourceOf PoolSeen SeatSeen D) (HeldOf A) (FillingOf A) A) → Bool → Type 0
+BeginsAlone {D} {A} seen most name options dial listener is_over = (read : ConnectOptions) × (l : ListenerOf (PoolSourceOf PoolSeen SeatSeen D) (HeldOf A) (FillingOf A) A) × (options ≡ Ok read) × (listener ≡ Some l) × StandsAlone seen most name read dial l × (is_over ≡ false)
 
 -- it is handed on
 abbrev pub HandsOn : {W : Type 0} → Option W → Option W → Poll (Result W Error) → Type 0

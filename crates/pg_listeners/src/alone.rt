@@ -4,11 +4,11 @@ ghost use Rattle.pg_options.specs.FromUrl.{options_of_text};
 ghost use Rattle.pg_wire.specs.declared.error.Error.TheVariants.{OutOfMemory};
 ghost use Rattle.pg_listeners.specs.Listeners.{BeginsAlone, IsFirst};
 
-use crate::{Connect, Connecting, Listener};
+use crate::Connect;
+use crate::connecting::begin;
 use pg_conn::Dial;
 use pg_listen::{PgPool, PgPoolOptions, PoolLedger, PoolSeat};
 use pg_options::{PgConnectOptions, PgSettings};
-use pg_reconnect::PoolSource;
 use pg_stream::Link;
 use pg_wire::Error;
 use std::alloc::Global;
@@ -53,7 +53,7 @@ where
     requires most { G.most ≡ 1 }
     requires ledger { blank.name ≡ G.name }
     requires parts { (blank.parts ≡ G.parts) × (blank.parts ≡ 1) }
-    ensures ok { IfOk result (λ c. BeginsAlone name (options_of_text env.now url.now) dial c.listener c.is_over) }
+    ensures ok { IfOk result (λ c. BeginsAlone D.seen G.most name (options_of_text env.now url.now) dial c.listener c.is_over) }
     ensures err { IfErr result (λ e. (e.1 ≡ dial) × ((options_of_text env.now url.now ≡ Err e.0) ⊎ (e.0 ≡ OutOfMemory))) }
 {
     let options = match PgConnectOptions::from_str(alloc, env, url) {
@@ -61,11 +61,7 @@ where
         Err(e) => return Err((e, dial)),
     };
     match pool_of_one(alloc, name, options, blank) {
-        Ok((pool, seat)) => Ok(Connecting::over(Listener::over(
-            alloc,
-            PoolSource::new(pool, seat, dial),
-            true,
-        ))),
+        Ok((pool, seat)) => Ok(begin(alloc, pool, seat, dial, true)),
         Err(e) => Err((e, dial)),
     }
 }

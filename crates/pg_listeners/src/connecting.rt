@@ -21,6 +21,20 @@ pub struct Connecting<W> {
     is_over: bool,
 }
 
+// A listener on a pool, with a participant of it.
+pub(crate) fn begin<
+    G: PoolLedger,
+    P: PoolHolder<G, D::L>,
+    S: SeatHolder<Seat = PoolSeat<G>>,
+    D: Dial,
+>(alloc: Global, pool: P, seat: S, dial: D, ignores_close: bool) -> Connect<G, P, S, D>
+    requires { (S.seat seat).name ≡ (P.pool pool).name }
+    ensures listener { result.listener ≡ Some (record { source = pool_source P.pool S.seat D.seen G.most pool seat dial; hearing = fresh_hearing (P.pool pool).name ignores_close }) }
+    ensures over { result.is_over ≡ false }
+{
+    Connecting::over(Listener::over(alloc, PoolSource::new(pool, seat, dial), ignores_close))
+}
+
 /// A listener on a pool that it is lent, with a participant of it.
 pub fn connect_with<
     G: PoolLedger,
@@ -32,7 +46,7 @@ pub fn connect_with<
     ensures listener { result.listener ≡ Some (record { source = pool_source P.pool S.seat D.seen G.most pool seat dial; hearing = fresh_hearing (P.pool pool).name false }) }
     ensures over { result.is_over ≡ false }
 {
-    Connecting::over(Listener::over(alloc, PoolSource::new(pool, seat, dial), false))
+    begin(alloc, pool, seat, dial, false)
 }
 
 impl<W> Connecting<W> {
