@@ -109,6 +109,9 @@ module _ {C S A : Type 0} (seen : A → LinkSeen) (conn : C → ConnOf A) (with_
 pub wanting : {X P : Type 0} (e : Error) (result : Result X Error) → result ≡ Err e → P × (result ≡ Err errors.OutOfMemory) → e ≡ errors.OutOfMemory
 wanting e result is (same, memory) = cc
 
+pub refused_memory : {X : Type 0} (e : Error) (result : Result X Error) → result ≡ Err e → result ≡ Err errors.OutOfMemory → e ≡ errors.OutOfMemory
+refused_memory e result is memory = cc
+
 module _ {C S A : Type 0} (seen : A → LinkSeen) (conn : C → ConnOf A) where
   -- no connection was found
   pub not_found : (o : BesideSeen) (a b : HearingOf C S A) (e : Error) (link : Option A) → b.lost ≡ a.lost ++ option_to_list link → FindsNone seen o e link → (e ≡ errors.OutOfMemory) ⊎ FailsToFind seen conn o a b e

@@ -41,7 +41,10 @@ impl<B: ConnectionSource> Hearing<B> {
     {
         self.is_again = false;
         self.is_ready = false;
-        self.listening.save()?;
+        match self.listening.save() {
+            Ok(()) => {}
+            Err(e) => return Err(e),
+        }
         match self.lost.reserve(1) {
             Ok(()) => {}
             Err(_) => return Err(Error::OutOfMemory),
@@ -101,7 +104,10 @@ impl<B: ConnectionSource> Hearing<B> {
         ensures faults { OnOk result ((B.now source.new).faults ≡ (B.now source.old).faults) }
         ensures fails { IfErr result (λ e. (e ≡ Error.OutOfMemory) ⊎ FailsToFind B.L.seen B.Held.conn (beside_of (B.now source.old) (B.now source.new)) self.old self.new e) }
     {
-        self.lost.reserve(1)?;
+        match self.lost.reserve(1) {
+            Ok(()) => {}
+            Err(_) => return Err(Error::OutOfMemory),
+        }
         match source.find(rt, self.alloc) {
             Ok(Found::Held(held)) => {
                 self.hold(held);
@@ -292,9 +298,13 @@ where
             return Ok(());
         }
         self.is_again = false;
-        self.listening.listen_again()?;
-        self.is_again = true;
-        Ok(())
+        match self.listening.listen_again() {
+            Ok(()) => {
+                self.is_again = true;
+                Ok(())
+            }
+            Err(e) => Err(e),
+        }
     }
 
     // Moves the statement on that listens to all of them.

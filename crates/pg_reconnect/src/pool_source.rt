@@ -4,7 +4,7 @@ ghost use Rattle.pg_reconnect.specs.Sources.{pool_source};
 
 use crate::dialling::find;
 use crate::leaving::{close, refuse_closed};
-use crate::starting::{give_up, poll_startup};
+use crate::starting::{give_up, with_link};
 use crate::{ConnectionSource, Found, PoolHolder, SeatHolder};
 use pg_conn::Dial;
 use pg_listen::{EstablishPooled, PoolConnection, PoolLedger, PoolSeat, Released};
@@ -117,9 +117,16 @@ impl<
     where
         D::L: Drop,
     {
-        let pool = self.pool.pool_ref();
-        let seat = self.seat.seat_mut();
-        poll_startup(rt, startup, pool, seat, left)
+        let Some(state) = startup else { unreachable!() };
+        match state.poll_within(left) {
+            Poll::Pending => Poll::Pending,
+            Poll::Ready(answer) => {
+                let pool = self.pool.pool_ref();
+                let seat = self.seat.seat_mut();
+                let link = give_up(rt, startup.take(), pool, seat);
+                Poll::Ready(with_link(answer, link))
+            }
+        }
     }
 
     fn give_up<R: Wait>(
@@ -133,10 +140,12 @@ impl<
     }
 
     fn close<R: Wait>(&mut self, rt: &R, held: &mut Option<PoolConnection<D::L>>) -> Option<D::L> {
-        let pool = self.pool.pool_ref();
-        let seat = self.seat.seat_mut();
         match held.take() {
-            Some(held) => Some(close(rt, held, pool, seat)),
+            Some(held) => {
+                let pool = self.pool.pool_ref();
+                let seat = self.seat.seat_mut();
+                Some(close(rt, held, pool, seat))
+            }
             None => None,
         }
     }
@@ -146,10 +155,12 @@ impl<
         rt: &R,
         held: &mut Option<PoolConnection<D::L>>,
     ) -> Option<Released<D::L>> {
-        let pool = self.pool.pool_ref();
-        let seat = self.seat.seat_mut();
         match held.take() {
-            Some(held) => Some(held.release(rt, pool, seat)),
+            Some(held) => {
+                let pool = self.pool.pool_ref();
+                let seat = self.seat.seat_mut();
+                Some(held.release(rt, pool, seat))
+            }
             None => None,
         }
     }

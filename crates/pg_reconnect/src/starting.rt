@@ -1,12 +1,11 @@
 //! A start-up of a listener's connection.
-ghost use Rattle.std.specs.Prelude.{◌≡◌, ◌≤◌, IsSome, option_and_then};
+ghost use Rattle.std.specs.Prelude.{◌≡◌, option_and_then};
 ghost use Rattle.pg_startup.specs.Establishing.{kept_link};
-ghost use Rattle.pg_reconnect.specs.Leaving.{FillsOn, PollsStartUp, StartsIn, TicketIs, ended};
+ghost use Rattle.pg_reconnect.specs.Leaving.{TicketIs, ended};
 
 use crate::leaving::give_back;
 use pg_listen::{EstablishPooled, PgPool, PoolConnection, PoolLedger, PoolSeat, Ticket};
-use pg_stream::Link;
-use pg_wire::{Error, Poll};
+use pg_wire::Error;
 use std::sync::Wait;
 
 // The leave of a start-up that is given up, and its link.
@@ -37,8 +36,8 @@ pub(crate) fn give_up<G: PoolLedger, L, R: Wait>(
     link
 }
 
-// What a start-up that is over has answered, and the link of one that has failed.
-fn with_link<L: Drop>(
+/// What a start-up that is over has answered, and the link of one that has failed.
+pub(crate) fn with_link<L: Drop>(
     answer: Result<PoolConnection<L>, Error>,
     link: Option<L>,
 ) -> Result<PoolConnection<L>, (Error, Option<L>)>
@@ -50,32 +49,5 @@ fn with_link<L: Drop>(
             Ok(held)
         }
         Err(e) => Err((e, link)),
-    }
-}
-
-/// Moves a start-up on. Behind its end it is gone, and where it has failed its leave is given back, and its link handed back.
-pub(crate) fn poll_startup<G: PoolLedger, L: Link + Drop, R: Wait>(
-    rt: &R,
-    startup: &mut Option<EstablishPooled<L>>,
-    pool: &PgPool<G, L>,
-    seat: &mut PoolSeat<G>,
-    left: &mut u16,
-) -> Poll<Result<PoolConnection<L>, (Error, Option<L>)>>
-    requires starts { IsSome startup.old }
-    requires mine { StartsIn L.seen (λ f. f) pool.now.name startup.old }
-    requires theirs { seat.old.name ≡ pool.now.name }
-    requires left { left.old ≤ 256 }
-    ensures fills { FillsOn L.seen (λ h. h) (λ f. f) pool.now.name startup.new result }
-    ensures seat { seat.new.name ≡ seat.old.name }
-    ensures left { left.new ≤ left.old }
-    ensures polls { PollsStartUp L.seen (λ f. f) left.old left.new startup.old startup.new result }
-{
-    let Some(state) = startup else { unreachable!() };
-    match state.poll_within(left) {
-        Poll::Pending => Poll::Pending,
-        Poll::Ready(answer) => {
-            let link = give_up(rt, startup.take(), pool, seat);
-            Poll::Ready(with_link(answer, link))
-        }
     }
 }

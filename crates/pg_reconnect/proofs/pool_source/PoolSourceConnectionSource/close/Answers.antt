@@ -1,15 +1,11 @@
-use Rattle.std.proofs.Common.{◌∙◌, ap, sym}
+use Rattle.std.proofs.Common.{◌∙◌, sym}
 use Rattle.pg_reconnect.proofs.pool_source.PoolSourceConnectionSource.close.Goals as goal
-use Rattle.pg_reconnect.proofs.pool_source.PoolSourceConnectionSource.close.Goals.{in-Some, in-None}
 
-pub returns-clause-drops : goal.returns-clause-drops
-returns-clause-drops g c =
-    elim c.match-take.branch [
-      | in-Some w ↦
-          let is = sym c.take.ensures.value ∙ w.in-Some.is in
-          let seat = sym (g.met.S.SeatHolder.written c.self.inside.seat w.close.new.seat) ∙ sym (ap (λ i. g.S.SeatHolder.seat i.seat) w.self-inside-is) in
-          rw is (rw (← c.self.view_is) (rw (c.seat_mut-seat.ensures.value, seat) at w.close.ensures.drops))
-      | in-None w ↦
-          let is = sym c.take.ensures.value ∙ w.in-None.is in
-          rw is tt
-    ]
+pub returns-in-Some-clause-drops : goal.returns-in-Some-clause-drops
+returns-in-Some-clause-drops g c =
+    let is = sym c.take.ensures.value ∙ c.in-Some.is in
+    let seat = sym (g.met.S.SeatHolder.written c.self.inside.seat c.close.new.seat) in
+    rw is (rw (← c.self.view_is) (rw (c.seat_mut-seat.ensures.value, seat) at c.close.ensures.drops))
+
+pub returns-in-None-clause-drops : goal.returns-in-None-clause-drops
+returns-in-None-clause-drops g c = rw (sym c.take.ensures.value ∙ c.in-None.is) tt
