@@ -5,7 +5,7 @@
 #
 #     tests/live/listener.sh PROGRAM [PORT]
 #
-# PROGRAM is the built program `listener_cases`. Where this is run by root the server runs as the user `postgres`.
+# PROGRAM is the built program `pool_cases`. Where this is run by root the server runs as the user `postgres`.
 set -u
 port=54340
 . "$(dirname "$0")/session.sh"
@@ -82,7 +82,7 @@ def fall(first):
     return last + 1
 
 
-listener = subprocess.Popen([program, url, 'numbers'], stdout=subprocess.PIPE, text=True)
+listener = subprocess.Popen([program, url, 'listen', 'numbers'], stdout=subprocess.PIPE, text=True)
 threading.Thread(target=read, daemon=True).start()
 begun = time.monotonic()
 next_number, standing = 1, []

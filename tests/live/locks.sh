@@ -4,7 +4,7 @@
 #
 #     tests/live/locks.sh PROGRAM [PORT]
 #
-# PROGRAM is the built program of `migrating_cases`. Where this is run by root the server runs as the user `postgres`.
+# PROGRAM is the built program `cases`. Where this is run by root the server runs as the user `postgres`.
 set -u
 port=54337
 . "$(dirname "$0")/session.sh"

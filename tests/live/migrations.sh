@@ -3,7 +3,7 @@
 #
 #     tests/live/migrations.sh PROGRAM [PORT]
 #
-# PROGRAM is the built program of `migrating_cases`. Where this is run by root the server runs as the user `postgres`.
+# PROGRAM is the built program `cases`. Where this is run by root the server runs as the user `postgres`.
 set -u
 port=54338
 set -- "$1" "${2:-$port}"
@@ -26,7 +26,7 @@ same() {
 
 # the answers to the calls of a case, whose lines these are
 calls() {
-    printf '%s\n' 'case live' "url $at/played" "$@" > "$folder/case"
+    printf '%s\n' 'migration live' "url $at/played" "$@" > "$folder/case"
     "$program" "$folder/case" | tail -n +2 | sed 's/^  //; s/ok [0-9][0-9]*$/ok N/' | tr '\n' ','
 }
 

@@ -5,11 +5,13 @@
 mod calls;
 mod dialling;
 mod lines;
+mod links;
 mod opening;
 mod telling;
 
 pub use calls::{flush, ping};
 pub use dialling::{connect_over, connect_to, dialled};
 pub use lines::{behind, bytes, entry, number, read_event, reads};
+pub use links::{link, push_link};
 pub use opening::{accepted, connect, one_link, one_piece, open, options, start};
 pub use telling::{push_byte, push_bytes, push_error, push_sent, sent, word};

@@ -1,7 +1,8 @@
-//! Cases of the whole program, and of what no script reaches: the states of calls, and dials by themselves.
+//! Cases of the whole program, and of what no script reaches: the states of calls, migrations, databases and advisory locks, and dials by themselves.
 //!
-//! The cases stand in the files that its words name, with an empty line between two. It prints a line for each: `ok` and what the case
-//! is about, or else how it ended and what it wrote.
+//! The cases stand in the files that its words name, with an empty line between two. It prints a line for each: `ok` and what the case is about, or else how it
+//! ended and what it wrote; and of migrations, databases and locks what their calls answered. The word `dials` stands for the cases of dials. A word that is a
+//! URL, as `postgres://USER@HOST:PORT/DATABASE`, is a server on which two connections contend for a lock.
 #![tactic(auto)]
 
 mod calls;
@@ -9,6 +10,7 @@ mod case;
 mod dials;
 mod guards;
 mod holes;
+mod migrating;
 mod options;
 mod playing;
 mod states;
@@ -20,11 +22,32 @@ use crate::dials::{
 use crate::playing::play;
 use std::{env, fs, io};
 
+// What is told while the calls of a case are made.
+fn print_calls(rt: &HostRuntime, case: &str) -> io::Result<()> {
+    let mut told = String::new(rt.alloc());
+    migrating::play(rt, case, &mut told);
+    print!(rt; "{told}")
+}
+
+// What two connections do that contend for a lock.
+fn print_contention(rt: &HostRuntime, url: &str) -> io::Result<()> {
+    let mut told = String::new(rt.alloc());
+    migrating::contend(rt, url, &mut told);
+    print!(rt; "{told}")
+}
+
+fn play_case(rt: &HostRuntime, case: &str) -> io::Result<()> {
+    if migrating::names_calls(case) {
+        return print_calls(rt, case);
+    }
+    let told = play(rt.alloc(), case)?;
+    println!(rt; "{told}")
+}
+
 fn play_file(rt: &HostRuntime, file: &str) -> io::Result<()> {
     let text = fs::read_to_string(rt, file)?;
     for case in text.split("\n\n") {
-        let told = play(rt.alloc(), case)?;
-        println!(rt; "{told}")?;
+        play_case(rt, case)?;
     }
     Ok(())
 }
@@ -60,8 +83,12 @@ fn try_dials(rt: &HostRuntime) -> io::Result<()> {
 }
 
 fn main(rt: HostRuntime) -> io::Result<()> {
-    for file in env::args(&rt)?.skip(1) {
-        play_file(&rt, file.as_str())?;
+    for word in env::args(&rt)?.skip(1) {
+        match word.as_str() {
+            "dials" => try_dials(&rt)?,
+            url if url.starts_with("postgres://") => print_contention(&rt, url)?,
+            file => play_file(&rt, file)?,
+        }
     }
-    try_dials(&rt)
+    Ok(())
 }

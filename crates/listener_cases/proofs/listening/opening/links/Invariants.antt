@@ -1,5 +1,0 @@
-use Rattle.pg_conn.specs.Dials.{AreUncalled}
-use Rattle.listener_cases.proofs.listening.opening.links.Given as goal
-
-abbrev pub invariant-loop-events : goal.invariant-loop-events
-invariant-loop-events l = AreUncalled l.links.items

@@ -1,8 +1,0 @@
-use Rattle.std.proofs.Common.{◌≡◌, false, IsSome}
-use Rattle.listener_cases.proofs.listening.polling.connect.Given as goal
-
-abbrev pub invariant-loop : goal.invariant-loop
-invariant-loop g l = record {
-  over : l.state.is_over ≡ false;
-  listener : IsSome l.state.listener;
-}

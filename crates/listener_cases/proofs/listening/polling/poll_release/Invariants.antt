@@ -1,9 +1,0 @@
-use Rattle.std.proofs.Common.{◌≡◌, false, true}
-use Rattle.pg_listeners.specs.Listeners.{goes_on_in}
-use Rattle.listener_cases.proofs.listening.polling.poll_release.Given as goal
-
-abbrev pub invariant-loop : goal.invariant-loop
-invariant-loop g l = record {
-  over : l.state.is_over ≡ false;
-  goes : goes_on_in l.state.change l.state.listener ≡ true;
-}

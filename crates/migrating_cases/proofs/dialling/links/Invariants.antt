@@ -1,5 +1,0 @@
-use Rattle.pg_conn.specs.Dials.{AreUncalled}
-use Rattle.migrating_cases.proofs.dialling.links.Given as goal
-
-abbrev pub invariant-loop-lines : goal.invariant-loop-lines
-invariant-loop-lines l = AreUncalled l.links.items

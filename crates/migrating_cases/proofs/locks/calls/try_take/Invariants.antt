@@ -1,6 +1,0 @@
-use Rattle.pg_locking.specs.Flags.{IsAsking}
-use Rattle.pg_locking.specs.Held.{OnHeld}
-use Rattle.migrating_cases.proofs.locks.calls.try_take.Given as goal
-
-abbrev pub invariant-loop : goal.invariant-loop
-invariant-loop g l = OnHeld g.C.PgExecutor.conn (IsAsking l.state.call.asking) l.state.conn

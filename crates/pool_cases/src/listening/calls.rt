@@ -1,0 +1,168 @@
+//! The calls of a row on its listener.
+ghost use Rattle.std.specs.Prelude.{◌≡◌};
+
+use crate::listening::polling::{change, fetch_many, fetch_optional, recv, try_recv};
+use crate::listening::statements::{describe, described, prepare, prepared, shown};
+use crate::listening::telling::{
+    Shown, buffered, changed, counted, found, handed_out, received, tried,
+};
+use pg_conn::{Preparation, Query};
+use pg_listen::{PgPool, PoolLedger, PoolSeat};
+use pg_listeners::{ChannelChange, ConnectionSource, Listener};
+use pg_stream::MemoryLink;
+use pg_wire::{Error, Poll, Sequence, Text};
+use std::alloc::{AllocError, Global};
+use std::sync::Wait;
+
+pub(crate) type Pool<G> = PgPool<G, MemoryLink>;
+
+/// A call is polled so often at most.
+pub(crate) const POLLS: u32 = 8;
+
+// What is asked in each query.
+const SQL: &str = "SELECT";
+
+// The channel of a word, in which `~` stands for a zero byte.
+fn channel(alloc: Global, word: &str) -> Result<Text, AllocError> {
+    Ok(Text::from_string(word.replace(alloc, '~', "\0")?))
+}
+
+fn channels(alloc: Global, words: &str) -> Result<Sequence<Text>, AllocError> {
+    let mut channels = Sequence::new(alloc);
+    if words.is_empty() {
+        return Ok(channels);
+    }
+    for word in words.split(',') {
+        channels.push(channel(alloc, word)?)?;
+    }
+    Ok(channels)
+}
+
+// The change that a word names.
+fn change_of(alloc: Global, call: &str) -> Result<ChannelChange, AllocError> {
+    let (word, words) = call.split_once(':').unwrap_or((call, ""));
+    match word {
+        "listen" => Ok(ChannelChange::Listen(channel(alloc, words)?)),
+        "all" => Ok(ChannelChange::ListenAll(channels(alloc, words)?)),
+        "unlisten" => Ok(ChannelChange::Unlisten(channel(alloc, words)?)),
+        _ => Ok(ChannelChange::UnlistenAll),
+    }
+}
+
+fn raw(alloc: Global) -> Result<Query, Error> {
+    Query::raw(alloc, SQL)
+}
+
+// A query whose statement is kept.
+fn kept(alloc: Global) -> Result<Query, Error> {
+    Query::new(alloc, SQL)
+}
+
+fn preparation(alloc: Global) -> Result<Preparation, AllocError> {
+    Ok(Preparation::untyped(alloc, Text::from_str(alloc, SQL)?))
+}
+
+// A notification, or what was read before.
+fn hear<B, R>(rt: &R, out: &mut String, listener: &mut Listener<B>, call: &str)
+where
+    B: ConnectionSource,
+    B::L: Drop,
+    R: Wait,
+{
+    match call {
+        "recv" => received(out, recv(rt, listener, POLLS)),
+        "next" => buffered(out, listener.next_buffered()),
+        call => {
+            let polls = if call == "poll" { 1 } else { POLLS };
+            tried(out, try_recv(rt, listener, polls));
+        }
+    }
+}
+
+// A query or a statement.
+fn ask<B, R>(
+    rt: &R,
+    alloc: Global,
+    out: &mut String,
+    listener: &mut Listener<B>,
+    call: &str,
+) -> Result<(), Error>
+where
+    B: ConnectionSource,
+    B::L: Drop,
+    R: Wait,
+{
+    match call {
+        "many" => counted(out, fetch_many(rt, listener, raw(alloc)?, POLLS)),
+        "first" => found(out, fetch_optional(rt, listener, raw(alloc)?, POLLS)),
+        "row" => shown(out, fetch_optional(rt, listener, kept(alloc)?, POLLS)),
+        "prepare" => prepared(out, prepare(rt, listener, preparation(alloc)?)),
+        _ => described(out, describe(rt, listener, Text::from_str(alloc, SQL)?)),
+    }
+    Ok(())
+}
+
+/// A call of a row.
+pub(crate) fn make<B, R>(
+    rt: &R,
+    alloc: Global,
+    out: &mut String,
+    listener: &mut Listener<B>,
+    call: &str,
+) -> Result<(), Error>
+where
+    B: ConnectionSource,
+    B::L: Shown + Drop,
+    R: Wait,
+{
+    match call {
+        "recv" | "try" | "poll" | "next" => hear(rt, out, listener, call),
+        "many" | "first" | "row" | "prepare" | "describe" => ask(rt, alloc, out, listener, call)?,
+        "take" => handed_out(out, listener.take_lost()),
+        "lazy" => listener.eager_reconnect(false),
+        "ignore" => listener.ignore_pool_close_event(true),
+        call => changed(out, change(rt, listener, change_of(alloc, call)?, POLLS)),
+    }
+    Ok(())
+}
+
+fn close<G: PoolLedger, R: Wait>(
+    rt: &R,
+    alloc: Global,
+    pool: &Pool<G>,
+    other: &mut PoolSeat<G>,
+) -> Result<(), Error>
+    requires { other.old.name ≡ pool.now.name }
+    ensures { other.new.name ≡ other.old.name }
+{
+    let conns = pool.close(rt, alloc, other)?;
+    drop(conns);
+    Ok(())
+}
+
+/// The calls of a row, but the last one where that ends the listener.
+pub(crate) fn make_all<G, B, R>(
+    rt: &R,
+    alloc: Global,
+    out: &mut String,
+    pool: &Pool<G>,
+    other: &mut PoolSeat<G>,
+    listener: &mut Listener<B>,
+    calls: &str,
+) -> Result<(), Error>
+where
+    G: PoolLedger,
+    B: ConnectionSource,
+    B::L: Shown + Drop,
+    R: Wait,
+    requires { other.old.name ≡ pool.now.name }
+{
+    for call in calls.split(' ') {
+        match call {
+            "close" => close(rt, alloc, pool, other)?,
+            "release" | "stream" => {}
+            call => make(rt, alloc, out, listener, call)?,
+        }
+    }
+    Ok(())
+}
