@@ -20,30 +20,12 @@
 //
 // A line with another mark is a remark.
 
+use case_tools::{behind, entry};
 use std::alloc::{AllocError, Global};
-
-// What stands behind the mark of a line, if the line has this mark.
-fn behind<'a>(line: &'a str, mark: &str) -> Option<&'a str> {
-    let (first, rest) = line.split_once(' ').unwrap_or((line, ""));
-    if first == mark { Some(rest) } else { None }
-}
-
-/// What stands behind the first such mark of a case.
-pub(crate) fn entry<'a>(case: &'a str, mark: &str) -> Option<&'a str> {
-    for line in case.lines() {
-        if let Some(rest) = behind(line, mark) {
-            return Some(rest);
-        }
-    }
-    None
-}
 
 /// The number behind a mark, and 0 without it.
 pub(crate) fn number(case: &str, mark: &str) -> u64 {
-    match entry(case, mark) {
-        Some(digits) => digits.parse::<u64>().unwrap_or(0),
-        None => 0,
-    }
+    case_tools::number(case, mark, 0)
 }
 
 /// The text of the lines that have a mark.

@@ -37,7 +37,7 @@ fn print_contention(rt: &HostRuntime, url: &str) -> io::Result<()> {
 }
 
 fn play_case(rt: &HostRuntime, case: &str) -> io::Result<()> {
-    if migrating::names_calls(case) {
+    if migrating::is_case(case) {
         return print_calls(rt, case);
     }
     let told = play(rt.alloc(), case)?;

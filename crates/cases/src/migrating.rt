@@ -34,7 +34,7 @@ mod playing;
 mod telling;
 
 use crate::migrating::telling::push;
-pub(crate) use case::names_calls;
+pub(crate) use case::is_case;
 use case_tools::entry;
 pub(crate) use locks::contend;
 

@@ -1,5 +1,6 @@
-use crate::case::{entry, is_written, number, script, text, words};
+use crate::case::{is_written, number, script, text, words};
 use crate::states::play_states;
+use case_tools::entry;
 use pg_conn::MemoryDial;
 use pg_play::top;
 use pg_stream::{MemoryLink, MemorySink, MemorySource, ReadEvent};

@@ -2,10 +2,11 @@
 //! polled once, or where it has more polls, to the end of its items.
 
 use crate::calls::{Stand, close, keep, play_step, settled};
-use crate::case::{entry, script};
+use crate::case::script;
 use crate::guards::{give_up, transact};
 use crate::holes::filled;
 use crate::options::options;
+use case_tools::entry;
 use pg_conn::laws::at_statement;
 use pg_conn::{PgConnection, establish};
 use pg_options::PgConnectOptions;

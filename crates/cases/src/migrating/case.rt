@@ -14,7 +14,7 @@ fn subject(case: &str) -> Option<&str> {
 }
 
 /// Whether it is a case of migrations, databases or locks.
-pub(crate) fn names_calls(case: &str) -> bool {
+pub(crate) fn is_case(case: &str) -> bool {
     subject(case).is_some()
 }
 
