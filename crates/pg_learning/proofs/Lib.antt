@@ -1,2 +1,6 @@
 pub mod CrossingLaws
 pub mod PushLaws
+pub mod RowLaws
+pub mod ReadLaws
+pub mod UniqueLaws
+pub mod CauseLaws

@@ -12,7 +12,7 @@ use Rattle.pg_resolve.specs.Columns.{column_lookup}
 use Rattle.pg_resolve.specs.Resolving.{ResolverSeen, Queries, Ends, by_oid, no_rows}
 use Rattle.pg_resolve.specs.Settling.{Settles, KeepsSound, IsRefusal}
 use Rattle.pg_resolve.specs.Tables.{TablesSeen, KeepsPart, column_named, no_tables, with_row}
-use Rattle.pg_lookup.specs.Lookups.{IsTypeRow, IsColumnRow, IsNoRow, type_columns, column_columns}
+use Rattle.pg_learning.specs.Lookups.{IsTypeRow, IsColumnRow, IsNoRow, type_columns, column_columns}
 use Rattle.pg_learning.specs.declared.learnt.Learnt.{Learnt}
 use Rattle.pg_learning.specs.declared.learnt.Seeking.{Seeking}
 use Rattle.pg_learning.specs.declared.learnt.Seeking.TheVariants as seekings

@@ -5,9 +5,9 @@ ghost use Rattle.pg_resolve.specs.declared.row.ColumnResolverRow.{ColumnResolver
 ghost use Rattle.pg_resolve.specs.declared.row.TypeResolverRow.{TypeResolverRow as RowOf};
 ghost use Rattle.pg_resolve.specs.Settling.{IsRefusal, KeepsSound, Settles};
 ghost use Rattle.pg_resolve.specs.Tables.{KeepsPart, with_row};
-ghost use Rattle.pg_lookup.specs.Lookups.{IsColumnRow, IsNoRow, IsTypeRow, column_columns, type_columns};
+ghost use Rattle.pg_learning.specs.Lookups.{IsColumnRow, IsNoRow, IsTypeRow, column_columns, type_columns};
 
-use pg_lookup::{column_row, type_row};
+use crate::rows::{column_row, type_row};
 use pg_resolve::{ColumnResolver, Resolver, TableCache, TypeCache};
 use pg_wire::{DataRow, Error};
 use std::alloc::Global;

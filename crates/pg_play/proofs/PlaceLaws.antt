@@ -29,7 +29,7 @@ use Rattle.pg_call.specs.Hearing.{fails_of}
 use Rattle.pg_call.specs.Calls.{CallEnds, owner_failed}
 use Rattle.pg_call.proofs.DrainLaws.{after_nil, before_nil}
 use Rattle.pg_conn.specs.Connections.{ConnSeen, idle}
-use Rattle.pg_lookup.specs.Lookups.{Column, IsNoRow, column_columns, type_columns}
+use Rattle.pg_learning.specs.Lookups.{Column, IsNoRow, column_columns, type_columns}
 use Rattle.pg_resolve.specs.Tried.{unresolved}
 use Rattle.pg_learning.specs.declared.learnt.Learnt.{Learnt}
 use Rattle.pg_learning.specs.declared.learnt.Seeking.{Seeking}

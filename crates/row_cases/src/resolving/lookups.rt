@@ -3,7 +3,7 @@
 use crate::resolving::telling::{push_error, push_oid};
 use crate::row::{counted, put_value};
 use crate::telling::{push, push_number, push_quoted};
-use pg_lookup::{column_row, type_row};
+use pg_learning::{column_row, type_row};
 use pg_resolve::{ColumnResolverRow, TypeResolverRow};
 use pg_wire::{DataRow, Error, Oid, Text, decode_data_row};
 use std::alloc::Global;

@@ -1,4 +1,0 @@
-pub mod RowLaws
-pub mod ReadLaws
-pub mod UniqueLaws
-pub mod CauseLaws
