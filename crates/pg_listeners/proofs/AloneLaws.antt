@@ -6,8 +6,8 @@ use Rattle.pg_conn.specs.Dials.{DialSeen}
 use Rattle.pg_pool.specs.declared.seat.Receipt.{Receipt}
 use Rattle.pg_pool.specs.Seats.{SeatSeen}
 use Rattle.pg_listen.specs.Handed.{FillingOf, HeldOf, PoolSeen, new_seats, told_seats}
-use Rattle.pg_reconnect.specs.Hearing.{fresh_hearing}
-use Rattle.pg_reconnect.specs.Sources.{PoolSourceOf, pool_source}
+use Rattle.pg_listening.specs.Hearing.{fresh_hearing}
+use Rattle.pg_listening.specs.Sources.{PoolSourceOf, pool_source}
 use Rattle.pg_listeners.specs.Listeners.{BeginsAlone, IsFirst, ListenerOf}
 
 one_head : {T : Type 0} (x y : T) → x ∷ [] ≡ y ∷ [] → x ≡ y

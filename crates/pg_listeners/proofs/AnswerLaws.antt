@@ -3,8 +3,8 @@ use Rattle.std.proofs.Common.{Result, Ok, Err}
 use Rattle.futures.specs.declared.task.Poll.{Poll}
 use Rattle.futures.specs.declared.task.Poll.TheVariants.{Ready, Pending}
 use Rattle.pg_wire.specs.declared.error.Error.{Error}
-use Rattle.pg_reconnect.specs.Failing.{OnFailed}
-use Rattle.pg_reconnect.specs.Waiting.{OnPending}
+use Rattle.pg_listening.specs.Failing.{OnFailed}
+use Rattle.pg_listening.specs.Waiting.{OnPending}
 
 pub on_pending : {X : Type 0} (answer : Poll X) (P Q : Type 0) → (P → Q) → OnPending answer P → OnPending answer Q
 on_pending Pending P Q f p = f p

@@ -8,11 +8,11 @@ use Rattle.pg_stream.specs.Links.{LinkSeen}
 use Rattle.pg_listener.specs.declared.changing.ChannelChange.{ChannelChange}
 use Rattle.pg_pool.specs.Seats.{SeatSeen}
 use Rattle.pg_listen.specs.Handed.{FillingOf}
-use Rattle.pg_reconnect.specs.Failing.{BesideSeen, CausedBy}
-use Rattle.pg_reconnect.specs.Sources.{SourceSeen}
-use Rattle.pg_reconnect.specs.Hearing.{Changes, HearingOf, HearsBy, channels_at_ok}
-use Rattle.pg_reconnect.specs.Leaving.{NotesClosed}
-use Rattle.pg_reconnect.proofs.FailingLaws.{memory_fails}
+use Rattle.pg_listening.specs.Failing.{BesideSeen, CausedBy}
+use Rattle.pg_listening.specs.Sources.{SourceSeen}
+use Rattle.pg_listening.specs.Hearing.{Changes, HearingOf, HearsBy, channels_at_ok}
+use Rattle.pg_listening.specs.Leaving.{NotesClosed}
+use Rattle.pg_listening.proofs.FailingLaws.{memory_fails}
 use Rattle.pg_listeners.specs.Listeners.{CausedBehind, ListenerOf, MakesChange, beside_by, stored_by, wanted_by}
 use Rattle.pg_conn.specs.Connections.{ConnOf}
 

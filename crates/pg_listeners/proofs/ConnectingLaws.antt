@@ -5,10 +5,10 @@ use Rattle.futures.specs.declared.task.Poll.TheVariants.{Ready, Pending}
 use Rattle.pg_wire.specs.declared.error.Error.{Error}
 use Rattle.pg_stream.specs.Links.{LinkSeen}
 use Rattle.pg_listen.specs.Handed.{FillingOf}
-use Rattle.pg_reconnect.specs.Failing.{Fails}
-use Rattle.pg_reconnect.specs.Sources.{SourceSeen}
-use Rattle.pg_reconnect.specs.Leaving.{NotesClosed}
-use Rattle.pg_reconnect.specs.Waiting.{WaitsBy}
+use Rattle.pg_listening.specs.Failing.{Fails}
+use Rattle.pg_listening.specs.Sources.{SourceSeen}
+use Rattle.pg_listening.specs.Leaving.{NotesClosed}
+use Rattle.pg_listening.specs.Waiting.{WaitsBy}
 use Rattle.pg_listeners.specs.Listeners.{Connects, HandsOn, IsHeardOn, ListenerOf, beside_by}
 use Rattle.pg_conn.specs.Connections.{ConnOf}
 

@@ -15,13 +15,13 @@ use Rattle.pg_learning.specs.declared.learnt.Learnt.{Learnt}
 use Rattle.pg_describe.specs.Describing.{FitsNulls, HearsTurn, TellsTurn}
 use Rattle.pg_describe.specs.declared.description.Describe.{Describe}
 use Rattle.pg_listen.specs.Handed.{FillingOf}
-use Rattle.pg_reconnect.specs.Failing.{BesideSeen}
-use Rattle.pg_reconnect.specs.Sources.{SourceSeen}
-use Rattle.pg_reconnect.specs.Hearing.{HearingOf, learnt_of}
-use Rattle.pg_reconnect.specs.Leaving.{NotesClosed}
-use Rattle.pg_reconnect.specs.Querying.{NotesTurn, Queries, QueriesOn}
-use Rattle.pg_reconnect.specs.Waiting.{NotesBy}
-use Rattle.pg_reconnect.proofs.QueryingLaws.{query_fits}
+use Rattle.pg_listening.specs.Failing.{BesideSeen}
+use Rattle.pg_listening.specs.Sources.{SourceSeen}
+use Rattle.pg_listening.specs.Hearing.{HearingOf, learnt_of}
+use Rattle.pg_listening.specs.Leaving.{NotesClosed}
+use Rattle.pg_listening.specs.Querying.{NotesTurn, Queries, QueriesOn}
+use Rattle.pg_listening.specs.Waiting.{NotesBy}
+use Rattle.pg_listening.proofs.QueryingLaws.{query_fits}
 use Rattle.pg_listeners.specs.Describing.{GoesOn, PollsPrepare, PreparesIn, QueriesFrom, StaysDescribing}
 use Rattle.pg_listeners.specs.Listeners.{ListenerOf}
 use Rattle.pg_conn.specs.Connections.{ConnOf}

@@ -5,11 +5,11 @@ use Rattle.pg_wire.specs.declared.error.Error.{Error}
 use Rattle.pg_stream.specs.Links.{LinkSeen}
 use Rattle.pg_listen.specs.declared.handed.Released.{Released}
 use Rattle.pg_listen.specs.Handed.{FillingOf, HeldOf}
-use Rattle.pg_reconnect.specs.Failing.{Fails}
-use Rattle.pg_reconnect.specs.Sources.{SourceSeen}
-use Rattle.pg_reconnect.specs.Hearing.{HearingOf, HearsBy, is_changing}
-use Rattle.pg_reconnect.specs.Leaving.{OnReleased}
-use Rattle.pg_reconnect.specs.Waiting.{WaitsBy}
+use Rattle.pg_listening.specs.Failing.{Fails}
+use Rattle.pg_listening.specs.Sources.{SourceSeen}
+use Rattle.pg_listening.specs.Hearing.{HearingOf, HearsBy, is_changing}
+use Rattle.pg_listening.specs.Leaving.{OnReleased}
+use Rattle.pg_listening.specs.Waiting.{WaitsBy}
 use Rattle.pg_listeners.specs.Listeners.{ListenerOf, Releases, beside_by}
 use Rattle.pg_conn.specs.Connections.{ConnOf}
 

@@ -20,10 +20,10 @@ use Rattle.pg_nullable.specs.Nulls.{AsksNulls}
 use Rattle.pg_describe.specs.Describing.{HearsTurn, TellsAtOnce, TellsTooMany}
 use Rattle.pg_describe.specs.declared.description.Describe.{Describe}
 use Rattle.pg_listen.specs.Handed.{FillingOf}
-use Rattle.pg_reconnect.specs.Failing.{BesideSeen}
-use Rattle.pg_reconnect.specs.Sources.{SourceSeen}
-use Rattle.pg_reconnect.specs.Hearing.{HearingOf, learnt_of}
-use Rattle.pg_reconnect.specs.Querying.{IsQuerying, Queries}
+use Rattle.pg_listening.specs.Failing.{BesideSeen}
+use Rattle.pg_listening.specs.Sources.{SourceSeen}
+use Rattle.pg_listening.specs.Hearing.{HearingOf, learnt_of}
+use Rattle.pg_listening.specs.Querying.{IsQuerying, Queries}
 use Rattle.pg_listeners.specs.Listeners.{ListenerOf, QueriesIn, beside_by}
 use Rattle.pg_conn.specs.Connections.{ConnOf}
 

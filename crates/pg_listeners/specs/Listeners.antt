@@ -14,12 +14,12 @@ use Rattle.pg_listener.specs.declared.changing.ChannelChange.{ChannelChange}
 use Rattle.pg_pool.specs.Seats.{SeatSeen}
 use Rattle.pg_listen.specs.Handed.{FillingOf, HeldOf, PoolSeen}
 use Rattle.pg_listen.specs.declared.handed.Released.{Released}
-use Rattle.pg_reconnect.specs.Failing.{BesideSeen, CausedBy, Fails, beside_of}
-use Rattle.pg_reconnect.specs.Sources.{PoolSourceOf, SourceSeen, pool_source}
-use Rattle.pg_reconnect.specs.Hearing.{HearingOf, HearsBy, channels_at_ok, fresh_hearing, is_changing, stored_first}
-use Rattle.pg_reconnect.specs.Leaving.{NotesClosed, OnReleased}
-use Rattle.pg_reconnect.specs.Querying.{Queries}
-use Rattle.pg_reconnect.specs.Waiting.{WaitsBy}
+use Rattle.pg_listening.specs.Failing.{BesideSeen, CausedBy, Fails, beside_of}
+use Rattle.pg_listening.specs.Sources.{PoolSourceOf, SourceSeen, pool_source}
+use Rattle.pg_listening.specs.Hearing.{HearingOf, HearsBy, channels_at_ok, fresh_hearing, is_changing, stored_first}
+use Rattle.pg_listening.specs.Leaving.{NotesClosed, OnReleased}
+use Rattle.pg_listening.specs.Querying.{Queries}
+use Rattle.pg_listening.specs.Waiting.{WaitsBy}
 use Rattle.pg_conn.specs.Connections.{ConnOf}
 use Rattle.pg_conn.specs.Dials.{DialSeen}
 

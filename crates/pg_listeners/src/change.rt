@@ -1,12 +1,12 @@
 //! The calls of a listener that change its channels.
 ghost use Rattle.std.specs.Prelude.{◌≡◌, true, false, [], None, Some};
-ghost use Rattle.pg_reconnect.specs.Hearing.{HearsBy};
-ghost use Rattle.pg_reconnect.specs.Waiting.{NotesBy};
+ghost use Rattle.pg_listening.specs.Hearing.{HearsBy};
+ghost use Rattle.pg_listening.specs.Waiting.{NotesBy};
 ghost use Rattle.pg_listeners.specs.Listeners.{CausedBegun, MakesChange, beside_by, goes_on, is_answered};
 
 use crate::answering::is_answered;
 use crate::{ChannelChange, Listener, PgListener};
-use pg_reconnect::ConnectionSource;
+use pg_listening::ConnectionSource;
 use pg_wire::{Error, Poll, Sequence, Text};
 use std::sync::Wait;
 

@@ -1,13 +1,13 @@
 //! How a listener begins.
 ghost use Rattle.std.specs.Prelude.{◌≡◌, true, false, None, Some, IsSome, is_some};
-ghost use Rattle.pg_reconnect.specs.Hearing.{fresh_hearing};
-ghost use Rattle.pg_reconnect.specs.Sources.{pool_source};
+ghost use Rattle.pg_listening.specs.Hearing.{fresh_hearing};
+ghost use Rattle.pg_listening.specs.Sources.{pool_source};
 ghost use Rattle.pg_listeners.specs.Listeners.{Connects, HandsOn, LetsGo, holds, is_answered};
 
 use crate::{Listener, PgListener, PoolHolder, SeatHolder};
 use pg_conn::Dial;
 use pg_listen::{PoolLedger, PoolSeat, Released};
-use pg_reconnect::{ConnectionSource, PoolSource};
+use pg_listening::{ConnectionSource, PoolSource};
 use pg_wire::{Error, Poll};
 use std::alloc::Global;
 use std::sync::Wait;

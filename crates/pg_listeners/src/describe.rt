@@ -3,9 +3,9 @@ ghost use Rattle.std.specs.Prelude.{◌≡◌, ◌≤◌, false, [], None, Some}
 ghost use Rattle.pg_call.specs.declared.kind.How.TheVariants as hows;
 ghost use Rattle.pg_call.specs.declared.kind.Kind.TheVariants as kinds;
 ghost use Rattle.pg_conn.specs.States.{to_prepare, untyped};
-ghost use Rattle.pg_reconnect.specs.Hearing.{HearsBy};
-ghost use Rattle.pg_reconnect.specs.Querying.{IsQuerying};
-ghost use Rattle.pg_reconnect.specs.Waiting.{NotesBy};
+ghost use Rattle.pg_listening.specs.Hearing.{HearsBy};
+ghost use Rattle.pg_listening.specs.Querying.{IsQuerying};
+ghost use Rattle.pg_listening.specs.Waiting.{NotesBy};
 ghost use Rattle.pg_listeners.specs.Describing.{DescribesIn, GoesOn, IsDescribing, PollsDescribe, PollsNulls, PollsPrepare, StaysDescribing};
 ghost use Rattle.pg_listeners.specs.Listeners.{is_answered};
 
@@ -15,8 +15,8 @@ use pg_call::Request;
 use pg_conn::{PgStatement, Preparation, prepare_request};
 use pg_describe::Describe;
 use pg_describe::telling::hear;
+use pg_listening::ConnectionSource;
 use pg_nullable::nulls_query;
-use pg_reconnect::ConnectionSource;
 use pg_wire::{Error, Poll, Text};
 use std::sync::Wait;
 

@@ -4,8 +4,8 @@ ghost use Rattle.pg_call.specs.Answers.{either_turn};
 ghost use Rattle.pg_call.specs.declared.kind.How.TheVariants as hows;
 ghost use Rattle.pg_call.specs.declared.kind.Kind.TheVariants as kinds;
 ghost use Rattle.pg_conn.specs.States.{ends_call, turn_of};
-ghost use Rattle.pg_reconnect.specs.Hearing.{HearsBy};
-ghost use Rattle.pg_reconnect.specs.Querying.{IsQuerying, NotesTurn, QueriesOn};
+ghost use Rattle.pg_listening.specs.Hearing.{HearsBy};
+ghost use Rattle.pg_listening.specs.Querying.{IsQuerying, NotesTurn, QueriesOn};
 ghost use Rattle.pg_listeners.specs.Listeners.{QueriesIn, beside_by};
 
 use crate::answering::ends_call;
@@ -13,7 +13,7 @@ use crate::{Listener, PgListener};
 use either::Either;
 use pg_call::Request;
 use pg_conn::{PgQueryResult, PgRow, Query};
-use pg_reconnect::ConnectionSource;
+use pg_listening::ConnectionSource;
 use pg_wire::{Error, Poll};
 use std::sync::Wait;
 

@@ -24,8 +24,9 @@ pub use fetch_many::{FetchMany, FetchingMany};
 pub use fetch_optional::{FetchOptional, FetchingOptional};
 pub use listener::{Listener, PgListener};
 pub use pg_describe::Describe;
-pub use pg_listening::{ChannelChange, PgNotification};
-pub use pg_reconnect::{ConnectionSource, PoolHolder, PoolSource, SeatHolder};
+pub use pg_listening::{
+    ChannelChange, ConnectionSource, PgNotification, PoolHolder, PoolSource, SeatHolder,
+};
 pub use prepare::{PrepareWith, Preparing};
 pub use receive::{Receiving, Recv, TryReceiving, TryRecv};
 pub use release::{Release, Releasing};

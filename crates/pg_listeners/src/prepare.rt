@@ -2,9 +2,9 @@
 ghost use Rattle.std.specs.Prelude.{◌≡◌, false, [], None, Some};
 ghost use Rattle.pg_call.specs.declared.kind.Kind.TheVariants as kinds;
 ghost use Rattle.pg_conn.specs.States.{to_prepare};
-ghost use Rattle.pg_reconnect.specs.Hearing.{HearsBy};
-ghost use Rattle.pg_reconnect.specs.Querying.{IsQuerying};
-ghost use Rattle.pg_reconnect.specs.Waiting.{NotesBy};
+ghost use Rattle.pg_listening.specs.Hearing.{HearsBy};
+ghost use Rattle.pg_listening.specs.Querying.{IsQuerying};
+ghost use Rattle.pg_listening.specs.Waiting.{NotesBy};
 ghost use Rattle.pg_listeners.specs.Describing.{PreparesIn, StaysQuerying};
 ghost use Rattle.pg_listeners.specs.Listeners.{beside_by, is_answered};
 
@@ -12,7 +12,7 @@ use crate::answering::is_answered;
 use crate::{Listener, PgListener};
 use pg_call::Request;
 use pg_conn::{PgStatement, Preparation, prepare_request};
-use pg_reconnect::ConnectionSource;
+use pg_listening::ConnectionSource;
 use pg_wire::{Error, Poll};
 use std::sync::Wait;
 

@@ -2,14 +2,14 @@
 ghost use Rattle.std.specs.Prelude.{◌≡◌, true, false, []};
 ghost use Rattle.pg_conn.specs.News.{given};
 ghost use Rattle.pg_listening.specs.Buffers.{buffered};
-ghost use Rattle.pg_reconnect.specs.Failing.{OnFailed};
-ghost use Rattle.pg_reconnect.specs.Hearing.{GivesOldest, HearsBy, TellsLoss, buffers_of, gave_by};
-ghost use Rattle.pg_reconnect.specs.Waiting.{AsksClosed, NotesBy, OnNone, OnPending, ReadiesBy};
+ghost use Rattle.pg_listening.specs.Failing.{OnFailed};
+ghost use Rattle.pg_listening.specs.Hearing.{GivesOldest, HearsBy, TellsLoss, buffers_of, gave_by};
+ghost use Rattle.pg_listening.specs.Waiting.{AsksClosed, NotesBy, OnNone, OnPending, ReadiesBy};
 ghost use Rattle.pg_listeners.specs.Listeners.{Caused, FailsWithin, WaitsOrSpent, beside_by, is_answered};
 
 use crate::answering::is_answered;
 use crate::{Listener, PgListener, PgNotification};
-use pg_reconnect::ConnectionSource;
+use pg_listening::ConnectionSource;
 use pg_wire::{Error, Poll};
 use std::sync::Wait;
 

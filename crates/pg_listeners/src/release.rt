@@ -4,7 +4,7 @@ ghost use Rattle.pg_listeners.specs.Listeners.{LetsGo, Releases, goes_on_in, hol
 
 use crate::{ChannelChange, Listener, PgListener};
 use pg_listen::Released;
-use pg_reconnect::ConnectionSource;
+use pg_listening::ConnectionSource;
 use pg_wire::{Error, Poll};
 use std::sync::Wait;
 

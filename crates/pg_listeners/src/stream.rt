@@ -1,13 +1,13 @@
 //! The notifications of a listener, one after another.
 ghost use Rattle.std.specs.Prelude.{◌≡◌, [], false, is_some};
-ghost use Rattle.pg_reconnect.specs.Hearing.{HearsBy};
-ghost use Rattle.pg_reconnect.specs.Leaving.{NotesClosed, OnReleased};
-ghost use Rattle.pg_reconnect.specs.Waiting.{OnPending};
+ghost use Rattle.pg_listening.specs.Hearing.{HearsBy};
+ghost use Rattle.pg_listening.specs.Leaving.{NotesClosed, OnReleased};
+ghost use Rattle.pg_listening.specs.Waiting.{OnPending};
 ghost use Rattle.pg_listeners.specs.Listeners.{AnswersNone, FailsWithin, OnTold, WaitsOrSpent, beside_by, ends_by, told_by};
 
 use crate::{Listener, PgNotification};
 use pg_listen::Released;
-use pg_reconnect::ConnectionSource;
+use pg_listening::ConnectionSource;
 use pg_wire::{Error, Poll};
 use std::sync::Wait;
 

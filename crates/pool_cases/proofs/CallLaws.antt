@@ -10,9 +10,9 @@ use Rattle.pg_conn.specs.Connections.{ConnOf}
 use Rattle.pg_listen.specs.Handed.{FillingOf, HeldOf}
 use Rattle.pg_listener.specs.declared.changing.ChannelChange.{ChannelChange}
 use Rattle.pg_listening.specs.Listening.{CallsOn, FitsOn}
-use Rattle.pg_reconnect.specs.Hearing.{HearingOf, is_changing}
-use Rattle.pg_reconnect.specs.Querying.{IsQuerying, QueriesOn}
-use Rattle.pg_reconnect.specs.Sources.{SourceSeen}
+use Rattle.pg_listening.specs.Hearing.{HearingOf, is_changing}
+use Rattle.pg_listening.specs.Querying.{IsQuerying, QueriesOn}
+use Rattle.pg_listening.specs.Sources.{SourceSeen}
 use Rattle.pg_listeners.specs.Listeners.{Connects, ListenerOf, Releases, goes_on, goes_on_in}
 
 -- it still has its listener

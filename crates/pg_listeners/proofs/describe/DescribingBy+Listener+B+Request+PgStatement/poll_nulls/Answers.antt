@@ -1,7 +1,7 @@
 use Rattle.std.proofs.Common.{refl}
 use Rattle.pg_call.specs.declared.kind.How.TheVariants as hows
 use Rattle.pg_call.specs.declared.kind.Kind.TheVariants as kinds
-use Rattle.pg_reconnect.proofs.QueryingLaws.{queries_on, runs_none_cleared}
+use Rattle.pg_listening.proofs.QueryingLaws.{queries_on, runs_none_cleared}
 use Rattle.pg_listeners.specs.Listeners.{beside_by}
 use Rattle.pg_listeners.proofs.DescribingLaws.{notes_heard, nulls_fit, nulls_stay}
 use Rattle.pg_listeners.proofs.describe.DescribingBy+Listener+B+Request+PgStatement.poll_nulls.Goals as goal

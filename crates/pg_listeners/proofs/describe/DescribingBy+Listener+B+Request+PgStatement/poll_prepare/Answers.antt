@@ -2,9 +2,9 @@ use Rattle.std.proofs.Common.{◌∙◌, [], ap, refl}
 use Rattle.std.proofs.Math.Nat.{le_trans}
 use Rattle.futures.specs.declared.task.Poll.TheVariants.{Pending, Ready}
 use Rattle.pg_call.specs.declared.kind.Kind.TheVariants as kinds
-use Rattle.pg_reconnect.specs.Hearing.{learnt_of}
-use Rattle.pg_reconnect.proofs.BufferingLaws.{hears_behind}
-use Rattle.pg_reconnect.proofs.QueryingLaws.{queries_on, query_fits}
+use Rattle.pg_listening.specs.Hearing.{learnt_of}
+use Rattle.pg_listening.proofs.BufferingLaws.{hears_behind}
+use Rattle.pg_listening.proofs.QueryingLaws.{queries_on, query_fits}
 use Rattle.pg_listeners.specs.Listeners.{beside_by}
 use Rattle.pg_listeners.proofs.DescribingLaws.{notes_told, prepare_fails, prepare_goes, prepare_waits, prepares_none_cleared}
 use Rattle.pg_listeners.proofs.describe.DescribingBy+Listener+B+Request+PgStatement.poll_prepare.Goals as goal

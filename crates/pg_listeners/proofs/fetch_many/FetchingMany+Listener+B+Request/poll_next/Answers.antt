@@ -4,8 +4,8 @@ use Rattle.pg_call.specs.declared.answer.Turn.{Turn}
 use Rattle.pg_call.specs.declared.kind.How.TheVariants as hows
 use Rattle.pg_call.specs.declared.kind.Kind.TheVariants as kinds
 use Rattle.pg_conn.specs.States.{ends_call}
-use Rattle.pg_reconnect.specs.Querying.{NotesTurn, Queries, QueriesOn}
-use Rattle.pg_reconnect.proofs.QueryingLaws.{queries_on, query_fits, runs_none_cleared}
+use Rattle.pg_listening.specs.Querying.{NotesTurn, Queries, QueriesOn}
+use Rattle.pg_listening.proofs.QueryingLaws.{queries_on, query_fits, runs_none_cleared}
 use Rattle.pg_listeners.specs.Listeners.{beside_by}
 use Rattle.pg_listeners.proofs.fetch_many.FetchingMany+Listener+B+Request.poll_next.Goals as goal
 

@@ -1,5 +1,5 @@
 use Rattle.std.proofs.Common.{refl}
-use Rattle.pg_reconnect.proofs.HearingLaws.{hears_nothing}
+use Rattle.pg_listening.proofs.HearingLaws.{hears_nothing}
 use Rattle.pg_listeners.proofs.listener.Listener.begin_asked.Goals as goal
 
 pub returns-in-None-clause-hears : goal.returns-in-None-clause-hears

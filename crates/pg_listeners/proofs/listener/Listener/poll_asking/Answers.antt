@@ -1,8 +1,8 @@
 use Rattle.std.proofs.Common.{[], ap, inr, refl}
 use Rattle.std.proofs.Math.Nat.{le_refl}
-use Rattle.pg_reconnect.proofs.BufferingLaws.{hears_behind}
-use Rattle.pg_reconnect.proofs.FailingLaws.{notes_caused, wanting}
-use Rattle.pg_reconnect.proofs.HearingLaws.{hears_nothing}
+use Rattle.pg_listening.proofs.BufferingLaws.{hears_behind}
+use Rattle.pg_listening.proofs.FailingLaws.{notes_caused, wanting}
+use Rattle.pg_listening.proofs.HearingLaws.{hears_nothing}
 use Rattle.pg_listeners.proofs.BesideLaws.{begun_causes, changes_begun, notes_wanting, unbegun}
 use Rattle.pg_listeners.proofs.listener.Listener.poll_asking.Goals as goal
 

@@ -1,4 +1,4 @@
-use Rattle.pg_reconnect.proofs.FailingLaws.{notes_caused}
+use Rattle.pg_listening.proofs.FailingLaws.{notes_caused}
 use Rattle.pg_listeners.proofs.listener.Listener.poll_connect.Goals as goal
 
 pub returns : goal.returns

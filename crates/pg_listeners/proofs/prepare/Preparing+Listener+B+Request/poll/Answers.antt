@@ -1,8 +1,8 @@
 use Rattle.std.proofs.Common.{refl}
 use Rattle.futures.specs.declared.task.Poll.TheVariants.{Pending, Ready}
 use Rattle.pg_call.specs.declared.kind.Kind.TheVariants as kinds
-use Rattle.pg_reconnect.specs.Hearing.{learnt_of}
-use Rattle.pg_reconnect.proofs.QueryingLaws.{queries_on, query_fits}
+use Rattle.pg_listening.specs.Hearing.{learnt_of}
+use Rattle.pg_listening.proofs.QueryingLaws.{queries_on, query_fits}
 use Rattle.pg_listeners.specs.Listeners.{beside_by}
 use Rattle.pg_listeners.proofs.DescribingLaws.{notes_told, prepares_none_cleared, prepares_told}
 use Rattle.pg_listeners.proofs.prepare.Preparing+Listener+B+Request.poll.Goals as goal

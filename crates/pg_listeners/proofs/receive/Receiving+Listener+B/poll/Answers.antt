@@ -1,6 +1,6 @@
 use Rattle.std.proofs.Common.{◌≡◌, ◌⊎◌, refl}
-use Rattle.pg_reconnect.specs.Failing.{Fails}
-use Rattle.pg_reconnect.specs.Waiting.{WaitsBy}
+use Rattle.pg_listening.specs.Failing.{Fails}
+use Rattle.pg_listening.specs.Waiting.{WaitsBy}
 use Rattle.pg_listeners.specs.Listeners.{FailsWithin, WaitsOrSpent, beside_by}
 use Rattle.pg_listeners.proofs.AnswerLaws.{on_failed, on_pending}
 use Rattle.pg_listeners.proofs.receive.Receiving+Listener+B.poll.Goals as goal

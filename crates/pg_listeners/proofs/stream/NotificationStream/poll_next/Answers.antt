@@ -1,5 +1,5 @@
 use Rattle.std.proofs.Common.{refl}
-use Rattle.pg_reconnect.proofs.HearingLaws.{hears_nothing}
+use Rattle.pg_listening.proofs.HearingLaws.{hears_nothing}
 use Rattle.pg_listeners.proofs.stream.NotificationStream.poll_next.Goals as goal
 
 pub returns-then-self-clause-hears : goal.returns-then-self-clause-hears

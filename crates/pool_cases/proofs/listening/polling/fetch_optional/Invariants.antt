@@ -1,7 +1,7 @@
 use Rattle.std.proofs.Common.{◌≡◌, false}
 use Rattle.pg_call.specs.declared.kind.How.TheVariants as hows
 use Rattle.pg_call.specs.declared.kind.Kind.TheVariants as kinds
-use Rattle.pg_reconnect.specs.Querying.{IsQuerying}
+use Rattle.pg_listening.specs.Querying.{IsQuerying}
 use Rattle.pool_cases.proofs.listening.polling.fetch_optional.Given as goal
 
 abbrev pub invariant-loop : goal.invariant-loop

@@ -1,6 +1,6 @@
 use Rattle.std.proofs.Common.{◌≡◌, false}
 use Rattle.pg_call.specs.declared.kind.Kind.TheVariants as kinds
-use Rattle.pg_reconnect.specs.Querying.{IsQuerying}
+use Rattle.pg_listening.specs.Querying.{IsQuerying}
 use Rattle.pool_cases.proofs.listening.statements.prepare.Given as goal
 
 abbrev pub invariant-loop : goal.invariant-loop

@@ -1,0 +1,53 @@
+use Rattle.std.proofs.Common.{◌∙◌, [], ◌∷◌, ap, inl, refl}
+use Rattle.std.proofs.Math.Nat.{le_trans}
+use Rattle.pg_listening.proofs.BufferingLaws.{hears_behind}
+use Rattle.pg_listening.proofs.FailingLaws.{fails_then}
+use Rattle.pg_listening.proofs.WaitingLaws.{waits_then}
+use Rattle.pg_listening.proofs.SourceLaws.{dialled_then}
+use Rattle.pg_listening.proofs.hearing.Hearing.poll_recv.Goals as goal
+
+pub returns-in-Pending : goal.returns-in-Pending
+returns-in-Pending g c =
+    let known = c.loop-e.invariant in
+    let told = c.in-Pending.ensures in
+    record {
+      hears = hears_behind g.B.L.Link.seen _ _ _ [] known.hears told.hears;
+      channels = told.channels ∙ known.channels;
+      source = dialled_then (g.B.ConnectionSource.now c.args.source.now) (g.B.ConnectionSource.now c.loop-e.source) (g.B.ConnectionSource.now c.poll_try_recv.new.source) known.source told.source;
+      left = le_trans told.left known.left;
+      pending = inl (waits_then g.B.L.Link.seen g.B.Held.PgExecutor.conn g.B.ConnectionSource.filling _ _ _ _ _ _ _ known.hears known.startup known.left refl refl told.causes);
+      fails = tt;
+      closed = tt;
+    }
+
+pub returns-in-Ready-Err : goal.returns-in-Ready-Err
+returns-in-Ready-Err g c =
+    let known = c.loop-e.invariant in
+    let told = c.in-Ready-Err.ensures in
+    let hears = rw c.in-Ready-Err.field-0-is at told.hears in
+    let causes = rw c.in-Ready-Err.field-0-is at told.causes in
+    let closed = rw c.in-Ready-Err.field-0-is at told.closed in
+    record {
+      hears = hears_behind g.B.L.Link.seen _ _ _ [] known.hears hears;
+      channels = told.channels ∙ known.channels;
+      source = dialled_then (g.B.ConnectionSource.now c.args.source.now) (g.B.ConnectionSource.now c.loop-e.source) (g.B.ConnectionSource.now c.poll_try_recv.new.source) known.source told.source;
+      left = le_trans told.left known.left;
+      pending = tt;
+      fails = fails_then g.B.L.Link.seen g.B.Held.PgExecutor.conn g.B.Held.PgExecutor.with_conn g.B.ConnectionSource.filling (g.B.ConnectionSource.now c.args.source.now) (g.B.ConnectionSource.now c.loop-e.source) (g.B.ConnectionSource.now c.poll_try_recv.new.source) _ _ _ _ _ _ c.in-Ready-Err.e known.source known.faults known.hears known.startup known.left causes;
+      closed = rw (ap (λ x. x.most) known.source) at closed;
+    }
+
+pub returns-in-Ready-Ok-Some : goal.returns-in-Ready-Ok-Some
+returns-in-Ready-Ok-Some g c =
+    let known = c.loop-e.invariant in
+    let told = c.in-Ready-Ok-Some.ensures in
+    let hears = rw (c.in-Ready-Ok-Some.field-0-is, c.in-Ready-Ok-Some.field-0-0-is) at told.hears in
+    record {
+      hears = hears_behind g.B.L.Link.seen _ _ _ (c.in-Ready-Ok-Some.notification ∷ []) known.hears hears;
+      channels = told.channels ∙ known.channels;
+      source = dialled_then (g.B.ConnectionSource.now c.args.source.now) (g.B.ConnectionSource.now c.loop-e.source) (g.B.ConnectionSource.now c.poll_try_recv.new.source) known.source told.source;
+      left = le_trans told.left known.left;
+      pending = tt;
+      fails = tt;
+      closed = tt;
+    }

@@ -1,5 +1,0 @@
-use Rattle.pg_reconnect.proofs.FailingLaws.{refused_by}
-use Rattle.pg_reconnect.proofs.hearing.Hearing.refuse_closed.Goals as goal
-
-pub returns-clause-refuses : goal.returns-clause-refuses
-returns-clause-refuses g c = refused_by _ _ _ _ c.refuse_closed.result c.refuse_closed.ensures.closed

@@ -1,6 +1,0 @@
-pub mod Failing
-pub mod Hearing
-pub mod Leaving
-pub mod Querying
-pub mod Sources
-pub mod Waiting
