@@ -2,6 +2,7 @@ ghost use Rattle.std.specs.Prelude.{◌≡◌};
 ghost use Rattle.pg_conn.specs.Cleanliness.{is_clean};
 
 use crate::PgConnection;
+use pg_pool::Pooled;
 
 impl<L> PgConnection<L> {
     /// Whether nothing of what was done on it is left, so that somebody else may have it: the server has not broken it, no reply is owed,
@@ -15,5 +16,14 @@ impl<L> PgConnection<L> {
             && !self.is_running()
             && self.held == 0
             && self.transaction_depth() == 0
+    }
+}
+
+// A pool keeps connections that are clean.
+impl<L> Pooled for PgConnection<L> {
+    ghost clean = { λ c. is_clean c };
+
+    fn is_clean(&self) -> bool {
+        PgConnection::is_clean(self)
     }
 }

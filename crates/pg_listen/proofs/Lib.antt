@@ -1,3 +1,2 @@
 pub mod CrossingLaws
 mod SeatLaws
-mod RestLaws

@@ -1,7 +1,6 @@
 ghost use Rattle.std.specs.Prelude.{◌≡◌, true, refl};
 ghost use Rattle.pg_listen.specs.Handed.{filled};
 
-use crate::member::Member;
 use pg_conn::PgConnection;
 use pg_guards::PgExecutor;
 use pg_stream::Link;
@@ -9,7 +8,7 @@ use std::marker::Model;
 
 /// A connection that a pool handed out. It must be spent, by `release`.
 pub struct PoolConnection<L> {
-    pub(crate) held: pg_pool::PoolConnection<Member<L>>,
+    pub(crate) held: pg_pool::PoolConnection<PgConnection<L>>,
 }
 
 impl<L> Model for PoolConnection<L> {
@@ -80,11 +79,11 @@ impl<L: Link> PgExecutor for PoolConnection<L> {
     ghost overwritten = { λ _ _ _. refl };
 
     fn conn_ref(&self) -> &PgConnection<L> {
-        &self.held.conn.conn
+        &self.held.conn
     }
 
     fn conn_mut(&mut self) -> &mut PgConnection<L> {
-        &mut self.held.conn.conn
+        &mut self.held.conn
     }
 }
 
@@ -102,7 +101,7 @@ impl Ticket {
     {
         let Ticket { leave } = self;
         PoolConnection {
-            held: leave.fill(Member { conn }),
+            held: leave.fill(conn),
         }
     }
 }

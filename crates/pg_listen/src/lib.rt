@@ -6,7 +6,6 @@
 
 mod handed;
 mod locked;
-mod member;
 mod options;
 mod pool;
 mod sends;

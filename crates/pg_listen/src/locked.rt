@@ -1,4 +1,4 @@
-ghost use Rattle.std.specs.Prelude.{◌≡◌, ◌<◌, ◌≤◌, [], ℕ, IfOk, IfErr, vec_len, vec_capacity};
+ghost use Rattle.std.specs.Prelude.{◌≡◌, ◌<◌, [], ℕ, IfOk, IfErr, vec_len};
 ghost use Rattle.pg_wire.specs.declared.error.Error.TheVariants.{OutOfMemory};
 ghost use Rattle.pg_wire.specs.declared.pool.PoolAct.TheVariants.{Close};
 ghost use Rattle.pg_conn.specs.Cleanliness.{is_clean};
@@ -7,7 +7,6 @@ ghost use Rattle.pg_pool.specs.Sections.{Acquires, Releases, GivesBack, ClosedAt
 ghost use Rattle.pg_pool.specs.Audits.{Audits};
 ghost use Rattle.pg_listen.specs.Pools.{IsPool, acquired_as, released_as};
 
-use crate::member::Member;
 use crate::{Acquired, PoolConnection, Released, Ticket};
 use pg_conn::PgConnection;
 use pg_pool::{PoolCore, PoolSeat};
@@ -27,7 +26,7 @@ impl PoolLedger for Brand {
 
 // What lies under a pool's lock.
 pub(crate) struct Locked<G: PoolLedger, L> {
-    core: PoolCore<G, Member<L>>,
+    core: PoolCore<G, PgConnection<L>>,
 }
 
 impl<G: PoolLedger, L: Drop> Drop for Locked<G, L> {
@@ -45,21 +44,6 @@ impl<G: PoolLedger, L> Model for Locked<G, L> {
     ghost view = { λ p. p.core };
 
     ghost invariant = { λ p. p.core.most ≡ G.most };
-}
-
-// The connections of these members, in room for them. It takes no memory.
-fn conns_of<L>(members: Vec<Member<L>>, room: Vec<PgConnection<L>>) -> Vec<PgConnection<L>>
-    requires none { room.items ≡ [] }
-    requires room { vec_len members ≤ vec_capacity room }
-    ensures { result.items ≡ members.items }
-{
-    let mut conns = room;
-    let mut rest = members.into_iter();
-    while let Some(member) = rest.next() {
-        conns.push_reserved(member.into_conn());
-    }
-    rest.destroy_empty();
-    conns
 }
 
 impl<G: PoolLedger, L> Locked<G, L> {
@@ -99,9 +83,9 @@ impl<G: PoolLedger, L> Locked<G, L> {
         let released = self.core.release(held, seat);
         self.core.promises();
         match released {
-            pg_pool::Released::Foreign(member) => Released::Foreign(member.into_conn()),
+            pg_pool::Released::Foreign(conn) => Released::Foreign(conn),
             pg_pool::Released::Kept => Released::Kept,
-            pg_pool::Released::Closed(member) => Released::Closed(member.into_conn()),
+            pg_pool::Released::Closed(conn) => Released::Closed(conn),
         }
     }
 
@@ -123,16 +107,13 @@ impl<G: PoolLedger, L> Locked<G, L> {
         ensures err { IfErr result (λ e. (e ≡ OutOfMemory) × IsLeft seat.old seat.new self.old self.new) }
     {
         self.promises();
-        let room = Vec::with_capacity(alloc, self.core.idle_len())?;
-        let members = match self.core.close(alloc, seat) {
-            Ok(members) => members,
-            Err(e) => {
-                room.destroy_empty();
-                return Err(e);
+        match self.core.close(alloc, seat) {
+            Ok(conns) => {
+                self.core.promises();
+                Ok(conns)
             }
-        };
-        self.core.promises();
-        Ok(conns_of(members, room))
+            Err(e) => Err(e),
+        }
     }
 
     pub(crate) fn closed_place(&mut self, seat: &mut PoolSeat<G>) -> Result<Option<u64>, Error>

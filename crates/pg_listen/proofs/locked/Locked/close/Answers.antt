@@ -11,6 +11,3 @@ returns-clause-after g c =
       idle = c.promises-2.ensures.idle;
       clean = c.promises-2.ensures.clean;
     })
-
-pub returns-clause-ok : goal.returns-clause-ok
-returns-clause-ok g c = rw (← c.self.view_is) (c.conns_of.ensures ∙ c.in-Ok.ensures.ok.0, c.in-Ok.ensures.ok.1)
