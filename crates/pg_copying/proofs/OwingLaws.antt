@@ -17,10 +17,9 @@ use Rattle.pg_conn.specs.Feeding.{IsFed}
 use Rattle.pg_conn.specs.Statements.{moved, step_of, unmoved}
 use Rattle.pg_pool.specs.PoolHistory.{state_of}
 use Rattle.pg_pool.specs.Seats.{SeatSeen}
-use Rattle.pg_listen.specs.declared.handed.Released.{Released}
-use Rattle.pg_listen.specs.declared.handed.Released.TheVariants as released
-use Rattle.pg_listen.specs.Handed.{HeldOf}
-use Rattle.pg_copying.specs.PoolCopies.{ReleasesLeft}
+use Rattle.pg_pool.specs.declared.handed.Released.TheVariants as released
+use Rattle.pg_listen.specs.Handed.{HeldOf, ReleasedOf}
+use Rattle.pg_copying.specs.PoolCopies.{ReleasesTo, left_conn}
 
 -- ---- what a copy owes while it is open
 
@@ -98,7 +97,7 @@ kept_clean true false clean k e = absurd cc
 kept_clean false unmarked clean k e = absurd cc
 
 -- and the pool doesn't keep it
-pub never_kept : {A : Type 0} (most : ℕ) (s t : SeatSeen) (held : HeldOf A) (answer : Released A) → IsFed held.conn → ReleasesLeft most s t None held answer → answer ≡ released.Kept → ⊥
+pub never_kept : {A : Type 0} (most : ℕ) (s t : SeatSeen) (held : HeldOf A) (answer : ReleasedOf A) → IsFed held.conn → ReleasesTo is_clean most s t (left_conn None held) answer → answer ≡ released.Kept → ⊥
 never_kept most s t held released.Kept f r e = kept_clean (not (state_of r.0.history).closed) (not held.close) (is_clean (left held.conn)) r.4.1 (open_unclean held.conn f)
 never_kept most s t held (released.Foreign conn) f r e = absurd cc
 never_kept most s t held (released.Closed conn) f r e = absurd cc

@@ -9,6 +9,7 @@ mod executor;
 mod finish;
 pub mod holding;
 mod manager;
+mod pooled;
 mod transaction;
 
 pub use begin::BeginTransaction;

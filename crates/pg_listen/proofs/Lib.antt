@@ -1,2 +1,0 @@
-pub mod CrossingLaws
-mod SeatLaws

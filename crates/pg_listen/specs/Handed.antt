@@ -1,24 +1,31 @@
 -- What is seen of a pool, and what it hands out.
-use Rattle.std.specs.Prelude.{ℕ, zero, suc, ◌≡◌, false, List, [], ◌∷◌, ◌++◌, Option, Some, None, Result, Ok, Err, IsSome}
+use Rattle.std.specs.Prelude.{◌≡◌, false, Option, Some, None, Result, Ok, Err, IsSome}
 use Rattle.futures.specs.declared.task.Poll.{Poll}
 use Rattle.futures.specs.declared.task.Poll.TheVariants.{Ready, Pending}
 use Rattle.pg_wire.specs.declared.error.Error.{Error}
 use Rattle.pg_options.specs.Options.{ConnectOptions}
 use Rattle.pg_conn.specs.Connections.{ConnOf}
 use Rattle.pg_conn.specs.Connecting.{ConnectingOf}
+use Rattle.pg_pool.specs.Pools as pools
+use Rattle.pg_pool.specs.declared.handed.Acquired.{Acquired}
 use Rattle.pg_pool.specs.declared.handed.PoolConnection.{PoolConnection}
+use Rattle.pg_pool.specs.declared.handed.Released.{Released}
 use Rattle.pg_pool.specs.declared.handed.Ticket.{Ticket}
-use Rattle.pg_pool.specs.declared.seat.Receipt.{Receipt}
-use Rattle.pg_pool.specs.Seats.{SeatSeen}
 
 -- a pool's name, and how its connections are made
-pub record PoolSeen : Type 0 where
-  pub name : ℕ
-  pub options : ConnectOptions
+abbrev pub PoolSeen : Type 0
+PoolSeen = pools.PoolSeen ConnectOptions
 
 -- a connection that a pool handed out
 abbrev pub HeldOf : Type 0 → Type 0
 HeldOf A = PoolConnection (ConnOf A)
+
+-- what an acquire hands out, and what became of a connection that was released
+abbrev pub AcquiredOf : Type 0 → Type 0
+AcquiredOf A = Acquired (ConnOf A)
+
+abbrev pub ReleasedOf : Type 0 → Type 0
+ReleasedOf A = Released (ConnOf A)
 
 -- leave to make one
 abbrev pub TicketSeen : Type 0
@@ -33,10 +40,6 @@ pub record FillingOf (A : Type 0) : Type 0 where
 abbrev pub CanFill : {A : Type 0} → FillingOf A → Type 0
 CanFill f = f.connecting.startup.is_finished ≡ false → IsSome f.ticket
 
--- the connection that was made with this leave
-abbrev pub filled : {A : Type 0} → Ticket → ConnOf A → HeldOf A
-filled t c = record { conn = c; id = t.id; name = t.name; close = false }
-
 -- what the start-up itself answers
 abbrev pub connection_of : {A : Type 0} → Poll (Result (HeldOf A) Error) → Poll (Result (ConnOf A) Error)
 connection_of Pending = Pending
@@ -47,13 +50,3 @@ connection_of (Ready (Ok held)) = Ready (Ok held.conn)
 abbrev pub UsesLeave : {A : Type 0} → Option Ticket → Option Ticket → Poll (Result (HeldOf A) Error) → Type 0
 UsesLeave now new (Ready (Ok held)) = (now ≡ Some (record { id = held.id; name = held.name })) × (held.close ≡ false) × (new ≡ None)
 UsesLeave now new _ = new ≡ now
-
--- a participant by its number, the name of its pool, its receipts and its ids
-abbrev pub told_seats : List SeatSeen → List (ℕ × ℕ × List Receipt × List ℕ)
-told_seats [] = []
-told_seats (s ∷ ss) = (s.number, s.name, s.receipts, s.ids) ∷ told_seats ss
-
--- so many new ones, counted from 0
-abbrev pub new_seats : ℕ → ℕ → List (ℕ × ℕ × List Receipt × List ℕ)
-new_seats name zero = []
-new_seats name (suc n) = new_seats name n ++ (n, name, [], []) ∷ []

@@ -1,16 +1,14 @@
 ghost use Rattle.std.specs.Prelude.{◌≡◌, ◌<◌, IfOk, IfErr, vec_len};
 ghost use Rattle.pg_wire.specs.declared.error.Error.TheVariants.{OutOfMemory};
-ghost use Rattle.pg_listen.specs.Handed.{new_seats, told_seats};
+ghost use Rattle.pg_pool.specs.Pools.{new_seats, told_seats};
 
-use crate::locked::Locked;
-use crate::{PgPool, PoolLedger};
+use crate::PgPool;
 use pg_options::PgConnectOptions;
-use pg_pool::PoolSeat;
+use pg_pool::{Pool, PoolLedger, PoolSeat};
 use pg_stream::Link;
 use pg_wire::Error;
-use std::alloc::{AllocError, Global};
-use std::sync::Mutex;
-use std::sync::ledger::{Blank, Ledger, Share};
+use std::alloc::Global;
+use std::sync::ledger::Blank;
 
 /// How a pool is built.
 #[derive(Clone, Copy, Debug, PartialEq, Eq)]
@@ -51,37 +49,6 @@ impl PgPoolOptions {
         ensures seats { IfOk result (λ r. (told_seats r.1.items ≡ new_seats name seats) × (vec_len r.1 ≡ seats)) }
         ensures err { IfErr result (λ e. e ≡ OutOfMemory) }
     {
-        let (calls, all) = blank.open::<G>();
-        let seats = participants(alloc, name, seats, all)?;
-        let core = Mutex::new(Locked::new(alloc, self.max, calls));
-        Ok((
-            PgPool {
-                name,
-                options,
-                core,
-            },
-            seats,
-        ))
+        Ok(Pool::build(alloc, name, options, self.max, seats, blank)?)
     }
-}
-
-// A participant for each part of the ledger.
-#[tactic(auto, using(crate::proofs::SeatLaws::told_seats_more))]
-fn participants<G: Ledger>(
-    alloc: Global,
-    name: u64,
-    count: u32,
-    all: Share<G>,
-) -> Result<Vec<PoolSeat<G>>, AllocError>
-    requires parts { all.parts ≡ count }
-    requires amount { all.amount ≡ 0 }
-    ensures { IfOk result (λ seats. (told_seats seats.items ≡ new_seats name count) × (vec_len seats ≡ count)) }
-{
-    let mut rest = all;
-    let mut seats = Vec::new(alloc);
-    for number in 0..count {
-        let share = rest.split_off(1, 0);
-        seats.push(PoolSeat::new(alloc, number, name, share))?;
-    }
-    Ok(seats)
 }

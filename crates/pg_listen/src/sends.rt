@@ -1,8 +1,5 @@
 use crate::{EstablishPooled, PgPool, PoolConnection, PoolLedger, Ticket};
 
-// What several threads may use at once.
-fn shared<T: Sync>(_x: &T) {}
-
 // What may move to another thread.
 fn sent<T: Send>(x: T) -> T {
     x
@@ -10,15 +7,15 @@ fn sent<T: Send>(x: T) -> T {
 
 /// Threads share a pool, whose connections move between them.
 pub fn share_pool<G: PoolLedger + Send + Sync, L: Send>(pool: &PgPool<G, L>) {
-    shared(pool)
+    pg_pool::share_pool(pool)
 }
 
 pub fn send_connection<L: Send>(held: PoolConnection<L>) -> PoolConnection<L> {
-    sent(held)
+    pg_pool::send_connection(held)
 }
 
 pub fn send_ticket(ticket: Ticket) -> Ticket {
-    sent(ticket)
+    pg_pool::send_ticket(ticket)
 }
 
 pub fn send_establishing<L: Send>(state: EstablishPooled<L>) -> EstablishPooled<L> {

@@ -4,9 +4,10 @@ ghost use Rattle.pg_startup.specs.Establishing.{Begins, IsLeft, RefusesStart, ke
 ghost use Rattle.pg_conn.specs.Connecting.{PollsConnect};
 ghost use Rattle.pg_listen.specs.Handed.{UsesLeave, connection_of};
 
-use crate::{PoolConnection, Ticket};
+use crate::PoolConnection;
 use pg_conn::{Establish, establish};
 use pg_options::PgConnectOptions;
+use pg_pool::Ticket;
 use pg_stream::Link;
 use pg_wire::{Error, Poll};
 use std::alloc::Global;
@@ -28,10 +29,16 @@ impl<L> Model for EstablishPooled<L> {
     ghost invariant = { λ e. CanFill (record { connecting = e.startup; ticket = e.ticket }) };
 }
 
-impl Ticket {
+/// What becomes of the leave to make a connection.
+pub trait TicketExt {
+    ghost use Rattle.pg_listen.specs.Handed.{TicketSeen};
+
+    /// The leave itself.
+    ghost leave: { Self → TicketSeen };
+
     /// Begins a start-up over a link. The refusals that need no server come at once, before the link is touched, and hand the leave and the link
     /// back. The nonce is the client's for SCRAM. (PostgreSQL manual, "Message Flow", "Start-up" and "SSL Session Encryption".)
-    pub fn establish<L: Link>(
+    fn establish<L: Link>(
         self,
         alloc: Global,
         options: &PgConnectOptions,
@@ -39,10 +46,21 @@ impl Ticket {
         link: L,
     ) -> Result<EstablishPooled<L>, (Error, Ticket, L)>
         requires { IsNonce nonce.now }
-        ensures ok { IfOk result (λ s. Begins options.now nonce.now (L.seen link).plan link s.connecting.startup × (s.ticket ≡ Some self)) }
+        ensures ok { IfOk result (λ s. Begins options.now nonce.now (L.seen link).plan link s.connecting.startup × (s.ticket ≡ Some (leave self))) }
         ensures capacity { IfOk result (λ s. s.connecting.capacity ≡ options.now.statement_cache_capacity) }
-        ensures err { IfErr result (λ e. RefusesStart options.now (L.seen link).plan e.0 × (e.1 ≡ self) × (e.2 ≡ link)) }
-    {
+        ensures err { IfErr result (λ e. RefusesStart options.now (L.seen link).plan e.0 × (e.1 ≡ leave self) × (e.2 ≡ link)) };
+}
+
+impl TicketExt for Ticket {
+    ghost leave = { λ t. t };
+
+    fn establish<L: Link>(
+        self,
+        alloc: Global,
+        options: &PgConnectOptions,
+        nonce: &[u8],
+        link: L,
+    ) -> Result<EstablishPooled<L>, (Error, Ticket, L)> {
         match establish(alloc, options, nonce, link) {
             Ok(startup) => Ok(EstablishPooled {
                 startup,

@@ -5,7 +5,8 @@ use Rattle.pg_options.specs.Options.{ConnectOptions}
 use Rattle.pg_conn.specs.Dials.{DialSeen}
 use Rattle.pg_pool.specs.declared.seat.Receipt.{Receipt}
 use Rattle.pg_pool.specs.Seats.{SeatSeen}
-use Rattle.pg_listen.specs.Handed.{FillingOf, HeldOf, PoolSeen, new_seats, told_seats}
+use Rattle.pg_listen.specs.Handed.{FillingOf, HeldOf, PoolSeen}
+use Rattle.pg_pool.specs.Pools.{new_seats, told_seats}
 use Rattle.pg_listening.specs.Hearing.{fresh_hearing}
 use Rattle.pg_listening.specs.Sources.{PoolSourceOf, pool_source}
 use Rattle.pg_listeners.specs.Listeners.{BeginsAlone, IsFirst, ListenerOf}

@@ -3,8 +3,7 @@ use Rattle.std.proofs.Common.{◌≡◌, ℕ, true, [], Option, Some, None, is_s
 use Rattle.futures.specs.declared.task.Poll.TheVariants.{Ready, Pending}
 use Rattle.pg_wire.specs.declared.error.Error.{Error}
 use Rattle.pg_stream.specs.Links.{LinkSeen}
-use Rattle.pg_listen.specs.declared.handed.Released.{Released}
-use Rattle.pg_listen.specs.Handed.{FillingOf, HeldOf}
+use Rattle.pg_listen.specs.Handed.{FillingOf, HeldOf, ReleasedOf}
 use Rattle.pg_listening.specs.Failing.{Fails}
 use Rattle.pg_listening.specs.Sources.{SourceSeen}
 use Rattle.pg_listening.specs.Hearing.{HearingOf, HearsBy, is_changing}
@@ -14,7 +13,7 @@ use Rattle.pg_listeners.specs.Listeners.{ListenerOf, Releases, beside_by}
 use Rattle.pg_conn.specs.Connections.{ConnOf}
 
 module _ {C S A : Type 0} (seen : A → LinkSeen) (conn : C → ConnOf A) (with_conn : C → ConnOf A → C) (handed : C → HeldOf A) (filling : S → FillingOf A) where
-  pub releases_last : {B : Type 0} (of : B → SourceSeen) (before behind : Option (ListenerOf B C S A)) (a last : ListenerOf B C S A) (x : Option (Released A)) → before ≡ Some a → behind ≡ None
+  pub releases_last : {B : Type 0} (of : B → SourceSeen) (before behind : Option (ListenerOf B C S A)) (a last : ListenerOf B C S A) (x : Option (ReleasedOf A)) → before ≡ Some a → behind ≡ None
       → HearsBy seen conn a.hearing last.hearing [] → is_some x ≡ is_some last.hearing.listening.conn → OnReleased handed conn with_conn (of last.source).most last.hearing.listening.conn x → Releases seen conn with_conn handed filling of before behind (Ready (Ok x))
   releases_last {B} of before behind a last x b n h s r =
       subst (λ (o : Option (ListenerOf B C S A)). Releases seen conn with_conn handed filling of o behind (Ready (Ok x))) (sym b) (subst (λ (o : Option (ListenerOf B C S A)). Releases seen conn with_conn handed filling of (Some a) o (Ready (Ok x))) (sym n) (last, h, s, r))

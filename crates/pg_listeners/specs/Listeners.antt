@@ -12,8 +12,7 @@ use Rattle.pg_call.specs.declared.request.Request.{Request}
 use Rattle.pg_listener.specs.Changes.{changed}
 use Rattle.pg_listener.specs.declared.changing.ChannelChange.{ChannelChange}
 use Rattle.pg_pool.specs.Seats.{SeatSeen}
-use Rattle.pg_listen.specs.Handed.{FillingOf, HeldOf, PoolSeen}
-use Rattle.pg_listen.specs.declared.handed.Released.{Released}
+use Rattle.pg_listen.specs.Handed.{FillingOf, HeldOf, PoolSeen, ReleasedOf}
 use Rattle.pg_listening.specs.Failing.{BesideSeen, CausedBy, Fails, beside_of}
 use Rattle.pg_listening.specs.Sources.{PoolSourceOf, SourceSeen, pool_source}
 use Rattle.pg_listening.specs.Hearing.{HearingOf, HearsBy, channels_at_ok, fresh_hearing, is_changing, stored_first}
@@ -152,13 +151,13 @@ abbrev pub FailsBegun : {C S A : Type 0} → (A → LinkSeen) → (C → ConnOf 
 FailsBegun {C} {S} {A} seen conn with_conn filling o a b e = (now : ℕ) × (begun : HearingOf C S A) × HearsBy seen conn a begun [] × Fails seen conn with_conn filling o 256 now begun b e
 
 -- It is there until it was released. Then something is answered exactly where a connection was held, which is the one that was released.
-abbrev pub Releases : {B C S A : Type 0} → (A → LinkSeen) → (C → ConnOf A) → (C → ConnOf A → C) → (C → HeldOf A) → (S → FillingOf A) → (B → SourceSeen) → Option (ListenerOf B C S A) → Option (ListenerOf B C S A) → Poll (Result (Option (Released A)) Error) → Type 0
+abbrev pub Releases : {B C S A : Type 0} → (A → LinkSeen) → (C → ConnOf A) → (C → ConnOf A → C) → (C → HeldOf A) → (S → FillingOf A) → (B → SourceSeen) → Option (ListenerOf B C S A) → Option (ListenerOf B C S A) → Poll (Result (Option (ReleasedOf A)) Error) → Type 0
 Releases {B} {C} {S} {A} seen conn with_conn handed filling now (Some a) None (Ready (Ok x)) = (last : ListenerOf B C S A) × HearsBy seen conn a.hearing last.hearing [] × (is_some x ≡ is_some last.hearing.listening.conn) × OnReleased handed conn with_conn (now last.source).most last.hearing.listening.conn x
 Releases seen conn with_conn handed filling now (Some a) (Some b) (Ready (Err e)) = HearsBy seen conn a.hearing b.hearing [] × FailsBegun seen conn with_conn filling (beside_by now a b) a.hearing b.hearing e
 Releases seen conn with_conn handed filling now (Some a) (Some b) Pending = HearsBy seen conn a.hearing b.hearing [] × (is_changing b.hearing ≡ true) × WaitsBegun seen conn filling a.hearing b.hearing
 Releases seen conn with_conn handed filling now before after answer = ⊥
 
 -- what is answered where it lets its connection go at once
-abbrev pub LetsGo : {B C S A : Type 0} → (C → HeldOf A) → (C → ConnOf A) → (C → ConnOf A → C) → (B → SourceSeen) → Option (ListenerOf B C S A) → Option (Released A) → Type 0
+abbrev pub LetsGo : {B C S A : Type 0} → (C → HeldOf A) → (C → ConnOf A) → (C → ConnOf A → C) → (B → SourceSeen) → Option (ListenerOf B C S A) → Option (ReleasedOf A) → Type 0
 LetsGo handed conn with_conn now None released = released ≡ None
 LetsGo handed conn with_conn now (Some l) released = OnReleased handed conn with_conn (now l.source).most l.hearing.listening.conn released

@@ -6,17 +6,16 @@ use Rattle.pg_pool.specs.Sections.{Releases}
 use Rattle.pg_conn.specs.Cleanliness.{is_clean}
 use Rattle.pg_conn.specs.Connections.{ConnOf, left}
 use Rattle.pg_conn.specs.News.{with_kept}
-use Rattle.pg_listen.specs.Handed.{HeldOf}
-use Rattle.pg_listen.specs.Pools.{Section, released_as}
-use Rattle.pg_listen.specs.declared.handed.Released.{Released}
+use Rattle.pg_listen.specs.Handed.{HeldOf, ReleasedOf}
+use Rattle.pg_listen.specs.Pools.{Section}
 use Rattle.pg_listening.specs.Leaving.{HeldIs, OnReleased}
 
 module _ {C A : Type 0} (handed : C → HeldOf A) (conn : C → ConnOf A) (with_conn : C → ConnOf A → C) (most : ℕ) where
-  pub released : (o : Option C) (held : C) (s t : SeatSeen) (r : Released A) → Some held ≡ option_map (λ (c : C). with_conn c (with_kept none_kept (left (conn c)))) o → Section most (λ a b. Releases is_clean s t a b (handed held) (released_as r)) → OnReleased handed conn with_conn most o (Some r)
+  pub released : (o : Option C) (held : C) (s t : SeatSeen) (r : ReleasedOf A) → Some held ≡ option_map (λ (c : C). with_conn c (with_kept none_kept (left (conn c)))) o → Section most (λ a b. Releases is_clean s t a b (handed held) r) → OnReleased handed conn with_conn most o (Some r)
   released None held s t r e p = absurd cc
   released (Some c) held s t r e p =
       let same : held ≡ with_conn c (with_kept none_kept (left (conn c))) = cc in
-      (p.0, p.1, p.2, p.3, (s, t, subst (λ (h : C). Releases is_clean s t p.0 p.1 (handed h) (released_as r)) same p.4))
+      (p.0, p.1, p.2, p.3, (s, t, subst (λ (h : C). Releases is_clean s t p.0 p.1 (handed h) r) same p.4))
 
   pub none_released : (o : Option C) → None ≡ option_map (λ (c : C). with_conn c (with_kept none_kept (left (conn c)))) o → OnReleased handed conn with_conn most o None
   none_released None e = tt

@@ -16,9 +16,8 @@ use Rattle.pg_conn.specs.News.{with_kept}
 use Rattle.pg_pool.specs.Seats.{SeatSeen}
 use Rattle.pg_pool.specs.PoolHistory.{without}
 use Rattle.pg_pool.specs.Sections.{ClosedAt, IsAdded, IsLeft, Releases, is_held}
-use Rattle.pg_listen.specs.Handed.{FillingOf, HeldOf, TicketSeen}
-use Rattle.pg_listen.specs.Pools.{CoreOf, Section, released_as}
-use Rattle.pg_listen.specs.declared.handed.Released.{Released}
+use Rattle.pg_listen.specs.Handed.{FillingOf, HeldOf, ReleasedOf, TicketSeen}
+use Rattle.pg_listen.specs.Pools.{CoreOf, Section}
 use Rattle.pg_listening.specs.Listening.{IsOpenPool}
 use Rattle.pg_listening.specs.declared.source.Found.{Found}
 use Rattle.pg_listening.specs.declared.source.Found.TheVariants as found
@@ -28,15 +27,15 @@ abbrev pub Drops : {A : Type 0} → SeatSeen → SeatSeen → CoreOf A → CoreO
 Drops s t a b id = ((is_held s a id ≡ true) × IsAdded s t a b (Dropped id) (without id s.ids) a.kept) ⊎ ((is_held s a id ≡ false) × IsLeft s t a b)
 
 -- the connection that was held was released, which keeps no notifications any longer, and runs no call
-abbrev pub OnReleased : {C A : Type 0} → (C → HeldOf A) → (C → ConnOf A) → (C → ConnOf A → C) → ℕ → Option C → Option (Released A) → Type 0
+abbrev pub OnReleased : {C A : Type 0} → (C → HeldOf A) → (C → ConnOf A) → (C → ConnOf A → C) → ℕ → Option C → Option (ReleasedOf A) → Type 0
 OnReleased handed conn with_conn most None None = Unit {0}
-OnReleased handed conn with_conn most (Some c) (Some released) = Section most (λ a b. (s : SeatSeen) × (t : SeatSeen) × Releases is_clean s t a b (handed (with_conn c (with_kept none_kept (left (conn c))))) (released_as released))
+OnReleased handed conn with_conn most (Some c) (Some released) = Section most (λ a b. (s : SeatSeen) × (t : SeatSeen) × Releases is_clean s t a b (handed (with_conn c (with_kept none_kept (left (conn c))))) released)
 OnReleased handed conn with_conn most c released = ⊥
 
 -- a connection, if there is one, was given back
-abbrev pub GivesBack : {A : Type 0} → ℕ → SeatSeen → SeatSeen → Option (HeldOf A) → Option (Released A) → Type 0
+abbrev pub GivesBack : {A : Type 0} → ℕ → SeatSeen → SeatSeen → Option (HeldOf A) → Option (ReleasedOf A) → Type 0
 GivesBack most s t None None = Unit {0}
-GivesBack most s t (Some held) (Some released) = Section most (λ a b. Releases is_clean s t a b held (released_as released))
+GivesBack most s t (Some held) (Some released) = Section most (λ a b. Releases is_clean s t a b held released)
 GivesBack most s t held released = ⊥
 
 -- it is of this pool

@@ -8,7 +8,9 @@ ghost use Rattle.pg_listening.specs.Leaving.{Fills, IsFound, IsFresh};
 
 use crate::Found;
 use pg_conn::{Dial, draw_nonce};
-use pg_listen::{Acquired, EstablishPooled, PgPool, PoolConnection, PoolLedger, PoolSeat, Ticket};
+use pg_listen::{
+    Acquired, EstablishPooled, PgPool, PoolConnection, PoolLedger, PoolSeat, Ticket, TicketExt,
+};
 use pg_stream::Link;
 use pg_wire::Error;
 use std::alloc::Global;

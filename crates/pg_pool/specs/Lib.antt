@@ -3,3 +3,4 @@ pub mod PoolLogs
 pub mod Seats
 pub mod Sections
 pub mod Audits
+pub mod Pools

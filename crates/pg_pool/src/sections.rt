@@ -1,15 +1,16 @@
 ghost use Rattle.std.specs.Prelude.{◌≡◌, ◌+◌, ◌<◌, ◌≤◌, ◌++◌, ◌∷◌, [], true, IfOk, IfErr, length, vec_len};
 ghost use Rattle.pg_wire.specs.declared.error.Error.TheVariants.{OutOfMemory};
 ghost use Rattle.pg_wire.specs.declared.pool.PoolAct.TheVariants.{Close};
-ghost use Rattle.pg_pool.specs.PoolHistory.{PoolHistory, state_of, may, after};
+ghost use Rattle.pg_pool.specs.PoolHistory.{state_of, may, after};
 ghost use Rattle.pg_pool.specs.PoolLogs.{log_state, log_has_places, UnlessReturn};
 ghost use Rattle.pg_pool.specs.Seats.{Becomes};
-ghost use Rattle.pg_pool.specs.Sections.{Acquires, Releases, GivesBack, ClosedAt, IsAdded, IsLeft, all_clean};
+ghost use Rattle.pg_pool.specs.Pools.{IsPool};
+ghost use Rattle.pg_pool.specs.Sections.{Acquires, Releases, GivesBack, ClosedAt, IsAdded, IsLeft};
 ghost use Rattle.pg_pool.specs.Audits.{Audits};
 
 use crate::log::PoolLog;
 use crate::receipts::{merged, seats_refusal};
-use crate::{Acquired, PoolConnection, PoolSeat, Pooled, Receipt, Released, Ticket};
+use crate::{Acquired, PoolConnection, PoolLedger, PoolSeat, Pooled, Receipt, Released, Ticket};
 use pg_wire::{Error, PoolAct, PoolEntry};
 use std::alloc::Global;
 use std::collections::VecDeque;
@@ -19,14 +20,14 @@ use std::sync::ledger::{Book, Ledger};
 
 /// What lies under a pool's lock. Each method that takes a participant is one critical section.
 #[derive(Drop)]
-pub struct PoolCore<G: Ledger, C: Pooled> {
+pub struct PoolCore<G: PoolLedger, C: Pooled> {
     log: PoolLog,
     conns: VecDeque<C>,
     calls: Book<G>,
 }
 
-impl<G: Ledger, C: Pooled> Model for PoolCore<G, C> {
-    ghost use Rattle.std.specs.Prelude.{◌+◌, ◌≤◌, length};
+impl<G: PoolLedger, C: Pooled> Model for PoolCore<G, C> {
+    ghost use Rattle.std.specs.Prelude.{◌≡◌, ◌+◌, ◌≤◌, length};
     ghost use Rattle.std.specs.VecDeque.{deque_len, deque_capacity};
     ghost use Rattle.pg_pool.specs.PoolLogs.{log_state};
     ghost use Rattle.pg_pool.specs.Sections.{PoolOf, InStep};
@@ -35,13 +36,14 @@ impl<G: Ledger, C: Pooled> Model for PoolCore<G, C> {
 
     ghost view = { λ p. record { history = p.log.history; most = p.log.most; kept = p.conns.items } };
 
-    ghost invariant = { λ p. InStep C.clean p.log p.conns.items p.calls.total × (deque_len p.conns + length (log_state p.log).out ≤ deque_capacity p.conns) };
+    ghost invariant = { λ p. InStep C.clean p.log p.conns.items p.calls.total × (deque_len p.conns + length (log_state p.log).out ≤ deque_capacity p.conns) × (p.log.most ≡ G.most) };
 }
 
-impl<G: Ledger, C: Pooled> PoolCore<G, C> {
+impl<G: PoolLedger, C: Pooled> PoolCore<G, C> {
     /// A pool of this maximum, in which nothing was done.
     pub fn new(alloc: Global, most: u32, calls: Book<G>) -> Self
-        requires { calls.total ≡ 0 }
+        requires most { most ≡ G.most }
+        requires none { calls.total ≡ 0 }
         ensures { (result.history ≡ []) × (result.most ≡ most) × (result.kept ≡ []) }
     {
         PoolCore {
@@ -196,10 +198,7 @@ impl<G: Ledger, C: Pooled> PoolCore<G, C> {
 
     /// Every history is one that one thread could have made, no more than the maximum are out or idle, and what is idle is clean.
     pub fn promises(&self)
-        ensures legal { PoolHistory self.now.most self.now.history }
-        ensures seats { length (state_of self.now.history).idle + length (state_of self.now.history).out ≤ self.now.most }
-        ensures idle { length self.now.kept ≡ length (state_of self.now.history).idle }
-        ensures clean { all_clean C.clean self.now.kept ≡ true }
+        ensures { IsPool C.clean G.most self.now }
     {
         self.log.promises();
     }

@@ -1,5 +1,4 @@
-use crate::{PoolConnection, PoolCore, PoolSeat, Pooled, Ticket};
-use std::sync::Mutex;
+use crate::{Pool, PoolConnection, PoolLedger, PoolSeat, Pooled, Ticket};
 use std::sync::ledger::Ledger;
 
 // What several threads may use at once.
@@ -11,7 +10,12 @@ fn sent<T: Send>(x: T) -> T {
 }
 
 /// Threads share a pool where what it keeps moves between threads.
-pub fn share_pool<G: Ledger + Send + Sync, C: Pooled + Send>(pool: &Mutex<PoolCore<G, C>>) {
+pub fn share_pool<G, C, O>(pool: &Pool<G, C, O>)
+where
+    G: PoolLedger + Send + Sync,
+    C: Pooled + Send,
+    O: Sync,
+{
     shared(pool)
 }
 

@@ -5,7 +5,9 @@ ghost use Rattle.pool_cases.specs.Names.{IsOfPool};
 
 use case_tools::dialled;
 use pg_conn::Dial;
-use pg_listen::{Acquired, EstablishPooled, PgPool, PoolConnection, PoolLedger, PoolSeat, Ticket};
+use pg_listen::{
+    Acquired, EstablishPooled, PgPool, PoolConnection, PoolLedger, PoolSeat, Ticket, TicketExt,
+};
 use pg_stream::Link;
 use pg_wire::{Error, Poll};
 use std::alloc::Global;

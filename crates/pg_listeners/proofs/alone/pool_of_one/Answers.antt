@@ -1,6 +1,6 @@
 use Rattle.std.proofs.Common.{◌≡◌, ◌++◌, ◌∷◌, ◌∙◌, [], List, Option, ap, sym, option_to_list}
 use Rattle.pg_pool.specs.Seats.{SeatSeen}
-use Rattle.pg_listen.specs.Handed.{told_seats}
+use Rattle.pg_pool.specs.Pools.{told_seats}
 use Rattle.pg_listeners.proofs.AloneLaws.{the_first}
 use Rattle.pg_listeners.proofs.alone.pool_of_one.Goals as goal
 

@@ -34,7 +34,7 @@ use denote.Triple.Table.{entered}
 use denote.Triple.Walked.{says, Stays, stay_dropped, walk_of, ends_at, walked, Goes-spent_ref, walk_Meets}
 use borrow.Follows.Kept.{follows_itself}
 use Rattle.std.specs.declared.sync.ledger.Ledger as ledgers
-use Rattle.pg_listen.specs.declared.locked.PoolLedger as pools
+use Rattle.pg_pool.specs.declared.ledger.PoolLedger as pools
 use Rattle.pg_pool.specs.contracts.seat.PoolSeat.{the_row}
 use Rattle.pg_listening.specs.contracts.holders.PoolSeatSeatHolder.seat_mut as F
 use Rattle.pg_listening.specs.contracts.holders.PoolSeatSeatHolder.seat_mut.Key.{name as #self}

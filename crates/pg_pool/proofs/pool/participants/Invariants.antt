@@ -1,6 +1,6 @@
 use Rattle.std.proofs.Common.{◌≡◌, ◌+◌, vec_len}
-use Rattle.pg_listen.specs.Handed.{told_seats, new_seats}
-use Rattle.pg_listen.proofs.options.participants.Given as goal
+use Rattle.pg_pool.specs.Pools.{told_seats, new_seats}
+use Rattle.pg_pool.proofs.pool.participants.Given as goal
 
 abbrev pub invariant-loop-number : goal.invariant-loop-number
 invariant-loop-number g l = record {
