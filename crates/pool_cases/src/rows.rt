@@ -5,6 +5,7 @@ use crate::opening::connect;
 use crate::visiting::{Pool, Use, give_back, one_link, refused, visit};
 use pg_listen::{Acquired, PgPoolOptions, PoolConnection, PoolLedger, PoolSeat};
 use pg_options::{PgConnectOptions, PgSettings};
+use pg_pool::Pooled;
 use pg_stream::MemoryLink;
 use pg_wire::Error;
 use std::alloc::Global;
@@ -72,9 +73,9 @@ fn push_receipts<G: Ledger>(told: &mut String, seats: &[PoolSeat<G>]) {
 }
 
 // What was told, the receipts of the participants, and what an audit of the pool answers.
-fn audited<G: PoolLedger, R: Wait>(
+fn audited<G: PoolLedger, C: Pooled, O, R: Wait>(
     rt: &R,
-    pool: &Pool<G>,
+    pool: &pg_pool::Pool<G, C, O>,
     told: String,
     seats: Vec<PoolSeat<G>>,
 ) -> Result<String, Error>
@@ -93,10 +94,10 @@ fn audited<G: PoolLedger, R: Wait>(
 }
 
 // The same of one participant.
-fn audited_one<G: PoolLedger, R: Wait>(
+fn audited_one<G: PoolLedger, C: Pooled, O, R: Wait>(
     rt: &R,
     alloc: Global,
-    pool: &Pool<G>,
+    pool: &pg_pool::Pool<G, C, O>,
     told: String,
     seat: PoolSeat<G>,
 ) -> Result<String, Error>
@@ -109,10 +110,10 @@ fn audited_one<G: PoolLedger, R: Wait>(
 }
 
 /// What was told, the receipts of two participants, and what an audit of the pool answers.
-pub(crate) fn audited_two<G: PoolLedger, R: Wait>(
+pub(crate) fn audited_two<G: PoolLedger, C: Pooled, O, R: Wait>(
     rt: &R,
     alloc: Global,
-    pool: &Pool<G>,
+    pool: &pg_pool::Pool<G, C, O>,
     told: String,
     first: PoolSeat<G>,
     second: PoolSeat<G>,
@@ -150,10 +151,10 @@ fn crowd<G: PoolLedger, R: Wait>(
     }
 }
 
-pub(crate) fn close<G: PoolLedger, R: Wait>(
+pub(crate) fn close<G: PoolLedger, C: Pooled + Drop, O, R: Wait>(
     rt: &R,
     alloc: Global,
-    pool: &Pool<G>,
+    pool: &pg_pool::Pool<G, C, O>,
     seat: &mut PoolSeat<G>,
 ) -> &'static str
     requires { seat.old.name ≡ pool.now.name }
@@ -284,10 +285,10 @@ fn hand_on<G: PoolLedger, R: Wait>(
 }
 
 // What was told, the receipts of three participants, and what an audit of the pool answers.
-fn audited_three<G: PoolLedger, R: Wait>(
+fn audited_three<G: PoolLedger, C: Pooled, O, R: Wait>(
     rt: &R,
     alloc: Global,
-    pool: &Pool<G>,
+    pool: &pg_pool::Pool<G, C, O>,
     told: String,
     first: PoolSeat<G>,
     second: PoolSeat<G>,
@@ -424,7 +425,11 @@ fn give_leave_back<G: PoolLedger, R: Wait>(
     }
 }
 
-fn looked<G: PoolLedger, R: Wait>(rt: &R, pool: &Pool<G>, seat: &mut PoolSeat<G>) -> &'static str
+fn looked<G: PoolLedger, C: Pooled, O, R: Wait>(
+    rt: &R,
+    pool: &pg_pool::Pool<G, C, O>,
+    seat: &mut PoolSeat<G>,
+) -> &'static str
     requires { seat.old.name ≡ pool.now.name }
     ensures { seat.new.name ≡ seat.old.name }
 {

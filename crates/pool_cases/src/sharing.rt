@@ -4,6 +4,7 @@ ghost use Rattle.std.specs.Prelude.{◌≡◌};
 use crate::rows::{pair, pool};
 use crate::visiting::{Pool, Use, visit};
 use pg_listen::{PoolLedger, PoolSeat};
+use pg_pool::Pooled;
 use pg_wire::Error;
 use std::alloc::{AllocError, Global};
 use std::marker::Brand;
@@ -67,10 +68,10 @@ fn calls_of_both<G: PoolLedger + Send + Sync, R: Threads + Wait + Sync>(
 }
 
 // Whether the participants have receipts for so many calls, each at its place.
-fn audited<G: PoolLedger, R: Wait>(
+fn audited<G: PoolLedger, C: Pooled, O, R: Wait>(
     rt: &R,
     alloc: Global,
-    pool: &Pool<G>,
+    pool: &pg_pool::Pool<G, C, O>,
     calls: u64,
     first: PoolSeat<G>,
     second: PoolSeat<G>,

@@ -7,14 +7,12 @@ use crate::listening::telling::{
     Shown, buffered, changed, counted, found, handed_out, received, tried,
 };
 use pg_conn::{Preparation, Query};
-use pg_listen::{PgPool, PoolLedger, PoolSeat};
+use pg_listen::{PoolLedger, PoolSeat};
 use pg_listeners::{ChannelChange, ConnectionSource, Listener};
-use pg_stream::MemoryLink;
+use pg_pool::{Pool, Pooled};
 use pg_wire::{Error, Poll, Sequence, Text};
 use std::alloc::{AllocError, Global};
 use std::sync::Wait;
-
-pub(crate) type Pool<G> = PgPool<G, MemoryLink>;
 
 /// A call is polled so often at most.
 pub(crate) const POLLS: u32 = 8;
@@ -126,10 +124,10 @@ where
     Ok(())
 }
 
-fn close<G: PoolLedger, R: Wait>(
+fn close<G: PoolLedger, C: Pooled + Drop, O, R: Wait>(
     rt: &R,
     alloc: Global,
-    pool: &Pool<G>,
+    pool: &Pool<G, C, O>,
     other: &mut PoolSeat<G>,
 ) -> Result<(), Error>
     requires { other.old.name ≡ pool.now.name }
@@ -141,17 +139,18 @@ fn close<G: PoolLedger, R: Wait>(
 }
 
 /// The calls of a row, but the last one where that ends the listener.
-pub(crate) fn make_all<G, B, R>(
+pub(crate) fn make_all<G, C, O, B, R>(
     rt: &R,
     alloc: Global,
     out: &mut String,
-    pool: &Pool<G>,
+    pool: &Pool<G, C, O>,
     other: &mut PoolSeat<G>,
     listener: &mut Listener<B>,
     calls: &str,
 ) -> Result<(), Error>
 where
     G: PoolLedger,
+    C: Pooled + Drop,
     B: ConnectionSource,
     B::L: Shown + Drop,
     R: Wait,

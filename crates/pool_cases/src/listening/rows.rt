@@ -1,12 +1,13 @@
 //! A row, over a pool of one connection.
 ghost use Rattle.std.specs.Prelude.{◌≡◌, false, IsSome};
 
-use crate::listening::calls::{POLLS, Pool, make, make_all};
+use crate::listening::calls::{POLLS, make, make_all};
 use crate::listening::opening::{alone, dial, participant, pool};
 use crate::listening::polling::{connect, next, release};
 use crate::listening::telling::{Shown, failed, history, lost, push, released, streamed};
 use pg_listen::{PoolLedger, PoolSeat};
 use pg_listeners::{Connecting, ConnectionSource, Listener, NotificationStream, connect_with};
+use pg_pool::{Pool, Pooled};
 use pg_wire::{Error, Poll};
 use std::alloc::Global;
 use std::marker::Brand;
@@ -83,17 +84,18 @@ where
     }
 }
 
-fn play<G, B, R>(
+fn play<G, C, O, B, R>(
     rt: &R,
     alloc: Global,
     out: &mut String,
-    pool: &Pool<G>,
+    pool: &Pool<G, C, O>,
     other: &mut PoolSeat<G>,
     state: Connecting<Listener<B>>,
     calls: &str,
 ) -> Result<(), Error>
 where
     G: PoolLedger,
+    C: Pooled + Drop,
     B: ConnectionSource + Drop,
     B::L: Shown + Drop,
     R: Wait,
