@@ -7,6 +7,7 @@ pub mod SettlingLaws
 pub mod SoundLaws
 pub mod MeasureLaws
 pub mod TextLaws
+pub mod ListLaws
 pub mod RoundLaws
 pub mod AgainLaws
 pub mod OrderLaws

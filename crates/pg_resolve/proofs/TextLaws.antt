@@ -1,11 +1,11 @@
 -- Doubling is by characters in code and by bytes in the definition; texts that are appended one behind the other.
-use Rattle.std.proofs.Common.{◌≡◌, ◌≢◌, ℕ, ◌+◌, ◌<◌, List, [], ◌∷◌, ◌++◌, length, get_or, refl, sym, ap, ◌∙◌, arith, append-nil, append_assoc, lit<}
+use Rattle.std.proofs.Common.{◌≡◌, ◌≢◌, ℕ, ◌+◌, ◌<◌, List, [], ◌∷◌, ◌++◌, length, get_or, codes, refl, sym, ap, ◌∙◌, arith, append-nil, append_assoc, lit<}
 use Rattle.std.specs.Char.{encode_utf8}
 use Rattle.std.proofs.lemmas.Str.{inside_one}
 use Rattle.std.proofs.lemmas.Grind.{flat_map-append}
 use Rattle.std.proofs.lemmas.Str.{encode_ascii}
 use native.Mathlib.Numerals.{unary_clauses}
-use Rattle.pg_resolve.specs.Texts.{doubled, doubled_byte}
+use Rattle.pg_resolve.specs.Texts.{doubled, doubled_byte, quoted}
 
 byte_kept : (b : ℕ) → b ≢ 39 → b ≢ 92 → doubled_byte b ≡ b ∷ []
 byte_kept b s t = grind arith
@@ -47,8 +47,16 @@ doubled-nil = refl
 pub three_pushed : (old a b c x y z : List ℕ) → a ≡ old ++ x → b ≡ a ++ y → c ≡ b ++ z → c ≡ old ++ (x ++ y ++ z)
 three_pushed old a b c x y z e f g = rw (g, f, e) (simp append_assoc)
 
-pub five_pushed : (old a b c d n x y z u v : List ℕ) → a ≡ old ++ x → b ≡ a ++ y → c ≡ b ++ z → d ≡ c ++ u → n ≡ d ++ v → n ≡ old ++ (x ++ y ++ z ++ u ++ v)
-five_pushed old a b c d n x y z u v e f g h i = rw (i, h, g, f, e) (simp append_assoc)
+-- ---- a quoted text within others
 
-pub three_written : (a b c x y z : List ℕ) → a ≡ [] ++ x → b ≡ a ++ y → c ≡ b ++ z → c ≡ x ++ y ++ z
-three_written a b c x y z e f g = rw (g, f, e) (simp append_assoc)
+pub quoted_original : (name : List ℕ) → codes "(E'" ++ doubled name ++ codes "', " ≡ codes "(" ++ quoted name ++ codes ", "
+unfolding quoted
+quoted_original name = simp append_assoc
+
+pub quoted_name : (name : List ℕ) → codes "to_regtype(E'" ++ doubled name ++ codes "')::oid)" ≡ (codes "to_regtype(" ++ quoted name ++ codes ")::oid") ++ codes ")"
+unfolding quoted
+quoted_name name = simp append_assoc
+
+pub quoted_element : (name : List ℕ) → codes "to_regtype(E'" ++ doubled name ++ codes "'))" ≡ (codes "to_regtype(" ++ quoted name ++ codes ")") ++ codes ")"
+unfolding quoted
+quoted_element name = simp append_assoc

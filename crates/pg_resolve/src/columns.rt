@@ -1,12 +1,11 @@
-ghost use Rattle.std.specs.Prelude.{◌≡◌, ◌++◌, ◌∷◌, [], OnOk, OnErr, IfOk, IfErr, string_bytes};
+ghost use Rattle.std.specs.Prelude.{◌≡◌, ◌++◌, ◌∷◌, [], OnOk, OnErr, IfOk, IfErr};
 ghost use Rattle.pg_wire.specs.declared.error.Error.TheVariants as errors;
-ghost use Rattle.pg_resolve.specs.Columns.{column_text, column_head, column_end, column_lookup, AsksColumns};
+ghost use Rattle.pg_resolve.specs.Columns.{column_text, column_lookup, AsksColumns};
 ghost use Rattle.pg_resolve.specs.Tables.{with_row, KeepsPart};
 
-use crate::listing::{Listed, push_list};
+use crate::listing::{Listed, lookup_of};
 use crate::row::ColumnResolverRow;
 use crate::tables::TableCache;
-use itoa::Buffer;
 use pg_wire::{Error, Oid, Sequence, Text};
 use std::alloc::{AllocError, Global};
 use std::marker::Model;
@@ -14,45 +13,21 @@ use std::marker::Model;
 impl Listed for (Oid, i16) {
     ghost text = { column_text };
 
-    #[tactic(auto, using(crate::proofs::TextLaws::five_pushed))]
     fn push_text(&self, out: &mut String) -> Result<(), AllocError> {
-        let mut table = Buffer::new();
-        let mut attribute = Buffer::new();
-        out.push_str("(")?;
-        out.push_str(table.format(self.0.0))?;
-        out.push_str(", ")?;
-        out.push_str(attribute.format(self.1))?;
-        out.push_str(")")
+        write!(out, "({}, {})", self.0.0, self.1)
     }
 }
 
-#[tactic(auto, unfolding(crate::specs::Columns::column_head))]
-fn push_head(out: &mut String) -> Result<(), AllocError>
-    ensures { OnOk result (string_bytes out.new ≡ string_bytes out.old ++ column_head) }
-{
-    out.push_str(
-        "SELECT\nattrelid table_oid,\nattrelid::regclass::text table_name,\narray_agg(ROW(attnum, attname)) AS columns\nFROM (VALUES ",
-    )
-}
-
-#[tactic(auto, unfolding(crate::specs::Columns::column_end))]
-fn push_end(out: &mut String) -> Result<(), AllocError>
-    ensures { OnOk result (string_bytes out.new ≡ string_bytes out.old ++ column_end) }
-{
-    out.push_str(
-        ") lookup(table_oid, attribute_num)\nINNER JOIN pg_catalog.pg_attribute ON lookup.table_oid = attrelid AND lookup.attribute_num = attnum\nGROUP BY attrelid",
-    )
-}
-
-#[tactic(auto, using(crate::proofs::TextLaws::three_written))]
+#[tactic(auto, unfolding(crate::specs::Columns::column_head, crate::specs::Columns::column_end))]
 fn column_text_of(alloc: Global, columns: &[(Oid, i16)]) -> Result<Text, AllocError>
     ensures { IfOk result (λ text. text ≡ column_lookup columns.now) }
 {
-    let mut out = String::new(alloc);
-    push_head(&mut out)?;
-    push_list(&mut out, columns)?;
-    push_end(&mut out)?;
-    Ok(Text::from_string(out))
+    lookup_of(
+        alloc,
+        "SELECT\nattrelid table_oid,\nattrelid::regclass::text table_name,\narray_agg(ROW(attnum, attname)) AS columns\nFROM (VALUES ",
+        columns,
+        ") lookup(table_oid, attribute_num)\nINNER JOIN pg_catalog.pg_attribute ON lookup.table_oid = attrelid AND lookup.attribute_num = attnum\nGROUP BY attrelid",
+    )
 }
 
 /// Finds out which columns of tables the fields of a result come from, by one lookup.

@@ -13,6 +13,7 @@ mod entry;
 mod found;
 pub mod laws;
 mod listing;
+mod map;
 mod marking;
 mod nullable;
 mod plan;

@@ -1,8 +1,8 @@
-ghost use Rattle.std.specs.Prelude.{◌≡◌, ◌++◌, OnOk, string_bytes, List, ℕ};
-ghost use Rattle.std.specs.List.{flat_map};
-ghost use Rattle.pg_resolve.specs.Listed.{behind_comma, listed};
+ghost use Rattle.std.specs.Prelude.{◌≡◌, ◌++◌, OnOk, IfOk, string_bytes, List, ℕ};
+ghost use Rattle.pg_resolve.specs.Listed.{listed};
 
-use std::alloc::AllocError;
+use pg_wire::Text;
+use std::alloc::{AllocError, Global};
 
 // What a lookup's text has a list of.
 pub(crate) trait Listed {
@@ -13,25 +13,22 @@ pub(crate) trait Listed {
         ensures { OnOk result (string_bytes out.new ≡ string_bytes out.old ++ text self.now) };
 }
 
-fn push_more<T: Listed>(out: &mut String, items: &[T]) -> Result<(), AllocError>
-    ensures { OnOk result (string_bytes out.new ≡ string_bytes out.old ++ flat_map (behind_comma T.text) items.now) }
+// The text of a lookup: the texts of all, with a comma between two, behind a start and before an end.
+pub(crate) fn lookup_of<T: Listed>(
+    alloc: Global,
+    start: &str,
+    items: &[T],
+    end: &str,
+) -> Result<Text, AllocError>
+    ensures { IfOk result (λ text. text ≡ start.now ++ listed T.text items.now ++ end.now) }
 {
+    let mut out = String::from_str(alloc, start)?;
+    let mut comma = "";
     for item in items {
-        out.push_str(", ")?;
-        item.push_text(out)?;
+        out.push_str(comma)?;
+        item.push_text(&mut out)?;
+        comma = ", ";
     }
-    Ok(())
-}
-
-// Adds the texts of all, with a comma between two.
-pub(crate) fn push_list<T: Listed>(out: &mut String, items: &[T]) -> Result<(), AllocError>
-    ensures { OnOk result (string_bytes out.new ≡ string_bytes out.old ++ listed T.text items.now) }
-{
-    match items {
-        [] => Ok(()),
-        [first, rest @ ..] => {
-            first.push_text(out)?;
-            push_more(out, rest)
-        }
-    }
+    out.push_str(end)?;
+    Ok(Text::from_string(out))
 }

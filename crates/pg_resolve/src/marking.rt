@@ -20,7 +20,12 @@ fn is_word(word: &str, said: &Option<Text>) -> bool
 fn is_among(names: &[Text], name: &str) -> bool
     ensures { result ≡ is_among names.now name.now }
 {
-    names.iter().any(|other| other.as_str() == name)
+    for other in names {
+        if other.as_str() == name {
+            return true;
+        }
+    }
+    false
 }
 
 // Whether a plan marks an output for what it is itself.

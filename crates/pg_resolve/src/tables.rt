@@ -1,6 +1,7 @@
-ghost use Rattle.std.specs.Prelude.{◌≡◌, OnOk, OnErr, option_copied, option_map};
-ghost use Rattle.pg_resolve.specs.Tables.{no_tables, column_key, table_name, column_name, both_names, column_named, enter_table, put_column, put_columns, with_row, PutsFront, KeepsPart};
+ghost use Rattle.std.specs.Prelude.{◌≡◌, OnOk, OnErr, option_map};
+ghost use Rattle.pg_resolve.specs.Tables.{no_tables, column_key, column_named, enter_table, put_column, put_columns, with_row, PutsFront, KeepsPart};
 
+use crate::map::put;
 use crate::row::ColumnResolverRow;
 use pg_wire::{Oid, Text};
 use std::alloc::{AllocError, Global};
@@ -39,18 +40,6 @@ fn column_key(table: Oid, attribute: i16) -> u64
     65_536 * (table.0 as u64) + attribute.cast_unsigned() as u64
 }
 
-fn both_names<'n>(table: Option<&'n Text>, column: Option<&'n Text>) -> Option<(&'n str, &'n str)>
-    ensures { option_map (λ names. (names.0.now, names.1.now)) result ≡ both_names (option_copied table.entry) (option_copied column.entry) }
-{
-    match table {
-        Some(table) => match column {
-            Some(column) => Some((table.as_str(), column.as_str())),
-            None => None,
-        },
-        None => None,
-    }
-}
-
 impl TableCache {
     pub fn new(alloc: Global) -> Self
         ensures { result ≡ no_tables }
@@ -61,23 +50,13 @@ impl TableCache {
         }
     }
 
-    fn table_name(&self, table: Oid) -> Option<&Text>
-        ensures { option_copied result ≡ table_name self.now table }
-    {
-        self.tables.get(&table.0)
-    }
-
-    fn column_name(&self, table: Oid, attribute: i16) -> Option<&Text>
-        ensures { option_copied result ≡ column_name self.now table attribute }
-    {
-        self.columns.get(&column_key(table, attribute))
-    }
-
     /// The names of a table and of a column of it, where both were looked up.
     pub fn column(&self, table: Oid, attribute: i16) -> Option<(&str, &str)>
         ensures { option_map (λ names. (names.0.now, names.1.now)) result ≡ column_named self.now table attribute }
     {
-        both_names(self.table_name(table), self.column_name(table, attribute))
+        let table_name = self.tables.get(&table.0)?;
+        let name = self.columns.get(&column_key(table, attribute))?;
+        Some((table_name.as_str(), name.as_str()))
     }
 
     // Keeps the name of a table that has none.
@@ -85,12 +64,9 @@ impl TableCache {
         ensures ok { OnOk result (self.new ≡ enter_table table name self.old) }
         ensures err { OnErr result (self.new ≡ self.old) }
     {
-        match self.table_name(table) {
+        match self.tables.get(&table.0) {
             Some(_) => Ok(()),
-            None => {
-                self.tables.insert(table.0, name)?;
-                Ok(())
-            }
+            None => put(&mut self.tables, table.0, name),
         }
     }
 
@@ -100,8 +76,7 @@ impl TableCache {
         ensures err { OnErr result (self.new ≡ self.old) }
     {
         let (attribute, name) = column;
-        self.columns.insert(column_key(table, attribute), name)?;
-        Ok(())
+        put(&mut self.columns, column_key(table, attribute), name)
     }
 
     fn put_columns(&mut self, table: Oid, columns: Vec<(i16, Text)>) -> Result<(), AllocError>
