@@ -54,9 +54,13 @@ impl TableCache {
     pub fn column(&self, table: Oid, attribute: i16) -> Option<(&str, &str)>
         ensures { option_map (λ names. (names.0.now, names.1.now)) result ≡ column_named self.now table attribute }
     {
-        let table_name = self.tables.get(&table.0)?;
-        let name = self.columns.get(&column_key(table, attribute))?;
-        Some((table_name.as_str(), name.as_str()))
+        match self.tables.get(&table.0) {
+            Some(table_name) => match self.columns.get(&column_key(table, attribute)) {
+                Some(name) => Some((table_name.as_str(), name.as_str())),
+                None => None,
+            },
+            None => None,
+        }
     }
 
     // Keeps the name of a table that has none.
