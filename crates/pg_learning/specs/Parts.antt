@@ -7,7 +7,6 @@ use Rattle.pg_learning.specs.Texts.{IsTypType, IsTypCategory, Given, GivenOrNull
 use Rattle.pg_learning.specs.Lookups.{Values, At, AreAttributes}
 use Rattle.pg_learning.specs.declared.parts.Names.{Names}
 use Rattle.pg_learning.specs.declared.parts.Codes.{Codes}
-use Rattle.pg_learning.specs.declared.parts.Related.{Related}
 use Rattle.pg_learning.specs.declared.parts.Members.{Members}
 
 -- want of memory is handed on, any other error becomes that of the column
@@ -27,11 +26,9 @@ pub record AreNames (values : Values) (names : Names) : Type 0 where
 pub record AreCodes (values : Values) (codes : Codes) : Type 0 where
   pub typtype : At (Given IsTypType) values 4 codes.typtype
   pub typcategory : At (Given IsTypCategory) values 5 codes.typcategory
-
-pub record AreRelated (values : Values) (related : Related) : Type 0 where
-  pub typelem : At (GivenOrNull IsOidText) values 6 related.typelem
-  pub typbasetype : At (GivenOrNull IsOidText) values 7 related.typbasetype
-  pub rngsubtype : At (GivenOrNull IsOidText) values 8 related.rngsubtype
+  pub typelem : At (GivenOrNull IsOidText) values 6 codes.typelem
+  pub typbasetype : At (GivenOrNull IsOidText) values 7 codes.typbasetype
+  pub rngsubtype : At (GivenOrNull IsOidText) values 8 codes.rngsubtype
 
 pub record AreMembers (values : Values) (members : Members) : Type 0 where
   pub enum_labels : At (Given (AreItems IsTextOf)) values 9 members.enum_labels

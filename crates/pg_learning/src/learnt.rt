@@ -1,11 +1,10 @@
-ghost use Rattle.std.specs.Prelude.{◌≡◌, map, IfOk, IfErr, OnOk, OnErr};
-ghost use Rattle.pg_resolve.specs.Resolving.{by_oid, no_rows};
+ghost use Rattle.std.specs.Prelude.{◌≡◌, IfOk, IfErr, OnOk, OnErr};
 ghost use Rattle.pg_request.specs.Asked.{RefusesType};
-ghost use Rattle.pg_learning.specs.Naming.{begun_names, oids_under, unknown_name, unnumbered};
-ghost use Rattle.pg_learning.specs.Learning.{IsUnsought, Seeks, SeeksNames, SeeksOn, TakesRow, begun_with, learnt_none, types_in, unknown, unnamed_types};
+ghost use Rattle.pg_learning.specs.Naming.{begun_names, oids_under, unknown_name};
+ghost use Rattle.pg_learning.specs.Learning.{IsUnsought, Seeks, SeeksNames, SeeksOn, TakesRow, begun_with, learnt_none, unnamed_types};
 
-use crate::naming::{oids_under, push_unnumbered};
-use crate::pushing::{push_columns, push_names, push_oids};
+use crate::naming::{ask_unnumbered, not_found, oid_under};
+use crate::pushing::{ask_unknown, push_names};
 use crate::taking::{take_names, take_type};
 use pg_columns::PgColumn;
 use pg_request::Declared;
@@ -68,22 +67,6 @@ impl Learnt {
         self.types.forget_names();
     }
 
-    // What isn't known of the types of parameters and of columns is asked for.
-    fn types_for(
-        &self,
-        alloc: Global,
-        parameters: &[Oid],
-        columns: &[PgColumn],
-    ) -> Result<Resolver, Error>
-        ensures ok { IfOk result (λ r. r ≡ record no_rows { pushed = map by_oid (unknown self.now.types (types_in parameters.now columns.now)) }) }
-        ensures memory { IfErr result (λ e. e ≡ Error.OutOfMemory) }
-    {
-        let mut resolver = Resolver::new(alloc);
-        push_oids(alloc, &self.types, &mut resolver, parameters)?;
-        push_columns(alloc, &self.types, &mut resolver, columns)?;
-        Ok(resolver)
-    }
-
     /// What isn't known of the types of a statement's parameters and columns is to be looked up, in place of whatever was. An `Err` is want of memory, and
     /// nothing has changed.
     pub fn begin(
@@ -95,19 +78,9 @@ impl Learnt {
         ensures ok { OnOk result (self.new ≡ begun_with parameters.now columns.now self.old) }
         ensures err { IfErr result (λ e. (e ≡ Error.OutOfMemory) × (self.new ≡ self.old)) }
     {
-        let resolver = self.types_for(alloc, parameters, columns)?;
+        let resolver = ask_unknown(alloc, &self.types, parameters, columns)?;
         self.seeking = Seeking::Types(resolver);
         Ok(())
-    }
-
-    // What isn't known of types that are declared by their names is asked for.
-    fn names_for(&self, alloc: Global, names: &[Declared]) -> Result<Resolver, Error>
-        ensures ok { IfOk result (λ r. r ≡ record no_rows { pushed = unnumbered self.now.types names.now }) }
-        ensures memory { IfErr result (λ e. e ≡ Error.OutOfMemory) }
-    {
-        let mut resolver = Resolver::new(alloc);
-        push_unnumbered(alloc, &self.types, &mut resolver, names)?;
-        Ok(resolver)
     }
 
     /// What isn't known of types that are declared by their names is to be looked up, in place of whatever was; no names of columns come behind it. An
@@ -116,7 +89,7 @@ impl Learnt {
         ensures ok { OnOk result (self.new ≡ begun_names names.now self.old) }
         ensures err { IfErr result (λ e. (e ≡ Error.OutOfMemory) × (self.new ≡ self.old)) }
     {
-        self.seeking = Seeking::Types(self.names_for(alloc, names)?);
+        self.seeking = Seeking::Types(ask_unnumbered(alloc, &self.types, names)?);
         Ok(())
     }
 
@@ -126,7 +99,14 @@ impl Learnt {
         ensures known { OnOk result (unknown_name self.now.types names.now ≡ None) }
         ensures cause { IfErr result (RefusesType (unknown_name self.now.types names.now)) }
     {
-        oids_under(alloc, &self.types, names)
+        let mut oids = Oids::new(alloc);
+        for of in names {
+            match oid_under(alloc, &self.types, of)? {
+                Some(oid) => oids.push(oid)?,
+                None => return Err(not_found(alloc, of)),
+            }
+        }
+        Ok(oids)
     }
 
     // The lookup of the names of columns, where they are wanted and one isn't known.

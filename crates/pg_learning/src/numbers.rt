@@ -1,7 +1,7 @@
 ghost use Rattle.std.specs.Prelude.{◌≡◌, MatchOption};
 ghost use Rattle.std.specs.Int.{w16};
 ghost use Rattle.std.specs.Str.Parse.{IsNumeral, without_leading_sign, without_leading_plus};
-ghost use Rattle.pg_values.specs.Values.{Answers, IsDecimal, IsOidText};
+ghost use Rattle.pg_values.specs.Values.{IsDecimal, IsOidText};
 
 use crate::from_text::FromText;
 use pg_wire::{Error, Oid};
@@ -15,33 +15,30 @@ fn digits(bytes: &[u8]) -> Option<&str>
     str::from_utf8(bytes).ok()
 }
 
-fn number(bytes: &[u8]) -> Option<i16>
-    ensures { Answers (IsDecimal w16 bytes.now) result }
-{
-    let text = digits(bytes)?;
-    text.parse::<i16>().ok()
-}
-
 impl FromText for i16 {
     ghost means = { IsDecimal w16 };
 
     fn from_text(_alloc: Global, bytes: &[u8]) -> Result<Self, Error> {
-        number(bytes).ok_or(Error::Decode)
+        let Some(text) = digits(bytes) else {
+            return Err(Error::Decode);
+        };
+        match text.parse::<i16>() {
+            Ok(number) => Ok(number),
+            Err(_) => Err(Error::Decode),
+        }
     }
-}
-
-fn oid(bytes: &[u8]) -> Option<Oid>
-    ensures { Answers (IsOidText bytes.now) result }
-{
-    let text = digits(bytes)?;
-    let number = text.parse::<u32>().ok()?;
-    Some(Oid(number))
 }
 
 impl FromText for Oid {
     ghost means = { IsOidText };
 
     fn from_text(_alloc: Global, bytes: &[u8]) -> Result<Self, Error> {
-        oid(bytes).ok_or(Error::Decode)
+        let Some(text) = digits(bytes) else {
+            return Err(Error::Decode);
+        };
+        match text.parse::<u32>() {
+            Ok(number) => Ok(Oid(number)),
+            Err(_) => Err(Error::Decode),
+        }
     }
 }

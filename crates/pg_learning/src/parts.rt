@@ -1,4 +1,4 @@
-// What a row of the type lookup tells, in four parts.
+// What a row of the type lookup tells, in three parts.
 
 use pg_resolve::{TypCategory, TypType};
 use pg_wire::{Oid, Sequence, Text};
@@ -15,10 +15,6 @@ pub(crate) struct Names {
 pub(crate) struct Codes {
     pub(crate) typtype: TypType,
     pub(crate) typcategory: TypCategory,
-}
-
-#[derive(Clone, Copy)]
-pub(crate) struct Related {
     pub(crate) typelem: Option<Oid>,
     pub(crate) typbasetype: Option<Oid>,
     pub(crate) rngsubtype: Option<Oid>,

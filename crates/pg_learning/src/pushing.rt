@@ -1,24 +1,38 @@
 //! What isn't known is asked for.
-ghost use Rattle.std.specs.Prelude.{◌≡◌, ◌++◌, ◌∷◌, [], Some, is_some, map, IfOk, IfErr, OnOk};
+ghost use Rattle.std.specs.Prelude.{◌≡◌, ◌++◌, ◌∷◌, [], Some, is_some, map, option_map, IfOk, OnOk};
 ghost use Rattle.pg_resolve.specs.Cached.{known};
-ghost use Rattle.pg_resolve.specs.Resolving.{by_oid};
-ghost use Rattle.pg_learning.specs.Learning.{unknown, unnamed, unnamed_one};
+ghost use Rattle.pg_resolve.specs.Resolving.{by_oid, no_rows};
+ghost use Rattle.pg_learning.specs.Learning.{types_in, unknown, unnamed, unnamed_one};
 
 use pg_arguments::PgTypeInfo;
 use pg_columns::PgColumn;
 use pg_resolve::{ColumnResolver, Resolver, TableCache, TypeCache, Wanted};
-use pg_wire::{Error, Oid};
-use std::alloc::Global;
+use pg_wire::Oid;
+use std::alloc::{AllocError, Global};
 
 // Whether a type is known: it is built in, or was looked up.
-fn is_known(alloc: Global, types: &TypeCache, oid: Oid) -> Result<bool, Error>
-    ensures ok { IfOk result (λ is. is ≡ is_some (known types.now oid)) }
-    ensures memory { IfErr result (λ e. e ≡ Error.OutOfMemory) }
+fn is_known(alloc: Global, types: &TypeCache, oid: Oid) -> Result<bool, AllocError>
+    ensures { IfOk result (λ is. is ≡ is_some (known types.now oid)) }
 {
-    if types.by_oid(oid).is_some() {
-        return Ok(true);
+    match types.by_oid(oid) {
+        Some(_) => Ok(true),
+        None => Ok(PgTypeInfo::builtin(alloc, oid)?.is_some()),
     }
-    Ok(PgTypeInfo::builtin(alloc, oid)?.is_some())
+}
+
+/// Asks for a type; the row of it tells the original name again.
+pub(crate) fn push_wanted(
+    alloc: Global,
+    resolver: &mut Resolver,
+    original: Option<&str>,
+    wanted: Wanted,
+) -> Result<(), AllocError>
+    ensures { OnOk result (resolver.new ≡ record resolver.old { pushed = resolver.old.pushed ++ record { original = option_map (λ name. name.now) original.entry; wanted = wanted } ∷ [] }) }
+{
+    match resolver.push_type(alloc, original, wanted) {
+        Ok(()) => Ok(()),
+        Err(_) => Err(AllocError),
+    }
 }
 
 // Asks for a type that isn't known.
@@ -27,49 +41,32 @@ fn push_oid(
     types: &TypeCache,
     resolver: &mut Resolver,
     oid: Oid,
-) -> Result<(), Error>
-    ensures ok { OnOk result (resolver.new ≡ record resolver.old { pushed = resolver.old.pushed ++ map by_oid (unknown types.now (oid ∷ [])) }) }
-    ensures memory { IfErr result (λ e. e ≡ Error.OutOfMemory) }
+) -> Result<(), AllocError>
+    ensures { OnOk result (resolver.new ≡ record resolver.old { pushed = resolver.old.pushed ++ map by_oid (unknown types.now (oid ∷ [])) }) }
 {
     if is_known(alloc, types, oid)? {
         return Ok(());
     }
-    match resolver.push_type(alloc, None, Wanted::Oid(oid)) {
-        Ok(()) => Ok(()),
-        Err(_) => Err(Error::OutOfMemory),
-    }
+    push_wanted(alloc, resolver, None, Wanted::Oid(oid))
 }
 
-/// Asks for those types among these that aren't known.
-pub(crate) fn push_oids(
+/// Those of the types of parameters and of columns that aren't known are asked for.
+pub(crate) fn ask_unknown(
     alloc: Global,
     types: &TypeCache,
-    resolver: &mut Resolver,
-    oids: &[Oid],
-) -> Result<(), Error>
-    ensures ok { OnOk result (resolver.new ≡ record resolver.old { pushed = resolver.old.pushed ++ map by_oid (unknown types.now oids.now) }) }
-    ensures memory { IfErr result (λ e. e ≡ Error.OutOfMemory) }
-{
-    for oid in oids {
-        push_oid(alloc, types, resolver, *oid)?;
-    }
-    Ok(())
-}
-
-/// The same for the types of columns.
-pub(crate) fn push_columns(
-    alloc: Global,
-    types: &TypeCache,
-    resolver: &mut Resolver,
+    parameters: &[Oid],
     columns: &[PgColumn],
-) -> Result<(), Error>
-    ensures ok { OnOk result (resolver.new ≡ record resolver.old { pushed = resolver.old.pushed ++ map by_oid (unknown types.now (map (λ column. column.field.type_id) columns.now)) }) }
-    ensures memory { IfErr result (λ e. e ≡ Error.OutOfMemory) }
+) -> Result<Resolver, AllocError>
+    ensures { IfOk result (λ r. r ≡ record no_rows { pushed = map by_oid (unknown types.now (types_in parameters.now columns.now)) }) }
 {
-    for column in columns {
-        push_oid(alloc, types, resolver, column.field().type_id)?;
+    let mut resolver = Resolver::new(alloc);
+    for oid in parameters {
+        push_oid(alloc, types, &mut resolver, *oid)?;
     }
-    Ok(())
+    for column in columns {
+        push_oid(alloc, types, &mut resolver, column.field().type_id)?;
+    }
+    Ok(resolver)
 }
 
 // Asks for a column of a table, where one of their names isn't known.
@@ -78,9 +75,8 @@ fn push_name(
     resolver: &mut ColumnResolver,
     table: Option<Oid>,
     attribute: Option<i16>,
-) -> Result<(), Error>
-    ensures ok { OnOk result (resolver.new ≡ resolver.old ++ unnamed_one tables.now table attribute) }
-    ensures memory { IfErr result (λ e. e ≡ Error.OutOfMemory) }
+) -> Result<(), AllocError>
+    ensures { OnOk result (resolver.new ≡ resolver.old ++ unnamed_one tables.now table attribute) }
 {
     let (Some(table), Some(attribute)) = (table, attribute) else {
         return Ok(());
@@ -91,7 +87,7 @@ fn push_name(
     }
     match resolver.push_column(table, attribute) {
         Ok(()) => Ok(()),
-        Err(_) => Err(Error::OutOfMemory),
+        Err(_) => Err(AllocError),
     }
 }
 
@@ -100,9 +96,8 @@ pub(crate) fn push_names(
     tables: &TableCache,
     resolver: &mut ColumnResolver,
     columns: &[PgColumn],
-) -> Result<(), Error>
-    ensures ok { OnOk result (resolver.new ≡ resolver.old ++ unnamed tables.now columns.now) }
-    ensures memory { IfErr result (λ e. e ≡ Error.OutOfMemory) }
+) -> Result<(), AllocError>
+    ensures { OnOk result (resolver.new ≡ resolver.old ++ unnamed tables.now columns.now) }
 {
     for column in columns {
         let table = column.relation_id();

@@ -1,9 +1,9 @@
 ghost use Rattle.std.specs.Prelude.{IfOk, IfErr, OnOk};
 ghost use Rattle.pg_learning.specs.Lookups.{IsTypeRow, IsColumnRow, IsNoRow, AreReadBefore, type_columns, column_columns};
-ghost use Rattle.pg_learning.specs.Parts.{AreNames, AreCodes, AreRelated, AreMembers};
+ghost use Rattle.pg_learning.specs.Parts.{AreNames, AreCodes, AreMembers};
 
 use crate::column::{column, column_or_null};
-use crate::parts::{Codes, Members, Names, Related};
+use crate::parts::{Codes, Members, Names};
 use pg_resolve::{ColumnResolverRow, TypeResolverRow};
 use pg_wire::{DataRow, Error};
 use std::alloc::Global;
@@ -28,27 +28,17 @@ fn names(alloc: Global, values: &DataRow) -> Result<Names, Error>
 fn codes(alloc: Global, values: &DataRow) -> Result<Codes, Error>
     requires { AreReadBefore type_columns values.now 4 }
     ensures ok { IfOk result (AreCodes values.now) }
-    ensures read { OnOk result (AreReadBefore type_columns values.now 6) }
+    ensures read { OnOk result (AreReadBefore type_columns values.now 9) }
     ensures err { IfErr result (IsNoRow type_columns values.now) }
 {
     let typtype = column(alloc, values, 4)?;
     let typcategory = column(alloc, values, 5)?;
-    Ok(Codes {
-        typtype,
-        typcategory,
-    })
-}
-
-fn related(alloc: Global, values: &DataRow) -> Result<Related, Error>
-    requires { AreReadBefore type_columns values.now 6 }
-    ensures ok { IfOk result (AreRelated values.now) }
-    ensures read { OnOk result (AreReadBefore type_columns values.now 9) }
-    ensures err { IfErr result (IsNoRow type_columns values.now) }
-{
     let typelem = column_or_null(alloc, values, 6)?;
     let typbasetype = column_or_null(alloc, values, 7)?;
     let rngsubtype = column_or_null(alloc, values, 8)?;
-    Ok(Related {
+    Ok(Codes {
+        typtype,
+        typcategory,
         typelem,
         typbasetype,
         rngsubtype,
@@ -76,7 +66,6 @@ pub fn type_row(alloc: Global, values: &DataRow) -> Result<TypeResolverRow, Erro
 {
     let names = names(alloc, values)?;
     let codes = codes(alloc, values)?;
-    let related = related(alloc, values)?;
     let members = members(alloc, values)?;
     Ok(TypeResolverRow {
         oid: names.oid,
@@ -85,9 +74,9 @@ pub fn type_row(alloc: Global, values: &DataRow) -> Result<TypeResolverRow, Erro
         original_name: names.original_name,
         typtype: codes.typtype,
         typcategory: codes.typcategory,
-        typelem: related.typelem,
-        typbasetype: related.typbasetype,
-        rngsubtype: related.rngsubtype,
+        typelem: codes.typelem,
+        typbasetype: codes.typbasetype,
+        rngsubtype: codes.rngsubtype,
         enum_labels: members.enum_labels,
         record_attributes: members.record_attributes,
     })
