@@ -14,7 +14,7 @@ pub loop-oid-preserved : goal.loop-oid-preserved
 loop-oid-preserved c = record {
   rest = asked_by c.args.waiting.now.entries c.args.began.now c.args.began.now c.loop-oid.seen.items c.deref.result.now c.push.new.self.items c.loop-oid.oid-index c.oid.inside.0 c.oid-item.result c.is_asked_again.result refl c.loop-oid-test.true c.oid-item.is c.oid.view_is c.is_asked_again.ensures
     c.deref.ensures.value c.loop-oid.invariant.rest c.if-not-is_asked_again.false c.in_ok-push.ensures.items;
-  asked = pushed_more c.args.pushed.now c.loop-oid.pushed c.push-2.new.self c.loop-oid.seen.items c.push.new.self.items c.oid.inside.0 c.oid-item.result c.loop-oid.invariant.asked c.in_ok-push.ensures.items c.oid.view_is c.in_ok-push-2.ensures.ok;
+  asked = pushed_more c.args.pushed.now c.loop-oid.pushed c.push-in-loop-oid.new.self c.loop-oid.seen.items c.push.new.self.items c.oid.inside.0 c.loop-oid.invariant.asked c.in_ok-push.ensures.items c.in_ok-push-2.ensures.ok;
 }
 
 pub returns : goal.returns
