@@ -1,5 +1,6 @@
 pub mod MapLaws
 pub mod RowLaws
+pub mod FoundLaws
 pub mod MeaningLaws
 pub mod WaitingLaws
 pub mod TriedLaws
