@@ -5,7 +5,7 @@ ghost use Rattle.pg_learning.specs.Learning.{IsUnsought, Seeks, SeeksNames, Seek
 
 use crate::naming::{ask_unnumbered, not_found, oid_under};
 use crate::pushing::{ask_unknown, push_names};
-use crate::taking::{take_names, take_type};
+use crate::rows::{column_row, type_row};
 use pg_columns::PgColumn;
 use pg_request::Declared;
 use pg_resolve::{ColumnResolver, Resolver, TableCache, TypeCache};
@@ -182,8 +182,14 @@ impl Learnt {
     {
         match &mut self.seeking {
             Seeking::Nothing => Ok(()),
-            Seeking::Types(resolver) => take_type(alloc, &mut self.types, resolver, values),
-            Seeking::Names(resolver) => take_names(alloc, &mut self.tables, resolver, values),
+            Seeking::Types(resolver) => {
+                let row = type_row(alloc, values)?;
+                resolver.take_row(alloc, &mut self.types, row)
+            }
+            Seeking::Names(resolver) => {
+                let row = column_row(alloc, values)?;
+                resolver.take_row(&mut self.tables, row)
+            }
         }
     }
 }

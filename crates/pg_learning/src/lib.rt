@@ -16,7 +16,6 @@ mod pairs;
 mod parts;
 mod pushing;
 mod rows;
-mod taking;
 mod telling;
 
 pub use learnt::{Learnt, Seeking};
