@@ -1,5 +1,5 @@
 -- A type that is made of one other, as it was found among the types that are known.
-use Rattle.std.proofs.Common.{◌≡◌, inl, inr, ℕ, List, [], ◌∷◌, sym, ap, ◌∙◌, Option, Some, None, option_map, Ok, Err, append-nil}
+use Rattle.std.proofs.Common.{◌≡◌, inl, inr, ℕ, [], sym, ap, ◌∙◌, Option, Some, None, option_map, Ok, Err, append-nil}
 use Rattle.pg_arguments.specs.Types.{TypeParts}
 use Rattle.pg_arguments.specs.Kinds.{made_of}
 use Rattle.pg_wire.specs.declared.error.Error.{Error}

@@ -1,4 +1,4 @@
-use Rattle.std.proofs.Common.{◌≡◌, ap, sym}
+use Rattle.std.proofs.Common.{ap, sym}
 use Rattle.std.proofs.lemmas.Result.{IfOk-weaker, IfErr-weaker}
 use Rattle.pg_resolve.specs.declared.codes.Sort.{Sort}
 use Rattle.pg_resolve.specs.declared.codes.Sort.TheVariants as sorts
