@@ -52,6 +52,7 @@ mod argument;
 mod arguments;
 mod asking;
 mod bare;
+mod block;
 mod encoding;
 mod error;
 mod keys;
@@ -66,6 +67,7 @@ mod step;
 mod token;
 mod words;
 
+pub use block::InBlock;
 pub use error::ReadError;
 pub use live::LiveScript;
 pub use nonce::Nonce;

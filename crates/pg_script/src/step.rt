@@ -1,5 +1,6 @@
 ghost use Rattle.std.specs.Prelude.{◌≡◌, IfOk, IfErr};
 
+use crate::block::InBlock;
 use pg_call::{Bound, Eviction, Extended, Filling, Lookup, Prepared};
 use pg_locks::PgAdvisoryLockKey;
 use pg_request::{Preparation, Query};
@@ -177,9 +178,9 @@ pub enum Call {
     /// Queues this text of SQL, which releases a lock, without waiting for it. No script says it alone.
     Release(Text),
     /// The first exchange of a query with arguments, which describes it. No script says it alone.
-    Describe(Extended),
+    Describe(InBlock<Extended>),
     /// The one that runs what was described, or what is kept.
-    Run(Bound),
+    Run(InBlock<Bound>),
     /// Prepares a text, and tells its parameters and columns.
     Prepare(Preparation),
     /// Closes all statements that are kept.
@@ -189,13 +190,13 @@ pub enum Call {
     /// Calls one behind another.
     Chain(Chain),
     /// The exchange that closes a statement for another one. No script says it alone.
-    Evict(Eviction),
+    Evict(InBlock<Eviction>),
     /// The one that looks up types, or the names of columns, for a statement that was described.
-    Look(Lookup),
+    Look(InBlock<Lookup>),
     /// The one that looks up types within the arguments with which a statement is run.
-    Fill(Filling),
+    Fill(InBlock<Filling>),
     /// The one that tells what a statement was described to be, which asks nothing of the server.
-    Tell(Prepared),
+    Tell(InBlock<Prepared>),
     /// The one that closes these statements.
     CloseAll(Sequence<StatementId>),
     /// A copy from the client with what it was fed. No script says it alone.
@@ -234,16 +235,25 @@ impl Call {
             Call::Rollback => Call::Rollback,
             Call::StartRollback => Call::StartRollback,
             Call::Release(text) => Call::Release(text.to_copy(alloc)?),
-            Call::Describe(extended) => Call::Describe(extended.to_copy(alloc)?),
-            Call::Run(bound) => Call::Run(bound.to_copy(alloc)?),
+            Call::Describe(extended) => Call::Describe(InBlock::new(
+                alloc,
+                extended.get().to_copy(alloc)?,
+            )?),
+            Call::Run(bound) => Call::Run(InBlock::new(alloc, bound.get().to_copy(alloc)?)?),
             Call::Prepare(preparation) => Call::Prepare(preparation.to_copy(alloc)?),
             Call::Clear => Call::Clear,
             Call::CopyOut(query) => Call::CopyOut(query.to_copy(alloc)?),
             Call::Chain(chain) => Call::Chain(chain.to_copy(alloc)?),
-            Call::Evict(eviction) => Call::Evict(eviction.to_copy(alloc)?),
-            Call::Look(lookup) => Call::Look(lookup.to_copy(alloc)?),
-            Call::Fill(filling) => Call::Fill(filling.to_copy(alloc)?),
-            Call::Tell(prepared) => Call::Tell(prepared.to_copy(alloc)?),
+            Call::Evict(eviction) => Call::Evict(InBlock::new(
+                alloc,
+                eviction.get().to_copy(alloc)?,
+            )?),
+            Call::Look(lookup) => Call::Look(InBlock::new(alloc, lookup.get().to_copy(alloc)?)?),
+            Call::Fill(filling) => Call::Fill(InBlock::new(alloc, filling.get().to_copy(alloc)?)?),
+            Call::Tell(prepared) => Call::Tell(InBlock::new(
+                alloc,
+                prepared.get().to_copy(alloc)?,
+            )?),
             Call::CloseAll(statements) => Call::CloseAll(copied(alloc, statements)?),
             Call::Feed(fed) => Call::Feed(fed.to_copy(alloc)?),
         })

@@ -1,0 +1,34 @@
+ghost use Rattle.std.specs.Prelude.{◌≡◌, IfOk, IfErr};
+
+use pg_wire::Error;
+use std::alloc::Global;
+use std::marker::Model;
+
+/// A value in a block of its own: where few of many have one, the others take no room for it.
+#[derive(Debug, Drop)]
+pub struct InBlock<T> {
+    block: Box<T>,
+}
+
+impl<T> Model for InBlock<T> {
+    ghost Value = { T };
+
+    ghost view = { λ b. b.block.value };
+}
+
+impl<T: Drop> InBlock<T> {
+    pub(crate) fn new(alloc: Global, value: T) -> Result<Self, Error>
+        ensures ok { IfOk result (λ b. b ≡ value) }
+        ensures memory { IfErr result (λ e. e ≡ Error.OutOfMemory) }
+    {
+        Ok(InBlock {
+            block: Box::new(alloc, value)?,
+        })
+    }
+
+    pub fn get(&self) -> &T
+        ensures { result.now ≡ self.now }
+    {
+        &self.block
+    }
+}
