@@ -10,8 +10,9 @@ use Rattle.pg_wire.specs.declared.error.Error.TheVariants as errors
 use Rattle.pg_request.specs.Queries.{QueryText}
 use Rattle.pg_request.specs.Asked.{are_numbered, names_in, oids_in, sent_as, bytes_of, HasBytesOf, AsksWith, kept_query}
 use Rattle.pg_arguments.specs.Types.{TypeParts, oid_of}
-use Rattle.pg_arguments.specs.Builtin.{builtin_types}
+use Rattle.pg_arguments.specs.Builtin.{builtin_types, type_under}
 use Rattle.pg_arguments.specs.Encoded.{Encoded, plain, wires}
+use Rattle.pg_arguments.specs.Images.{signed64_bytes}
 use Rattle.pg_arguments.specs.Encoding.{Image, value_of, RefusesArgument}
 use Rattle.pg_arguments.specs.Arguments.{Arguments, AddsArgument, AddsToValues}
 use Rattle.pg_call.specs.declared.kind.How.{How}
@@ -63,7 +64,7 @@ query_is bounds sql a q h v e =
 pub none_bound : (a : Arguments) → a.types ≡ [] → a.encoded ≡ plain [] → AreBound [] a
 none_bound a t e = record { types = t; values = (rw t refl, tt, e) }
 
-pub one_more : (before : List Bound) (b : Bound) (old new : Arguments) → AreBound before old → AddsArgument (bound_type b) (value_of (Image (plain (bound_bytes b)))) old new → AddsToValues (value_of (Image (plain (bound_bytes b)))) old new → AreBound (before ++ b ∷ []) new
+one_more : (before : List Bound) (b : Bound) (old new : Arguments) → AreBound before old → AddsArgument (bound_type b) (value_of (Image (plain (bound_bytes b)))) old new → AddsToValues (value_of (Image (plain (bound_bytes b)))) old new → AreBound (before ++ b ∷ []) new
 one_more before b old new h = by (nat_lt 2147483647 (length (bound_bytes b)))
   where
     by : (long : Bool) → AddsArgument (bound_type b) (cond long None (Some (bound_value b))) old new → AddsToValues (cond long None (Some (bound_value b))) old new → AreBound (before ++ b ∷ []) new
@@ -100,10 +101,23 @@ get_last : (bounds : List Bound) (b : Bound) → slice_get (bounds ++ b ∷ []) 
 get_last [] b = refl
 get_last (first ∷ more) b = get_last more b
 
-pub refuses_last : (before : List Bound) (b : Bound) (a : Arguments) (e : Error) → AreBound before a → RefusesArgument (length a.types) (value_of (Image (plain (bound_bytes b)))) e → RefusesBounds (before ++ b ∷ []) e
+refuses_last : (before : List Bound) (b : Bound) (a : Arguments) (e : Error) → AreBound before a → RefusesArgument (length a.types) (value_of (Image (plain (bound_bytes b)))) e → RefusesBounds (before ++ b ∷ []) e
 refuses_last before b a errors.OutOfMemory h r = tt
 refuses_last before b a (errors.Encode index) h r = (b, rw (r.0 ∙ bound_length before a h) (get_last before b), too_long b r.1)
 refuses_last before b a e h r = absurd r
+
+-- an argument as it is added: by its type and its bytes
+pub adds : (before : List Bound) (b : Bound) (oid : ℕ) (image : List ℕ) (of : TypeParts) (old new : Arguments) → bound_oid b ≡ oid → bound_bytes b ≡ image → of ≡ type_under oid → AreBound before old → AddsArgument of (value_of (Image (plain image))) old new → AddsToValues (value_of (Image (plain image))) old new → AreBound (before ++ b ∷ []) new
+adds before b oid image of old new o i t h a v =
+    let of_its_type : AddsArgument (bound_type b) (value_of (Image (plain image))) old new = subst (λ (x : TypeParts). AddsArgument x (value_of (Image (plain image))) old new) (t ∙ sym (ap type_under o)) a in
+    one_more before b old new h (subst (λ (x : List ℕ). AddsArgument (bound_type b) (value_of (Image (plain x))) old new) (sym i) of_its_type) (subst (λ (x : List ℕ). AddsToValues (value_of (Image (plain x))) old new) (sym i) v)
+
+pub refuses_added : (before : List Bound) (b : Bound) (image : List ℕ) (a : Arguments) (e : Error) → bound_bytes b ≡ image → AreBound before a → RefusesArgument (length a.types) (value_of (Image (plain image))) e → RefusesBounds (before ++ b ∷ []) e
+refuses_added before b image a e i h r = refuses_last before b a e h (subst (λ (x : List ℕ). RefusesArgument (length a.types) (value_of (Image (plain x))) e) (sym i) r)
+
+-- an int8 that was handed to a call is the same
+pub int8_image : (image : List ℕ) (z : ℤ) → FitsSigned w64 z → image ≡ signed64_bytes (to_z w64 (of_z w64 z)) → signed64_bytes z ≡ image
+int8_image image z fits e = subst (λ (x : ℤ). signed64_bytes x ≡ image) (to_z-of_z w64 z fits) (sym e)
 
 -- ---- the request
 

@@ -1,6 +1,5 @@
 -- How a database is dropped though there are sessions on it.
 use Rattle.std.proofs.Common.{◌≡◌, ℕ, ◌≤◌, inl, inr, List, [], ◌∷◌, Option, Some, None, option_map, Result, Ok, Err, refl, sym, ap, ◌∙◌, subst}
-use Rattle.std.specs.Prelude.{IfOk, IfErr}
 use Rattle.futures.specs.declared.task.Poll.{Poll}
 use Rattle.futures.specs.declared.task.Poll.TheVariants.{Ready, Pending}
 use Rattle.pg_wire.specs.declared.error.Error.{Error}
@@ -41,13 +40,12 @@ only_memory : (sql : List ℕ) (e : Error) → IsRequestOf hows.Execute 0 (Scrip
 only_memory sql errors.OutOfMemory r = refl
 only_memory sql e r = absurd r
 
-pub terminates_ok : (row : RowSeen) (database : List ℕ) (version : ℕ) (result : Result Request Error) → IsNumber row version → IsRequestOf hows.Execute 0 (Script (terminate_text version database)) result → IfOk result (Terminating database (answers.OneRow (Some row)))
-terminates_ok row database version (Ok r) is asks = (version, is, asks)
-terminates_ok row database version (Err e) is asks = tt
+pub terminates : (turn : Turn) (row : RowSeen) (database : List ℕ) (version : ℕ) (result : Result Request Error) → turn ≡ turns.Ok (answers.OneRow (Some row)) → IsNumber row version → IsRequestOf hows.Execute 0 (Script (terminate_text version database)) result → EndsBy (Terminating database) HidesVersion turn result
+terminates turn row database version (Ok r) t is asks = rw t (version, is, asks)
+terminates turn row database version (Err e) t is asks = rw t (inl (only_memory (terminate_text version database) e asks))
 
-pub terminates_err : (row : RowSeen) (sql : List ℕ) (result : Result Request Error) → IsRequestOf hows.Execute 0 (Script sql) result → IfErr result (HidesNumber row)
-terminates_err row sql (Ok r) asks = tt
-terminates_err row sql (Err e) asks = inl (only_memory sql e asks)
+pub hides_version : (turn : Turn) (row : RowSeen) (database : List ℕ) (e : Error) → turn ≡ turns.Ok (answers.OneRow (Some row)) → HidesNumber row e → EndsBy {X = Request} (Terminating database) HidesVersion turn (Err e)
+hides_version turn row database e t hides = rw t hides
 
 -- ---- the version
 

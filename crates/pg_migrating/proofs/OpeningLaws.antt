@@ -7,16 +7,14 @@ use Rattle.pg_conn.specs.Connecting.{ConnectingOf}
 use Rattle.pg_conn.specs.Connections.{ConnOf, started_call}
 use Rattle.pg_conn.specs.Dials.{DialSeen}
 use Rattle.pg_conn.specs.Dialling.{Begun, FailsToBegin, Handing}
-use Rattle.pg_migrating.specs.Sessions.{Connects, ConnectsAs, FailsBehind, Opening, WaitsBehind, over_dial}
+use Rattle.pg_migrating.specs.Sessions.{Connects, ConnectsAs, FailsBehind, GoesStart, Opening, WaitsBehind, goes_at, over_dial}
+use Rattle.pg_migrating.specs.Starts.{at_stage}
 use Rattle.pg_migrating.specs.declared.errand.Errand.{Errand}
 use Rattle.pg_migrating.specs.declared.opening.Connected.{Connected}
 use Rattle.pg_migrating.specs.declared.opening.Connected.TheVariants as connected
 use Rattle.pg_migrating.specs.declared.opening.Stage.{Stage}
 use Rattle.pg_migrating.specs.declared.opening.Stage.TheVariants as stages
 use Rattle.pg_migrating.specs.declared.opening.Start.{Start}
-
-abbrev pub at_stage : {A : Type 0} → Stage A → Start A
-at_stage stage = record { stage = stage }
 
 -- one step behind another
 pub then_connects : {D S A C : Type 0} (seen : A → LinkSeen) (o : Opening D S A) (held : C → ConnOf A) (d e f : D) (s t : S) (result : Connected S C) → WaitsBehind o d s e t → ConnectsAs seen o held e t f result → ConnectsAs seen o held d s f result
@@ -47,15 +45,30 @@ module _ {D A : Type 0} (seen : A → LinkSeen) (hands : Handing D A) (counts : 
   at : (P : Start A → Type 0) (s : Start A) (stage : Stage A) → s.stage ≡ stage → P (at_stage stage) → P s
   at P s stage is p = subst (λ (x : Stage A). P (at_stage x)) (sym is) p
 
-  pub asked_connects : (d e : D) (s : Start A) (errand : Errand) (r : Request) (a : ConnectingOf A) (result : Connected (Start A) (ConnOf A)) → s.stage ≡ stages.Asked (Ok errand) → r ≡ errand.request → Begun seen hands errand.options d e a × (a.startup.is_finished ≡ false) → Connects seen r a result → ConnectsAs seen (over_dial seen hands counts) (λ c. c) d s e result
-  asked_connects d e s errand r a result is asks begun k =
-      at (λ (x : Start A). ConnectsAs seen (over_dial seen hands counts) (λ c. c) d x e result) s (stages.Asked (Ok errand)) is (then_connects seen (over_dial seen hands counts) (λ c. c) d e e (at_stage (stages.Asked (Ok errand))) (at_stage (stages.Begun errand.request a)) result (begun_waits d e errand a begun.0 begun.1) (polled_connects e errand.request a result (subst (λ (x : Request). Connects seen x a result) asks k)))
+  of_stage : (P : Stage A → Type 0) (stage other : Stage A) → stage ≡ other → P other → P stage
+  of_stage P stage other is p = subst P (sym is) p
 
-  pub asked_fails : (d e : D) (s : Start A) (errand : Errand) (error : Error) → s.stage ≡ stages.Asked (Ok errand) → FailsToBegin seen hands counts errand.options d e error → FailsBehind seen (over_dial seen hands counts) d s e error
-  asked_fails d e s errand error is fails = at (λ (x : Start A). FailsBehind seen (over_dial seen hands counts) d x e error) s (stages.Asked (Ok errand)) is (begun_fails d e errand error fails)
+  pub asked_waits : (d e : D) (stage : Stage A) (errand : Errand) (a : ConnectingOf A) → stage ≡ stages.Asked (Ok errand) → Begun seen hands errand.options d e a × (a.startup.is_finished ≡ false) → WaitsBehind (over_dial seen hands counts) d (at_stage stage) e (at_stage (stages.Begun errand.request a))
+  asked_waits d e stage errand a is begun = of_stage (λ (x : Stage A). WaitsBehind (over_dial seen hands counts) d (at_stage x) e (at_stage (stages.Begun errand.request a))) stage (stages.Asked (Ok errand)) is (begun_waits d e errand a begun.0 begun.1)
 
-  pub refused_connects : (d : D) (s : Start A) (error : Error) → s.stage ≡ stages.Asked (Err error) → FailsBehind seen (over_dial seen hands counts) d s d error
-  refused_connects d s error is = at (λ (x : Start A). FailsBehind seen (over_dial seen hands counts) d x d error) s (stages.Asked (Err error)) is (refused_fails d error)
+  pub asked_fails : (d e : D) (stage : Stage A) (errand : Errand) (error : Error) → stage ≡ stages.Asked (Ok errand) → FailsToBegin seen hands counts errand.options d e error → FailsBehind seen (over_dial seen hands counts) d (at_stage stage) e error
+  asked_fails d e stage errand error is fails = of_stage (λ (x : Stage A). FailsBehind seen (over_dial seen hands counts) d (at_stage x) e error) stage (stages.Asked (Ok errand)) is (begun_fails d e errand error fails)
 
-  pub begun_connects : (d : D) (s : Start A) (r : Request) (a : ConnectingOf A) (result : Connected (Start A) (ConnOf A)) → s.stage ≡ stages.Begun r a → Connects seen r a result → ConnectsAs seen (over_dial seen hands counts) (λ c. c) d s d result
-  begun_connects d s r a result is k = at (λ (x : Start A). ConnectsAs seen (over_dial seen hands counts) (λ c. c) d x d result) s (stages.Begun r a) is (polled_connects d r a result k)
+  pub unasked_fails : (d : D) (stage : Stage A) (error : Error) → stage ≡ stages.Asked (Err error) → FailsBehind seen (over_dial seen hands counts) d (at_stage stage) d error
+  unasked_fails d stage error is = of_stage (λ (x : Stage A). FailsBehind seen (over_dial seen hands counts) d (at_stage x) d error) stage (stages.Asked (Err error)) is (refused_fails d error)
+
+  pub begun_goes : (stage : Stage A) (r : Request) (a : ConnectingOf A) → stage ≡ stages.Begun r a → GoesStart (over_dial seen hands counts) (at_stage stage) → a.startup.is_finished ≡ false
+  begun_goes stage r a is goes =
+      let k : goes_at goes.0 (stages.Begun r a) = subst (λ (x : Stage A). goes_at goes.0 x) is goes.1 in
+      k.0
+
+  pub begun_stays : (d : D) (stage : Stage A) (r : Request) (a : ConnectingOf A) → stage ≡ stages.Begun r a → WaitsBehind (over_dial seen hands counts) d (at_stage stage) d (at_stage (stages.Begun r a))
+  begun_stays d stage r a is = of_stage (λ (x : Stage A). WaitsBehind (over_dial seen hands counts) d (at_stage x) d (at_stage (stages.Begun r a))) stage (stages.Begun r a) is (λ kind g. g, λ asked first h. h)
+
+  -- and so of the session
+
+  pub opens_behind : (d e : D) (s : Start A) (stage : Stage A) (r : Request) (a : ConnectingOf A) (result : Connected (Start A) (ConnOf A)) → stage ≡ s.stage → WaitsBehind (over_dial seen hands counts) d (at_stage stage) e (at_stage (stages.Begun r a)) → Connects seen r a result → ConnectsAs seen (over_dial seen hands counts) (λ c. c) d s e result
+  opens_behind d e s stage r a result is waits k = at (λ (x : Start A). ConnectsAs seen (over_dial seen hands counts) (λ c. c) d x e result) s stage (sym is) (then_connects seen (over_dial seen hands counts) (λ c. c) d e e (at_stage stage) (at_stage (stages.Begun r a)) result waits (polled_connects e r a result k))
+
+  pub fails_behind : (d e : D) (s : Start A) (stage : Stage A) (error : Error) → stage ≡ s.stage → FailsBehind seen (over_dial seen hands counts) d (at_stage stage) e error → FailsBehind seen (over_dial seen hands counts) d s e error
+  fails_behind d e s stage error is fails = at (λ (x : Start A). FailsBehind seen (over_dial seen hands counts) d x e error) s stage (sym is) fails

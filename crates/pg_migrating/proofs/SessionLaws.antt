@@ -1,8 +1,11 @@
 -- How a session goes on.
-use Rattle.std.proofs.Common.{◌≡◌, ℕ, ◌≤◌, List, inl, [], ◌∷◌, Option, Some, None, Result, Ok, Err, refl}
+use Rattle.std.proofs.Common.{◌≡◌, ◌⊎◌, ℕ, ◌≤◌, List, inl, inr, [], ◌∷◌, Option, Some, None, Result, Ok, Err, refl}
 use Rattle.futures.specs.declared.task.Poll.{Poll}
 use Rattle.futures.specs.declared.task.Poll.TheVariants.{Ready, Pending}
+use Rattle.std.specs.Prelude.{IfErr, IfOk}
 use Rattle.pg_wire.specs.declared.error.Error.{Error}
+use Rattle.pg_wire.specs.declared.error.Error.TheVariants as errors
+use Rattle.pg_options.specs.FromUrl.{options_of_text}
 use Rattle.pg_options.specs.Options.{ConnectOptions}
 use Rattle.pg_options.specs.declared.settings.PgSettings.{PgSettings}
 use Rattle.pg_stream.specs.Links.{LinkSeen}
@@ -17,7 +20,7 @@ use Rattle.pg_conn.specs.Turns.{PollsWithin}
 use Rattle.pg_conn.proofs.StateLaws.{calling_runs, poll_fits_within}
 use Rattle.pg_migrate.specs.Orders.{Words}
 use Rattle.pg_migrate.specs.Texts.{create_database_text, database_exists_text, drop_database_text, version_text}
-use Rattle.pg_migrating.specs.Errands.{AsksAt, AsksOf, IsErrand, how_of}
+use Rattle.pg_migrating.specs.Errands.{AsksAt, AsksOf, IsErrand, RefusesErrand, how_of}
 use Rattle.pg_migrating.specs.Names.{database_of}
 use Rattle.pg_migrating.specs.Sessions.{AsksAs, CallsAs, ConnRuns, Fails, Goes, GoesBy, GoesOn, IsNewSession, KeepsConn, OpensSession, Opening, PollsSession, SessionSeen, Stands, StandsBy, StartGoes, Tells}
 use Rattle.pg_migrating.specs.declared.errand.Errand.{Errand}
@@ -39,6 +42,15 @@ errand_calls tasks.Remove o errand k c = calls_script hows.Execute (drop_databas
 pub asked_calls : (A : Type 0) (task : Task) (env : PgSettings) (url : List ℕ) (asked : Result Errand Error) → AsksOf (AsksAt task) env url asked → AsksAs A (kinds.Run (how_of task)) asked
 asked_calls A task env url (Ok errand) k = errand_calls task k.0 errand k.2
 asked_calls A task env url (Err e) k = tt
+
+-- the options of a URL can be read, or not
+pub asks_of : (task : Task) (env : PgSettings) (url : List ℕ) (o : ConnectOptions) (asked : Result Errand Error) → options_of_text env url ≡ Ok o → IfOk asked (IsErrand task o) → IfErr asked (RefusesErrand task o) → AsksOf (AsksAt task) env url asked
+asks_of task env url o (Ok errand) e ok err = (o, e, ok)
+asks_of task env url o (Err x) e ok err = inr (inr (o, e, err))
+
+pub asks_none : (task : Task) (env : PgSettings) (url : List ℕ) (x : Error) → (options_of_text env url ≡ Err x) ⊎ (x ≡ errors.OutOfMemory) → AsksOf (AsksAt task) env url (Err x)
+asks_none task env url x (inl e) = inr (inl e)
+asks_none task env url x (inr memory) = inl memory
 
 -- ---- before it is polled
 

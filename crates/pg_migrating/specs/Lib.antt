@@ -11,5 +11,6 @@ pub mod Texts
 pub mod Errands
 pub mod Openings
 pub mod Sessions
+pub mod Starts
 pub mod Databases
 pub mod Forcing

@@ -6,7 +6,7 @@ ghost use Rattle.pg_call.specs.declared.kind.Kind as declared_kind;
 ghost use Rattle.pg_call.specs.declared.request.Request as declared_request;
 ghost use Rattle.pg_conn.specs.Connections.{ConnOf};
 ghost use Rattle.pg_conn.specs.States.{PollFits};
-ghost use Rattle.pg_migrating.specs.Asking.{CallsFor, CallsQuietly, EndsAs, IsEnd, StandsAt, StaysQuiet, Tells, TellsEnd, asked_by, is_asked, left_of, refusal};
+ghost use Rattle.pg_migrating.specs.Asking.{CallsFor, CallsQuietly, StandsAt, StaysQuiet, Tells, TellsEnd, is_asked, left_of};
 
 use crate::demand::Demand;
 use pg_call::Turn;
@@ -20,18 +20,6 @@ pub type Question = Result<Demand, Error>;
 pub(crate) struct Asking<C: PgExecutor, Q> {
     pub(crate) conn: C,
     pub(crate) question: Option<Q>,
-}
-
-// What the end of a call without items was.
-fn ended(turn: Turn) -> Result<(), Error>
-    requires { IsEnd turn }
-    ensures { EndsAs turn result }
-{
-    match turn {
-        Turn::Ok(_) => Ok(()),
-        Turn::Err(e) => Err(e),
-        Turn::Item(_) | Turn::Opened(_) => unreachable!(),
-    }
 }
 
 impl<C: PgExecutor, Q> Asking<C, Q> {
@@ -71,26 +59,7 @@ impl<C: PgExecutor, Q: Drop> Asking<C, Q> {
 }
 
 impl<C: PgExecutor> Asking<C, Question> {
-    // Begins the call where it was not, and tells why it can't be asked.
-    fn begin(&mut self) -> Result<(), Error>
-        ensures conn { self.new.conn ≡ C.with_conn self.old.conn (asked_by self.old.question (C.conn self.old.conn)) }
-        ensures question { self.new.question ≡ None }
-        ensures refusal { result ≡ refusal self.old.question }
-    {
-        match self.question.take() {
-            None => Ok(()),
-            Some(Ok(demand)) => {
-                holding::start(&mut self.conn, demand.into_request());
-                Ok(())
-            }
-            Some(Err(e)) => {
-                holding::abandon(&mut self.conn);
-                Err(e)
-            }
-        }
-    }
-
-    /// Moves the call on, within so many calls of the link, which it takes off.
+    /// Moves the call on, within so many calls of the link, which it takes off. It begins the call where it was not, or tells why it can't be asked.
     pub(crate) fn poll(&mut self, left: &mut u16) -> Poll<Turn>
         requires asked { is_asked self.old.question (C.conn self.old.conn).call ≡ true }
         requires left { left.old ≤ 256 }
@@ -100,9 +69,16 @@ impl<C: PgExecutor> Asking<C, Question> {
         ensures tells { (asked : Result declared_request.Request declared_error.Error) (first : ConnOf C.L) → StandsAt C.L.seen asked first self.old.question (C.conn self.old.conn) → Tells C.L.seen asked first (C.conn self.new.conn) result }
         ensures fits { (kind : declared_kind.Kind) → CallsFor kind self.old.question (C.conn self.old.conn) → PollFits kind (C.conn self.new.conn) result }
     {
-        match self.begin() {
-            Ok(()) => holding::poll_within(&mut self.conn, left),
-            Err(e) => Poll::Ready(Turn::Err(e)),
+        match self.question.take() {
+            None => holding::poll_within(&mut self.conn, left),
+            Some(Ok(demand)) => {
+                holding::start(&mut self.conn, demand.into_request());
+                holding::poll_within(&mut self.conn, left)
+            }
+            Some(Err(e)) => {
+                holding::abandon(&mut self.conn);
+                Poll::Ready(Turn::Err(e))
+            }
         }
     }
 
@@ -119,7 +95,11 @@ impl<C: PgExecutor> Asking<C, Question> {
     {
         match self.poll(left) {
             Poll::Pending => Poll::Pending,
-            Poll::Ready(turn) => Poll::Ready(ended(turn)),
+            Poll::Ready(turn) => match turn {
+                Turn::Ok(_) => Poll::Ready(Ok(())),
+                Turn::Err(e) => Poll::Ready(Err(e)),
+                Turn::Item(_) | Turn::Opened(_) => unreachable!(),
+            },
         }
     }
 }

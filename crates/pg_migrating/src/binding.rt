@@ -1,14 +1,20 @@
 //! The arguments of the statements: each is added behind those before it, where these could be added.
 
 ghost use Rattle.std.specs.Prelude.{◌≡◌, ◌∷◌, ◌++◌, [], List};
-ghost use Rattle.pg_migrate.specs.Clocks.{as_int8};
-ghost use Rattle.pg_migrate.specs.Orders.{Bound, Int8, Words, Bytes};
-ghost use Rattle.pg_migrating.specs.Requests.{Binds};
+ghost use Rattle.pg_migrate.specs.Orders.{Bound};
+ghost use Rattle.pg_migrating.specs.Requests.{Binds, bound_bytes, bound_oid};
 
-use pg_arguments::{PgArguments, Typed};
-use pg_migrate::{Migration, as_int8};
-use pg_wire::{Blob, Error, Text};
+use pg_arguments::{PgArguments, PgTypeInfo};
+use pg_migrate::Migration;
+use pg_wire::{Error, Oid};
 use std::alloc::Global;
+
+// The types of the arguments (pg_type.dat of PostgreSQL's sources).
+pub(crate) const BYTEA: u32 = 17;
+
+pub(crate) const INT8: u32 = 20;
+
+pub(crate) const TEXT: u32 = 25;
 
 /// No arguments.
 pub(crate) fn none(alloc: Global) -> Result<PgArguments, Error>
@@ -17,62 +23,24 @@ pub(crate) fn none(alloc: Global) -> Result<PgArguments, Error>
     Ok(PgArguments::new(alloc))
 }
 
-/// An int8 behind these.
-pub(crate) fn with_int8(
-    arguments: Result<PgArguments, Error>,
-    value: i64,
-) -> Result<PgArguments, Error>
-    ensures { (before : List Bound) → Binds before arguments → Binds (before ++ Int8 value ∷ []) result }
-{
-    let mut arguments = match arguments {
-        Ok(arguments) => arguments,
-        Err(e) => return Err(e),
-    };
-    match arguments.add(value) {
-        Ok(()) => Ok(arguments),
-        Err(e) => Err(e),
-    }
-}
-
-/// A text.
-pub(crate) fn with_text(
+/// An argument of this type behind these, by the bytes of its encoding.
+pub(crate) fn bind(
     alloc: Global,
     arguments: Result<PgArguments, Error>,
-    text: &str,
+    oid: u32,
+    image: &[u8],
 ) -> Result<PgArguments, Error>
-    ensures { (before : List Bound) → Binds before arguments → Binds (before ++ Words text.now ∷ []) result }
+    ensures { (before : List Bound) (b : Bound) → bound_oid b ≡ oid → bound_bytes b ≡ image.now → Binds before arguments → Binds (before ++ b ∷ []) result }
 {
     let mut arguments = match arguments {
         Ok(arguments) => arguments,
         Err(e) => return Err(e),
     };
-    let of = match Text::type_info(alloc) {
+    let of = match PgTypeInfo::under_oid(alloc, Oid(oid)) {
         Ok(of) => of,
-        Err(e) => return Err(e),
+        Err(_) => return Err(Error::OutOfMemory),
     };
-    match arguments.add_image(of, text.as_bytes()) {
-        Ok(()) => Ok(arguments),
-        Err(e) => Err(e),
-    }
-}
-
-/// Bytes.
-pub(crate) fn with_bytes(
-    alloc: Global,
-    arguments: Result<PgArguments, Error>,
-    bytes: &[u8],
-) -> Result<PgArguments, Error>
-    ensures { (before : List Bound) → Binds before arguments → Binds (before ++ Bytes bytes.now ∷ []) result }
-{
-    let mut arguments = match arguments {
-        Ok(arguments) => arguments,
-        Err(e) => return Err(e),
-    };
-    let of = match Blob::type_info(alloc) {
-        Ok(of) => of,
-        Err(e) => return Err(e),
-    };
-    match arguments.add_image(of, bytes) {
+    match arguments.add_image(of, image) {
         Ok(()) => Ok(arguments),
         Err(e) => Err(e),
     }
@@ -83,21 +51,4 @@ pub(crate) fn version_of(migration: &Migration) -> i64
     ensures { result ≡ migration.now.version }
 {
     migration.version
-}
-
-/// The version, the description and the checksum of a migration.
-pub(crate) fn row(alloc: Global, migration: &Migration) -> Result<PgArguments, Error>
-    ensures { Binds (Int8 migration.now.version ∷ Words migration.now.description ∷ Bytes migration.now.checksum ∷ []) result }
-{
-    let version = with_int8(none(alloc), version_of(migration));
-    let described = with_text(alloc, version, migration.description.as_str());
-    with_bytes(alloc, described, migration.checksum.as_bytes())
-}
-
-/// How long a migration took, and its version.
-pub(crate) fn time(alloc: Global, migration: &Migration, nanos: u64) -> Result<PgArguments, Error>
-    ensures { Binds (Int8 (as_int8 nanos) ∷ Int8 migration.now.version ∷ []) result }
-{
-    let time = with_int8(none(alloc), as_int8(nanos));
-    with_int8(time, version_of(migration))
 }

@@ -2,15 +2,15 @@
 
 ghost use Rattle.std.specs.Prelude.{◌≡◌};
 ghost use Rattle.pg_call.specs.declared.kind.How.TheVariants as hows;
-ghost use Rattle.pg_migrating.specs.Courses.{ends_work, first_step, is_open_at, next_step, row_at, statement_at};
+ghost use Rattle.pg_migrating.specs.Courses.{ends_work, first_step, is_open_at, next_step, statement_at};
 ghost use Rattle.pg_migrating.specs.Requests.{IsRequestOf};
 
-use crate::binding::{none, time, version_of, with_int8};
-use crate::demand::Demand;
+use crate::binding::{INT8, bind, none, version_of};
+use crate::demand::{Demand, Wish};
 use crate::requests::{insert_row, named, script};
 use crate::texts::Wording;
 use pg_call::How;
-use pg_migrate::Migration;
+use pg_migrate::{Migration, as_int8};
 use pg_wire::Error;
 use std::alloc::Global;
 use std::marker::Model;
@@ -47,16 +47,6 @@ pub(crate) struct Work<'m> {
     pub(crate) way: Way,
     pub(crate) table: &'m str,
     pub(crate) migration: &'m Migration,
-}
-
-impl Drop for Work<'_> {
-    fn drop(self) {
-        let Work {
-            way: _,
-            table: _,
-            migration: _,
-        } = self;
-    }
 }
 
 impl<'m> Model for Work<'m> {
@@ -115,19 +105,6 @@ impl Work<'_> {
         }
     }
 
-    // What adds the migration's row, or takes it away.
-    fn row(&self, alloc: Global) -> Result<Demand, Error>
-        ensures { IsRequestOf hows.Execute 0 (row_at self.now) result }
-    {
-        match self.way {
-            Way::Apply => insert_row(alloc, self.table, self.migration),
-            Way::Revert => {
-                let version = with_int8(none(alloc), version_of(self.migration));
-                named(alloc, How::Execute, Wording::DeleteRow, self.table, version)
-            }
-        }
-    }
-
     /// What asks a step, where so many transactions and savepoints are open.
     pub(crate) fn request(
         &self,
@@ -138,14 +115,26 @@ impl Work<'_> {
     ) -> Result<Demand, Error>
         ensures { IsRequestOf hows.Execute depth (statement_at self.now nanos step) result }
     {
+        let version = version_of(self.migration).to_be_bytes();
         match step {
-            Step::Begin => Ok(Demand::begin(depth)),
+            Step::Begin => Ok(Demand {
+                of: Wish::Begin(depth),
+            }),
             Step::Script => script(alloc, self.migration.sql.as_str()),
-            Step::Row => self.row(alloc),
-            Step::Commit => Ok(Demand::commit(depth)),
+            Step::Row => match self.way {
+                Way::Apply => insert_row(alloc, self.table, self.migration),
+                Way::Revert => {
+                    let row = bind(alloc, none(alloc), INT8, &version);
+                    named(alloc, How::Execute, Wording::DeleteRow, self.table, row)
+                }
+            },
+            Step::Commit => Ok(Demand {
+                of: Wish::Commit(depth),
+            }),
             Step::Time => {
-                let time = time(alloc, self.migration, nanos);
-                named(alloc, How::Execute, Wording::UpdateTime, self.table, time)
+                let time = bind(alloc, none(alloc), INT8, &as_int8(nanos).to_be_bytes());
+                let both = bind(alloc, time, INT8, &version);
+                named(alloc, How::Execute, Wording::UpdateTime, self.table, both)
             }
         }
     }

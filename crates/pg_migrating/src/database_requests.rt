@@ -1,20 +1,20 @@
 //! What is asked of a server about a database.
 
-ghost use Rattle.std.specs.Prelude.{◌∷◌, []};
 ghost use Rattle.pg_call.specs.declared.kind.How.TheVariants as hows;
-ghost use Rattle.pg_migrate.specs.Orders.{Prepared, Script, Words};
-ghost use Rattle.pg_migrate.specs.Texts.{database_exists_text, terminate_text};
+ghost use Rattle.pg_migrate.specs.Orders.{Script};
+ghost use Rattle.pg_migrate.specs.Texts.{terminate_text};
 ghost use Rattle.pg_migrating.specs.Requests.{IsRequestOf};
 ghost use Rattle.pg_migrating.specs.Errands.{how_of, statement_of};
 
-use crate::binding::{none, with_text};
-use crate::demand::Demand;
+use crate::binding::{TEXT, bind, none};
+use crate::demand::{Demand, Wish};
 use crate::errand::Task;
-use crate::requests::{named_script, owned_script, prepared};
+use crate::requests::{named_script, prepared};
 use crate::texts::Wording;
 use pg_call::How;
 use pg_migrate::{database_exists_text, put_terminate, version_text};
-use pg_wire::Error;
+use pg_request::Query;
+use pg_wire::{Error, Text};
 use std::alloc::Global;
 
 /// The request of a task on this database.
@@ -24,7 +24,7 @@ pub(crate) fn request(alloc: Global, task: Task, database: &str) -> Result<Deman
     match task {
         Task::Create => named_script(alloc, Wording::CreateDatabase, database),
         Task::Exists => {
-            let name = with_text(alloc, none(alloc), database);
+            let name = bind(alloc, none(alloc), TEXT, database.as_bytes());
             prepared(alloc, How::FetchOne, database_exists_text(), name)
         }
         Task::Version => prepared(alloc, How::FetchOne, version_text(), none(alloc)),
@@ -38,7 +38,9 @@ pub(crate) fn terminate(alloc: Global, version: u32, database: &str) -> Result<D
 {
     let mut sql = String::new(alloc);
     match put_terminate(&mut sql, version, database) {
-        Ok(()) => Ok(owned_script(sql)),
+        Ok(()) => Ok(Demand {
+            of: Wish::Query(How::Execute, Query::from_text(Text::from_string(sql))),
+        }),
         Err(_) => Err(Error::OutOfMemory),
     }
 }

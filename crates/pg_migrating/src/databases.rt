@@ -5,16 +5,14 @@ ghost use Rattle.pg_call.specs.declared.kind.How.TheVariants as hows;
 ghost use Rattle.pg_call.specs.declared.kind.Kind.TheVariants as kinds;
 ghost use Rattle.pg_migrating.specs.Databases.{AsksFor};
 ghost use Rattle.pg_migrating.specs.Errands.{how_of};
-ghost use Rattle.pg_migrating.specs.Forcing.{AsksToForce, GoesForce};
 ghost use Rattle.pg_migrating.specs.Sessions.{Goes};
-ghost use Rattle.pg_migrating.specs.declared.forcing.ForceStep.TheVariants as steps;
 ghost use Rattle.pg_migrating.specs.declared.errand.Task.TheVariants as tasks;
 
-use crate::errand::{Task, errand_of};
+use crate::errand::{Task, errand_at};
 use crate::opening::Sessions;
 use crate::session::{SessionOf, session_for};
-use crate::{DatabaseCall, DatabaseExists, DatabaseStatement, ForceDropDatabase};
-use pg_options::PgSettings;
+use crate::{DatabaseCall, DatabaseExists, DatabaseStatement};
+use pg_options::{PgConnectOptions, PgSettings};
 use std::alloc::Global;
 use std::marker::PhantomData;
 
@@ -28,7 +26,14 @@ fn session_at<D: Sessions>(alloc: Global, env: &PgSettings, url: &str, task: Tas
     ensures asks { AsksFor D.opens task env.now url.now result }
     ensures goes { Goes D.opens (kinds.Run (how_of task)) result }
 {
-    session_for::<D>(errand_of(alloc, env, url, task))
+    match PgConnectOptions::from_str(alloc, env, url) {
+        Ok(options) => {
+            let errand = errand_at(alloc, task, &options);
+            drop(options);
+            session_for::<D>(errand)
+        }
+        Err(e) => session_for::<D>(Err(e)),
+    }
 }
 
 impl MigrateDatabase {
@@ -90,21 +95,5 @@ impl MigrateDatabase {
             session: session_at::<D>(alloc, env, url, Task::Remove),
             reading: PhantomData,
         }
-    }
-
-    /// Drops the database, if it is there, though there are sessions on it: these are ended first.
-    pub fn force_drop_database<'d, D: Sessions>(
-        alloc: Global,
-        env: &PgSettings,
-        url: &str,
-        dial: &'d mut D,
-    ) -> ForceDropDatabase<'d, D>
-        ensures dial { result.dial.now ≡ dial.old }
-        ensures same { result.dial.ghost_name ≡ dial.entry.ghost_name }
-        ensures step { result.step ≡ steps.Version }
-        ensures asks { AsksToForce D.opens env.now url.now result.database result.session result.last }
-        ensures goes { GoesForce D.opens steps.Version result.session result.last }
-    {
-        ForceDropDatabase::new(alloc, env, url, dial)
     }
 }

@@ -1,9 +1,6 @@
 //! What is asked of a connection.
 
 ghost use Rattle.std.specs.Prelude.{◌≡◌};
-ghost use Rattle.pg_call.specs.declared.request.Request.TheVariants as requests;
-ghost use Rattle.pg_call.specs.Requests.{raw};
-ghost use Rattle.pg_conn.specs.Connections.{commit_of};
 
 use pg_call::{How, Request};
 use pg_conn::commit_request;
@@ -15,12 +12,13 @@ pub(crate) enum Wish {
     Query(How, Query),
     /// A transaction begins, or a savepoint, where so many are open.
     Begin(u64),
+    /// The last of so many is committed.
     Commit(u64),
 }
 
 /// A request, as far as migrations ask such. A `Request` has what any call may ask, and is laid out wherever one is named.
 pub struct Demand {
-    of: Wish,
+    pub(crate) of: Wish,
 }
 
 // By hand, so that whoever lets one go makes one call.
@@ -40,33 +38,6 @@ impl Model for Demand {
 }
 
 impl Demand {
-    /// A query, in this way.
-    pub(crate) fn raw(how: How, query: Query) -> Self
-        ensures { result ≡ raw how query }
-    {
-        Demand {
-            of: Wish::Query(how, query),
-        }
-    }
-
-    /// A transaction begins, where so many transactions and savepoints are open.
-    pub(crate) fn begin(depth: u64) -> Self
-        ensures { result ≡ requests.Begin depth }
-    {
-        Demand {
-            of: Wish::Begin(depth),
-        }
-    }
-
-    /// The last of them is committed.
-    pub(crate) fn commit(depth: u64) -> Self
-        ensures { result ≡ commit_of depth }
-    {
-        Demand {
-            of: Wish::Commit(depth),
-        }
-    }
-
     /// The request that it is.
     pub(crate) fn into_request(self) -> Request
         ensures { result ≡ self }

@@ -1,12 +1,12 @@
 //! What a connection is opened for.
 
-ghost use Rattle.std.specs.Prelude.{◌≡◌, IfOk, IfErr};
-ghost use Rattle.pg_migrating.specs.Errands.{AsksAt, AsksOf, IsErrand, RefusesErrand};
+ghost use Rattle.std.specs.Prelude.{IfOk, IfErr};
+ghost use Rattle.pg_migrating.specs.Errands.{IsErrand, RefusesErrand};
 
 use crate::database_requests::request;
 use crate::demand::Demand;
 use crate::names::{database_of, maintenance};
-use pg_options::{PgConnectOptions, PgSettings};
+use pg_options::PgConnectOptions;
 use pg_wire::Error;
 use std::alloc::Global;
 
@@ -20,30 +20,10 @@ pub(crate) enum Task {
 }
 
 /// Where a session is opened, and what is asked there.
+#[derive(Drop)]
 pub struct Errand {
     pub(crate) options: PgConnectOptions,
     pub(crate) request: Demand,
-}
-
-// By hand, so that whoever lets one go makes one call.
-impl Drop for Errand {
-    fn drop(self) {
-        let Errand {
-            options: _,
-            request: _,
-        } = self;
-    }
-}
-
-impl Errand {
-    /// What is asked.
-    pub(crate) fn into_demand(self) -> Demand
-        ensures { result ≡ self.request }
-    {
-        let Errand { options, request } = self;
-        drop(options);
-        request
-    }
 }
 
 /// The errand of a task on the database that the options name.
@@ -65,24 +45,5 @@ pub(crate) fn errand_at(
             drop(request);
             Err(e)
         }
-    }
-}
-
-/// The same of the database that a URL names, over settings.
-pub(crate) fn errand_of(
-    alloc: Global,
-    env: &PgSettings,
-    url: &str,
-    task: Task,
-) -> Result<Errand, Error>
-    ensures { AsksOf (AsksAt task) env.now url.now result }
-{
-    match PgConnectOptions::from_str(alloc, env, url) {
-        Ok(options) => {
-            let errand = errand_at(alloc, task, &options);
-            drop(options);
-            errand
-        }
-        Err(e) => Err(e),
     }
 }

@@ -1,10 +1,8 @@
 //! A database that is dropped though there are sessions on it.
 
-ghost use Rattle.std.specs.Prelude.{◌≡◌, ◌≤◌, ◌^◌, IfOk, IfErr, None, Some, Result, option_copied, option_map};
+ghost use Rattle.std.specs.Prelude.{◌≡◌, ◌≤◌, IfOk, IfErr, Result, option_copied, option_map};
 ghost use Rattle.futures.specs.declared.task.Poll.TheVariants.{Ready};
 ghost use Rattle.pg_wire.specs.declared.error.Error as declared_error;
-ghost use Rattle.pg_options.specs.Numbers.{number_below};
-ghost use Rattle.pg_call.specs.declared.answer.CallAnswer.TheVariants as answers;
 ghost use Rattle.pg_call.specs.declared.kind.How.TheVariants as hows;
 ghost use Rattle.pg_call.specs.declared.kind.Kind.TheVariants as kinds;
 ghost use Rattle.pg_call.specs.Answers.{TurnFits};
@@ -14,6 +12,7 @@ ghost use Rattle.pg_migrating.specs.Forcing.{AsksForce, AsksToForce, GoesForce, 
 ghost use Rattle.pg_migrating.specs.declared.forcing.Forcing as declared_forcing;
 ghost use Rattle.pg_migrating.specs.declared.forcing.ForceStep.TheVariants as steps;
 
+use crate::MigrateDatabase;
 use crate::database_requests::terminate;
 use crate::demand::Demand;
 use crate::errand::{Errand, Task, errand_at};
@@ -92,13 +91,6 @@ fn forcing_of(alloc: Global, env: &PgSettings, url: &str) -> Result<Forcing, Err
     }
 }
 
-// The number that a text writes.
-fn number(text: &str) -> Option<u32>
-    ensures { result ≡ number_below (2 ^ 32) text.now }
-{
-    text.parse::<u32>().ok()
-}
-
 // The server's version in a row.
 fn version_in(alloc: Global, row: &PgRow) -> Result<u32, Error>
     ensures ok { IfOk result (IsNumber row.now) }
@@ -108,31 +100,69 @@ fn version_in(alloc: Global, row: &PgRow) -> Result<u32, Error>
         Ok(word) => word,
         Err(e) => return Err(e),
     };
-    match number(word.as_str()) {
-        Some(version) => Ok(version),
-        None => Err(Error::Decode),
+    match word.as_str().parse() {
+        Ok(version) => Ok(version),
+        Err(_) => Err(Error::Decode),
     }
 }
 
-// What ends the other sessions, by the version in a row.
-fn terminate_by(alloc: Global, row: &PgRow, database: &str) -> Result<Demand, Error>
-    ensures ok { IfOk result (Terminating database.now (answers.OneRow (Some row.now))) }
-    ensures err { IfErr result (HidesNumber row.now) }
-{
-    match version_in(alloc, row) {
-        Ok(version) => terminate(alloc, version, database),
-        Err(e) => Err(e),
-    }
-}
-
-// The same by what the server has told.
+// What ends the other sessions, by the version that the server has told.
 fn terminating(alloc: Global, turn: Turn, database: &str) -> Result<Demand, Error>
     requires { TurnFits (kinds.Run hows.FetchOne) turn }
     ensures { EndsBy (Terminating database.now) HidesVersion turn result }
 {
     match turn.into_one() {
-        Ok(row) => terminate_by(alloc, &row, database),
+        Ok(row) => {
+            let version = version_in(alloc, &row);
+            drop(row);
+            match version {
+                Ok(version) => terminate(alloc, version, database),
+                Err(e) => Err(e),
+            }
+        }
         Err(e) => Err(e),
+    }
+}
+
+impl MigrateDatabase {
+    /// Drops the database, if it is there, though there are sessions on it: these are ended first.
+    pub fn force_drop_database<'d, D: Sessions>(
+        alloc: Global,
+        env: &PgSettings,
+        url: &str,
+        dial: &'d mut D,
+    ) -> ForceDropDatabase<'d, D>
+        ensures dial { result.dial.now ≡ dial.old }
+        ensures same { result.dial.ghost_name ≡ dial.entry.ghost_name }
+        ensures step { result.step ≡ steps.Version }
+        ensures asks { AsksToForce D.opens env.now url.now result.database result.session result.last }
+        ensures goes { GoesForce D.opens steps.Version result.session result.last }
+    {
+        match forcing_of(alloc, env, url) {
+            Ok(
+                Forcing {
+                    version,
+                    last,
+                    database,
+                },
+            ) => ForceDropDatabase {
+                alloc,
+                dial,
+                step: ForceStep::Version,
+                database,
+                session: session_for::<D>(Ok(version)),
+                last: session_for::<D>(Ok(last)),
+            },
+            // The first poll tells the error, and the last session is never polled.
+            Err(e) => ForceDropDatabase {
+                alloc,
+                dial,
+                step: ForceStep::Version,
+                database: Text::new(alloc),
+                session: session_for::<D>(Err(e)),
+                last: session_for::<D>(Err(Error::OutOfMemory)),
+            },
+        }
     }
 }
 
@@ -168,40 +198,6 @@ impl<'d, D: Sessions> ForceDropDatabase<'d, D> {
         self.session.close();
         self.last.close();
         Poll::Ready(answer)
-    }
-
-    pub(crate) fn new(alloc: Global, env: &PgSettings, url: &str, dial: &'d mut D) -> Self
-        ensures dial { result.dial.now ≡ dial.old }
-        ensures same { result.dial.ghost_name ≡ dial.entry.ghost_name }
-        ensures step { result.step ≡ steps.Version }
-        ensures asks { AsksToForce D.opens env.now url.now result.database result.session result.last }
-        ensures goes { GoesForce D.opens steps.Version result.session result.last }
-    {
-        match forcing_of(alloc, env, url) {
-            Ok(
-                Forcing {
-                    version,
-                    last,
-                    database,
-                },
-            ) => ForceDropDatabase {
-                alloc,
-                dial,
-                step: ForceStep::Version,
-                database,
-                session: session_for::<D>(Ok(version)),
-                last: session_for::<D>(Ok(last)),
-            },
-            // The first poll tells the error, and the last session is never polled.
-            Err(e) => ForceDropDatabase {
-                alloc,
-                dial,
-                step: ForceStep::Version,
-                database: Text::new(alloc),
-                session: session_for::<D>(Err(e)),
-                last: session_for::<D>(Err(Error::OutOfMemory)),
-            },
-        }
     }
 
     // One poll of the call that asks for the version. Where it was answered, the other sessions are to be ended, and there is no answer yet.

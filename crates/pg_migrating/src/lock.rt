@@ -11,7 +11,7 @@ ghost use Rattle.pg_migrating.specs.Locks.{CallsLock, HidesName, IsNamed, NameGo
 ghost use Rattle.pg_migrating.specs.Requests.{IsRequestOf};
 
 use crate::asking::{Asking, Question};
-use crate::binding::{none, with_int8};
+use crate::binding::{INT8, bind, none};
 use crate::demand::Demand;
 use crate::reading::told;
 use crate::requests::prepared;
@@ -42,7 +42,7 @@ pub struct MigrationLock<C: PgExecutor, Q = Question> {
 fn request(alloc: Global, way: LockWay, id: i64) -> Result<Demand, Error>
     ensures { IsRequestOf hows.Execute 0 (lock_statement way id) result }
 {
-    let key = with_int8(none(alloc), id);
+    let key = bind(alloc, none(alloc), INT8, &id.to_be_bytes());
     match way {
         LockWay::Lock => prepared(alloc, How::Execute, lock_text(), key),
         LockWay::Unlock => prepared(alloc, How::Execute, unlock_text(), key),

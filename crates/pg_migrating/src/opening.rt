@@ -1,14 +1,14 @@
 //! A connection that is opened over a dial.
 
-ghost use Rattle.std.specs.Prelude.{◌≡◌, ◌≤◌, false};
+ghost use Rattle.std.specs.Prelude.{◌≡◌, ◌≤◌};
 ghost use Rattle.pg_conn.specs.Dials.{HandsOut};
-ghost use Rattle.pg_migrating.specs.Sessions.{Connects, over_dial};
+ghost use Rattle.pg_migrating.specs.Sessions.{GoesStart, over_dial};
+ghost use Rattle.pg_migrating.specs.Starts.{BeginsStart, at_stage};
 
 use crate::demand::Demand;
 use crate::errand::Errand;
 use pg_conn::{Dial, Establish, PgConnection, dial_and_establish};
 use pg_guards::PgExecutor;
-use pg_stream::Link;
 use pg_wire::{Error, Poll};
 use std::alloc::Global;
 
@@ -78,26 +78,33 @@ pub trait Sessions: Dial {
         ensures connects { ConnectsAs Self.L.seen opens Self.Conn.conn self.old start self.new result };
 }
 
-// Moves a start-up on, behind which this is asked.
-fn connect<L: Link + Drop>(
+// A start-up that is under way, and what is asked behind it.
+struct Begun<L> {
     demand: Demand,
-    mut start: Establish<L>,
-    left: &mut u16,
-) -> Connected<Start<L>, PgConnection<L>>
-    requires goes { start.startup.is_finished ≡ false }
-    requires left { left.old ≤ 256 }
-    ensures left { left.new ≤ left.old }
-    ensures connects { Connects L.seen demand start result }
+    start: Establish<L>,
+}
+
+// The start-up of a session: it is begun where that was not done.
+fn begin<D: Dial>(alloc: Global, stage: Stage<D::L>, dial: &mut D) -> Result<Begun<D::L>, Error>
+where
+    D::L: Drop,
+    requires { GoesStart (over_dial D.L.seen (HandsOut D.gives D.draws) D.seen) (at_stage stage) }
+    ensures { BeginsStart D.L.seen (over_dial D.L.seen (HandsOut D.gives D.draws) D.seen) dial.old stage dial.new result }
 {
-    match start.poll_within(left) {
-        Poll::Pending => Connected::Waits(Start {
-            stage: Stage::Begun(demand, start),
-        }),
-        Poll::Ready(Ok(mut conn)) => {
-            conn.start(demand.into_request());
-            Connected::Opens(conn)
-        }
-        Poll::Ready(Err(e)) => Connected::Fails(e),
+    match stage {
+        Stage::Asked(Ok(errand)) => match dial_and_establish(alloc, &errand.options, dial) {
+            Ok(start) => {
+                let Errand { options, request } = errand;
+                drop(options);
+                Ok(Begun {
+                    demand: request,
+                    start,
+                })
+            }
+            Err(e) => Err(e),
+        },
+        Stage::Asked(Err(e)) => Err(e),
+        Stage::Begun(demand, start) => Ok(Begun { demand, start }),
     }
 }
 
@@ -123,13 +130,20 @@ where
         start: Start<D::L>,
         left: &mut u16,
     ) -> Connected<Start<D::L>, PgConnection<D::L>> {
-        match start.into_stage() {
-            Stage::Asked(Ok(errand)) => match dial_and_establish(alloc, &errand.options, self) {
-                Ok(start) => connect(errand.into_demand(), start, left),
-                Err(e) => Connected::Fails(e),
-            },
-            Stage::Asked(Err(e)) => Connected::Fails(e),
-            Stage::Begun(demand, start) => connect(demand, start, left),
+        let begun = match begin(alloc, start.into_stage(), self) {
+            Ok(begun) => begun,
+            Err(e) => return Connected::Fails(e),
+        };
+        let Begun { demand, mut start } = begun;
+        match start.poll_within(left) {
+            Poll::Pending => Connected::Waits(Start {
+                stage: Stage::Begun(demand, start),
+            }),
+            Poll::Ready(Ok(mut conn)) => {
+                conn.start(demand.into_request());
+                Connected::Opens(conn)
+            }
+            Poll::Ready(Err(e)) => Connected::Fails(e),
         }
     }
 }

@@ -1,15 +1,13 @@
 //! The requests of the statements.
 
-ghost use Rattle.std.specs.Prelude.{◌≡◌, List, string_bytes};
-ghost use Rattle.pg_request.specs.Queries.{plain_text};
+ghost use Rattle.std.specs.Prelude.{List};
 ghost use Rattle.pg_call.specs.declared.kind.How.TheVariants as hows;
-ghost use Rattle.pg_call.specs.Requests.{raw};
 ghost use Rattle.pg_migrate.specs.Orders.{Bound, Prepared, Script, row_of};
 ghost use Rattle.pg_migrating.specs.Requests.{Binds, IsRequestOf};
 ghost use Rattle.pg_migrating.specs.Texts.{text_of};
 
-use crate::binding;
-use crate::demand::Demand;
+use crate::binding::{BYTEA, INT8, TEXT, bind, none, version_of};
+use crate::demand::{Demand, Wish};
 use crate::texts::{Wording, text};
 use pg_arguments::PgArguments;
 use pg_call::How;
@@ -23,16 +21,11 @@ pub(crate) fn script(alloc: Global, sql: &str) -> Result<Demand, Error>
     ensures { IsRequestOf hows.Execute 0 (Script sql.now) result }
 {
     match Query::raw(alloc, sql) {
-        Ok(query) => Ok(Demand::raw(How::Execute, query)),
+        Ok(query) => Ok(Demand {
+            of: Wish::Query(How::Execute, query),
+        }),
         Err(e) => Err(e),
     }
-}
-
-/// The same of a text that is owned.
-pub(crate) fn owned_script(sql: String) -> Demand
-    ensures { result ≡ raw hows.Execute (plain_text (string_bytes sql)) }
-{
-    Demand::raw(How::Execute, Query::from_text(Text::from_string(sql)))
 }
 
 /// A statement with these arguments, where there are such.
@@ -49,7 +42,9 @@ pub(crate) fn prepared(
         Err(e) => return Err(e),
     };
     match Query::with(alloc, sql, &arguments) {
-        Ok(query) => Ok(Demand::raw(how, query)),
+        Ok(query) => Ok(Demand {
+            of: Wish::Query(how, query),
+        }),
         Err(e) => Err(e),
     }
 }
@@ -59,7 +54,9 @@ pub(crate) fn named_script(alloc: Global, wording: Wording, name: &str) -> Resul
     ensures { IsRequestOf hows.Execute 0 (Script (text_of wording name.now)) result }
 {
     match text(alloc, wording, name) {
-        Ok(sql) => Ok(owned_script(sql)),
+        Ok(sql) => Ok(Demand {
+            of: Wish::Query(How::Execute, Query::from_text(Text::from_string(sql))),
+        }),
         Err(_) => Err(Error::OutOfMemory),
     }
 }
@@ -87,6 +84,13 @@ pub(crate) fn named(
 pub(crate) fn insert_row(alloc: Global, table: &str, migration: &Migration) -> Result<Demand, Error>
     ensures { IsRequestOf hows.Execute 0 (row_of table.now migration.now) result }
 {
-    let row = binding::row(alloc, migration);
+    let version = bind(
+        alloc,
+        none(alloc),
+        INT8,
+        &version_of(migration).to_be_bytes(),
+    );
+    let described = bind(alloc, version, TEXT, migration.description.as_bytes());
+    let row = bind(alloc, described, BYTEA, migration.checksum.as_bytes());
     named(alloc, How::Execute, Wording::InsertRow, table, row)
 }

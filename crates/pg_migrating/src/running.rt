@@ -3,10 +3,9 @@
 ghost use Rattle.std.specs.Prelude.{◌≡◌, ◌≤◌, true, false, not, is_some, None, Some};
 ghost use Rattle.pg_conn.specs.Connections.{ConnOf};
 ghost use Rattle.pg_migrating.specs.Asking.{CallsQuietly, StaysQuiet, is_asked, left_of};
-ghost use Rattle.pg_migrating.specs.Migrating.{HasRun, Runs, StandsIn, StepGoes, StopsBy, TellsRun, TellsStep, is_database, is_script, told_by};
+ghost use Rattle.pg_migrating.specs.Migrating.{HasRun, Runs, StandsIn, StepGoes, StopsBy, TellsRun, TellsStep, told_by};
 
 use crate::asking::{Asking, Question};
-use crate::binding::version_of;
 use crate::course::{Course, Step, Way, Work};
 use crate::holding;
 use pg_guards::PgExecutor;
@@ -25,33 +24,16 @@ pub struct RunMigration<'m, C: PgExecutor, K, Q = Question> {
     course: Course,
 }
 
-fn is_script(step: Step) -> bool
-    ensures { result ≡ is_script step }
-{
-    match step {
-        Step::Script => true,
-        Step::Begin | Step::Row | Step::Commit | Step::Time => false,
-    }
-}
-
-fn is_database(e: &Error) -> bool
-    ensures { result ≡ is_database e.now }
-{
-    match e {
-        Error::Database(_) => true,
-        _ => false,
-    }
-}
-
 impl Work<'_> {
     // How an error of a step is told whose call has queued so many groups.
     fn told(&self, step: Step, groups: u64, e: Error) -> MigrateError
         ensures { result ≡ told_by step self.now.migration.version groups e }
     {
-        if is_script(step) && is_database(&e) && groups > 0 {
-            MigrateError::ExecuteMigration(e, version_of(self.migration))
-        } else {
-            MigrateError::Execute(e)
+        match step {
+            Step::Script if groups > 0 && matches!(e, Error::Database(_)) => {
+                MigrateError::ExecuteMigration(e, self.migration.version)
+            }
+            _ => MigrateError::Execute(e),
         }
     }
 }
@@ -84,10 +66,13 @@ impl<'m, C: PgExecutor, K, Q: Drop> RunMigration<'m, C, K, Q> {
             alloc: _,
             asking,
             clock: _,
-            work,
+            work: Work {
+                way: _,
+                table: _,
+                migration: _,
+            },
             course,
         } = self;
-        drop(work);
         asking.into_conn(course.is_open)
     }
 }
