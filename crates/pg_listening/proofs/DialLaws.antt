@@ -1,5 +1,5 @@
 -- What a dial that fails comes to.
-use Rattle.std.proofs.Common.{◌≡◌, ◌⊎◌, inl, inr, ℕ, ap, sym, subst, Option, Some, Result, Err}
+use Rattle.std.proofs.Common.{◌≡◌, ◌⊎◌, inl, inr, ℕ, ap, sym, subst, Option, Some, Result, Ok, Err, IfErr}
 use Rattle.pg_wire.specs.declared.error.Error.{Error}
 use Rattle.pg_stream.specs.Links.{LinkSeen}
 use Rattle.pg_options.specs.Options.{ConnectOptions}
@@ -9,7 +9,7 @@ use Rattle.pg_conn.specs.Dials.{DialSeen, failed_by}
 use Rattle.pg_conn.specs.declared.dial.DialFailed.{DialFailed}
 use Rattle.pg_conn.specs.declared.dial.DialFailed.TheVariants as failed
 use Rattle.pg_listening.specs.Listening.{IsOpenPool}
-use Rattle.pg_listening.specs.Failing.{FailsDial, FillsNone}
+use Rattle.pg_listening.specs.Failing.{BesideSeen, FailsDial, FillsNone, FindsNone}
 
 dial_says : (f : DialFailed) → IsOpenPool (dial_error f)
 dial_says failed.Fault = tt
@@ -36,3 +36,8 @@ link_fails a b failed.OutOfMemory e is counts = subst (λ (x : Error). FailsDial
 pub fills_none : {A : Type 0} (seen : A → LinkSeen) (options : ConnectOptions) (before mid behind : ℕ) (e : Error) (link kept : A) (handed : Option A) → mid ≡ before → kept ≡ link → handed ≡ Some kept → FailsDial mid behind e ⊎ RefusesStart options (seen link).plan e → FillsNone seen options before behind e handed
 fills_none seen options before mid behind e link kept handed same is handed_is (inl f) = inl (subst (λ (n : ℕ). FailsDial n behind e) same f)
 fills_none {A} seen options before mid behind e link kept handed same is handed_is (inr r) = inr (kept, handed_is, subst (λ (x : A). RefusesStart options (seen x).plan e) (sym is) r)
+
+-- the pool gave leave, and no start-up was begun
+pub finds_none : {A X : Type 0} (seen : A → LinkSeen) (o : BesideSeen) (options : ConnectOptions) (result : Result X (Error × Option A)) → options ≡ o.options → IfErr result (λ e. IsOpenPool e.0) → IfErr result (λ e. FillsNone seen options o.before o.behind e.0 e.1) → IfErr result (λ e. FindsNone seen o e.0 e.1)
+finds_none seen o options (Ok x) same apart none = tt
+finds_none {A} seen o options (Err e) same apart none = inr (apart, subst (λ (x : ConnectOptions). FillsNone seen x o.before o.behind e.0 e.1) same none)

@@ -1,5 +1,5 @@
 -- What stays of a listener where something is done with the connection that is held.
-use Rattle.std.proofs.Common.{◌≡◌, ◌∙◌, ℕ, Bool, true, false, List, ap, refl, Option, Some, None, IsSome, Result, Ok, Err}
+use Rattle.std.proofs.Common.{◌≡◌, ◌∙◌, ℕ, Bool, true, false, List, ap, refl, Option, Some, None, IsSome, option_map, Result, Ok, Err}
 use Rattle.futures.specs.declared.task.Poll.{Poll}
 use Rattle.futures.specs.declared.task.Poll.TheVariants.{Ready, Pending}
 use Rattle.pg_wire.specs.declared.error.Error.{Error}
@@ -39,6 +39,15 @@ module _ {C A : Type 0} (handed : C → HeldOf A) where
 pub not_gone : {C P : Type 0} (o : Option C) → IsSome o → o ≡ None → P
 not_gone None s e = absurd cc
 not_gone (Some c) s e = absurd cc
+
+-- what is told of it is told where it is there
+pub not_mapped : {X Y P : Type 0} (f : X → Y) (o : Option X) → IsSome o → option_map f o ≡ None → P
+not_mapped f None s e = absurd cc
+not_mapped f (Some x) s e = absurd cc
+
+pub some_mapped : {X Y : Type 0} (f : X → Y) (o : Option X) (y : Y) → option_map f o ≡ Some y → (x : X) × (o ≡ Some x) × (y ≡ f x)
+some_mapped f None y e = absurd cc
+some_mapped f (Some x) y e = (x, refl, cc)
 
 -- where none is held no channel is listened to
 pub not_ready : {C : Type 0} (b : Bool) (o : Option C) → (b ≡ true → IsSome o) → o ≡ None → b ≡ false

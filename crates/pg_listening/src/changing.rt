@@ -125,15 +125,24 @@ where
         ensures causes { CausedBy B.L.seen B.Held.conn B.Held.with_conn B.filling (beside_of (B.now source.old) (B.now source.new)) left.old left.new self.old self.new result }
     {
         if !change.listens() {
-            return self.poll_fewer(&change, left);
+            let answer = self.poll_fewer(&change, left);
+            drop(change);
+            return answer;
         }
         match self.poll_connected(rt, source, left) {
             Poll::Pending => {
-                self.asked = Some(change);
+                self.ask(change);
                 Poll::Pending
             }
-            Poll::Ready(Err(e)) => Poll::Ready(Err(e)),
-            Poll::Ready(Ok(())) => self.poll_asked_held(&change, left),
+            Poll::Ready(Err(e)) => {
+                drop(change);
+                Poll::Ready(Err(e))
+            }
+            Poll::Ready(Ok(())) => {
+                let answer = self.poll_asked_held(&change, left);
+                drop(change);
+                answer
+            }
         }
     }
 

@@ -1,5 +1,5 @@
 //! How a listener comes by a connection, and how it loses one.
-ghost use Rattle.std.specs.Prelude.{◌≡◌, ◌⊎◌, ◌≤◌, ◌<◌, ◌++◌, true, false, [], None, Some, IfErr, IsSome, OnErr, OnOk, option_to_list, vec_capacity, vec_len};
+ghost use Rattle.std.specs.Prelude.{◌≡◌, ◌⊎◌, ◌≤◌, ◌<◌, ◌++◌, true, false, [], None, Some, IfErr, IfOk, IsSome, OnErr, OnOk, is_some, option_to_list, vec_capacity, vec_len};
 ghost use Rattle.pg_listening.specs.Listening.{NoneClosed};
 ghost use Rattle.pg_listening.specs.Failing.{CausedBy, CausedOn, FailsToFind, LosesBy, PollsAgain, beside_of};
 ghost use Rattle.pg_listening.specs.Sources.{IsDialled, IsSeated};
@@ -7,7 +7,7 @@ ghost use Rattle.pg_listening.specs.Hearing.{AsksAgain, HearsBy, LosesHeld, OnRe
 ghost use Rattle.pg_listening.specs.Leaving.{Fills};
 ghost use Rattle.pg_listening.specs.Waiting.{ReadiesBy, StartsFrom};
 
-use crate::handing::close;
+use crate::handing::spent;
 use crate::{ConnectionSource, Found, Hearing};
 use pg_wire::{Error, Poll};
 use std::sync::Wait;
@@ -49,9 +49,12 @@ impl<B: ConnectionSource> Hearing<B> {
             Ok(()) => {}
             Err(_) => return Err(Error::OutOfMemory),
         }
-        match self.listening.let_go() {
-            Some(held) => {
-                self.lost.push_reserved(close(rt, source, held));
+        let mut held = self.listening.let_go();
+        let link = source.close(rt, &mut held);
+        spent(held);
+        match link {
+            Some(link) => {
+                self.lost.push_reserved(link);
                 Ok(())
             }
             None => unreachable!(),
@@ -87,9 +90,9 @@ impl<B: ConnectionSource> Hearing<B> {
         }
     }
 
-    // Finds a connection, or begins a start-up. Room for a link that is lost in this is made before.
+    // Finds a connection, or else begins a start-up, and tells whether one is held. Room for a link that is lost in this is made before.
     #[tactic(auto, using(crate::proofs::HearingLaws::hears_nothing, crate::proofs::HearingLaws::hears_without, crate::proofs::BufferingLaws::hears_behind, crate::proofs::BufferingLaws::at_once, crate::proofs::SourceLaws::dialled, crate::proofs::SourceLaws::seated_then, crate::proofs::SourceLaws::dialled_then))]
-    fn connect<R: Wait>(&mut self, rt: &R, source: &mut B) -> Result<(), Error>
+    fn connect<R: Wait>(&mut self, rt: &R, source: &mut B) -> Result<bool, Error>
         requires none { self.old.listening.conn ≡ None }
         requires idle { self.old.startup ≡ None }
         requires mine { self.old.name ≡ (B.now source.old).name }
@@ -98,7 +101,8 @@ impl<B: ConnectionSource> Hearing<B> {
         ensures source { IsDialled (B.now source.old) (B.now source.new) }
         ensures loss { self.new.is_lost ≡ self.old.is_lost }
         ensures lost { OnOk result (self.new.lost ≡ self.old.lost) }
-        ensures found { OnOk result (self.new.listening.conn ≡ None → IsSome self.new.startup) }
+        ensures found { IfOk result (λ is_held. is_some self.new.listening.conn ≡ is_held) }
+        ensures starts { IfOk result (λ is_held. is_held ≡ false → IsSome self.new.startup) }
         ensures startup { OnOk result (StartsFrom B.L.seen B.filling self.old.startup self.new.startup) }
         ensures ready { self.new.is_ready ≡ false }
         ensures faults { OnOk result ((B.now source.new).faults ≡ (B.now source.old).faults) }
@@ -111,11 +115,11 @@ impl<B: ConnectionSource> Hearing<B> {
         match source.find(rt, self.alloc) {
             Ok(Found::Held(held)) => {
                 self.hold(held);
-                Ok(())
+                Ok(true)
             }
             Ok(Found::Starting(state)) => {
                 self.start(state);
-                Ok(())
+                Ok(false)
             }
             Err((e, link)) => {
                 keep_lost(&mut self.lost, link);
@@ -169,34 +173,6 @@ where
         }
     }
 
-    // Moves a start-up on that has begun, where the pool had no connection.
-    #[tactic(auto, using(crate::proofs::HearingLaws::hears_nothing, crate::proofs::HearingLaws::hears_without, crate::proofs::BufferingLaws::hears_behind, crate::proofs::BufferingLaws::at_once, crate::proofs::SourceLaws::dialled, crate::proofs::SourceLaws::seated_then, crate::proofs::SourceLaws::dialled_then))]
-    fn poll_begun<R: Wait>(
-        &mut self,
-        rt: &R,
-        source: &mut B,
-        left: &mut u16,
-    ) -> Poll<Result<(), Error>>
-        requires starts { self.old.listening.conn ≡ None → IsSome self.old.startup }
-        requires mine { self.old.name ≡ (B.now source.old).name }
-        requires left { left.old ≤ 256 }
-        ensures hears { HearsBy B.L.seen B.Held.conn self.old self.new [] }
-        ensures channels { self.new.listening.channels ≡ self.old.listening.channels }
-        ensures source { IsSeated (B.now source.old) (B.now source.new) }
-        ensures loss { self.new.is_lost ≡ self.old.is_lost }
-        ensures left { left.new ≤ left.old }
-        ensures lost { OnReady result (self.new.lost ≡ self.old.lost) }
-        ensures held { OnReady result (IsSome self.new.listening.conn) }
-        ensures startup { OnReady result (StartsFrom B.L.seen B.filling self.old.startup self.new.startup) }
-        ensures ready { OnReady result (self.new.is_ready ≡ true → self.new ≡ self.old) }
-        ensures causes { CausedOn B.L.seen B.Held.conn B.Held.with_conn B.filling left.old left.new self.old self.new result }
-    {
-        if self.listening.is_held() {
-            return Poll::Ready(Ok(()));
-        }
-        self.poll_start_up(rt, source, left)
-    }
-
     /// Goes on until a connection is held. It is one that is idle in the pool, or a new one over a link that the dial opens. Where this fails the leave
     /// to make it is given back, and the next poll begins anew.
     #[tactic(auto, using(crate::proofs::HearingLaws::hears_nothing, crate::proofs::HearingLaws::hears_without, crate::proofs::BufferingLaws::hears_behind, crate::proofs::BufferingLaws::at_once, crate::proofs::SourceLaws::dialled, crate::proofs::SourceLaws::seated_then, crate::proofs::SourceLaws::dialled_then))]
@@ -226,7 +202,8 @@ where
             return self.poll_start_up(rt, source, left);
         }
         match self.connect(rt, source) {
-            Ok(()) => self.poll_begun(rt, source, left),
+            Ok(true) => Poll::Ready(Ok(())),
+            Ok(false) => self.poll_start_up(rt, source, left),
             Err(e) => Poll::Ready(Err(e)),
         }
     }
@@ -256,26 +233,6 @@ where
             Poll::Ready(Ok(())) => {
                 self.is_ready = self.channels().is_empty();
                 Poll::Ready(Ok(()))
-            }
-        }
-    }
-
-    // A statement that listens again has failed: so has the reconnect.
-    #[tactic(auto, using(crate::proofs::HearingLaws::hears_nothing, crate::proofs::HearingLaws::hears_without, crate::proofs::BufferingLaws::hears_behind, crate::proofs::BufferingLaws::at_once, crate::proofs::SourceLaws::dialled, crate::proofs::SourceLaws::seated_then, crate::proofs::SourceLaws::dialled_then))]
-    fn fail<R: Wait>(&mut self, e: Error, rt: &R, source: &mut B) -> Error
-        requires held { IsSome self.old.listening.conn }
-        requires mine { self.old.name ≡ (B.now source.old).name }
-        ensures hears { HearsBy B.L.seen B.Held.conn self.old self.new [] }
-        ensures channels { self.new.listening.channels ≡ self.old.listening.channels }
-        ensures source { IsSeated (B.now source.old) (B.now source.new) }
-        ensures loss { self.new.is_lost ≡ self.old.is_lost }
-        ensures fails { LosesBy B.Held.conn e self.old self.new result }
-    {
-        match self.lose(rt, source) {
-            Ok(()) => e,
-            Err(wanting) => {
-                drop(e);
-                wanting
             }
         }
     }
@@ -337,7 +294,7 @@ where
         }
     }
 
-    // Goes on until the connection listens to all of the channels.
+    // Goes on until the connection listens to all of the channels. Where a statement that listens again has failed, so has the reconnect.
     #[tactic(auto, using(crate::proofs::HearingLaws::hears_nothing, crate::proofs::HearingLaws::hears_without, crate::proofs::BufferingLaws::hears_behind, crate::proofs::BufferingLaws::at_once, crate::proofs::SourceLaws::dialled, crate::proofs::SourceLaws::seated_then, crate::proofs::SourceLaws::dialled_then))]
     fn poll_ready<R: Wait>(
         &mut self,
@@ -369,7 +326,13 @@ where
         match self.poll_again(left) {
             Poll::Pending => Poll::Pending,
             Poll::Ready(Ok(())) => Poll::Ready(Ok(())),
-            Poll::Ready(Err(e)) => Poll::Ready(Err(self.fail(e, rt, source))),
+            Poll::Ready(Err(e)) => match self.lose(rt, source) {
+                Ok(()) => Poll::Ready(Err(e)),
+                Err(wanting) => {
+                    drop(e);
+                    Poll::Ready(Err(wanting))
+                }
+            },
         }
     }
 

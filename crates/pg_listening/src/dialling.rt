@@ -1,16 +1,14 @@
-//! A connection out of a pool: one that is idle, or a start-up over a link that a dial opens.
+//! A start-up of a connection of a pool, over a link that a dial opens.
 ghost use Rattle.std.specs.Prelude.{◌≡◌, ◌⊎◌, IfErr, IfOk, Some};
 ghost use Rattle.pg_conn.specs.Dials.{IsUncalled};
 ghost use Rattle.pg_startup.specs.Establishing.{RefusesStart};
 ghost use Rattle.pg_listening.specs.Listening.{IsOpenPool};
-ghost use Rattle.pg_listening.specs.Failing.{FailsDial, FillsNone, FindsNone};
+ghost use Rattle.pg_listening.specs.Failing.{FailsDial, FillsNone};
 ghost use Rattle.pg_listening.specs.Leaving.{Fills, IsFound, IsFresh};
 
 use crate::Found;
 use pg_conn::{Dial, draw_nonce};
-use pg_listen::{
-    Acquired, EstablishPooled, PgPool, PoolConnection, PoolLedger, PoolSeat, Ticket, TicketExt,
-};
+use pg_listen::{EstablishPooled, PgPool, PoolConnection, PoolLedger, PoolSeat, Ticket, TicketExt};
 use pg_stream::Link;
 use pg_wire::Error;
 use std::alloc::Global;
@@ -43,20 +41,20 @@ fn establish<L: Link, D: Dial<L = L>, G: PoolLedger>(
     }
 }
 
-// Begins a start-up over a link that the dial opens. Where it fails its leave is given back, and its link, if there is one, is handed back.
+/// Begins a start-up over a link that the dial opens. Where it fails its leave is given back, and its link, if there is one, is handed back.
 #[tactic(auto, using(crate::proofs::DialLaws::dial_apart, crate::proofs::DialLaws::link_fails, crate::proofs::DialLaws::fills_none))]
-fn fill<G: PoolLedger, L: Link, D: Dial<L = L>, R: Wait>(
+pub(crate) fn fill<G: PoolLedger, L: Link, D: Dial<L = L>, R: Wait>(
     rt: &R,
     alloc: Global,
     pool: &PgPool<G, L>,
     seat: &mut PoolSeat<G>,
     ticket: Ticket,
     dial: &mut D,
-) -> Result<EstablishPooled<L>, (Error, Option<L>)>
+) -> Result<Found<PoolConnection<L>, EstablishPooled<L>>, (Error, Option<L>)>
     requires theirs { seat.old.name ≡ pool.now.name }
     requires mine { ticket.name ≡ pool.now.name }
-    ensures found { IfOk result (λ state. Fills L.seen (λ f. f) pool.now.name state × IsFresh L.seen (λ f. f) (Some state)) }
-    ensures faults { IfOk result (λ state. (D.seen dial.new).faults ≡ (D.seen dial.old).faults) }
+    ensures found { IfOk result (IsFound L.seen (λ h. h) (λ f. f) pool.now.name) }
+    ensures faults { IfOk result (λ found. (D.seen dial.new).faults ≡ (D.seen dial.old).faults) }
     ensures open { IfErr result (λ e. IsOpenPool e.0) }
     ensures none { IfErr result (λ e. FillsNone L.seen pool.now.options (D.seen dial.old).faults (D.seen dial.new).faults e.0 e.1) }
     ensures seat { seat.new.name ≡ seat.old.name }
@@ -67,35 +65,11 @@ fn fill<G: PoolLedger, L: Link, D: Dial<L = L>, R: Wait>(
             Err((failed.into_error(), None))
         }
         Ok(link) => match establish(alloc, pool, ticket, dial, link) {
-            Ok(state) => Ok(state),
+            Ok(state) => Ok(Found::Starting(state)),
             Err((e, ticket, link)) => {
                 let _ = ticket.give_back(rt, pool, seat);
                 Err((e, Some(link)))
             }
         },
-    }
-}
-
-/// A connection that is idle, or else a start-up.
-pub(crate) fn find<G: PoolLedger, L: Link, D: Dial<L = L>, R: Wait>(
-    rt: &R,
-    alloc: Global,
-    pool: &PgPool<G, L>,
-    seat: &mut PoolSeat<G>,
-    dial: &mut D,
-) -> Result<Found<PoolConnection<L>, EstablishPooled<L>>, (Error, Option<L>)>
-    requires { seat.old.name ≡ pool.now.name }
-    ensures found { IfOk result (IsFound L.seen (λ h. h) (λ f. f) pool.now.name) }
-    ensures faults { IfOk result (λ found. (D.seen dial.new).faults ≡ (D.seen dial.old).faults) }
-    ensures none { IfErr result (λ e. FindsNone L.seen (record { most = G.most; options = pool.now.options; seat = seat.new; before = (D.seen dial.old).faults; behind = (D.seen dial.new).faults }) e.0 e.1) }
-    ensures seat { seat.new.name ≡ seat.old.name }
-{
-    match pool.acquire(rt, seat) {
-        Ok(Acquired::Idle(held)) => Ok(Found::Held(held)),
-        Ok(Acquired::New(ticket)) => match fill(rt, alloc, pool, seat, ticket, dial) {
-            Ok(state) => Ok(Found::Starting(state)),
-            Err(e) => Err(e),
-        },
-        Err(e) => Err((e, None)),
     }
 }

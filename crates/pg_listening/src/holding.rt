@@ -15,31 +15,18 @@ ghost use Rattle.pg_listening.specs.Listening.{NoneClosed, Saves, TurnsOpen};
 
 use pg_conn::{PgConnection, PgQueryResult, Turn};
 use pg_guards::PgExecutor;
-use pg_stream::Link;
 use pg_wire::{Error, Notification, Poll};
 use std::collections::VecDeque;
-
-fn begin_news<L>(conn: &mut PgConnection<L>)
-    ensures { conn.new ≡ with_kept news_begun conn.old }
-{
-    conn.set_notifications(false);
-    conn.set_notifications(true);
-}
 
 /// The connection keeps the notifications that it reads from now on, and none that it read before.
 pub(crate) fn begin<C: PgExecutor>(holder: C) -> C
     ensures { result ≡ C.with_conn holder (with_kept news_begun (C.conn holder)) }
 {
     let mut holder = holder;
-    begin_news(holder.conn_mut());
-    holder
-}
-
-fn end_news<L>(conn: &mut PgConnection<L>)
-    ensures { conn.new ≡ with_kept none_kept (left conn.old) }
-{
-    conn.abandon();
+    let conn = holder.conn_mut();
     conn.set_notifications(false);
+    conn.set_notifications(true);
+    holder
 }
 
 /// The connection gives up the call that runs, and keeps no notifications any longer.
@@ -47,7 +34,9 @@ pub(crate) fn end<C: PgExecutor>(holder: C) -> C
     ensures { result ≡ C.with_conn holder (with_kept none_kept (left (C.conn holder))) }
 {
     let mut holder = holder;
-    end_news(holder.conn_mut());
+    let conn = holder.conn_mut();
+    conn.abandon();
+    conn.set_notifications(false);
     holder
 }
 
@@ -69,7 +58,10 @@ fn save_news<L>(
     ensures saves { Saves conn.old.stream.notifications conn.new.stream.notifications earlier.old.items earlier.new.items result }
 {
     loop {
-        earlier.reserve(1)?;
+        match earlier.reserve(1) {
+            Ok(()) => {}
+            Err(_) => return Err(Error::OutOfMemory),
+        }
         match conn.next_buffered() {
             Some(notification) => earlier.push_back_reserved(notification),
             None => return Ok(()),
@@ -102,19 +94,6 @@ pub(crate) fn poll_news<C: PgExecutor>(
     holder.conn_mut().poll_notification_within(left)
 }
 
-// One poll of a call.
-fn poll_turn<L: Link>(conn: &mut PgConnection<L>, left: &mut u16) -> Poll<Turn>
-    requires calling { (kind : Kind) × IsCalling kind conn.old }
-    requires keeping { conn.old.stream.notifications.keeping ≡ true }
-    requires left { left.old ≤ 256 }
-    ensures polls { PollsWithin left.old (seen_by L.seen conn.old) (seen_by L.seen conn.new) result }
-    ensures left { left.new ≤ left.old }
-    ensures news { ReadsNews (stream_by L.seen conn.old.stream) (stream_by L.seen conn.new.stream) [] }
-    ensures apart { TurnsOpen result }
-{
-    conn.poll_call_within(left)
-}
-
 /// One poll of a call on the connection that is held.
 pub(crate) fn poll_running<C: PgExecutor>(holder: &mut C, left: &mut u16) -> Poll<Turn>
     requires calling { (kind : Kind) × IsCalling kind (C.conn holder.old) }
@@ -126,27 +105,7 @@ pub(crate) fn poll_running<C: PgExecutor>(holder: &mut C, left: &mut u16) -> Pol
     ensures news { ReadsNews (stream_by C.L.seen (C.conn holder.old).stream) (stream_by C.L.seen (C.conn holder.new).stream) [] }
     ensures apart { TurnsOpen result }
 {
-    poll_turn(holder.conn_mut(), left)
-}
-
-// One poll of a statement.
-fn poll_total<L: Link>(
-    conn: &mut PgConnection<L>,
-    left: &mut u16,
-) -> Poll<Result<PgQueryResult, Error>>
-    requires calling { IsCalling (kinds.Run hows.Execute) conn.old }
-    requires keeping { conn.old.stream.notifications.keeping ≡ true }
-    requires left { left.old ≤ 256 }
-    ensures polls { PollsWithin left.old (seen_by L.seen conn.old) (seen_by L.seen conn.new) (turn_of total_turn result) }
-    ensures left { left.new ≤ left.old }
-    ensures calling { PollFits (kinds.Run hows.Execute) conn.new (turn_of total_turn result) }
-    ensures news { ReadsNews (stream_by L.seen conn.old.stream) (stream_by L.seen conn.new.stream) [] }
-    ensures apart { NoneClosed result }
-{
-    match conn.poll_call_within(left) {
-        Poll::Pending => Poll::Pending,
-        Poll::Ready(turn) => Poll::Ready(turn.into_total()),
-    }
+    holder.conn_mut().poll_call_within(left)
 }
 
 /// One poll of a statement on the connection that is held.
@@ -164,5 +123,8 @@ pub(crate) fn poll_statement<C: PgExecutor>(
     ensures news { ReadsNews (stream_by C.L.seen (C.conn holder.old).stream) (stream_by C.L.seen (C.conn holder.new).stream) [] }
     ensures apart { NoneClosed result }
 {
-    poll_total(holder.conn_mut(), left)
+    match holder.conn_mut().poll_call_within(left) {
+        Poll::Pending => Poll::Pending,
+        Poll::Ready(turn) => Poll::Ready(turn.into_total()),
+    }
 }

@@ -12,7 +12,6 @@ mod handing;
 mod hearing;
 mod holders;
 mod holding;
-mod leaving;
 mod listening;
 mod pool_source;
 mod querying;

@@ -59,7 +59,10 @@ fn behind(
 {
     match change {
         ChannelChange::ListenAll(_) => Ok(None),
-        _ => Ok(Some(change.applied(alloc, channels)?)),
+        _ => match change.applied(alloc, channels) {
+            Ok(next) => Ok(Some(next)),
+            Err(e) => Err(e),
+        },
     }
 }
 
@@ -203,8 +206,13 @@ impl<C: PgExecutor> Listening<C> {
         ensures ok { OnOk result (self.new ≡ record self.old { channels = changed change.now self.old.channels }) }
         ensures err { OnErr result ((self.new ≡ self.old) × (result ≡ Err Error.OutOfMemory)) }
     {
-        self.channels = change.applied(self.alloc, self.channels())?;
-        Ok(())
+        match change.applied(self.alloc, self.channels()) {
+            Ok(next) => {
+                self.channels = next;
+                Ok(())
+            }
+            Err(e) => Err(e),
+        }
     }
 
     /// Begins a change of the channels, which does nothing before its first poll; a call that still runs is given up. It is made behind the Ok of its
@@ -219,10 +227,20 @@ impl<C: PgExecutor> Listening<C> {
         ensures asking { OnOk result (self.new.is_asking ≡ true) }
         ensures err { OnErr result ((self.new ≡ self.old) × (result ≡ Err Error.OutOfMemory)) }
     {
-        let statement = change.statement(self.alloc)?;
-        let behind = behind(self.alloc, change, self.channels())?;
-        self.ask(statement, behind);
-        Ok(())
+        let behind = match behind(self.alloc, change, self.channels()) {
+            Ok(behind) => behind,
+            Err(e) => return Err(e),
+        };
+        match change.statement(self.alloc) {
+            Ok(statement) => {
+                self.ask(statement, behind);
+                Ok(())
+            }
+            Err(e) => {
+                drop(behind);
+                Err(e)
+            }
+        }
     }
 
     /// Begins to listen to all of the channels again, as a new connection does. An `Err` is want of memory, and then nothing has changed.
@@ -236,9 +254,13 @@ impl<C: PgExecutor> Listening<C> {
         ensures asking { OnOk result (self.new.is_asking ≡ true) }
         ensures err { OnErr result ((self.new ≡ self.old) × (result ≡ Err Error.OutOfMemory)) }
     {
-        let statement = listen_each_text(self.alloc, self.channels())?;
-        self.ask(statement, None);
-        Ok(())
+        match listen_each_text(self.alloc, self.channels()) {
+            Ok(statement) => {
+                self.ask(statement, None);
+                Ok(())
+            }
+            Err(e) => Err(e),
+        }
     }
 
     /// Moves on the statement that is asked, within so many calls of the link.

@@ -2,12 +2,11 @@
 ghost use Rattle.std.specs.Prelude.{◌≡◌, refl};
 ghost use Rattle.pg_listening.specs.Sources.{pool_source};
 
-use crate::dialling::find;
-use crate::leaving::{close, refuse_closed};
+use crate::dialling::fill;
 use crate::starting::{give_up, with_link};
 use crate::{ConnectionSource, Found, PoolHolder, SeatHolder};
 use pg_conn::Dial;
-use pg_listen::{EstablishPooled, PoolConnection, PoolLedger, PoolSeat, Released};
+use pg_listen::{Acquired, EstablishPooled, PoolConnection, PoolLedger, PoolSeat, Released};
 use pg_wire::{Error, Poll};
 use std::alloc::Global;
 use std::marker::{Model, PhantomData};
@@ -105,7 +104,11 @@ impl<
     ) -> Result<Found<PoolConnection<D::L>, EstablishPooled<D::L>>, (Error, Option<D::L>)> {
         let pool = self.pool.pool_ref();
         let seat = self.seat.seat_mut();
-        find(rt, alloc, pool, seat, &mut self.dial)
+        match pool.acquire(rt, seat) {
+            Ok(Acquired::Idle(held)) => Ok(Found::Held(held)),
+            Ok(Acquired::New(ticket)) => fill(rt, alloc, pool, seat, ticket, &mut self.dial),
+            Err(e) => Err((e, None)),
+        }
     }
 
     fn poll_startup<R: Wait>(
@@ -140,13 +143,13 @@ impl<
     }
 
     fn close<R: Wait>(&mut self, rt: &R, held: &mut Option<PoolConnection<D::L>>) -> Option<D::L> {
-        match held.take() {
-            Some(held) => {
-                let pool = self.pool.pool_ref();
-                let seat = self.seat.seat_mut();
-                Some(close(rt, held, pool, seat))
-            }
-            None => None,
+        let Some(conn) = held else { return None };
+        conn.close_on_drop();
+        match self.release(rt, held) {
+            Some(Released::Foreign(conn)) => Some(conn.close_hard()),
+            Some(Released::Closed(conn)) => Some(conn.close_hard()),
+            Some(Released::Kept) => unreachable!(),
+            None => unreachable!(),
         }
     }
 
@@ -168,6 +171,10 @@ impl<
     fn refuse_closed<R: Wait>(&mut self, rt: &R) -> Result<(), Error> {
         let pool = self.pool.pool_ref();
         let seat = self.seat.seat_mut();
-        refuse_closed(rt, pool, seat)
+        match pool.closed_place(rt, seat) {
+            Ok(Some(place)) => Err(Error::PoolClosed { place }),
+            Ok(None) => Ok(()),
+            Err(e) => Err(e),
+        }
     }
 }

@@ -2,7 +2,7 @@
 ghost use Rattle.std.specs.Prelude.{◌≡◌, ◌≤◌, [], Some, IsSome};
 ghost use Rattle.pg_call.specs.declared.kind.Kind.{Kind};
 ghost use Rattle.pg_conn.specs.Turns.{PollsWithin};
-ghost use Rattle.pg_listening.specs.Listening.{CallsOn, Starts, TurnsOpen};
+ghost use Rattle.pg_listening.specs.Listening.{CallsOn, TurnsOpen};
 ghost use Rattle.pg_listening.specs.Failing.{beside_of};
 ghost use Rattle.pg_listening.specs.Sources.{IsDialled};
 ghost use Rattle.pg_listening.specs.Hearing.{HearsBy};
@@ -15,19 +15,6 @@ use pg_wire::Poll;
 use std::sync::Wait;
 
 impl<B: ConnectionSource> Hearing<B> {
-    // Asks it.
-    #[tactic(auto, using(crate::proofs::HearingLaws::hears_nothing, crate::proofs::HearingLaws::hears_without, crate::proofs::BufferingLaws::hears_behind, crate::proofs::BufferingLaws::at_once))]
-    fn start_call(&mut self, request: Request)
-        requires held { IsSome self.old.listening.conn }
-        ensures starts { Starts B.Held.conn B.Held.with_conn request self.old.listening.conn self.new.listening.conn }
-        ensures hears { HearsBy B.L.seen B.Held.conn self.old self.new [] }
-        ensures channels { self.new.listening.channels ≡ self.old.listening.channels }
-        ensures loss { self.new.is_lost ≡ self.old.is_lost }
-    {
-        self.is_again = false;
-        self.listening.start(request);
-    }
-
     // Moves its call on.
     #[tactic(auto, using(crate::proofs::HearingLaws::hears_nothing, crate::proofs::HearingLaws::hears_without, crate::proofs::BufferingLaws::hears_behind, crate::proofs::BufferingLaws::at_once))]
     fn poll_running(&mut self, left: &mut u16) -> Poll<Turn>
@@ -56,8 +43,9 @@ impl<B: ConnectionSource> Hearing<B> {
         ensures asked { AsksNow B.L.seen B.Held.conn B.Held.with_conn left.old request self.old self.new result }
         ensures apart { TurnsOpen result }
     {
-        self.start_call(request);
-        self.poll_running(left)
+        self.is_again = false;
+        self.listening.start(request);
+        self.listening.poll_call(left)
     }
 }
 

@@ -7,7 +7,7 @@ ghost use Rattle.pg_listening.specs.Buffers.{buffered};
 ghost use Rattle.pg_listening.specs.Listening.{FailsOn, stream_in};
 ghost use Rattle.pg_listening.specs.Failing.{CausedBy, CausedOn, Fails, OnFailed, beside_of};
 ghost use Rattle.pg_listening.specs.Sources.{IsDialled, IsSeated};
-ghost use Rattle.pg_listening.specs.Hearing.{GivesOldest, HearsBy, LossBehind, OnReady, TellsHeld, TellsLoss, buffers_of, gave_by};
+ghost use Rattle.pg_listening.specs.Hearing.{GivesOldest, HearsBy, LossBehind, OnReady, TellsLoss, buffers_of, gave_by};
 ghost use Rattle.pg_listening.specs.Leaving.{RefusesClosed};
 ghost use Rattle.pg_listening.specs.Waiting.{AsksClosed, ListensAgain, NotesBy, OnNone, OnPending, ReadiesBy, StartsFrom, WaitsBy};
 
@@ -121,35 +121,6 @@ where
         }
     }
 
-    // The connection has failed: it is lost, which is told.
-    #[tactic(auto, using(crate::proofs::HearingLaws::hears_nothing, crate::proofs::HearingLaws::hears_without, crate::proofs::BufferingLaws::hears_behind, crate::proofs::TellingLaws::untold_same, crate::proofs::TellingLaws::untold_by, crate::proofs::TellingLaws::hears_same, crate::proofs::TellingLaws::tells_later, crate::proofs::TellingLaws::tells_same, crate::proofs::TellingLaws::gives_first, crate::proofs::TellingLaws::gives_none, crate::proofs::SourceLaws::dialled, crate::proofs::SourceLaws::dialled_then))]
-    fn poll_lost<R: Wait>(
-        &mut self,
-        rt: &R,
-        source: &mut B,
-        left: &mut u16,
-    ) -> Poll<Result<Option<Notification>, Error>>
-        requires held { IsSome self.old.listening.conn }
-        requires mine { self.old.name ≡ (B.now source.old).name }
-        requires left { left.old ≤ 256 }
-        ensures hears { HearsBy B.L.seen B.Held.conn self.old self.new (gave_by result) }
-        ensures channels { self.new.listening.channels ≡ self.old.listening.channels }
-        ensures source { IsDialled (B.now source.old) (B.now source.new) }
-        ensures left { left.new ≤ left.old }
-        ensures loss { TellsHeld B.Held.conn self.old.listening.conn self.old.lost self.new.lost self.old.is_lost self.new.is_lost result }
-        ensures startup { OnReady result (StartsFrom B.L.seen B.filling self.old.startup self.new.startup) }
-        ensures again { OnNone result (self.old.is_eager ≡ true → ListensAgain B.L.seen B.Held.conn B.Held.with_conn self.old.listening.channels self.new) }
-        ensures causes { CausedBy B.L.seen B.Held.conn B.Held.with_conn B.filling (beside_of (B.now source.old) (B.now source.new)) left.old left.new self.old self.new result }
-    {
-        match self.lose(rt, source) {
-            Ok(()) => {
-                self.set_lost(true);
-                self.poll_loss(rt, source, left)
-            }
-            Err(e) => Poll::Ready(Err(e)),
-        }
-    }
-
     // Waits for a notification on the connection that is held, and tells its loss.
     #[tactic(auto, using(crate::proofs::HearingLaws::hears_nothing, crate::proofs::HearingLaws::hears_without, crate::proofs::BufferingLaws::hears_behind, crate::proofs::TellingLaws::untold_same, crate::proofs::TellingLaws::untold_by, crate::proofs::TellingLaws::hears_same, crate::proofs::TellingLaws::tells_later, crate::proofs::TellingLaws::tells_same, crate::proofs::TellingLaws::gives_first, crate::proofs::TellingLaws::gives_none, crate::proofs::SourceLaws::dialled, crate::proofs::SourceLaws::dialled_then))]
     fn poll_news<R: Wait>(
@@ -173,38 +144,18 @@ where
         match self.wait(left) {
             Poll::Pending => Poll::Pending,
             Poll::Ready(Ok(notification)) => Poll::Ready(Ok(Some(notification))),
-            Poll::Ready(Err(Error::Io(_))) => self.poll_lost(rt, source, left),
+            Poll::Ready(Err(Error::Io(_))) => match self.lose(rt, source) {
+                Ok(()) => {
+                    self.set_lost(true);
+                    self.poll_loss(rt, source, left)
+                }
+                Err(e) => Poll::Ready(Err(e)),
+            },
             Poll::Ready(Err(e)) => Poll::Ready(Err(e)),
         }
     }
 
-    // The same over a connection that listens to all of the channels.
-    #[tactic(auto, using(crate::proofs::HearingLaws::hears_nothing, crate::proofs::HearingLaws::hears_without, crate::proofs::BufferingLaws::hears_behind, crate::proofs::TellingLaws::untold_same, crate::proofs::TellingLaws::untold_by, crate::proofs::TellingLaws::hears_same, crate::proofs::TellingLaws::tells_later, crate::proofs::TellingLaws::tells_same, crate::proofs::TellingLaws::gives_first, crate::proofs::TellingLaws::gives_none, crate::proofs::SourceLaws::dialled, crate::proofs::SourceLaws::dialled_then))]
-    fn poll_open<R: Wait>(
-        &mut self,
-        rt: &R,
-        source: &mut B,
-        left: &mut u16,
-    ) -> Poll<Result<Option<Notification>, Error>>
-        requires mine { self.old.name ≡ (B.now source.old).name }
-        requires left { left.old ≤ 256 }
-        ensures hears { HearsBy B.L.seen B.Held.conn self.old self.new (gave_by result) }
-        ensures channels { self.new.listening.channels ≡ self.old.listening.channels }
-        ensures source { IsDialled (B.now source.old) (B.now source.new) }
-        ensures left { left.new ≤ left.old }
-        ensures loss { TellsLoss B.L.seen B.Held.conn self.old self.new result }
-        ensures startup { OnReady result (StartsFrom B.L.seen B.filling self.old.startup self.new.startup) }
-        ensures again { OnNone result (self.old.is_eager ≡ true → ListensAgain B.L.seen B.Held.conn B.Held.with_conn self.old.listening.channels self.new) }
-        ensures causes { CausedBy B.L.seen B.Held.conn B.Held.with_conn B.filling (beside_of (B.now source.old) (B.now source.new)) left.old left.new self.old self.new result }
-    {
-        match self.poll_connected(rt, source, left) {
-            Poll::Pending => Poll::Pending,
-            Poll::Ready(Err(e)) => Poll::Ready(Err(e)),
-            Poll::Ready(Ok(())) => self.poll_news(rt, source, left),
-        }
-    }
-
-    // The same where no notification is buffered: a pool that was closed is told first.
+    // The same over a connection that listens to all of the channels, where no notification is buffered: a pool that was closed is told first.
     #[tactic(auto, using(crate::proofs::HearingLaws::hears_nothing, crate::proofs::HearingLaws::hears_without, crate::proofs::BufferingLaws::hears_behind, crate::proofs::TellingLaws::untold_same, crate::proofs::TellingLaws::untold_by, crate::proofs::TellingLaws::hears_same, crate::proofs::TellingLaws::tells_later, crate::proofs::TellingLaws::tells_same, crate::proofs::TellingLaws::gives_first, crate::proofs::TellingLaws::gives_none, crate::proofs::SourceLaws::dialled, crate::proofs::SourceLaws::dialled_then))]
     fn poll_unbuffered<R: Wait>(
         &mut self,
@@ -225,35 +176,13 @@ where
         ensures asks { self.old.ignores_close ≡ false → AsksClosed B.L (B.now source.old).most (B.now source.old).seat result }
     {
         match self.refuse_closed(rt, source) {
-            Ok(()) => self.poll_open(rt, source, left),
-            Err(e) => Poll::Ready(Err(e)),
+            Ok(()) => {}
+            Err(e) => return Poll::Ready(Err(e)),
         }
-    }
-
-    // The same where no loss is yet to be told.
-    #[tactic(auto, using(crate::proofs::HearingLaws::hears_nothing, crate::proofs::HearingLaws::hears_without, crate::proofs::BufferingLaws::hears_behind, crate::proofs::TellingLaws::untold_same, crate::proofs::TellingLaws::untold_by, crate::proofs::TellingLaws::hears_same, crate::proofs::TellingLaws::tells_later, crate::proofs::TellingLaws::tells_same, crate::proofs::TellingLaws::gives_first, crate::proofs::TellingLaws::gives_none, crate::proofs::SourceLaws::dialled, crate::proofs::SourceLaws::dialled_then))]
-    fn poll_fresh<R: Wait>(
-        &mut self,
-        rt: &R,
-        source: &mut B,
-        left: &mut u16,
-    ) -> Poll<Result<Option<Notification>, Error>>
-        requires mine { self.old.name ≡ (B.now source.old).name }
-        requires left { left.old ≤ 256 }
-        ensures hears { HearsBy B.L.seen B.Held.conn self.old self.new (gave_by result) }
-        ensures channels { self.new.listening.channels ≡ self.old.listening.channels }
-        ensures source { IsDialled (B.now source.old) (B.now source.new) }
-        ensures left { left.new ≤ left.old }
-        ensures loss { TellsLoss B.L.seen B.Held.conn self.old self.new result }
-        ensures oldest { GivesOldest (buffered (buffers_of B.L.seen B.Held.conn self.old)) result }
-        ensures startup { OnReady result (StartsFrom B.L.seen B.filling self.old.startup self.new.startup) }
-        ensures again { OnNone result (self.old.is_eager ≡ true → ListensAgain B.L.seen B.Held.conn B.Held.with_conn self.old.listening.channels self.new) }
-        ensures causes { CausedBy B.L.seen B.Held.conn B.Held.with_conn B.filling (beside_of (B.now source.old) (B.now source.new)) left.old left.new self.old self.new result }
-        ensures asks { buffered (buffers_of B.L.seen B.Held.conn self.old) ≡ [] → self.old.ignores_close ≡ false → AsksClosed B.L (B.now source.old).most (B.now source.old).seat result }
-    {
-        match self.next_buffered() {
-            Some(notification) => Poll::Ready(Ok(Some(notification))),
-            None => self.poll_unbuffered(rt, source, left),
+        match self.poll_connected(rt, source, left) {
+            Poll::Pending => Poll::Pending,
+            Poll::Ready(Err(e)) => Poll::Ready(Err(e)),
+            Poll::Ready(Ok(())) => self.poll_news(rt, source, left),
         }
     }
 
@@ -281,9 +210,11 @@ where
         ensures asks { self.old.is_lost ≡ false → buffered (buffers_of B.L.seen B.Held.conn self.old) ≡ [] → self.old.ignores_close ≡ false → AsksClosed B.L (B.now source.old).most (B.now source.old).seat result }
     {
         if self.is_lost {
-            self.poll_loss(rt, source, left)
-        } else {
-            self.poll_fresh(rt, source, left)
+            return self.poll_loss(rt, source, left);
+        }
+        match self.next_buffered() {
+            Some(notification) => Poll::Ready(Ok(Some(notification))),
+            None => self.poll_unbuffered(rt, source, left),
         }
     }
 

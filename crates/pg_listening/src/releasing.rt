@@ -3,7 +3,7 @@ ghost use Rattle.std.specs.Prelude.{◌≡◌, is_some};
 ghost use Rattle.pg_listening.specs.Sources.{IsSeated};
 ghost use Rattle.pg_listening.specs.Leaving.{OnReleased};
 
-use crate::handing::{give_up, release};
+use crate::handing::spent;
 use crate::{ConnectionSource, Hearing};
 use pg_listen::Released;
 use std::sync::Wait;
@@ -34,10 +34,12 @@ where
         } = self;
         drop(asked);
         drop(lost);
-        drop(give_up(rt, source, startup));
-        match listening.into_conn() {
-            Some(held) => Some(release(rt, source, held)),
-            None => None,
-        }
+        let mut startup = startup;
+        drop(source.give_up(rt, &mut startup));
+        spent(startup);
+        let mut held = listening.into_conn();
+        let released = source.release(rt, &mut held);
+        spent(held);
+        released
     }
 }

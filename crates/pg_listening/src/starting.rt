@@ -3,19 +3,26 @@ ghost use Rattle.std.specs.Prelude.{◌≡◌, option_and_then};
 ghost use Rattle.pg_startup.specs.Establishing.{kept_link};
 ghost use Rattle.pg_listening.specs.Leaving.{TicketIs, ended};
 
-use crate::leaving::give_back;
 use pg_listen::{EstablishPooled, PgPool, PoolConnection, PoolLedger, PoolSeat, Ticket};
 use pg_wire::Error;
 use std::sync::Wait;
 
-// The leave of a start-up that is given up, and its link.
-fn parts_of<L>(startup: Option<EstablishPooled<L>>) -> (Option<Ticket>, Option<L>)
-    ensures leave { result.0 ≡ option_and_then (λ f. f.ticket) startup }
-    ensures link { result.1 ≡ option_and_then (λ f. kept_link f.connecting.startup.phase) startup }
+// Gives back the leave that a start-up still has.
+fn give_back<G: PoolLedger, L, R: Wait>(
+    rt: &R,
+    ticket: Option<Ticket>,
+    pool: &PgPool<G, L>,
+    seat: &mut PoolSeat<G>,
+)
+    requires mine { TicketIs pool.now.name ticket }
+    requires theirs { seat.old.name ≡ pool.now.name }
+    ensures { seat.new.name ≡ seat.old.name }
 {
-    match startup {
-        Some(state) => state.into_parts(),
-        None => (None, None),
+    match ticket {
+        Some(ticket) => {
+            let _ = ticket.give_back(rt, pool, seat);
+        }
+        None => {}
     }
 }
 
@@ -31,9 +38,14 @@ pub(crate) fn give_up<G: PoolLedger, L, R: Wait>(
     ensures seat { seat.new.name ≡ seat.old.name }
     ensures link { result ≡ option_and_then (λ f. kept_link f.connecting.startup.phase) startup }
 {
-    let (ticket, link) = parts_of(startup);
-    give_back(rt, ticket, pool, seat);
-    link
+    match startup {
+        Some(state) => {
+            let (ticket, link) = state.into_parts();
+            give_back(rt, ticket, pool, seat);
+            link
+        }
+        None => None,
+    }
 }
 
 /// What a start-up that is over has answered, and the link of one that has failed.

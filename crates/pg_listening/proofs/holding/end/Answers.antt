@@ -5,4 +5,5 @@ use Rattle.pg_conn.specs.News.{with_kept}
 use Rattle.pg_listening.proofs.holding.end.Goals as goal
 
 pub returns : goal.returns
-returns g c = ap (λ conn. g.C.PgExecutor.with_conn c.args.holder conn) (c.end_news.ensures ∙ ap (λ conn. with_kept none_kept (left conn)) c.conn_mut.ensures.value)
+returns g c =
+    ap (λ conn. g.C.PgExecutor.with_conn c.args.holder conn) (c.set_notifications.ensures ∙ ap (λ conn. with_kept none_kept conn) (c.abandon.ensures ∙ ap (λ conn. left conn) c.conn_mut-conn.ensures.value))

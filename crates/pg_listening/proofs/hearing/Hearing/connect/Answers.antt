@@ -5,7 +5,7 @@ use Rattle.pg_listening.specs.Leaving.{IsFresh}
 use Rattle.pg_listening.proofs.BufferingLaws.{hears_behind, hears_kept}
 use Rattle.pg_listening.proofs.FailingLaws.{not_found}
 use Rattle.pg_listening.proofs.HearingLaws.{hears_without}
-use Rattle.pg_listening.proofs.NamingLaws.{not_gone, not_ready}
+use Rattle.pg_listening.proofs.NamingLaws.{never, not_ready}
 use Rattle.pg_listening.proofs.hearing.Hearing.connect.Goals as goal
 
 pub invariant_of-self : goal.invariant_of-self
@@ -19,6 +19,7 @@ returns-in-Err g c = record {
   loss = rw (← c.self.view_is) refl;
   lost = tt;
   found = tt;
+  starts = tt;
   startup = tt;
   ready = not_ready c.self.inside.is_ready c.self.inside.listening.conn c.self.invariant.ready (ap (λ h. h.listening.conn) c.self.view_is ∙ c.requires.none);
   faults = tt;
@@ -38,7 +39,8 @@ returns-in-Ok-Held g c =
       source = found.source;
       loss = rw (← c.self.view_is) told.loss;
       lost = rw (← c.self.view_is) (told.lost ∙ c.reserve.ensures.items);
-      found = λ e. not_gone c.hold.new.self.listening.conn told.held e;
+      found = told.held;
+      starts = λ e. never (sym e);
       startup = rw (← c.self.view_is) (inl told.startup);
       ready = told.ready;
       faults = found.faults;
@@ -60,7 +62,8 @@ returns-in-Ok-Starting g c =
       source = found.source;
       loss = rw (← c.self.view_is) (ap (λ h. h.is_lost) told);
       lost = rw (← c.self.view_is) (ap (λ h. h.lost) told ∙ c.reserve.ensures.items);
-      found = λ _. ap (λ h. is_some h.startup) told;
+      found = ap (λ h. is_some h.listening.conn) told ∙ ap (λ o. is_some o) (ap (λ h. h.listening.conn) c.self.view_is ∙ c.requires.none);
+      starts = λ _. ap (λ h. is_some h.startup) told;
       startup = inr (subst (λ s. IsFresh g.B.L.Link.seen filling s) (sym (ap (λ h. h.startup) told)) fresh.1);
       ready = ap (λ h. h.is_ready) told ∙ not_ready c.self.inside.is_ready c.self.inside.listening.conn c.self.invariant.ready (ap (λ h. h.listening.conn) c.self.view_is ∙ c.requires.none);
       faults = found.faults;
@@ -82,6 +85,7 @@ returns-in-Err-find g c =
       loss = rw (← c.self.view_is) refl;
       lost = tt;
       found = tt;
+      starts = tt;
       startup = tt;
       ready = not_ready c.self.inside.is_ready c.self.inside.listening.conn c.self.invariant.ready (ap (λ h. h.listening.conn) c.self.view_is ∙ c.requires.none);
       faults = tt;

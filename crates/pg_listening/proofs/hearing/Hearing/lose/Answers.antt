@@ -1,9 +1,10 @@
-use Rattle.std.proofs.Common.{◌≡◌, ◌++◌, ◌∷◌, ◌∙◌, [], ap, refl, sym}
+use Rattle.std.proofs.Common.{◌≡◌, ◌++◌, ◌∷◌, ◌∙◌, [], ap, option_map, refl, subst, sym}
+use Rattle.pg_listening.specs.Leaving.{HeldIs}
 use Rattle.pg_listening.specs.Listening.{buffers_by, stream_in}
 use Rattle.pg_listening.proofs.BufferingLaws.{hears_lose, loses_held}
 use Rattle.pg_listening.proofs.FailingLaws.{refused_memory}
 use Rattle.pg_listening.proofs.HearingLaws.{hears_without}
-use Rattle.pg_listening.proofs.NamingLaws.{held_named, never, none_named, stays_named}
+use Rattle.pg_listening.proofs.NamingLaws.{never, none_named, not_mapped, some_mapped, stays_named, stays_some}
 use Rattle.pg_listening.proofs.hearing.Hearing.lose.Goals as goal
 
 pub invariant_of-self : goal.invariant_of-self
@@ -48,15 +49,22 @@ returns-in-Err-reserve g c = record {
   memory = refl;
 }
 
-pub close-requires : goal.close-requires
-close-requires g c =
+pub close-link-requires : goal.close-link-requires
+close-link-requires g c =
+    let handed = g.B.ConnectionSource.handed in
+    let named = ap (λ h. h.name) c.self.view_is ∙ c.requires.mine in
     let saved = stays_named g.B.ConnectionSource.handed g.B.Held.PgExecutor.conn g.B.Held.PgExecutor.with_conn g.met.B.ConnectionSource.handed_with c.self.inside.name c.self.inside.listening.conn c.save.new.self.conn c.save.ensures.holder c.self.invariant.held in
-    let holds = sym c.let_go.ensures.conn ∙ c.in-Some.is in
-    held_named g.B.ConnectionSource.handed c.self.inside.name c.save.new.self.conn c.in-Some.held holds saved ∙ ap (λ h. h.name) c.self.view_is ∙ c.requires.mine
+    subst (λ n. HeldIs handed n c.let_go-held.result) named (subst (λ o. HeldIs handed c.self.inside.name o) (sym c.let_go-held.ensures.conn) saved)
+
+pub unreachable-requires : goal.unreachable-requires
+unreachable-requires g c =
+    let conn = g.B.Held.PgExecutor.conn in
+    let held = stays_some conn g.B.Held.PgExecutor.with_conn c.self.inside.listening.conn c.save.new.self.conn c.save.ensures.holder (rw (← c.self.view_is) at c.requires.held) in
+    not_mapped (λ h. (conn h).stream.link) c.save.new.self.conn held (ap (λ o. option_map (λ h. (conn h).stream.link) o) (sym c.let_go-held.ensures.conn) ∙ sym c.close-link.ensures.link ∙ c.in-None.is)
 
 pub invariant_of-self-in-Some : goal.invariant_of-self-in-Some
 invariant_of-self-in-Some g c = record {
-  held = none_named g.B.ConnectionSource.handed c.self.inside.name c.let_go.new.self.conn (ap (λ l. l.conn) c.let_go.ensures.rest);
+  held = none_named g.B.ConnectionSource.handed c.self.inside.name c.let_go-held.new.self.conn (ap (λ l. l.conn) c.let_go-held.ensures.rest);
   startup = c.self.invariant.startup;
   ready = λ e. never e;
   again = λ e. never e;
@@ -65,18 +73,18 @@ invariant_of-self-in-Some g c = record {
 pub returns : goal.returns
 returns g c =
     let seen = g.B.L.Link.seen in
+    let conn = g.B.Held.PgExecutor.conn in
     let saved = c.save.new.self in
-    let held = c.in-Some.held in
-    let rest = c.let_go.ensures.rest in
-    let holds = sym c.let_go.ensures.conn ∙ c.in-Some.is in
-    let link = c.close.ensures.link in
-    let lost : c.push_reserved.new.self.items ≡ c.self.inside.lost.items ++ c.close.result ∷ [] = c.push_reserved.ensures.items ∙ ap (λ l. l ++ c.close.result ∷ []) c.reserve.ensures.items in
+    let rest = c.let_go-held.ensures.rest in
+    let link = c.in-Some.link in
+    let found = some_mapped (λ h. (conn h).stream.link) saved.conn link (ap (λ o. option_map (λ h. (conn h).stream.link) o) (sym c.let_go-held.ensures.conn) ∙ sym c.close-link.ensures.link ∙ c.in-Some.is) in
+    let lost : c.push_reserved.new.self.items ≡ c.self.inside.lost.items ++ link ∷ [] = c.push_reserved.ensures.items ∙ ap (λ l. l ++ link ∷ []) c.reserve.ensures.items in
     record {
-      hears = rw (← c.self.view_is) (hears_lose g.B.L.Link.seen g.B.Held.PgExecutor.conn _ _ (buffers_by g.B.Held.PgExecutor.conn seen saved) saved.conn held c.close.result c.save.ensures.hears refl holds c.in-Ok.ensures.saved link lost refl refl refl (ap (λ l. l.earlier) rest) (ap (λ l. stream_in g.B.Held.PgExecutor.conn seen l.conn) rest));
+      hears = rw (← c.self.view_is) (hears_lose seen conn _ _ (buffers_by conn seen saved) saved.conn found.0 link c.save.ensures.hears refl found.1 c.in-Ok.ensures.saved found.2 lost refl refl refl (ap (λ l. l.earlier) rest) (ap (λ l. stream_in conn seen l.conn) rest));
       channels = rw (← c.self.view_is) (ap (λ l. l.channels) rest ∙ c.save.ensures.channels);
-      source = c.close.ensures.source;
+      source = c.close-link.ensures.source;
       loss = rw (← c.self.view_is) refl;
-      link = rw (← c.self.view_is) (loses_held g.B.Held.PgExecutor.conn c.self.inside.listening.conn saved.conn held c.self.inside.lost.items c.push_reserved.new.self.items c.close.result (rw (← c.self.view_is) at c.requires.held) c.save.ensures.same holds link lost);
+      link = rw (← c.self.view_is) (loses_held conn c.self.inside.listening.conn saved.conn found.0 c.self.inside.lost.items c.push_reserved.new.self.items link (rw (← c.self.view_is) at c.requires.held) c.save.ensures.same found.1 found.2 lost);
       lost = tt;
       startup = rw (← c.self.view_is) refl;
       ready = refl;

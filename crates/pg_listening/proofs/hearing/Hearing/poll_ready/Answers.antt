@@ -1,4 +1,4 @@
-use Rattle.std.proofs.Common.{◌∙◌, inl, refl, rules}
+use Rattle.std.proofs.Common.{◌∙◌, inl, inr, refl, rules}
 use Rattle.std.proofs.Math.Nat.{le_refl}
 use Rattle.pg_listening.proofs.BufferingLaws.{hears_behind}
 use Rattle.pg_listening.proofs.FailingLaws.{again_readies, again_waits, listen_fails, memory_fails}
@@ -71,11 +71,11 @@ returns-in-Ready-Ok g c =
       causes = tt;
     }
 
-pub returns-in-Ready-Err : goal.returns-in-Ready-Err
-returns-in-Ready-Err g c =
+pub returns-in-Ok-lose : goal.returns-in-Ok-lose
+returns-in-Ok-lose g c =
     let first = c.ask_again.ensures in
     let told = c.in-Ready-Err.ensures in
-    let last = c.fail.ensures in
+    let last = c.in-Ok-lose.ensures in
     let apart = rw c.in-Ready-Err.field-0-is at told.apart in
     let polls = rw c.in-Ready-Err.field-0-is at told.polls in
     record {
@@ -88,5 +88,25 @@ returns-in-Ready-Err g c =
       held = tt;
       startup = tt;
       ready = tt;
-      causes = listen_fails g.B.L.Link.seen g.B.Held.PgExecutor.conn g.B.Held.PgExecutor.with_conn g.B.ConnectionSource.filling _ _ _ c.ask_again.new.self c.poll_again.new.self _ c.in-Ready-Err.e c.fail.result c.in-Ok.ensures.starts apart polls last.fails;
+      causes = listen_fails g.B.L.Link.seen g.B.Held.PgExecutor.conn g.B.Held.PgExecutor.with_conn g.B.ConnectionSource.filling _ _ _ c.ask_again.new.self c.poll_again.new.self _ c.in-Ready-Err.e c.in-Ready-Err.e c.in-Ok.ensures.starts apart polls (inl (refl, last.link));
+    }
+
+pub returns-in-Err-lose : goal.returns-in-Err-lose
+returns-in-Err-lose g c =
+    let first = c.ask_again.ensures in
+    let told = c.in-Ready-Err.ensures in
+    let last = c.in-Err-lose.ensures in
+    let apart = rw c.in-Ready-Err.field-0-is at told.apart in
+    let polls = rw c.in-Ready-Err.field-0-is at told.polls in
+    record {
+      hears = hears_behind g.B.L.Link.seen _ _ _ _ first.hears (hears_behind g.B.L.Link.seen _ _ _ _ told.hears last.hears);
+      channels = last.channels ∙ told.channels ∙ first.channels;
+      source = last.source;
+      loss = last.loss ∙ told.loss ∙ first.loss;
+      left = told.left;
+      lost = tt;
+      held = tt;
+      startup = tt;
+      ready = tt;
+      causes = listen_fails g.B.L.Link.seen g.B.Held.PgExecutor.conn g.B.Held.PgExecutor.with_conn g.B.ConnectionSource.filling _ _ _ c.ask_again.new.self c.poll_again.new.self _ c.in-Ready-Err.e c.in-Err-lose.wanting c.in-Ok.ensures.starts apart polls (inr last.memory);
     }

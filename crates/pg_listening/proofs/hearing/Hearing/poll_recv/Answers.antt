@@ -1,7 +1,8 @@
-use Rattle.std.proofs.Common.{◌∙◌, [], ◌∷◌, ap, inl, refl}
-use Rattle.std.proofs.Math.Nat.{le_trans}
+use Rattle.std.proofs.Common.{◌∙◌, [], ◌∷◌, ap, inl, refl, sym}
+use Rattle.std.proofs.Math.Nat.{le_refl, le_trans}
 use Rattle.pg_listening.proofs.BufferingLaws.{hears_behind}
 use Rattle.pg_listening.proofs.FailingLaws.{fails_then}
+use Rattle.pg_listening.proofs.HearingLaws.{hears_nothing}
 use Rattle.pg_listening.proofs.WaitingLaws.{waits_then}
 use Rattle.pg_listening.proofs.SourceLaws.{dialled_then}
 use Rattle.pg_listening.proofs.hearing.Hearing.poll_recv.Goals as goal
@@ -51,3 +52,14 @@ returns-in-Ready-Ok-Some g c =
       fails = tt;
       closed = tt;
     }
+
+pub loop-e-init : goal.loop-e-init
+loop-e-init g c = record { hears = hears_nothing g.B.L.Link.seen _ _ refl; startup = inl refl; faults = refl; channels = refl; source = refl; mine = c.requires.mine; left = le_refl _; most = c.requires.left }
+
+pub poll_try_recv-requires-clause-mine : goal.poll_try_recv-requires-clause-mine
+poll_try_recv-requires-clause-mine g c =
+    let known = c.loop-e.invariant in
+    known.hears.name ∙ known.mine ∙ sym (ap (λ x. x.name) known.source)
+
+pub poll_try_recv-requires-clause-left : goal.poll_try_recv-requires-clause-left
+poll_try_recv-requires-clause-left g c = le_trans c.loop-e.invariant.left c.loop-e.invariant.most

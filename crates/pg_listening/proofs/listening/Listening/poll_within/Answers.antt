@@ -1,5 +1,4 @@
 use Rattle.std.proofs.Common.{Option, Some, refl, subst, sym}
-use Rattle.pg_stream.specs.Streams.{stream_by}
 use Rattle.pg_listening.specs.Listening.{FailsOn, KeepsNews, stream_in}
 use Rattle.pg_listening.proofs.ListeningLaws.{fails_held, pops_earlier}
 use Rattle.pg_listening.proofs.listening.Listening.poll_within.Goals as goal

@@ -1,11 +1,8 @@
-use Rattle.std.proofs.Common.{◌∙◌, sym}
+use Rattle.std.proofs.Common.{◌≡◌, ap, inl}
 use Rattle.pg_listening.proofs.pool_source.PoolSourceConnectionSource.close.Goals as goal
 
-pub returns-in-Some-clause-drops : goal.returns-in-Some-clause-drops
-returns-in-Some-clause-drops g c =
-    let is = sym c.take.ensures.value ∙ c.in-Some.is in
-    let seat = sym (g.met.S.SeatHolder.written c.self.inside.seat c.close.new.seat) in
-    rw is (rw (← c.self.view_is) (rw (c.seat_mut-seat.ensures.value, seat) at c.close.ensures.drops))
-
-pub returns-in-None-clause-drops : goal.returns-in-None-clause-drops
-returns-in-None-clause-drops g c = rw (sym c.take.ensures.value ∙ c.in-None.is) tt
+pub returns-in-Some-Closed-clause-drops : goal.returns-in-Some-Closed-clause-drops
+returns-in-Some-Closed-clause-drops g c =
+    let told = rw c.in-Some-Closed.field-0-is at c.in-Some-Closed.ensures.releases in
+    let same : c.close_on_drop.new.self.id ≡ c.in-Some.conn.id = ap (λ p. p.id) c.close_on_drop.ensures in
+    rw c.in-Some.is (rw (← same) (told.0, told.1, told.2, told.3, inl (told.4.1, told.4.3)))
