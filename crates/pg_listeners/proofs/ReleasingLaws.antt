@@ -12,6 +12,9 @@ use Rattle.pg_listening.specs.Waiting.{WaitsBy}
 use Rattle.pg_listeners.specs.Listeners.{ListenerOf, Releases, beside_by}
 use Rattle.pg_conn.specs.Connections.{ConnOf}
 
+pub some_same : {X : Type 0} (a b : X) → Some a ≡ Some b → a ≡ b
+some_same a b e = cc
+
 module _ {C S A : Type 0} (seen : A → LinkSeen) (conn : C → ConnOf A) (with_conn : C → ConnOf A → C) (handed : C → HeldOf A) (filling : S → FillingOf A) where
   pub releases_last : {B : Type 0} (of : B → SourceSeen) (before behind : Option (ListenerOf B C S A)) (a last : ListenerOf B C S A) (x : Option (ReleasedOf A)) → before ≡ Some a → behind ≡ None
       → HearsBy seen conn a.hearing last.hearing [] → is_some x ≡ is_some last.hearing.listening.conn → OnReleased handed conn with_conn (of last.source).most last.hearing.listening.conn x → Releases seen conn with_conn handed filling of before behind (Ready (Ok x))

@@ -8,6 +8,7 @@ use crate::Connect;
 use crate::connecting::begin;
 use pg_conn::Dial;
 use pg_listen::{PgPool, PgPoolOptions, PoolLedger, PoolSeat};
+use pg_listening::PoolSource;
 use pg_options::{PgConnectOptions, PgSettings};
 use pg_stream::Link;
 use pg_wire::Error;
@@ -28,13 +29,16 @@ fn pool_of_one<G: PoolLedger, L: Link + Send>(
     ensures seat { IfOk result (λ r. IsFirst name r.1) }
     ensures err { IfErr result (λ e. e ≡ OutOfMemory) }
 {
-    let (pool, seats) = PgPoolOptions::new()
-        .max_connections(1)
-        .build(alloc, name, options, 1, blank)?;
-    let mut seats = seats;
-    match seats.pop() {
-        Some(seat) => Ok((pool, seat)),
-        None => unreachable!(),
+    let of_one = PgPoolOptions::new().max_connections(1);
+    match of_one.build(alloc, name, options, 1, blank) {
+        Ok((pool, seats)) => {
+            let mut seats = seats;
+            match seats.pop() {
+                Some(seat) => Ok((pool, seat)),
+                None => unreachable!(),
+            }
+        }
+        Err(e) => Err(e),
     }
 }
 
@@ -61,7 +65,7 @@ where
         Err(e) => return Err((e, dial)),
     };
     match pool_of_one(alloc, name, options, blank) {
-        Ok((pool, seat)) => Ok(begin(alloc, pool, seat, dial, true)),
+        Ok((pool, seat)) => Ok(begin(alloc, PoolSource::new(pool, seat, dial), true)),
         Err(e) => Err((e, dial)),
     }
 }

@@ -44,19 +44,6 @@ impl<W, C> Changing<'_, W, C> {
 }
 
 impl<B: ConnectionSource> Listener<B> {
-    fn change(&mut self, change: ChannelChange) -> Changing<'_, Self, ChannelChange>
-        ensures same { result.listener.ghost_name ≡ self.entry.ghost_name }
-        ensures listener { result.listener.now ≡ self.old }
-        ensures change { result.change ≡ Some change }
-        ensures over { result.is_over ≡ false }
-    {
-        Changing {
-            listener: self,
-            change: Some(change),
-            is_over: false,
-        }
-    }
-
     /// Listens to a channel, which is stored once its statement has succeeded.
     pub fn listen(&mut self, channel: Text) -> Changing<'_, Self, ChannelChange>
         ensures same { result.listener.ghost_name ≡ self.entry.ghost_name }
@@ -64,7 +51,11 @@ impl<B: ConnectionSource> Listener<B> {
         ensures change { result.change ≡ Some (ChannelChange.Listen channel) }
         ensures over { result.is_over ≡ false }
     {
-        self.change(ChannelChange::Listen(channel))
+        Changing {
+            listener: self,
+            change: Some(ChannelChange::Listen(channel)),
+            is_over: false,
+        }
     }
 
     /// Listens to several channels, which are stored before their statement is asked.
@@ -74,7 +65,11 @@ impl<B: ConnectionSource> Listener<B> {
         ensures change { result.change ≡ Some (ChannelChange.ListenAll channels) }
         ensures over { result.is_over ≡ false }
     {
-        self.change(ChannelChange::ListenAll(channels))
+        Changing {
+            listener: self,
+            change: Some(ChannelChange::ListenAll(channels)),
+            is_over: false,
+        }
     }
 
     /// Listens to a channel no longer. It asks nothing where no connection is held.
@@ -84,7 +79,11 @@ impl<B: ConnectionSource> Listener<B> {
         ensures change { result.change ≡ Some (ChannelChange.Unlisten channel) }
         ensures over { result.is_over ≡ false }
     {
-        self.change(ChannelChange::Unlisten(channel))
+        Changing {
+            listener: self,
+            change: Some(ChannelChange::Unlisten(channel)),
+            is_over: false,
+        }
     }
 
     /// Listens to no channel any longer. It asks nothing where no connection is held.
@@ -94,7 +93,11 @@ impl<B: ConnectionSource> Listener<B> {
         ensures change { result.change ≡ Some ChannelChange.UnlistenAll }
         ensures over { result.is_over ≡ false }
     {
-        self.change(ChannelChange::UnlistenAll)
+        Changing {
+            listener: self,
+            change: Some(ChannelChange::UnlistenAll),
+            is_over: false,
+        }
     }
 }
 

@@ -21,18 +21,19 @@ pub struct Connecting<W> {
     is_over: bool,
 }
 
-// A listener on a pool, with a participant of it.
-pub(crate) fn begin<
-    G: PoolLedger,
-    P: PoolHolder<G, D::L>,
-    S: SeatHolder<Seat = PoolSeat<G>>,
-    D: Dial,
->(alloc: Global, pool: P, seat: S, dial: D, ignores_close: bool) -> Connect<G, P, S, D>
-    requires { (S.seat seat).name ≡ (P.pool pool).name }
-    ensures listener { result.listener ≡ Some (record { source = pool_source P.pool S.seat D.seen G.most pool seat dial; hearing = fresh_hearing (P.pool pool).name ignores_close }) }
+// A listener over these connections, which has none yet.
+pub(crate) fn begin<B: ConnectionSource>(
+    alloc: Global,
+    source: B,
+    ignores_close: bool,
+) -> Connecting<Listener<B>>
+    ensures listener { result.listener ≡ Some (record { source = source; hearing = fresh_hearing (B.now source).name ignores_close }) }
     ensures over { result.is_over ≡ false }
 {
-    Connecting::over(Listener::over(alloc, PoolSource::new(pool, seat, dial), ignores_close))
+    Connecting {
+        listener: Some(Listener::over(alloc, source, ignores_close)),
+        is_over: false,
+    }
 }
 
 /// A listener on a pool that it is lent, with a participant of it.
@@ -46,19 +47,10 @@ pub fn connect_with<
     ensures listener { result.listener ≡ Some (record { source = pool_source P.pool S.seat D.seen G.most pool seat dial; hearing = fresh_hearing (P.pool pool).name false }) }
     ensures over { result.is_over ≡ false }
 {
-    begin(alloc, pool, seat, dial, false)
+    begin(alloc, PoolSource::new(pool, seat, dial), false)
 }
 
 impl<W> Connecting<W> {
-    pub(crate) fn over(listener: W) -> Self
-        ensures { result ≡ record { listener = Some listener; is_over = false } }
-    {
-        Connecting {
-            listener: Some(listener),
-            is_over: false,
-        }
-    }
-
     /// Whether a poll has ended the call.
     pub fn is_finished(&self) -> bool
         ensures { result ≡ self.now.is_over }

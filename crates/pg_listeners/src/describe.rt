@@ -6,7 +6,7 @@ ghost use Rattle.pg_conn.specs.States.{to_prepare, untyped};
 ghost use Rattle.pg_listening.specs.Hearing.{HearsBy};
 ghost use Rattle.pg_listening.specs.Querying.{IsQuerying};
 ghost use Rattle.pg_listening.specs.Waiting.{NotesBy};
-ghost use Rattle.pg_listeners.specs.Describing.{DescribesIn, GoesOn, IsDescribing, PollsDescribe, PollsNulls, PollsPrepare, StaysDescribing};
+ghost use Rattle.pg_listeners.specs.Describing.{DescribesIn, GoesOn, IsDescribing, PollsNulls, PollsPrepare, StaysDescribing};
 ghost use Rattle.pg_listeners.specs.Listeners.{is_answered};
 
 use crate::answering::is_answered;
@@ -162,23 +162,6 @@ where
         }
     }
 
-    // One poll, but for what is noted of its end.
-    fn poll_on<R: Wait>(&mut self, rt: &R, left: &mut u16) -> Poll<Result<Describe, Error>>
-        requires left { left.old ≤ 256 }
-        requires calling { IsDescribing B.Held.conn self.old.told self.old.request self.old.listener.now.hearing }
-        ensures same { self.new.listener.ghost_name ≡ self.old.listener.ghost_name }
-        ensures hears { HearsBy B.L.seen B.Held.conn self.old.listener.now.hearing self.new.listener.now.hearing [] }
-        ensures channels { self.new.listener.now.hearing.listening.channels ≡ self.old.listener.now.hearing.listening.channels }
-        ensures describes { PollsDescribe B.L.seen B.Held.conn B.Held.with_conn B.filling B.now left.old left.new self.old.told self.old.request self.new.request self.old.listener.now self.new.listener.now result self.new.told }
-        ensures calling { StaysDescribing B.Held.conn self.new.told self.new.request self.new.listener.now.hearing result }
-        ensures closed { NotesBy B.L (B.now self.old.listener.now.source).most (B.now self.new.listener.now.source).seat result }
-    {
-        match self.told.take() {
-            Some(statement) => self.poll_nulls(rt, statement, left),
-            None => self.poll_prepare(rt, left),
-        }
-    }
-
     /// Moves the call on, by at most 256 calls of the link. A row of the catalog without a truth value is `ColumnDecode` with the place 0.
     pub fn poll<R: Wait>(&mut self, rt: &R) -> Poll<Result<Describe, Error>>
         requires over { self.old.is_over ≡ false }
@@ -192,8 +175,17 @@ where
         ensures closed { NotesBy B.L (B.now self.old.listener.now.source).most (B.now self.new.listener.now.source).seat result }
     {
         let mut left = 256;
-        let answer = self.poll_on(rt, &mut left);
-        self.is_over = is_answered(&answer);
-        answer
+        match self.told.take() {
+            Some(statement) => {
+                let answer = self.poll_nulls(rt, statement, &mut left);
+                self.is_over = is_answered(&answer);
+                answer
+            }
+            None => {
+                let answer = self.poll_prepare(rt, &mut left);
+                self.is_over = is_answered(&answer);
+                answer
+            }
+        }
     }
 }

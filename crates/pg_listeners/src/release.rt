@@ -1,6 +1,6 @@
 //! How a listener ends.
-ghost use Rattle.std.specs.Prelude.{◌≡◌, true, false, None, Some, IsSome, is_some};
-ghost use Rattle.pg_listeners.specs.Listeners.{LetsGo, Releases, goes_on_in, holds, is_answered};
+ghost use Rattle.std.specs.Prelude.{◌≡◌, true, false, None, Some};
+ghost use Rattle.pg_listeners.specs.Listeners.{Releases, goes_on_in, is_answered};
 
 use crate::{ChannelChange, Listener, PgListener};
 use pg_listen::Released;
@@ -57,19 +57,6 @@ impl<B: ConnectionSource + Drop> Releasing<Listener<B>>
 where
     B::L: Drop,
 {
-    fn let_go<R: Wait>(&mut self, rt: &R) -> Option<Released<B::L>>
-        requires { IsSome self.old.listener }
-        ensures gone { self.new.listener ≡ None }
-        ensures rest { (self.new.change ≡ self.old.change) × (self.new.is_over ≡ self.old.is_over) }
-        ensures some { is_some result ≡ holds self.old.listener }
-        ensures released { LetsGo B.handed B.Held.conn B.Held.with_conn B.now self.old.listener result }
-    {
-        match self.listener.take() {
-            Some(listener) => listener.into_released(rt),
-            None => unreachable!(),
-        }
-    }
-
     /// Moves the call on, by at most 256 calls of the link. It answers what became of the connection, or `None` where none was held.
     pub fn poll<R: Wait>(&mut self, rt: &R) -> Poll<Result<Option<Released<B::L>>, Error>>
         requires over { self.old.is_over ≡ false }
@@ -90,7 +77,10 @@ where
             }
             Poll::Ready(Ok(())) => {
                 self.is_over = true;
-                Poll::Ready(Ok(self.let_go(rt)))
+                match self.listener.take() {
+                    Some(listener) => Poll::Ready(Ok(listener.into_released(rt))),
+                    None => unreachable!(),
+                }
             }
         }
     }

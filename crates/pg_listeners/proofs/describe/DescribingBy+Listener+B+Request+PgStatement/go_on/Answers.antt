@@ -1,7 +1,6 @@
 use Rattle.std.proofs.Common.{refl, sym, ◌∙◌}
 use Rattle.std.proofs.Math.Nat.{le_refl}
 use Rattle.pg_listening.proofs.HearingLaws.{hears_nothing}
-use Rattle.pg_listeners.specs.Listeners.{beside_by}
 use Rattle.pg_listeners.proofs.DescribingLaws.{tells_at_once}
 use Rattle.pg_listeners.proofs.describe.DescribingBy+Listener+B+Request+PgStatement.go_on.Goals as goal
 

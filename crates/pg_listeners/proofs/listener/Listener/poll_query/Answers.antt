@@ -1,7 +1,3 @@
-use Rattle.std.proofs.Common.{Option, subst}
-use Rattle.pg_call.specs.declared.request.Request.{Request}
-use Rattle.pg_listening.specs.Failing.{beside_of}
-use Rattle.pg_listening.specs.Querying.{Queries}
 use Rattle.pg_listeners.proofs.listener.Listener.poll_query.Goals as goal
 
 pub returns : goal.returns

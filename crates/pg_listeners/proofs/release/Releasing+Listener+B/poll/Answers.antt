@@ -1,14 +1,16 @@
-use Rattle.std.proofs.Common.{◌∙◌, refl}
-use Rattle.pg_listeners.proofs.ReleasingLaws.{releases_last, releases_later, releases_none}
+use Rattle.std.proofs.Common.{◌∙◌, refl, sym}
+use Rattle.pg_listeners.proofs.ReleasingLaws.{releases_last, releases_later, releases_none, some_same}
 use Rattle.pg_listeners.proofs.release.Releasing+Listener+B.poll.Goals as goal
 
-pub returns-in-Ready-Ok : goal.returns-in-Ready-Ok
-returns-in-Ready-Ok g c =
-    let gone = c.let_go.ensures in
+pub returns-in-Some-take : goal.returns-in-Some-take
+returns-in-Some-take g c =
+    let last = c.in-Some-take.listener in
+    let gone = c.into_released.ensures in
+    let is = some_same c.poll_asking.new.self last (sym c.take.ensures.value ∙ c.in-Some-take.is) in
     record {
-      over = gone.rest.1;
-      releases = releases_last g.B.L.Link.seen g.B.Held.PgExecutor.conn g.B.Held.PgExecutor.with_conn g.B.ConnectionSource.handed g.B.ConnectionSource.filling g.B.ConnectionSource.now _ _ c.in-Some.listener c.poll_asking.new.self c.let_go.result c.in-Some.is gone.gone c.poll_asking.ensures.hears gone.some gone.released;
-      begun = gone.rest.0 ∙ c.poll_asking.ensures.begun;
+      over = refl;
+      releases = releases_last g.B.L.Link.seen g.B.Held.PgExecutor.conn g.B.Held.PgExecutor.with_conn g.B.ConnectionSource.handed g.B.ConnectionSource.filling g.B.ConnectionSource.now _ _ c.in-Some.listener last c.into_released.result c.in-Some.is c.take.ensures.after (rw (← is) c.poll_asking.ensures.hears) gone.some gone.releases;
+      begun = c.poll_asking.ensures.begun;
     }
 
 pub returns-in-Pending : goal.returns-in-Pending
