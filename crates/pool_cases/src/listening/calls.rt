@@ -4,13 +4,13 @@ ghost use Rattle.std.specs.Prelude.{◌≡◌};
 use crate::listening::polling::{change, fetch_many, fetch_optional, recv, try_recv};
 use crate::listening::statements::{describe, described, prepare, prepared, shown};
 use crate::listening::telling::{
-    Shown, buffered, changed, counted, found, handed_out, received, tried,
+    Shown, buffered, changed, counted, failed, found, handed_out, push, received, tried,
 };
 use pg_conn::{Preparation, Query};
 use pg_listen::{PoolLedger, PoolSeat};
 use pg_listeners::{ChannelChange, ConnectionSource, Listener};
 use pg_pool::{Pool, Pooled};
-use pg_wire::{Error, Poll, Sequence, Text};
+use pg_wire::{Sequence, Text};
 use std::alloc::{AllocError, Global};
 use std::sync::Wait;
 
@@ -19,6 +19,9 @@ pub(crate) const POLLS: u32 = 8;
 
 // What is asked in each query.
 const SQL: &str = "SELECT";
+
+// There is no memory for what a call asks.
+const WANTING: &str = " no memory";
 
 // The channel of a word, in which `~` stands for a zero byte.
 fn channel(alloc: Global, word: &str) -> Result<Text, AllocError> {
@@ -47,17 +50,19 @@ fn change_of(alloc: Global, call: &str) -> Result<ChannelChange, AllocError> {
     }
 }
 
-fn raw(alloc: Global) -> Result<Query, Error> {
-    Query::raw(alloc, SQL)
-}
-
-// A query whose statement is kept.
-fn kept(alloc: Global) -> Result<Query, Error> {
-    Query::new(alloc, SQL)
-}
-
-fn preparation(alloc: Global) -> Result<Preparation, AllocError> {
-    Ok(Preparation::untyped(alloc, Text::from_str(alloc, SQL)?))
+// The query of a call: `row` asks by a statement that is kept.
+fn query_of(alloc: Global, call: &str) -> Option<Query> {
+    let query = match call {
+        "row" => Query::new(alloc, SQL),
+        _ => Query::raw(alloc, SQL),
+    };
+    match query {
+        Ok(query) => Some(query),
+        Err(error) => {
+            drop(error);
+            None
+        }
+    }
 }
 
 // A notification, or what was read before.
@@ -77,27 +82,43 @@ where
     }
 }
 
-// A query or a statement.
-fn ask<B, R>(
-    rt: &R,
-    alloc: Global,
-    out: &mut String,
-    listener: &mut Listener<B>,
-    call: &str,
-) -> Result<(), Error>
+// A query.
+fn ask<B, R>(rt: &R, alloc: Global, out: &mut String, listener: &mut Listener<B>, call: &str)
 where
     B: ConnectionSource,
     B::L: Drop,
     R: Wait,
 {
+    let Some(query) = query_of(alloc, call) else {
+        return push(out, WANTING);
+    };
     match call {
-        "many" => counted(out, fetch_many(rt, listener, raw(alloc)?, POLLS)),
-        "first" => found(out, fetch_optional(rt, listener, raw(alloc)?, POLLS)),
-        "row" => shown(out, fetch_optional(rt, listener, kept(alloc)?, POLLS)),
-        "prepare" => prepared(out, prepare(rt, listener, preparation(alloc)?)),
-        _ => described(out, describe(rt, listener, Text::from_str(alloc, SQL)?)),
+        "many" => counted(out, fetch_many(rt, listener, query, POLLS)),
+        "first" => found(out, fetch_optional(rt, listener, query, POLLS)),
+        _ => shown(out, fetch_optional(rt, listener, query, POLLS)),
     }
-    Ok(())
+}
+
+// A statement that is prepared, or described in full.
+fn tell_statement<B, R>(
+    rt: &R,
+    alloc: Global,
+    out: &mut String,
+    listener: &mut Listener<B>,
+    call: &str,
+)
+where
+    B: ConnectionSource,
+    B::L: Drop,
+    R: Wait,
+{
+    let Ok(sql) = Text::from_str(alloc, SQL) else {
+        return push(out, WANTING);
+    };
+    match call {
+        "prepare" => prepared(out, prepare(rt, listener, Preparation::untyped(alloc, sql))),
+        _ => described(out, describe(rt, listener, sql)),
+    }
 }
 
 /// A call of a row.
@@ -107,7 +128,7 @@ pub(crate) fn make<B, R>(
     out: &mut String,
     listener: &mut Listener<B>,
     call: &str,
-) -> Result<(), Error>
+)
 where
     B: ConnectionSource,
     B::L: Shown + Drop,
@@ -115,27 +136,35 @@ where
 {
     match call {
         "recv" | "try" | "poll" | "next" => hear(rt, out, listener, call),
-        "many" | "first" | "row" | "prepare" | "describe" => ask(rt, alloc, out, listener, call)?,
+        "many" | "first" | "row" => ask(rt, alloc, out, listener, call),
+        "prepare" | "describe" => tell_statement(rt, alloc, out, listener, call),
         "take" => handed_out(out, listener.take_lost()),
         "lazy" => listener.eager_reconnect(false),
         "ignore" => listener.ignore_pool_close_event(true),
-        call => changed(out, change(rt, listener, change_of(alloc, call)?, POLLS)),
+        call => match change_of(alloc, call) {
+            Ok(asked) => changed(out, change(rt, listener, asked, POLLS)),
+            Err(_) => push(out, WANTING),
+        },
     }
-    Ok(())
 }
 
 fn close<G: PoolLedger, C: Pooled + Drop, O, R: Wait>(
     rt: &R,
     alloc: Global,
+    out: &mut String,
     pool: &Pool<G, C, O>,
     other: &mut PoolSeat<G>,
-) -> Result<(), Error>
+)
     requires { other.old.name ≡ pool.now.name }
     ensures { other.new.name ≡ other.old.name }
 {
-    let conns = pool.close(rt, alloc, other)?;
-    drop(conns);
-    Ok(())
+    match pool.close(rt, alloc, other) {
+        Ok(conns) => drop(conns),
+        Err(error) => {
+            failed(out, &error);
+            drop(error);
+        }
+    }
 }
 
 /// The calls of a row, but the last one where that ends the listener.
@@ -147,7 +176,7 @@ pub(crate) fn make_all<G, C, O, B, R>(
     other: &mut PoolSeat<G>,
     listener: &mut Listener<B>,
     calls: &str,
-) -> Result<(), Error>
+)
 where
     G: PoolLedger,
     C: Pooled + Drop,
@@ -158,10 +187,9 @@ where
 {
     for call in calls.split(' ') {
         match call {
-            "close" => close(rt, alloc, pool, other)?,
+            "close" => close(rt, alloc, out, pool, other),
             "release" | "stream" => {}
-            call => make(rt, alloc, out, listener, call)?,
+            call => make(rt, alloc, out, listener, call),
         }
     }
-    Ok(())
 }

@@ -92,7 +92,7 @@ fn play<G, C, O, B, R>(
     other: &mut PoolSeat<G>,
     state: Connecting<Listener<B>>,
     calls: &str,
-) -> Result<(), Error>
+)
 where
     G: PoolLedger,
     C: Pooled + Drop,
@@ -106,14 +106,12 @@ where
     match connect(rt, state, POLLS) {
         Ok(listener) => {
             let mut listener = listener;
-            let made = make_all(rt, alloc, out, pool, other, &mut listener, calls);
+            make_all(rt, alloc, out, pool, other, &mut listener, calls);
             end(rt, out, listener, calls);
-            made
         }
         Err(error) => {
             failed(out, &error);
             drop(error);
-            Ok(())
         }
     }
 }
@@ -136,28 +134,21 @@ fn played<G: PoolLedger, R: Wait>(
     };
     let mut out = String::new(alloc);
     let state = connect_with(alloc, &pool, &mut seat, dial);
-    play(rt, alloc, &mut out, &pool, &mut other, state, row.calls)?;
+    play(rt, alloc, &mut out, &pool, &mut other, state, row.calls);
     history(&mut out, &seat);
     Ok(out)
 }
 
-fn make_each<B, R>(
-    rt: &R,
-    alloc: Global,
-    out: &mut String,
-    listener: &mut Listener<B>,
-    calls: &str,
-) -> Result<(), Error>
+fn make_each<B, R>(rt: &R, alloc: Global, out: &mut String, listener: &mut Listener<B>, calls: &str)
 where
     B: ConnectionSource,
     B::L: Shown + Drop,
     R: Wait,
 {
     for call in calls.split(' ') {
-        make(rt, alloc, out, listener, call)?;
+        make(rt, alloc, out, listener, call);
     }
     lost(out, listener.lost());
-    Ok(())
 }
 
 fn play_alone<B, R>(
@@ -175,9 +166,8 @@ where
 {
     let mut out = String::new(alloc);
     let mut listener = connect(rt, state, POLLS)?;
-    let made = make_each(rt, alloc, &mut out, &mut listener, calls);
+    make_each(rt, alloc, &mut out, &mut listener, calls);
     released(&mut out, listener.into_released(rt));
-    made?;
     Ok(out)
 }
 
