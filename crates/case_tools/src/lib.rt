@@ -7,6 +7,7 @@ mod dialling;
 mod lines;
 mod links;
 mod opening;
+mod shown;
 mod telling;
 
 pub use calls::{flush, ping};
@@ -14,4 +15,5 @@ pub use dialling::{connect_over, connect_to, dialled};
 pub use lines::{behind, bytes, entry, number, read_event, reads};
 pub use links::{link, push_link};
 pub use opening::{accepted, connect, one_link, one_piece, open, options, start};
+pub use shown::Shown;
 pub use telling::{push_byte, push_bytes, push_error, push_sent, sent, word};

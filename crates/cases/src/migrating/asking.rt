@@ -4,8 +4,8 @@ ghost use Rattle.pg_call.specs.declared.kind.Kind.TheVariants as kinds;
 ghost use Rattle.pg_migrating.specs.Forcing.{GoesForce};
 ghost use Rattle.pg_migrating.specs.Sessions.{Goes};
 
-use crate::migrating::telling::{Shown, Told, push_call, push_waits};
-use case_tools::push_bytes;
+use crate::migrating::telling::{Told, push_call, push_waits};
+use case_tools::{Shown, push_bytes};
 use pg_guards::PgExecutor;
 use pg_migrating::{DatabaseCall, ForceDropDatabase, MigrateDatabase, Reading, Sessions};
 use pg_options::PgSettings;

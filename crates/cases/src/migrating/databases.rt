@@ -2,8 +2,8 @@
 
 use crate::migrating::asking::call;
 use crate::migrating::dialling::dial;
-use crate::migrating::telling::{Shown, push};
-use case_tools::{behind, entry, number};
+use crate::migrating::telling::push;
+use case_tools::{Shown, behind, entry, number};
 use pg_conn::SocketDial;
 use pg_migrating::Sessions;
 use pg_options::PgSettings;

@@ -3,8 +3,8 @@
 use crate::migrating::case::{connect, numbers};
 use crate::migrating::making::make_call;
 use crate::migrating::opening;
-use crate::migrating::telling::{Shown, push};
-use case_tools::{behind, entry, number, push_bytes};
+use crate::migrating::telling::push;
+use case_tools::{Shown, behind, entry, number, push_bytes};
 use pg_guards::PgExecutor;
 use pg_migrate::{Clock, MemoryClock, SystemClock};
 use pg_wire::Sequence;

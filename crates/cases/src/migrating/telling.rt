@@ -2,26 +2,8 @@
 
 use case_tools::{push_byte, word};
 use pg_migrate::{AppliedMigration, MigrateError};
-use pg_stream::{Link, MemoryLink, SocketLink};
 use pg_wire::{Error, Poll};
 use std::fmt::Write;
-
-/// A link that shows what was sent over it, where it knows.
-pub(crate) trait Shown: Link {
-    fn sent(&self) -> Option<&[u8]>;
-}
-
-impl Shown for MemoryLink {
-    fn sent(&self) -> Option<&[u8]> {
-        Some(self.taken())
-    }
-}
-
-impl Shown for SocketLink {
-    fn sent(&self) -> Option<&[u8]> {
-        None
-    }
-}
 
 /// What a call answers, or why it failed, as a line is written of it.
 pub(crate) trait Told: Drop {

@@ -4,8 +4,9 @@ ghost use Rattle.std.specs.Prelude.{◌≡◌};
 use crate::listening::polling::{change, fetch_many, fetch_optional, recv, try_recv};
 use crate::listening::statements::{describe, described, prepare, prepared, shown};
 use crate::listening::telling::{
-    Shown, buffered, changed, counted, failed, found, handed_out, push, received, tried,
+    buffered, changed, counted, failed, found, handed_out, push, received, tried,
 };
+use case_tools::Shown;
 use pg_conn::{Preparation, Query};
 use pg_listen::{PoolLedger, PoolSeat};
 use pg_listeners::{ChannelChange, ConnectionSource, Listener};

@@ -1,26 +1,14 @@
 //! The words of answers. What there is no memory for is missing in what is printed.
-use case_tools::{push_byte, push_error};
+use case_tools::{Shown, push_byte, push_error};
 use pg_conn::PgRow;
 use pg_listen::{PoolSeat, Released};
 use pg_listeners::PgNotification;
-use pg_stream::{Link, MemoryLink};
 use pg_wire::{Error, Poll};
 use std::sync::ledger::Ledger;
 
 // What a client sends first.
 const START: &[u8] =
     b"\x00\x00\x00\x65\x00\x03\x00\x00user\x00u\x00database\x00d\x00DateStyle\x00ISO, MDY\x00client_encoding\x00UTF8\x00TimeZone\x00UTC\x00extra_float_digits\x002\x00\x00";
-
-/// A link that shows what it has taken.
-pub(crate) trait Shown: Link {
-    fn shown(&self) -> &[u8];
-}
-
-impl Shown for MemoryLink {
-    fn shown(&self) -> &[u8] {
-        self.taken()
-    }
-}
 
 /// A text.
 pub(crate) fn push(out: &mut String, text: &str) {
@@ -115,7 +103,7 @@ pub(crate) fn buffered(out: &mut String, told: Option<PgNotification>) {
 /// What a link has taken.
 pub(crate) fn taken<L: Shown>(out: &mut String, link: &L) {
     push(out, " /");
-    let taken = link.shown();
+    let taken = link.sent().unwrap_or(b"");
     let rest = match taken.strip_prefix(START) {
         Some(rest) => {
             push(out, " start-up");
