@@ -278,9 +278,10 @@ fn describe(alloc: Global, part: Part, body: &[u8]) -> Result<Verdict, Error>
     ensures { Judges part 84 body.now result }
 {
     let description = decode_row_description(alloc, body)?;
-    let columns = PgColumns::described(alloc, &description)?;
+    let width = description.len();
+    let columns = PgColumns::described(alloc, description)?;
     Ok(Verdict::On {
-        part: part.after_columns(description.len()),
+        part: part.after_columns(width),
         news: News::Columns(columns),
     })
 }

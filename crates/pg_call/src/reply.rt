@@ -231,10 +231,11 @@ impl Reply {
         let Ok(description) = decode_row_description(alloc, body) else {
             return false;
         };
-        let Ok(columns) = PgColumns::described(alloc, &description) else {
+        let width = description.len();
+        let Ok(columns) = PgColumns::described(alloc, description) else {
             return false;
         };
-        self.part = self.part.after_columns(description.len());
+        self.part = self.part.after_columns(width);
         self.heading.columns = Some(columns);
         true
     }

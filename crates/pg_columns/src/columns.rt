@@ -3,7 +3,6 @@ ghost use Rattle.std.specs.List.{AllByRecursion};
 ghost use Rattle.pg_wire.specs.Fields.{described, TellsNone};
 ghost use Rattle.pg_columns.specs.Told.{column_at, columns_of, made_columns, origin_of};
 
-use crate::column::copy_of;
 use crate::{ColumnOrigin, PgColumn};
 use pg_arguments::PgTypeInfo;
 use pg_wire::{Field, RowDescription, Sequence};
@@ -44,19 +43,18 @@ fn origin_of(field: &Field) -> ColumnOrigin
     }
 }
 
-fn column(alloc: Global, ordinal: usize, field: &Field) -> Result<PgColumn, AllocError>
-    ensures { IfOk result (λ c. c ≡ column_at ordinal field.now) }
+fn column(alloc: Global, ordinal: usize, field: Field) -> Result<PgColumn, AllocError>
+    ensures { IfOk result (λ c. c ≡ column_at ordinal field) }
 {
-    let origin = origin_of(field);
+    let origin = origin_of(&field);
     let type_info = PgTypeInfo::under_oid(alloc, field.type_id)?;
-    let field = copy_of(alloc, field)?;
     Ok(PgColumn::new(ordinal, field, type_info, origin))
 }
 
-fn columns(alloc: Global, fields: &[Field]) -> Result<Vec<PgColumn>, AllocError>
-    ensures { IfOk result (λ v. v.items ≡ made_columns 0 fields.now) }
+fn columns(alloc: Global, fields: Vec<Field>) -> Result<Vec<PgColumn>, AllocError>
+    ensures { IfOk result (λ v. v.items ≡ made_columns 0 fields.items) }
 {
-    let mut columns = Vec::new(alloc);
+    let mut columns = Vec::with_capacity(alloc, fields.len())?;
     for field in fields {
         let ordinal = columns.len();
         columns.push(column(alloc, ordinal, field)?)?;
@@ -74,11 +72,11 @@ impl PgColumns {
 
     /// The columns that a description tells of. The type of each is the built-in one of its OID, or else the type of which only the OID is
     /// told; its origin is not looked up.
-    pub fn described(alloc: Global, description: &RowDescription) -> Result<Self, AllocError>
-        requires { AllByRecursion TellsNone description.now }
-        ensures { IfOk result (λ c. c ≡ columns_of (map described description.now)) }
+    pub fn described(alloc: Global, description: RowDescription) -> Result<Self, AllocError>
+        requires { AllByRecursion TellsNone description }
+        ensures { IfOk result (λ c. c ≡ columns_of (map described description)) }
     {
-        let columns = columns(alloc, description.as_slice())?;
+        let columns = columns(alloc, description.into_vec())?;
         Self::shared(alloc, columns)
     }
 

@@ -1,6 +1,7 @@
 ghost use Rattle.std.specs.Prelude.{◌≡◌, IfOk, IfErr, length, flat_map};
 ghost use Rattle.pg_wire.specs.Bytes.{value};
-ghost use Rattle.pg_request.specs.Asked.{oids_in, filled, names_in, patched_all, patched_first, sent_as, types_of_holes, typed_arguments, no_arguments, numbered, where_open, HasBytesOf, declared_arguments};
+ghost use Rattle.pg_request.specs.Queries.{AreValues, made_of};
+ghost use Rattle.pg_request.specs.Asked.{oids_in, filled, names_in, patched_all, patched_first, sent_as, types_of_holes, no_arguments, numbered, where_open, HasBytesOf, declared_arguments};
 
 use crate::naming::{
     Declared, all_declared, are_numbered, copy_declared, declared_names, numbers_in, types_of_holes,
@@ -10,36 +11,39 @@ use pg_arguments::{PgArguments, PgTypeInfo};
 use pg_wire::{Blob, Error, Oid, Oids, Sequence, Text};
 use std::alloc::Global;
 use std::marker::Model;
+use std::mem;
+
+/// What arguments are made of.
+#[derive(Debug, Drop)]
+pub(crate) struct Parts {
+    pub(crate) types: Oids,
+    pub(crate) count: u64,
+    pub(crate) encoded: Blob,
+    pub(crate) unresolved: Unresolved,
+}
 
 /// The arguments of a query as the server gets them: the OIDs of their types, and their values in binary encoding.
 #[derive(Debug)]
 pub struct Arguments {
-    types: Oids,
-    count: u64,
-    encoded: Blob,
-    unresolved: Unresolved,
+    // In a block of their own: each query has room for them, and many have none.
+    parts: Box<Parts>,
 }
 
 // By hand, so that whoever lets one go makes one call, and doesn't go through its parts.
 impl Drop for Arguments {
     fn drop(self) {
-        let Arguments {
-            types: _,
-            count: _,
-            encoded: _,
-            unresolved: _,
-        } = self;
+        let Arguments { parts: _ } = self;
     }
 }
 
 impl Model for Arguments {
-    ghost use Rattle.pg_request.specs.Queries.{ArgumentsSeen, AreValues, values_in};
+    ghost use Rattle.pg_request.specs.Queries.{ArgumentsSeen, AreValues, made_of};
 
     ghost Value = { ArgumentsSeen };
 
-    ghost view = { λ a. record { types = a.types; values = values_in a.count a.encoded; names = a.unresolved.names; holes = a.unresolved.holes; open_in = a.unresolved.given } };
+    ghost view = { λ a. made_of a.parts.value };
 
-    ghost invariant = { λ a. AreValues a.count a.encoded };
+    ghost invariant = { λ a. AreValues a.parts.value.count a.parts.value.encoded };
 }
 
 // The OIDs of types, and 0 in the place of one that isn't known.
@@ -97,16 +101,15 @@ fn patch_all(arguments: &mut PgArguments, oids: &[Oid])
 }
 
 impl Arguments {
-    /// No values, but the types of arguments as far as a caller says them. Takes no memory.
-    pub fn typed(alloc: Global, types: Oids) -> Self
-        ensures { result ≡ typed_arguments types }
+    // These parts in a block. Only want of memory refuses it.
+    fn of_parts(alloc: Global, parts: Parts) -> Result<Self, Error>
+        requires { AreValues parts.count parts.encoded }
+        ensures made { IfOk result (λ a. a ≡ made_of parts) }
+        ensures memory { IfErr result (λ e. e ≡ Error.OutOfMemory) }
     {
-        Arguments {
-            types,
-            count: 0,
-            encoded: Blob::new(alloc),
-            unresolved: Unresolved::none(),
-        }
+        Ok(Arguments {
+            parts: Box::new(alloc, parts)?,
+        })
     }
 
     /// No values, but the types of arguments as a caller declares them. Only want of memory refuses them.
@@ -122,19 +125,27 @@ impl Arguments {
             given: None,
         };
         let unresolved = Unresolved::of(alloc, open)?;
-        Ok(Arguments {
+        let parts = Parts {
             types,
             count: 0,
             encoded: Blob::new(alloc),
             unresolved,
-        })
+        };
+        Arguments::of_parts(alloc, parts)
     }
 
-    /// No arguments, which takes no memory.
-    pub(crate) fn none(alloc: Global) -> Self
-        ensures { result ≡ no_arguments }
+    /// No arguments. Only want of memory refuses them.
+    pub(crate) fn none(alloc: Global) -> Result<Self, Error>
+        ensures none { IfOk result (λ a. a ≡ no_arguments) }
+        ensures memory { IfErr result (λ e. e ≡ Error.OutOfMemory) }
     {
-        Arguments::typed(alloc, Oids::new(alloc))
+        let parts = Parts {
+            types: Oids::new(alloc),
+            count: 0,
+            encoded: Blob::new(alloc),
+            unresolved: Unresolved::none(),
+        };
+        Arguments::of_parts(alloc, parts)
     }
 
     /// Equal arguments. Only want of memory refuses them.
@@ -154,19 +165,20 @@ impl Arguments {
         };
         let unresolved = Unresolved::of(alloc, open)?;
         let encoded = Blob::from_slice(alloc, arguments.encoded())?;
-        Ok(Arguments {
+        let parts = Parts {
             types,
             count: arguments.len() as u64,
             encoded,
             unresolved,
-        })
+        };
+        Arguments::of_parts(alloc, parts)
     }
 
     /// The types whose OIDs are open within values, in the order of their places.
     pub fn holes(&self) -> &[Declared]
         ensures { result.now ≡ self.now.holes }
     {
-        self.unresolved.holes()
+        self.parts.unresolved.holes()
     }
 
     /// The same, once these are the open OIDs. Only want of memory refuses them.
@@ -174,12 +186,13 @@ impl Arguments {
         ensures filled { IfOk result (λ a. a ≡ filled oids.now self) }
         ensures memory { IfErr result (λ e. e ≡ Error.OutOfMemory) }
     {
-        let Arguments {
+        let Arguments { parts } = self;
+        let Parts {
             types,
             count,
             encoded,
             unresolved,
-        } = self;
+        } = Box::into_inner(parts);
         let Open {
             names,
             holes: _,
@@ -192,60 +205,55 @@ impl Arguments {
         };
         let unresolved = Unresolved::of(alloc, left)?;
         let Some(mut arguments) = given else {
-            return Ok(Arguments {
+            let parts = Parts {
                 types,
                 count,
                 encoded,
                 unresolved,
-            });
+            };
+            return Arguments::of_parts(alloc, parts);
         };
         patch_all(&mut arguments, oids);
         let encoded = Blob::from_slice(alloc, arguments.encoded())?;
-        Ok(Arguments {
+        let parts = Parts {
             types,
             count: arguments.len() as u64,
             encoded,
             unresolved,
-        })
+        };
+        Arguments::of_parts(alloc, parts)
     }
 
     /// The types as they were declared, where one of them is known by its name alone.
     pub fn names(&self) -> &[Declared]
         ensures { result.now ≡ self.now.names }
     {
-        self.unresolved.names()
+        self.parts.unresolved.names()
     }
 
     /// The same, once the OID of each type is known.
     pub fn numbered(self, alloc: Global, types: Oids) -> Self
         ensures { result ≡ numbered types self }
     {
-        let Arguments {
-            types: _,
-            count,
-            encoded,
-            unresolved,
-        } = self;
-        Arguments {
-            types,
-            count,
-            encoded,
-            unresolved: unresolved.without_names(alloc),
-        }
+        let Arguments { mut parts } = self;
+        parts.types = types;
+        let unresolved = mem::replace(&mut parts.unresolved, Unresolved::none());
+        parts.unresolved = unresolved.without_names(alloc);
+        Arguments { parts }
     }
 
     /// The OIDs of the types, of which 0 is none.
     pub fn types(&self) -> &[Oid]
         ensures { result.now ≡ self.now.types }
     {
-        self.types.as_slice()
+        self.parts.types.as_slice()
     }
 
     /// The number of values.
     pub fn count(&self) -> u64
         ensures { length self.now.values ≡ result }
     {
-        self.count
+        self.parts.count
     }
 
     /// The values as they stand in Bind: the length of each in four bytes, -1 for a null, and its bytes. (PostgreSQL manual, "Message
@@ -253,7 +261,7 @@ impl Arguments {
     pub fn encoded(&self) -> &[u8]
         ensures { flat_map value self.now.values ≡ result.now }
     {
-        self.encoded.as_bytes()
+        self.parts.encoded.as_bytes()
     }
 
     /// Equal arguments. Only want of memory refuses them.
@@ -261,14 +269,15 @@ impl Arguments {
         ensures copy { IfOk result (λ a. a ≡ self.now) }
         ensures memory { IfErr result (λ e. e ≡ Error.OutOfMemory) }
     {
-        let types = self.types.to_copy(alloc)?;
-        let encoded = Blob::from_slice(alloc, self.encoded.as_bytes())?;
-        let unresolved = self.unresolved.to_copy(alloc)?;
-        Ok(Arguments {
+        let types = self.parts.types.to_copy(alloc)?;
+        let encoded = Blob::from_slice(alloc, self.encoded())?;
+        let unresolved = self.parts.unresolved.to_copy(alloc)?;
+        let parts = Parts {
             types,
-            count: self.count,
+            count: self.parts.count,
             encoded,
             unresolved,
-        })
+        };
+        Arguments::of_parts(alloc, parts)
     }
 }

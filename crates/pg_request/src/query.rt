@@ -75,9 +75,10 @@ impl Query {
         ensures memory { IfErr result (λ e. e ≡ Error.OutOfMemory) }
     {
         let sql = Text::from_str(alloc, sql)?;
+        let arguments = Arguments::none(alloc)?;
         Ok(Query {
             sql,
-            arguments: Some(Arguments::none(alloc)),
+            arguments: Some(arguments),
             is_persistent: true,
         })
     }

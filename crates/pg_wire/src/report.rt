@@ -1,15 +1,17 @@
-ghost use Rattle.std.specs.Prelude.{◌≡◌, option_map};
+ghost use Rattle.std.specs.Prelude.{◌≡◌, option_map, IfOk};
 ghost use Rattle.pg_wire.specs.Reports.{first_text, severity_of, code_of, message_of};
 
 use crate::PgSeverity;
 use crate::fields::ErrorFields;
+use std::alloc::{AllocError, Global};
 use std::marker::Model;
 
 /// The error that a server reports in an ErrorResponse: contracts see the list of its fields.
 /// (PostgreSQL manual, "Error and Notice Message Fields".)
 #[derive(Debug)]
 pub struct PgDatabaseError {
-    fields: ErrorFields,
+    // In a block of its own: whatever may fail has room for an error, and few have one.
+    fields: Box<ErrorFields>,
 }
 
 // By hand, so that whoever lets one go makes one call, and doesn't go through its parts.
@@ -25,14 +27,16 @@ impl Model for PgDatabaseError {
 
     ghost Value = { List declared_field.ErrorField };
 
-    ghost view = { λ e. e.fields };
+    ghost view = { λ e. e.fields.value };
 }
 
 impl PgDatabaseError {
-    pub(crate) fn new(fields: ErrorFields) -> Self
-        ensures { result ≡ fields }
+    pub(crate) fn new(alloc: Global, fields: ErrorFields) -> Result<Self, AllocError>
+        ensures { IfOk result (λ e. e ≡ fields) }
     {
-        PgDatabaseError { fields }
+        Ok(PgDatabaseError {
+            fields: Box::new(alloc, fields)?,
+        })
     }
 
     /// The severity by field `V`, or by `S` where that one names none, or else `Log`.

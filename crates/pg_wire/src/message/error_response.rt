@@ -11,7 +11,7 @@ pub fn decode_error_response(alloc: Global, body: &[u8]) -> Result<PgDatabaseErr
     ensures { Decodes backend.ErrorResponse 69 body.now result }
 {
     match error_fields(alloc, body)? {
-        Some(fields) => Ok(PgDatabaseError::new(fields)),
+        Some(fields) => Ok(PgDatabaseError::new(alloc, fields)?),
         None => Err(malformed(b'E')),
     }
 }

@@ -77,6 +77,14 @@ impl RowDescription {
     {
         &self.fields
     }
+
+    /// Gives the columns out, without taking memory.
+    pub fn into_vec(self) -> Vec<Field>
+        ensures { result.items ≡ self }
+    {
+        let RowDescription { fields } = self;
+        fields
+    }
 }
 
 // The parts of a column as they stand in the message.

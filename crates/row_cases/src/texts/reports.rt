@@ -32,7 +32,7 @@ const TWO_COLUMNS: [u8; 42] =
 
 fn two_columns(alloc: Global) -> Result<PgColumns, Error> {
     let description = decode_row_description(alloc, &TWO_COLUMNS)?;
-    Ok(PgColumns::described(alloc, &description)?)
+    Ok(PgColumns::described(alloc, description)?)
 }
 
 fn described(parameters: Vec<Oid>, fields: PgColumns) -> End {

@@ -21,7 +21,7 @@ pub fn row_of(
     body: &[u8],
 ) -> Result<PgRow, Error> {
     let description = decode_row_description(alloc, columns)?;
-    let columns = PgColumns::described(alloc, &description)?;
+    let columns = PgColumns::described(alloc, description)?;
     let heading = Heading {
         columns: Some(columns),
         format,

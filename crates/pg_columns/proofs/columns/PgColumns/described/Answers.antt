@@ -7,4 +7,4 @@ use Rattle.pg_columns.proofs.columns.PgColumns.described.Goals as goal
 pub returns : goal.returns
 returns c =
     subst (λ (columns : List PgColumn). IfOk c.shared.result (λ told. told ≡ columns))
-    (c.in_ok-columns.ensures ∙ ap (made_columns 0) c.as_slice.ensures ∙ made_back c.args.description.now c.requires) c.shared.ensures
+    (c.in_ok-columns.ensures ∙ ap (made_columns 0) c.into_vec.ensures ∙ made_back c.args.description c.requires) c.shared.ensures
