@@ -166,7 +166,7 @@ fn play_calls<L: Link>(
 {
     match chain {
         Chain::Describe(sql) => describe(alloc, conn, step, sql),
-        Chain::CopyIn(copying) => copy_in(alloc, conn, step, copying),
+        Chain::CopyIn(copying) => copy_in(alloc, conn, step, copying.get()),
         Chain::Lock(key) => lock(alloc, conn, guards, step, *key),
         Chain::TryLock(key) => try_lock(alloc, conn, guards, step, *key),
         Chain::Unlock(key) => ask(alloc, conn, step, key.unlock_statement(), *key),

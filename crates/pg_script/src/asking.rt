@@ -4,6 +4,7 @@ ghost use Rattle.pg_script.specs.Asking.{in_front, comma_text, more_texts, texts
 
 use crate::argument::Argument;
 use crate::arguments::{text_arg, text_of};
+use crate::block::InBlock;
 use crate::encoding::given_query;
 use crate::error::LineError;
 use crate::step::{CopyEnd, Copying};
@@ -260,7 +261,7 @@ fn copy_end_at(alloc: Global, tokens: &[Token]) -> Result<(CopyEnd, &[Token]), L
 }
 
 /// One text of SQL that copies from the client, what becomes of the copy, and its data in pieces.
-pub(crate) fn copying_arg(alloc: Global, tokens: &[Token]) -> Result<Copying, LineError>
+pub(crate) fn copying_arg(alloc: Global, tokens: &[Token]) -> Result<InBlock<Copying>, LineError>
     ensures { Gives (λ c. c) result (copying_arg tokens.now) }
 {
     match tokens {
@@ -268,7 +269,8 @@ pub(crate) fn copying_arg(alloc: Global, tokens: &[Token]) -> Result<Copying, Li
             let sql = text_of(alloc, sql.as_bytes())?;
             let (end, rest) = copy_end_at(alloc, rest)?;
             let pieces = pieces_in(alloc, rest)?;
-            Ok(Copying { sql, pieces, end })
+            let copying = Copying { sql, pieces, end };
+            Ok(InBlock::new(alloc, copying)?)
         }
         _ => Err(LineError::Bad),
     }

@@ -1,7 +1,6 @@
-ghost use Rattle.std.specs.Prelude.{◌≡◌, IfOk, IfErr};
+ghost use Rattle.std.specs.Prelude.{◌≡◌, IfOk};
 
-use pg_wire::Error;
-use std::alloc::Global;
+use std::alloc::{AllocError, Global};
 use std::marker::Model;
 
 /// A value in a block of its own: where few of many have one, the others take no room for it.
@@ -17,9 +16,8 @@ impl<T> Model for InBlock<T> {
 }
 
 impl<T: Drop> InBlock<T> {
-    pub(crate) fn new(alloc: Global, value: T) -> Result<Self, Error>
-        ensures ok { IfOk result (λ b. b ≡ value) }
-        ensures memory { IfErr result (λ e. e ≡ Error.OutOfMemory) }
+    pub(crate) fn new(alloc: Global, value: T) -> Result<Self, AllocError>
+        ensures { IfOk result (λ b. b ≡ value) }
     {
         Ok(InBlock {
             block: Box::new(alloc, value)?,

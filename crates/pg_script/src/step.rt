@@ -55,7 +55,7 @@ pub enum Chain {
     /// Prepares a text, and asks of its columns whether they may be null.
     Describe(Text),
     /// Copies from the client.
-    CopyIn(Copying),
+    CopyIn(InBlock<Copying>),
     /// Takes the advisory lock of a key, waits for it, and has a guard of it from then on.
     Lock(PgAdvisoryLockKey),
     /// Takes it where nobody else holds it, with a guard as well, and tells whether it did.
@@ -146,7 +146,10 @@ impl Chain {
     {
         Ok(match self {
             Chain::Describe(text) => Chain::Describe(text.to_copy(alloc)?),
-            Chain::CopyIn(copying) => Chain::CopyIn(copying.to_copy(alloc)?),
+            Chain::CopyIn(copying) => Chain::CopyIn(InBlock::new(
+                alloc,
+                copying.get().to_copy(alloc)?,
+            )?),
             Chain::Lock(key) => Chain::Lock(*key),
             Chain::TryLock(key) => Chain::TryLock(*key),
             Chain::Unlock(key) => Chain::Unlock(*key),
@@ -200,7 +203,7 @@ pub enum Call {
     /// The one that closes these statements.
     CloseAll(Sequence<StatementId>),
     /// A copy from the client with what it was fed. No script says it alone.
-    Feed(Fed),
+    Feed(InBlock<Fed>),
 }
 
 // The same numbers again.
@@ -255,7 +258,7 @@ impl Call {
                 prepared.get().to_copy(alloc)?,
             )?),
             Call::CloseAll(statements) => Call::CloseAll(copied(alloc, statements)?),
-            Call::Feed(fed) => Call::Feed(fed.to_copy(alloc)?),
+            Call::Feed(fed) => Call::Feed(InBlock::new(alloc, fed.get().to_copy(alloc)?)?),
         })
     }
 }

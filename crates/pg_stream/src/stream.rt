@@ -87,6 +87,20 @@ fn front_of(bytes: &[u8]) -> Result<Option<Front>, Error>
     }
 }
 
+// The same, where it is no asynchronous message. Why there is none isn't told.
+#[inline(always)]
+fn heard_front_of(bytes: &[u8]) -> Option<Front>
+    ensures { IfSome result (λ front. IsHeardFront bytes.now front) }
+{
+    match cut(bytes) {
+        Cut::Whole { tag, total } if !is_asynchronous(tag) => Some(Front {
+            tag,
+            total: total as usize,
+        }),
+        _ => None,
+    }
+}
+
 fn server_fault(fault: ServerFault) -> Error
     ensures { result ≡ Error.Protocol (ProtocolFault.Server fault) }
 {
@@ -284,10 +298,7 @@ impl<L> PgStream<L> {
         if !self.is_sent() {
             return None;
         }
-        match self.front() {
-            Ok(Some(front)) if !is_asynchronous(front.tag) => Some(front),
-            _ => None,
-        }
+        heard_front_of(self.held.as_slice())
     }
 
     /// The body of the frame at the front.

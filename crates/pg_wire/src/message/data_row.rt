@@ -1,4 +1,4 @@
-ghost use Rattle.std.specs.Prelude.{◌≡◌, ◌≤◌, ◌<◌, ◌↔◌, ◌++◌, [], None, Some, List, ℕ, length, drop, map, slice_index_or, option_map, IsTrue, IfOk, IfSome, All};
+ghost use Rattle.std.specs.Prelude.{◌≡◌, ◌≤◌, ◌<◌, ◌↔◌, ◌++◌, [], None, Some, List, ℕ, length, drop, map, slice_index_or, option_map, IsTrue, true, false, IfOk, OnOk, IfSome, All};
 ghost use Rattle.pg_wire.specs.Backend as backend;
 ghost use Rattle.pg_wire.specs.Backend.{Values};
 ghost use Rattle.pg_wire.specs.Decoding.{Decodes, DecodesAs, Says};
@@ -114,18 +114,18 @@ fn place_of(body: &[u8], rest: &[u8]) -> Result<u32, AllocError>
     Ok(place as u32)
 }
 
-// The places of so many values of a body, one behind the other, and the bytes behind them.
-fn places<'a>(
-    alloc: Global,
+// Finds the places of so many values of a body, one behind the other, and answers the bytes behind them.
+fn find_places<'a>(
+    places: &mut SmallVec<u32, FEW>,
     count: u16,
     body: &'a [u8],
     values: &'a [u8],
-) -> Result<Option<(SmallVec<u32, FEW>, &'a [u8])>, AllocError>
-    requires { (front : List ℕ) × (body.now ≡ front ++ values.now) }
-    ensures value { IfOk result (λ r. option_map (λ x. (map (value_by body.now) x.0.items, x.1.now)) r ≡ many_at value_at count values.now) }
-    ensures places { IfOk result (λ r. IfSome r (λ x. All (IsPlace body.now) x.0.items)) }
+) -> Result<Option<&'a [u8]>, AllocError>
+    requires none { places.old.items ≡ [] }
+    requires behind { (front : List ℕ) × (body.now ≡ front ++ values.now) }
+    ensures value { IfOk result (λ r. option_map (λ rest. (map (value_by body.now) places.new.items, rest.now)) r ≡ many_at value_at count values.now) }
+    ensures places { IfOk result (λ r. All (IsPlace body.now) places.new.items) }
 {
-    let mut places = SmallVec::new(alloc);
     let mut rest = values;
     for _ in 0..count {
         let place = place_of(body, rest)?;
@@ -135,31 +135,36 @@ fn places<'a>(
         places.push(place)?;
         rest = after;
     }
-    Ok(Some((places, rest)))
+    Ok(Some(rest))
 }
 
+// The same of all values of a body: whether it is one of a row.
 #[tactic(auto, unfolding(crate::specs::Reading::whole, crate::specs::Reading::counted_at))]
-fn all_places(alloc: Global, body: &[u8]) -> Result<Option<SmallVec<u32, FEW>>, AllocError>
-    ensures value { IfOk result (λ r. option_map (λ v. map (value_by body.now) v.items) r ≡ whole (counted_at value_at) body.now) }
-    ensures places { IfOk result (λ r. IfSome r (λ v. All (IsPlace body.now) v.items)) }
+fn find_all(places: &mut SmallVec<u32, FEW>, body: &[u8]) -> Result<bool, AllocError>
+    requires { places.old.items ≡ [] }
+    ensures yes { IfOk result (λ found. found ≡ true → whole (counted_at value_at) body.now ≡ Some (map (value_by body.now) places.new.items)) }
+    ensures no { IfOk result (λ found. found ≡ false → whole (counted_at value_at) body.now ≡ None) }
+    ensures places { IfOk result (λ found. All (IsPlace body.now) places.new.items) }
 {
     let Some((count, rest)) = number16(body) else {
-        return Ok(None);
+        return Ok(false);
     };
-    match places(alloc, count, body, rest)? {
-        Some((places, [])) => Ok(Some(places)),
-        _ => Ok(None),
+    match find_places(places, count, body, rest)? {
+        Some([]) => Ok(true),
+        _ => Ok(false),
     }
 }
 
 // The places of a row's values in the body of its message.
-fn find_values(alloc: Global, body: &[u8]) -> Result<SmallVec<u32, FEW>, Error>
-    ensures values { Decodes (λ v. backend.DataRow (map (value_by body.now) v.items)) 68 body.now result }
-    ensures places { IfOk result (λ v. All (IsPlace body.now) v.items) }
+fn find_values(places: &mut SmallVec<u32, FEW>, body: &[u8]) -> Result<(), Error>
+    requires { places.old.items ≡ [] }
+    ensures values { Decodes (λ _. backend.DataRow (map (value_by body.now) places.new.items)) 68 body.now result }
+    ensures places { OnOk result (All (IsPlace body.now) places.new.items) }
 {
-    match all_places(alloc, body)? {
-        Some(places) => Ok(places),
-        None => Err(malformed(b'D')),
+    if find_all(places, body)? {
+        Ok(())
+    } else {
+        Err(malformed(b'D'))
     }
 }
 
@@ -167,7 +172,8 @@ fn find_values(alloc: Global, body: &[u8]) -> Result<SmallVec<u32, FEW>, Error>
 pub fn cut_data_row(alloc: Global, frame: Frame) -> Result<DataRow, Error>
     ensures { Decodes backend.DataRow 68 frame.body result }
 {
-    let places = find_values(alloc, frame.body())?;
+    let mut places = SmallVec::new(alloc);
+    find_values(&mut places, frame.body())?;
     Ok(DataRow::over(frame.into_body(), places))
 }
 

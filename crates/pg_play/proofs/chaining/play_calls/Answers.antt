@@ -19,7 +19,7 @@ returns-in-CopyIn-clause-plays g c =
     let a : ConnSeen = seen_by g.L.Link.seen c.args.conn.now in
     let b : ConnSeen = seen_by g.L.Link.seen c.copy_in.new.conn in
     chained_by a b c.args.chain.now (chains.CopyIn c.in-CopyIn.copying) c.args.guards.now.items c.args.guards.now.items c.args.step.now c.copy_in.result c.in-CopyIn.is
-    (with_guards a b (IsCopied c.args.step.now c.in-CopyIn.copying c.copy_in.result) c.args.guards.now.items c.args.guards.now.items refl c.copy_in.ensures.plays)
+    (with_guards a b (IsCopied c.args.step.now c.in-CopyIn.copying c.copy_in.result) c.args.guards.now.items c.args.guards.now.items refl (rw (← c.get.ensures) c.copy_in.ensures.plays))
 
 pub returns-in-Lock-clause-plays : goal.returns-in-Lock-clause-plays
 returns-in-Lock-clause-plays g c =

@@ -6,7 +6,7 @@ use Rattle.pg_wire.specs.Rows.{value_by, IsPlace}
 use Rattle.pg_wire.proofs.ReaderLaws.{are_bytes}
 use Rattle.pg_wire.proofs.LoopLaws.{goes_on, ends, is_done}
 use Rattle.pg_wire.proofs.RowLaws.{read_place, read_behind}
-use Rattle.pg_wire.proofs.message.data_row.places.Goals as goal
+use Rattle.pg_wire.proofs.message.data_row.find_places.Goals as goal
 
 pub returns-in_default-clause-value : goal.returns-in_default-clause-value
 returns-in_default-clause-value c = ends value_at (map (value_by c.args.body.now) c.loop.places.items) c.args.count c.loop.counter c.loop.rest.now (many_at value_at c.args.count c.args.values.now) c.loop-test.true (sym c.in_default.ensures) c.loop.invariant.value

@@ -2,7 +2,7 @@ use Rattle.std.proofs.Common.{◌≡◌, ◌++◌, ◌-◌, List, ℕ, map, All}
 use Rattle.pg_wire.specs.Reading.{many_at, value_at}
 use Rattle.pg_wire.specs.Rows.{value_by, IsPlace}
 use Rattle.pg_wire.proofs.LoopLaws.{with_front}
-use Rattle.pg_wire.proofs.message.data_row.places.Given as goal
+use Rattle.pg_wire.proofs.message.data_row.find_places.Given as goal
 
 abbrev pub invariant-loop : goal.invariant-loop
 invariant-loop l = record {
