@@ -75,10 +75,10 @@ impl Query {
         ensures memory { IfErr result (λ e. e ≡ Error.OutOfMemory) }
     {
         let sql = Text::from_str(alloc, sql)?;
-        let arguments = Arguments::none(alloc)?;
+        let none = Arguments::none(alloc)?;
         Ok(Query {
             sql,
-            arguments: Some(arguments),
+            arguments: Some(none),
             is_persistent: true,
         })
     }
