@@ -4,7 +4,6 @@ use Rattle.std.specs.Global.{Box}
 use Rattle.pg_wire.specs.Bytes.{value}
 use Rattle.pg_arguments.specs.Arguments.{Arguments}
 use Rattle.pg_request.specs.declared.naming.Declared.{Declared}
-use Rattle.pg_request.specs.declared.arguments.Parts.{Parts}
 use Rattle.pg_request.specs.declared.unresolved.Open.{Open}
 use Rattle.pg_wire.specs.Reading.{value_at, many_at}
 
@@ -70,6 +69,6 @@ values_in count bytes = those_in (many_at value_at count bytes)
 abbrev pub AreValues : ℕ → List ℕ → Type 0
 AreValues count bytes = (length (values_in count bytes) ≡ count) × (flat_map value (values_in count bytes) ≡ bytes)
 
--- arguments by their parts
-abbrev pub made_of : Parts → ArgumentsSeen
-made_of parts = record { types = parts.types; values = values_in parts.count parts.encoded; names = parts.unresolved.names; holes = parts.unresolved.holes; open_in = parts.unresolved.given }
+-- arguments by their types, so many values in these bytes, and what has to be looked up for them
+abbrev pub made_of : List ℕ → ℕ → List ℕ → Open → ArgumentsSeen
+made_of types count bytes unresolved = record { types = types; values = values_in count bytes; names = unresolved.names; holes = unresolved.holes; open_in = unresolved.given }

@@ -41,7 +41,7 @@ impl Model for Arguments {
 
     ghost Value = { ArgumentsSeen };
 
-    ghost view = { λ a. made_of a.parts.value };
+    ghost view = { λ a. made_of a.parts.value.types a.parts.value.count a.parts.value.encoded a.parts.value.unresolved };
 
     ghost invariant = { λ a. AreValues a.parts.value.count a.parts.value.encoded };
 }
@@ -104,7 +104,7 @@ impl Arguments {
     // These parts in a block. Only want of memory refuses it.
     fn of_parts(alloc: Global, parts: Parts) -> Result<Self, Error>
         requires { AreValues parts.count parts.encoded }
-        ensures made { IfOk result (λ a. a ≡ made_of parts) }
+        ensures made { IfOk result (λ a. a ≡ made_of parts.types parts.count parts.encoded parts.unresolved) }
         ensures memory { IfErr result (λ e. e ≡ Error.OutOfMemory) }
     {
         Ok(Arguments {
