@@ -1,4 +1,4 @@
-use Rattle.std.proofs.Common.{◌≡◌, ◌×◌, ◌++◌, length}
+use Rattle.std.proofs.Common.{◌≡◌, ◌++◌, length}
 use Rattle.pg_columns.specs.Told.{made_columns}
 use Rattle.pg_columns.proofs.columns.columns.Given as goal
 
