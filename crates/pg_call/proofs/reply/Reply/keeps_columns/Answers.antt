@@ -8,4 +8,4 @@ pub returns-clause-yes : goal.returns-clause-yes
 returns-clause-yes c e =
     let fields = map described c.in-Ok.description in
     let kept = keeps_columns c.args.self.now c.args.body.now fields c.in-Ok.ensures.exact (sym c.awaits.ensures ∙ c.if-not-awaits.false) c.requires in
-    rw (c.after_columns-self.ensures, c.len.ensures, c.in-Ok-described.ensures, ← length-map c.in-Ok.description described) kept
+    rw (c.after_columns-self.ensures, c.len-width.ensures, c.in-Ok-described.ensures, ← length-map c.in-Ok.description described) kept
