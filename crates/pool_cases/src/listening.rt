@@ -28,12 +28,15 @@
 //! ended, which is `kept` by the pool, `closed` with what its link has taken, or `none held`; and what the pool has noted of the listener. The links that
 //! `take` has told are not told again.
 mod calls;
+mod changing;
 mod live;
 mod opening;
-mod polling;
+mod querying;
+mod receiving;
 mod rows;
 mod statements;
 mod telling;
+mod words;
 
 pub(crate) use live::live;
 pub(crate) use rows::told;

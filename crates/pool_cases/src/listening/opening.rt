@@ -1,20 +1,18 @@
-//! Pools of one connection, and dials whose links go on with given events.
-ghost use Rattle.std.specs.Prelude.{◌≡◌, false, IfOk, IfSome, IsSome};
+//! Dials whose links go on with given events, and listeners that begin.
+ghost use Rattle.std.specs.Prelude.{◌≡◌, false, IfOk, IsSome};
 ghost use Rattle.pg_conn.specs.Dials.{AreUncalled};
 
-use case_tools::{link, options, push_link, read_event};
-use pg_conn::{Dial, MemoryDial};
-use pg_listen::{PgPool, PgPoolOptions, PoolLedger, PoolSeat};
-use pg_listeners::{Connect, connect};
-use pg_options::PgSettings;
-use pg_stream::{Link, MemoryLink, ReadEvent};
-use pg_wire::{Blob, Error, Sequence};
+use crate::listening::calls::POLLS;
+use crate::listening::words::{MOST, first};
+use case_tools::{link, push_link, read_event};
+use pg_conn::MemoryDial;
+use pg_listen::Released;
+use pg_listeners::{Connecting, ConnectionSource, Listener};
+use pg_stream::{MemoryLink, ReadEvent};
+use pg_wire::{Blob, Error, Poll, Sequence};
 use std::alloc::Global;
 use std::collections::VecDeque;
-use std::sync::ledger::{Blank, Ledger};
-
-// The name of each pool.
-const NAME: u64 = 7;
+use std::sync::Wait;
 
 // A server that accepts the user.
 const SERVER: &[u8] = b"R\x00\x00\x00\x08\x00\x00\x00\x00Z\x00\x00\x00\x05I";
@@ -29,8 +27,14 @@ fn event(alloc: Global, word: &str) -> Result<ReadEvent, Error> {
 // What a link gives.
 fn reads(alloc: Global, events: &str) -> Result<Sequence<ReadEvent>, Error> {
     let mut reads = Sequence::new(alloc);
-    for word in events.split(' ') {
+    let mut rest = events;
+    for _ in 0..MOST {
+        if rest.is_empty() {
+            break;
+        }
+        let (word, behind) = first(rest, " ");
         reads.push(event(alloc, word)?)?;
+        rest = behind;
     }
     Ok(reads)
 }
@@ -39,68 +43,65 @@ fn links(alloc: Global, all: &str) -> Result<VecDeque<MemoryLink>, Error>
     ensures { IfOk result (λ links. AreUncalled links.items) }
 {
     let mut links = VecDeque::new(alloc);
-    for events in all.split(" | ") {
+    let mut rest = all;
+    for _ in 0..MOST {
+        if rest.is_empty() {
+            break;
+        }
+        let (events, behind) = first(rest, " | ");
         push_link(&mut links, link(alloc, reads(alloc, events)?))?;
+        rest = behind;
     }
     Ok(links)
 }
 
 /// A dial that gives these links.
 pub(crate) fn dial(alloc: Global, all: &str) -> Result<MemoryDial, Error> {
-    let links = links(alloc, all)?;
-    Ok(MemoryDial::new(links, VecDeque::new(alloc), Sequence::new(alloc)))
-}
-
-/// A pool of one connection and two participants.
-pub(crate) fn pool<G: PoolLedger, L: Link + Send>(
-    alloc: Global,
-    url: &str,
-    blank: Blank,
-) -> Result<(PgPool<G, L>, Vec<PoolSeat<G>>), Error>
-    requires most { G.most ≡ 1 }
-    requires ledger { blank.name ≡ G.name }
-    requires parts { (blank.parts ≡ G.parts) × (blank.parts ≡ 2) }
-    ensures name { IfOk result (λ r. r.0.name ≡ 7) }
-{
-    let options = options(alloc, url)?;
-    PgPoolOptions::new()
-        .max_connections(1)
-        .build(alloc, NAME, options, 2, blank)
-}
-
-/// The next participant, if it is of the pool of this name.
-pub(crate) fn participant<G: Ledger>(seats: &mut Vec<PoolSeat<G>>) -> Option<PoolSeat<G>>
-    ensures { IfSome result (λ seat. seat.name ≡ 7) }
-{
-    match seats.pop() {
-        Some(seat) if seat.pool_name() == NAME => Some(seat),
-        _ => None,
+    match links(alloc, all) {
+        Ok(links) => Ok(MemoryDial::new(links, VecDeque::new(alloc), Sequence::new(alloc))),
+        Err(error) => Err(error),
     }
 }
 
-/// A listener on a pool of its own.
-pub(crate) fn alone<G: PoolLedger, D: Dial + Drop>(
-    alloc: Global,
-    url: &str,
-    blank: Blank,
-    dial: D,
-) -> Result<Connect<G, PgPool<G, D::L>, PoolSeat<G>, D>, Error>
+/// Lets a connection go that was released.
+pub(crate) fn let_go<L: Drop>(released: Option<Released<L>>) {
+    match released {
+        Some(Released::Closed(conn)) => drop(conn),
+        Some(Released::Foreign(conn)) => drop(conn),
+        Some(Released::Kept) => {}
+        None => {}
+    }
+}
+
+// Polls a start-up to its end.
+fn poll_connect<B, R>(rt: &R, state: &mut Connecting<Listener<B>>) -> Result<Listener<B>, Error>
 where
-    D::L: Send,
-    requires most { G.most ≡ 1 }
-    requires ledger { blank.name ≡ G.name }
-    requires parts { (blank.parts ≡ G.parts) × (blank.parts ≡ 1) }
-    ensures over { IfOk result (λ c. c.is_over ≡ false) }
-    ensures listener { IfOk result (λ c. IsSome c.listener) }
+    B: ConnectionSource,
+    B::L: Drop,
+    R: Wait,
+    requires over { state.old.is_over ≡ false }
+    requires listener { IsSome state.old.listener }
 {
-    let settings = PgSettings::empty();
-    let begun = connect(alloc, NAME, &settings, url, blank, dial);
-    drop(settings);
-    match begun {
-        Ok(state) => Ok(state),
-        Err((error, dial)) => {
-            drop(dial);
-            Err(error)
+    for _ in 0..POLLS {
+        match state.poll(rt) {
+            Poll::Pending => {}
+            Poll::Ready(answer) => return answer,
         }
     }
+    Err(Error::StartupPending)
+}
+
+/// The listener of a start-up, or why it has no connection.
+pub(crate) fn connect<B, R>(rt: &R, state: Connecting<Listener<B>>) -> Result<Listener<B>, Error>
+where
+    B: ConnectionSource + Drop,
+    B::L: Drop,
+    R: Wait,
+    requires over { state.is_over ≡ false }
+    requires listener { IsSome state.listener }
+{
+    let mut state = state;
+    let answer = poll_connect(rt, &mut state);
+    let_go(state.into_released(rt));
+    answer
 }

@@ -1,14 +1,21 @@
 //! A row, over a pool of one connection.
-ghost use Rattle.std.specs.Prelude.{◌≡◌, false, IsSome};
+ghost use Rattle.std.specs.Prelude.{◌≡◌, true, false, IsSome};
+ghost use Rattle.pg_listeners.specs.Listeners.{goes_on_in};
 
-use crate::listening::calls::{POLLS, make, make_all};
-use crate::listening::opening::{alone, dial, participant, pool};
-use crate::listening::polling::{connect, next, release};
-use crate::listening::telling::{failed, history, lost, push, released, streamed};
+use crate::listening::calls::{POLLS, make_all, make_each};
+use crate::listening::live::hear_on;
+use crate::listening::opening::{connect, dial, let_go};
+use crate::listening::receiving::next;
+use crate::listening::telling::{failed, history, lost, pending, released};
+use crate::listening::words::first;
+use crate::rows::{NAME, pair, pool};
 use case_tools::Shown;
-use pg_listen::{PoolLedger, PoolSeat};
-use pg_listeners::{Connecting, ConnectionSource, Listener, NotificationStream, connect_with};
+use pg_conn::{Dial, MemoryDial};
+use pg_listen::{PgPool, PoolLedger, PoolSeat};
+use pg_listeners::{Connecting, ConnectionSource, Listener, Releasing, connect_with};
+use pg_options::PgSettings;
 use pg_pool::{Pool, Pooled};
+use pg_stream::MemoryLink;
 use pg_wire::{Error, Poll};
 use std::alloc::Global;
 use std::marker::Brand;
@@ -20,23 +27,12 @@ const NEXT: u32 = 3;
 
 const URL: &str = "postgres://u@h/d";
 
-// The calls of a row, and what its links give.
+/// A server, and what is done with a listener there: the calls of a row, or else it tells what it hears on a channel.
 #[derive(Clone, Copy)]
-struct Row<'a> {
-    calls: &'a str,
-    links: &'a str,
-}
-
-fn ask_stream<B, R>(rt: &R, out: &mut String, stream: &mut NotificationStream<B>)
-where
-    B: ConnectionSource,
-    B::L: Shown + Drop,
-    R: Wait,
-{
-    for _ in 0..NEXT {
-        streamed(out, next(rt, stream, POLLS));
-    }
-    lost(out, stream.lost());
+pub(crate) struct Place<'a> {
+    pub(crate) url: &'a str,
+    pub(crate) calls: &'a str,
+    pub(crate) channel: Option<&'a str>,
 }
 
 // Ends a listener by its stream.
@@ -47,25 +43,56 @@ where
     R: Wait,
 {
     let mut stream = listener.into_stream();
-    ask_stream(rt, out, &mut stream);
+    for _ in 0..NEXT {
+        next(rt, out, &mut stream);
+    }
+    lost(out, stream.lost());
     released(out, stream.into_released(rt));
 }
 
-// Ends a listener by its `release`.
+fn poll_release<B, R>(rt: &R, out: &mut String, state: &mut Releasing<Listener<B>>)
+where
+    B: ConnectionSource + Drop,
+    B::L: Shown + Drop,
+    R: Wait,
+    requires over { state.old.is_over ≡ false }
+    requires goes { goes_on_in state.old.change state.old.listener ≡ true }
+{
+    for _ in 0..POLLS {
+        match state.poll(rt) {
+            Poll::Pending => {}
+            Poll::Ready(Ok(what)) => return released(out, what),
+            Poll::Ready(Err(error)) => return failed(out, error),
+        }
+    }
+    pending(out);
+}
+
+// Ends a listener by its `release`, or else lets it go.
 fn end_by_release<B, R>(rt: &R, out: &mut String, listener: Listener<B>)
 where
     B: ConnectionSource + Drop,
     B::L: Shown + Drop,
     R: Wait,
 {
-    match release(rt, listener, POLLS) {
-        Poll::Pending => push(out, " pending"),
-        Poll::Ready(Ok(what)) => released(out, what),
-        Poll::Ready(Err(error)) => {
-            failed(out, &error);
-            drop(error);
-        }
+    lost(out, listener.lost());
+    let mut state = listener.release();
+    poll_release(rt, out, &mut state);
+    match state.into_listener() {
+        Some(listener) => let_go(listener.into_released(rt)),
+        None => {}
     }
+}
+
+// Lets a listener go.
+fn end_at_once<B, R>(rt: &R, out: &mut String, listener: Listener<B>)
+where
+    B: ConnectionSource + Drop,
+    B::L: Shown + Drop,
+    R: Wait,
+{
+    lost(out, listener.lost());
+    released(out, listener.into_released(rt));
 }
 
 fn end<B, R>(rt: &R, out: &mut String, listener: Listener<B>, calls: &str)
@@ -75,16 +102,15 @@ where
     R: Wait,
 {
     if calls.ends_with("stream") {
-        return end_by_stream(rt, out, listener);
-    }
-    lost(out, listener.lost());
-    if calls.ends_with("release") {
-        end_by_release(rt, out, listener)
+        end_by_stream(rt, out, listener);
+    } else if calls.ends_with("release") {
+        end_by_release(rt, out, listener);
     } else {
-        released(out, listener.into_released(rt))
+        end_at_once(rt, out, listener);
     }
 }
 
+// A row on a listener whose pool others have too.
 fn play<G, C, O, B, R>(
     rt: &R,
     alloc: Global,
@@ -100,98 +126,166 @@ where
     B: ConnectionSource + Drop,
     B::L: Shown + Drop,
     R: Wait,
-    requires seat { other.old.name ≡ pool.now.name }
     requires over { state.is_over ≡ false }
     requires listener { IsSome state.listener }
 {
-    match connect(rt, state, POLLS) {
+    match connect(rt, state) {
         Ok(listener) => {
             let mut listener = listener;
             make_all(rt, alloc, out, pool, other, &mut listener, calls);
             end(rt, out, listener, calls);
         }
-        Err(error) => {
-            failed(out, &error);
-            drop(error);
-        }
+        Err(error) => failed(out, error),
     }
 }
 
-fn played<G: PoolLedger, R: Wait>(
+// A row on a listener that is lent a pool and a participant of it.
+fn play_lent<G, D, R>(
     rt: &R,
     alloc: Global,
-    row: Row<'_>,
+    out: &mut String,
+    pool: &PgPool<G, D::L>,
+    seats: (PoolSeat<G>, PoolSeat<G>),
+    dial: D,
+    calls: &str,
+)
+where
+    G: PoolLedger,
+    D: Dial + Drop,
+    D::L: Shown + Drop,
+    R: Wait,
+    requires { seats.0.name ≡ pool.now.name }
+{
+    let (mut seat, mut other) = seats;
+    let state = connect_with(alloc, pool, &mut seat, dial);
+    play(rt, alloc, out, pool, &mut other, state, calls);
+    history(out, &seat);
+}
+
+// The same over a pool of two participants.
+fn lent<G: PoolLedger, R: Wait>(
+    rt: &R,
+    alloc: Global,
+    out: &mut String,
+    place: Place<'_>,
     blank: Blank,
-) -> Result<String, Error>
+    dial: MemoryDial,
+) -> Result<(), Error>
     requires most { G.most ≡ 1 }
     requires ledger { blank.name ≡ G.name }
     requires parts { (blank.parts ≡ G.parts) × (blank.parts ≡ 2) }
 {
-    let dial = dial(alloc, row.links)?;
-    let (pool, mut seats) = pool::<G, _>(alloc, URL, blank)?;
-    let (Some(mut other), Some(mut seat)) = (participant(&mut seats), participant(&mut seats))
-    else {
-        return Err(Error::StartupPending);
-    };
-    let mut out = String::new(alloc);
-    let state = connect_with(alloc, &pool, &mut seat, dial);
-    play(rt, alloc, &mut out, &pool, &mut other, state, row.calls);
-    history(&mut out, &seat);
-    Ok(out)
-}
-
-fn make_each<B, R>(rt: &R, alloc: Global, out: &mut String, listener: &mut Listener<B>, calls: &str)
-where
-    B: ConnectionSource,
-    B::L: Shown + Drop,
-    R: Wait,
-{
-    for call in calls.split(' ') {
-        make(rt, alloc, out, listener, call);
+    match pool::<G>(alloc, 1, 2, blank) {
+        Ok((pool, seats)) => match pair(seats) {
+            Some(seats) => {
+                play_lent(rt, alloc, out, &pool, seats, dial, place.calls);
+                Ok(())
+            }
+            None => Err(Error::StartupPending),
+        },
+        Err(error) => Err(error),
     }
-    lost(out, listener.lost());
 }
 
+// What is done with a listener whose pool nobody else has.
 fn play_alone<B, R>(
     rt: &R,
     alloc: Global,
+    out: &mut String,
     state: Connecting<Listener<B>>,
-    calls: &str,
-) -> Result<String, Error>
+    place: Place<'_>,
+) -> Result<(), Error>
 where
     B: ConnectionSource + Drop,
     B::L: Shown + Drop,
-    R: Wait,
+    R: Wait + Print,
     requires over { state.is_over ≡ false }
     requires listener { IsSome state.listener }
 {
-    let mut out = String::new(alloc);
-    let mut listener = connect(rt, state, POLLS)?;
-    make_each(rt, alloc, &mut out, &mut listener, calls);
-    released(&mut out, listener.into_released(rt));
-    Ok(out)
+    match connect(rt, state) {
+        Ok(listener) => {
+            let mut listener = listener;
+            let done = match place.channel {
+                Some(channel) => hear_on(rt, alloc, &mut listener, channel),
+                None => {
+                    make_each(rt, alloc, out, &mut listener, place.calls);
+                    Ok(())
+                }
+            };
+            end_at_once(rt, out, listener);
+            done
+        }
+        Err(error) => Err(error),
+    }
 }
 
-// A row over a pool of the listener's own.
-fn played_alone<G: PoolLedger, R: Wait>(
+/// A listener on a pool of its own.
+pub(crate) fn alone<G, D, R>(
     rt: &R,
     alloc: Global,
-    row: Row<'_>,
+    out: &mut String,
+    place: Place<'_>,
     blank: Blank,
-) -> Result<String, Error>
+    dial: D,
+) -> Result<(), Error>
+where
+    G: PoolLedger,
+    D: Dial + Drop,
+    D::L: Shown + Drop + Send,
+    R: Wait + Print,
     requires most { G.most ≡ 1 }
     requires ledger { blank.name ≡ G.name }
     requires parts { (blank.parts ≡ G.parts) × (blank.parts ≡ 1) }
 {
-    let state = alone::<G, _>(alloc, URL, blank, dial(alloc, row.links)?)?;
-    play_alone(rt, alloc, state, row.calls)
+    let settings = PgSettings::empty();
+    let begun = pg_listeners::connect::<G, D>(alloc, NAME, &settings, place.url, blank, dial);
+    drop(settings);
+    match begun {
+        Ok(state) => play_alone(rt, alloc, out, state, place),
+        Err((error, dial)) => {
+            drop(dial);
+            Err(error)
+        }
+    }
+}
+
+// The calls of a row, on a server in memory.
+fn in_memory(calls: &str) -> Place<'_> {
+    Place {
+        url: URL,
+        calls,
+        channel: None,
+    }
+}
+
+// What is done over links in memory.
+fn played<R: Wait + Print>(
+    rt: &R,
+    alloc: Global,
+    out: &mut String,
+    calls: &str,
+    dial: MemoryDial,
+) -> Result<(), Error> {
+    match calls.strip_prefix("alone ") {
+        Some(calls) => {
+            let place = in_memory(calls);
+            alone::<Brand, MemoryDial, R>(rt, alloc, out, place, Blank::new(1), dial)
+        }
+        None => lent::<Brand, R>(rt, alloc, out, in_memory(calls), Blank::new(2), dial),
+    }
 }
 
 /// A row, by its calls and its links.
-pub(crate) fn told<R: Wait>(rt: &R, alloc: Global, row: &str) -> Result<String, Error> {
-    let (calls, links) = row.split_once(" | ").unwrap_or((row, ""));
-    match calls.strip_prefix("alone ") {
-        Some(calls) => played_alone::<Brand, R>(rt, alloc, Row { calls, links }, Blank::new(1)),
-        None => played::<Brand, R>(rt, alloc, Row { calls, links }, Blank::new(2)),
+pub(crate) fn told<R: Wait + Print>(rt: &R, alloc: Global, row: &str) -> Result<String, Error> {
+    let (calls, links) = first(row, " | ");
+    match dial(alloc, links) {
+        Ok(dial) => {
+            let mut out = String::new(alloc);
+            match played(rt, alloc, &mut out, calls, dial) {
+                Ok(()) => Ok(out),
+                Err(error) => Err(error),
+            }
+        }
+        Err(error) => Err(error),
     }
 }

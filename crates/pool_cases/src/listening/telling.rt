@@ -1,8 +1,9 @@
 //! The words of answers. What there is no memory for is missing in what is printed.
+use crate::listening::statements::push_columns;
 use case_tools::{Shown, push_byte, push_error};
 use pg_conn::PgRow;
 use pg_listen::{PoolSeat, Released};
-use pg_listeners::PgNotification;
+use pg_listeners::{ConnectionSource, Listener, PgNotification};
 use pg_wire::{Error, Poll};
 use std::sync::ledger::Ledger;
 
@@ -15,79 +16,77 @@ pub(crate) fn push(out: &mut String, text: &str) {
     let _ = out.push_str(text);
 }
 
-/// Why a call failed.
-pub(crate) fn failed(out: &mut String, error: &Error) {
-    drop(push_error(out, error));
+/// A call that hasn't ended within its polls.
+pub(crate) fn pending(out: &mut String) {
+    push(out, " pending");
 }
 
-fn payload(out: &mut String, told: &PgNotification) {
+/// Why a call failed.
+pub(crate) fn failed(out: &mut String, error: Error) {
+    drop(push_error(out, &error));
+    drop(error);
+}
+
+fn payload(out: &mut String, told: PgNotification) {
     push(out, " ");
     push(out, told.payload());
+    drop(told);
 }
 
 /// What `try_recv` answers.
 pub(crate) fn tried(out: &mut String, answer: Poll<Result<Option<PgNotification>, Error>>) {
-    match &answer {
-        Poll::Pending => push(out, " pending"),
+    match answer {
+        Poll::Pending => pending(out),
         Poll::Ready(Ok(Some(told))) => payload(out, told),
         Poll::Ready(Ok(None)) => push(out, " none"),
         Poll::Ready(Err(error)) => failed(out, error),
     }
-    drop(answer);
 }
 
 /// What `recv` answers.
-pub(crate) fn received(out: &mut String, answer: Poll<Result<PgNotification, Error>>) {
-    match &answer {
-        Poll::Pending => push(out, " pending"),
-        Poll::Ready(Ok(told)) => payload(out, told),
-        Poll::Ready(Err(error)) => failed(out, error),
+pub(crate) fn received(out: &mut String, answer: Result<PgNotification, Error>) {
+    match answer {
+        Ok(told) => payload(out, told),
+        Err(error) => failed(out, error),
     }
-    drop(answer);
 }
 
 /// What a stream answers.
-pub(crate) fn streamed(out: &mut String, answer: Poll<Option<Result<PgNotification, Error>>>) {
-    match &answer {
-        Poll::Pending => push(out, " pending"),
-        Poll::Ready(Some(Ok(told))) => payload(out, told),
-        Poll::Ready(None) => push(out, " none"),
-        Poll::Ready(Some(Err(error))) => failed(out, error),
+pub(crate) fn streamed(out: &mut String, answer: Option<Result<PgNotification, Error>>) {
+    match answer {
+        Some(answer) => received(out, answer),
+        None => push(out, " none"),
     }
-    drop(answer);
 }
 
 /// What a change of the channels answers.
 pub(crate) fn changed(out: &mut String, answer: Poll<Result<(), Error>>) {
-    match &answer {
-        Poll::Pending => push(out, " pending"),
+    match answer {
+        Poll::Pending => pending(out),
         Poll::Ready(Ok(())) => push(out, " ok"),
         Poll::Ready(Err(error)) => failed(out, error),
     }
-    drop(answer);
 }
 
 /// How many rows a query has given.
-pub(crate) fn counted(out: &mut String, answer: Poll<Result<u64, Error>>) {
-    match &answer {
-        Poll::Pending => push(out, " pending"),
-        Poll::Ready(Ok(rows)) => {
-            let _ = write!(out, " rows {rows}");
-        }
-        Poll::Ready(Err(error)) => failed(out, error),
-    }
-    drop(answer);
+pub(crate) fn counted(out: &mut String, rows: u64) {
+    let _ = write!(out, " rows {rows}");
 }
 
-/// Whether a query has given a row.
-pub(crate) fn found(out: &mut String, answer: Poll<Result<Option<PgRow>, Error>>) {
-    match &answer {
-        Poll::Pending => push(out, " pending"),
-        Poll::Ready(Ok(Some(_))) => push(out, " row true"),
-        Poll::Ready(Ok(None)) => push(out, " row false"),
-        Poll::Ready(Err(error)) => failed(out, error),
+/// The row of a query by its columns, or else by whether there is one.
+pub(crate) fn shown(out: &mut String, answer: Result<Option<PgRow>, Error>, is_whole: bool) {
+    match answer {
+        Ok(Some(row)) => {
+            if is_whole {
+                push_columns(out, row.columns());
+            } else {
+                push(out, " row true");
+            }
+            drop(row);
+        }
+        Ok(None) => push(out, if is_whole { " no row" } else { " row false" }),
+        Err(error) => failed(out, error),
     }
-    drop(answer);
 }
 
 /// What was read before.
@@ -100,8 +99,8 @@ pub(crate) fn buffered(out: &mut String, told: Option<PgNotification>) {
     drop(told);
 }
 
-/// What a link has taken.
-pub(crate) fn taken<L: Shown>(out: &mut String, link: &L) {
+// What a link has taken.
+fn taken<L: Shown>(out: &mut String, link: &L) {
     push(out, " /");
     let taken = link.sent().unwrap_or(b"");
     let rest = match taken.strip_prefix(START) {
@@ -127,7 +126,11 @@ pub(crate) fn lost<L: Shown>(out: &mut String, links: &[L]) {
 }
 
 /// The same of links that are handed out.
-pub(crate) fn handed_out<L: Shown + Drop>(out: &mut String, links: Vec<L>) {
+pub(crate) fn taken_back<B: ConnectionSource>(out: &mut String, listener: &mut Listener<B>)
+where
+    B::L: Shown + Drop,
+{
+    let links = listener.take_lost();
     lost(out, links.as_slice());
     drop(links);
 }

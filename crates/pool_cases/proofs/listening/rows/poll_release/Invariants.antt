@@ -1,6 +1,6 @@
 use Rattle.std.proofs.Common.{◌≡◌, false, true}
 use Rattle.pg_listeners.specs.Listeners.{goes_on_in}
-use Rattle.pool_cases.proofs.listening.polling.poll_release.Given as goal
+use Rattle.pool_cases.proofs.listening.rows.poll_release.Given as goal
 
 abbrev pub invariant-loop : goal.invariant-loop
 invariant-loop g l = record {

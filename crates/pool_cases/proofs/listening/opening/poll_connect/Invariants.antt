@@ -1,5 +1,5 @@
 use Rattle.std.proofs.Common.{◌≡◌, false, IsSome}
-use Rattle.pool_cases.proofs.listening.polling.connect.Given as goal
+use Rattle.pool_cases.proofs.listening.opening.poll_connect.Given as goal
 
 abbrev pub invariant-loop : goal.invariant-loop
 invariant-loop g l = record {

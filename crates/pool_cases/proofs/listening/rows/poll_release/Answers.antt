@@ -1,5 +1,5 @@
 use Rattle.pool_cases.proofs.CallLaws.{still_releasing}
-use Rattle.pool_cases.proofs.listening.polling.poll_release.Goals as goal
+use Rattle.pool_cases.proofs.listening.rows.poll_release.Goals as goal
 
 pub loop-preserved : goal.loop-preserved
 loop-preserved g c = record {

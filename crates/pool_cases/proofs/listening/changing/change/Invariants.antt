@@ -1,6 +1,6 @@
 use Rattle.std.proofs.Common.{◌≡◌, false, true}
 use Rattle.pg_listeners.specs.Listeners.{goes_on}
-use Rattle.pool_cases.proofs.listening.polling.change.Given as goal
+use Rattle.pool_cases.proofs.listening.changing.change.Given as goal
 
 abbrev pub invariant-loop : goal.invariant-loop
 invariant-loop g l = record {

@@ -1,5 +1,5 @@
 use Rattle.pool_cases.proofs.CallLaws.{still_connecting}
-use Rattle.pool_cases.proofs.listening.polling.connect.Goals as goal
+use Rattle.pool_cases.proofs.listening.opening.poll_connect.Goals as goal
 
 pub loop-preserved : goal.loop-preserved
 loop-preserved g c = record {

@@ -1,5 +1,5 @@
 use Rattle.pool_cases.proofs.CallLaws.{still_changing}
-use Rattle.pool_cases.proofs.listening.polling.change.Goals as goal
+use Rattle.pool_cases.proofs.listening.changing.change.Goals as goal
 
 pub loop-preserved : goal.loop-preserved
 loop-preserved g c = record {

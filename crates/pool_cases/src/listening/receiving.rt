@@ -1,0 +1,75 @@
+//! The calls by which a listener hears.
+ghost use Rattle.std.specs.Prelude.{◌≡◌, false};
+
+use crate::listening::calls::POLLS;
+use crate::listening::telling::{buffered, pending, received, streamed, tried};
+use pg_listeners::{ConnectionSource, Listener, NotificationStream, PgNotification};
+use pg_wire::{Error, Poll};
+use std::sync::Wait;
+
+/// What `try_recv` answers within so many polls.
+pub(crate) fn try_recv<B, R>(
+    rt: &R,
+    listener: &mut Listener<B>,
+    polls: u32,
+) -> Poll<Result<Option<PgNotification>, Error>>
+where
+    B: ConnectionSource,
+    B::L: Drop,
+    R: Wait,
+{
+    let mut state = listener.try_recv();
+    for _ in 0..polls {
+        match state.poll(rt) {
+            Poll::Pending => {}
+            answer => return answer,
+        }
+    }
+    Poll::Pending
+}
+
+pub(crate) fn try_receive<B, R>(rt: &R, out: &mut String, listener: &mut Listener<B>, polls: u32)
+where
+    B: ConnectionSource,
+    B::L: Drop,
+    R: Wait,
+{
+    tried(out, try_recv(rt, listener, polls));
+}
+
+pub(crate) fn receive<B, R>(rt: &R, out: &mut String, listener: &mut Listener<B>)
+where
+    B: ConnectionSource,
+    B::L: Drop,
+    R: Wait,
+{
+    let mut state = listener.recv();
+    for _ in 0..POLLS {
+        match state.poll(rt) {
+            Poll::Pending => {}
+            Poll::Ready(answer) => return received(out, answer),
+        }
+    }
+    pending(out);
+}
+
+/// What was read before.
+pub(crate) fn next_buffered<B: ConnectionSource>(out: &mut String, listener: &mut Listener<B>) {
+    buffered(out, listener.next_buffered());
+}
+
+/// The next notification of a stream.
+pub(crate) fn next<B, R>(rt: &R, out: &mut String, stream: &mut NotificationStream<B>)
+where
+    B: ConnectionSource,
+    B::L: Drop,
+    R: Wait,
+{
+    for _ in 0..POLLS {
+        match stream.poll_next(rt) {
+            Poll::Pending => {}
+            Poll::Ready(answer) => return streamed(out, answer),
+        }
+    }
+    pending(out);
+}
