@@ -2,6 +2,7 @@
 use Rattle.std.proofs.Common.{◌≡◌, inl, inr, ◌≤◌, ℕ, [], refl, sym, subst, arith, Option, Some, None, IsSome, Err}
 use Rattle.futures.specs.declared.task.Poll.{Poll}
 use Rattle.futures.specs.declared.task.Poll.TheVariants.{Ready, Pending}
+use Rattle.pg_wire.specs.declared.error.Error.{Error}
 use Rattle.pg_stream.specs.Links.{LinkSeen}
 use Rattle.pg_call.specs.Answers.{TurnFits}
 use Rattle.pg_call.specs.Requests.{main_kind}
@@ -21,7 +22,7 @@ use Rattle.pg_conn.proofs.StateLaws.{poll_fits_within}
 use Rattle.pg_listen.specs.Handed.{FillingOf}
 use Rattle.pg_listening.specs.Listening.{CallsOn, FitsOn, OnHeld, Starts, TurnsOpen}
 use Rattle.pg_pool.specs.Seats.{SeatSeen}
-use Rattle.pg_listening.specs.Failing.{BesideSeen}
+use Rattle.pg_listening.specs.Failing.{BesideSeen, Fails}
 use Rattle.pg_listening.specs.Hearing.{HearingOf, HearsBy, heard_of}
 use Rattle.pg_listening.specs.Querying.{AsksNow, IsAskedOn, IsQuerying, NotesTurn, Queries, QueriesOn, Unasked, rest_of}
 use Rattle.pg_listening.specs.Waiting.{OnConn, ReadiesBy}
@@ -135,16 +136,8 @@ notes_apart A most t (Ready (turns.Opened x)) apart = tt
 notes_apart A most t Pending apart = tt
 
 module _ {C S A : Type 0} (seen : A → LinkSeen) (conn : C → ConnOf A) (with_conn : C → ConnOf A → C) (filling : S → FillingOf A) where
-  notes_unasked : (o : BesideSeen) (left now : ℕ) (a b : HearingOf C S A) (answer : Poll Turn) → Unasked seen conn with_conn filling o left now a b answer → NotesTurn A o.most o.seat answer
-  notes_unasked o left now a b Pending u = tt
-  notes_unasked o left now a b (Ready (turns.Err e)) u = notes_caused seen conn with_conn filling {X = Unit {0}} o left now a b (Ready (Err e)) u
-  notes_unasked o left now a b (Ready (turns.Ok x)) u = tt
-  notes_unasked o left now a b (Ready (turns.Item x)) u = tt
-  notes_unasked o left now a b (Ready (turns.Opened x)) u = tt
-
-  pub notes_queried : (o : BesideSeen) (left now : ℕ) (request rest : Option Request) (a b : HearingOf C S A) (answer : Poll Turn) → Queries seen conn with_conn filling o left now request rest a b answer → NotesTurn A o.most o.seat answer
-  notes_queried o left now request rest a b answer (inl (asked, none)) = notes_apart A o.most o.seat answer asked.apart
-  notes_queried o left now request rest a b answer (inr (some, unasked, is)) = notes_unasked o left now a b answer unasked
+  pub notes_failed : (o : BesideSeen) (left now : ℕ) (a b : HearingOf C S A) (e : Error) → Fails seen conn with_conn filling o left now a b e → NotesTurn A o.most o.seat (Ready (turns.Err e))
+  notes_failed o left now a b e f = notes_caused seen conn with_conn filling {X = Unit {0}} o left now a b (Ready (Err e)) f
   -- ---- its answer
 
 module _ {C A : Type 0} (conn : C → ConnOf A) where

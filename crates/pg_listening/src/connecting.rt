@@ -1,7 +1,7 @@
 //! How a listener comes by a connection, and how it loses one.
-ghost use Rattle.std.specs.Prelude.{◌≡◌, ◌⊎◌, ◌≤◌, ◌<◌, ◌++◌, true, false, [], None, Some, IfErr, IfOk, IsSome, OnErr, OnOk, is_some, option_to_list, vec_capacity, vec_len};
+ghost use Rattle.std.specs.Prelude.{◌≡◌, ◌≤◌, ◌<◌, ◌++◌, true, false, [], None, Some, IfErr, IsSome, OnErr, OnOk, is_some, option_to_list, vec_capacity, vec_len};
 ghost use Rattle.pg_listening.specs.Listening.{NoneClosed};
-ghost use Rattle.pg_listening.specs.Failing.{CausedBy, CausedOn, FailsToFind, LosesBy, PollsAgain, beside_of};
+ghost use Rattle.pg_listening.specs.Failing.{CausedBy, CausedOn, PollsAgain, beside_of};
 ghost use Rattle.pg_listening.specs.Sources.{IsDialled, IsSeated};
 ghost use Rattle.pg_listening.specs.Hearing.{AsksAgain, HearsBy, LosesHeld, OnReady};
 ghost use Rattle.pg_listening.specs.Leaving.{Fills};
@@ -89,44 +89,6 @@ impl<B: ConnectionSource> Hearing<B> {
             Some(_before) => unreachable!(),
         }
     }
-
-    // Finds a connection, or else begins a start-up, and tells whether one is held. Room for a link that is lost in this is made before.
-    #[tactic(auto, using(crate::proofs::HearingLaws::hears_nothing, crate::proofs::HearingLaws::hears_without, crate::proofs::BufferingLaws::hears_behind, crate::proofs::BufferingLaws::at_once, crate::proofs::SourceLaws::dialled, crate::proofs::SourceLaws::seated_then, crate::proofs::SourceLaws::dialled_then))]
-    fn connect<R: Wait>(&mut self, rt: &R, source: &mut B) -> Result<bool, Error>
-        requires none { self.old.listening.conn ≡ None }
-        requires idle { self.old.startup ≡ None }
-        requires mine { self.old.name ≡ (B.now source.old).name }
-        ensures hears { HearsBy B.L.seen B.Held.conn self.old self.new [] }
-        ensures channels { self.new.listening.channels ≡ self.old.listening.channels }
-        ensures source { IsDialled (B.now source.old) (B.now source.new) }
-        ensures loss { self.new.is_lost ≡ self.old.is_lost }
-        ensures lost { OnOk result (self.new.lost ≡ self.old.lost) }
-        ensures found { IfOk result (λ is_held. is_some self.new.listening.conn ≡ is_held) }
-        ensures starts { IfOk result (λ is_held. is_held ≡ false → IsSome self.new.startup) }
-        ensures startup { OnOk result (StartsFrom B.L.seen B.filling self.old.startup self.new.startup) }
-        ensures ready { self.new.is_ready ≡ false }
-        ensures faults { OnOk result ((B.now source.new).faults ≡ (B.now source.old).faults) }
-        ensures fails { IfErr result (λ e. (e ≡ Error.OutOfMemory) ⊎ FailsToFind B.L.seen B.Held.conn (beside_of (B.now source.old) (B.now source.new)) self.old self.new e) }
-    {
-        match self.lost.reserve(1) {
-            Ok(()) => {}
-            Err(_) => return Err(Error::OutOfMemory),
-        }
-        match source.find(rt, self.alloc) {
-            Ok(Found::Held(held)) => {
-                self.hold(held);
-                Ok(true)
-            }
-            Ok(Found::Starting(state)) => {
-                self.start(state);
-                Ok(false)
-            }
-            Err((e, link)) => {
-                keep_lost(&mut self.lost, link);
-                Err(e)
-            }
-        }
-    }
 }
 
 impl<B: ConnectionSource> Hearing<B>
@@ -201,10 +163,24 @@ where
         if self.startup.is_some() {
             return self.poll_start_up(rt, source, left);
         }
-        match self.connect(rt, source) {
-            Ok(true) => Poll::Ready(Ok(())),
-            Ok(false) => self.poll_start_up(rt, source, left),
-            Err(e) => Poll::Ready(Err(e)),
+        // Room for a link that is lost in this is made before.
+        match self.lost.reserve(1) {
+            Ok(()) => {}
+            Err(_) => return Poll::Ready(Err(Error::OutOfMemory)),
+        }
+        match source.find(rt, self.alloc) {
+            Ok(Found::Held(held)) => {
+                self.hold(held);
+                Poll::Ready(Ok(()))
+            }
+            Ok(Found::Starting(state)) => {
+                self.start(state);
+                self.poll_start_up(rt, source, left)
+            }
+            Err((e, link)) => {
+                keep_lost(&mut self.lost, link);
+                Poll::Ready(Err(e))
+            }
         }
     }
 
@@ -294,50 +270,8 @@ where
         }
     }
 
-    // Goes on until the connection listens to all of the channels. Where a statement that listens again has failed, so has the reconnect.
-    #[tactic(auto, using(crate::proofs::HearingLaws::hears_nothing, crate::proofs::HearingLaws::hears_without, crate::proofs::BufferingLaws::hears_behind, crate::proofs::BufferingLaws::at_once, crate::proofs::SourceLaws::dialled, crate::proofs::SourceLaws::seated_then, crate::proofs::SourceLaws::dialled_then))]
-    fn poll_ready<R: Wait>(
-        &mut self,
-        rt: &R,
-        source: &mut B,
-        left: &mut u16,
-    ) -> Poll<Result<(), Error>>
-        requires held { IsSome self.old.listening.conn }
-        requires mine { self.old.name ≡ (B.now source.old).name }
-        requires left { left.old ≤ 256 }
-        ensures hears { HearsBy B.L.seen B.Held.conn self.old self.new [] }
-        ensures channels { self.new.listening.channels ≡ self.old.listening.channels }
-        ensures source { IsSeated (B.now source.old) (B.now source.new) }
-        ensures loss { self.new.is_lost ≡ self.old.is_lost }
-        ensures left { left.new ≤ left.old }
-        ensures lost { OnReady result (self.new.lost ≡ self.old.lost) }
-        ensures held { OnReady result (IsSome self.new.listening.conn) }
-        ensures startup { OnReady result (self.new.startup ≡ self.old.startup) }
-        ensures ready { OnReady result (ReadiesBy B.L.seen B.Held.conn B.Held.with_conn self.old self.new) }
-        ensures causes { CausedOn B.L.seen B.Held.conn B.Held.with_conn B.filling left.old left.new self.old self.new result }
-    {
-        if self.is_ready {
-            return Poll::Ready(Ok(()));
-        }
-        match self.ask_again() {
-            Ok(()) => {}
-            Err(e) => return Poll::Ready(Err(e)),
-        }
-        match self.poll_again(left) {
-            Poll::Pending => Poll::Pending,
-            Poll::Ready(Ok(())) => Poll::Ready(Ok(())),
-            Poll::Ready(Err(e)) => match self.lose(rt, source) {
-                Ok(()) => Poll::Ready(Err(e)),
-                Err(wanting) => {
-                    drop(e);
-                    Poll::Ready(Err(wanting))
-                }
-            },
-        }
-    }
-
     /// Goes on until a connection is held that listens to all of the channels. Where this fails the leave to make it is given back, or the connection let
-    /// go, and the next poll begins anew.
+    /// go, and the next poll begins anew: where a statement that listens again has failed, so has the reconnect.
     #[tactic(auto, using(crate::proofs::HearingLaws::hears_nothing, crate::proofs::HearingLaws::hears_without, crate::proofs::BufferingLaws::hears_behind, crate::proofs::BufferingLaws::at_once, crate::proofs::SourceLaws::dialled, crate::proofs::SourceLaws::seated_then, crate::proofs::SourceLaws::dialled_then))]
     pub fn poll_connected<R: Wait>(
         &mut self,
@@ -359,9 +293,27 @@ where
         ensures causes { CausedBy B.L.seen B.Held.conn B.Held.with_conn B.filling (beside_of (B.now source.old) (B.now source.new)) left.old left.new self.old self.new result }
     {
         match self.poll_held(rt, source, left) {
+            Poll::Pending => return Poll::Pending,
+            Poll::Ready(Err(e)) => return Poll::Ready(Err(e)),
+            Poll::Ready(Ok(())) => {}
+        }
+        if self.is_ready {
+            return Poll::Ready(Ok(()));
+        }
+        match self.ask_again() {
+            Ok(()) => {}
+            Err(e) => return Poll::Ready(Err(e)),
+        }
+        match self.poll_again(left) {
             Poll::Pending => Poll::Pending,
-            Poll::Ready(Err(e)) => Poll::Ready(Err(e)),
-            Poll::Ready(Ok(())) => self.poll_ready(rt, source, left),
+            Poll::Ready(Ok(())) => Poll::Ready(Ok(())),
+            Poll::Ready(Err(e)) => match self.lose(rt, source) {
+                Ok(()) => Poll::Ready(Err(e)),
+                Err(wanting) => {
+                    drop(e);
+                    Poll::Ready(Err(wanting))
+                }
+            },
         }
     }
 }
