@@ -99,7 +99,7 @@ impl Query {
         })
     }
 
-    /// The same query, whose statement may be kept for later ones or not. No connection keeps one yet: each is prepared anew, without a name.
+    /// The same query, whose statement its connection may keep for later ones, or prepares for it alone, without a name.
     pub fn persistent(self, yes: bool) -> Self
         ensures { result ≡ record self { persistent = yes } }
     {

@@ -30,20 +30,16 @@ pub(crate) fn byte(bytes: &[u8]) -> Option<(u8, &[u8])>
 pub(crate) fn number16(bytes: &[u8]) -> Option<(u16, &[u8])>
     ensures { option_map (λ x. (x.0, x.1.now)) result ≡ number16_at bytes.now }
 {
-    match bytes {
-        [a, b, rest @ ..] => Some((u16::from_be_bytes([*a, *b]), rest)),
-        _ => None,
-    }
+    let number = bytes.first_chunk::<2>()?;
+    Some((u16::from_be_bytes(*number), &bytes[2..]))
 }
 
 #[tactic(auto, unfolding(crate::specs::Reading::number32_at))]
 pub(crate) fn number32(bytes: &[u8]) -> Option<(u32, &[u8])>
     ensures { option_map (λ x. (x.0, x.1.now)) result ≡ number32_at bytes.now }
 {
-    match bytes {
-        [a, b, c, d, rest @ ..] => Some((u32::from_be_bytes([*a, *b, *c, *d]), rest)),
-        _ => None,
-    }
+    let number = bytes.first_chunk::<4>()?;
+    Some((u32::from_be_bytes(*number), &bytes[4..]))
 }
 
 #[tactic(auto, unfolding(crate::specs::Reading::signed16_at))]

@@ -74,7 +74,8 @@ impl<T: Drop> Sequence<T> {
         ensures ok { OnOk result (self.new ≡ self.old ++ value ∷ []) }
         ensures err { OnErr result (self.new ≡ self.old) }
     {
-        self.items.push(value)?;
+        self.items.reserve(1)?;
+        self.items.push_reserved(value);
         Ok(())
     }
 }

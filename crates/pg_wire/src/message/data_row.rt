@@ -1,4 +1,4 @@
-ghost use Rattle.std.specs.Prelude.{◌≡◌, ◌≤◌, ◌<◌, ◌↔◌, ◌++◌, [], None, Some, List, ℕ, length, drop, map, slice_index_or, option_map, IsTrue, true, false, IfOk, OnOk, IfSome, All};
+ghost use Rattle.std.specs.Prelude.{◌≡◌, ◌≤◌, ◌<◌, ◌^◌, ◌↔◌, ◌++◌, [], None, Some, List, ℕ, length, drop, map, slice_index_or, option_map, IsTrue, true, false, IfOk, OnOk, IfSome, All};
 ghost use Rattle.pg_wire.specs.Backend as backend;
 ghost use Rattle.pg_wire.specs.Backend.{Values};
 ghost use Rattle.pg_wire.specs.Decoding.{Decodes, DecodesAs, Says};
@@ -101,17 +101,14 @@ fn value_in(body: &[u8], place: u32) -> Option<&[u8]>
     }
 }
 
-// The place of the rest of a body. One that `u32` can't tell, which no frame has, is want of memory.
-fn place_of(body: &[u8], rest: &[u8]) -> Result<u32, AllocError>
-    requires { (front : List ℕ) × (body.now ≡ front ++ rest.now) }
-    ensures within { IfOk result (λ place. place ≤ length body.now) }
-    ensures rest { IfOk result (λ place. drop place body.now ≡ rest.now) }
+// The place of the rest of a body.
+fn place_of(body: &[u8], rest: &[u8]) -> u32
+    requires told { length body.now < 2 ^ 32 }
+    requires behind { (front : List ℕ) × (body.now ≡ front ++ rest.now) }
+    ensures within { result ≤ length body.now }
+    ensures rest { drop result body.now ≡ rest.now }
 {
-    let place = body.len() - rest.len();
-    if place > u32::MAX as usize {
-        return Err(AllocError);
-    }
-    Ok(place as u32)
+    (body.len() - rest.len()) as u32
 }
 
 // Finds the places of so many values of a body, one behind the other, and answers the bytes behind them.
@@ -122,13 +119,14 @@ fn find_places<'a>(
     values: &'a [u8],
 ) -> Result<Option<&'a [u8]>, AllocError>
     requires none { places.old.items ≡ [] }
+    requires told { length body.now < 2 ^ 32 }
     requires behind { (front : List ℕ) × (body.now ≡ front ++ values.now) }
     ensures value { IfOk result (λ r. option_map (λ rest. (map (value_by body.now) places.new.items, rest.now)) r ≡ many_at value_at count values.now) }
     ensures places { IfOk result (λ r. All (IsPlace body.now) places.new.items) }
 {
     let mut rest = values;
     for _ in 0..count {
-        let place = place_of(body, rest)?;
+        let place = place_of(body, rest);
         let Some((_, after)) = value(rest) else {
             return Ok(None);
         };
@@ -138,7 +136,8 @@ fn find_places<'a>(
     Ok(Some(rest))
 }
 
-// The same of all values of a body: whether it is one of a row.
+// The same of all values of a body: whether it is one of a row. Where `u32` can't tell its places, which is true of no frame, that
+// is want of memory.
 #[tactic(auto, unfolding(crate::specs::Reading::whole, crate::specs::Reading::counted_at))]
 fn find_all(places: &mut SmallVec<u32, FEW>, body: &[u8]) -> Result<bool, AllocError>
     requires { places.old.items ≡ [] }
@@ -149,6 +148,9 @@ fn find_all(places: &mut SmallVec<u32, FEW>, body: &[u8]) -> Result<bool, AllocE
     let Some((count, rest)) = number16(body) else {
         return Ok(false);
     };
+    if body.len() > u32::MAX as usize {
+        return Err(AllocError);
+    }
     match find_places(places, count, body, rest)? {
         Some([]) => Ok(true),
         _ => Ok(false),

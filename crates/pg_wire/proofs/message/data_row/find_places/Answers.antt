@@ -14,9 +14,9 @@ returns-in_default-clause-value c = ends value_at (map (value_by c.args.body.now
 pub loop-preserved : goal.loop-preserved
 loop-preserved c =
     let body = c.args.body.now in
-    let place = c.in_ok-place.place in
+    let place = c.place_of-place.result in
     let read = sym c.in-Some.ensures in
-    let found = read_place body c.loop.rest.now c.in-Some.after.now place _ c.in_ok-place.ensures.within c.in_ok-place.ensures.rest read in
+    let found = read_place body c.loop.rest.now c.in-Some.after.now place _ c.place_of-place.ensures.within c.place_of-place.ensures.rest read in
     let items = c.in_ok-push.ensures.ok in
     record {
       value = rw (items, map_push (value_by body) c.loop.places.items place, found.1) (goes_on value_at (map (value_by body) c.loop.places.items) c.args.count c.loop.counter c.loop.rest.now _ c.in-Some.after.now (many_at value_at c.args.count c.args.values.now) c.loop-test.true read c.loop.invariant.value);
