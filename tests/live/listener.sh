@@ -71,14 +71,14 @@ def fall(first):
     last = first + FALLING - 1
     texts = [notify(n, n + AT_ONCE - 1) for n in range(first, last, AT_ONCE)]
     sender = threading.Thread(target=psql, args=texts)
-    losses = heard.count('lost')
+    losses = heard.count('none')
     sender.start()
     time.sleep(random.random() / 50)
     ended = psql("SELECT count(pg_terminate_backend(pid)) FROM pg_stat_activity WHERE usename = 'trusted'")
     sender.join()
     if ended != '1':
         sys.exit(f'not so: it has one connection, and not {ended}')
-    until(lambda: heard.count('lost') > losses, f'loss {losses + 1} is told')
+    until(lambda: heard.count('none') > losses, f'loss {losses + 1} is told')
     return last + 1
 
 
@@ -95,8 +95,8 @@ psql("SELECT pg_notify('numbers', 'end')")
 until(lambda: 'over' in heard, 'it ends')
 
 runs = [[]]
-for line in heard[:-2]:
-    if line == 'lost':
+for line in heard[1:-2]:
+    if line == 'none':
         runs.append([])
     elif line.isdigit():
         runs[-1].append(int(line))
@@ -105,8 +105,8 @@ for line in heard[:-2]:
 numbers = [number for run in runs for number in run]
 missing = next_number - 1 - len(numbers)
 print(f'sent {next_number - 1}, heard {len(numbers)}, losses {len(runs) - 1}, missing where a connection was lost {missing}, {time.monotonic() - begun:.0f} seconds')
-if heard[-2] != 'end' or len(runs) != LOSSES + 1:
-    sys.exit('not so: each loss is told once, and the end is heard')
+if heard[0] != 'ok' or heard[-2] != 'end' or len(runs) != LOSSES + 1:
+    sys.exit('not so: it listens, each loss is told once, and the end is heard')
 if numbers != sorted(set(numbers)):
     sys.exit('not so: none comes twice or out of order')
 for run, first in zip(runs, standing):

@@ -8,9 +8,9 @@ use Rattle.pg_stream.specs.Links.{LinkSeen}
 use Rattle.pg_stream.specs.Streams.{StreamSeen, stream_by}
 use Rattle.pg_conn.specs.Connections.{ConnOf}
 use Rattle.pg_listening.specs.Buffers.{BuffersSeen, Hears, kept_on, news_begun}
-use Rattle.pg_listener.specs.Changes.{changed, listens}
-use Rattle.pg_listener.specs.declared.changing.ChannelChange.{ChannelChange}
-use Rattle.pg_listener.specs.declared.changing.ChannelChange.TheVariants as changes
+use Rattle.pg_listening.specs.Changes.{changed, listens}
+use Rattle.pg_listening.specs.declared.channel_change.ChannelChange.{ChannelChange}
+use Rattle.pg_listening.specs.declared.channel_change.ChannelChange.TheVariants as changes
 use Rattle.pg_listening.specs.Listening.{OnlyKept, stored_behind, stream_in}
 use Rattle.pg_listening.proofs.BufferLaws.{Hears-then, hears_at, hears_begun, hears_failed, hears_lost, hears_none}
 use Rattle.pg_listening.specs.Hearing.{HeardOf, HearsOver, LosesHeld, OnReady}

@@ -3,9 +3,9 @@ use Rattle.std.proofs.Common.{◌≡◌, ℕ, true, false, unwrap_or, List, refl
 use Rattle.futures.specs.declared.task.Poll.{Poll}
 use Rattle.futures.specs.declared.task.Poll.TheVariants.{Ready, Pending}
 use Rattle.pg_wire.specs.declared.error.Error.{Error}
-use Rattle.pg_listener.specs.Changes.{changed}
-use Rattle.pg_listener.specs.declared.changing.ChannelChange.{ChannelChange}
-use Rattle.pg_listener.specs.declared.changing.ChannelChange.TheVariants as changes
+use Rattle.pg_listening.specs.Changes.{changed}
+use Rattle.pg_listening.specs.declared.channel_change.ChannelChange.{ChannelChange}
+use Rattle.pg_listening.specs.declared.channel_change.ChannelChange.TheVariants as changes
 use Rattle.pg_listening.specs.Listening.{behind_after, channels_behind, stored_behind, waits}
 use Rattle.pg_listening.specs.Hearing.{Changes, HearingOf, is_stored_first, stored_first}
 

@@ -16,3 +16,9 @@ mod HeldLaws
 pub mod ListeningLaws
 pub mod OpenLaws
 mod SaveLaws
+mod AloneLaws
+mod AnswerLaws
+mod BesideLaws
+mod ConnectingLaws
+mod DescribingLaws
+mod ReleaseLaws

@@ -10,9 +10,9 @@ use Rattle.pg_call.specs.declared.request.Request.TheVariants as requests
 use Rattle.pg_learning.specs.declared.learnt.Learnt.{Learnt}
 use Rattle.pg_conn.specs.Connections.{ConnOf}
 use Rattle.pg_listen.specs.Handed.{FillingOf, HeldOf}
-use Rattle.pg_listener.specs.declared.changing.ChannelChange.{ChannelChange}
-use Rattle.pg_listener.specs.declared.changing.ChannelChange.TheVariants as changes
-use Rattle.pg_listener.specs.Channels.{listen_each_text}
+use Rattle.pg_listening.specs.declared.channel_change.ChannelChange.{ChannelChange}
+use Rattle.pg_listening.specs.declared.channel_change.ChannelChange.TheVariants as changes
+use Rattle.pg_listening.specs.Channels.{listen_each_text}
 use Rattle.pg_listening.specs.Buffers.{BuffersSeen, FailsBy, Hears}
 use Rattle.pg_listening.specs.Listening.{ListeningOf, Starts, buffers_by, learnt_in, stored_behind}
 use Rattle.pg_listening.specs.Leaving.{HeldIs, StartsIn}

@@ -6,3 +6,7 @@ pub mod Leaving
 pub mod Querying
 pub mod Sources
 pub mod Waiting
+pub mod Describing
+pub mod Listeners
+pub mod Channels
+pub mod Changes

@@ -24,9 +24,9 @@ use Rattle.pg_conn.specs.States.{IsCalling, PollFits, turn_of}
 use Rattle.pg_conn.specs.Turns.{PollsWithin}
 use Rattle.pg_learning.specs.declared.learnt.Learnt.{Learnt}
 use Rattle.pg_learning.specs.Learning.{learnt_none}
-use Rattle.pg_listener.specs.declared.changing.ChannelChange.{ChannelChange}
-use Rattle.pg_listener.specs.declared.changing.ChannelChange.TheVariants as changes
-use Rattle.pg_listener.specs.Changes.{changed, statement_of}
+use Rattle.pg_listening.specs.declared.channel_change.ChannelChange.{ChannelChange}
+use Rattle.pg_listening.specs.declared.channel_change.ChannelChange.TheVariants as changes
+use Rattle.pg_listening.specs.Changes.{changed, statement_of}
 use Rattle.pg_listening.specs.Buffers.{BuffersSeen, FailsBy}
 
 -- What holds the connection, where one is held; what was read on those that are lost, and not given yet; the channels, and those that an Ok of the

@@ -1,13 +1,12 @@
 //! How a listener changes its channels.
 ghost use Rattle.std.specs.Prelude.{◌≡◌, ◌≤◌, true, false, [], None, Some, Err, IsSome, OnErr, OnOk, unwrap_or};
-ghost use Rattle.pg_listener.specs.Changes.{changed, listens};
+ghost use Rattle.pg_listening.specs.Changes.{changed, listens};
 ghost use Rattle.pg_listening.specs.Listening.{stored_behind};
 ghost use Rattle.pg_listening.specs.Failing.{CausedBy, CausedOn, beside_of};
 ghost use Rattle.pg_listening.specs.Sources.{IsDialled};
 ghost use Rattle.pg_listening.specs.Hearing.{Changes, HearsBy, channels_at_ok, is_changing, is_stored_first, stored_first};
 
-use crate::{ConnectionSource, Hearing};
-use pg_listener::ChannelChange;
+use crate::{ChannelChange, ConnectionSource, Hearing};
 use pg_wire::{Error, Poll};
 use std::sync::Wait;
 

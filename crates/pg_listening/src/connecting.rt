@@ -207,7 +207,7 @@ where
             Poll::Pending => Poll::Pending,
             Poll::Ready(Err(e)) => Poll::Ready(Err(e)),
             Poll::Ready(Ok(())) => {
-                self.is_ready = self.channels().is_empty();
+                self.is_ready = self.listening.channels().is_empty();
                 Poll::Ready(Ok(()))
             }
         }

@@ -1,17 +1,12 @@
 ghost use Rattle.std.specs.Prelude.{◌≡◌, ◌++◌, [], None, option_to_list};
-ghost use Rattle.pg_conn.specs.States.{TellsStatement};
 ghost use Rattle.pg_listening.specs.Buffers.{buffered};
-ghost use Rattle.pg_listening.specs.Hearing.{HearsBy, buffers_of, fresh_hearing, learnt_of};
+ghost use Rattle.pg_listening.specs.Hearing.{HearsBy, buffers_of, fresh_hearing};
 
-use crate::ConnectionSource;
 use crate::listening::Listening;
-use pg_call::Prepared;
-use pg_conn::PgStatement;
-use pg_listener::ChannelChange;
-use pg_wire::{Error, Notification, Text};
+use crate::{ChannelChange, ConnectionSource};
+use pg_wire::Notification;
 use std::alloc::Global;
 use std::marker::Model;
-use std::mem;
 
 /// A listener but for where its connections come from, which each poll is lent.
 pub struct Hearing<B: ConnectionSource> {
@@ -57,54 +52,6 @@ impl<B: ConnectionSource> Hearing<B> {
             is_eager: true,
             ignores_close,
         }
-    }
-
-    /// Where its memory comes from.
-    pub fn allocator(&self) -> Global {
-        self.alloc
-    }
-
-    /// The channels.
-    pub fn channels(&self) -> &[Text]
-        ensures { result.now ≡ self.now.listening.channels }
-    {
-        self.listening.channels()
-    }
-
-    /// What is told of a statement that was prepared on the connection that is held, by what that one has learnt. Only want of memory refuses it.
-    pub fn statement(&self, prepared: Prepared) -> Result<PgStatement, Error>
-        ensures { TellsStatement (learnt_of B.Held.conn self.now) prepared result }
-    {
-        self.listening.statement(prepared)
-    }
-
-    /// Whether a loss is told behind a reconnect, or else before it.
-    pub fn eager_reconnect(&mut self, yes: bool)
-        ensures { self.new ≡ record self.old { is_eager = yes } }
-    {
-        self.is_eager = yes;
-    }
-
-    /// Whether it listens on where its pool was closed.
-    pub fn ignore_pool_close_event(&mut self, yes: bool)
-        ensures { self.new ≡ record self.old { ignores_close = yes } }
-    {
-        self.ignores_close = yes;
-    }
-
-    /// The links of lost connections and of failed reconnects, in order.
-    pub fn lost(&self) -> &[B::L]
-        ensures { result.now ≡ self.now.lost }
-    {
-        self.lost.as_slice()
-    }
-
-    /// Takes them.
-    pub fn take_lost(&mut self) -> Vec<B::L>
-        ensures lost { result.items ≡ self.old.lost }
-        ensures rest { self.new ≡ record self.old { lost = [] } }
-    {
-        mem::replace(&mut self.lost, Vec::new(self.alloc))
     }
 
     /// Takes the oldest notification that is buffered. It asks nothing of the link.

@@ -93,10 +93,6 @@ impl<
 
     ghost handed_with = { λ _ _. refl };
 
-    fn name(&self) -> u64 {
-        self.pool.pool_ref().name()
-    }
-
     fn find<R: Wait>(
         &mut self,
         rt: &R,

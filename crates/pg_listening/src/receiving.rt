@@ -33,18 +33,11 @@ fn goes_on(before: u16, left: &mut u16) -> bool
 }
 
 impl<B: ConnectionSource> Hearing<B> {
-    // Whether a loss is yet to be told.
-    fn set_lost(&mut self, yes: bool)
+    /// Whether a loss is yet to be told. A call of `poll_try_recv` or `poll_recv` begins with none, and tells no loss of an earlier one.
+    pub(crate) fn set_lost(&mut self, yes: bool)
         ensures { self.new ≡ record self.old { is_lost = yes } }
     {
         self.is_lost = yes;
-    }
-
-    /// A call of `poll_try_recv` or `poll_recv` begins: a loss that an earlier one has not told is told no more.
-    pub fn begin_recv(&mut self)
-        ensures { self.new ≡ record self.old { is_lost = false } }
-    {
-        self.set_lost(false);
     }
 
     // Where the pool was closed, that is an error, unless it is to be ignored.

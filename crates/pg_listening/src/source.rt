@@ -44,10 +44,6 @@ pub trait ConnectionSource {
     /// What is seen of it.
     ghost now: { Self → SourceSeen };
 
-    /// The name of the pool.
-    fn name(&self) -> u64
-        ensures { result ≡ (now self.now).name };
-
     /// A connection that is idle, or else a start-up. Where there is neither, the link that was dialled is handed back.
     fn find<R: Wait>(
         &mut self,

@@ -12,12 +12,12 @@ use Rattle.pg_call.specs.declared.request.Request.{Request}
 use Rattle.pg_conn.specs.Connections.{ConnOf}
 use Rattle.pg_conn.specs.States.{ends_call, turn_of}
 use Rattle.pg_listen.specs.Handed.{FillingOf, HeldOf}
-use Rattle.pg_listener.specs.declared.changing.ChannelChange.{ChannelChange}
+use Rattle.pg_listening.specs.declared.channel_change.ChannelChange.{ChannelChange}
 use Rattle.pg_listening.specs.Listening.{CallsOn, FitsOn}
 use Rattle.pg_listening.specs.Hearing.{HearingOf, is_changing}
 use Rattle.pg_listening.specs.Querying.{IsQuerying, QueriesOn}
 use Rattle.pg_listening.specs.Sources.{SourceSeen}
-use Rattle.pg_listeners.specs.Listeners.{Connects, ListenerOf, Releases, goes_on, goes_on_in}
+use Rattle.pg_listening.specs.Listeners.{Connects, ListenerOf, Releases, goes_on, goes_on_in}
 
 -- it still has its listener
 pub still_connecting : {B C S A : Type 0} (seen : A → LinkSeen) (conn : C → ConnOf A) (with_conn : C → ConnOf A → C) (filling : S → FillingOf A) (of : B → SourceSeen) (a b : Option (ListenerOf B C S A)) → Connects seen conn with_conn filling of a b Pending → IsSome b

@@ -16,7 +16,7 @@
 //!     take          `take_lost`, told by what each link has taken
 //!     lazy          a loss is told before the reconnect
 //!     ignore        it listens on where its pool was closed
-//!     close         its pool is closed by another participant
+//!     close         its pool is closed by another participant, once in a row and behind another call
 //!     stream        as the last one: it is turned into a stream, which is asked three times
 //!     alone         as the first one: the listener has a pool of its own, of which no entries are told
 //!     release       as the last one: `release`

@@ -1,5 +1,5 @@
-//! Cases of connect options, of what a client answers to prove a password, of advisory locks, of listeners, of
-//! scripts, of reports and of migrations.
+//! Cases of connect options, of what a client answers to prove a password, of advisory locks, of scripts, of
+//! reports and of migrations.
 //!
 //! A row is a word that says what is tried, and what it is tried on. Within it, the picture of a line feed, tab, unit separator or delete
 //! stands for that character.
@@ -7,7 +7,6 @@
 mod calls;
 mod drawing;
 mod failures;
-mod listening;
 mod locks;
 mod migrations;
 mod proving;
@@ -45,8 +44,6 @@ enum Tried {
     Md5,
     Key,
     Lock,
-    Channel,
-    Channels,
     Script,
     ScriptBytes,
     Live,
@@ -58,7 +55,7 @@ enum Tried {
     Timed,
 }
 
-static TRIED: [(&str, Tried); 30] = [
+static TRIED: [(&str, Tried); 28] = [
     ("url", Tried::Url),
     ("built", Tried::Built),
     ("settings", Tried::Settings),
@@ -78,8 +75,6 @@ static TRIED: [(&str, Tried); 30] = [
     ("md5", Tried::Md5),
     ("key", Tried::Key),
     ("lock", Tried::Lock),
-    ("channel", Tried::Channel),
-    ("channels", Tried::Channels),
     ("script", Tried::Script),
     ("script-bytes", Tried::ScriptBytes),
     ("live", Tried::Live),
@@ -112,8 +107,6 @@ fn tell(told: &mut String, alloc: Global, tried: Tried, rest: &str) {
         Tried::Md5 => proving::md5_text(told, alloc, rest),
         Tried::Key => locks::key_of_text(told, alloc, rest),
         Tried::Lock => locks::lock_texts(told, rest),
-        Tried::Channel => listening::channel(told, alloc, rest),
-        Tried::Channels => listening::channels(told, alloc, rest),
         Tried::Script => scripts::script(told, alloc, rest.as_bytes()),
         Tried::ScriptBytes => scripts::script_of_bytes(told, alloc, rest),
         Tried::Live => scripts::live(told, alloc, rest),

@@ -7,7 +7,7 @@ use crate::listening::telling::{failed, taken_back};
 use crate::listening::words::{MOST, first};
 use case_tools::Shown;
 use pg_listen::{PoolLedger, PoolSeat};
-use pg_listeners::{ConnectionSource, Listener};
+use pg_listening::{ConnectionSource, Listener};
 use pg_pool::{Pool, Pooled};
 use std::alloc::Global;
 use std::sync::Wait;
@@ -21,6 +21,52 @@ pub(crate) const SQL: &str = "SELECT";
 /// There is no memory for what a call asks.
 pub(crate) const WANTING: &str = " no memory";
 
+// What a word asks of a listener.
+#[derive(Clone, Copy)]
+enum Asked {
+    Recv,
+    Try,
+    Poll,
+    Next,
+    Many,
+    First,
+    Row,
+    Prepare,
+    Describe,
+    Take,
+    Lazy,
+    Ignore,
+    Change,
+    // It is done behind the other calls.
+    Later,
+}
+
+static WORDS: [(&str, Asked); 14] = [
+    ("recv", Asked::Recv),
+    ("try", Asked::Try),
+    ("poll", Asked::Poll),
+    ("next", Asked::Next),
+    ("many", Asked::Many),
+    ("first", Asked::First),
+    ("row", Asked::Row),
+    ("prepare", Asked::Prepare),
+    ("describe", Asked::Describe),
+    ("take", Asked::Take),
+    ("lazy", Asked::Lazy),
+    ("ignore", Asked::Ignore),
+    ("release", Asked::Later),
+    ("stream", Asked::Later),
+];
+
+fn meaning(word: &str) -> Asked {
+    for (name, meaning) in &WORDS {
+        if *name == word {
+            return *meaning;
+        }
+    }
+    Asked::Change
+}
+
 // A call of a row.
 fn make<B, R>(rt: &R, alloc: Global, out: &mut String, listener: &mut Listener<B>, call: &str)
 where
@@ -28,21 +74,21 @@ where
     B::L: Shown + Drop,
     R: Wait,
 {
-    match call {
-        "recv" => receive(rt, out, listener),
-        "try" => try_receive(rt, out, listener, POLLS),
-        "poll" => try_receive(rt, out, listener, 1),
-        "next" => next_buffered(out, listener),
-        "many" => fetch_many(rt, alloc, out, listener),
-        "first" => fetch_optional(rt, alloc, out, listener, false),
-        "row" => fetch_optional(rt, alloc, out, listener, true),
-        "prepare" => prepare(rt, alloc, out, listener),
-        "describe" => describe(rt, alloc, out, listener),
-        "take" => taken_back(out, listener),
-        "lazy" => listener.eager_reconnect(false),
-        "ignore" => listener.ignore_pool_close_event(true),
-        "release" | "stream" => {}
-        call => change_channels(rt, alloc, out, listener, call),
+    match meaning(call) {
+        Asked::Recv => receive(rt, out, listener),
+        Asked::Try => try_receive(rt, out, listener, POLLS),
+        Asked::Poll => try_receive(rt, out, listener, 1),
+        Asked::Next => next_buffered(out, listener),
+        Asked::Many => fetch_many(rt, alloc, out, listener),
+        Asked::First => fetch_optional(rt, alloc, out, listener, false),
+        Asked::Row => fetch_optional(rt, alloc, out, listener, true),
+        Asked::Prepare => prepare(rt, alloc, out, listener),
+        Asked::Describe => describe(rt, alloc, out, listener),
+        Asked::Take => taken_back(out, listener),
+        Asked::Lazy => listener.eager_reconnect(false),
+        Asked::Ignore => listener.ignore_pool_close_event(true),
+        Asked::Change => change_channels(rt, alloc, out, listener, call),
+        Asked::Later => {}
     }
 }
 
@@ -62,39 +108,7 @@ fn close<G: PoolLedger, C: Pooled + Drop, O, R: Wait>(
     }
 }
 
-/// The calls of a row, of which `close` is one of another participant.
-pub(crate) fn make_all<G, C, O, B, R>(
-    rt: &R,
-    alloc: Global,
-    out: &mut String,
-    pool: &Pool<G, C, O>,
-    other: &mut PoolSeat<G>,
-    listener: &mut Listener<B>,
-    calls: &str,
-)
-where
-    G: PoolLedger,
-    C: Pooled + Drop,
-    B: ConnectionSource,
-    B::L: Shown + Drop,
-    R: Wait,
-{
-    let mut rest = calls;
-    for _ in 0..MOST {
-        if rest.is_empty() {
-            break;
-        }
-        let (call, behind) = first(rest, " ");
-        if call == "close" {
-            close(rt, alloc, out, pool, other);
-        } else {
-            make(rt, alloc, out, listener, call);
-        }
-        rest = behind;
-    }
-}
-
-/// The calls of a row on a listener whose pool nobody else has.
+/// The calls of a row.
 pub(crate) fn make_each<B, R>(
     rt: &R,
     alloc: Global,
@@ -115,5 +129,30 @@ where
         let (call, behind) = first(rest, " ");
         make(rt, alloc, out, listener, call);
         rest = behind;
+    }
+}
+
+/// The calls of a row, behind some of which another participant may close the pool.
+pub(crate) fn make_all<G, C, O, B, R>(
+    rt: &R,
+    alloc: Global,
+    out: &mut String,
+    pool: &Pool<G, C, O>,
+    other: &mut PoolSeat<G>,
+    listener: &mut Listener<B>,
+    calls: &str,
+)
+where
+    G: PoolLedger,
+    C: Pooled + Drop,
+    B: ConnectionSource,
+    B::L: Shown + Drop,
+    R: Wait,
+{
+    let (before, behind) = first(calls, " close");
+    make_each(rt, alloc, out, listener, before);
+    if before.len() < calls.len() {
+        close(rt, alloc, out, pool, other);
+        make_each(rt, alloc, out, listener, behind.trim_start());
     }
 }

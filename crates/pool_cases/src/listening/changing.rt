@@ -1,12 +1,12 @@
 //! The calls of a listener that change its channels.
 ghost use Rattle.std.specs.Prelude.{◌≡◌, true, false};
-ghost use Rattle.pg_listeners.specs.Listeners.{goes_on};
+ghost use Rattle.pg_listening.specs.Listeners.{goes_on};
 
 use crate::listening::calls::{POLLS, WANTING};
-use crate::listening::telling::{changed, push};
+use crate::listening::telling::{changed, pending, push};
 use crate::listening::words::{MOST, first};
-use pg_listeners::{Changing, ChannelChange, ConnectionSource, Listener};
-use pg_wire::{Error, Poll, Sequence, Text};
+use pg_listening::{Changing, ChannelChange, ConnectionSource, Listener};
+use pg_wire::{Poll, Sequence, Text};
 use std::alloc::{AllocError, Global};
 use std::sync::Wait;
 
@@ -57,27 +57,6 @@ where
     }
 }
 
-/// Changes the channels.
-pub(crate) fn change<B, R>(
-    rt: &R,
-    listener: &mut Listener<B>,
-    change: ChannelChange,
-) -> Poll<Result<(), Error>>
-where
-    B: ConnectionSource,
-    B::L: Drop,
-    R: Wait,
-{
-    let mut state = begin(listener, change);
-    for _ in 0..POLLS {
-        match state.poll(rt) {
-            Poll::Pending => {}
-            answer => return answer,
-        }
-    }
-    Poll::Pending
-}
-
 /// Changes the channels as a word says.
 pub(crate) fn change_channels<B, R>(
     rt: &R,
@@ -91,8 +70,15 @@ where
     B::L: Drop,
     R: Wait,
 {
-    match change_of(alloc, call) {
-        Ok(asked) => changed(out, change(rt, listener, asked)),
-        Err(_) => push(out, WANTING),
+    let Ok(change) = change_of(alloc, call) else {
+        return push(out, WANTING);
+    };
+    let mut state = begin(listener, change);
+    for _ in 0..POLLS {
+        match state.poll(rt) {
+            Poll::Pending => {}
+            Poll::Ready(answer) => return changed(out, answer),
+        }
     }
+    pending(out);
 }

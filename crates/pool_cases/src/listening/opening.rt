@@ -7,7 +7,7 @@ use crate::listening::words::{MOST, first};
 use case_tools::{link, push_link, read_event};
 use pg_conn::MemoryDial;
 use pg_listen::Released;
-use pg_listeners::{Connecting, ConnectionSource, Listener};
+use pg_listening::{Connecting, ConnectionSource, Listener};
 use pg_stream::{MemoryLink, ReadEvent};
 use pg_wire::{Blob, Error, Poll, Sequence};
 use std::alloc::Global;

@@ -1,27 +1,27 @@
 //! The queries of a listener.
 ghost use Rattle.std.specs.Prelude.{◌≡◌, false};
 
-use crate::listening::calls::{POLLS, SQL, WANTING};
-use crate::listening::telling::{counted, failed, pending, push, shown};
+use crate::listening::calls::{POLLS, SQL};
+use crate::listening::telling::{counted, failed, pending, shown};
 use either::Either;
 use pg_conn::{PgQueryResult, PgRow, Query};
-use pg_listeners::{ConnectionSource, Listener};
-use pg_wire::Poll;
+use pg_listening::{ConnectionSource, Listener};
+use pg_wire::{Poll, Text};
 use std::alloc::Global;
 use std::sync::Wait;
 
-// The query of a call, by a statement that is kept or not.
-fn query(alloc: Global, is_kept: bool) -> Option<Query> {
+// The query of a call, by a statement that is kept or not. Where there is no memory for it, an empty one is asked, and answers otherwise.
+fn query(alloc: Global, is_kept: bool) -> Query {
     let query = if is_kept {
         Query::new(alloc, SQL)
     } else {
         Query::raw(alloc, SQL)
     };
     match query {
-        Ok(query) => Some(query),
+        Ok(query) => query,
         Err(error) => {
             drop(error);
-            None
+            Query::from_text(Text::new(alloc))
         }
     }
 }
@@ -39,10 +39,7 @@ where
     B::L: Drop,
     R: Wait,
 {
-    let Some(asked) = query(alloc, is_kept) else {
-        return push(out, WANTING);
-    };
-    let mut state = listener.fetch_optional(asked);
+    let mut state = listener.fetch_optional(query(alloc, is_kept));
     for _ in 0..POLLS {
         match state.poll(rt) {
             Poll::Pending => {}
@@ -70,11 +67,8 @@ where
     B::L: Drop,
     R: Wait,
 {
-    let Some(asked) = query(alloc, false) else {
-        return push(out, WANTING);
-    };
     let mut rows: u64 = 0;
-    let mut state = listener.fetch_many(asked);
+    let mut state = listener.fetch_many(query(alloc, false));
     for _ in 0..POLLS {
         match state.poll_next(rt) {
             Poll::Pending => {}

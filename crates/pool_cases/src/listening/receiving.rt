@@ -3,16 +3,12 @@ ghost use Rattle.std.specs.Prelude.{◌≡◌, false};
 
 use crate::listening::calls::POLLS;
 use crate::listening::telling::{buffered, pending, received, streamed, tried};
-use pg_listeners::{ConnectionSource, Listener, NotificationStream, PgNotification};
-use pg_wire::{Error, Poll};
+use pg_listening::{ConnectionSource, Listener, NotificationStream};
+use pg_wire::Poll;
 use std::sync::Wait;
 
 /// What `try_recv` answers within so many polls.
-pub(crate) fn try_recv<B, R>(
-    rt: &R,
-    listener: &mut Listener<B>,
-    polls: u32,
-) -> Poll<Result<Option<PgNotification>, Error>>
+pub(crate) fn try_receive<B, R>(rt: &R, out: &mut String, listener: &mut Listener<B>, polls: u32)
 where
     B: ConnectionSource,
     B::L: Drop,
@@ -22,19 +18,10 @@ where
     for _ in 0..polls {
         match state.poll(rt) {
             Poll::Pending => {}
-            answer => return answer,
+            Poll::Ready(answer) => return tried(out, answer),
         }
     }
-    Poll::Pending
-}
-
-pub(crate) fn try_receive<B, R>(rt: &R, out: &mut String, listener: &mut Listener<B>, polls: u32)
-where
-    B: ConnectionSource,
-    B::L: Drop,
-    R: Wait,
-{
-    tried(out, try_recv(rt, listener, polls));
+    pending(out);
 }
 
 pub(crate) fn receive<B, R>(rt: &R, out: &mut String, listener: &mut Listener<B>)

@@ -1,9 +1,9 @@
 //! A row, over a pool of one connection.
 ghost use Rattle.std.specs.Prelude.{◌≡◌, true, false, IsSome};
-ghost use Rattle.pg_listeners.specs.Listeners.{goes_on_in};
+ghost use Rattle.pg_listening.specs.Listeners.{goes_on_in};
 
 use crate::listening::calls::{POLLS, make_all, make_each};
-use crate::listening::live::hear_on;
+use crate::listening::live::hear;
 use crate::listening::opening::{connect, dial, let_go};
 use crate::listening::receiving::next;
 use crate::listening::telling::{failed, history, lost, pending, released};
@@ -12,7 +12,7 @@ use crate::rows::{NAME, pair, pool};
 use case_tools::Shown;
 use pg_conn::{Dial, MemoryDial};
 use pg_listen::{PgPool, PoolLedger, PoolSeat};
-use pg_listeners::{Connecting, ConnectionSource, Listener, Releasing, connect_with};
+use pg_listening::{Connecting, ConnectionSource, Listener, Releasing, connect_with};
 use pg_options::PgSettings;
 use pg_pool::{Pool, Pooled};
 use pg_stream::MemoryLink;
@@ -27,12 +27,12 @@ const NEXT: u32 = 3;
 
 const URL: &str = "postgres://u@h/d";
 
-/// A server, and what is done with a listener there: the calls of a row, or else it tells what it hears on a channel.
+/// A server, the calls of a row that are made on a listener there, and whether it tells behind them what it hears.
 #[derive(Clone, Copy)]
 pub(crate) struct Place<'a> {
     pub(crate) url: &'a str,
     pub(crate) calls: &'a str,
-    pub(crate) channel: Option<&'a str>,
+    pub(crate) hears: bool,
 }
 
 // Ends a listener by its stream.
@@ -205,12 +205,11 @@ where
     match connect(rt, state) {
         Ok(listener) => {
             let mut listener = listener;
-            let done = match place.channel {
-                Some(channel) => hear_on(rt, alloc, &mut listener, channel),
-                None => {
-                    make_each(rt, alloc, out, &mut listener, place.calls);
-                    Ok(())
-                }
+            make_each(rt, alloc, out, &mut listener, place.calls);
+            let done = if place.hears {
+                hear(rt, out, &mut listener)
+            } else {
+                Ok(())
             };
             end_at_once(rt, out, listener);
             done
@@ -238,7 +237,7 @@ where
     requires parts { (blank.parts ≡ G.parts) × (blank.parts ≡ 1) }
 {
     let settings = PgSettings::empty();
-    let begun = pg_listeners::connect::<G, D>(alloc, NAME, &settings, place.url, blank, dial);
+    let begun = pg_listening::connect::<G, D>(alloc, NAME, &settings, place.url, blank, dial);
     drop(settings);
     match begun {
         Ok(state) => play_alone(rt, alloc, out, state, place),
@@ -254,7 +253,7 @@ fn in_memory(calls: &str) -> Place<'_> {
     Place {
         url: URL,
         calls,
-        channel: None,
+        hears: false,
     }
 }
 

@@ -1,13 +1,21 @@
 //! Statements that a listener prepares and describes, and what is told of them.
 ghost use Rattle.std.specs.Prelude.{◌≡◌};
 
-use crate::listening::calls::{POLLS, SQL, WANTING};
+use crate::listening::calls::{POLLS, SQL};
 use crate::listening::telling::{failed, pending, push};
 use pg_conn::{ColumnOrigin, PgColumn, PgStatement, Preparation};
-use pg_listeners::{ConnectionSource, Describe, Listener};
+use pg_listening::{ConnectionSource, Describe, Listener};
 use pg_wire::{Error, Poll, Text};
 use std::alloc::Global;
 use std::sync::Wait;
+
+// The statement of a call. Where there is no memory for it, an empty one is asked, and answers otherwise.
+fn statement(alloc: Global) -> Text {
+    match Text::from_str(alloc, SQL) {
+        Ok(text) => text,
+        Err(_) => Text::new(alloc),
+    }
+}
 
 /// Prepares a statement.
 pub(crate) fn prepare<B, R>(rt: &R, alloc: Global, out: &mut String, listener: &mut Listener<B>)
@@ -16,10 +24,7 @@ where
     B::L: Drop,
     R: Wait,
 {
-    let Ok(sql) = Text::from_str(alloc, SQL) else {
-        return push(out, WANTING);
-    };
-    let preparation = Preparation::untyped(alloc, sql);
+    let preparation = Preparation::untyped(alloc, statement(alloc));
     let mut state = listener.prepare_with(preparation);
     for _ in 0..POLLS {
         match state.poll(rt) {
@@ -37,10 +42,7 @@ where
     B::L: Drop,
     R: Wait,
 {
-    let Ok(sql) = Text::from_str(alloc, SQL) else {
-        return push(out, WANTING);
-    };
-    let mut state = listener.describe(sql);
+    let mut state = listener.describe(statement(alloc));
     for _ in 0..POLLS {
         match state.poll(rt) {
             Poll::Pending => {}

@@ -3,8 +3,8 @@ use crate::listening::statements::push_columns;
 use case_tools::{Shown, push_byte, push_error};
 use pg_conn::PgRow;
 use pg_listen::{PoolSeat, Released};
-use pg_listeners::{ConnectionSource, Listener, PgNotification};
-use pg_wire::{Error, Poll};
+use pg_listening::{ConnectionSource, Listener, PgNotification};
+use pg_wire::Error;
 use std::sync::ledger::Ledger;
 
 // What a client sends first.
@@ -34,12 +34,11 @@ fn payload(out: &mut String, told: PgNotification) {
 }
 
 /// What `try_recv` answers.
-pub(crate) fn tried(out: &mut String, answer: Poll<Result<Option<PgNotification>, Error>>) {
+pub(crate) fn tried(out: &mut String, answer: Result<Option<PgNotification>, Error>) {
     match answer {
-        Poll::Pending => pending(out),
-        Poll::Ready(Ok(Some(told))) => payload(out, told),
-        Poll::Ready(Ok(None)) => push(out, " none"),
-        Poll::Ready(Err(error)) => failed(out, error),
+        Ok(Some(told)) => payload(out, told),
+        Ok(None) => push(out, " none"),
+        Err(error) => failed(out, error),
     }
 }
 
@@ -60,11 +59,10 @@ pub(crate) fn streamed(out: &mut String, answer: Option<Result<PgNotification, E
 }
 
 /// What a change of the channels answers.
-pub(crate) fn changed(out: &mut String, answer: Poll<Result<(), Error>>) {
+pub(crate) fn changed(out: &mut String, answer: Result<(), Error>) {
     match answer {
-        Poll::Pending => pending(out),
-        Poll::Ready(Ok(())) => push(out, " ok"),
-        Poll::Ready(Err(error)) => failed(out, error),
+        Ok(()) => push(out, " ok"),
+        Err(error) => failed(out, error),
     }
 }
 

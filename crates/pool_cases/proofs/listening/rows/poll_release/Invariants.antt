@@ -1,5 +1,5 @@
 use Rattle.std.proofs.Common.{◌≡◌, false, true}
-use Rattle.pg_listeners.specs.Listeners.{goes_on_in}
+use Rattle.pg_listening.specs.Listeners.{goes_on_in}
 use Rattle.pool_cases.proofs.listening.rows.poll_release.Given as goal
 
 abbrev pub invariant-loop : goal.invariant-loop

@@ -1,5 +1,5 @@
 use Rattle.std.proofs.Common.{◌≡◌, false}
-use Rattle.pg_listeners.specs.Describing.{IsDescribing}
+use Rattle.pg_listening.specs.Describing.{IsDescribing}
 use Rattle.pool_cases.proofs.listening.statements.describe.Given as goal
 
 abbrev pub invariant-loop : goal.invariant-loop

@@ -1,6 +1,0 @@
-mod AloneLaws
-mod AnswerLaws
-mod BesideLaws
-mod ConnectingLaws
-mod DescribingLaws
-mod ReleasingLaws

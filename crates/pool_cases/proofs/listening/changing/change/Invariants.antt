@@ -1,9 +1,0 @@
-use Rattle.std.proofs.Common.{◌≡◌, false, true}
-use Rattle.pg_listeners.specs.Listeners.{goes_on}
-use Rattle.pool_cases.proofs.listening.changing.change.Given as goal
-
-abbrev pub invariant-loop : goal.invariant-loop
-invariant-loop g l = record {
-  over : l.state.is_over ≡ false;
-  goes : goes_on l.state.change l.state.listener.now.hearing ≡ true;
-}
