@@ -82,7 +82,9 @@ def fall(first):
     return last + 1
 
 
-listener = subprocess.Popen([program, url, 'listen', 'numbers'], stdout=subprocess.PIPE, text=True)
+listener = subprocess.Popen([program, url], stdin=subprocess.PIPE, stdout=subprocess.PIPE, text=True)
+listener.stdin.write('numbers listen:numbers | \n')
+listener.stdin.close()
 threading.Thread(target=read, daemon=True).start()
 begun = time.monotonic()
 next_number, standing = 1, []
@@ -95,7 +97,7 @@ psql("SELECT pg_notify('numbers', 'end')")
 until(lambda: 'over' in heard, 'it ends')
 
 runs = [[]]
-for line in heard[1:-2]:
+for line in heard[1:-3]:
     if line == 'none':
         runs.append([])
     elif line.isdigit():
@@ -105,7 +107,7 @@ for line in heard[1:-2]:
 numbers = [number for run in runs for number in run]
 missing = next_number - 1 - len(numbers)
 print(f'sent {next_number - 1}, heard {len(numbers)}, losses {len(runs) - 1}, missing where a connection was lost {missing}, {time.monotonic() - begun:.0f} seconds')
-if heard[0] != 'ok' or heard[-2] != 'end' or len(runs) != LOSSES + 1:
+if heard[0] != 'ok' or heard[-3] != 'end' or not heard[-2].startswith('numbers:') or len(runs) != LOSSES + 1:
     sys.exit('not so: it listens, each loss is told once, and the end is heard')
 if numbers != sorted(set(numbers)):
     sys.exit('not so: none comes twice or out of order')

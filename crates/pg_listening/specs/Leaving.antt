@@ -15,6 +15,7 @@ use Rattle.pg_conn.specs.Dials.{IsUncalled}
 use Rattle.pg_conn.specs.News.{with_kept}
 use Rattle.pg_pool.specs.Seats.{SeatSeen}
 use Rattle.pg_pool.specs.PoolHistory.{without}
+use Rattle.pg_pool.specs.declared.handed.Released.TheVariants as released
 use Rattle.pg_pool.specs.Sections.{ClosedAt, IsAdded, IsLeft, Releases, is_held}
 use Rattle.pg_listen.specs.Handed.{FillingOf, HeldOf, ReleasedOf, TicketSeen}
 use Rattle.pg_listen.specs.Pools.{CoreOf, Section}
@@ -37,6 +38,12 @@ abbrev pub GivesBack : {A : Type 0} → ℕ → SeatSeen → SeatSeen → Option
 GivesBack most s t None None = Unit {0}
 GivesBack most s t (Some held) (Some released) = Section most (λ a b. Releases is_clean s t a b held released)
 GivesBack most s t held released = ⊥
+
+-- the link of a connection that the pool keeps no longer
+abbrev pub link_back : {A : Type 0} → Option (ReleasedOf A) → Option A
+link_back (Some (released.Foreign conn)) = Some conn.stream.link
+link_back (Some (released.Closed conn)) = Some conn.stream.link
+link_back answer = None
 
 -- it is of this pool
 abbrev pub HeldIs : {C A : Type 0} → (C → HeldOf A) → ℕ → Option C → Type 0
@@ -103,6 +110,12 @@ abbrev pub RefusesClosed : {A : Type 0} → SeatSeen → SeatSeen → CoreOf A �
 RefusesClosed s t a b (Ok u) = ClosedAt s t a b (Ok None)
 RefusesClosed s t a b (Err (errors.PoolClosed place)) = ClosedAt s t a b (Ok (Some place))
 RefusesClosed s t a b (Err e) = ClosedAt s t a b (Err e)
+
+-- that the pool was closed, as an error
+abbrev pub as_refusal : Result (Option ℕ) Error → Result (Unit {0}) Error
+as_refusal (Ok (Some place)) = Err (errors.PoolClosed place)
+as_refusal (Ok None) = Ok tt
+as_refusal (Err e) = Err e
 
 -- what is noted of a pool that was closed: an entry of this participant stands at this place of its history, and its last receipt is for this entry
 abbrev pub NotesClosed : (A : Type 0) → ℕ → SeatSeen → Error → Type 0

@@ -122,6 +122,10 @@ Connects {B} {C} {S} {A} seen conn with_conn filling now (Some a) (Some b) (Read
 Connects seen conn with_conn filling now (Some a) (Some b) Pending = IsHeardOn seen conn a b × ((left : ℕ) × WaitsBy seen conn filling 256 left a.hearing b.hearing)
 Connects seen conn with_conn filling now (Some a) after answer = ⊥
 
+-- it listens on where its pool was closed
+abbrev pub ignoring_close : {B C S A : Type 0} → ListenerOf B C S A → ListenerOf B C S A
+ignoring_close l = record l { hearing = record l.hearing { ignores_close = true } }
+
 -- the first participant of a pool of this name, which has called nothing yet
 abbrev pub IsFirst : ℕ → SeatSeen → Type 0
 IsFirst name s = (s.number ≡ 0) × (s.name ≡ name) × (s.receipts ≡ []) × (s.ids ≡ [])

@@ -4,8 +4,7 @@ ghost use Rattle.pg_options.specs.FromUrl.{options_of_text};
 ghost use Rattle.pg_wire.specs.declared.error.Error.TheVariants.{OutOfMemory};
 ghost use Rattle.pg_listening.specs.Listeners.{BeginsAlone, IsFirst};
 
-use crate::beginning::begin;
-use crate::{Connect, PoolSource};
+use crate::{Connect, connect_with};
 use pg_conn::Dial;
 use pg_listen::{PgPool, PgPoolOptions, PoolLedger, PoolSeat};
 use pg_options::{PgConnectOptions, PgSettings};
@@ -64,7 +63,11 @@ where
         Err(e) => return Err((e, dial)),
     };
     match pool_of_one(alloc, name, options, blank) {
-        Ok((pool, seat)) => Ok(begin(alloc, name, PoolSource::new(pool, seat, dial), true)),
+        Ok((pool, seat)) => {
+            let mut state = connect_with(alloc, pool, seat, dial);
+            state.ignore_close();
+            Ok(state)
+        }
         Err(e) => Err((e, dial)),
     }
 }

@@ -1,8 +1,8 @@
 //! How a listener begins.
-ghost use Rattle.std.specs.Prelude.{◌≡◌, true, false, None, Some, IsSome, is_some};
+ghost use Rattle.std.specs.Prelude.{◌≡◌, true, false, None, Some, IsSome, is_some, option_map};
 ghost use Rattle.pg_listening.specs.Hearing.{fresh_hearing};
 ghost use Rattle.pg_listening.specs.Sources.{pool_source};
-ghost use Rattle.pg_listening.specs.Listeners.{Connects, HandsOn, LetsGo, holds, is_answered};
+ghost use Rattle.pg_listening.specs.Listeners.{Connects, HandsOn, LetsGo, holds, ignoring_close, is_answered};
 
 use crate::{ConnectionSource, Hearing, Listener, PgListener, PoolHolder, PoolSource, SeatHolder};
 use pg_conn::Dial;
@@ -20,24 +20,6 @@ pub struct Connecting<W> {
     is_over: bool,
 }
 
-// A listener over these connections, of the pool of this name, which has none yet.
-pub(crate) fn begin<B: ConnectionSource>(
-    alloc: Global,
-    name: u64,
-    source: B,
-    ignores_close: bool,
-) -> Connecting<Listener<B>>
-    requires { name ≡ (B.now source).name }
-    ensures listener { result.listener ≡ Some (record { source = source; hearing = fresh_hearing (B.now source).name ignores_close }) }
-    ensures over { result.is_over ≡ false }
-{
-    let hearing = Hearing::new(alloc, name, ignores_close);
-    Connecting {
-        listener: Some(Listener { source, hearing }),
-        is_over: false,
-    }
-}
-
 /// A listener on a pool that it is lent, with a participant of it.
 pub fn connect_with<
     G: PoolLedger,
@@ -49,8 +31,12 @@ pub fn connect_with<
     ensures listener { result.listener ≡ Some (record { source = pool_source P.pool S.seat D.seen G.most pool seat dial; hearing = fresh_hearing (P.pool pool).name false }) }
     ensures over { result.is_over ≡ false }
 {
-    let name = pool.pool_ref().name();
-    begin(alloc, name, PoolSource::new(pool, seat, dial), false)
+    let hearing = Hearing::new(alloc, pool.pool_ref().name(), false);
+    let source = PoolSource::new(pool, seat, dial);
+    Connecting {
+        listener: Some(Listener { source, hearing }),
+        is_over: false,
+    }
 }
 
 impl<W> Connecting<W> {
@@ -76,6 +62,16 @@ impl<W> Connecting<W> {
 }
 
 impl<B: ConnectionSource> Connecting<Listener<B>> {
+    // It is to listen on where its pool was closed.
+    pub(crate) fn ignore_close(&mut self)
+        ensures { self.new ≡ record self.old { listener = option_map ignoring_close self.old.listener } }
+    {
+        match &mut self.listener {
+            Some(listener) => listener.ignore_pool_close_event(true),
+            None => {}
+        }
+    }
+
     /// Gives it up: lets a connection go as it stands, or gives the leave to make one back. There is no answer exactly where no connection is held.
     pub fn into_released<R: Wait>(self, rt: &R) -> Option<Released<B::L>>
     where

@@ -3,6 +3,7 @@ ghost use Rattle.std.specs.Prelude.{◌≡◌, refl};
 ghost use Rattle.pg_listening.specs.Sources.{pool_source};
 
 use crate::dialling::fill;
+use crate::handing::{as_refusal, link_back};
 use crate::starting::{give_up, with_link};
 use crate::{ConnectionSource, Found, PoolHolder, SeatHolder};
 use pg_conn::Dial;
@@ -141,12 +142,7 @@ impl<
     fn close<R: Wait>(&mut self, rt: &R, held: &mut Option<PoolConnection<D::L>>) -> Option<D::L> {
         let Some(conn) = held else { return None };
         conn.close_on_drop();
-        match self.release(rt, held) {
-            Some(Released::Foreign(conn)) => Some(conn.close_hard()),
-            Some(Released::Closed(conn)) => Some(conn.close_hard()),
-            Some(Released::Kept) => unreachable!(),
-            None => unreachable!(),
-        }
+        link_back(self.release(rt, held))
     }
 
     fn release<R: Wait>(
@@ -167,10 +163,6 @@ impl<
     fn refuse_closed<R: Wait>(&mut self, rt: &R) -> Result<(), Error> {
         let pool = self.pool.pool_ref();
         let seat = self.seat.seat_mut();
-        match pool.closed_place(rt, seat) {
-            Ok(Some(place)) => Err(Error::PoolClosed { place }),
-            Ok(None) => Ok(()),
-            Err(e) => Err(e),
-        }
+        as_refusal(pool.closed_place(rt, seat))
     }
 }

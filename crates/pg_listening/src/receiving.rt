@@ -148,37 +148,6 @@ where
         }
     }
 
-    // The same over a connection that listens to all of the channels, where no notification is buffered: a pool that was closed is told first.
-    #[tactic(auto, using(crate::proofs::HearingLaws::hears_nothing, crate::proofs::HearingLaws::hears_without, crate::proofs::BufferingLaws::hears_behind, crate::proofs::TellingLaws::untold_same, crate::proofs::TellingLaws::untold_by, crate::proofs::TellingLaws::hears_same, crate::proofs::TellingLaws::tells_later, crate::proofs::TellingLaws::tells_same, crate::proofs::TellingLaws::gives_first, crate::proofs::TellingLaws::gives_none, crate::proofs::SourceLaws::dialled, crate::proofs::SourceLaws::dialled_then))]
-    fn poll_unbuffered<R: Wait>(
-        &mut self,
-        rt: &R,
-        source: &mut B,
-        left: &mut u16,
-    ) -> Poll<Result<Option<Notification>, Error>>
-        requires mine { self.old.name ≡ (B.now source.old).name }
-        requires left { left.old ≤ 256 }
-        ensures hears { HearsBy B.L.seen B.Held.conn self.old self.new (gave_by result) }
-        ensures channels { self.new.listening.channels ≡ self.old.listening.channels }
-        ensures source { IsDialled (B.now source.old) (B.now source.new) }
-        ensures left { left.new ≤ left.old }
-        ensures loss { TellsLoss B.L.seen B.Held.conn self.old self.new result }
-        ensures startup { OnReady result (StartsFrom B.L.seen B.filling self.old.startup self.new.startup) }
-        ensures again { OnNone result (self.old.is_eager ≡ true → ListensAgain B.L.seen B.Held.conn B.Held.with_conn self.old.listening.channels self.new) }
-        ensures causes { CausedBy B.L.seen B.Held.conn B.Held.with_conn B.filling (beside_of (B.now source.old) (B.now source.new)) left.old left.new self.old self.new result }
-        ensures asks { self.old.ignores_close ≡ false → AsksClosed B.L (B.now source.old).most (B.now source.old).seat result }
-    {
-        match self.refuse_closed(rt, source) {
-            Ok(()) => {}
-            Err(e) => return Poll::Ready(Err(e)),
-        }
-        match self.poll_connected(rt, source, left) {
-            Poll::Pending => Poll::Pending,
-            Poll::Ready(Err(e)) => Poll::Ready(Err(e)),
-            Poll::Ready(Ok(())) => self.poll_news(rt, source, left),
-        }
-    }
-
     /// Gives the oldest notification that is buffered. Where none is, and the pool was closed, it answers `PoolClosed`, unless that is to be ignored;
     /// else it waits for one, over a connection that listens to all of the channels. `None` tells, once, that the connection was lost.
     #[tactic(auto, using(crate::proofs::HearingLaws::hears_nothing, crate::proofs::HearingLaws::hears_without, crate::proofs::BufferingLaws::hears_behind, crate::proofs::TellingLaws::untold_same, crate::proofs::TellingLaws::untold_by, crate::proofs::TellingLaws::hears_same, crate::proofs::TellingLaws::tells_later, crate::proofs::TellingLaws::tells_same, crate::proofs::TellingLaws::gives_first, crate::proofs::TellingLaws::gives_none, crate::proofs::SourceLaws::dialled, crate::proofs::SourceLaws::dialled_then))]
@@ -206,8 +175,17 @@ where
             return self.poll_loss(rt, source, left);
         }
         match self.next_buffered() {
-            Some(notification) => Poll::Ready(Ok(Some(notification))),
-            None => self.poll_unbuffered(rt, source, left),
+            Some(notification) => return Poll::Ready(Ok(Some(notification))),
+            None => {}
+        }
+        match self.refuse_closed(rt, source) {
+            Ok(()) => {}
+            Err(e) => return Poll::Ready(Err(e)),
+        }
+        match self.poll_connected(rt, source, left) {
+            Poll::Pending => Poll::Pending,
+            Poll::Ready(Err(e)) => Poll::Ready(Err(e)),
+            Poll::Ready(Ok(())) => self.poll_news(rt, source, left),
         }
     }
 

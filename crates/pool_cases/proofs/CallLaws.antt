@@ -11,13 +11,13 @@ use Rattle.pg_call.specs.declared.kind.Kind.{Kind}
 use Rattle.pg_call.specs.declared.request.Request.{Request}
 use Rattle.pg_conn.specs.Connections.{ConnOf}
 use Rattle.pg_conn.specs.States.{ends_call, turn_of}
-use Rattle.pg_listen.specs.Handed.{FillingOf, HeldOf}
+use Rattle.pg_listen.specs.Handed.{FillingOf}
 use Rattle.pg_listening.specs.declared.channel_change.ChannelChange.{ChannelChange}
 use Rattle.pg_listening.specs.Listening.{CallsOn, FitsOn}
 use Rattle.pg_listening.specs.Hearing.{HearingOf, is_changing}
 use Rattle.pg_listening.specs.Querying.{IsQuerying, QueriesOn}
 use Rattle.pg_listening.specs.Sources.{SourceSeen}
-use Rattle.pg_listening.specs.Listeners.{Connects, ListenerOf, Releases, goes_on, goes_on_in}
+use Rattle.pg_listening.specs.Listeners.{Connects, ListenerOf, goes_on}
 
 -- it still has its listener
 pub still_connecting : {B C S A : Type 0} (seen : A → LinkSeen) (conn : C → ConnOf A) (with_conn : C → ConnOf A → C) (filling : S → FillingOf A) (of : B → SourceSeen) (a b : Option (ListenerOf B C S A)) → Connects seen conn with_conn filling of a b Pending → IsSome b
@@ -28,11 +28,6 @@ still_connecting seen conn with_conn filling of (Some a) (Some b) is = refl
 -- it is still to be polled
 pub still_changing : {C S A : Type 0} (change : Option ChannelChange) (h : HearingOf C S A) → change ≡ None → is_changing h ≡ true → goes_on change h ≡ true
 still_changing change h begun is = rw begun is
-
-pub still_releasing : {B C S A : Type 0} (seen : A → LinkSeen) (conn : C → ConnOf A) (with_conn : C → ConnOf A → C) (handed : C → HeldOf A) (filling : S → FillingOf A) (of : B → SourceSeen) (change : Option ChannelChange) (a b : Option (ListenerOf B C S A)) → change ≡ None → Releases seen conn with_conn handed filling of a b Pending → goes_on_in change b ≡ true
-still_releasing seen conn with_conn handed filling of change None b begun is = absurd is
-still_releasing seen conn with_conn handed filling of change (Some a) None begun is = absurd is
-still_releasing seen conn with_conn handed filling of change (Some a) (Some b) begun is = still_changing change b.hearing begun is.1
 
 -- its call runs on behind an item
 item_fits : {C A : Type 0} (conn : C → ConnOf A) (kind : Kind) (item : CallItem) (held : Option C) → FitsOn conn kind held (Ready (turns.Item item)) → CallsOn conn kind held

@@ -7,7 +7,6 @@ use pg_listening::{ConnectionSource, Listener};
 use pg_wire::{Error, IoCause};
 use rand::rngs::SysRng;
 use std::alloc::Global;
-use std::io;
 use std::marker::Brand;
 use std::net::{Net, TcpListener, TcpStream};
 use std::random::RandomSource;
@@ -36,22 +35,22 @@ where
     Ok(())
 }
 
-/// A listener on this channel of the server of this URL, over a pool of its own.
-pub(crate) fn live<R>(rt: &R, alloc: Global, url: &str, channel: &str) -> io::Result<()>
+/// A listener on the server of this URL, over a pool of its own, which tells behind these calls what it hears.
+pub(crate) fn on_server<R>(
+    rt: &R,
+    alloc: Global,
+    out: &mut String,
+    url: &str,
+    calls: &str,
+) -> Result<(), Error>
 where
     R: Wait + Print + Net<Listener = TcpListener, Stream = TcpStream> + RandomSource,
 {
-    let mut calls = String::new(alloc);
-    let _ = write!(calls, "listen:{channel}");
     let place = Place {
         url,
-        calls: calls.as_str(),
+        calls,
         hears: true,
     };
-    let mut out = String::new(alloc);
     let dial = SocketDial::new(alloc, rt, SysRng::new(rt));
-    match alone::<Brand, _, R>(rt, alloc, &mut out, place, Blank::new(1), dial) {
-        Ok(()) => Ok(()),
-        Err(error) => println!(rt; "{error:?}"),
-    }
+    alone::<Brand, _, R>(rt, alloc, out, place, Blank::new(1), dial)
 }

@@ -40,13 +40,10 @@ where
     R: Wait,
 {
     let mut state = listener.fetch_optional(query(alloc, is_kept));
-    for _ in 0..POLLS {
-        match state.poll(rt) {
-            Poll::Pending => {}
-            Poll::Ready(answer) => return shown(out, answer, is_kept),
-        }
+    match state.poll(rt) {
+        Poll::Pending => pending(out),
+        Poll::Ready(answer) => shown(out, answer, is_kept),
     }
-    pending(out);
 }
 
 // How many rows an item is.

@@ -1,7 +1,6 @@
 //! The calls by which a listener hears.
 ghost use Rattle.std.specs.Prelude.{◌≡◌, false};
 
-use crate::listening::calls::POLLS;
 use crate::listening::telling::{buffered, pending, received, streamed, tried};
 use pg_listening::{ConnectionSource, Listener, NotificationStream};
 use pg_wire::Poll;
@@ -31,13 +30,10 @@ where
     R: Wait,
 {
     let mut state = listener.recv();
-    for _ in 0..POLLS {
-        match state.poll(rt) {
-            Poll::Pending => {}
-            Poll::Ready(answer) => return received(out, answer),
-        }
+    match state.poll(rt) {
+        Poll::Pending => pending(out),
+        Poll::Ready(answer) => received(out, answer),
     }
-    pending(out);
 }
 
 /// What was read before.
@@ -52,11 +48,8 @@ where
     B::L: Drop,
     R: Wait,
 {
-    for _ in 0..POLLS {
-        match stream.poll_next(rt) {
-            Poll::Pending => {}
-            Poll::Ready(answer) => return streamed(out, answer),
-        }
+    match stream.poll_next(rt) {
+        Poll::Pending => pending(out),
+        Poll::Ready(answer) => streamed(out, answer),
     }
-    pending(out);
 }

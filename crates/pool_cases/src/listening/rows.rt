@@ -1,9 +1,8 @@
 //! A row, over a pool of one connection.
 ghost use Rattle.std.specs.Prelude.{◌≡◌, true, false, IsSome};
-ghost use Rattle.pg_listening.specs.Listeners.{goes_on_in};
 
-use crate::listening::calls::{POLLS, make_all, make_each};
-use crate::listening::live::hear;
+use crate::listening::calls::{make_all, make_each};
+use crate::listening::live::{hear, on_server};
 use crate::listening::opening::{connect, dial, let_go};
 use crate::listening::receiving::next;
 use crate::listening::telling::{failed, history, lost, pending, released};
@@ -12,13 +11,15 @@ use crate::rows::{NAME, pair, pool};
 use case_tools::Shown;
 use pg_conn::{Dial, MemoryDial};
 use pg_listen::{PgPool, PoolLedger, PoolSeat};
-use pg_listening::{Connecting, ConnectionSource, Listener, Releasing, connect_with};
+use pg_listening::{Connecting, ConnectionSource, Listener, connect_with};
 use pg_options::PgSettings;
 use pg_pool::{Pool, Pooled};
 use pg_stream::MemoryLink;
 use pg_wire::{Error, Poll};
 use std::alloc::Global;
 use std::marker::Brand;
+use std::net::{Net, TcpListener, TcpStream};
+use std::random::RandomSource;
 use std::sync::Wait;
 use std::sync::ledger::Blank;
 
@@ -50,24 +51,6 @@ where
     released(out, stream.into_released(rt));
 }
 
-fn poll_release<B, R>(rt: &R, out: &mut String, state: &mut Releasing<Listener<B>>)
-where
-    B: ConnectionSource + Drop,
-    B::L: Shown + Drop,
-    R: Wait,
-    requires over { state.old.is_over ≡ false }
-    requires goes { goes_on_in state.old.change state.old.listener ≡ true }
-{
-    for _ in 0..POLLS {
-        match state.poll(rt) {
-            Poll::Pending => {}
-            Poll::Ready(Ok(what)) => return released(out, what),
-            Poll::Ready(Err(error)) => return failed(out, error),
-        }
-    }
-    pending(out);
-}
-
 // Ends a listener by its `release`, or else lets it go.
 fn end_by_release<B, R>(rt: &R, out: &mut String, listener: Listener<B>)
 where
@@ -77,7 +60,11 @@ where
 {
     lost(out, listener.lost());
     let mut state = listener.release();
-    poll_release(rt, out, &mut state);
+    match state.poll(rt) {
+        Poll::Pending => pending(out),
+        Poll::Ready(Ok(what)) => released(out, what),
+        Poll::Ready(Err(error)) => failed(out, error),
+    }
     match state.into_listener() {
         Some(listener) => let_go(listener.into_released(rt)),
         None => {}
@@ -167,7 +154,7 @@ fn lent<G: PoolLedger, R: Wait>(
     rt: &R,
     alloc: Global,
     out: &mut String,
-    place: Place<'_>,
+    calls: &str,
     blank: Blank,
     dial: MemoryDial,
 ) -> Result<(), Error>
@@ -178,7 +165,7 @@ fn lent<G: PoolLedger, R: Wait>(
     match pool::<G>(alloc, 1, 2, blank) {
         Ok((pool, seats)) => match pair(seats) {
             Some(seats) => {
-                play_lent(rt, alloc, out, &pool, seats, dial, place.calls);
+                play_lent(rt, alloc, out, &pool, seats, dial, calls);
                 Ok(())
             }
             None => Err(Error::StartupPending),
@@ -248,43 +235,38 @@ where
     }
 }
 
-// The calls of a row, on a server in memory.
-fn in_memory(calls: &str) -> Place<'_> {
-    Place {
-        url: URL,
-        calls,
-        hears: false,
-    }
-}
-
 // What is done over links in memory.
-fn played<R: Wait + Print>(
+fn in_memory<R: Wait + Print>(
     rt: &R,
     alloc: Global,
     out: &mut String,
     calls: &str,
-    dial: MemoryDial,
+    links: &str,
 ) -> Result<(), Error> {
+    let dial = dial(alloc, links)?;
     match calls.strip_prefix("alone ") {
         Some(calls) => {
-            let place = in_memory(calls);
+            let place = Place {
+                url: URL,
+                calls,
+                hears: false,
+            };
             alone::<Brand, MemoryDial, R>(rt, alloc, out, place, Blank::new(1), dial)
         }
-        None => lent::<Brand, R>(rt, alloc, out, in_memory(calls), Blank::new(2), dial),
+        None => lent::<Brand, R>(rt, alloc, out, calls, Blank::new(2), dial),
     }
 }
 
-/// A row, by its calls and its links.
-pub(crate) fn told<R: Wait + Print>(rt: &R, alloc: Global, row: &str) -> Result<String, Error> {
+/// A row, by its calls and its links, or else by its calls on the server of this URL.
+pub(crate) fn told<R>(rt: &R, alloc: Global, url: Option<&str>, row: &str) -> Result<String, Error>
+where
+    R: Wait + Print + Net<Listener = TcpListener, Stream = TcpStream> + RandomSource,
+{
     let (calls, links) = first(row, " | ");
-    match dial(alloc, links) {
-        Ok(dial) => {
-            let mut out = String::new(alloc);
-            match played(rt, alloc, &mut out, calls, dial) {
-                Ok(()) => Ok(out),
-                Err(error) => Err(error),
-            }
-        }
-        Err(error) => Err(error),
+    let mut out = String::new(alloc);
+    match url {
+        Some(url) => on_server(rt, alloc, &mut out, url, calls)?,
+        None => in_memory(rt, alloc, &mut out, calls, links)?,
     }
+    Ok(out)
 }

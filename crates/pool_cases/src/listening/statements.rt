@@ -1,7 +1,7 @@
 //! Statements that a listener prepares and describes, and what is told of them.
 ghost use Rattle.std.specs.Prelude.{◌≡◌};
 
-use crate::listening::calls::{POLLS, SQL};
+use crate::listening::calls::SQL;
 use crate::listening::telling::{failed, pending, push};
 use pg_conn::{ColumnOrigin, PgColumn, PgStatement, Preparation};
 use pg_listening::{ConnectionSource, Describe, Listener};
@@ -26,13 +26,10 @@ where
 {
     let preparation = Preparation::untyped(alloc, statement(alloc));
     let mut state = listener.prepare_with(preparation);
-    for _ in 0..POLLS {
-        match state.poll(rt) {
-            Poll::Pending => {}
-            Poll::Ready(answer) => return prepared(out, answer),
-        }
+    match state.poll(rt) {
+        Poll::Pending => pending(out),
+        Poll::Ready(answer) => prepared(out, answer),
     }
-    pending(out);
 }
 
 /// Describes a statement in full.
@@ -43,13 +40,10 @@ where
     R: Wait,
 {
     let mut state = listener.describe(statement(alloc));
-    for _ in 0..POLLS {
-        match state.poll(rt) {
-            Poll::Pending => {}
-            Poll::Ready(answer) => return described(out, answer),
-        }
+    match state.poll(rt) {
+        Poll::Pending => pending(out),
+        Poll::Ready(answer) => described(out, answer),
     }
-    pending(out);
 }
 
 // Where a column comes from.

@@ -5,6 +5,7 @@ use Rattle.pg_listening.specs.Listening.{behind_after, channels_behind, stored_b
 use Rattle.pg_listening.proofs.ChangingLaws.{changes_polled}
 use Rattle.pg_listening.proofs.FailingLaws.{caused_asked, memory_fails, wanting}
 use Rattle.pg_listening.proofs.HearingLaws.{hears_without}
+use Rattle.pg_listening.proofs.NamingLaws.{never, stays_named, stays_some}
 use Rattle.pg_listening.proofs.hearing.Hearing.poll_asked_held.Goals as goal
 
 pub returns-in-Ok-clause-hears : goal.returns-in-Ok-clause-hears
@@ -43,3 +44,19 @@ returns-in-Err-clause-loss g c = rw (← c.self.view_is) refl
 
 pub returns-in-Err-clause-causes : goal.returns-in-Err-clause-causes
 returns-in-Err-clause-causes g c = rw (← c.self.view_is) (memory_fails g.B.L.Link.seen g.B.Held.PgExecutor.conn g.B.Held.PgExecutor.with_conn g.B.ConnectionSource.filling _ _ _ _ c.in-Err.e (wanting c.in-Err.e _ refl c.in-Err.ensures.err))
+
+pub invariant_of-self : goal.invariant_of-self
+invariant_of-self g c = record {
+  held = stays_named g.B.ConnectionSource.handed g.B.Held.PgExecutor.conn g.B.Held.PgExecutor.with_conn g.met.B.ConnectionSource.handed_with c.self.inside.name c.change.new.self.conn c.poll_change.new.self.conn c.poll_change.ensures.holder (stays_named g.B.ConnectionSource.handed g.B.Held.PgExecutor.conn g.B.Held.PgExecutor.with_conn g.met.B.ConnectionSource.handed_with c.self.inside.name c.self.inside.listening.conn c.change.new.self.conn c.change.ensures.holder c.self.invariant.held);
+  startup = c.self.invariant.startup;
+  ready = λ e. stays_some g.B.Held.PgExecutor.conn g.B.Held.PgExecutor.with_conn c.change.new.self.conn c.poll_change.new.self.conn c.poll_change.ensures.holder (stays_some g.B.Held.PgExecutor.conn g.B.Held.PgExecutor.with_conn c.self.inside.listening.conn c.change.new.self.conn c.change.ensures.holder (c.self.invariant.ready e));
+  again = λ e. never e;
+}
+
+pub invariant_of-self-in-Err : goal.invariant_of-self-in-Err
+invariant_of-self-in-Err g c = record {
+  held = stays_named g.B.ConnectionSource.handed g.B.Held.PgExecutor.conn g.B.Held.PgExecutor.with_conn g.met.B.ConnectionSource.handed_with c.self.inside.name c.self.inside.listening.conn c.change.new.self.conn c.change.ensures.holder c.self.invariant.held;
+  startup = c.self.invariant.startup;
+  ready = λ e. stays_some g.B.Held.PgExecutor.conn g.B.Held.PgExecutor.with_conn c.self.inside.listening.conn c.change.new.self.conn c.change.ensures.holder (c.self.invariant.ready e);
+  again = λ e. never e;
+}

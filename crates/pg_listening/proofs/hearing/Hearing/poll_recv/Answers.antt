@@ -1,9 +1,9 @@
-use Rattle.std.proofs.Common.{◌∙◌, [], ◌∷◌, ap, inl, refl, sym}
+use Rattle.std.proofs.Common.{◌∙◌, [], ◌∷◌, ap, inl, inr, refl, rules, sym}
 use Rattle.std.proofs.Math.Nat.{le_refl, le_trans}
 use Rattle.pg_listening.proofs.BufferingLaws.{hears_behind}
 use Rattle.pg_listening.proofs.FailingLaws.{fails_then}
 use Rattle.pg_listening.proofs.HearingLaws.{hears_nothing}
-use Rattle.pg_listening.proofs.WaitingLaws.{waits_then}
+use Rattle.pg_listening.proofs.WaitingLaws.{starts_then, waits_then}
 use Rattle.pg_listening.proofs.SourceLaws.{dialled_then}
 use Rattle.pg_listening.proofs.hearing.Hearing.poll_recv.Goals as goal
 
@@ -63,3 +63,36 @@ poll_try_recv-requires-clause-mine g c =
 
 pub poll_try_recv-requires-clause-left : goal.poll_try_recv-requires-clause-left
 poll_try_recv-requires-clause-left g c = le_trans c.loop-e.invariant.left c.loop-e.invariant.most
+
+pub returns-then-not-goes_on : goal.returns-then-not-goes_on
+returns-then-not-goes_on g c =
+    let known = c.loop-e.invariant in
+    let told = c.in-Ready-Ok-None.ensures in
+    let hears = rw (c.in-Ready-Ok-None.field-0-is, c.in-Ready-Ok-None.field-0-0-is) at told.hears in
+    record {
+      hears = hears_behind g.B.L.Link.seen _ _ _ [] known.hears hears;
+      channels = told.channels ∙ known.channels;
+      source = dialled_then (g.B.ConnectionSource.now c.args.source.now) (g.B.ConnectionSource.now c.loop-e.source) (g.B.ConnectionSource.now c.poll_try_recv.new.source) known.source told.source;
+      left = le_trans c.goes_on.ensures.fewer (le_trans told.left known.left);
+      pending = inr (c.goes_on.ensures.none (search rules));
+      fails = tt;
+      closed = tt;
+    }
+
+pub loop-e-preserved : goal.loop-e-preserved
+loop-e-preserved g c =
+    let known = c.loop-e.invariant in
+    let told = c.in-Ready-Ok-None.ensures in
+    let hears = rw (c.in-Ready-Ok-None.field-0-is, c.in-Ready-Ok-None.field-0-0-is) at told.hears in
+    let startup = rw c.in-Ready-Ok-None.field-0-is at told.startup in
+    let faults = rw c.in-Ready-Ok-None.field-0-is at told.causes in
+    record {
+      hears = hears_behind g.B.L.Link.seen _ _ _ [] known.hears hears;
+      startup = starts_then g.B.L.Link.seen g.B.ConnectionSource.filling _ _ _ known.startup startup;
+      faults = faults ∙ known.faults;
+      channels = told.channels ∙ known.channels;
+      source = dialled_then (g.B.ConnectionSource.now c.args.source.now) (g.B.ConnectionSource.now c.loop-e.source) (g.B.ConnectionSource.now c.poll_try_recv.new.source) known.source told.source;
+      mine = known.mine;
+      left = le_trans c.goes_on.ensures.fewer (le_trans told.left known.left);
+      most = known.most;
+    }

@@ -1,4 +1,4 @@
-use Rattle.pool_cases.proofs.listening.live.live.Given as goal
+use Rattle.pool_cases.proofs.listening.live.on_server.Given as goal
 
 abbrev pub ghosts-alone-G-PoolLedger : goal.ghosts-alone-G-PoolLedger
 ghosts-alone-G-PoolLedger g a = record { most = 1 }
