@@ -154,7 +154,7 @@ fn lent<G: PoolLedger, R: Wait>(
     rt: &R,
     alloc: Global,
     out: &mut String,
-    calls: &str,
+    place: Place<'_>,
     blank: Blank,
     dial: MemoryDial,
 ) -> Result<(), Error>
@@ -165,7 +165,7 @@ fn lent<G: PoolLedger, R: Wait>(
     match pool::<G>(alloc, 1, 2, blank) {
         Ok((pool, seats)) => match pair(seats) {
             Some(seats) => {
-                play_lent(rt, alloc, out, &pool, seats, dial, calls);
+                play_lent(rt, alloc, out, &pool, seats, dial, place.calls);
                 Ok(())
             }
             None => Err(Error::StartupPending),
@@ -235,25 +235,29 @@ where
     }
 }
 
+// The calls of a row, on a server in memory.
+fn in_memory(calls: &str) -> Place<'_> {
+    Place {
+        url: URL,
+        calls,
+        hears: false,
+    }
+}
+
 // What is done over links in memory.
-fn in_memory<R: Wait + Print>(
+fn played<R: Wait + Print>(
     rt: &R,
     alloc: Global,
     out: &mut String,
     calls: &str,
-    links: &str,
+    dial: MemoryDial,
 ) -> Result<(), Error> {
-    let dial = dial(alloc, links)?;
     match calls.strip_prefix("alone ") {
         Some(calls) => {
-            let place = Place {
-                url: URL,
-                calls,
-                hears: false,
-            };
+            let place = in_memory(calls);
             alone::<Brand, MemoryDial, R>(rt, alloc, out, place, Blank::new(1), dial)
         }
-        None => lent::<Brand, R>(rt, alloc, out, calls, Blank::new(2), dial),
+        None => lent::<Brand, R>(rt, alloc, out, in_memory(calls), Blank::new(2), dial),
     }
 }
 
@@ -266,7 +270,10 @@ where
     let mut out = String::new(alloc);
     match url {
         Some(url) => on_server(rt, alloc, &mut out, url, calls)?,
-        None => in_memory(rt, alloc, &mut out, calls, links)?,
+        None => {
+            let given = dial(alloc, links)?;
+            played(rt, alloc, &mut out, calls, given)?;
+        }
     }
     Ok(out)
 }

@@ -1,4 +1,4 @@
-use Rattle.pool_cases.proofs.listening.rows.in_memory.Given as goal
+use Rattle.pool_cases.proofs.listening.rows.played.Given as goal
 
 abbrev pub ghosts-lent-G-PoolLedger : goal.ghosts-lent-G-PoolLedger
 ghosts-lent-G-PoolLedger g a = record { most = 1 }
