@@ -33,6 +33,8 @@ use pg_conn::PgConnection;
 use pg_stream::MemoryLink;
 use pg_wire::Error;
 use std::alloc::Global;
+use std::net::{Net, TcpStream};
+use std::random::RandomSource;
 use telling::push_sent;
 
 fn play(
@@ -60,20 +62,26 @@ fn in_memory(alloc: Global, acts: &str, events: &str) -> Result<String, Error> {
     Ok(told)
 }
 
-fn on_server(rt: &HostRuntime, url: &str, acts: &str) -> Result<String, Error> {
-    let mut conn = connect_to(rt, rt.alloc(), url)?;
-    let mut told = String::new(rt.alloc());
-    let played = acting::play(rt.alloc(), &mut conn, acts, &mut told);
+fn on_server<R>(rt: &R, alloc: Global, url: &str, acts: &str) -> Result<String, Error>
+where
+    R: Net<Stream = TcpStream> + RandomSource,
+{
+    let mut conn = connect_to(rt, alloc, url)?;
+    let mut told = String::new(alloc);
+    let played = acting::play(alloc, &mut conn, acts, &mut told);
     drop(conn);
     played?;
     Ok(told)
 }
 
 /// What comes of a case, on a connection to the server of this URL where there is one.
-pub(crate) fn told(rt: &HostRuntime, url: Option<&str>, case: &str) -> Result<String, Error> {
+pub(crate) fn told<R>(rt: &R, alloc: Global, url: Option<&str>, case: &str) -> Result<String, Error>
+where
+    R: Net<Stream = TcpStream> + RandomSource,
+{
     let (acts, events) = case.split_once(' ').unwrap_or((case, ""));
     match url {
-        Some(url) => on_server(rt, url, acts),
-        None => in_memory(rt.alloc(), acts, events),
+        Some(url) => on_server(rt, alloc, url, acts),
+        None => in_memory(alloc, acts, events),
     }
 }

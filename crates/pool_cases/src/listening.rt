@@ -28,7 +28,7 @@
 //! ended, which is `kept` by the pool, `closed` with what its link has taken, or `none held`; and what the pool has noted of the listener. The links that
 //! `take` has told are not told again.
 //!
-//! All but `try`, the changes of channels and the start-up are polled once, since a link in memory gives at once what it gives.
+//! All but `try`, `many`, the changes of channels and the start-up are polled once, since a link in memory gives at once what it gives.
 //!
 //! With the URL of a server a row has its calls alone, without `alone`. They are made on a listener there, on a pool of its own, and behind them it tells what
 //! it hears, a line for each, until it hears `end`.

@@ -20,7 +20,9 @@ use calling::Tally;
 use live::{Shared, live};
 use pg_wire::Error;
 use std::alloc::Global;
+use std::net::{Net, TcpListener, TcpStream};
 use std::process::ExitCode;
+use std::random::RandomSource;
 use std::sync::Wait;
 use std::thread::Threads;
 use std::{env, io};
@@ -70,26 +72,39 @@ fn tell(rt: &impl Print, name: &str, told: Result<String, Error>) -> io::Result<
     }
 }
 
+// A row, and what came of it.
+fn play<R>(rt: &R, alloc: Global, url: Option<&str>, row: &str) -> io::Result<()>
+where
+    R: Threads
+        + Wait
+        + Sync
+        + Print
+        + Net<Listener = TcpListener, Stream = TcpStream>
+        + RandomSource,
+{
+    match row.split_once(' ') {
+        Some((name, case)) if case.contains('|') => {
+            tell(rt, name, listening::told(rt, alloc, url, case))
+        }
+        Some((name, case)) => tell(rt, name, acts::told(rt, alloc, url, case)),
+        None => tell(rt, row, told(rt, alloc, row)),
+    }
+}
+
+// The URL of a server and a seed, where they are given.
+fn words(rt: &HostRuntime) -> io::Result<(Option<String>, Option<String>)> {
+    let mut words = env::args(rt)?.skip(1);
+    Ok((words.next(), words.next()))
+}
+
 fn main(rt: HostRuntime) -> io::Result<ExitCode> {
-    let mut words = env::args(&rt)?.skip(1);
-    let url = words.next();
-    if let (Some(url), Some(word)) = (&url, words.next()) {
-        let seed = word.as_str().parse().unwrap_or(0);
+    let (url, seed) = words(&rt)?;
+    if let (Some(url), Some(seed)) = (&url, &seed) {
+        let seed = seed.as_str().parse().unwrap_or(0);
         return told_live(&rt, live(&rt, rt.alloc(), url.as_str(), seed));
     }
     for row in rt.lines(rt.alloc()) {
-        let row = row?;
-        match row.as_str().split_once(' ') {
-            Some((name, case)) if case.contains('|') => {
-                tell(
-                    &rt,
-                    name,
-                    listening::told(&rt, rt.alloc(), url.as_deref(), case),
-                )?
-            }
-            Some((name, case)) => tell(&rt, name, acts::told(&rt, url.as_deref(), case))?,
-            None => tell(&rt, row.as_str(), told(&rt, rt.alloc(), row.as_str()))?,
-        }
+        play(&rt, rt.alloc(), url.as_deref(), row?.as_str())?;
     }
     Ok(ExitCode::SUCCESS)
 }
