@@ -32,6 +32,7 @@ pub mod MessageLaws
 pub mod LoopLaws
 pub mod ListLaws
 pub mod RowLaws
+pub mod PlaceLaws
 pub mod FieldLaws
 pub mod UntilLaws
 pub mod DetailLaws

@@ -1,26 +1,20 @@
 -- Rows whose values are found by their places, and lists that are passed over.
-use Rattle.std.proofs.Common.{◌≡◌, ℕ, zero, suc, ◌-◌, ◌+◌, ◌<◌, ◌≤◌, Bool, true, false, cond, eqb, List, [], ◌∷◌, ◌++◌, length, drop, Option, Some, None, option_map, flat_map, refl, sym, ap, subst, ◌∙◌, append_assoc, arith}
+use Rattle.std.proofs.Common.{◌≡◌, ℕ, zero, suc, ◌-◌, ◌+◌, ◌<◌, ◌≤◌, Bool, true, false, cond, eqb, List, [], ◌∷◌, length, drop, Option, Some, None, option_map, flat_map, refl, sym, ap, subst, ◌∙◌, arith}
 use Rattle.std.specs.Prelude.{IsSome}
 use Rattle.std.proofs.lemmas.Option.{cond_some, same_Some}
-use Rattle.pg_wire.specs.Bytes.{value, AreBytes}
+use Rattle.pg_wire.specs.Bytes.{value}
 use Rattle.pg_wire.specs.Reading.{◌>>=◌, Reader, number16_at, value_at, many_at, counted_at, whole}
 use Rattle.pg_wire.specs.Rows.{value_first, value_by, IsPlace, passed, count_passed}
-use Rattle.pg_wire.proofs.Each.{each_last}
 use Rattle.pg_wire.specs.Backend.{DataRow, Values}
 use Rattle.pg_wire.specs.Decoding.{Says}
 use Rattle.pg_wire.specs.Frame.{Frame}
 use Rattle.pg_wire.proofs.ReaderLaws.{bind_some, number16_exact}
-use Rattle.pg_wire.proofs.ListLaws.{value_exact}
 
 -- a value that was read stands at its place
 pub read_place : (body rest after : List ℕ) (place : ℕ) (v : Option (List ℕ)) → place ≤ length body → drop place body ≡ rest → value_at rest ≡ Some (v, after) → IsPlace body place × (value_by body place ≡ v)
 read_place body rest after place v le at is =
     let found : value_at (drop place body) ≡ Some (v, after) = ap value_at at ∙ is in
     ((le, subst IsSome (sym found) refl), ap value_first found)
-
--- what is behind a value of a body is behind it in the body
-pub read_behind : (body rest after : List ℕ) (v : Option (List ℕ)) → AreBytes body → value_at rest ≡ Some (v, after) → (front : List ℕ) × (body ≡ front ++ rest) → (front : List ℕ) × (body ≡ front ++ after)
-read_behind body rest after v all is f = let bytes : AreBytes rest = each_last (λ b. b < 256) f.0 rest (subst AreBytes f.1 all) in (f.0 ++ value v, f.1 ∙ ap (λ (xs : List ℕ). f.0 ++ xs) (value_exact.takes rest (v, after) bytes is).1 ∙ sym (append_assoc f.0 (value v) after))
 
 -- ---- lists that are passed over
 

@@ -18,6 +18,7 @@ pub mod Reports
 pub mod Encoding
 pub mod Decoding
 pub mod Reading
+pub mod Places
 pub mod Rows
 pub mod Fields
 pub mod Requests

@@ -1,5 +1,7 @@
 -- Internal: where the values of a row stand in the body of its message, and lists that are passed over.
 use Rattle.std.specs.Prelude.{ℕ, ◌≤◌, List, length, drop, Option, Some, None, IsSome, option_map, ◌==◌, if◌then◌else◌}
+use Rattle.pg_wire.specs.Backend.{BackendMessage}
+use Rattle.pg_wire.specs.Decoding.{Says}
 use Rattle.pg_wire.specs.Reading.{◌>>=◌, Reader, number16_at, value_at, many_at}
 
 abbrev pub value_first : Option (Option (List ℕ) × List ℕ) → Option (List ℕ)
@@ -14,9 +16,17 @@ value_by body place = value_first (value_at (drop place body))
 abbrev pub IsPlace : List ℕ → ℕ → Type 0
 IsPlace body place = (place ≤ length body) × IsSome (value_at (drop place body))
 
+-- no row has this body
+abbrev pub IsNoRow : List ℕ → Type 0
+IsNoRow body = (m : BackendMessage) → Says 68 body m → ⊥
+
+-- the bytes behind one
+abbrev pub rest_at : {A : Type 0} → Reader A → List ℕ → Option (List ℕ)
+rest_at item bytes = option_map (λ x. x.1) (item bytes)
+
 -- the bytes behind so many of one kind
 abbrev pub passed : {A : Type 0} → Reader A → ℕ → List ℕ → Option (List ℕ)
-passed item count bytes = option_map (λ x. x.1) (many_at item count bytes)
+passed item count bytes = rest_at (many_at item count) bytes
 
 -- the count of a list that is all of the bytes
 abbrev pub count_passed : {A : Type 0} → Reader A → List ℕ → Option ℕ

@@ -22,6 +22,7 @@ mod parameter_description;
 mod parameter_status;
 mod parse;
 mod password;
+mod places;
 mod query;
 mod ready_for_query;
 mod row_description;

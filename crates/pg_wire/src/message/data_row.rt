@@ -1,26 +1,24 @@
-ghost use Rattle.std.specs.Prelude.{◌≡◌, ◌≤◌, ◌<◌, ◌^◌, ◌↔◌, ◌++◌, [], None, Some, List, ℕ, length, drop, map, slice_index_or, option_map, IsTrue, true, false, IfOk, OnOk, IfSome, All};
+ghost use Rattle.std.specs.Prelude.{◌≡◌, ◌≤◌, ◌<◌, ◌^◌, ◌↔◌, [], None, Some, length, take, drop, map, slice_index_or, option_map, IsTrue, true, false, IfOk, IfSome, OnSome, All};
 ghost use Rattle.pg_wire.specs.Backend as backend;
 ghost use Rattle.pg_wire.specs.Backend.{Values};
 ghost use Rattle.pg_wire.specs.Decoding.{Decodes, DecodesAs, Says};
-ghost use Rattle.pg_wire.specs.Reading.{whole, counted_at, many_at, value_at};
-ghost use Rattle.pg_wire.specs.Rows.{value_by, IsPlace, passed, count_passed};
+ghost use Rattle.pg_wire.specs.Reading.{number16_at, many_at, value_at};
+ghost use Rattle.pg_wire.specs.Rows.{value_by, rest_at, IsPlace, IsNoRow, passed, count_passed};
 
-use crate::reading::{malformed, number16, value};
+use super::places::{FEW, Places};
+use crate::reading::{malformed, number16, number32, value};
 use crate::{Error, Frame};
 use bytes::Bytes;
-use smallvec::SmallVec;
 use std::alloc::{AllocError, Global};
+use std::cmp;
 use std::marker::Model;
-
-/// A row of so many values at most keeps their places without taking memory.
-const FEW: usize = 8;
 
 /// The values of a row, in order, in the storage that their message was cut from: contracts see the list of their bytes, in
 /// which a null is None. (PostgreSQL manual, "Message Formats", DataRow.)
 #[derive(Debug)]
 pub struct DataRow {
     storage: Bytes,
-    places: SmallVec<u32, FEW>,
+    places: Places,
 }
 
 // By hand, so that whoever lets one go makes one call, and doesn't go through its parts.
@@ -39,16 +37,16 @@ impl Model for DataRow {
 
     ghost Value = { List (Option (List ℕ)) };
 
-    ghost view = { λ r. map (value_by r.storage) r.places.items };
+    ghost view = { λ r. map (value_by r.storage) r.places };
 
-    ghost invariant = { λ r. All (IsPlace r.storage) r.places.items };
+    ghost invariant = { λ r. All (IsPlace r.storage) r.places };
 }
 
 impl DataRow {
     // The values at these places of a body.
-    fn over(storage: Bytes, places: SmallVec<u32, FEW>) -> Self
-        requires { All (IsPlace storage) places.items }
-        ensures { result ≡ map (value_by storage) places.items }
+    fn over(storage: Bytes, places: Places) -> Self
+        requires { All (IsPlace storage) places }
+        ensures { result ≡ map (value_by storage) places }
     {
         DataRow { storage, places }
     }
@@ -59,7 +57,7 @@ impl DataRow {
     {
         DataRow {
             storage: Bytes::new(),
-            places: SmallVec::new(alloc),
+            places: Places::many(Vec::new(alloc)),
         }
     }
 
@@ -67,7 +65,7 @@ impl DataRow {
     pub fn len(&self) -> usize
         ensures { result ≡ length self.now }
     {
-        self.places.len()
+        self.places.as_slice().len()
     }
 
     pub fn is_empty(&self) -> bool
@@ -101,82 +99,127 @@ fn value_in(body: &[u8], place: u32) -> Option<&[u8]>
     }
 }
 
-// The place of the rest of a body.
-fn place_of(body: &[u8], rest: &[u8]) -> u32
-    requires told { length body.now < 2 ^ 32 }
-    requires behind { (front : List ℕ) × (body.now ≡ front ++ rest.now) }
-    ensures within { result ≤ length body.now }
-    ensures rest { drop result body.now ≡ rest.now }
+// The place behind the value whose length stands at this place. In so short a body a null's length is more than what follows it.
+fn behind(body: &[u8], place: usize) -> Option<usize>
+    requires told { length body.now < 2 ^ 31 }
+    requires within { place ≤ length body.now }
+    ensures rest { option_map (λ after. drop after body.now) result ≡ rest_at value_at (drop place body.now) }
+    ensures within { IfSome result (λ after. after ≤ length body.now) }
 {
-    (body.len() - rest.len()) as u32
+    let Some((length, rest)) = number32(&body[place..]) else {
+        return None;
+    };
+    let start = place + 4;
+    if length as usize <= rest.len() {
+        return Some(start + length as usize);
+    }
+    if length == u32::MAX {
+        return Some(start);
+    }
+    None
 }
 
-// Finds the places of so many values of a body, one behind the other, and answers the bytes behind them.
-fn find_places<'a>(
-    places: &mut SmallVec<u32, FEW>,
-    count: u16,
-    body: &'a [u8],
-    values: &'a [u8],
-) -> Result<Option<&'a [u8]>, AllocError>
-    requires none { places.old.items ≡ [] }
-    requires told { length body.now < 2 ^ 32 }
-    requires behind { (front : List ℕ) × (body.now ≡ front ++ values.now) }
-    ensures value { IfOk result (λ r. option_map (λ rest. (map (value_by body.now) places.new.items, rest.now)) r ≡ many_at value_at count values.now) }
-    ensures places { IfOk result (λ r. All (IsPlace body.now) places.new.items) }
+// Writes down the places of so few values of a body, one behind the other, and answers the place behind them.
+fn fill(places: &mut [u32; FEW], count: u16, body: &[u8]) -> Option<usize>
+    requires few { count ≤ 8 }
+    requires told { length body.now < 2 ^ 31 }
+    requires headed { 2 ≤ length body.now }
+    ensures values { option_map (λ end. (map (value_by body.now) (take count places.new), drop end body.now)) result ≡ many_at value_at count (drop 2 body.now) }
+    ensures places { OnSome result (All (IsPlace body.now) (take count places.new)) }
+    ensures within { IfSome result (λ end. end ≤ length body.now) }
 {
-    let mut rest = values;
+    let mut place = 2;
+    for index in 0..count {
+        let Some(after) = behind(body, place) else {
+            return None;
+        };
+        places[index as usize] = place as u32;
+        place = after;
+    }
+    Some(place)
+}
+
+// Whether a body is one of a row with so few values, whose places it writes down.
+fn find_few(places: &mut [u32; FEW], count: u16, body: &[u8]) -> bool
+    requires few { count ≤ 8 }
+    requires told { length body.now < 2 ^ 31 }
+    requires headed { number16_at body.now ≡ Some (count, drop 2 body.now) }
+    ensures yes { result ≡ true → Says 68 body.now (backend.DataRow (map (value_by body.now) (take count places.new))) }
+    ensures no { result ≡ false → IsNoRow body.now }
+    ensures places { result ≡ true → All (IsPlace body.now) (take count places.new) }
+{
+    match fill(places, count, body) {
+        Some(end) => end == body.len(),
+        None => false,
+    }
+}
+
+// The same as `fill`, for any number of values.
+fn fill_many(places: &mut Vec<u32>, count: u16, body: &[u8]) -> Result<Option<usize>, AllocError>
+    requires empty { places.old.items ≡ [] }
+    requires told { length body.now < 2 ^ 31 }
+    requires headed { 2 ≤ length body.now }
+    ensures values { IfOk result (λ r. option_map (λ end. (map (value_by body.now) places.new.items, drop end body.now)) r ≡ many_at value_at count (drop 2 body.now)) }
+    ensures places { IfOk result (λ r. OnSome r (All (IsPlace body.now) places.new.items)) }
+    ensures within { IfOk result (λ r. IfSome r (λ end. end ≤ length body.now)) }
+{
+    let mut place = 2;
     for _ in 0..count {
-        let place = place_of(body, rest);
-        let Some((_, after)) = value(rest) else {
+        let Some(after) = behind(body, place) else {
             return Ok(None);
         };
-        places.push(place)?;
-        rest = after;
+        places.push(place as u32)?;
+        place = after;
     }
-    Ok(Some(rest))
+    Ok(Some(place))
 }
 
-// The same of all values of a body: whether it is one of a row. Where `u32` can't tell its places, which is true of no frame, that
-// is want of memory.
-#[tactic(auto, unfolding(crate::specs::Reading::whole, crate::specs::Reading::counted_at))]
-fn find_all(places: &mut SmallVec<u32, FEW>, body: &[u8]) -> Result<bool, AllocError>
-    requires { places.old.items ≡ [] }
-    ensures yes { IfOk result (λ found. found ≡ true → whole (counted_at value_at) body.now ≡ Some (map (value_by body.now) places.new.items)) }
-    ensures no { IfOk result (λ found. found ≡ false → whole (counted_at value_at) body.now ≡ None) }
-    ensures places { IfOk result (λ found. All (IsPlace body.now) places.new.items) }
+// The same as `find_few`, for any number of values. A body of 2 GiB is want of memory: PostgreSQL sends none of half that size.
+// Room is made for no more values than the body can have.
+fn find_many(places: &mut Vec<u32>, count: u16, body: &[u8]) -> Result<bool, AllocError>
+    requires empty { places.old.items ≡ [] }
+    requires headed { number16_at body.now ≡ Some (count, drop 2 body.now) }
+    ensures yes { IfOk result (λ found. found ≡ true → Says 68 body.now (backend.DataRow (map (value_by body.now) places.new.items))) }
+    ensures no { IfOk result (λ found. found ≡ false → IsNoRow body.now) }
+    ensures places { IfOk result (λ found. found ≡ true → All (IsPlace body.now) places.new.items) }
 {
-    let Some((count, rest)) = number16(body) else {
-        return Ok(false);
-    };
-    if body.len() > u32::MAX as usize {
+    if body.len() > i32::MAX as usize {
         return Err(AllocError);
     }
-    match find_places(places, count, body, rest)? {
-        Some([]) => Ok(true),
-        _ => Ok(false),
+    places.reserve_exact(cmp::min(count as usize, body.len() / 4))?;
+    match fill_many(places, count, body)? {
+        Some(end) => Ok(end == body.len()),
+        None => Ok(false),
     }
 }
 
-// The places of a row's values in the body of its message.
-fn find_values(places: &mut SmallVec<u32, FEW>, body: &[u8]) -> Result<(), Error>
-    requires { places.old.items ≡ [] }
-    ensures values { Decodes (λ _. backend.DataRow (map (value_by body.now) places.new.items)) 68 body.now result }
-    ensures places { OnOk result (All (IsPlace body.now) places.new.items) }
+fn cut_many(alloc: Global, count: u16, frame: Frame) -> Result<DataRow, Error>
+    requires { number16_at frame.body ≡ Some (count, drop 2 frame.body) }
+    ensures { Decodes backend.DataRow 68 frame.body result }
 {
-    if find_all(places, body)? {
-        Ok(())
-    } else {
-        Err(malformed(b'D'))
+    let mut places = Vec::new(alloc);
+    if !find_many(&mut places, count, frame.body())? {
+        return Err(malformed(b'D'));
     }
+    Ok(DataRow::over(frame.into_body(), Places::many(places)))
 }
 
 /// Reads a frame whose body is that of a `D` message. The row shares the frame's storage, and no value is copied.
 pub fn cut_data_row(alloc: Global, frame: Frame) -> Result<DataRow, Error>
     ensures { Decodes backend.DataRow 68 frame.body result }
 {
-    let mut places = SmallVec::new(alloc);
-    find_values(&mut places, frame.body())?;
-    Ok(DataRow::over(frame.into_body(), places))
+    let body = frame.body();
+    let Some((count, _)) = number16(body) else {
+        return Err(malformed(b'D'));
+    };
+    if count as usize > FEW || body.len() > i32::MAX as usize {
+        return cut_many(alloc, count, frame);
+    }
+    let mut places = [0; FEW];
+    if !find_few(&mut places, count, body) {
+        return Err(malformed(b'D'));
+    }
+    Ok(DataRow::over(frame.into_body(), Places::few(places, count)))
 }
 
 /// Reads the body of a `D` message, into storage of the row's own.
