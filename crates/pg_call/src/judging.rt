@@ -150,7 +150,7 @@ impl Part {
     }
 
     // Behind a row of so many values; None where none may come.
-    fn after_row(self, width: usize) -> Option<Part>
+    pub(crate) fn after_row(self, width: usize) -> Option<Part>
         ensures { result ≡ after_row self width }
     {
         match self {

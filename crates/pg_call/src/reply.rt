@@ -301,10 +301,10 @@ impl Reply {
         ensures no { result ≡ false → self.new ≡ self.old }
         ensures rest { self.new.rest ≡ self.old.rest }
     {
-        let Some(part) = self.part.after_claimed(frame.body()) else {
+        let Ok(values) = cut_data_row(alloc, frame) else {
             return false;
         };
-        let Ok(values) = cut_data_row(alloc, frame) else {
+        let Some(part) = self.part.after_row(values.len()) else {
             return false;
         };
         match self.keep(values) {
@@ -323,10 +323,10 @@ impl Reply {
         ensures none { result ≡ None → self.new ≡ self.old }
         ensures rest { self.new.rest ≡ self.old.rest }
     {
-        let Some(next) = self.part.after_claimed(frame.body()) else {
+        let Ok(values) = cut_data_row(alloc, frame) else {
             return None;
         };
-        let Ok(values) = cut_data_row(alloc, frame) else {
+        let Some(next) = self.part.after_row(values.len()) else {
             return None;
         };
         let Ok(heading) = self.heading.share() else {

@@ -309,18 +309,14 @@ impl<L> PgStream<L> {
         body_of(self.held.as_slice(), front)
     }
 
-    /// The frame at the front, which stays, in storage that it shares with what was received beside it. An `Err` is want of
-    /// memory.
-    pub fn share(&mut self, front: Front) -> Result<Frame, Error>
+    /// The frame at the front, which stays, in storage that it shares with what was received beside it.
+    pub fn share(&mut self, front: Front) -> Result<Frame, AllocError>
         requires { IsFront self.old.held front }
         ensures same { self.new ≡ self.old }
         ensures ok { IfOk result (λ frame. (rest : List ℕ) × IsFrontOf self.old.held front frame rest) }
-        ensures err { OnErr result (result ≡ Err Error.OutOfMemory) }
     {
-        match self.held.share(5, front.total) {
-            Ok(body) => Ok(Frame::new(front.tag, body)),
-            Err(_) => Err(Error::OutOfMemory),
-        }
+        let body = self.held.share(5, front.total)?;
+        Ok(Frame::new(front.tag, body))
     }
 
     /// Takes the frame at the front, of which nothing is kept.
@@ -519,12 +515,20 @@ impl<L: Link> PgStream<L> {
     /// `body` shows it and `pass` takes it. Notices, parameter changes and notifications before it are taken aside;
     /// a notification that can't be kept for want of memory stays held.
     /// (PostgreSQL manual, "Message Flow", "Asynchronous Operations".)
+    #[inline(always)]
     pub fn poll_ahead(&mut self, alloc: Global) -> Poll<Result<Front, Error>>
         ensures { PollsAhead (stream_by L.seen self.old) (stream_by L.seen self.new) result }
     {
         if let Some(front) = self.heard_front() {
             return Poll::Ready(Ok(front));
         }
+        self.poll_aside(alloc)
+    }
+
+    // The same, whatever stands at the front.
+    fn poll_aside(&mut self, alloc: Global) -> Poll<Result<Front, Error>>
+        ensures { PollsAhead (stream_by L.seen self.old) (stream_by L.seen self.new) result }
+    {
         loop {
             if let Some(answer) = self.ahead_once(alloc) {
                 return answer;
