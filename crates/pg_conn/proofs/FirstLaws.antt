@@ -43,10 +43,10 @@ use Rattle.pg_learning.specs.Learning.{FailsSeeking}
 use Rattle.pg_resolve.specs.Cached.{CacheSeen}
 use Rattle.pg_learning.specs.Naming.{oids_under, unknown_name}
 use Rattle.pg_stream.specs.Links.{LinkSeen}
-use Rattle.pg_conn.specs.Connections.{ConnOf, ConnSeen, IsUnresolved, cleaned, ends_copy, handed, idle, resolved, resolved_by, seen_by, unfed}
+use Rattle.pg_conn.specs.Connections.{ConnOf, ConnSeen, IsUnresolved, begun_with, cleaned, ends_copy, handed, idle, resolved, resolved_by, seen_by, unfed}
 use Rattle.pg_conn.specs.Looking.{AsksFirst, AsksNamed, AsksNext, FailsFirst, IsFound, IsUnlooked, LooksAny, LooksFor, LooksIn, LooksBehind, LooksNamed, LooksUp, MayLook, MayLookFor, MissesName, RefusesFirst, UnlooksFirst, asks_by, asks_names, asks_query, has_names, holes_for, if_kept, if_named, is_kept, lookup_for, named_by, named_in, unlooked, vain_lookup, wanted_in, telling, described_with}
 use Rattle.pg_conn.specs.Statements.{asked_by, behind_description, by_leaving, leaving, prepare_by, query_by, run_or_describe, tell_or_describe}
-use Rattle.pg_conn.specs.Turns.{EndsFlush, IsAsked, IsSayable, Polled, PollsOn, PollsThrough, Refused, Refuses, RefusesNamed, ShowsAtOnce, broken_by, flushes}
+use Rattle.pg_conn.specs.Turns.{EndsFlush, IsAsked, IsSayable, Polled, PollsBy, PollsCall, PollsOn, PollsThrough, Refused, Refuses, RefusesNamed, ShowsAtOnce, broken_by, flushes}
 use Rattle.pg_conn.proofs.RefusalLaws.{refusal_breaks_none}
 use Rattle.pg_conn.proofs.StateLaws.{first_keeps, named_asked, unasked_lookup}
 use Rattle.pg_conn.proofs.TurnLaws.{refused, refused_now, seen_cleaned, unlooks}
@@ -575,6 +575,9 @@ shown_on a b row whole shows = record {
 
 pub shown_through : (a b : ConnSeen) (row : RowSeen) → a.broken ≡ None → ShowsAtOnce a b row → PollsThrough a b (Ready (turns.Item (Row row)))
 shown_through a b row whole shows = (a, inl (asks_none a (own_asks_none a.rule a.call shows.1)), shown_on a b row whole shows)
+
+pub shown_now : (a b : ConnSeen) (row : RowSeen) → a.broken ≡ None → ShowsAtOnce (begun_with 256 a) b row → PollsCall a b (Ready (turns.Item (Row row)))
+shown_now a b row whole shows = subst (λ (o : Option ServerFault). PollsBy o (begun_with 256 a) a b (Ready (turns.Item (Row row)))) (sym whole) (shown_through (begun_with 256 a) b row whole shows)
 
 pub first_whole_of : {A : Type 0} (seen : A → LinkSeen) (a b : ConnOf A) → AsksFirst a b → a.broken ≡ None → b.broken ≡ None
 first_whole_of seen a b h whole = first_keeps (λ (c : ConnSeen). c.broken ≡ None) (λ c w. resolved_broken c ∙ w) (λ b told next learnt u w. w) (seen_by seen a) (seen_by seen b) (first_seen seen a b h) whole

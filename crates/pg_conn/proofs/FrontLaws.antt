@@ -43,7 +43,7 @@ use Rattle.pg_call.specs.Calls.{CallIs, IsAwaiting, CallEnds, CallTakes, Leaves,
 use Rattle.pg_call.proofs.CallLaws.{own_errs}
 use Rattle.pg_call.proofs.FitLaws.{shown_fits}
 use Rattle.pg_call.proofs.LeaveLaws.{leaves_call, call_well, closing_fine, flush_fine}
-use Rattle.pg_conn.specs.Connections.{ConnOf, ConnSeen, Standing, standing, seen_by, idle, with_spare, queued_call, awaiting, closing, frames_in}
+use Rattle.pg_conn.specs.Connections.{ConnOf, ConnSeen, Standing, standing, seen_by, begun_with, idle, with_spare, queued_call, awaiting, closing, frames_in}
 use Rattle.pg_conn.specs.Statements.{moved}
 use Rattle.pg_conn.specs.Turns.{TakesHeard, HearsBy, kept_for, HearsFront, running_of, IsMissed, FailsBy, Tells, BeatCause, TakesBeat, IsAsked, cleanup_of, only_sends, Readies, Accepts, queued_copy_fail, level_of, behind, LearnsFrom, PassesFront, ShowsAtOnce, ShowsFront, TakesIn, TakesPlainly}
 use Rattle.pg_startup.proofs.GreetLaws.{heard_none, heard_one}
@@ -311,13 +311,6 @@ hears_row tag body a b (Err e) is takes copy goes stays refuses ledger = (rw is 
 pub framed_front : (held : List ℕ) (front : Front) (frame : Frame) (rest : List ℕ) → IsFrontOf held front frame rest → IsFrontOf held front (framed front.tag frame.body) rest
 framed_front held front frame rest is = subst (λ (t : ℕ). IsFrontOf held front (framed t frame.body) rest) is.tag is
 
-abbrev error_in : {A : Type 0} → Result A Error → Error
-error_in (Ok x) = errors.OutOfMemory
-error_in (Err e) = e
-
-pub same_error : {A : Type 0} (e : Error) → ◌≡◌ {A = Result A Error} (Err e) (Err errors.OutOfMemory) → e ≡ errors.OutOfMemory
-same_error {A} e is = ap (λ (r : Result A Error). error_in r) is
-
 -- want of memory leaves the message at the front
 pub starves_message : (tag : ℕ) (body : List ℕ) (a : Running) → IsReplied a.call → RefusesMessage tag body a errors.OutOfMemory
 starves_message tag body a replied = by a.call refl replied
@@ -329,11 +322,11 @@ starves_message tag body a replied = by a.call refl replied
     by (calls.Waiting waiting) e h = absurd h
     by calls.Closing e h = absurd h
 
-pub starves_front : (held : List ℕ) (front : Front) (a b : Running) (e : Error) → IsHeardFront held front → IsReplied a.call → e ≡ errors.OutOfMemory → b.ledger ≡ a.ledger
-    → (body : List ℕ) × (rest : List ℕ) × IsFrontOf held front (framed front.tag body) rest × HearsBy front.tag body a b (Err e)
-starves_front held front a b e f replied oom same =
+pub starves_front : (held : List ℕ) (front : Front) (a b : Running) → IsHeardFront held front → IsReplied a.call → b.ledger ≡ a.ledger
+    → (body : List ℕ) × (rest : List ℕ) × IsFrontOf held front (framed front.tag body) rest × HearsBy front.tag body a b (Err errors.OutOfMemory)
+starves_front held front a b f replied same =
     let body : List ℕ = take (front.total - 5) (drop 5 held) in
-    (body, drop front.total held, front_frame held front (IsFront-from_heard held front f), (rw oom (starves_message front.tag body a replied), same))
+    (body, drop front.total held, front_frame held front (IsFront-from_heard held front f), (starves_message front.tag body a replied, same))
 
 -- ---- what it tells of a lookup
 
@@ -500,12 +493,18 @@ stays_replied calls.Idle _ stay own = absurd own
 stays_replied calls.Closing _ stay own = absurd own
 
 -- all that a poll does is to show it
-pub shown_at_once : {A : Type 0} (seen : A → LinkSeen) (a h b : ConnOf A) (front : Front) (row : RowSeen) → IsHeardFront a.stream.held front → a.stream.unsent ≡ [] → ShowsFront front row a h → Accepts front false h b → ShowsAtOnce (seen_by seen a) (seen_by seen b) row
-shown_at_once {A} seen a h b front row f sent shows accepts = (
+shows_only : {A : Type 0} (seen : A → LinkSeen) (a h b : ConnOf A) (front : Front) (row : RowSeen) → IsHeardFront a.stream.held front → a.stream.unsent ≡ [] → ShowsFront front row a h → Accepts front false h b → ShowsAtOnce (seen_by seen a) (seen_by seen b) row
+shows_only {A} seen a h b front row f sent shows accepts = (
   shown_in seen a h b front row f sent shows accepts,
   stays_replied a.call h.call shows.5.1 shows.5.2,
   subst (λ (k : Call). IsReplied k) (sym (ap (λ (x : ConnOf A). x.call) accepts.2)) shows.5.2,
 )
+
+-- which has so many calls of the link, and makes none
+pub shown_at_once : {A : Type 0} (seen : A → LinkSeen) (a h b : ConnOf A) (front : Front) (row : RowSeen) (left : ℕ) → IsHeardFront a.stream.held front → a.stream.unsent ≡ [] → ShowsFront front row a h → Accepts front false (begun_with left h) b
+    → ShowsAtOnce (seen_by seen (begun_with left a)) (seen_by seen b) row
+shown_at_once {A} seen a h b front row left f sent (tag, now, body, rest, of, shows) accepts =
+    shows_only seen (begun_with left a) (begun_with left h) b front row f sent (tag, ap (λ (x : ConnOf A). begun_with left x) now, body, rest, of, shows) accepts
 
 -- what was heard of it takes nothing of what the link may still give
 pub same_fuel : {A : Type 0} (seen : A → LinkSeen) (r h : ConnOf A) → h ≡ record r { ledger = h.ledger; call = h.call } → fuel_of (stream_by seen h.stream) ≡ fuel_of (stream_by seen r.stream)

@@ -307,7 +307,7 @@ impl<L: Link> PgConnection<L> {
     {
         match self.stream.share(front) {
             Ok(frame) => self.running.take_row(self.alloc, frame),
-            Err(e) => Err(e),
+            Err(_) => Err(Error::OutOfMemory),
         }
     }
 
@@ -358,21 +358,22 @@ impl<L: Link> PgConnection<L> {
         }
     }
 
-    // The same, and counts it as heard.
-    fn show_at_once(&mut self) -> Option<PgRow>
-        ensures shown { IfSome result (λ row. ShowsAtOnce (seen_by L.seen self.old) (seen_by L.seen self.new) row) }
+    // The same, and counts it as heard: it is all that a poll within so many calls of the link does.
+    fn show_at_once(&mut self, left: u16) -> Option<PgRow>
+        requires { left ≤ 256 }
+        ensures shown { IfSome result (λ row. ShowsAtOnce (seen_by L.seen (begun_with left self.old)) (seen_by L.seen self.new) row) }
         ensures none { result ≡ None → self.new ≡ self.old }
     {
         let Some(front) = self.row_at_front() else {
             return None;
         };
-        match self.shows_row(front) {
-            Some(row) => {
-                self.accept(front, false);
-                Some(row)
-            }
-            None => None,
+        let row = self.shows_row(front);
+        if row.is_none() {
+            return None;
         }
+        self.allow(left);
+        self.accept(front, false);
+        row
     }
 
     // What the message at the front makes of the call.
@@ -621,14 +622,19 @@ impl<L: Link> PgConnection<L> {
         self.poll_exchanges()
     }
 
-    // The same, where a row that stands at the front and is shown at once is answered before anything else is looked at.
-    fn poll_once(&mut self) -> Poll<Turn>
-        requires { self.old.broken ≡ None }
-        ensures { PollsThrough (seen_by L.seen self.old) (seen_by L.seen self.new) result }
+    // The same within so many calls of the link, where a row that stands at the front and is shown at once is answered before anything else is
+    // looked at.
+    fn poll_once(&mut self, left: u16) -> Poll<Turn>
+        requires broken { self.old.broken ≡ None }
+        requires left { left ≤ 256 }
+        ensures { PollsThrough (seen_by L.seen (begun_with left self.old)) (seen_by L.seen self.new) result }
     {
-        match self.show_at_once() {
+        match self.show_at_once(left) {
             Some(row) => Poll::Ready(Turn::Item(CallItem::Row(row))),
-            None => self.poll_through(),
+            None => {
+                self.allow(left);
+                self.poll_through()
+            }
         }
     }
 
@@ -657,10 +663,18 @@ impl<L: Link> PgConnection<L> {
     {
         match self.broken {
             Some(fault) => self.tell_fault(fault),
-            None => {
-                self.allow(256);
-                self.poll_once()
-            }
+            None => self.poll_once(256),
+        }
+    }
+
+    /// What `poll_call` would answer, where that is a row which has come already. Else nothing is done, and `poll_call` is due.
+    pub fn try_row(&mut self) -> Option<PgRow>
+        ensures shown { IfSome result (λ row. PollsCall (seen_by L.seen self.old) (seen_by L.seen self.new) (Poll.Ready (Turn.Item (CallItem.Row row)))) }
+        ensures none { result ≡ None → self.new ≡ self.old }
+    {
+        match self.broken {
+            Some(_) => None,
+            None => self.show_at_once(256),
         }
     }
 
@@ -676,8 +690,7 @@ impl<L: Link> PgConnection<L> {
         match self.broken {
             Some(fault) => self.tell_fault(fault),
             None => {
-                self.allow(*left);
-                let turn = self.poll_once();
+                let turn = self.poll_once(*left);
                 *left = self.stream.left();
                 turn
             }
@@ -691,7 +704,7 @@ impl<L: Link> PgConnection<L> {
     {
         match self.broken {
             Some(fault) => self.tell_fault(fault),
-            None => self.poll_once(),
+            None => self.poll_through(),
         }
     }
 

@@ -12,6 +12,7 @@ use Rattle.pg_conn.specs.Statements.{asked_by, begun_as, held_by}
 use Rattle.futures.specs.declared.task.Poll.{Poll}
 use Rattle.futures.specs.declared.task.Poll.TheVariants.{Ready, Pending}
 use Rattle.pg_wire.specs.declared.error.Error.{Error}
+use Rattle.pg_wire.specs.declared.error.Error.TheVariants as errors
 use Rattle.pg_wire.specs.declared.error.ServerFault.{ServerFault}
 use Rattle.pg_wire.specs.Frame.{Frame}
 use Rattle.pg_wire.specs.Parts.{heard}
@@ -56,12 +57,14 @@ use Rattle.pg_report.specs.declared.outcome.Answer.TheVariants.{Unit as AnswersU
 use Rattle.pg_report.specs.declared.outcome.End.{End}
 use Rattle.pg_report.specs.declared.outcome.End.TheVariants as ends
 use Rattle.pg_report.specs.declared.outcome.Outcome.{Outcome}
+use Rattle.pg_play.specs.declared.tally.Added.{Added}
+use Rattle.pg_play.specs.declared.tally.Added.TheVariants as adds
 use Rattle.pg_play.specs.declared.tally.Limits.{Limits}
 use Rattle.pg_play.specs.declared.tally.Pause.{Pause}
 use Rattle.pg_play.specs.declared.tally.Pause.TheVariants as pauses
 use Rattle.pg_play.specs.declared.tally.Tally.{Tally}
 use Rattle.pg_play.specs.Shown.{item_of, IsBegun, IsUncopied, IsWanted}
-use Rattle.pg_play.specs.Calls.{Bounds, bounds, Adds, change_fed, change_for, Finishes, again, InCopy, InPlay, IsCopying, Waited, IsPlayingOn, IsPlaying, Ended, EndsOn, broken_after, Counted, asking, HandedOn, HandsTo, handed_from, knowing, LooksFirst, OfLastIn, OfLastOn, OfLast, StartsAt, IsCallPlaying, StopsBy, Pauses, PollGives, PlaysOne, PlaysCall, outcome_of, all_groups, asked_from, first_conn}
+use Rattle.pg_play.specs.Calls.{Bounds, bounds, Adds, pause_of, change_fed, change_for, Finishes, again, InCopy, InPlay, IsCopying, Waited, IsPlayingOn, IsPlaying, Ended, EndsOn, broken_after, Counted, asking, HandedOn, HandsTo, handed_from, knowing, LooksFirst, OfLastIn, OfLastOn, OfLast, StartsAt, IsCallPlaying, StopsBy, Pauses, PollGives, PlaysOne, PlaysCall, outcome_of, all_groups, asked_from, first_conn}
 use Rattle.pg_play.proofs.ExchangeLaws.{LeadsTo, looks_or, told_by}
 use Rattle.pg_play.proofs.FirstLaws.{fresh_play, playing_one, plays_one, asked_changes, wanted_stays, not_fed, first_changes}
 use Rattle.pg_play.proofs.CallLaws.{AfterSome, PlayBeat, OverPoll, over_poll, after_beat, goes_waits, goes_yields, goes_ok, goes_unshown, goes_err, drops_waiting, drops_shown, goes_unkept, answered}
@@ -584,25 +587,22 @@ poll_err limits a b c r waits shown e l i p =
 playing_at : (o : Option ServerFault) (most : ℕ) (first : StreamSeen) (a c : ConnSeen) (r : Request) (w w' : ℕ) (is is' : List Item) → w' ≡ w → is' ≡ is → IsPlayingOn o most first a c r w is → IsPlayingOn o most first a c r w' is'
 playing_at o most first a c r w w' is is' x y h = subst (λ (n : ℕ). IsPlayingOn o most first a c r n is') (sym x) (subst (λ (t : List Item). IsPlayingOn o most first a c r w t) (sym y) h)
 
-shows : (limits : Limits) (first : StreamSeen) (a c : ConnSeen) (r : Request) (old new : Tally) (item : CallItem) → Adds limits item old new None → Turned limits.most first c old.waits old.items.items (Ready (turns.Item item)) a r → IsPlaying limits.most first a c r new.waits new.items.items
+shows : (limits : Limits) (first : StreamSeen) (a c : ConnSeen) (r : Request) (old new : Tally) (item : CallItem) → Adds limits (item_of item) old new adds.More → Turned limits.most first c old.waits old.items.items (Ready (turns.Item item)) a r → IsPlaying limits.most first a c r new.waits new.items.items
 shows limits first a c r old new item g h =
     playing_at a.broken limits.most first a c r old.waits new.waits (old.items.items ++ item_of item ∷ []) new.items.items g.0 g.1 (goes_yields a.broken limits.most first a c r old.waits old.items.items item (rw g.1 at g.2) h)
 
--- the item is the last one that may be shown, or there is no memory for it
-stops_at : (limits : Limits) (first : StreamSeen) (a c : ConnSeen) (r : Request) (old new : Tally) (item : CallItem) (end : End) → old.waits < limits.polls → Adds limits item old new (Some (pauses.Ended end)) → Turned limits.most first c old.waits old.items.items (Ready (turns.Item item)) a r → StopsBy (bounds limits) first a c r new.items.items end
-stops_at limits first a c r old new item ends.Dropped l g h = drops_shown limits a.broken first a c r old.waits old.items.items new.items.items item l g.1 g.2 refl h
-stops_at limits first a c r old new item (ends.Err e) l g h = goes_unkept (bounds limits) a.broken first a c r old.waits old.items.items new.items.items item e l g.1 g.2 refl h
-stops_at limits first a c r old new item (ends.Ok told) l g h = absurd g
-
-pub poll_item : (limits : Limits) (a b c : ConnSeen) (r : Request) (old new : Tally) (item : CallItem) (pause : Option Pause) → old.waits < limits.polls → Adds limits item old new pause → IsCallPlaying limits a b r old.waits old.items.items → PollsBy b.broken (begun_with 256 b) b c (Ready (turns.Item item))
-    → PollGives limits a c r new.waits new.items.items pause
-poll_item limits a b c r old new item None l g i p =
+-- an item behind which the polls stop
+pub poll_item : (limits : Limits) (a b c : ConnSeen) (r : Request) (old new : Tally) (item : CallItem) (added : Added) → old.waits < limits.polls → Adds limits (item_of item) old new added → IsCallPlaying limits a b r old.waits old.items.items → PollsBy b.broken (begun_with 256 b) b c (Ready (turns.Item item))
+    → PollGives limits a c r new.waits new.items.items (pause_of added)
+poll_item limits a b c r old new item adds.More l g i p =
     on_last limits.polls a.stream (Turned limits.most a.stream c old.waits old.items.items (Ready (turns.Item item))) (λ at asked. IsPlaying limits.most a.stream at c asked new.waits new.items.items) a r
     (λ at asked h. shows limits a.stream at c asked old new item g h) (call_turns limits a b c r old.waits old.items.items (Ready (turns.Item item)) l i p)
-poll_item limits a b c r old new item (Some pauses.Opened) l g i p = absurd g
-poll_item limits a b c r old new item (Some (pauses.Ended end)) l g i p =
-    on_last limits.polls a.stream (Turned limits.most a.stream c old.waits old.items.items (Ready (turns.Item item))) (λ at asked. StopsBy (bounds limits) a.stream at c asked new.items.items end) a r
-    (λ at asked h. stops_at limits a.stream at c asked old new item end l g h) (call_turns limits a b c r old.waits old.items.items (Ready (turns.Item item)) l i p)
+poll_item limits a b c r old new item adds.Last l g i p =
+    on_last limits.polls a.stream (Turned limits.most a.stream c old.waits old.items.items (Ready (turns.Item item))) (λ at asked. StopsBy (bounds limits) a.stream at c asked new.items.items ends.Dropped) a r
+    (λ at asked h. drops_shown limits at.broken a.stream at c asked old.waits old.items.items new.items.items item l g.1 g.2 refl h) (call_turns limits a b c r old.waits old.items.items (Ready (turns.Item item)) l i p)
+poll_item limits a b c r old new item adds.Starved l g i p =
+    on_last limits.polls a.stream (Turned limits.most a.stream c old.waits old.items.items (Ready (turns.Item item))) (λ at asked. StopsBy (bounds limits) a.stream at c asked new.items.items (ends.Err errors.OutOfMemory)) a r
+    (λ at asked h. goes_unkept (bounds limits) at.broken a.stream at c asked old.waits old.items.items new.items.items item errors.OutOfMemory l g.1 refl refl h) (call_turns limits a b c r old.waits old.items.items (Ready (turns.Item item)) l i p)
 
 -- what is open wasn't fed to its end
 opened_once : (start : Ledger) (r : Request) (said : List FrontendMessage) (hs : List Frame) (items : List CallItem) (ledger : Ledger) (call : Call) → kind_of r ≡ kinds.CopyIn → IsOpen call → CallIs start r said hs items ledger call → again r ≡ 0

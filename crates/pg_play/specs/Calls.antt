@@ -44,6 +44,8 @@ use Rattle.pg_script.specs.declared.step.Step.{Step}
 use Rattle.pg_script.specs.declared.step.Parting.{Parting}
 use Rattle.pg_script.specs.declared.step.Parting.TheVariants as partings
 use Rattle.pg_startup.specs.Flows.{Flows}
+use Rattle.pg_play.specs.declared.tally.Added.{Added}
+use Rattle.pg_play.specs.declared.tally.Added.TheVariants as adds
 use Rattle.pg_play.specs.declared.tally.Limits.{Limits}
 use Rattle.pg_play.specs.declared.tally.Tally.{Tally}
 use Rattle.pg_play.specs.declared.tally.Pause.{Pause}
@@ -66,12 +68,16 @@ bounds limits = record { polls = limits.polls; most = limits.most; parting = par
 -- ---- the tally of a call
 
 -- one more item
-abbrev pub Adds : Limits → CallItem → Tally → Tally → Option Pause → Type 0
-Adds limits item old new None = (new.waits ≡ old.waits) × (new.items.items ≡ old.items.items ++ item_of item ∷ []) × (length new.items.items ≢ limits.most)
-Adds limits item old new (Some (pauses.Ended ends.Dropped)) = (new.waits ≡ old.waits) × (new.items.items ≡ old.items.items ++ item_of item ∷ []) × (length new.items.items ≡ limits.most)
-Adds limits item old new (Some (pauses.Ended (ends.Err e))) = (new.waits ≡ old.waits) × (new.items.items ≡ old.items.items) × (e ≡ errors.OutOfMemory)
-Adds limits item old new (Some (pauses.Ended (ends.Ok answer))) = ⊥
-Adds limits item old new (Some pauses.Opened) = ⊥
+abbrev pub Adds : Limits → Item → Tally → Tally → Added → Type 0
+Adds limits item old new adds.More = (new.waits ≡ old.waits) × (new.items.items ≡ old.items.items ++ item ∷ []) × (length new.items.items ≢ limits.most)
+Adds limits item old new adds.Last = (new.waits ≡ old.waits) × (new.items.items ≡ old.items.items ++ item ∷ []) × (length new.items.items ≡ limits.most)
+Adds limits item old new adds.Starved = (new.waits ≡ old.waits) × (new.items.items ≡ old.items.items)
+
+-- what of that stops the polls
+abbrev pub pause_of : Added → Option Pause
+pause_of adds.More = None
+pause_of adds.Last = Some (pauses.Ended ends.Dropped)
+pause_of adds.Starved = Some (pauses.Ended (ends.Err errors.OutOfMemory))
 
 -- the answer, and the items that come with it
 abbrev pub Finishes : CallAnswer → Tally → Tally → End → Type 0

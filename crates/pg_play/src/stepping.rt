@@ -1,13 +1,14 @@
-ghost use Rattle.std.specs.Prelude.{◌≡◌, ◌<◌, ◌+◌, ◌-◌, ◌^◌, false, true, List, ℕ, None, Some, length};
+ghost use Rattle.std.specs.Prelude.{◌≡◌, ◌<◌, ◌≤◌, ◌+◌, ◌-◌, ◌^◌, false, true, List, ℕ, None, Some, length};
 ghost use Rattle.pg_request.specs.declared.progress.CacheStep.TheVariants as cache;
 ghost use Rattle.pg_conn.specs.Connections.{ConnSeen, left, seen_by, runs};
 ghost use Rattle.pg_call.specs.declared.request.Request.{Request};
 ghost use Rattle.pg_conn.specs.Turns.{first_exchange};
-ghost use Rattle.pg_play.specs.Calls.{IsCallPlaying, IsUnmade, Pauses, PollGives, PlaysCall, PlaysPolled, PlaysStep, bounds, first_conn, outcome_of, untouched};
+ghost use Rattle.pg_play.specs.Calls.{IsCallPlaying, IsUnmade, Pauses, PollGives, pause_of, PlaysCall, PlaysPolled, PlaysStep, bounds, first_conn, outcome_of, untouched};
 ghost use Rattle.pg_play.specs.Shown.{IsUncopied, IsWanted, is_release};
 
 use crate::asking::request_of;
-use crate::tally::{Limits, Pause, Tally};
+use crate::showing::item_of;
+use crate::tally::{Added, Limits, Pause, Tally};
 use pg_conn::{CacheStep, PgConnection, Progress, Request, Turn};
 use pg_report::{Answer, End, Item, Outcome};
 use pg_script::{Call, Step};
@@ -16,7 +17,7 @@ use pg_wire::{Error, Poll, Sequence};
 use std::alloc::Global;
 
 // One poll of the running call, and whether it stops the polls: at its end, where it has waited often enough, or where a copy from the client is open.
-fn poll_once<L: Link>(
+fn poll_turn<L: Link>(
     alloc: Global,
     conn: &mut PgConnection<L>,
     tally: &mut Tally,
@@ -39,10 +40,53 @@ fn poll_once<L: Link>(
                 None
             }
         }
-        Poll::Ready(Turn::Item(item)) => tally.add(item, limits),
+        Poll::Ready(Turn::Item(item)) => tally.add(item_of(item), limits).pause(),
         Poll::Ready(Turn::Ok(answer)) => Some(Pause::Ended(tally.finish(alloc, answer))),
         Poll::Ready(Turn::Err(e)) => Some(Pause::Ended(End::Err(e))),
         Poll::Ready(Turn::Opened(_)) => Some(Pause::Opened),
+    }
+}
+
+// Tells the rows that have come already, one poll each, as far as they are shown at once.
+fn tell_rows<L: Link>(conn: &mut PgConnection<L>, tally: &mut Tally, limits: Limits) -> Added
+    requires waits { tally.old.waits < limits.polls }
+    ensures gives { (a : ConnSeen) (r : Request) → IsCallPlaying limits a (seen_by L.seen conn.old) r tally.old.waits tally.old.items.items
+        → PollGives limits a (seen_by L.seen conn.new) r tally.new.waits tally.new.items.items (pause_of result) }
+    ensures waits { tally.new.waits ≡ tally.old.waits }
+    ensures more { (2 ^ 64 - length tally.new.items.items) ≤ (2 ^ 64 - length tally.old.items.items) }
+{
+    loop {
+        match conn.try_row() {
+            None => return Added::More,
+            Some(row) => {
+                let added = tally.add(Item::Row(row.into_values()), limits);
+                match added {
+                    Added::More => {}
+                    _ => return added,
+                }
+            }
+        }
+    }
+}
+
+// The rows that have come already, and then one poll more.
+fn poll_once<L: Link>(
+    alloc: Global,
+    conn: &mut PgConnection<L>,
+    tally: &mut Tally,
+    limits: Limits,
+) -> Option<Pause>
+    requires playing { (a : ConnSeen) × (r : Request) × IsCallPlaying limits a (seen_by L.seen conn.old) r tally.old.waits tally.old.items.items }
+    requires waits { tally.old.waits < limits.polls }
+    ensures gives { (a : ConnSeen) (r : Request) → IsCallPlaying limits a (seen_by L.seen conn.old) r tally.old.waits tally.old.items.items
+        → PollGives limits a (seen_by L.seen conn.new) r tally.new.waits tally.new.items.items result }
+    ensures goes { result ≡ None → tally.new.waits < limits.polls }
+    ensures opens { result ≡ Some Pause.Opened → tally.new.waits < limits.polls }
+    ensures falls { result ≡ None → (limits.polls - tally.new.waits) + (2 ^ 64 - length tally.new.items.items) < (limits.polls - tally.old.waits) + (2 ^ 64 - length tally.old.items.items) }
+{
+    match tell_rows(conn, tally, limits).pause() {
+        None => poll_turn(alloc, conn, tally, limits),
+        pause => pause,
     }
 }
 

@@ -1,11 +1,11 @@
-ghost use Rattle.std.specs.Prelude.{◌≡◌, ◌<◌, ◌-◌, ◌^◌, [], None, IfOk, OnErr, length};
-ghost use Rattle.pg_play.specs.Calls.{Adds, Finishes};
+ghost use Rattle.std.specs.Prelude.{◌≡◌, ◌<◌, ◌≤◌, ◌-◌, ◌^◌, [], None, IfOk, OnErr, length};
+ghost use Rattle.pg_play.specs.Calls.{Adds, Finishes, pause_of};
 ghost use Rattle.pg_play.specs.Shown.{described_as};
 
-use crate::showing::{item_of, one_row, rows_of};
+use crate::showing::{one_row, rows_of};
 use pg_call::Prepared;
 use pg_columns::PgColumns;
-use pg_conn::{CallAnswer, CallItem};
+use pg_conn::CallAnswer;
 use pg_report::{Answer, End, Item};
 use pg_wire::Error;
 use std::alloc::{AllocError, Global};
@@ -23,6 +23,30 @@ pub(crate) enum Pause {
     Ended(End),
     /// A copy from the client is open: its data is awaited.
     Opened,
+}
+
+/// What one more item makes of its call.
+#[derive(Clone, Copy)]
+pub(crate) enum Added {
+    /// It goes on.
+    More,
+    /// That is the last that it may show.
+    Last,
+    /// There is no memory for it.
+    Starved,
+}
+
+impl Added {
+    /// What of that stops the polls.
+    pub(crate) fn pause(self) -> Option<Pause>
+        ensures { result ≡ pause_of self }
+    {
+        match self {
+            Added::More => None,
+            Added::Last => Some(Pause::Ended(End::Dropped)),
+            Added::Starved => Some(Pause::Ended(End::Err(Error::OutOfMemory))),
+        }
+    }
 }
 
 /// What a call has shown so far, and how often it has waited.
@@ -53,21 +77,20 @@ impl Tally {
         }
     }
 
-    /// One more item, which ends the call where it is the last that it may show, or where there is no memory for it.
-    pub(crate) fn add(&mut self, item: CallItem, limits: Limits) -> Option<Pause>
+    /// One more item.
+    pub(crate) fn add(&mut self, item: Item, limits: Limits) -> Added
         ensures adds { Adds limits item self.old self.new result }
-        ensures falls { result ≡ None → (2 ^ 64 - length self.new.items.items) < (2 ^ 64 - length self.old.items.items) }
+        ensures waits { self.new.waits ≡ self.old.waits }
+        ensures more { (2 ^ 64 - length self.new.items.items) ≤ (2 ^ 64 - length self.old.items.items) }
+        ensures falls { result ≡ Added.More → (2 ^ 64 - length self.new.items.items) < (2 ^ 64 - length self.old.items.items) }
     {
-        match self.items.push(item_of(item)) {
-            Err(_) => Some(Pause::Ended(End::Err(Error::OutOfMemory))),
-            Ok(()) => {
-                if self.items.len() == limits.most as usize {
-                    Some(Pause::Ended(End::Dropped))
-                } else {
-                    None
-                }
-            }
+        if self.items.push(item).is_err() {
+            return Added::Starved;
         }
+        if self.items.len() == limits.most as usize {
+            return Added::Last;
+        }
+        Added::More
     }
 
     // The rows that come with an answer; without memory for them none is shown.

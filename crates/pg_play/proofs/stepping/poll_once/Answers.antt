@@ -1,27 +1,15 @@
+use Rattle.std.proofs.Common.{sym, ◌∙◌}
 use Rattle.pg_conn.specs.Connections.{seen_by}
-use Rattle.pg_play.proofs.ThroughLaws.{poll_goes, poll_drops, poll_ok, poll_err, poll_item, poll_opened}
+use Rattle.pg_play.proofs.ThroughLaws.{playing_runs}
 use Rattle.pg_play.proofs.stepping.poll_once.Goals as goal
 
-pub returns-then-tally-limits-clause-gives : goal.returns-then-tally-limits-clause-gives
-returns-then-tally-limits-clause-gives g c a r i =
-    poll_drops c.args.limits a (seen_by g.L.Link.seen c.args.conn.now) (seen_by g.L.Link.seen c.poll_call.new.self) r c.args.tally.now.waits c.args.tally.now.items.items c.if-tally-limits.true i c.in-Pending.ensures
+pub poll_turn-requires-clause-runs : goal.poll_turn-requires-clause-runs
+poll_turn-requires-clause-runs g c =
+    let p = c.requires.playing in
+    playing_runs c.args.limits p.0 (seen_by g.L.Link.seen c.tell_rows.new.conn) p.1 c.tell_rows.new.tally.waits c.tell_rows.new.tally.items.items (rw (sym c.pause.ensures ∙ c.in-None.is) at c.tell_rows.ensures.gives p.0 p.1 p.2)
 
-pub returns-in-Pending-clause-gives : goal.returns-in-Pending-clause-gives
-returns-in-Pending-clause-gives g c a r i =
-    poll_goes c.args.limits a (seen_by g.L.Link.seen c.args.conn.now) (seen_by g.L.Link.seen c.poll_call.new.self) r c.args.tally.now.waits c.args.tally.now.items.items c.requires.waits i c.in-Pending.ensures
+pub returns-in-None-clause-gives : goal.returns-in-None-clause-gives
+returns-in-None-clause-gives g c a r i = c.poll_turn.ensures.gives a r (rw (sym c.pause.ensures ∙ c.in-None.is) at c.tell_rows.ensures.gives a r i)
 
-pub returns-in-Ready-Item-clause-gives : goal.returns-in-Ready-Item-clause-gives
-returns-in-Ready-Item-clause-gives g c a r i =
-    poll_item c.args.limits a (seen_by g.L.Link.seen c.args.conn.now) (seen_by g.L.Link.seen c.poll_call.new.self) r c.args.tally.now c.add.new.self c.in-Ready-Item.item c.add.result c.requires.waits c.add.ensures.adds i (rw c.in-Ready-Item.field-0-is at c.in-Ready-Item.ensures)
-
-pub returns-in-Ready-Ok-clause-gives : goal.returns-in-Ready-Ok-clause-gives
-returns-in-Ready-Ok-clause-gives g c a r i =
-    poll_ok c.args.limits a (seen_by g.L.Link.seen c.args.conn.now) (seen_by g.L.Link.seen c.poll_call.new.self) r c.args.tally.now c.finish.new.self c.in-Ready-Ok.answer c.finish.result c.requires.waits c.finish.ensures i (rw c.in-Ready-Ok.field-0-is at c.in-Ready-Ok.ensures)
-
-pub returns-in-Ready-Err-clause-gives : goal.returns-in-Ready-Err-clause-gives
-returns-in-Ready-Err-clause-gives g c a r i =
-    poll_err c.args.limits a (seen_by g.L.Link.seen c.args.conn.now) (seen_by g.L.Link.seen c.poll_call.new.self) r c.args.tally.now.waits c.args.tally.now.items.items c.in-Ready-Err.e c.requires.waits i (rw c.in-Ready-Err.field-0-is at c.in-Ready-Err.ensures)
-
-pub returns-clause-gives : goal.returns-clause-gives
-returns-clause-gives g c a r i =
-    poll_opened c.args.limits a (seen_by g.L.Link.seen c.args.conn.now) (seen_by g.L.Link.seen c.poll_call.new.self) r c.args.tally.now.waits c.args.tally.now.items.items _ c.requires.waits i (rw c.in-Ready-Opened.field-0-is at c.in-Ready-Opened.ensures)
+pub returns-in_default-clause-gives : goal.returns-in_default-clause-gives
+returns-in_default-clause-gives g c a r i = rw c.pause.ensures (c.tell_rows.ensures.gives a r i)

@@ -1,5 +1,5 @@
 use Rattle.std.proofs.Common.{refl}
-use Rattle.pg_conn.proofs.FrontLaws.{hears_row, framed_front, starves_front, same_error}
+use Rattle.pg_conn.proofs.FrontLaws.{hears_row, framed_front, starves_front}
 use Rattle.pg_conn.proofs.connection.PgConnection.hear_row.Goals as goal
 
 pub returns-in-Ok-clause-hears : goal.returns-in-Ok-clause-hears
@@ -14,4 +14,4 @@ returns-in-Err-clause-hears g c =
     let running = c.self.inside.running in
     let front = rw (← c.self.view_is) at c.requires.front in
     let replied = rw (← c.self.view_is) at c.requires.replied in
-    rw (← c.self.view_is) (starves_front c.self.inside.stream.held c.args.front running running c.in-Err.e front replied (same_error c.in-Err.e c.in-Err.ensures.err) refl)
+    rw (← c.self.view_is) (starves_front c.self.inside.stream.held c.args.front running running front replied refl)
