@@ -121,4 +121,5 @@ def main():
         tell(program, unit)
 
 
-main()
+if __name__ == '__main__':
+    main()
