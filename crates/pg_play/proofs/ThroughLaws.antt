@@ -591,7 +591,7 @@ shows : (limits : Limits) (first : StreamSeen) (a c : ConnSeen) (r : Request) (o
 shows limits first a c r old new item g h =
     playing_at a.broken limits.most first a c r old.waits new.waits (old.items.items ++ item_of item ∷ []) new.items.items g.0 g.1 (goes_yields a.broken limits.most first a c r old.waits old.items.items item (rw g.1 at g.2) h)
 
--- an item behind which the polls stop
+-- an item is told: the polls go on, or it was the last that may be shown, or there was no memory for it
 pub poll_item : (limits : Limits) (a b c : ConnSeen) (r : Request) (old new : Tally) (item : CallItem) (added : Added) → old.waits < limits.polls → Adds limits (item_of item) old new added → IsCallPlaying limits a b r old.waits old.items.items → PollsBy b.broken (begun_with 256 b) b c (Ready (turns.Item item))
     → PollGives limits a c r new.waits new.items.items (pause_of added)
 poll_item limits a b c r old new item adds.More l g i p =
